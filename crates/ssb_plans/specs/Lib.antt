@@ -5,3 +5,5 @@ pub mod Cond
 pub mod Members
 pub mod Query
 pub mod Queries
+pub mod Constant
+pub mod Plan

@@ -15,7 +15,7 @@ use Rattle.ssb_plans.specs.declared.plan.Plan.{Plan}
 use Rattle.ssb_plans.specs.declared.query.Query.{Query}
 use Rattle.ssb_plans.specs.declared.query.Query.TheVariants.{Q1_1, Q1_2, Q1_3, Q2_1, Q2_2, Q2_3, Q3_1, Q3_2, Q3_3, Q3_4, Q4_1, Q4_2, Q4_3}
 
--- the constants that the benchmark's profile gives, in the order in which a question has its own
+-- the constants of each query where a question gives none, in the order in which it gives its own
 abbrev pub standard_constants : Query → List Value
 standard_constants Q1_1 = Number 1993 ∷ Number 1 ∷ Number 3 ∷ Number 0 ∷ Number 24 ∷ []
 standard_constants Q1_2 = Number 199401 ∷ Number 4 ∷ Number 6 ∷ Number 26 ∷ Number 35 ∷ []
@@ -31,7 +31,7 @@ standard_constants Q4_1 = Text (codes "AMERICA") ∷ Text (codes "AMERICA") ∷ 
 standard_constants Q4_2 = Text (codes "AMERICA") ∷ Text (codes "AMERICA") ∷ Text (codes "MFGR#1") ∷ Text (codes "MFGR#2") ∷ Number 1997 ∷ Number 1998 ∷ []
 standard_constants Q4_3 = Text (codes "AMERICA") ∷ Text (codes "UNITED STATES") ∷ Number 1997 ∷ Number 1998 ∷ Text (codes "MFGR#14") ∷ []
 
--- the constant at a place, counted from 0
+-- the constant at a place, counted from 0; the number 0, or the empty text, where there is none of its kind
 abbrev pub number_of : Option Value → ℕ
 number_of None = 0
 number_of (Some (Text text)) = 0
@@ -48,31 +48,31 @@ text_of (Some (Number number)) = []
 abbrev pub text_at : List Value → ℕ → List ℕ
 text_at constants place = text_of (slice_get constants place)
 
--- tests and ranges whose constants stand from that place on
+-- tests and ranges whose constants stand from a place on
 abbrev pub text_is : Column → List Value → ℕ → Test
-text_is column k place = record { column = column; cond = TextIs (text_at k place) }
+text_is column constants place = record { column = column; cond = TextIs (text_at constants place) }
 
 abbrev pub text_from_to : Column → List Value → ℕ → Test
-text_from_to column k place = record { column = column; cond = TextFromTo (text_at k place) (text_at k (place + 1)) }
+text_from_to column constants place = record { column = column; cond = TextFromTo (text_at constants place) (text_at constants (place + 1)) }
 
 abbrev pub text_one_of_two : Column → List Value → ℕ → Test
-text_one_of_two column k place = record { column = column; cond = TextOneOf (text_at k place ∷ text_at k (place + 1) ∷ []) }
+text_one_of_two column constants place = record { column = column; cond = TextOneOf (text_at constants place ∷ text_at constants (place + 1) ∷ []) }
 
 abbrev pub number_is : Column → List Value → ℕ → Test
-number_is column k place = record { column = column; cond = NumberIs (number_at k place) }
+number_is column constants place = record { column = column; cond = NumberIs (number_at constants place) }
 
 abbrev pub number_from_to : Column → List Value → ℕ → Test
-number_from_to column k place = record { column = column; cond = NumberFromTo (number_at k place) (number_at k (place + 1)) }
+number_from_to column constants place = record { column = column; cond = NumberFromTo (number_at constants place) (number_at constants (place + 1)) }
 
 abbrev pub number_one_of_two : Column → List Value → ℕ → Test
-number_one_of_two column k place = record { column = column; cond = NumberOneOf (number_at k place ∷ number_at k (place + 1) ∷ []) }
+number_one_of_two column constants place = record { column = column; cond = NumberOneOf (number_at constants place ∷ number_at constants (place + 1) ∷ []) }
 
 abbrev pub range : List Value → ℕ → Option NumberRange
-range k place = Some (record { from = number_at k place; to = number_at k (place + 1) })
+range constants place = Some (record { from = number_at constants place; to = number_at constants (place + 1) })
 
--- the plans of each flight, with no test yet
-abbrev pub summed : Measure → List Column → List OrderKey → Plan
-summed measure groups order = record {
+-- a plan that takes every combination
+abbrev pub over_all_lines : Measure → List Column → List OrderKey → Plan
+over_all_lines measure groups order = record {
   customers = [];
   suppliers = [];
   parts = [];
@@ -85,83 +85,83 @@ summed measure groups order = record {
 }
 
 -- in ascending order of all group columns
-abbrev pub by_columns_2 : List OrderKey
-by_columns_2 = Group 0 ∷ Group 1 ∷ []
+abbrev pub by_two_columns : List OrderKey
+by_two_columns = Group 0 ∷ Group 1 ∷ []
 
-abbrev pub by_columns_3 : List OrderKey
-by_columns_3 = Group 0 ∷ Group 1 ∷ Group 2 ∷ []
+abbrev pub by_three_columns : List OrderKey
+by_three_columns = Group 0 ∷ Group 1 ∷ Group 2 ∷ []
 
 -- of customer's column, supplier's column and year: by year, then from the greatest sum down, then by the two columns
 abbrev pub by_year_and_sum : List OrderKey
 by_year_and_sum = Group 2 ∷ SumDescending ∷ Group 0 ∷ Group 1 ∷ []
 
--- the plan of a query over constants
+-- the plan of each query over its constants, counted from 0
 abbrev pub plan_over : Query → List Value → Plan
-plan_over Q1_1 k = record (summed PriceTimesDiscount [] []) {
-  dates = number_is D_YEAR k 0 ∷ [];
-  discount = range k 1;
-  quantity = range k 3;
+plan_over Q1_1 constants = record (over_all_lines PriceTimesDiscount [] []) {
+  dates = number_is D_YEAR constants 0 ∷ [];
+  discount = range constants 1;
+  quantity = range constants 3;
 }
-plan_over Q1_2 k = record (summed PriceTimesDiscount [] []) {
-  dates = number_is D_YEARMONTHNUM k 0 ∷ [];
-  discount = range k 1;
-  quantity = range k 3;
+plan_over Q1_2 constants = record (over_all_lines PriceTimesDiscount [] []) {
+  dates = number_is D_YEARMONTHNUM constants 0 ∷ [];
+  discount = range constants 1;
+  quantity = range constants 3;
 }
-plan_over Q1_3 k = record (summed PriceTimesDiscount [] []) {
-  dates = number_is D_WEEKNUMINYEAR k 0 ∷ number_is D_YEAR k 1 ∷ [];
-  discount = range k 2;
-  quantity = range k 4;
+plan_over Q1_3 constants = record (over_all_lines PriceTimesDiscount [] []) {
+  dates = number_is D_WEEKNUMINYEAR constants 0 ∷ number_is D_YEAR constants 1 ∷ [];
+  discount = range constants 2;
+  quantity = range constants 4;
 }
-plan_over Q2_1 k = record (summed Revenue (D_YEAR ∷ P_BRAND1 ∷ []) by_columns_2) {
-  parts = text_is P_CATEGORY k 0 ∷ [];
-  suppliers = text_is S_REGION k 1 ∷ [];
+plan_over Q2_1 constants = record (over_all_lines Revenue (D_YEAR ∷ P_BRAND1 ∷ []) by_two_columns) {
+  parts = text_is P_CATEGORY constants 0 ∷ [];
+  suppliers = text_is S_REGION constants 1 ∷ [];
 }
-plan_over Q2_2 k = record (summed Revenue (D_YEAR ∷ P_BRAND1 ∷ []) by_columns_2) {
-  parts = text_from_to P_BRAND1 k 0 ∷ [];
-  suppliers = text_is S_REGION k 2 ∷ [];
+plan_over Q2_2 constants = record (over_all_lines Revenue (D_YEAR ∷ P_BRAND1 ∷ []) by_two_columns) {
+  parts = text_from_to P_BRAND1 constants 0 ∷ [];
+  suppliers = text_is S_REGION constants 2 ∷ [];
 }
-plan_over Q2_3 k = record (summed Revenue (D_YEAR ∷ P_BRAND1 ∷ []) by_columns_2) {
-  parts = text_is P_BRAND1 k 0 ∷ [];
-  suppliers = text_is S_REGION k 1 ∷ [];
+plan_over Q2_3 constants = record (over_all_lines Revenue (D_YEAR ∷ P_BRAND1 ∷ []) by_two_columns) {
+  parts = text_is P_BRAND1 constants 0 ∷ [];
+  suppliers = text_is S_REGION constants 1 ∷ [];
 }
-plan_over Q3_1 k = record (summed Revenue (C_NATION ∷ S_NATION ∷ D_YEAR ∷ []) by_year_and_sum) {
-  customers = text_is C_REGION k 0 ∷ [];
-  suppliers = text_is S_REGION k 1 ∷ [];
-  dates = number_from_to D_YEAR k 2 ∷ [];
+plan_over Q3_1 constants = record (over_all_lines Revenue (C_NATION ∷ S_NATION ∷ D_YEAR ∷ []) by_year_and_sum) {
+  customers = text_is C_REGION constants 0 ∷ [];
+  suppliers = text_is S_REGION constants 1 ∷ [];
+  dates = number_from_to D_YEAR constants 2 ∷ [];
 }
-plan_over Q3_2 k = record (summed Revenue (C_CITY ∷ S_CITY ∷ D_YEAR ∷ []) by_year_and_sum) {
-  customers = text_is C_NATION k 0 ∷ [];
-  suppliers = text_is S_NATION k 1 ∷ [];
-  dates = number_from_to D_YEAR k 2 ∷ [];
+plan_over Q3_2 constants = record (over_all_lines Revenue (C_CITY ∷ S_CITY ∷ D_YEAR ∷ []) by_year_and_sum) {
+  customers = text_is C_NATION constants 0 ∷ [];
+  suppliers = text_is S_NATION constants 1 ∷ [];
+  dates = number_from_to D_YEAR constants 2 ∷ [];
 }
-plan_over Q3_3 k = record (summed Revenue (C_CITY ∷ S_CITY ∷ D_YEAR ∷ []) by_year_and_sum) {
-  customers = text_one_of_two C_CITY k 0 ∷ [];
-  suppliers = text_one_of_two S_CITY k 2 ∷ [];
-  dates = number_from_to D_YEAR k 4 ∷ [];
+plan_over Q3_3 constants = record (over_all_lines Revenue (C_CITY ∷ S_CITY ∷ D_YEAR ∷ []) by_year_and_sum) {
+  customers = text_one_of_two C_CITY constants 0 ∷ [];
+  suppliers = text_one_of_two S_CITY constants 2 ∷ [];
+  dates = number_from_to D_YEAR constants 4 ∷ [];
 }
-plan_over Q3_4 k = record (summed Revenue (C_CITY ∷ S_CITY ∷ D_YEAR ∷ []) by_year_and_sum) {
-  customers = text_one_of_two C_CITY k 0 ∷ [];
-  suppliers = text_one_of_two S_CITY k 2 ∷ [];
-  dates = text_is D_YEARMONTH k 4 ∷ [];
+plan_over Q3_4 constants = record (over_all_lines Revenue (C_CITY ∷ S_CITY ∷ D_YEAR ∷ []) by_year_and_sum) {
+  customers = text_one_of_two C_CITY constants 0 ∷ [];
+  suppliers = text_one_of_two S_CITY constants 2 ∷ [];
+  dates = text_is D_YEARMONTH constants 4 ∷ [];
 }
-plan_over Q4_1 k = record (summed Profit (D_YEAR ∷ C_NATION ∷ []) by_columns_2) {
-  customers = text_is C_REGION k 0 ∷ [];
-  suppliers = text_is S_REGION k 1 ∷ [];
-  parts = text_one_of_two P_MFGR k 2 ∷ [];
+plan_over Q4_1 constants = record (over_all_lines Profit (D_YEAR ∷ C_NATION ∷ []) by_two_columns) {
+  customers = text_is C_REGION constants 0 ∷ [];
+  suppliers = text_is S_REGION constants 1 ∷ [];
+  parts = text_one_of_two P_MFGR constants 2 ∷ [];
 }
-plan_over Q4_2 k = record (summed Profit (D_YEAR ∷ S_NATION ∷ P_CATEGORY ∷ []) by_columns_3) {
-  customers = text_is C_REGION k 0 ∷ [];
-  suppliers = text_is S_REGION k 1 ∷ [];
-  parts = text_one_of_two P_MFGR k 2 ∷ [];
-  dates = number_one_of_two D_YEAR k 4 ∷ [];
+plan_over Q4_2 constants = record (over_all_lines Profit (D_YEAR ∷ S_NATION ∷ P_CATEGORY ∷ []) by_three_columns) {
+  customers = text_is C_REGION constants 0 ∷ [];
+  suppliers = text_is S_REGION constants 1 ∷ [];
+  parts = text_one_of_two P_MFGR constants 2 ∷ [];
+  dates = number_one_of_two D_YEAR constants 4 ∷ [];
 }
-plan_over Q4_3 k = record (summed Profit (D_YEAR ∷ S_CITY ∷ P_BRAND1 ∷ []) by_columns_3) {
-  customers = text_is C_REGION k 0 ∷ [];
-  suppliers = text_is S_NATION k 1 ∷ [];
-  dates = number_one_of_two D_YEAR k 2 ∷ [];
-  parts = text_is P_CATEGORY k 4 ∷ [];
+plan_over Q4_3 constants = record (over_all_lines Profit (D_YEAR ∷ S_CITY ∷ P_BRAND1 ∷ []) by_three_columns) {
+  customers = text_is C_REGION constants 0 ∷ [];
+  suppliers = text_is S_NATION constants 1 ∷ [];
+  dates = number_one_of_two D_YEAR constants 2 ∷ [];
+  parts = text_is P_CATEGORY constants 4 ∷ [];
 }
 
--- the plan of a query
+-- the plan of a query over the constants that it has where none are given
 abbrev pub plan_of : Query → Plan
 plan_of query = plan_over query (standard_constants query)

@@ -2,7 +2,10 @@
 //! that come with a question, and the plan of each as data.
 #![tactic(auto)]
 
+mod build;
 pub mod cond;
+pub mod constants;
+pub mod flights;
 pub mod plan;
 pub mod query;
 pub mod value;
