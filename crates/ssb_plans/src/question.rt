@@ -147,14 +147,18 @@ impl Question {
 }
 
 impl PartialEq for Question {
-    ghost use Rattle.ssb_plans.specs.QuestionEq.{question_eq, question_eq-equiv};
+    ghost use Rattle.std.specs.Prelude.{◌≡◌, ◌↔◌, IsTrue};
     ghost use Rattle.std.specs.Cmp.{partial_equiv_from_equiv};
+    ghost use Rattle.ssb_plans.specs.QuestionEq.{question_eq, question_eq-equiv};
 
     ghost eq = { question_eq };
 
     ghost laws = { partial_equiv_from_equiv question_eq-equiv };
 
-    fn eq(&self, other: &Question) -> bool {
+    fn eq(&self, other: &Question) -> bool
+        ensures value { result ≡ question_eq self.now other.now }
+        ensures same { IsTrue result ↔ (self.now ≡ other.now) }
+    {
         self.query == other.query && self.constants() == other.constants()
     }
 }
