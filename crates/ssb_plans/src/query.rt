@@ -100,11 +100,37 @@ impl Query {
             Query::Q2_3 => &[Text(P_BRAND1), Text(S_REGION)],
             Query::Q3_1 => &[Text(C_REGION), Text(S_REGION), Number, Number],
             Query::Q3_2 => &[Text(C_NATION), Text(S_NATION), Number, Number],
-            Query::Q3_3 => &[Text(C_CITY), Text(C_CITY), Text(S_CITY), Text(S_CITY), Number, Number],
-            Query::Q3_4 => &[Text(C_CITY), Text(C_CITY), Text(S_CITY), Text(S_CITY), Text(D_YEARMONTH)],
+            Query::Q3_3 => &[
+                Text(C_CITY),
+                Text(C_CITY),
+                Text(S_CITY),
+                Text(S_CITY),
+                Number,
+                Number,
+            ],
+            Query::Q3_4 => &[
+                Text(C_CITY),
+                Text(C_CITY),
+                Text(S_CITY),
+                Text(S_CITY),
+                Text(D_YEARMONTH),
+            ],
             Query::Q4_1 => &[Text(C_REGION), Text(S_REGION), Text(P_MFGR), Text(P_MFGR)],
-            Query::Q4_2 => &[Text(C_REGION), Text(S_REGION), Text(P_MFGR), Text(P_MFGR), Number, Number],
-            Query::Q4_3 => &[Text(C_REGION), Text(S_NATION), Number, Number, Text(P_CATEGORY)],
+            Query::Q4_2 => &[
+                Text(C_REGION),
+                Text(S_REGION),
+                Text(P_MFGR),
+                Text(P_MFGR),
+                Number,
+                Number,
+            ],
+            Query::Q4_3 => &[
+                Text(C_REGION),
+                Text(S_NATION),
+                Number,
+                Number,
+                Text(P_CATEGORY),
+            ],
         }
     }
 
