@@ -3,3 +3,4 @@ pub mod Digits
 pub mod Utf8
 pub mod Fields
 pub mod Given
+pub mod Reading

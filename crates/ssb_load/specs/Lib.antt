@@ -1,2 +1,4 @@
 pub mod Spelling
 pub mod Records
+pub mod Row
+pub mod Tables
