@@ -4,3 +4,4 @@ pub mod Utf8
 pub mod Fields
 pub mod Given
 pub mod Reading
+pub mod Rows

@@ -3,8 +3,8 @@ use Rattle.std.proofs.Common.{suc, ◌≡◌, ℕ, ◌+◌, ◌<◌, ◌≤◌, 
 use Rattle.std.specs.List.{AllZip}
 use Rattle.std.specs.Option.{IfSome}
 use Rattle.csv.specs.declared.reader.Reader.{Reader}
-use Rattle.ssb_schema.specs.Row.{Value}
-use Rattle.ssb_schema.specs.declared.column.Table.{Table}
+use Rattle.ssb_schema.specs.Columns.{Value}
+use Rattle.ssb_schema.specs.declared.table.Table.{Table}
 use Rattle.ssb_schema.specs.declared.fault.SchemaFault.TheVariants as schema
 use Rattle.ssb_load.specs.Records.{BeginsWith, GivesNext, HasGiven}
 use Rattle.ssb_load.specs.Row.{row_of, Fails}

@@ -1,10 +1,10 @@
 -- What a record of a table's file spells: the values of a row, or the first reason why it spells none.
 use Rattle.std.specs.Prelude.{◌≡◌, ℕ, ◌+◌, ◌-◌, List, [], ◌∷◌, length, get_or, Option, Some, None, Result, Ok, Err, if◌then◌else◌}
-use Rattle.ssb_schema.specs.Row.{Value, Number, Text, kinds_of, row_fault}
-use Rattle.ssb_schema.specs.declared.column.Table.{Table}
+use Rattle.ssb_schema.specs.Columns.{Value, Number, Text, kinds_of, row_fault}
+use Rattle.ssb_schema.specs.declared.table.Table.{Table}
 use Rattle.ssb_schema.specs.declared.column.Column.{Column}
-use Rattle.ssb_schema.specs.declared.column.Kind.{Kind}
-use Rattle.ssb_schema.specs.declared.column.Kind.TheVariants as kind
+use Rattle.ssb_schema.specs.declared.kind.Kind.{Kind}
+use Rattle.ssb_schema.specs.declared.kind.Kind.TheVariants as kind
 use Rattle.ssb_schema.specs.declared.fault.SchemaFault.{SchemaFault}
 use Rattle.ssb_load.specs.declared.error.LineFault.{LineFault}
 use Rattle.ssb_load.specs.declared.error.LineFault.TheVariants as fault

@@ -1,8 +1,8 @@
 -- What the text of a table spells, and its first fault.
 use Rattle.std.specs.Prelude.{◌≡◌, ℕ, ◌+◌, ◌<◌, ◌≤◌, ◌⊎◌, List, [], ◌∷◌, ◌++◌, length, Result, Ok, Err}
 use Rattle.std.specs.List.{AllZip}
-use Rattle.ssb_schema.specs.Row.{Value}
-use Rattle.ssb_schema.specs.declared.column.Table.{Table}
+use Rattle.ssb_schema.specs.Columns.{Value}
+use Rattle.ssb_schema.specs.declared.table.Table.{Table}
 use Rattle.ssb_schema.specs.declared.fault.SchemaFault.TheVariants as schema
 use Rattle.ssb_load.specs.declared.error.LineFault.{LineFault}
 use Rattle.ssb_load.specs.declared.error.LineFault.TheVariants as fault
