@@ -1,0 +1,35 @@
+-- What the subject says of an answer, as laws over the definitions.
+use Rattle.std.specs.Prelude.{◌≡◌, List, ◌∷◌, IsPermutation}
+use Rattle.std.specs.List.Sorted.{IsStrictlySortedBy}
+use Rattle.ssb_schema.specs.declared.column.Column.{Column}
+use Rattle.ssb_queries.specs.declared.answer.ResultRow.{ResultRow}
+use Rattle.ssb_plans.specs.declared.plan.Plan.{Plan}
+use Rattle.ssb_plans.specs.Members.{Has}
+use Rattle.ssb_schema.specs.Base.{Dimensions}
+use Rattle.ssb_schema.specs.declared.fact.Fact.{Fact}
+use Rattle.ssb_queries.specs.Combination.{Combination, combinations}
+use Rattle.ssb_queries.specs.Answer.{group_of, row_of, row_cmp, rows_over, answer}
+use Rattle.ssb_plans.specs.Orders.{OrdersAllGroups}
+
+-- the plan has group columns
+pub record IsGrouped (plan : Plan) : Type 0 where
+  pub first : Column
+  pub others : List Column
+  pub are : plan.groups ≡ first ∷ others
+
+-- one row for each group among what was found, with its sum, strictly in the plan's order
+pub record ListsGroups (plan : Plan) (found : List Combination) (rows : List ResultRow) : Type 0 where
+  pub of_groups : (row : ResultRow) → Has rows row → (c : Combination) × Has found c × (row ≡ row_of plan found (group_of plan c))
+  pub each_group : (c : Combination) → Has found c → Has rows (row_of plan found (group_of plan c))
+  pub ordered : IsStrictlySortedBy (row_cmp plan.order) rows
+
+-- the rows over what was found list its groups, and no other rows do
+abbrev pub RowsListGroups : Type 0
+RowsListGroups =
+    (plan : Plan) (found : List Combination) → OrdersAllGroups plan → IsGrouped plan
+    → ListsGroups plan found (rows_over plan found) × ((rows : List ResultRow) → ListsGroups plan found rows → rows ≡ rows_over plan found)
+
+-- a rearrangement of the lines has the same answer
+abbrev pub AnswersIgnoreOrder : Type 0
+AnswersIgnoreOrder =
+    (plan : Plan) (dimensions : Dimensions) (facts other : List Fact) → OrdersAllGroups plan → IsPermutation facts other → answer plan dimensions facts ≡ answer plan dimensions other
