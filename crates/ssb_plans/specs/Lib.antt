@@ -1,0 +1,9 @@
+pub mod Text
+pub mod Value
+pub mod ValueLaws
+pub mod Cond
+pub mod Members
+pub mod Query
+pub mod Queries
+pub mod Constant
+pub mod Plan
