@@ -14,7 +14,7 @@ use Rattle.ssb_schema.specs.Base.{Dimensions}
 use Rattle.ssb_schema.specs.declared.fact.Fact.{Fact}
 use Rattle.ssb_queries.specs.Combination.{Combination, joined_with, passes, combinations}
 use Rattle.ssb_queries.specs.Answer.{amount, sum_over, in_group, group_of, groups_cmp, answer}
-use Rattle.ssb_plans.specs.Orders.{OrdersAllGroups}
+use Rattle.ssb_plans.specs.Plan.{OrdersAllGroups}
 use Rattle.ssb_queries.proofs.SumLemmas.{filter-append}
 use Rattle.ssb_queries.proofs.RowLemmas.{rows_from_sums}
 

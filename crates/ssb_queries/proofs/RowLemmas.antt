@@ -17,9 +17,10 @@ use Rattle.ssb_plans.specs.Members.{Has}
 use Rattle.ssb_queries.specs.Ordered.{in_order}
 use Rattle.ssb_queries.specs.Combination.{Combination, value_at}
 use Rattle.ssb_queries.specs.Answer.{sum_over, in_group, group_of, groups_cmp, groups_among, row_of, row_cmp, rows_over}
-use Rattle.ssb_plans.specs.Orders.{OrdersAllGroups}
+use Rattle.ssb_plans.specs.Plan.{OrdersAllGroups}
 use Rattle.ssb_queries.specs.Totals.{row_from}
-use Rattle.ssb_queries.specs.Laws.{IsGrouped, ListsGroups}
+use Rattle.ssb_plans.specs.Plan.{IsGrouped}
+use Rattle.ssb_queries.specs.Laws.{ListsGroups}
 use Rattle.ssb_queries.proofs.OrderedLemmas.{in_order_is, in_order-same_members, has_from_in_order, has_in_order, sorted_in_order}
 use Rattle.ssb_queries.proofs.OrderLemmas.{groups_cmp_total, groups_cmp-same, row_cmp_total, same_groups_from_tie}
 use Rattle.ssb_queries.proofs.PermutationLemmas.{NoTies, strict_from_sort, same_members_permutation}

@@ -9,7 +9,9 @@ use Rattle.std.specs.Cmp.Lexicographic.{pointwise}
 use Rattle.std.proofs.lemmas.Slice.Eq.{slice_eq-Decides}
 use Rattle.ssb_plans.specs.declared.value.Value.{Value}
 use Rattle.ssb_queries.specs.declared.answer.ResultRow.{ResultRow}
-use Rattle.ssb_plans.specs.Value.{value_cmp, value_cmp_total, value_cmp-same}
+use Rattle.ssb_plans.specs.Value.{value_cmp}
+use Rattle.ssb_plans.specs.ValueLaws.{value_cmp_total}
+use Rattle.ssb_plans.proofs.ValueLemmas.{value_cmp-same}
 
 pub value_Decides : (a b : Value) → Decides (eq_by_cmp value_cmp a b) (a ≡ b)
 value_Decides a b = (

@@ -7,8 +7,8 @@ use Rattle.ssb_schema.specs.declared.customer.CustomerFields.{CustomerFields}
 use Rattle.ssb_schema.specs.declared.supplier.SupplierFields.{SupplierFields}
 use Rattle.ssb_schema.specs.declared.part.PartFields.{PartFields}
 use Rattle.ssb_schema.specs.declared.date.DateFields.{DateFields}
-use Rattle.ssb_schema.specs.declared.column.Table.{Table}
-use Rattle.ssb_schema.specs.declared.column.Table.TheVariants as table
+use Rattle.ssb_schema.specs.declared.table.Table.{Table}
+use Rattle.ssb_schema.specs.declared.table.Table.TheVariants as table
 use Rattle.ssb_schema.specs.declared.column.Column.{Column}
 use Rattle.ssb_plans.specs.declared.value.Value.{Value}
 use Rattle.ssb_plans.specs.declared.value.Value.TheVariants.{Number}

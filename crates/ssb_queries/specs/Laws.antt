@@ -1,7 +1,6 @@
 -- What the subject says of an answer, as laws over the definitions.
-use Rattle.std.specs.Prelude.{◌≡◌, List, ◌∷◌, IsPermutation}
+use Rattle.std.specs.Prelude.{◌≡◌, List, IsPermutation}
 use Rattle.std.specs.List.Sorted.{IsStrictlySortedBy}
-use Rattle.ssb_schema.specs.declared.column.Column.{Column}
 use Rattle.ssb_queries.specs.declared.answer.ResultRow.{ResultRow}
 use Rattle.ssb_plans.specs.declared.plan.Plan.{Plan}
 use Rattle.ssb_plans.specs.Members.{Has}
@@ -9,13 +8,7 @@ use Rattle.ssb_schema.specs.Base.{Dimensions}
 use Rattle.ssb_schema.specs.declared.fact.Fact.{Fact}
 use Rattle.ssb_queries.specs.Combination.{Combination, combinations}
 use Rattle.ssb_queries.specs.Answer.{group_of, row_of, row_cmp, rows_over, answer}
-use Rattle.ssb_plans.specs.Orders.{OrdersAllGroups}
-
--- the plan has group columns
-pub record IsGrouped (plan : Plan) : Type 0 where
-  pub first : Column
-  pub others : List Column
-  pub are : plan.groups ≡ first ∷ others
+use Rattle.ssb_plans.specs.Plan.{OrdersAllGroups, IsGrouped}
 
 -- one row for each group among what was found, with its sum, strictly in the plan's order
 pub record ListsGroups (plan : Plan) (found : List Combination) (rows : List ResultRow) : Type 0 where

@@ -1,5 +1,5 @@
 //! What a query answers.
-use ssb_plans::value::Value;
+use ssb_plans::Value;
 use ssb_schema::Items;
 
 /// One row of an answer: the values of the group columns in printed order, and the sum over the

@@ -3,7 +3,7 @@ ghost use Rattle.std.specs.Prelude.{◌≡◌, ◌≤◌, ◌∷◌, [], ◌*◌
 ghost use Rattle.std.specs.BTreeMap.{get};
 ghost use Rattle.ssb_schema.specs.Base.{IsSound};
 ghost use Rattle.ssb_schema.specs.Facts.{fact_of, facts_of};
-ghost use Rattle.ssb_plans.specs.Orders.{OrdersAllGroups};
+ghost use Rattle.ssb_plans.specs.Plan.{OrdersAllGroups};
 ghost use Rattle.ssb_queries.specs.Combination.{joined_with, passes, combinations};
 ghost use Rattle.ssb_queries.specs.Answer.{amount, groups_cmp, answer};
 ghost use Rattle.ssb_queries.specs.Totals.{AreTotals, SumsFit, AddsAll, AddsOneLine, IsAmount};
