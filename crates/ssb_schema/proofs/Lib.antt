@@ -1,0 +1,6 @@
+pub mod Checks
+pub mod LimitLaws
+pub mod FirstFaultLaws
+pub mod OrderLaws
+pub mod BaseLaws
+pub mod PairLaws

@@ -1,0 +1,21 @@
+-- What queries and columns read of a line.
+use Rattle.std.specs.Prelude.{List, map}
+use Rattle.ssb_schema.specs.declared.fact.Fact.{Fact}
+use Rattle.ssb_schema.specs.declared.line.LineFields.{LineFields}
+
+abbrev pub fact_of : LineFields → Fact
+fact_of line = record {
+  order_key = line.order_key;
+  customer = line.customer_key;
+  supplier = line.supplier_key;
+  part = line.part_key;
+  date = line.order_date;
+  quantity = line.quantity;
+  discount = line.discount;
+  price = line.extended_price;
+  revenue = line.revenue;
+  cost = line.supply_cost;
+}
+
+abbrev pub facts_of : List LineFields → List Fact
+facts_of lines = map fact_of lines

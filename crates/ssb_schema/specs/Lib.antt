@@ -1,0 +1,14 @@
+pub mod Columns
+pub mod Rows
+pub mod Views
+pub mod Held
+pub mod Facts
+pub mod Refusals
+pub mod FirstFault
+pub mod Orders
+pub mod Refreshes
+pub mod Limits
+pub mod Base
+pub mod Indexed
+pub mod Checked
+pub mod BaseNew

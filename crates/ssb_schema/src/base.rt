@@ -1,0 +1,249 @@
+//! The base: the loaded tables, which the whole warehouse shares.
+
+ghost use Rattle.std.specs.Prelude.{◌≡◌, IfOk, IfErr};
+ghost use Rattle.std.specs.Option.{option_copied};
+ghost use Rattle.ssb_schema.specs.Base.{Dimensions, base_fault, line_fault, table_fault, unknown_of, is_same_line, IsSound, has_key, row_with, customer_key, supplier_key, part_key, date_key};
+ghost use Rattle.ssb_schema.specs.Checked.{Finds};
+ghost use Rattle.ssb_schema.specs.Indexed.{AreIndexesOf};
+ghost use Rattle.ssb_schema.specs.declared.table.Table.TheVariants as table;
+
+use crate::customer::Customer;
+use crate::date::DateRow;
+use crate::fault::{Refused, SchemaFault};
+use crate::index::{Index, Indexes, Stop};
+use crate::limits::Limits;
+use crate::line::Line;
+use crate::part::Part;
+use crate::supplier::Supplier;
+use crate::table::Table;
+use std::alloc::Global;
+use std::collections::HashSet;
+use std::marker::Model;
+
+/// The rows of a base, table by table.
+#[derive(Drop)]
+pub struct BaseParts {
+    pub customers: Vec<Customer>,
+    pub suppliers: Vec<Supplier>,
+    pub parts: Vec<Part>,
+    pub dates: Vec<DateRow>,
+    pub lines: Vec<Line>,
+}
+
+/// Why there is no base. The rows come back.
+#[derive(Drop)]
+pub enum BaseError {
+    Refused(Refused<BaseParts>),
+    OutOfMemory(BaseParts),
+}
+
+/// Four dimensions with distinct keys and the loaded lines, each of which names a row of each dimension. Contracts see
+/// the limits, the dimensions and the lines as lists.
+#[derive(Drop)]
+pub struct Base {
+    limits: Limits,
+    customers: Vec<Customer>,
+    suppliers: Vec<Supplier>,
+    parts: Vec<Part>,
+    dates: Vec<DateRow>,
+    lines: Vec<Line>,
+    indexes: Indexes,
+}
+
+impl Model for Base {
+    ghost use Rattle.std.specs.Prelude.{◌≡◌, None};
+    ghost use Rattle.ssb_schema.specs.Base.{Tables, base_fault};
+    ghost use Rattle.ssb_schema.specs.Indexed.{AreIndexesOf};
+
+    ghost Value = { Tables };
+
+    ghost use Rattle.ssb_schema.specs.Views.{base_view};
+
+    ghost view = { base_view };
+
+    ghost invariant = { λ base. (base_fault (base_view base) ≡ None) × AreIndexesOf base.indexes (base_view base).dimensions };
+}
+
+// The first dimension that has no row of the key which the line names.
+fn unknown(indexes: &Indexes, line: &Line) -> Option<Table>
+    ensures { (dimensions : Dimensions) → AreIndexesOf indexes.now dimensions → result ≡ unknown_of dimensions line.now }
+{
+    if !indexes.customers.contains(line.customer_key()) {
+        Some(Table::Customer)
+    } else if !indexes.suppliers.contains(line.supplier_key()) {
+        Some(Table::Supplier)
+    } else if !indexes.parts.contains(line.part_key()) {
+        Some(Table::Part)
+    } else if !indexes.dates.contains(line.order_date()) {
+        Some(Table::Date)
+    } else {
+        None
+    }
+}
+
+// Checks that each line is the first of its order key and line number, and names a row of each dimension.
+fn check_lines(alloc: Global, limit: usize, indexes: &Indexes, lines: &[Line]) -> Result<(), Stop>
+    ensures { (dimensions : Dimensions) → AreIndexesOf indexes.now dimensions → Finds result (table_fault limit table.Lineorder (line_fault dimensions) lines.now) }
+{
+    if lines.len() > limit {
+        return Err(Stop::Fault(SchemaFault::TooManyRows(Table::Lineorder)));
+    }
+    let mut seen: HashSet<(u64, u8)> = HashSet::new(alloc);
+    for (i, line) in lines.iter().enumerate() {
+        match seen.insert((line.order_key(), line.line_number())) {
+            Ok(true) => {}
+            Ok(false) => {
+                return Err(Stop::Fault(SchemaFault::KeyRepeated(Table::Lineorder, i + 1)));
+            }
+            Err(_) => return Err(Stop::OutOfMemory),
+        }
+        if let Some(table) = unknown(indexes, line) {
+            return Err(Stop::Fault(SchemaFault::UnknownKey(i + 1, table)));
+        }
+    }
+    Ok(())
+}
+
+impl BaseParts {
+    ghost use Rattle.ssb_schema.specs.BaseNew.{tables_of, dimensions_of};
+
+    // The indexes of the dimensions, or the first fault of the rows.
+    fn check(&self, alloc: Global, limits: Limits) -> Result<Indexes, Stop>
+        ensures fault { Finds result (base_fault (tables_of limits self.now)) }
+        ensures indexes { IfOk result (λ indexes. AreIndexesOf indexes (dimensions_of self.now)) }
+    {
+        let indexes = Indexes {
+            customers: Index::of(alloc, limits, Table::Customer, &self.customers)?,
+            suppliers: Index::of(alloc, limits, Table::Supplier, &self.suppliers)?,
+            parts: Index::of(alloc, limits, Table::Part, &self.parts)?,
+            dates: Index::of(alloc, limits, Table::Date, &self.dates)?,
+        };
+        check_lines(alloc, limits.lines, &indexes, &self.lines)?;
+        Ok(indexes)
+    }
+}
+
+impl Base {
+    ghost use Rattle.ssb_schema.specs.BaseNew.{tables_of, Answers, HandsBack};
+
+    /// The base of these rows, or their first fault in the order of the tables, with the rows: too many rows of a table,
+    /// then row by row a repeated primary key, or a line that names an unknown customer, supplier, part or date.
+    pub fn new(alloc: Global, limits: Limits, parts: BaseParts) -> Result<Base, BaseError>
+        ensures fault { Answers result (base_fault (tables_of limits parts)) }
+        ensures tables { IfOk result (λ base. base ≡ tables_of limits parts) }
+        ensures back { IfErr result (HandsBack parts) }
+    {
+        match parts.check(alloc, limits) {
+            Ok(indexes) => Ok(Base {
+                limits,
+                customers: parts.customers,
+                suppliers: parts.suppliers,
+                parts: parts.parts,
+                dates: parts.dates,
+                lines: parts.lines,
+                indexes,
+            }),
+            Err(Stop::Fault(fault)) => Err(BaseError::Refused(Refused { fault, back: parts })),
+            Err(Stop::OutOfMemory) => Err(BaseError::OutOfMemory(parts)),
+        }
+    }
+
+    /// How large the warehouse may grow.
+    pub fn limits(&self) -> Limits
+        ensures { result ≡ self.now.limits }
+    {
+        self.limits
+    }
+
+    /// The loaded lines.
+    pub fn lines(&self) -> &[Line]
+        ensures lines { result.now ≡ self.now.lines }
+        ensures sound { IsSound self.now }
+    {
+        self.lines.as_slice()
+    }
+
+    /// The customers.
+    pub fn customers(&self) -> &[Customer]
+        ensures { result.now ≡ self.now.dimensions.customers }
+    {
+        self.customers.as_slice()
+    }
+
+    /// The suppliers.
+    pub fn suppliers(&self) -> &[Supplier]
+        ensures { result.now ≡ self.now.dimensions.suppliers }
+    {
+        self.suppliers.as_slice()
+    }
+
+    /// The parts.
+    pub fn parts(&self) -> &[Part]
+        ensures { result.now ≡ self.now.dimensions.parts }
+    {
+        self.parts.as_slice()
+    }
+
+    /// The dates.
+    pub fn dates(&self) -> &[DateRow]
+        ensures { result.now ≡ self.now.dimensions.dates }
+    {
+        self.dates.as_slice()
+    }
+
+    /// The customer of this key, if there is one.
+    pub fn customer(&self, key: u64) -> Option<&Customer>
+        ensures { option_copied result ≡ row_with customer_key self.now.dimensions.customers key }
+    {
+        self.indexes.customers.row(&self.customers, key)
+    }
+
+    /// The supplier of this key, if there is one.
+    pub fn supplier(&self, key: u64) -> Option<&Supplier>
+        ensures { option_copied result ≡ row_with supplier_key self.now.dimensions.suppliers key }
+    {
+        self.indexes.suppliers.row(&self.suppliers, key)
+    }
+
+    /// The part of this key, if there is one.
+    pub fn part(&self, key: u64) -> Option<&Part>
+        ensures { option_copied result ≡ row_with part_key self.now.dimensions.parts key }
+    {
+        self.indexes.parts.row(&self.parts, key)
+    }
+
+    /// The date of this key, if there is one.
+    pub fn date(&self, key: u64) -> Option<&DateRow>
+        ensures { option_copied result ≡ row_with date_key self.now.dimensions.dates key }
+    {
+        self.indexes.dates.row(&self.dates, key)
+    }
+
+    /// Whether there is a customer of this key.
+    pub fn has_customer(&self, key: u64) -> bool
+        ensures { result ≡ has_key customer_key self.now.dimensions.customers key }
+    {
+        self.indexes.customers.contains(key)
+    }
+
+    /// Whether there is a supplier of this key.
+    pub fn has_supplier(&self, key: u64) -> bool
+        ensures { result ≡ has_key supplier_key self.now.dimensions.suppliers key }
+    {
+        self.indexes.suppliers.contains(key)
+    }
+
+    /// Whether there is a part of this key.
+    pub fn has_part(&self, key: u64) -> bool
+        ensures { result ≡ has_key part_key self.now.dimensions.parts key }
+    {
+        self.indexes.parts.contains(key)
+    }
+
+    /// Whether there is a date of this key.
+    pub fn has_date(&self, key: u64) -> bool
+        ensures { result ≡ has_key date_key self.now.dimensions.dates key }
+    {
+        self.indexes.dates.contains(key)
+    }
+}

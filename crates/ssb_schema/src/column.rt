@@ -1,0 +1,189 @@
+//! The columns of the tables, with their names.
+
+use crate::table::Table;
+use std::fmt;
+
+/// A column of a table, by its place in the table's file, from 1.
+#[derive(Clone, Copy, Debug, PartialEq, Eq)]
+pub struct Column {
+    pub table: Table,
+    pub place: usize,
+}
+
+/// The city of a customer.
+pub const C_CITY: Column = Column {
+    table: Table::Customer,
+    place: 4,
+};
+
+/// The nation of a customer.
+pub const C_NATION: Column = Column {
+    table: Table::Customer,
+    place: 5,
+};
+
+/// The region of a customer.
+pub const C_REGION: Column = Column {
+    table: Table::Customer,
+    place: 6,
+};
+
+/// The city of a supplier.
+pub const S_CITY: Column = Column {
+    table: Table::Supplier,
+    place: 4,
+};
+
+/// The nation of a supplier.
+pub const S_NATION: Column = Column {
+    table: Table::Supplier,
+    place: 5,
+};
+
+/// The region of a supplier.
+pub const S_REGION: Column = Column {
+    table: Table::Supplier,
+    place: 6,
+};
+
+/// The manufacturer of a part.
+pub const P_MFGR: Column = Column {
+    table: Table::Part,
+    place: 3,
+};
+
+/// The category of a part.
+pub const P_CATEGORY: Column = Column {
+    table: Table::Part,
+    place: 4,
+};
+
+/// The brand of a part.
+pub const P_BRAND1: Column = Column {
+    table: Table::Part,
+    place: 5,
+};
+
+/// The year of a date.
+pub const D_YEAR: Column = Column {
+    table: Table::Date,
+    place: 5,
+};
+
+/// The year and month of a date as a number, as 199401.
+pub const D_YEARMONTHNUM: Column = Column {
+    table: Table::Date,
+    place: 6,
+};
+
+/// The year and month of a date as a text, as `Dec1997`.
+pub const D_YEARMONTH: Column = Column {
+    table: Table::Date,
+    place: 7,
+};
+
+/// The week of a date in its year.
+pub const D_WEEKNUMINYEAR: Column = Column {
+    table: Table::Date,
+    place: 12,
+};
+
+static CUSTOMER: [&str; 8] = [
+    "C_CUSTKEY",
+    "C_NAME",
+    "C_ADDRESS",
+    "C_CITY",
+    "C_NATION",
+    "C_REGION",
+    "C_PHONE",
+    "C_MKTSEGMENT",
+];
+
+static SUPPLIER: [&str; 7] = [
+    "S_SUPPKEY",
+    "S_NAME",
+    "S_ADDRESS",
+    "S_CITY",
+    "S_NATION",
+    "S_REGION",
+    "S_PHONE",
+];
+
+static PART: [&str; 9] = [
+    "P_PARTKEY",
+    "P_NAME",
+    "P_MFGR",
+    "P_CATEGORY",
+    "P_BRAND1",
+    "P_COLOR",
+    "P_TYPE",
+    "P_SIZE",
+    "P_CONTAINER",
+];
+
+static DATE: [&str; 17] = [
+    "D_DATEKEY",
+    "D_FIELD2",
+    "D_FIELD3",
+    "D_FIELD4",
+    "D_YEAR",
+    "D_YEARMONTHNUM",
+    "D_YEARMONTH",
+    "D_FIELD8",
+    "D_FIELD9",
+    "D_FIELD10",
+    "D_FIELD11",
+    "D_WEEKNUMINYEAR",
+    "D_FIELD13",
+    "D_FIELD14",
+    "D_FIELD15",
+    "D_FIELD16",
+    "D_FIELD17",
+];
+
+static LINEORDER: [&str; 17] = [
+    "LO_ORDERKEY",
+    "LO_LINENUMBER",
+    "LO_CUSTKEY",
+    "LO_PARTKEY",
+    "LO_SUPPKEY",
+    "LO_ORDERDATE",
+    "LO_ORDERPRIORITY",
+    "LO_SHIPPRIORITY",
+    "LO_QUANTITY",
+    "LO_EXTENDEDPRICE",
+    "LO_ORDTOTALPRICE",
+    "LO_DISCOUNT",
+    "LO_REVENUE",
+    "LO_SUPPLYCOST",
+    "LO_TAX",
+    "LO_COMMITDATE",
+    "LO_SHIPMODE",
+];
+
+// The names of a table's columns, in the order of its file.
+fn names(table: Table) -> &'static [&'static str] {
+    match table {
+        Table::Customer => &CUSTOMER,
+        Table::Supplier => &SUPPLIER,
+        Table::Part => &PART,
+        Table::Date => &DATE,
+        Table::Lineorder => &LINEORDER,
+    }
+}
+
+impl Column {
+    /// The name of the column, as the benchmark and the faults have it; empty where the table has no such place.
+    pub fn name(self) -> &'static str {
+        if self.place == 0 {
+            return "";
+        }
+        names(self.table).get(self.place - 1).copied().unwrap_or("")
+    }
+}
+
+impl fmt::Display for Column {
+    fn fmt<W: fmt::Write>(&self, f: &mut fmt::Formatter<W>) -> fmt::Result {
+        f.write_str(self.name())
+    }
+}

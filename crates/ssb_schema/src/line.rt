@@ -1,0 +1,296 @@
+//! Lines of orders, the rows of the fact table.
+
+ghost use Rattle.std.specs.Prelude.{◌≡◌, IfOk, IfErr};
+ghost use Rattle.ssb_schema.specs.declared.table.Table.TheVariants as table;
+ghost use Rattle.ssb_schema.specs.Columns.{row_fault};
+
+use crate::fact::Fact;
+use crate::fault::{Refused, SchemaFault};
+use crate::kind::{Cell, check};
+use crate::table::Table;
+use crate::text::Text;
+use std::marker::Model;
+
+/// The values of a line, column by column in the order of the benchmark's LINEORDER. Prices are in the file's unit.
+#[derive(Drop)]
+pub struct LineFields {
+    /// LO_ORDERKEY.
+    pub order_key: u64,
+    /// LO_LINENUMBER.
+    pub line_number: u64,
+    /// LO_CUSTKEY.
+    pub customer_key: u64,
+    /// LO_PARTKEY.
+    pub part_key: u64,
+    /// LO_SUPPKEY.
+    pub supplier_key: u64,
+    /// LO_ORDERDATE.
+    pub order_date: u64,
+    /// LO_ORDERPRIORITY.
+    pub order_priority: Text,
+    /// LO_SHIPPRIORITY.
+    pub ship_priority: Text,
+    /// LO_QUANTITY.
+    pub quantity: u64,
+    /// LO_EXTENDEDPRICE.
+    pub extended_price: u64,
+    /// LO_ORDTOTALPRICE.
+    pub order_total_price: u64,
+    /// LO_DISCOUNT.
+    pub discount: u64,
+    /// LO_REVENUE.
+    pub revenue: u64,
+    /// LO_SUPPLYCOST.
+    pub supply_cost: u64,
+    /// LO_TAX.
+    pub tax: u64,
+    /// LO_COMMITDATE.
+    pub commit_date: u64,
+    /// LO_SHIPMODE.
+    pub ship_mode: Text,
+}
+
+/// A line whose values are within their columns' limits. Contracts see its values; the numbers lie packed to their ranges.
+#[derive(Clone, Drop)]
+pub struct Line {
+    order_key: u64,
+    customer_key: u64,
+    part_key: u64,
+    supplier_key: u64,
+    order_date: u64,
+    commit_date: u64,
+    extended_price: u32,
+    order_total_price: u32,
+    revenue: u32,
+    supply_cost: u32,
+    line_number: u8,
+    quantity: u8,
+    discount: u8,
+    tax: u8,
+    order_priority: Text,
+    ship_priority: Text,
+    ship_mode: Text,
+}
+
+impl Model for Line {
+    ghost use Rattle.std.specs.Prelude.{◌≡◌, None};
+    ghost use Rattle.ssb_schema.specs.declared.table.Table.TheVariants as table;
+    ghost use Rattle.ssb_schema.specs.declared.line.LineFields.{LineFields};
+    ghost use Rattle.ssb_schema.specs.Columns.{row_fault};
+    ghost use Rattle.ssb_schema.specs.Rows.{line_values};
+
+    ghost Value = { LineFields };
+
+    ghost use Rattle.ssb_schema.specs.Views.{line_view};
+
+    ghost view = { line_view };
+
+    ghost invariant = { λ line. row_fault table.Lineorder (line_values (line_view line)) ≡ None };
+}
+
+impl LineFields {
+    ghost use Rattle.ssb_schema.specs.Rows.{line_values};
+
+    // The first fault of the columns.
+    fn fault(&self) -> Option<SchemaFault>
+        ensures { result ≡ row_fault table.Lineorder (line_values self.now) }
+    {
+        let cells = [
+            Cell::Number(self.order_key),
+            Cell::Number(self.line_number),
+            Cell::Number(self.customer_key),
+            Cell::Number(self.part_key),
+            Cell::Number(self.supplier_key),
+            Cell::Number(self.order_date),
+            Cell::Text(self.order_priority.as_str()),
+            Cell::Text(self.ship_priority.as_str()),
+            Cell::Number(self.quantity),
+            Cell::Number(self.extended_price),
+            Cell::Number(self.order_total_price),
+            Cell::Number(self.discount),
+            Cell::Number(self.revenue),
+            Cell::Number(self.supply_cost),
+            Cell::Number(self.tax),
+            Cell::Number(self.commit_date),
+            Cell::Text(self.ship_mode.as_str()),
+        ];
+        check(Table::Lineorder, &cells)
+    }
+}
+
+impl Line {
+    ghost use Rattle.ssb_schema.specs.Facts.{fact_of};
+    ghost use Rattle.ssb_schema.specs.Refusals.{fault_of};
+    ghost use Rattle.ssb_schema.specs.Rows.{line_values, IsWithinLimits};
+
+    /// A line of these values, or the first fault in the order of its columns, with the values.
+    pub fn new(fields: LineFields) -> Result<Line, Refused<LineFields>>
+        ensures fault { fault_of result ≡ row_fault table.Lineorder (line_values fields) }
+        ensures row { IfOk result (λ line. line ≡ fields) }
+        ensures back { IfErr result (λ refused. refused.back ≡ fields) }
+    {
+        if let Some(fault) = fields.fault() {
+            return Err(Refused {
+                fault,
+                back: fields,
+            });
+        }
+        Ok(Line {
+            order_key: fields.order_key,
+            customer_key: fields.customer_key,
+            part_key: fields.part_key,
+            supplier_key: fields.supplier_key,
+            order_date: fields.order_date,
+            commit_date: fields.commit_date,
+            extended_price: fields.extended_price as u32,
+            order_total_price: fields.order_total_price as u32,
+            revenue: fields.revenue as u32,
+            supply_cost: fields.supply_cost as u32,
+            line_number: fields.line_number as u8,
+            quantity: fields.quantity as u8,
+            discount: fields.discount as u8,
+            tax: fields.tax as u8,
+            order_priority: fields.order_priority,
+            ship_priority: fields.ship_priority,
+            ship_mode: fields.ship_mode,
+        })
+    }
+
+    /// What queries and columns read of the line.
+    pub fn fact(&self) -> Fact
+        ensures value { result ≡ fact_of self.now }
+        ensures limits { IsWithinLimits self.now }
+    {
+        Fact {
+            order_key: self.order_key,
+            customer: self.customer_key,
+            supplier: self.supplier_key,
+            part: self.part_key,
+            date: self.order_date,
+            quantity: self.quantity,
+            discount: self.discount,
+            price: self.extended_price,
+            revenue: self.revenue,
+            cost: self.supply_cost,
+        }
+    }
+
+    /// LO_ORDERKEY.
+    pub fn order_key(&self) -> u64
+        ensures { result ≡ self.now.order_key }
+    {
+        self.order_key
+    }
+
+    /// LO_LINENUMBER.
+    pub fn line_number(&self) -> u8
+        ensures { result ≡ self.now.line_number }
+    {
+        self.line_number
+    }
+
+    /// LO_CUSTKEY.
+    pub fn customer_key(&self) -> u64
+        ensures { result ≡ self.now.customer_key }
+    {
+        self.customer_key
+    }
+
+    /// LO_PARTKEY.
+    pub fn part_key(&self) -> u64
+        ensures { result ≡ self.now.part_key }
+    {
+        self.part_key
+    }
+
+    /// LO_SUPPKEY.
+    pub fn supplier_key(&self) -> u64
+        ensures { result ≡ self.now.supplier_key }
+    {
+        self.supplier_key
+    }
+
+    /// LO_ORDERDATE.
+    pub fn order_date(&self) -> u64
+        ensures { result ≡ self.now.order_date }
+    {
+        self.order_date
+    }
+
+    /// LO_ORDERPRIORITY.
+    pub fn order_priority(&self) -> &Text
+        ensures { result.now ≡ self.now.order_priority }
+    {
+        &self.order_priority
+    }
+
+    /// LO_SHIPPRIORITY.
+    pub fn ship_priority(&self) -> &Text
+        ensures { result.now ≡ self.now.ship_priority }
+    {
+        &self.ship_priority
+    }
+
+    /// LO_QUANTITY.
+    pub fn quantity(&self) -> u8
+        ensures { result ≡ self.now.quantity }
+    {
+        self.quantity
+    }
+
+    /// LO_EXTENDEDPRICE.
+    pub fn extended_price(&self) -> u32
+        ensures { result ≡ self.now.extended_price }
+    {
+        self.extended_price
+    }
+
+    /// LO_ORDTOTALPRICE.
+    pub fn order_total_price(&self) -> u32
+        ensures { result ≡ self.now.order_total_price }
+    {
+        self.order_total_price
+    }
+
+    /// LO_DISCOUNT.
+    pub fn discount(&self) -> u8
+        ensures { result ≡ self.now.discount }
+    {
+        self.discount
+    }
+
+    /// LO_REVENUE.
+    pub fn revenue(&self) -> u32
+        ensures { result ≡ self.now.revenue }
+    {
+        self.revenue
+    }
+
+    /// LO_SUPPLYCOST.
+    pub fn supply_cost(&self) -> u32
+        ensures { result ≡ self.now.supply_cost }
+    {
+        self.supply_cost
+    }
+
+    /// LO_TAX.
+    pub fn tax(&self) -> u8
+        ensures { result ≡ self.now.tax }
+    {
+        self.tax
+    }
+
+    /// LO_COMMITDATE.
+    pub fn commit_date(&self) -> u64
+        ensures { result ≡ self.now.commit_date }
+    {
+        self.commit_date
+    }
+
+    /// LO_SHIPMODE.
+    pub fn ship_mode(&self) -> &Text
+        ensures { result.now ≡ self.now.ship_mode }
+    {
+        &self.ship_mode
+    }
+}

@@ -1,0 +1,68 @@
+//! Refreshes: lists of actions on whole orders, in the manner of the refresh functions of TPC-H.
+
+ghost use Rattle.std.specs.Prelude.{◌≡◌, ◌≤◌, ◌<◌, IfOk, IfErr, length};
+ghost use Rattle.ssb_schema.specs.Refusals.{fault_of};
+
+use crate::fault::{Refused, SchemaFault};
+use crate::order::Order;
+use std::marker::Model;
+
+/// What a refresh does with one order: adds one that is absent, replaces one that is present, or withdraws the order of
+/// this key.
+#[derive(Drop)]
+pub enum Action {
+    Add(Order),
+    Amend(Order),
+    Withdraw(u64),
+}
+
+/// One to 64 actions, which take effect together or not at all. Contracts see the list of actions.
+#[derive(Drop)]
+pub struct Refresh {
+    actions: Vec<Action>,
+}
+
+impl Model for Refresh {
+    ghost use Rattle.std.specs.Prelude.{◌≡◌, List, None};
+    ghost use Rattle.ssb_schema.specs.declared.refresh.Action.{Action};
+    ghost use Rattle.ssb_schema.specs.Refreshes.{refresh_fault};
+
+    ghost Value = { List Action };
+
+    ghost view = { λ refresh. refresh.actions.items };
+
+    ghost invariant = { λ refresh. refresh_fault refresh.actions.items ≡ None };
+}
+
+impl Refresh {
+    ghost use Rattle.ssb_schema.specs.Refreshes.{refresh_fault};
+
+    /// A refresh of these actions, or its fault with the actions: none, or more than 64.
+    pub fn new(actions: Vec<Action>) -> Result<Refresh, Refused<Vec<Action>>>
+        ensures fault { fault_of result ≡ refresh_fault actions.items }
+        ensures actions { IfOk result (λ refresh. refresh ≡ actions.items) }
+        ensures back { IfErr result (λ refused. refused.back ≡ actions) }
+    {
+        if actions.is_empty() {
+            return Err(Refused {
+                fault: SchemaFault::NoActions,
+                back: actions,
+            });
+        }
+        if actions.len() > 64 {
+            return Err(Refused {
+                fault: SchemaFault::TooManyActions,
+                back: actions,
+            });
+        }
+        Ok(Refresh { actions })
+    }
+
+    /// The actions.
+    pub fn actions(&self) -> &[Action]
+        ensures actions { result.now ≡ self.now }
+        ensures few { (0 < length self.now) × (length self.now ≤ 64) }
+    {
+        self.actions.as_slice()
+    }
+}

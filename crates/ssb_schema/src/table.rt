@@ -1,0 +1,32 @@
+//! The five tables of the benchmark.
+
+use std::fmt;
+
+/// A table of the Star Schema Benchmark: four dimensions and the fact table, in the order in which they are loaded.
+#[derive(Clone, Copy, Debug, PartialEq, Eq)]
+pub enum Table {
+    Customer,
+    Supplier,
+    Part,
+    Date,
+    Lineorder,
+}
+
+impl Table {
+    /// The name of the table, as its file and the faults have it.
+    pub fn name(self) -> &'static str {
+        match self {
+            Table::Customer => "customer",
+            Table::Supplier => "supplier",
+            Table::Part => "part",
+            Table::Date => "date",
+            Table::Lineorder => "lineorder",
+        }
+    }
+}
+
+impl fmt::Display for Table {
+    fn fmt<W: fmt::Write>(&self, f: &mut fmt::Formatter<W>) -> fmt::Result {
+        f.write_str(self.name())
+    }
+}
