@@ -1,7 +1,10 @@
-//! The constants of a query.
-ghost use Rattle.std.specs.Prelude.{◌≡◌, map, IfOk};
+//! The constants that a query has where none are given, and those at a place.
+ghost use Rattle.std.specs.Prelude.{◌≡◌, ◌↔◌, map, IfOk, IsTrue};
+ghost use Rattle.std.specs.Cmp.Lexicographic.{pointwise};
+ghost use Rattle.std.specs.Ordering.{eq_by_cmp};
 ghost use Rattle.ssb_plans.specs.Queries.{standard_constants, number_at, text_at};
 ghost use Rattle.ssb_plans.specs.Constant.{constant_value};
+ghost use Rattle.ssb_plans.specs.Value.{value_cmp};
 
 use crate::query::Query;
 use crate::value::Value;
@@ -28,7 +31,7 @@ pub fn text_at(alloc: Global, constants: &[Value], place: usize) -> Result<Text,
     }
 }
 
-/// A constant as it stands in the program.
+// A constant as it stands in the program.
 #[derive(Clone, Copy)]
 enum Constant {
     Text(&'static str),
@@ -37,12 +40,24 @@ enum Constant {
 
 use Constant::{Number, Text as Name};
 
-fn value(alloc: Global, constant: Constant) -> Result<Value, AllocError>
-    ensures { IfOk result (λ value. value ≡ constant_value constant) }
-{
-    match constant {
-        Constant::Text(text) => Ok(Value::Text(Text::from_str(alloc, text)?)),
-        Constant::Number(number) => Ok(Value::Number(number)),
+impl Constant {
+    fn to_value(self, alloc: Global) -> Result<Value, AllocError>
+        ensures { IfOk result (λ value. value ≡ constant_value self) }
+    {
+        match self {
+            Constant::Text(text) => Ok(Value::Text(Text::from_str(alloc, text)?)),
+            Constant::Number(number) => Ok(Value::Number(number)),
+        }
+    }
+
+    fn is(self, value: &Value) -> bool
+        ensures { result ≡ eq_by_cmp value_cmp value.now (constant_value self) }
+    {
+        match (self, value) {
+            (Constant::Text(text), Value::Text(value)) => value.as_str() == text,
+            (Constant::Number(number), Value::Number(value)) => *value == number,
+            _ => false,
+        }
     }
 }
 
@@ -116,7 +131,27 @@ pub fn standard_constants(alloc: Global, query: Query) -> Result<Items<Value>, A
 {
     let mut constants = Vec::new(alloc);
     for constant in standard(query) {
-        constants.push(value(alloc, *constant)?)?;
+        constants.push(constant.to_value(alloc)?)?;
     }
     Ok(Items::from_vec(constants))
+}
+
+// Whether the values are these constants, one by one.
+fn are(values: &[Value], constants: &[Constant]) -> bool
+    ensures { result ≡ pointwise (eq_by_cmp value_cmp) values.now (map constant_value constants.now) }
+{
+    match (values, constants) {
+        ([], []) => true,
+        ([value, values @ ..], [constant, constants @ ..]) => {
+            constant.is(value) && are(values, constants)
+        }
+        _ => false,
+    }
+}
+
+/// Whether these are the constants that a query has where none are given.
+pub fn is_standard(query: Query, constants: &[Value]) -> bool
+    ensures { IsTrue result ↔ (constants.now ≡ standard_constants query) }
+{
+    are(constants, standard(query))
 }

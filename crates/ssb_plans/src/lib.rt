@@ -4,13 +4,17 @@
 
 mod build;
 pub mod cond;
-pub mod constants;
-pub mod flights;
+mod constants;
+mod flights;
+pub mod kind;
 pub mod plan;
 pub mod query;
+pub mod question;
 pub mod value;
 
 pub use cond::{ColumnValue, Cond, Test};
+pub use kind::ConstantKind;
 pub use plan::{Measure, NumberRange, OrderKey, Plan};
-pub use query::{NoSuchQuery, Query};
+pub use query::{NoSuchQuery, QUERIES, Query};
+pub use question::{ConstantsFault, Question, QuestionError};
 pub use value::Value;

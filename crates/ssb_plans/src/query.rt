@@ -1,8 +1,15 @@
 //! The thirteen queries, and their names.
 ghost use Rattle.std.specs.Prelude.{◌≡◌, ◌≢◌, IfOk, IfErr};
 ghost use Rattle.ssb_plans.specs.declared.query.Query.{Query as Named};
+ghost use Rattle.ssb_plans.specs.Kind.{constant_kinds};
 ghost use Rattle.ssb_plans.specs.Query.{name_of, sum_first};
 
+use crate::kind::ConstantKind;
+use crate::kind::ConstantKind::{Number, Text};
+use ssb_schema::{
+    C_CITY, C_NATION, C_REGION, D_YEARMONTH, P_BRAND1, P_CATEGORY, P_MFGR, S_CITY, S_NATION,
+    S_REGION,
+};
 use std::fmt;
 use thiserror::Error;
 
@@ -79,6 +86,26 @@ impl Query {
             }
         }
         Err(NoSuchQuery)
+    }
+
+    /// The kinds of the query's constants, in the order in which a question gives them.
+    pub fn constant_kinds(self) -> &'static [ConstantKind]
+        ensures { result.now ≡ constant_kinds self }
+    {
+        match self {
+            Query::Q1_1 | Query::Q1_2 => &[Number, Number, Number, Number, Number],
+            Query::Q1_3 => &[Number, Number, Number, Number, Number, Number],
+            Query::Q2_1 => &[Text(P_CATEGORY), Text(S_REGION)],
+            Query::Q2_2 => &[Text(P_BRAND1), Text(P_BRAND1), Text(S_REGION)],
+            Query::Q2_3 => &[Text(P_BRAND1), Text(S_REGION)],
+            Query::Q3_1 => &[Text(C_REGION), Text(S_REGION), Number, Number],
+            Query::Q3_2 => &[Text(C_NATION), Text(S_NATION), Number, Number],
+            Query::Q3_3 => &[Text(C_CITY), Text(C_CITY), Text(S_CITY), Text(S_CITY), Number, Number],
+            Query::Q3_4 => &[Text(C_CITY), Text(C_CITY), Text(S_CITY), Text(S_CITY), Text(D_YEARMONTH)],
+            Query::Q4_1 => &[Text(C_REGION), Text(S_REGION), Text(P_MFGR), Text(P_MFGR)],
+            Query::Q4_2 => &[Text(C_REGION), Text(S_REGION), Text(P_MFGR), Text(P_MFGR), Number, Number],
+            Query::Q4_3 => &[Text(C_REGION), Text(S_NATION), Number, Number, Text(P_CATEGORY)],
+        }
     }
 
     /// Whether a report prints the sum before the group columns; else it stands after them.
