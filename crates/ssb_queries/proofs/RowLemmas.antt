@@ -20,7 +20,7 @@ use Rattle.ssb_queries.specs.Answer.{sum_over, in_group, group_of, groups_cmp, g
 use Rattle.ssb_plans.specs.Plan.{OrdersAllGroups}
 use Rattle.ssb_queries.specs.Totals.{row_from}
 use Rattle.ssb_plans.specs.Plan.{IsGrouped}
-use Rattle.ssb_queries.specs.Laws.{ListsGroups}
+use Rattle.ssb_queries.specs.Laws.{ListsGroups, HaveDistinctGroups}
 use Rattle.ssb_queries.proofs.OrderedLemmas.{in_order_is, in_order-same_members, has_from_in_order, has_in_order, sorted_in_order}
 use Rattle.ssb_queries.proofs.OrderLemmas.{groups_cmp_total, groups_cmp-same, row_cmp_total, same_groups_from_tie}
 use Rattle.ssb_queries.proofs.PermutationLemmas.{NoTies, strict_from_sort, same_members_permutation}
@@ -244,3 +244,43 @@ pub distinct_from_ordered : (entries : List (List Value × ℤ)) → IsStrictlyS
 unfolding IsStrictlySortedBy
 distinct_from_ordered [] s = tt
 distinct_from_ordered ((groups, sum) ∷ entries) s = (apart_from_below groups entries s.0, distinct_from_ordered entries s.1)
+
+-- each row of a plan is that of its group
+pub row_of_its_group : (plan : Plan) (found : List Combination) (row : ResultRow) → Has (rows_over plan found) row → row ≡ row_of plan found row.groups
+row_of_its_group plan found row h =
+    let target = has_from_map (row_of plan found) (groups_among plan.groups (group_of plan) found) row (has_from_in_order (row_cmp plan.order) _ row h) in
+    target.2 ∙ ap (row_of plan found) (sym (ap (λ (r : ResultRow). r.groups) target.2))
+
+module _ (plan : Plan) (found : List Combination) where
+  apart_from_row : (row : ResultRow) (rows : List ResultRow) → row ≡ row_of plan found row.groups → ((other : ResultRow) → Has rows other → other ≡ row_of plan found other.groups)
+      → AllByRecursion (λ other. row_cmp plan.order row other ≡ Less) rows → AllByRecursion (λ other. row.groups ≢ other.groups) rows
+  apart_from_row row [] is others below = tt
+  apart_from_row row (other ∷ rows) is others below = (
+    λ same. let one : row ≡ other = is ∙ ap (row_of plan found) same ∙ sym (others other (inl refl)) in
+      let tie = tied_itself (row_cmp_total plan.order) row in
+      let less : row_cmp plan.order row row ≡ Less = subst (λ (r : ResultRow). row_cmp plan.order row r ≡ Less) (sym one) below.0 in
+      cc,
+    apart_from_row row rows is (λ r h. others r (inr h)) below.1,
+  )
+
+  distinct_from_sorted : (rows : List ResultRow) → ((row : ResultRow) → Has rows row → row ≡ row_of plan found row.groups) → IsStrictlySortedBy (row_cmp plan.order) rows → HaveDistinctGroups rows
+  unfolding IsStrictlySortedBy
+  distinct_from_sorted [] are sorted = tt
+  distinct_from_sorted (row ∷ rows) are sorted = (
+    apart_from_row row rows (are row (inl refl)) (λ r h. are r (inr h)) sorted.0,
+    distinct_from_sorted rows (λ r h. are r (inr h)) sorted.1,
+  )
+
+  -- no two rows of a plan are of one group
+  pub rows_have_distinct_groups : HaveDistinctGroups (rows_over plan found)
+  rows_have_distinct_groups = distinct_from_sorted (rows_over plan found) (row_of_its_group plan found) (sorted_in_order (row_cmp plan.order) (row_cmp_total plan.order) (map (row_of plan found) (groups_among plan.groups (group_of plan) found)))
+
+filter_all : {X : Type 0} (p : X → Bool) → ((x : X) → p x ≡ true) → (xs : List X) → filter p xs ≡ xs
+filter_all p all [] = refl
+filter_all p all (x ∷ xs) = ap (λ (b : Bool). cond b (x ∷ filter p xs) (filter p xs)) (all x) ∙ ap (λ t. x ∷ t) (filter_all p all xs)
+
+-- without group columns all combinations are of the one group
+pub total_is_one_row : (plan : Plan) (found : List Combination) → plan.groups ≡ [] → rows_over plan found ≡ record { groups = []; sum = sum_over plan.measure found } ∷ []
+total_is_one_row plan found none =
+    ap (λ (columns : List Column). in_order (row_cmp plan.order) (map (row_of plan found) (groups_among columns (group_of plan) found))) none
+    ∙ ap (λ (cs : List Combination). record { groups = []; sum = sum_over plan.measure cs } ∷ []) (filter_all _ (λ c. ap (λ (columns : List Column). is_eq (groups_cmp (map (λ column. value_at column c) columns) [])) none) found)

@@ -157,6 +157,36 @@ q2_2-wider : answer (plan_over Q2_2 (Text (codes "MFGR#222") ∷ Text (codes "MF
     ≡ record { groups = Number 1993 ∷ Text (codes "MFGR#222") ∷ []; sum = Some (pos 1980) } ∷ record { groups = Number 1993 ∷ Text (codes "MFGR#2221") ∷ []; sum = Some (pos 970) } ∷ []
 q2_2-wider = refl
 
+-- with the two brands exchanged nothing lies between them
+q2_2-exchanged : answer (plan_over Q2_2 (Text (codes "MFGR#2221") ∷ Text (codes "MFGR#222") ∷ Text (codes "ASIA") ∷ [])) dimensions facts ≡ []
+q2_2-exchanged = refl
+
+q2_1-europe : answer (plan_over Q2_1 (Text (codes "MFGR#12") ∷ Text (codes "EUROPE") ∷ [])) dimensions facts ≡ record { groups = Number 1997 ∷ Text (codes "MFGR#121") ∷ []; sum = Some (pos 500) } ∷ []
+q2_1-europe = refl
+
+-- a line at the greatest price
+abbrev dear : ℕ → Fact
+dear discount = fact 5 2 2 2 19930101 1 4294967295 discount 0 0
+
+abbrev seven : ℕ → List Fact
+seven discount = dear discount ∷ dear discount ∷ dear discount ∷ dear discount ∷ dear discount ∷ dear discount ∷ dear discount ∷ []
+
+q1_1-seven : answer (plan_of Q1_1) dimensions (seven 3) ≡ record { groups = []; sum = Some (pos 90194313195) } ∷ []
+q1_1-seven = refl
+
+q1_1-seven_outside : answer (plan_of Q1_1) dimensions (seven 10) ≡ record { groups = []; sum = None } ∷ []
+q1_1-seven_outside = refl
+
+q1_1-seven_asked : answer (plan_over Q1_1 (Number 1993 ∷ Number 10 ∷ Number 10 ∷ Number 0 ∷ Number 24 ∷ [])) dimensions (seven 10) ≡ record { groups = []; sum = Some (pos 300647710650) } ∷ []
+q1_1-seven_asked = refl
+
+-- over no lines at all there is NULL without groups, and no row with them
+q1_1-nothing : answer (plan_of Q1_1) dimensions [] ≡ record { groups = []; sum = None } ∷ []
+q1_1-nothing = refl
+
+q4_1-nothing : answer (plan_of Q4_1) dimensions [] ≡ []
+q4_1-nothing = refl
+
 -- the small data set with two ties: one year, equal sums
 q3_1-ties : answer (plan_of Q3_1)
     (record dimensions { customers = customer 2 (codes "CHINA    0") (codes "CHINA") (codes "ASIA") ∷ customer 4 (codes "INDIA    1") (codes "INDIA") (codes "ASIA") ∷ []; suppliers = supplier 2 (codes "JAPAN    3") (codes "JAPAN") (codes "ASIA") ∷ supplier 4 (codes "CHINA    2") (codes "CHINA") (codes "ASIA") ∷ [] })

@@ -48,3 +48,8 @@ pub combinations_push : (plan : Plan) (dimensions : Dimensions) (facts : List Fa
 combinations_push plan dimensions facts fact =
     ap (filter (passes plan)) (flat_map-append (joined_with dimensions) facts (fact ∷ []) ∙ ap (λ t. joined dimensions facts ++ t) (append_nil (joined_with dimensions fact)))
     ∙ filter-append (passes plan) (joined dimensions facts) (joined_with dimensions fact)
+
+-- the combinations over lines in two parts
+pub combinations-append : (plan : Plan) (dimensions : Dimensions) (facts more : List Fact) → combinations plan dimensions (facts ++ more) ≡ combinations plan dimensions facts ++ combinations plan dimensions more
+combinations-append plan dimensions facts more =
+    ap (filter (passes plan)) (flat_map-append (joined_with dimensions) facts more) ∙ filter-append (passes plan) (joined dimensions facts) (joined dimensions more)

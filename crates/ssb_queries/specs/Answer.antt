@@ -18,6 +18,8 @@ use Rattle.ssb_plans.specs.declared.plan.Measure.TheVariants.{PriceTimesDiscount
 use Rattle.ssb_plans.specs.declared.plan.OrderKey.{OrderKey}
 use Rattle.ssb_plans.specs.declared.plan.OrderKey.TheVariants.{Group, SumDescending}
 use Rattle.ssb_plans.specs.declared.plan.Plan.{Plan}
+use Rattle.ssb_plans.specs.declared.query.Query.{Query}
+use Rattle.ssb_plans.specs.Queries.{plan_over}
 
 abbrev pub groups_cmp : List Value → List Value → Ordering
 groups_cmp = slice_cmp value_cmp
@@ -70,6 +72,10 @@ row_cmp (key ∷ keys) a b = ordering_then (key_cmp key a b) (row_cmp keys a b)
 abbrev pub rows_over : Plan → List Combination → List ResultRow
 rows_over plan found = in_order (row_cmp plan.order) (map (row_of plan found) (groups_among plan.groups (group_of plan) found))
 
--- the answer to a query over these lines
+-- the answer by a plan over these lines
 abbrev pub answer : Plan → Dimensions → List Fact → List ResultRow
 answer plan dimensions facts = rows_over plan (combinations plan dimensions facts)
+
+-- the answer to a question, which contracts see as a query with its constants
+abbrev pub answer_of : Query × List Value → Dimensions → List Fact → List ResultRow
+answer_of question dimensions facts = answer (plan_over question.0 question.1) dimensions facts

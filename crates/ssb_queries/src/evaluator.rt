@@ -1,19 +1,20 @@
-//! The rows of a plan over lines, line by line.
+//! The plain evaluator: the rows of a question, line by line.
 ghost use Rattle.std.specs.Prelude.{◌≡◌, ◌≤◌, ◌∷◌, [], ◌*◌, pos, filter, length, IfOk, OnOk};
 ghost use Rattle.std.specs.BTreeMap.{get};
 ghost use Rattle.ssb_schema.specs.Base.{IsSound};
 ghost use Rattle.ssb_schema.specs.Facts.{fact_of, facts_of};
 ghost use Rattle.ssb_plans.specs.Plan.{OrdersAllGroups};
 ghost use Rattle.ssb_queries.specs.Combination.{joined_with, passes, combinations};
-ghost use Rattle.ssb_queries.specs.Answer.{amount, groups_cmp, answer};
+ghost use Rattle.ssb_queries.specs.Answer.{amount, groups_cmp, answer, answer_of};
 ghost use Rattle.ssb_queries.specs.Totals.{AreTotals, SumsFit, AddsAll, AddsOneLine, IsAmount};
 
-use crate::answer::ResultRow;
+use crate::answer::{ResultRow, Rows};
 use crate::joined::passing;
 use crate::sort::sort_rows;
 use crate::totals::{Totals, add, into_rows};
-use ssb_plans::{Measure, Plan};
-use ssb_schema::{Base, Fact, Items, Line};
+use ssb_plans::question::plan;
+use ssb_plans::{Measure, Plan, Question};
+use ssb_schema::{Base, Fact, Items, Line, MOST_LINES};
 use std::alloc::{AllocError, Global};
 use std::collections::BTreeMap;
 
@@ -63,7 +64,7 @@ fn add_line(
 /// The sums over all lines, by group.
 fn totals_of(alloc: Global, base: &Base, lines: &[Line], plan: &Plan) -> Result<Totals, AllocError>
     requires sound { IsSound base.now }
-    requires few { length lines.now ≤ 33554432 }
+    requires few { length lines.now ≤ MOST_LINES }
     ensures { IfOk result (AreTotals plan.now (combinations plan.now base.now.dimensions (facts_of lines.now))) }
 {
     let mut totals = BTreeMap::new(alloc);
@@ -85,14 +86,14 @@ fn total_row(alloc: Global, totals: &Totals) -> Result<Vec<ResultRow>, AllocErro
 }
 
 /// The rows of a plan over lines.
-pub fn evaluate(
+fn evaluate(
     alloc: Global,
     base: &Base,
     lines: &[Line],
     plan: &Plan,
 ) -> Result<Vec<ResultRow>, AllocError>
     requires sound { IsSound base.now }
-    requires few { length lines.now ≤ 33554432 }
+    requires few { length lines.now ≤ MOST_LINES }
     requires ordered { OrdersAllGroups plan.now }
     ensures { IfOk result (λ rows. rows.items ≡ answer plan.now base.now.dimensions (facts_of lines.now)) }
 {
@@ -103,4 +104,26 @@ pub fn evaluate(
     let mut rows = into_rows(alloc, totals)?;
     sort_rows(plan, &mut rows)?;
     Ok(rows)
+}
+
+/// The rows of a question over lines, which need not be those of the base.
+///
+/// It goes over the lines once and finds the rows that a line names by their keys, so its time grows
+/// with the number of lines, and its memory with the number of groups. It fails for want of memory
+/// alone.
+pub fn plain(
+    alloc: Global,
+    base: &Base,
+    lines: &[Line],
+    question: &Question,
+) -> Result<Rows, AllocError>
+    requires { length lines.now ≤ MOST_LINES }
+    ensures question { IfOk result (λ rows. rows.question ≡ question.now) }
+    ensures rows { IfOk result (λ rows. rows.list ≡ answer_of question.now base.now.dimensions (facts_of lines.now)) }
+{
+    // What the base keeps is told where its lines are read.
+    let _loaded = base.lines();
+    let plan = plan(alloc, question)?;
+    let rows = evaluate(alloc, base, lines, &plan)?;
+    Ok(Rows { question: question.share()?, list: Items::from_vec(rows) })
 }

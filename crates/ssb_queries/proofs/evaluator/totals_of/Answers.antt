@@ -8,7 +8,7 @@ use Rattle.ssb_queries.specs.Combination.{Combination, combinations, joined_with
 use Rattle.ssb_schema.specs.Facts.{fact_of, facts_of}
 use Rattle.ssb_queries.specs.Totals.{AreTotals}
 use Rattle.ssb_queries.proofs.SumLemmas.{combinations_push}
-use Rattle.ssb_queries.proofs.evaluate.totals_of.Goals as goal
+use Rattle.ssb_queries.proofs.evaluator.totals_of.Goals as goal
 
 pub add_line-requires-clause-room : goal.add_line-requires-clause-room
 add_line-requires-clause-room c = λ groups sum e.

@@ -3,7 +3,7 @@ use Rattle.std.proofs.Common.{take}
 use Rattle.ssb_queries.specs.Combination.{combinations}
 use Rattle.ssb_schema.specs.Facts.{facts_of}
 use Rattle.ssb_queries.specs.Totals.{AreTotals, SumsWithin}
-use Rattle.ssb_queries.proofs.evaluate.totals_of.Given as goal
+use Rattle.ssb_queries.proofs.evaluator.totals_of.Given as goal
 
 abbrev pub invariant-loop-line : goal.invariant-loop-line
 invariant-loop-line l = record {
