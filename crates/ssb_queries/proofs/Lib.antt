@@ -1,0 +1,11 @@
+pub mod OrderedLemmas
+pub mod OrderLemmas
+pub mod JoinLemmas
+pub mod SumLemmas
+pub mod PassingLemmas
+pub mod PermutationLemmas
+pub mod TotalsLemmas
+pub mod RowLemmas
+pub mod RearrangementLemmas
+pub mod SameLemmas
+pub mod SmallDataSet

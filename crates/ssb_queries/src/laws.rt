@@ -1,0 +1,35 @@
+//! Laws that the benchmark's words ask of an answer, over the definitions in `specs/`.
+//!
+//! Each is the contract of a function that does nothing.
+ghost use Rattle.ssb_queries.specs.Laws.{RowsListGroups, RowsHaveDistinctGroups, RowsHaveTheirSums, TotalIsOneRow, AnswersIgnoreOrder, CombinationsAppend};
+
+/// With group columns the rows are one for each group among the combinations, strictly in the
+/// plan's order, and no other list of rows is.
+pub fn rows_list_groups()
+    ensures { RowsListGroups }
+{}
+
+/// No two rows are of one group.
+pub fn rows_have_distinct_groups()
+    ensures { RowsHaveDistinctGroups }
+{}
+
+/// The sum of each row is the sum over its group's combinations.
+pub fn rows_have_their_sums()
+    ensures { RowsHaveTheirSums }
+{}
+
+/// Without group columns there is one row, whose sum is NULL where there is no combination.
+pub fn total_is_one_row()
+    ensures { TotalIsOneRow }
+{}
+
+/// A rearrangement of the lines has the same answer.
+pub fn answers_ignore_order()
+    ensures { AnswersIgnoreOrder }
+{}
+
+/// The combinations over lines in two parts are those over the one and then those over the other.
+pub fn combinations_append()
+    ensures { CombinationsAppend }
+{}
