@@ -1,0 +1,4 @@
+pub mod Causes
+pub mod Counted
+pub mod Placed
+pub mod StateLaws

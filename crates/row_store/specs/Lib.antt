@@ -1,0 +1,6 @@
+pub mod Lines
+pub mod History
+pub mod Refusals
+pub mod Legal
+pub mod State
+pub mod Keyed
