@@ -20,6 +20,10 @@ pub record Sources : Type 0 where
 abbrev pub lines_at : List LineFields → List ℕ → List LineFields
 lines_at lines positions = filter_map (λ i. slice_get lines i) positions
 
+-- the order key of the line at a position
+abbrev pub key_at : List LineFields → ℕ → ℕ
+key_at lines i = option_map_or (λ line. line.order_key) (slice_get lines i) 0
+
 -- the lines that an action of a commit adds
 abbrev pub order_at : List CommitRecord → ℕ → ℕ → List LineFields
 order_at log commit action = option_map_or (λ made. option_map_or added_by (slice_get made.actions action) []) (slice_get log commit) []

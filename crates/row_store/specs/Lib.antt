@@ -4,3 +4,4 @@ pub mod Refusals
 pub mod Legal
 pub mod State
 pub mod Keyed
+pub mod OrderLines

@@ -8,9 +8,12 @@ ghost use Rattle.row_store.specs.Refusals.{lacks_customer, lacks_supplier, lacks
 ghost use Rattle.row_store.specs.Legal.{Fails};
 
 use crate::commit::{Commit, Receipt};
-use crate::place::{Place, count_after, place_all};
+use crate::index::{index_of, place_runs};
+use crate::order_lines::OrderLines;
+use crate::place::{Place, Source, count_after, order_at, place_all};
 use crate::refusal::{ApplyError, Cause, Refusal};
 use ssb_schema::{Action, Base, Line, Order, Refresh};
+use std::alloc::{AllocError, Global};
 use std::collections::HashMap;
 use std::marker::Model;
 use std::sync::Arc;
@@ -110,6 +113,79 @@ fn join(base: &Base, order: &Order, live: usize) -> Result<usize, Cause>
 }
 
 impl RowStore {
+    /// The loaded orders, and no commits.
+    pub fn new(alloc: Global, base: Arc<Base>) -> Result<RowStore, AllocError>
+        ensures { IfOk result (λ store. store ≡ record { base = base.value; log = [] }) }
+    {
+        let lines = base.lines();
+        let index = index_of(alloc, lines)?;
+        let mut orders = HashMap::new(alloc);
+        place_runs(&mut orders, lines, &index)?;
+        let line_count = lines.len();
+        Ok(RowStore {
+            base,
+            index,
+            orders,
+            line_count,
+            log: Vec::new(alloc),
+        })
+    }
+
+    /// The commits from the one after the first `n` on. `n` is at most `len()`.
+    pub fn log_from(&self, n: usize) -> &[Commit]
+        requires { n ≤ length self.now.log }
+        ensures { result.now ≡ drop n self.now.log }
+    {
+        &self.log[n..]
+    }
+
+    /// The number of commits.
+    pub fn len(&self) -> usize
+        ensures { result ≡ length self.now.log }
+    {
+        self.log.len()
+    }
+
+    /// The number of live lines.
+    pub fn line_count(&self) -> usize
+        ensures { result ≡ length (lines_after self.now.base self.now.log) }
+    {
+        self.line_count
+    }
+
+    /// The live lines of an order; none where no live line has the key.
+    pub fn lines_of(&self, key: u64) -> Option<OrderLines<'_>>
+        ensures absent { IsNone result ↔ (lines_of key (lines_after self.now.base self.now.log) ≡ []) }
+        ensures lines { IfSome result (λ order. order ≡ lines_of key (lines_after self.now.base self.now.log)) }
+    {
+        let place = *self.orders.get(&key)?;
+        match place.source {
+            Source::Loaded(first) => {
+                let first = first as usize;
+                let positions = &self.index[first..first + place.lines as usize];
+                Some(OrderLines::loaded(self.base.lines(), positions))
+            }
+            Source::Added { commit, action } => {
+                Some(OrderLines::added(order_at(&self.log, commit, action)))
+            }
+        }
+    }
+
+    /// The base and the commits.
+    pub fn into_parts(self) -> (Arc<Base>, Vec<Commit>)
+        ensures base { result.0.value ≡ self.base }
+        ensures log { result.1.items ≡ self.log }
+    {
+        let RowStore {
+            base,
+            index: _,
+            orders: _,
+            line_count: _,
+            log,
+        } = self;
+        (base, log)
+    }
+
     /// Whether the refresh would be accepted, or its refusal: a full log, or the first action that is refused, each
     /// looked at with the earlier ones in force. It takes no memory.
     pub fn check(&self, refresh: &Refresh) -> Result<(), Refusal>
