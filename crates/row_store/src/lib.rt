@@ -3,6 +3,7 @@
 
 mod commit;
 mod index;
+pub mod laws;
 mod order_lines;
 mod place;
 mod plain;
