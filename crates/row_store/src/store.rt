@@ -145,9 +145,17 @@ impl RowStore {
         self.log.len()
     }
 
+    /// The base, which the store shares.
+    pub fn base(&self) -> &Base
+        ensures { result.now ≡ self.now.base }
+    {
+        &*self.base
+    }
+
     /// The number of live lines.
     pub fn line_count(&self) -> usize
-        ensures { result ≡ length (lines_after self.now.base self.now.log) }
+        ensures count { result ≡ length (lines_after self.now.base self.now.log) }
+        ensures few { result ≤ self.now.base.limits.lines }
     {
         self.line_count
     }
