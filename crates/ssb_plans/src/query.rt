@@ -1,5 +1,5 @@
 //! The thirteen queries, and their names.
-ghost use Rattle.std.specs.Prelude.{◌≡◌, ◌≢◌, IfOk, IfErr};
+ghost use Rattle.std.specs.Prelude.{◌≡◌, ◌≢◌, IfOk, IfErr, Some};
 ghost use Rattle.ssb_plans.specs.declared.query.Query.{Query as Named};
 ghost use Rattle.ssb_plans.specs.Kind.{constant_kinds};
 ghost use Rattle.ssb_plans.specs.Query.{name_of, sum_first};
@@ -146,6 +146,8 @@ impl Query {
 }
 
 impl fmt::Display for Query {
+    ghost output = { λ query. Some (name_of query) };
+
     fn fmt<W: fmt::Write>(&self, f: &mut fmt::Formatter<W>) -> fmt::Result {
         f.write_str(self.name())
     }

@@ -14,6 +14,7 @@ use crate::query::Query;
 use crate::value::Value;
 use ssb_schema::Items;
 use std::alloc::{AllocError, Global};
+use std::fmt;
 use std::marker::Model;
 use std::sync::Arc;
 use thiserror::Error;
@@ -143,6 +144,12 @@ impl Question {
             query: self.query,
             constants: self.constants.clone()?,
         })
+    }
+}
+
+impl fmt::Debug for Question {
+    fn fmt<W: fmt::Write>(&self, f: &mut fmt::Formatter<W>) -> fmt::Result {
+        write!(f, "{} {:?}", self.query, self.constants())
     }
 }
 
