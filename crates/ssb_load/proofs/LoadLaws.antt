@@ -74,7 +74,7 @@ unknown_told limits n (Some t) = refl
 line_told : (limits : Limits) (dimensions : Dimensions) (earlier : List LineFields) (line : LineFields) → AreTold limits (line_fault dimensions earlier line)
 line_told limits dimensions earlier line =
     or_told limits (repeated_fault table.Lineorder is_same_line earlier line) (option_map (λ t. fault.UnknownKey (length earlier + 1) t) (unknown_of dimensions line))
-      (repeated_told limits table.Lineorder is_same_line earlier line) (unknown_told limits (length earlier + 1) (unknown_of dimensions line))
+    (repeated_told limits table.Lineorder is_same_line earlier line) (unknown_told limits (length earlier + 1) (unknown_of dimensions line))
 
 base_told : (base : BaseTables) → AreTold base.limits (base_fault base)
 base_told base =

@@ -1,12 +1,12 @@
 -- What is known of a table's text while it is read.
-use Rattle.std.proofs.Common.{suc, ◌≡◌, ℕ, ◌+◌, ◌<◌, ◌≤◌, true, false, List, [], ◌∷◌, ◌++◌, Option, Some, None, Result, Ok, Err, length, refl, ap, ◌∙◌, ◌⊎◌, inl, inr, arith}
+use Rattle.std.proofs.Common.{suc, ◌≡◌, ℕ, ◌+◌, ◌<◌, ◌≤◌, true, false, List, [], ◌∷◌, ◌++◌, Option, Some, None, Ok, Err, length, refl, ap, ◌⊎◌, inl, inr, arith}
 use Rattle.std.specs.List.{AllZip}
 use Rattle.std.specs.Option.{IfSome}
 use Rattle.csv.specs.declared.reader.Reader.{Reader}
 use Rattle.ssb_schema.specs.Columns.{Value}
 use Rattle.ssb_schema.specs.declared.table.Table.{Table}
 use Rattle.ssb_schema.specs.declared.fault.SchemaFault.TheVariants as schema
-use Rattle.ssb_load.specs.Records.{BeginsWith, GivesNext, HasGiven}
+use Rattle.ssb_load.specs.Records.{GivesNext, HasGiven}
 use Rattle.ssb_load.specs.Row.{row_of, Fails}
 use Rattle.ssb_load.specs.Tables.{in_row, IsFirstFault, IsReadFault, SpellsRow, SpellsRows}
 use Rattle.ssb_load.specs.declared.error.LineFault.{LineFault}
@@ -59,13 +59,13 @@ read_more remaining t text old new rows fields row so_far next spells = record {
 pub read_all : {R : Type 0} (remaining : R → Option (List ℕ)) (t : Table) (limit : ℕ) (known : Option (List ℕ)) (old new : Reader R) (rows : List (List Value))
     → HasReadKnown remaining t known old rows → GivesNext remaining old new false [] → length rows ≤ limit → IfSome known (λ text. SpellsRows t limit text rows)
 read_all remaining t limit known old new rows so_far next few = if_known known (λ text. SpellsRows t limit text rows) (λ text is.
-  let read = so_far text is in
-  record {
-    records = read.records;
-    all = next text read.records read.given;
-    spelled = read.spelled;
-    few = omega (arith, few, length-AllZip (SpellsRow t) read.records rows read.spelled);
-  })
+    let read = so_far text is in
+    record {
+      records = read.records;
+      all = next text read.records read.given;
+      spelled = read.spelled;
+      few = omega (arith, few, length-AllZip (SpellsRow t) read.records rows read.spelled);
+    })
 
 -- records that spell rows, and then one with a fault
 first_fault : {R : Type 0} (remaining : R → Option (List ℕ)) (t : Table) (limit : ℕ) (text : List ℕ) (old new : Reader R) (rows : List (List Value)) (fields : List (List ℕ)) (e : LoadError)
@@ -92,7 +92,8 @@ fault_in_row {R} remaining t limit known old new rows fields why so_far next few
   where
     first : (why : LineFault) → row_of t fields ≡ Err why → IfSome known (λ text. IsFirstFault t limit text (in_row t (length rows + 1) why))
     first why is = if_known known (λ text. IsFirstFault t limit text (in_row t (length rows + 1) why)) (λ text same.
-      first_fault remaining t limit text old new rows fields (in_row t (length rows + 1) why) (so_far text same) next (inl (few, why, is, refl)))
+        first_fault remaining t limit text old new rows fields (in_row t (length rows + 1) why) (so_far text same) next (inl (few, why, is, refl)))
+
     by : (why : LineFault) → Fails why (row_of t fields) → IsReadFault t (in_row t (length rows + 1) why) ⊎ IfSome known (λ text. IsFirstFault t limit text (in_row t (length rows + 1) why))
     by fault.OutOfMemory is = inl tt
     by fault.FieldCount is = inr (first fault.FieldCount is)
@@ -105,4 +106,4 @@ pub too_many : {R : Type 0} (remaining : R → Option (List ℕ)) (t : Table) (l
     → HasReadKnown remaining t known old rows → GivesNext remaining old new true fields → length rows ≡ limit
     → IfSome known (λ text. IsFirstFault t limit text (errors.Row t (limit + 1) (schema.TooManyRows t)))
 too_many remaining t limit known old new rows fields so_far next full = if_known known (λ text. IsFirstFault t limit text (errors.Row t (limit + 1) (schema.TooManyRows t))) (λ text same.
-  first_fault remaining t limit text old new rows fields (errors.Row t (limit + 1) (schema.TooManyRows t)) (so_far text same) next (inr (omega (arith, full), rw full refl)))
+    first_fault remaining t limit text old new rows fields (errors.Row t (limit + 1) (schema.TooManyRows t)) (so_far text same) next (inr (omega (arith, full), rw full refl)))

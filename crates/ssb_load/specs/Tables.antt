@@ -1,5 +1,5 @@
 -- What the text of a table spells, and its first fault.
-use Rattle.std.specs.Prelude.{◌≡◌, ℕ, ◌+◌, ◌<◌, ◌≤◌, ◌⊎◌, List, [], ◌∷◌, ◌++◌, length, Result, Ok, Err}
+use Rattle.std.specs.Prelude.{◌≡◌, ℕ, ◌+◌, ◌<◌, ◌≤◌, ◌⊎◌, List, [], ◌∷◌, ◌++◌, length, Ok, Err}
 use Rattle.std.specs.List.{AllZip}
 use Rattle.ssb_schema.specs.Columns.{Value}
 use Rattle.ssb_schema.specs.declared.table.Table.{Table}

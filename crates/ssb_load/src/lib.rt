@@ -26,7 +26,6 @@ mod records;
 mod row;
 mod supplier;
 mod table;
-
 #[cfg(test)]
 mod tests;
 

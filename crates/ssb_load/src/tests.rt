@@ -9,11 +9,38 @@ use std::io::Read;
 use std::process::Abort;
 use std::test::Fail;
 
-const CUSTOMERS: &str = "1|C1|a|UNITED KI1|UNITED KINGDOM|EUROPE|p|m|\n2|C2|a|CHINA    0|CHINA|ASIA|p|m|\n3|C3|a|UNITED ST4|UNITED STATES|AMERICA|p|m|\n";
-const SUPPLIERS: &str = "1|S1|a|UNITED KI5|UNITED KINGDOM|EUROPE|p|\n2|S2|a|JAPAN    3|JAPAN|ASIA|p|\n3|S3|a|UNITED ST7|UNITED STATES|AMERICA|p|\n";
-const PARTS: &str = "1|P1|MFGR#1|MFGR#12|MFGR#121|c|t|1|b|\n2|P2|MFGR#2|MFGR#22|MFGR#2221|c|t|1|b|\n3|P3|MFGR#2|MFGR#22|MFGR#222|c|t|1|b|\n4|P4|MFGR#1|MFGR#14|MFGR#1440|c|t|1|b|\n";
-const DATES: &str = "19930101|d|w|m|1993|199301|Jan1993|1|1|1|1|1|s|0|0|0|1|\n19940105|d|w|m|1994|199401|Jan1994|1|1|1|1|1|s|0|0|0|1|\n19940208|d|w|m|1994|199402|Feb1994|1|1|1|1|6|s|0|0|0|1|\n19971215|d|w|m|1997|199712|Dec1997|1|1|1|1|50|s|0|0|0|1|\n";
-const LINES: &str = "1|1|2|2|2|19930101|o|0|24|1000|3000|3|970|600|0|19930101|AIR|\n1|2|2|3|2|19930101|o|0|25|2000|3000|1|1980|1200|0|19930101|AIR|\n2|1|1|1|1|19971215|o|0|10|500|500|0|500|700|0|19971215|AIR|\n3|1|3|4|3|19971215|o|0|30|800|800|5|760|100|0|19971215|AIR|\n";
+const CUSTOMERS: &str = "\
+1|C1|a|UNITED KI1|UNITED KINGDOM|EUROPE|p|m|
+2|C2|a|CHINA    0|CHINA|ASIA|p|m|
+3|C3|a|UNITED ST4|UNITED STATES|AMERICA|p|m|
+";
+
+const SUPPLIERS: &str = "\
+1|S1|a|UNITED KI5|UNITED KINGDOM|EUROPE|p|
+2|S2|a|JAPAN    3|JAPAN|ASIA|p|
+3|S3|a|UNITED ST7|UNITED STATES|AMERICA|p|
+";
+
+const PARTS: &str = "\
+1|P1|MFGR#1|MFGR#12|MFGR#121|c|t|1|b|
+2|P2|MFGR#2|MFGR#22|MFGR#2221|c|t|1|b|
+3|P3|MFGR#2|MFGR#22|MFGR#222|c|t|1|b|
+4|P4|MFGR#1|MFGR#14|MFGR#1440|c|t|1|b|
+";
+
+const DATES: &str = "\
+19930101|d|w|m|1993|199301|Jan1993|1|1|1|1|1|s|0|0|0|1|
+19940105|d|w|m|1994|199401|Jan1994|1|1|1|1|1|s|0|0|0|1|
+19940208|d|w|m|1994|199402|Feb1994|1|1|1|1|6|s|0|0|0|1|
+19971215|d|w|m|1997|199712|Dec1997|1|1|1|1|50|s|0|0|0|1|
+";
+
+const LINES: &str = "\
+1|1|2|2|2|19930101|o|0|24|1000|3000|3|970|600|0|19930101|AIR|
+1|2|2|3|2|19930101|o|0|25|2000|3000|1|1980|1200|0|19930101|AIR|
+2|1|1|1|1|19971215|o|0|10|500|500|0|500|700|0|19971215|AIR|
+3|1|3|4|3|19971215|o|0|30|800|800|5|760|100|0|19971215|AIR|
+";
 
 // A file: some bytes, a read that fails, or one row again and again.
 #[derive(Drop)]
@@ -166,7 +193,11 @@ fn short_and_cut_records_are_refused(rt: HostRuntime) -> Result<(), Fail> {
     let alloc = rt.alloc();
     let sixteen = line_fault(alloc, "0|19930101|AIR|\n2|", "0|19930101\n2|")?;
     assert_eq!(rt; sixteen.as_str(), "21 FieldCount lineorder 2");
-    let cut = line_fault(alloc, "|3|19971215|o|0|30|800|800|5|760|100|0|19971215|AIR|\n", "")?;
+    let cut = line_fault(
+        alloc,
+        "|3|19971215|o|0|30|800|800|5|760|100|0|19971215|AIR|\n",
+        "",
+    )?;
     assert_eq!(rt; cut.as_str(), "21 FieldCount lineorder 4");
     let spaces = line_fault(alloc, "AIR|\n2|1|", "AIR| \n2|1|")?;
     assert_eq!(rt; spaces.as_str(), "21 FieldCount lineorder 2");
@@ -220,14 +251,25 @@ fn fields_that_spell_nothing_are_refused(rt: HostRuntime) -> Result<(), Fail> {
 fn rows_past_their_limits_are_refused(rt: HostRuntime) -> Result<(), Fail> {
     let alloc = rt.alloc();
     let quantity = line_fault(alloc, "|24|", "|51|")?;
-    assert_eq!(rt; quantity.as_str(), "24 Row lineorder 1 10 OutOfRange LO_QUANTITY");
+    assert_eq!(rt;
+        quantity.as_str(),
+        "24 Row lineorder 1 10 OutOfRange LO_QUANTITY"
+    );
     let limits = Limits::new(3, 4, 1).ok_or("limits")?;
     let lines = File::Bytes(LINES.as_bytes());
-    let parts = load(alloc, limits, with_lines(lines)).err().ok_or("loaded")?;
-    assert_eq!(rt; parts.to_string(alloc)?.as_str(), "24 Row part 4 9 TooManyRows part");
+    let parts = load(alloc, limits, with_lines(lines))
+        .err()
+        .ok_or("loaded")?;
+    assert_eq!(rt;
+        parts.to_string(alloc)?.as_str(),
+        "24 Row part 4 9 TooManyRows part"
+    );
     let endless = File::Endless(b"1|C1|a|c|n|r|p|m|\n");
     let customers = fault_of(alloc, with_customers(endless))?;
-    assert_eq!(rt; customers.as_str(), "24 Row customer 5 9 TooManyRows customer");
+    assert_eq!(rt;
+        customers.as_str(),
+        "24 Row customer 5 9 TooManyRows customer"
+    );
     Ok(())
 }
 
@@ -235,11 +277,20 @@ fn rows_past_their_limits_are_refused(rt: HostRuntime) -> Result<(), Fail> {
 fn faults_between_rows_come_after_all_files(rt: HostRuntime) -> Result<(), Fail> {
     let alloc = rt.alloc();
     let unknown = line_fault(alloc, "1|1|2|2|2|", "1|1|8|2|2|")?;
-    assert_eq!(rt; unknown.as_str(), "24 Row lineorder 1 8 UnknownKey 1 customer");
+    assert_eq!(rt;
+        unknown.as_str(),
+        "24 Row lineorder 1 8 UnknownKey 1 customer"
+    );
     let line = line_fault(alloc, "1|2|2|3|2|", "1|1|2|3|2|")?;
-    assert_eq!(rt; line.as_str(), "24 Row lineorder 2 7 KeyRepeated lineorder 2");
+    assert_eq!(rt;
+        line.as_str(),
+        "24 Row lineorder 2 7 KeyRepeated lineorder 2"
+    );
     let customer = customer_fault(alloc, "2|C2|", "1|C2|")?;
-    assert_eq!(rt; customer.as_str(), "24 Row customer 2 7 KeyRepeated customer 2");
+    assert_eq!(rt;
+        customer.as_str(),
+        "24 Row customer 2 7 KeyRepeated customer 2"
+    );
     let broken = fault_of(alloc, with_lines(File::Broken))?;
     assert_eq!(rt; broken.as_str(), "20 Read lineorder");
     Ok(())
@@ -248,8 +299,24 @@ fn faults_between_rows_come_after_all_files(rt: HostRuntime) -> Result<(), Fail>
 #[test]
 fn line_is_read_from_its_fields(rt: HostRuntime) -> Result<(), Fail> {
     let fields: [&[u8]; 18] = [
-        b"9", b"1", b"3", b"4", b"3", b"19971215", b"o", b"0", b"1", b"10", b"10", b"0", b"10",
-        b"2000", b"0", b"19971215", b"AIR  ", b"",
+        b"9",
+        b"1",
+        b"3",
+        b"4",
+        b"3",
+        b"19971215",
+        b"o",
+        b"0",
+        b"1",
+        b"10",
+        b"10",
+        b"0",
+        b"10",
+        b"2000",
+        b"0",
+        b"19971215",
+        b"AIR  ",
+        b"",
     ];
     let line = line_of(rt.alloc(), &fields).ok().ok_or("refused")?;
     assert_eq!(rt; line.order_key(), 9);

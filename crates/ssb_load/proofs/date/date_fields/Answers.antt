@@ -1,4 +1,4 @@
-use Rattle.std.proofs.Common.{◌≡◌, ◌++◌, rules}
+use Rattle.std.proofs.Common.{◌++◌, rules}
 use Rattle.csv.specs.Records.{fields_of}
 use Rattle.ssb_schema.specs.declared.table.Table.TheVariants as table
 use Rattle.ssb_load.specs.DateColumns.{first_kinds, first_values, last_kinds, last_values}

@@ -1,6 +1,5 @@
-use Rattle.std.proofs.Common.{◌≡◌, ◌∙◌, ◌≤◌, length, take, get_or, nat_eq, arith, sym}
+use Rattle.std.proofs.Common.{◌≡◌, ◌∙◌, arith, sym}
 use Rattle.std.proofs.lemmas.Bool.{ne_eqb}
-use Rattle.ssb_load.specs.Spelling.{without_spaces}
 use Rattle.ssb_load.proofs.Trimming.{without_spaces-step, without_spaces-stops, nothing_left}
 use Rattle.ssb_load.proofs.field.trimmed.Goals as goal
 use Rattle.ssb_load.proofs.field.trimmed.Goals.{then-loop-end-test+else-field-end-eq32, else-loop-end-test}

@@ -1,8 +1,8 @@
-use Rattle.std.proofs.Common.{◌≡◌, ◌∙◌, ℕ, List, Some, None, Err, refl, rules, sym, inl, inr}
+use Rattle.std.proofs.Common.{◌≡◌, ◌∙◌, ℕ, List, Some, Err, refl, rules, sym, inl, inr}
 use Rattle.ssb_schema.specs.Base.{base_fault}
 use Rattle.ssb_schema.specs.BaseNew.{tables_of}
 use Rattle.ssb_schema.specs.declared.table.Table.{Table}
-use Rattle.ssb_load.specs.Load.{AreTexts, IsLoadFault, in_base}
+use Rattle.ssb_load.specs.Load.{AreTexts, IsLoadFault}
 use Rattle.ssb_load.proofs.LoadLaws.{base_fault_told}
 use Rattle.ssb_load.proofs.loading.load.Goals as goal
 
@@ -10,7 +10,7 @@ pub returns-in_err-read_parts-clause-fault : goal.returns-in_err-read_parts-clau
 returns-in_err-read_parts-clause-fault g c =
     let is : c.from_residual.result ≡ Err c.in_err-read_parts.field-0.0 = search rules in
     let here : (texts : Table → List ℕ) → AreTexts g.R.Read.remaining c.args.tables texts → IsLoadFault c.args.limits texts c.in_err-read_parts.field-0.0
-             = λ texts are. inl (c.in_err-read_parts.ensures.stops texts are) in
+    = λ texts are. inl (c.in_err-read_parts.ensures.stops texts are) in
     rw is here
 
 pub returns-in-Some-clause-fault : goal.returns-in-Some-clause-fault

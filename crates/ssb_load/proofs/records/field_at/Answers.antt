@@ -1,4 +1,4 @@
-use Rattle.std.proofs.Common.{◌≡◌, ◌∙◌, [], ap, refl}
+use Rattle.std.proofs.Common.{◌∙◌, ap, refl}
 use Rattle.csv.specs.Records.{fields_of}
 use Rattle.ssb_load.proofs.Fields.{field_read}
 use Rattle.ssb_load.proofs.records.field_at.Goals as goal

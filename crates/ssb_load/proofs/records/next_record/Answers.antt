@@ -1,4 +1,3 @@
-use Rattle.std.proofs.Common.{◌≡◌}
 use Rattle.csv.specs.Records.{fields_of}
 use Rattle.ssb_load.proofs.Given.{read_gives}
 use Rattle.ssb_load.proofs.records.next_record.Goals as goal

@@ -1,4 +1,3 @@
-use Rattle.std.proofs.Common.{◌≡◌}
 use Rattle.ssb_load.proofs.Given.{given_nothing}
 use Rattle.ssb_load.proofs.records.record_reader.Goals as goal
 

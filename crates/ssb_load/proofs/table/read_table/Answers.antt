@@ -1,4 +1,4 @@
-use Rattle.std.proofs.Common.{◌≡◌, ◌∙◌, ◌≤◌, ◌+◌, ◌∷◌, [], true, map, length, ap, sym, refl, inr, rules, arith}
+use Rattle.std.proofs.Common.{◌≡◌, ◌≤◌, ◌+◌, ◌∷◌, [], true, map, length, refl, inr, rules, arith}
 use Rattle.std.specs.Result.{is_ok}
 use Rattle.std.proofs.lemmas.List.{length-map, map-append, length-append}
 use Rattle.ssb_load.specs.Tables.{in_row}
@@ -25,7 +25,7 @@ loop-number-preserved g c =
       ready = c.in_ok-next_row.ensures.ready;
       count = rw items (omega (arith, length-append rows (c.in-Ok.row ∷ []), inv.count));
       so_far = λ text known. rw (items, map-append g.T.TableRow.values rows (c.in-Ok.row ∷ []))
-        (read_more g.R.Read.remaining g.T.TableRow.of_table text c.loop-number.reader c.next_row.new.reader (map g.T.TableRow.values rows) _ _ (inv.so_far text known) next c.in-Ok.ensures);
+          (read_more g.R.Read.remaining g.T.TableRow.of_table text c.loop-number.reader c.next_row.new.reader (map g.T.TableRow.values rows) _ _ (inv.so_far text known) next c.in-Ok.ensures);
     }
 
 pub returns-then-not-branch-clause-rows : goal.returns-then-not-branch-clause-rows
@@ -61,4 +61,4 @@ returns-then-branch-clause-fault g c =
     let next = rw c.if-branch.true at c.in_ok-next_row-2.ensures.next in
     let full : length rows ≡ c.args.limit = omega (arith, length-map c.loop-number.rows.items g.T.TableRow.values, inv.count, c.loop-number.auto.number-end, c.loop-number-test.false) in
     inr (rw (c.table-then-branch.ensures, c.table-then-branch-2.ensures)
-      (too_many g.R.Read.remaining g.T.TableRow.of_table c.args.limit (g.R.Read.remaining c.args.source) c.loop-number.reader c.next_row-2.new.reader rows _ inv.so_far next full))
+    (too_many g.R.Read.remaining g.T.TableRow.of_table c.args.limit (g.R.Read.remaining c.args.source) c.loop-number.reader c.next_row-2.new.reader rows _ inv.so_far next full))
