@@ -108,7 +108,7 @@ pub struct Sale {
     pub date: u64,
     pub quantity: u64,
     pub price: u64,
-    pub disend: u64,
+    pub discount: u64,
     pub revenue: u64,
     pub cost: u64,
 }
@@ -195,7 +195,7 @@ pub fn lines_with_order_nine(alloc: Global) -> Result<Vec<Line>, Fail> {
 }
 
 /// An order of seven lines at the greatest price.
-pub fn seven_lines(alloc: Global, disend: u64) -> Result<Vec<Line>, Fail> {
+pub fn seven_lines(alloc: Global, discount: u64) -> Result<Vec<Line>, Fail> {
     let mut lines = Vec::new(alloc);
     for number in 1..8 {
         let dear = sale_of([5, number, 2, 2, 2, 19930101, 1, 4294967295, discount, 0, 0]);
