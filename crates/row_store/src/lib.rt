@@ -10,6 +10,8 @@ mod plain;
 mod refusal;
 mod replica;
 mod store;
+#[cfg(test)]
+mod tests;
 
 pub use commit::{Commit, Receipt};
 pub use order_lines::OrderLines;
