@@ -37,7 +37,7 @@ all_in_order-from front (line ∷ lines) =
     let whole : front ++ line ∷ lines ≡ (front ++ line ∷ []) ++ lines = sym (append_assoc front (line ∷ []) lines) in
     let long : length front + 1 ≡ length (front ++ line ∷ []) = sym (length-append front (line ∷ [])) in
     let rest : lines_at (front ++ line ∷ lines) (range_with_len (length front + 1) (length lines)) ≡ lines =
-        (λ i. lines_at (whole i) (range_with_len (long i) (length lines))) ∙ all_in_order-from (front ++ line ∷ []) lines in
+    (λ i. lines_at (whole i) (range_with_len (long i) (length lines))) ∙ all_in_order-from (front ++ line ∷ []) lines in
     lines_at-cons (front ++ line ∷ lines) (length front) (range_with_len (length front + 1) (length lines)) line (get-middle front line lines) ∙ ap (λ l. line ∷ l) rest
 
 pub all_in_order : (lines : List LineFields) → lines_at lines (range_with_len 0 (length lines)) ≡ lines
@@ -87,10 +87,10 @@ module _ (lines : List LineFields) where
       let same : eqb (key_at lines i) key ≡ is_of key found.0 = ap (λ k. eqb k key) (key_at-is i found.0 found.1) in
       let kept : List ℕ = filter (λ i. eqb (key_at lines i) key) index in
       let step : (b : Bool) → cond b (found.0 ∷ lines_of key (lines_at lines index)) (lines_of key (lines_at lines index)) ≡ lines_at lines (cond b (i ∷ kept) kept) =
-          elim [
-            true ↦ ap (λ l. found.0 ∷ l) rest ∙ sym (lines_at-cons lines i kept found.0 found.1)
-            | false ↦ rest
-          ] in
+      elim [
+        | true ↦ ap (λ l. found.0 ∷ l) rest ∙ sym (lines_at-cons lines i kept found.0 found.1)
+        | false ↦ rest
+      ] in
       ap (lines_of key) (lines_at-cons lines i index found.0 found.1) ∙ step (is_of key found.0) ∙ ap (λ b. lines_at lines (cond b (i ∷ kept) kept)) (sym same)
 
   -- positions of one key
@@ -125,6 +125,7 @@ module _ (lines : List LineFields) where
           let above : Greater ≡ nat_cmp a b = nat_cmp_is a b Greater lower in
           let below : Less ≡ nat_cmp b a = nat_cmp_is b a Less lower in
           λ i. not (is_lt (sym above i)) && not (is_lt (sym below i))
+
       step : (s : Bool) → eqb b a ≡ s → (not (is_lt (nat_cmp a b)) && not (is_lt (nat_cmp b a))) ≡ s
       step true e =
           let same : b ≡ a = eqb-true b a e in
@@ -173,15 +174,15 @@ module _ (lines : List LineFields) (index : List ℕ) (inside : All (λ i. i < l
   pub next_apart : (end < length index → key_at lines (slice_index index end) ≢ key_at lines (slice_index index first))
       → (i j : ℕ) → i < end → end ≤ j → j < length index → key_at lines (slice_index index i) < key_at lines (slice_index index j)
   next_apart ends i j before after here = elim (ltb i first) as (λ b. ltb i first ≡ b → key_at lines (slice_index index i) < key_at lines (slice_index index j)) [
-      | true ↦ λ t. apart i j (ltb-true i first t) (omega (arith, later, after)) here
-      | false ↦ λ t.
-          let from : first ≤ i = ltb-false i first t in
-          let same = alike i from before in
-          let up = sorted first end 0 (omega (arith, later)) (omega (arith, after, here)) in
-          let on = sorted end j 0 after here in
-          let differ = ends (omega (arith, after, here)) in
-          omega (arith, same, up, on, differ)
-    ] refl
+    | true ↦ λ t. apart i j (ltb-true i first t) (omega (arith, later, after)) here
+    | false ↦ λ t.
+        let from : first ≤ i = ltb-false i first t in
+        let same = alike i from before in
+        let up = sorted first end 0 (omega (arith, later)) (omega (arith, after, here)) in
+        let on = sorted end j 0 after here in
+        let differ = ends (omega (arith, after, here)) in
+        omega (arith, same, up, on, differ)
+  ] refl
 
   run : List ℕ
   run = slice_range index first end
@@ -199,7 +200,7 @@ module _ (lines : List LineFields) (index : List ℕ) (inside : All (λ i. i < l
   run_alike k d h =
       let small : k < end - first = omega (arith, h, length-run) in
       let place : get_or (take (end - first) (drop first index)) k d ≡ slice_index index (first + k) =
-          get_or-take (end - first) (drop first index) k d small ∙ get_or-drop first index k d ∙ get_or_default index (first + k) d 0 (omega (arith, small, within)) in
+      get_or-take (end - first) (drop first index) k d small ∙ get_or-drop first index k d ∙ get_or_default index (first + k) d 0 (omega (arith, small, within)) in
       ap (key_at lines) place ∙ alike (first + k) (omega arith) (omega (arith, small))
 
   front_apart : All (λ i. key_at lines i ≢ key_at lines (slice_index index first)) (take first index)
@@ -232,5 +233,5 @@ module _ (lines : List LineFields) (index : List ℕ) (inside : All (λ i. i < l
       } in
       let own : HaveKey key (lines_at lines run) = lines_at-HaveKey lines key run run_inside (λ k d h. run_alike k d h ∙ sym same) in
       let none : lines_of key (lines_at lines (take first index)) ≡ [] =
-          lines_of-none lines key (take first index) (All-take (λ i. i < length lines) first index inside) (λ k d h e. front_apart k d h (e ∙ same)) in
+      lines_of-none lines key (take first index) (All-take (λ i. i < length lines) first index inside) (λ k d h e. front_apart k d h (e ∙ same)) in
       subst (Located sources g) (sym split) (located_more sources f g (lines_at lines (take first index)) (lines_at lines run) key place now at own none each)

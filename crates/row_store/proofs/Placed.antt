@@ -47,8 +47,8 @@ module _ (sources : Sources) (f g : ℕ → Option Place) (lines : List LineFiel
       → Located sources f lines → Located sources g (lines_without key lines ++ order)
   located_amended order key place now at alike each =
       located_change sources f g lines (lines_without key lines ++ order) key (Some place) now
-        (subst (IsAt sources place) (sym (lines_more key (lines_without key lines) order alike (lines_gone key key lines refl))) at)
-        (λ q apart. lines_other q key (lines_without key lines) order alike apart ∙ lines_kept q key lines apart) each
+      (subst (IsAt sources place) (sym (lines_more key (lines_without key lines) order alike (lines_gone key key lines refl))) at)
+      (λ q apart. lines_other q key (lines_without key lines) order alike apart ∙ lines_kept q key lines apart) each
 
 -- a place stays what it is when the log grows
 pub get-push : {A : Type 0} (xs ys : List A) (k : ℕ) → k < length xs → slice_get (xs ++ ys) k ≡ slice_get xs k

@@ -52,22 +52,22 @@ kept-with_fact p counts k here =
     let n : ℕ = count_of counts k + 1 in
     let same_count : count_of (map.retain_keys counts p) k ≡ count_of counts k = ap (λ o. unwrap_or o 0) (get_kept p counts k ∙ ap (λ b. cond b (map.get counts k) None) here) in
     map.same_map total_order only_equal _ _ (λ fact.
-        get_kept p (with_fact counts k) fact
-        ∙ ap (λ o. cond (p fact) o None) (map.get-insert total_order counts k n fact)
-        ∙ at_put (eq_by_cmp fact_cmp fact k) k fact p n (map.get counts fact) (tied (fact_cmp fact k) fact k refl) here
-        ∙ ap (cond (eq_by_cmp fact_cmp fact k) (Some n)) (sym (get_kept p counts fact))
-        ∙ ap (λ m. cond (eq_by_cmp fact_cmp fact k) (Some (m + 1)) (map.get (map.retain_keys counts p) fact)) (sym same_count)
-        ∙ sym (map.get-insert total_order (map.retain_keys counts p) k (count_of (map.retain_keys counts p) k + 1) fact))
+    get_kept p (with_fact counts k) fact
+    ∙ ap (λ o. cond (p fact) o None) (map.get-insert total_order counts k n fact)
+    ∙ at_put (eq_by_cmp fact_cmp fact k) k fact p n (map.get counts fact) (tied (fact_cmp fact k) fact k refl) here
+    ∙ ap (cond (eq_by_cmp fact_cmp fact k) (Some n)) (sym (get_kept p counts fact))
+    ∙ ap (λ m. cond (eq_by_cmp fact_cmp fact k) (Some (m + 1)) (map.get (map.retain_keys counts p) fact)) (sym same_count)
+    ∙ sym (map.get-insert total_order (map.retain_keys counts p) k (count_of (map.retain_keys counts p) k + 1) fact))
 
 -- a fact that goes
 dropped-with_fact : (p : Fact → Bool) (counts : Counts) (k : Fact) → p k ≡ false → map.retain_keys (with_fact counts k) p ≡ map.retain_keys counts p
 dropped-with_fact p counts k here =
     let n : ℕ = count_of counts k + 1 in
     map.same_map total_order only_equal _ _ (λ fact.
-        get_kept p (with_fact counts k) fact
-        ∙ ap (λ o. cond (p fact) o None) (map.get-insert total_order counts k n fact)
-        ∙ at_dropped (eq_by_cmp fact_cmp fact k) k fact p n (map.get counts fact) (tied (fact_cmp fact k) fact k refl) here
-        ∙ sym (get_kept p counts fact))
+    get_kept p (with_fact counts k) fact
+    ∙ ap (λ o. cond (p fact) o None) (map.get-insert total_order counts k n fact)
+    ∙ at_dropped (eq_by_cmp fact_cmp fact k) k fact p n (map.get counts fact) (tied (fact_cmp fact k) fact k refl) here
+    ∙ sym (get_kept p counts fact))
 
 kept_facts : (q : LineFields → Bool) (p : Fact → Bool) → ((line : LineFields) → p (fact_of line) ≡ q line) → (counts : Counts) (lines : List LineFields)
     → map.retain_keys (fold with_fact counts (facts_of lines)) p ≡ fold with_fact (map.retain_keys counts p) (facts_of (filter q lines))
@@ -75,10 +75,10 @@ kept_facts q p alike counts [] = refl
 kept_facts q p alike counts (line ∷ lines) =
     let rest = kept_facts q p alike (with_fact counts (fact_of line)) lines in
     let step : (b : Bool) → q line ≡ b → fold with_fact (map.retain_keys (with_fact counts (fact_of line)) p) (facts_of (filter q lines)) ≡ fold with_fact (map.retain_keys counts p) (facts_of (cond b (line ∷ filter q lines) (filter q lines))) =
-        elim [
-          true ↦ λ is. ap (λ m. fold with_fact m (facts_of (filter q lines))) (kept-with_fact p counts (fact_of line) (alike line ∙ is))
-          | false ↦ λ is. ap (λ m. fold with_fact m (facts_of (filter q lines))) (dropped-with_fact p counts (fact_of line) (alike line ∙ is))
-        ] in
+    elim [
+      | true ↦ λ is. ap (λ m. fold with_fact m (facts_of (filter q lines))) (kept-with_fact p counts (fact_of line) (alike line ∙ is))
+      | false ↦ λ is. ap (λ m. fold with_fact m (facts_of (filter q lines))) (dropped-with_fact p counts (fact_of line) (alike line ∙ is))
+    ] in
     rest ∙ step (q line) refl
 
 no_entry : (b : Bool) (old : Option ℕ) → old ≡ None → cond b old None ≡ None
@@ -117,7 +117,7 @@ pub state_after-state_of : (base : Tables) (history : List CommitRecord) (commit
 state_after-state_of base history commit =
     let longer : length history + 1 ≡ length (history ++ commit ∷ []) = sym (length-append history (commit ∷ [])) in
     let counts : fold counts_after_action (fact_counts (facts_of (lines_after base history))) commit.actions ≡ fact_counts (facts_of (lines_after base (history ++ commit ∷ []))) =
-        counts_after-all (lines_after base history) commit.actions ∙ ap (λ lines. fact_counts (facts_of lines)) (sym (lines_after-push base history commit)) in
+    counts_after-all (lines_after base history) commit.actions ∙ ap (λ lines. fact_counts (facts_of lines)) (sym (lines_after-push base history commit)) in
     λ i. record { base = base; commits = longer i; counts = counts i }
 
 -- several commits more
