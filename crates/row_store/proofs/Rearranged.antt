@@ -1,5 +1,5 @@
 -- Lists that have each fact as often are rearrangements of one another.
-use Rattle.std.proofs.Common.{ℕ, zero, suc, ◌≡◌, ◌+◌, ◌<◌, Bool, true, false, cond, List, [], ◌∷◌, length, get_or, fold, unwrap_or, Option, Some, None, sym, refl, ap, ◌∙◌, arith}
+use Rattle.std.proofs.Common.{ℕ, suc, ◌≡◌, ◌+◌, ◌<◌, Bool, true, false, cond, List, [], ◌∷◌, length, get_or, fold, unwrap_or, Option, Some, sym, refl, ap, ◌∙◌, arith}
 use Rattle.std.specs.Prelude.{IsPermutation, remove}
 use Rattle.std.specs.Bool.{Decides}
 use Rattle.std.specs.List.{count_by}

@@ -1,11 +1,9 @@
-use Rattle.std.proofs.Common.{rules, ◌≡◌, ℕ, ◌<◌, cond, eqb, List, [], ◌++◌, Result, Ok, Err, Some, None, nat_eq, ap, sym, ◌∙◌, length, subst}
+use Rattle.std.proofs.Common.{◌≡◌, ℕ, ◌<◌, cond, eqb, List, [], ◌++◌, Result, Ok, Err, Some, nat_eq, ap, sym, ◌∙◌, length, subst}
 use Rattle.std.specs.Result.{IsOk, OnOk}
 use Rattle.std.specs.HashMap.{get}
 use Rattle.ssb_schema.specs.declared.line.LineFields.{LineFields}
-use Rattle.ssb_schema.specs.declared.refresh.Action.TheVariants.{Add}
 use Rattle.ssb_schema.specs.Orders.{order_key}
 use Rattle.row_store.specs.Lines.{lines_of, lines_without}
-use Rattle.row_store.specs.Refusals.{cause_of}
 use Rattle.row_store.specs.declared.place.Place.{Place}
 use Rattle.row_store.specs.Keyed.{Located, IsAt, IsWithin, lines_from}
 use Rattle.row_store.proofs.Causes.{new_key}

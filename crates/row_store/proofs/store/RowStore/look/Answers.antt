@@ -1,9 +1,9 @@
-use Rattle.std.proofs.Common.{rules, ◌≡◌, ℕ, ◌+◌, ◌-◌, ◌≤◌, List, ◌++◌, length, refl, sym, ap, ◌∙◌, subst, arith}
+use Rattle.std.proofs.Common.{rules, ◌≡◌, ◌-◌, List, length, refl, sym, ap, ◌∙◌, subst, arith}
 use Rattle.ssb_schema.specs.declared.line.LineFields.{LineFields}
-use Rattle.ssb_schema.specs.declared.refresh.Action.TheVariants.{Add, Amend, Withdraw}
+use Rattle.ssb_schema.specs.declared.refresh.Action.TheVariants.{Add, Amend}
 use Rattle.ssb_schema.specs.Orders.{order_key}
 use Rattle.ssb_schema.specs.Base.{Tables}
-use Rattle.row_store.specs.Lines.{lines_of, lines_without, lines_after_action, lines_after_refresh}
+use Rattle.row_store.specs.Lines.{lines_without, lines_after_refresh}
 use Rattle.row_store.specs.History.{lines_after}
 use Rattle.row_store.proofs.Counted.{length_kept}
 use Rattle.row_store.proofs.Causes.{Joined, cause_present, cause_added, cause_amend_absent, cause_amended, cause_absent, cause_withdrawn, joined}
