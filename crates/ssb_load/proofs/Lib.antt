@@ -5,3 +5,4 @@ pub mod Fields
 pub mod Given
 pub mod Reading
 pub mod Rows
+pub mod LoadLaws
