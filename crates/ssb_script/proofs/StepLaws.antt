@@ -2,16 +2,18 @@
 use Rattle.std.proofs.Common.{◌≡◌, ℕ, ◌+◌, ◌<◌, ◌≤◌, true, false, List, [], ◌∷◌, ◌++◌, Option, Some, None, Result, Ok, Err, map, length, refl, sym, ap, ◌∙◌, ◌⊎◌, inl, inr, arith, nat_eq, Bool, cond}
 use Rattle.std.specs.List.{All, flat_map}
 use Rattle.std.specs.Option.{option_map}
+use Rattle.std.specs.Result.{IfOk, IfErr}
 use Rattle.std.specs.Bool.{if◌then◌else◌}
 use Rattle.std.proofs.lemmas.Bool.{le-ltb}
 use Rattle.std.proofs.lemmas.List.{append-nil, length_push}
 use Rattle.std.proofs.lemmas.List.Elements.{All-push}
 use Rattle.std.proofs.lemmas.Grind.{flat_map-append}
+use Rattle.ssb_schema.specs.Orders.{order_fault}
 use Rattle.ssb_schema.specs.Refreshes.{refresh_fault}
 use Rattle.ssb_schema.specs.declared.fault.SchemaFault.{SchemaFault}
 use Rattle.ssb_schema.specs.declared.line.LineFields.{LineFields}
 use Rattle.ssb_schema.specs.declared.refresh.Action.{Action}
-use Rattle.ssb_script.specs.Lines.{ScriptLine, Open, Line, Begin, is_line, line_of_control, line_of_row, line_or_bad}
+use Rattle.ssb_script.specs.Lines.{ScriptLine, RecordFault, Open, Line, Begin, is_line, line_of_control, line_of_row, line_or_bad}
 use Rattle.ssb_script.specs.Requests.{IsWholeAction, action_of, lines_of_action}
 use Rattle.ssb_script.specs.Scripts.{HasRoom, checks_in, first_of, is_in_order, lines_of_begun, order_refused, refusal_at_end}
 use Rattle.ssb_script.specs.Steps.{Follows, IsFoundBy, actions_at_end, begun_of}
@@ -79,25 +81,12 @@ checks-ended number (begun.Order order) (Some (control.Open opening)) = rw (leng
 checks-ended number (begun.Order order) (Some (control.Withdraw key)) = rw (length_push order.actions (action_of order.opening order.lines)) refl
 checks-ended number (begun.Order order) (Some control.Commit) = rw (length_push order.actions (action_of order.opening order.lines)) refl
 
--- a `line` may stand in an order alone
-pub bad_row : (number : ℕ) (b : Begun) (found : OrderLine) → is_in_order b ≡ false → first_of (checks_in number b (line_of_row found)) ≡ Some (error.BadLine number)
-bad_row number b (row.Read line) out = rw out refl
-bad_row number b (row.Refused why) out = rw out refl
-bad_row number b row.Bad out = refl
-
--- the order's refusal comes before the checks of the record
-pub refused_first : (b : Begun) (word : Option Word) (checks : List (Option ScriptError)) (e : ScriptError)
-    → is_line word ≡ false → IsFoundBy (refusal_at_end b ∷ []) e → IsFoundBy (order_refused b word ∷ checks) e
-refused_first b word checks e no (inl memory) = inl memory
-refused_first b word checks e no (inr found) = inr (rw no (by (refusal_at_end b) found))
-  where
-    by : (refusal : Option ScriptError) → first_of (refusal ∷ []) ≡ Some e → first_of (refusal ∷ checks) ≡ Some e
-    by None is = absurd cc
-    by (Some f) is = is
-
 -- where no order is refused, the checks of the record decide
-pub refused_not : (b : Begun) (word : Option Word) (checks : List (Option ScriptError)) → order_refused b word ≡ None → first_of (order_refused b word ∷ checks) ≡ first_of checks
-refused_not b word checks none = rw none refl
+pub refused_later : (result : Result Step ScriptError) (b : Begun) (word : Option Word) (checks : List (Option ScriptError))
+    → order_refused b word ≡ None → IfErr result (IsFoundBy checks) → IfErr result (IsFoundBy (order_refused b word ∷ checks))
+refused_later (Ok step) b word checks none found = tt
+refused_later (Err e) b word checks none (inl memory) = inl memory
+refused_later (Err e) b word checks none (inr found) = inr (rw none found)
 
 pub not_refused : (b : Begun) (word : Option Word) → refusal_at_end b ≡ None → order_refused b word ≡ None
 not_refused b word none = by (is_line word)
@@ -106,10 +95,20 @@ not_refused b word none = by (is_line word)
     by true = refl
     by false = none
 
--- a refresh of at most 64 actions is refused only where it has none
-pub refused_empty : (actions : List Action) (why : SchemaFault) → refresh_fault actions ≡ Some why → length actions ≤ 64 → nat_eq (length actions) 0 ≡ true
-refused_empty [] why refused few = refl
-refused_empty (a ∷ actions) why refused few = absurd (by refused)
-  where
-    by : refresh_fault (a ∷ actions) ≡ Some why → ⊥
-    by refused = rw (le-ltb 64 (length (a ∷ actions)) few) at refused
+pub line_not_refused : (b : Begun) (word : Option Word) → is_line word ≡ true → order_refused b word ≡ None
+line_not_refused b word is_one = rw is_one refl
+
+-- what comes of a record that is no `line`, once the order has ended
+pub step_after : (result : Result Step ScriptError) (number : ℕ) (b : Begun) (spelled : Result ScriptLine RecordFault) (found : Control) (ended : Option (List Action))
+    → actions_at_end b ≡ ended → spelled ≡ Ok (line_of_control found) → IfOk result (λ step. Follows number (begun_of ended) (line_of_control found) step)
+    → IfOk result (λ step. (line : ScriptLine) × (spelled ≡ Ok line) × Follows number b line step)
+step_after (Ok step) number b spelled found ended at is follows = (line_of_control found, is, follows-ended number b (line_of_control found) step (rw at follows))
+step_after (Err e) number b spelled found ended at is follows = tt
+
+pub fault_after : (result : Result Step ScriptError) (number : ℕ) (b : Begun) (word : Option Word) (spelled : Result ScriptLine RecordFault) (found : Control) (ended : Option (List Action))
+    → actions_at_end b ≡ ended → refusal_at_end b ≡ None → spelled ≡ Ok (line_of_control found) → IfErr result (IsFoundBy (checks_in number (begun_of ended) (Ok (line_of_control found))))
+    → IfErr result (IsFoundBy (order_refused b word ∷ checks_in number b spelled))
+fault_after (Ok step) number b word spelled found ended at none is faults = tt
+fault_after (Err e) number b word spelled found ended at none is (inl memory) = inl memory
+fault_after (Err e) number b word spelled found ended at none is (inr faults) =
+    inr (rw (not_refused b word none, is) (checks-ended number b (Some found) ∙ rw at faults))
