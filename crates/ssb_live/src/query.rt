@@ -24,7 +24,7 @@ fn answer(alloc: Global, base: &Base, question: &Question) -> Result<Answer, Fau
 {
     let rows = plain(alloc, base, base.lines(), question)?;
     Ok(Answer::Rows {
-        query: rows.question,
+        query: rows.query,
         at: 0,
         rows: rows.list,
     })
