@@ -17,7 +17,12 @@ struct Told {
     err: Vec<u8>,
 }
 
-fn told<R: Read + Drop>(alloc: Global, tables: Tables<R>, name: &str, constants: &[&str]) -> Told {
+fn run_over<R: Read + Drop>(
+    alloc: Global,
+    tables: Tables<R>,
+    name: &str,
+    constants: &[&str],
+) -> Told {
     let mut out = Vec::new(alloc);
     let mut err = Vec::new(alloc);
     let status = run_query(alloc, tables, name, constants, &mut out, &mut err);
@@ -43,7 +48,7 @@ fn reports_go_out_with_status_0(rt: HostRuntime) {
             "Q1.1 at 0 rows 1\n3000\n",
         ),
     ] {
-        let told = told(rt.alloc(), tables(), name, constants);
+        let told = run_over(rt.alloc(), tables(), name, constants);
         assert_eq!(rt; told.status, 0);
         assert_eq!(rt; told.out.as_slice(), report.as_bytes());
         assert!(rt; told.err.is_empty());
@@ -79,7 +84,7 @@ fn a_wrong_question_is_told_before_the_data_is_read(rt: HostRuntime) {
     ] {
         let mut bad = tables();
         bad.customer = b"bad";
-        let told = told(rt.alloc(), bad, name, constants);
+        let told = run_over(rt.alloc(), bad, name, constants);
         assert_eq!(rt; told.status, 2);
         assert!(rt; told.out.is_empty());
         assert_eq!(rt; told.err.as_slice(), fault.as_bytes());
@@ -93,12 +98,12 @@ fn a_fault_of_the_data_is_told(rt: HostRuntime) {
         .get(..LINEORDER.len() - 6)
         .unwrap_or("")
         .as_bytes();
-    let told = told(rt.alloc(), cut, "Q1.1", &[]);
+    let told = run_over(rt.alloc(), cut, "Q1.1", &[]);
     assert_eq!(rt; told.status, 1);
     assert!(rt; told.out.is_empty());
     assert_eq!(rt;
         told.err.as_slice(),
-        b"ssb_live: data: 21 FieldCount lineorder 4\n"
+        "ssb_live: data: 21 FieldCount lineorder 4\n".as_bytes()
     );
 }
 
@@ -121,9 +126,12 @@ fn a_failed_read_is_told(rt: HostRuntime) {
         date: Failing,
         lineorder: Failing,
     };
-    let told = told(rt.alloc(), failing, "Q1.1", &[]);
+    let told = run_over(rt.alloc(), failing, "Q1.1", &[]);
     assert_eq!(rt; told.status, 4);
-    assert_eq!(rt; told.err.as_slice(), b"ssb_live: data: 20 Read customer\n");
+    assert_eq!(rt;
+        told.err.as_slice(),
+        "ssb_live: data: 20 Read customer\n".as_bytes()
+    );
 }
 
 // A writer that takes nothing.
@@ -145,7 +153,7 @@ fn a_failed_write_is_told(rt: HostRuntime) {
     let mut err = Vec::new(rt.alloc());
     let status = run_query(rt.alloc(), tables(), "Q1.1", &[], &mut Full, &mut err);
     assert_eq!(rt; status, 4);
-    assert_eq!(rt; err.as_slice(), b"ssb_live: write failed\n");
+    assert_eq!(rt; err.as_slice(), "ssb_live: write failed\n".as_bytes());
 }
 
 #[test]
