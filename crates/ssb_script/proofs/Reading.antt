@@ -38,7 +38,7 @@ read_nothing remaining text reader given = record {
   records = [];
   given = given;
   many = refl;
-  spells = record { spelled = refl; whole = All-nil IsWholeRequest; room = tt };
+  spells = record { spelled = refl; whole = All-nil IsWholeRequest; room = tt; settled = tt };
 }
 
 -- the lines of one record more
@@ -52,6 +52,7 @@ spells_more records requests old fields line step so_far spelled follows = recor
       (sym (map-append Ok (lines_of_requests requests ++ lines_of_begun old) (line ∷ [])) ∙ ap (map Ok) (lines_more (lines_of_requests requests) (lines_of_begun old) (lines_of_requests (asked step)) (lines_of_begun step.begun) line follows.lines));
   whole = All-append IsWholeRequest requests (asked step) so_far.whole follows.whole;
   room = rw (length_push records fields) follows.room;
+  settled = follows.settled;
 }
 
 -- one more record was read

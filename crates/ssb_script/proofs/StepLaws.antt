@@ -10,9 +10,10 @@ use Rattle.std.proofs.lemmas.Grind.{flat_map-append}
 use Rattle.ssb_schema.specs.Orders.{order_fault}
 use Rattle.ssb_schema.specs.declared.line.LineFields.{LineFields}
 use Rattle.ssb_schema.specs.declared.refresh.Action.{Action}
+use Rattle.ssb_schema.specs.declared.refresh.Action.TheVariants as action
 use Rattle.ssb_script.specs.Lines.{ScriptLine, RecordFault, Open, Line, Begin, is_line, line_of_control, line_or_bad}
 use Rattle.ssb_script.specs.Requests.{IsWholeAction, action_of, lines_of_action}
-use Rattle.ssb_script.specs.Scripts.{HasRoom, checks_in, first_of, lines_of_begun, order_refused, refusal_at_end}
+use Rattle.ssb_script.specs.Scripts.{HasRoom, checks_in, ends_in_order, first_of, lines_of_begun, order_refused, refusal_at_end}
 use Rattle.ssb_script.specs.Steps.{Follows, IsFoundBy, actions_at_end, begun_of}
 use Rattle.ssb_script.specs.declared.begun.Begun.{Begun}
 use Rattle.ssb_script.specs.declared.begun.Begun.TheVariants as begun
@@ -62,6 +63,7 @@ follows-ended number b line step follows = record {
   lines = ap (λ lines. lines ++ line ∷ []) (sym (lines-ended b)) ∙ follows.lines;
   whole = follows.whole;
   room = follows.room;
+  settled = follows.settled;
 }
 
 -- the checks of a record that is no `line` are those where the order has ended
@@ -107,3 +109,9 @@ fault_after (Ok step) number b word spelled found ended at none is faults = tt
 fault_after (Err e) number b word spelled found ended at none is (inl memory) = inl memory
 fault_after (Err e) number b word spelled found ended at none is (inr faults) =
     inr (rw (not_refused b word none, is) (checks-ended number b (Some found) ∙ rw at faults))
+
+-- what ends in a withdrawal ends in no order
+pub ends_withdrawn : (actions : List Action) (key : ℕ) → ends_in_order (actions ++ action.Withdraw key ∷ []) ≡ false
+ends_withdrawn [] key = refl
+ends_withdrawn (a ∷ []) key = refl
+ends_withdrawn (a ∷ b ∷ actions) key = ends_withdrawn (b ∷ actions) key

@@ -20,6 +20,8 @@ mod fields;
 mod order_line;
 mod question;
 mod script;
+#[cfg(test)]
+mod tests;
 mod word;
 
 pub use block::{Block, Script};
