@@ -1,2 +1,3 @@
 pub mod WrittenLaws
 pub mod RowLaws
+pub mod ServingLaws

@@ -2,8 +2,12 @@
 #![tactic(auto)]
 
 mod answer;
-pub mod fault;
+mod fault;
 mod piece;
+mod refresh;
+mod serve;
 
 pub use answer::write_answer;
-pub use fault::WriteFault;
+pub use fault::{RunError, WriteFault};
+pub use refresh::{write_receipt, write_refusal};
+pub use serve::CLIENT;
