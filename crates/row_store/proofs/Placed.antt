@@ -51,7 +51,7 @@ module _ (sources : Sources) (f g : ℕ → Option Place) (lines : List LineFiel
         (λ q apart. lines_other q key (lines_without key lines) order alike apart ∙ lines_kept q key lines apart) each
 
 -- a place stays what it is when the log grows
-get-push : {A : Type 0} (xs ys : List A) (k : ℕ) → k < length xs → slice_get (xs ++ ys) k ≡ slice_get xs k
+pub get-push : {A : Type 0} (xs ys : List A) (k : ℕ) → k < length xs → slice_get (xs ++ ys) k ≡ slice_get xs k
 get-push [] ys k h = absurd (omega arith)
 get-push (x ∷ xs) ys zero h = refl
 get-push (x ∷ xs) ys (suc k) h = get-push xs ys k (omega arith)

@@ -5,7 +5,8 @@ use Rattle.std.specs.List.{filter_map}
 use Rattle.ssb_schema.specs.declared.line.LineFields.{LineFields}
 use Rattle.ssb_schema.specs.Base.{Tables}
 use Rattle.row_store.specs.Lines.{lines_of, added_by}
-use Rattle.row_store.specs.History.{CommitRecord}
+use Rattle.row_store.specs.History.{CommitRecord, lines_after}
+use Rattle.row_store.specs.Legal.{IsLegal}
 use Rattle.row_store.specs.declared.place.Place.{Place}
 use Rattle.row_store.specs.declared.place.Source.{Source}
 use Rattle.row_store.specs.declared.place.Source.TheVariants.{Loaded, Added}
@@ -60,3 +61,8 @@ pub record IsKeyed (base : Tables) (sources : Sources) (orders : ℕ → Option 
   pub total : line_count ≡ length lines
   pub few : line_count ≤ base.limits.lines
   pub index : All (λ i. i < length sources.loaded) sources.index
+
+-- the orders by key stand for the lines that the log leaves, and the log is legal
+pub record IsStore (base : Tables) (index : List ℕ) (log : List CommitRecord) (orders : ℕ → Option Place) (line_count : ℕ) : Type 0 where
+  pub keyed : IsKeyed base (record { loaded = base.lines; index = index; log = log }) orders line_count (lines_after base log)
+  pub legal : IsLegal base log

@@ -5,3 +5,4 @@ pub mod Legal
 pub mod State
 pub mod Keyed
 pub mod OrderLines
+pub mod Laws

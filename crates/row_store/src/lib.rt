@@ -3,12 +3,15 @@
 
 mod commit;
 mod index;
+pub mod laws;
 mod order_lines;
 mod place;
 mod plain;
 mod refusal;
 mod replica;
 mod store;
+#[cfg(test)]
+mod tests;
 
 pub use commit::{Commit, Receipt};
 pub use order_lines::OrderLines;

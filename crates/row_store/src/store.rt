@@ -5,7 +5,7 @@ ghost use Rattle.ssb_schema.specs.declared.line.LineFields.{LineFields};
 ghost use Rattle.row_store.specs.Lines.{lines_of, lines_after_action, lines_after_refresh};
 ghost use Rattle.row_store.specs.History.{lines_after, with_commit};
 ghost use Rattle.row_store.specs.Refusals.{lacks_customer, lacks_supplier, lacks_part, lacks_date, unknown_key, order_cause, cause_of, refusal_of};
-ghost use Rattle.row_store.specs.Legal.{Fails};
+ghost use Rattle.row_store.specs.Legal.{Fails, IsLegal};
 
 use crate::commit::{Commit, Receipt};
 use crate::index::{index_of, place_runs};
@@ -32,16 +32,14 @@ pub struct RowStore {
 impl Model for RowStore {
     ghost use Rattle.std.specs.Prelude.{nat_eq};
     ghost use Rattle.std.specs.HashMap.{get};
-    ghost use Rattle.row_store.specs.History.{Warehouse, lines_after};
-    ghost use Rattle.row_store.specs.Keyed.{IsKeyed};
+    ghost use Rattle.row_store.specs.History.{Warehouse};
+    ghost use Rattle.row_store.specs.Keyed.{IsStore};
 
     ghost Value = { Warehouse };
 
     ghost view = { λ s. record { base = s.base.value; log = s.log.items } };
 
-    ghost invariant = { λ s.
-        IsKeyed s.base.value (record { loaded = s.base.value.lines; index = s.index.items; log = s.log.items })
-            (get nat_eq s.orders) s.line_count (lines_after s.base.value s.log.items) };
+    ghost invariant = { λ s. IsStore s.base.value s.index.items s.log.items (get nat_eq s.orders) s.line_count };
 }
 
 // Whether some line names a customer that the base lacks.
@@ -134,7 +132,8 @@ impl RowStore {
     /// The commits from the one after the first `n` on. `n` is at most `len()`.
     pub fn log_from(&self, n: usize) -> &[Commit]
         requires { n ≤ length self.now.log }
-        ensures { result.now ≡ drop n self.now.log }
+        ensures commits { result.now ≡ drop n self.now.log }
+        ensures legal { IsLegal self.now.base self.now.log }
     {
         &self.log[n..]
     }
@@ -146,9 +145,17 @@ impl RowStore {
         self.log.len()
     }
 
+    /// The base, which the store shares.
+    pub fn base(&self) -> &Base
+        ensures { result.now ≡ self.now.base }
+    {
+        &*self.base
+    }
+
     /// The number of live lines.
     pub fn line_count(&self) -> usize
-        ensures { result ≡ length (lines_after self.now.base self.now.log) }
+        ensures count { result ≡ length (lines_after self.now.base self.now.log) }
+        ensures few { result ≤ self.now.base.limits.lines }
     {
         self.line_count
     }

@@ -257,9 +257,9 @@ module _ (plan : Plan) (found : List Combination) where
   apart_from_row row [] is others below = tt
   apart_from_row row (other ∷ rows) is others below = (
     λ same. let one : row ≡ other = is ∙ ap (row_of plan found) same ∙ sym (others other (inl refl)) in
-      let tie = tied_itself (row_cmp_total plan.order) row in
-      let less : row_cmp plan.order row row ≡ Less = subst (λ (r : ResultRow). row_cmp plan.order row r ≡ Less) (sym one) below.0 in
-      cc,
+        let tie = tied_itself (row_cmp_total plan.order) row in
+        let less : row_cmp plan.order row row ≡ Less = subst (λ (r : ResultRow). row_cmp plan.order row r ≡ Less) (sym one) below.0 in
+        cc,
     apart_from_row row rows is (λ r h. others r (inr h)) below.1,
   )
 

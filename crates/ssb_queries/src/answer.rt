@@ -13,14 +13,14 @@ pub struct ResultRow {
 }
 
 /// The rows that answer a question, in the order of its plan.
-#[derive(Drop)]
+#[derive(PartialEq, Eq, Drop)]
 pub struct Rows {
     pub question: Question,
     pub list: Items<ResultRow>,
 }
 
 /// What a client gets for a question.
-#[derive(Drop)]
+#[derive(PartialEq, Eq, Drop)]
 pub enum Answer {
     /// The rows over the warehouse as it stood after the first `at` commits.
     Rows {
@@ -29,7 +29,10 @@ pub enum Answer {
         rows: Items<ResultRow>,
     },
     /// No rows; the client may ask again.
-    Unserved { query: Question, cause: Unserved },
+    Unserved {
+        query: Question,
+        cause: Unserved,
+    },
 }
 
 /// Why a question was not answered by rows.

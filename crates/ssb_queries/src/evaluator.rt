@@ -125,5 +125,8 @@ pub fn plain(
     let _loaded = base.lines();
     let plan = plan(alloc, question)?;
     let rows = evaluate(alloc, base, lines, &plan)?;
-    Ok(Rows { question: question.share()?, list: Items::from_vec(rows) })
+    Ok(Rows {
+        question: question.share()?,
+        list: Items::from_vec(rows),
+    })
 }

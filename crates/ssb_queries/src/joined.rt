@@ -8,7 +8,10 @@ ghost use Rattle.ssb_queries.specs.Combination.{joined_with, is_in_ranges, passe
 ghost use Rattle.ssb_queries.specs.Answer.{group_of};
 ghost use Rattle.ssb_queries.specs.Joined.{combination_of};
 
-use crate::row_values::{customer_passes, customer_value, date_passes, date_value, is_within, part_passes, part_value, supplier_passes, supplier_value};
+use crate::row_values::{
+    customer_passes, customer_value, date_passes, date_value, is_within, part_passes, part_value,
+    supplier_passes, supplier_value,
+};
 use ssb_plans::{ColumnValue, Plan, Test, Value};
 use ssb_schema::{Base, Column, Customer, DateRow, Fact, Items, Part, Supplier, Table};
 use std::alloc::{AllocError, Global};
@@ -92,7 +95,13 @@ pub fn passing<'a>(base: &'a Base, plan: &Plan, fact: Fact) -> Option<Joined<'a>
     let supplier = passing_supplier(base, plan.suppliers.as_slice(), fact.supplier)?;
     let part = passing_part(base, plan.parts.as_slice(), fact.part)?;
     let date = passing_date(base, plan.dates.as_slice(), fact.date)?;
-    Some(Joined { fact, customer, supplier, part, date })
+    Some(Joined {
+        fact,
+        customer,
+        supplier,
+        part,
+        date,
+    })
 }
 
 impl Joined<'_> {

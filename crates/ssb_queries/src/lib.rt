@@ -1,5 +1,23 @@
-//! What a query means: the joined combinations of lines with their dimension rows, and the rows
-//! that answer a question over them; and a plain evaluator that computes these rows.
+//! What a query of the Star Schema Benchmark means, and a plain evaluator that computes it.
+//!
+//! A line is joined with the customer, supplier, part and date that it names. The combinations that
+//! pass a question's tests are grouped; each group gives one row, with the sum of the question's
+//! measure over it, and the rows stand in the question's order. This is the one definition of what a
+//! report says: the columnar scan, the server and the audit of a trace are all stated by it.
+//!
+//! ```text
+//! lines ── joined by key ──▶ combinations that pass ── grouped, added up ──▶ rows, in order
+//! ```
+//!
+//! The contract: [`plain`] gives the rows of the definition and no others, and fails for want of
+//! memory alone. The definition stands in `specs/Combination.antt` (`combinations`) and
+//! `specs/Answer.antt` (`answer_of`); `laws` has what follows of every answer, and
+//! `proofs/SmallDataSet.antt` computes it on small data.
+//!
+//! ```text
+//! let question = Question::standard(alloc, Query::Q4_1)?;
+//! let rows = plain(alloc, &base, base.lines(), &question)?;
+//! ```
 #![tactic(auto)]
 
 mod answer;
@@ -14,7 +32,12 @@ mod totals;
 
 pub use answer::{Answer, ResultRow, Rows, Unserved, same_rows};
 pub use evaluator::plain;
-pub use row_values::{customer_passes, customer_value, date_passes, date_value, is_within, part_passes, part_value, supplier_passes, supplier_value};
+pub use row_values::{
+    customer_passes, customer_value, date_passes, date_value, is_within, part_passes, part_value,
+    supplier_passes, supplier_value,
+};
 pub use sort::sort_rows;
-pub use ssb_plans::question;
-pub use ssb_plans::{ColumnValue, Cond, ConstantKind, ConstantsFault, Measure, NoSuchQuery, NumberRange, OrderKey, Plan, QUERIES, Query, Question, QuestionError, Test, Value};
+pub use ssb_plans::{
+    ColumnValue, Cond, ConstantKind, ConstantsFault, Measure, NoSuchQuery, NumberRange, OrderKey,
+    Plan, QUERIES, Query, Question, QuestionError, Test, Value, question,
+};

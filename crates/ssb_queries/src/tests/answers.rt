@@ -1,8 +1,8 @@
 //! The rows of each query.
+use crate::tests::data::Printed::{Name, Number};
 use crate::tests::data::{
-    ORDER_NINE, Printed, base_with_ties, line, row, seven_lines, small_base, values,
+    Printed, base_with_ties, lines_with_order_nine, row, seven_lines, small_base, values,
 };
-use crate::tests::data::Printed::{Name, Year};
 use crate::{Query, Question, ResultRow, plain, same_rows};
 use ssb_schema::{Base, Line, MOST_LINES};
 use std::alloc::Global;
@@ -45,7 +45,11 @@ fn gives_none(alloc: Global, base: &Base, query: Query) -> Result<bool, Fail> {
 
 fn with(alloc: Global, query: Query, constants: &[Printed]) -> Result<Question, Fail> {
     let constants = values(alloc, constants)?;
-    Ok(Question::with(alloc, query, constants).ok().ok_or("constants")?)
+    Ok(
+        Question::with(alloc, query, constants)
+            .ok()
+            .ok_or("constants")?,
+    )
 }
 
 #[test]
@@ -63,7 +67,7 @@ fn flight_2_over_the_small_data_set(rt: HostRuntime) -> Result<(), Fail> {
     let alloc = rt.alloc();
     let base = small_base(alloc)?;
     assert!(rt; gives_none(alloc, &base, Query::Q2_1)?);
-    let brand = [Year(1993), Name("MFGR#2221")];
+    let brand = [Number(1993), Name("MFGR#2221")];
     assert!(rt; gives_one(alloc, &base, Query::Q2_2, &brand, Some(970))?);
     assert!(rt; gives_none(alloc, &base, Query::Q2_3)?);
     Ok(())
@@ -73,11 +77,11 @@ fn flight_2_over_the_small_data_set(rt: HostRuntime) -> Result<(), Fail> {
 fn flight_3_over_the_small_data_set(rt: HostRuntime) -> Result<(), Fail> {
     let alloc = rt.alloc();
     let base = small_base(alloc)?;
-    let nations = [Name("CHINA"), Name("JAPAN"), Year(1993)];
+    let nations = [Name("CHINA"), Name("JAPAN"), Number(1993)];
     assert!(rt; gives_one(alloc, &base, Query::Q3_1, &nations, Some(2950))?);
-    let states = [Name("UNITED ST4"), Name("UNITED ST7"), Year(1997)];
+    let states = [Name("UNITED ST4"), Name("UNITED ST7"), Number(1997)];
     assert!(rt; gives_one(alloc, &base, Query::Q3_2, &states, Some(760))?);
-    let cities = [Name("UNITED KI1"), Name("UNITED KI5"), Year(1997)];
+    let cities = [Name("UNITED KI1"), Name("UNITED KI5"), Number(1997)];
     assert!(rt; gives_one(alloc, &base, Query::Q3_3, &cities, Some(500))?);
     assert!(rt; gives_one(alloc, &base, Query::Q3_4, &cities, Some(500))?);
     Ok(())
@@ -87,11 +91,11 @@ fn flight_3_over_the_small_data_set(rt: HostRuntime) -> Result<(), Fail> {
 fn flight_4_over_the_small_data_set(rt: HostRuntime) -> Result<(), Fail> {
     let alloc = rt.alloc();
     let base = small_base(alloc)?;
-    let nation = [Year(1997), Name("UNITED STATES")];
+    let nation = [Number(1997), Name("UNITED STATES")];
     assert!(rt; gives_one(alloc, &base, Query::Q4_1, &nation, Some(660))?);
-    let category = [Year(1997), Name("UNITED STATES"), Name("MFGR#14")];
+    let category = [Number(1997), Name("UNITED STATES"), Name("MFGR#14")];
     assert!(rt; gives_one(alloc, &base, Query::Q4_2, &category, Some(660))?);
-    let brand = [Year(1997), Name("UNITED ST7"), Name("MFGR#1440")];
+    let brand = [Number(1997), Name("UNITED ST7"), Name("MFGR#1440")];
     assert!(rt; gives_one(alloc, &base, Query::Q4_3, &brand, Some(660))?);
     Ok(())
 }
@@ -100,11 +104,10 @@ fn flight_4_over_the_small_data_set(rt: HostRuntime) -> Result<(), Fail> {
 fn profit_is_negative_after_order_nine(rt: HostRuntime) -> Result<(), Fail> {
     let alloc = rt.alloc();
     let base = small_base(alloc)?;
-    let mut lines = Vec::from_slice(alloc, base.lines())?;
-    lines.push(line(alloc, ORDER_NINE)?)?;
+    let lines = lines_with_order_nine(alloc)?;
     let question = Question::standard(alloc, Query::Q4_1)?;
     let mut rows = Vec::new(alloc);
-    rows.push(row(alloc, &[Year(1997), Name("UNITED STATES")], Some(-1330))?)?;
+    rows.push(row(alloc, &[Number(1997), Name("UNITED STATES")], Some(-1330))?)?;
     assert!(rt; gives(alloc, &base, lines.as_slice(), &question, rows.as_slice())?);
     Ok(())
 }
@@ -116,7 +119,7 @@ fn equal_sums_stand_in_the_order_of_their_nations(rt: HostRuntime) -> Result<(),
     let question = Question::standard(alloc, Query::Q3_1)?;
     let mut rows = Vec::new(alloc);
     for (customer, supplier) in [("CHINA", "CHINA"), ("CHINA", "JAPAN"), ("INDIA", "JAPAN")] {
-        let groups = [Name(customer), Name(supplier), Year(1993)];
+        let groups = [Name(customer), Name(supplier), Number(1993)];
         rows.push(row(alloc, &groups, Some(2950))?)?;
     }
     assert!(rt; gives(alloc, &base, base.lines(), &question, rows.as_slice())?);
@@ -143,7 +146,15 @@ fn seven_lines_at_the_greatest_price_are_added_up(rt: HostRuntime) -> Result<(),
     let question = Question::standard(alloc, Query::Q1_1)?;
     let mut rows = Vec::new(alloc);
     rows.push(row(alloc, &[], Some(90194313195))?)?;
-    assert!(rt; gives(alloc, &base, seven_lines(alloc, 3)?.as_slice(), &question, rows.as_slice())?);
+    assert!(rt;
+        gives(
+            alloc,
+            &base,
+            seven_lines(alloc, 3)?.as_slice(),
+            &question,
+            rows.as_slice()
+        )?
+    );
     Ok(())
 }
 
@@ -152,7 +163,11 @@ fn the_greatest_discount_counts_where_it_is_asked_for(rt: HostRuntime) -> Result
     let alloc = rt.alloc();
     let base = small_base(alloc)?;
     let lines = seven_lines(alloc, 10)?;
-    let question = with(alloc, Query::Q1_1, &[Year(1993), Year(10), Year(10), Year(0), Year(24)])?;
+    let question = with(
+        alloc,
+        Query::Q1_1,
+        &[Number(1993), Number(10), Number(10), Number(0), Number(24)],
+    )?;
     let mut rows = Vec::new(alloc);
     rows.push(row(alloc, &[], Some(300647710650))?)?;
     assert!(rt; gives(alloc, &base, lines.as_slice(), &question, rows.as_slice())?);
@@ -167,10 +182,14 @@ fn the_greatest_discount_counts_where_it_is_asked_for(rt: HostRuntime) -> Result
 fn a_brand_stands_before_those_that_it_begins(rt: HostRuntime) -> Result<(), Fail> {
     let alloc = rt.alloc();
     let base = small_base(alloc)?;
-    let question = with(alloc, Query::Q2_2, &[Name("MFGR#222"), Name("MFGR#2221"), Name("ASIA")])?;
+    let question = with(
+        alloc,
+        Query::Q2_2,
+        &[Name("MFGR#222"), Name("MFGR#2221"), Name("ASIA")],
+    )?;
     let mut rows = Vec::new(alloc);
-    rows.push(row(alloc, &[Year(1993), Name("MFGR#222")], Some(1980))?)?;
-    rows.push(row(alloc, &[Year(1993), Name("MFGR#2221")], Some(970))?)?;
+    rows.push(row(alloc, &[Number(1993), Name("MFGR#222")], Some(1980))?)?;
+    rows.push(row(alloc, &[Number(1993), Name("MFGR#2221")], Some(970))?)?;
     assert!(rt; gives(alloc, &base, base.lines(), &question, rows.as_slice())?);
     Ok(())
 }
@@ -179,7 +198,11 @@ fn a_brand_stands_before_those_that_it_begins(rt: HostRuntime) -> Result<(), Fai
 fn a_range_with_its_bounds_exchanged_holds_nothing(rt: HostRuntime) -> Result<(), Fail> {
     let alloc = rt.alloc();
     let base = small_base(alloc)?;
-    let question = with(alloc, Query::Q2_2, &[Name("MFGR#2221"), Name("MFGR#222"), Name("ASIA")])?;
+    let question = with(
+        alloc,
+        Query::Q2_2,
+        &[Name("MFGR#2221"), Name("MFGR#222"), Name("ASIA")],
+    )?;
     assert!(rt; gives(alloc, &base, base.lines(), &question, &[])?);
     Ok(())
 }
@@ -190,7 +213,7 @@ fn constants_of_ones_own_replace_the_defaults(rt: HostRuntime) -> Result<(), Fai
     let base = small_base(alloc)?;
     let question = with(alloc, Query::Q2_1, &[Name("MFGR#12"), Name("EUROPE")])?;
     let mut rows = Vec::new(alloc);
-    rows.push(row(alloc, &[Year(1997), Name("MFGR#121")], Some(500))?)?;
+    rows.push(row(alloc, &[Number(1997), Name("MFGR#121")], Some(500))?)?;
     assert!(rt; gives(alloc, &base, base.lines(), &question, rows.as_slice())?);
     Ok(())
 }
