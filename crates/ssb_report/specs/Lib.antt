@@ -6,3 +6,4 @@ pub mod RefreshText
 pub mod Replies
 pub mod Report
 pub mod Serving
+pub mod Run

@@ -134,8 +134,11 @@ fn serve_block<W: Write>(
     }
 }
 
-// Serves the blocks in order, and writes their report. It gives their number.
-pub(crate) fn serve_script<W: Write>(
+/// Serves the blocks of a script in order, as client 1, and writes their report; it gives their number.
+///
+/// The lines stand for the first commits of the store, over the same base. A failed write ends it: the
+/// blocks before it and its own have been served.
+pub fn serve_script<W: Write>(
     alloc: Global,
     store: &mut RowStore,
     lines: &mut PlainLines,
