@@ -8,7 +8,9 @@ mod error;
 mod fields;
 mod order_line;
 mod question;
+mod script;
 mod word;
 
 pub use block::{Block, Script};
 pub use error::ScriptError;
+pub use script::read_script;
