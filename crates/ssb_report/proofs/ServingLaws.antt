@@ -3,6 +3,7 @@ use Rattle.std.proofs.Common.{◌≡◌, ℕ, ◌+◌, suc, List, [], ◌∷◌,
 use Rattle.std.proofs.Math.Seq.{drop-append_seam, take-append-add}
 use Rattle.std.proofs.lemmas.List.Concat.{flat_map-append}
 use Rattle.std.specs.Io.KnownBytes.{Appends}
+use Rattle.ssb_schema.specs.Base.{Tables}
 use Rattle.row_store.specs.History.{CommitRecord, Warehouse, IsPrefix}
 use Rattle.ssb_script.specs.Requests.{Request}
 use Rattle.ssb_report.specs.Written.{AppendsPart, Writes}
@@ -32,21 +33,17 @@ behind_still lines now store behind part = record {
   log = record {
     rest = part.rest;
     whole = behind.log.whole
-      ∙ ap (λ more. lines.log ++ more) (sym (ap (drop (length lines.log)) behind.log.whole ∙ drop-append_seam lines.log behind.log.rest) ∙ part.whole)
-      ∙ sym (append_assoc lines.log part.taken part.rest)
-      ∙ ap (λ w. w.log ++ part.rest) (sym part.grown);
+        ∙ ap (λ more. lines.log ++ more) (sym (ap (drop (length lines.log)) behind.log.whole ∙ drop-append_seam lines.log behind.log.rest) ∙ part.whole)
+        ∙ sym (append_assoc lines.log part.taken part.rest)
+        ∙ ap (λ w. w.log ++ part.rest) (sym part.grown);
   };
 }
 
--- the lines that a store is
-pub behind_itself : (store : Warehouse) → IsBehind store store
-behind_itself store = record { base = refl; log = record { rest = []; whole = sym (append-nil store.log) } }
-
--- the lines stay behind a store that grows
-pub behind_longer : (lines store : Warehouse) (more : List CommitRecord) → IsBehind lines store → IsBehind lines (with_commits store more)
-behind_longer lines store more behind = record {
-  base = behind.base;
-  log = record { rest = behind.log.rest ++ more; whole = ap (λ log. log ++ more) behind.log.whole ∙ append_assoc lines.log behind.log.rest more };
+-- lines and a store without commits
+pub behind_at_start : (lines store : Warehouse) (base : Tables) → lines ≡ record { base = base; log = [] } → store ≡ record { base = base; log = [] } → IsBehind lines store
+behind_at_start lines store base fresh_lines fresh_store = record {
+  base = ap (λ w. w.base) fresh_lines ∙ sym (ap (λ w. w.base) fresh_store);
+  log = record { rest = []; whole = ap (λ w. w.log) fresh_store ∙ sym (ap (λ w. w.log ++ []) fresh_lines) };
 }
 
 -- as many replies as requests
@@ -63,9 +60,11 @@ replies_more : (client : ℕ) (old : Warehouse) (requests : List Request) (repli
 replies_more client old [] [] request reply are next = (subst (λ w. IsReply w request reply) (with_none old) next, tt)
 replies_more client old [] (other ∷ replies) request reply are next = absurd are
 replies_more client old (other ∷ requests) [] request reply are next = absurd are
-replies_more client old (first ∷ requests) (answer ∷ replies) request reply are next =
-    (are.0, replies_more client (with_commits old (committed_by client first answer)) requests replies request reply are.1
-        (subst (λ w. IsReply w request reply) (sym (with_both old (committed_by client first answer) (committed client requests replies))) next))
+replies_more client old (first ∷ requests) (answer ∷ replies) request reply are next = (
+  are.0,
+  replies_more client (with_commits old (committed_by client first answer)) requests replies request reply are.1
+      (subst (λ w. IsReply w request reply) (sym (with_both old (committed_by client first answer) (committed client requests replies))) next),
+)
 
 committed_more : (client : ℕ) (old : Warehouse) (requests : List Request) (replies : List Reply) (request : Request) (reply : Reply)
     → AreReplies client old requests replies
@@ -103,10 +102,10 @@ serves_more client old mid new requests request a b c served next =
       replies = replies ++ next.reply ∷ [];
       answered = replies_more client old requests replies request next.reply served.answered (subst (λ w. IsReply w request next.reply) served.grown next.answered);
       grown = next.grown ∙ ap (λ w. with_commits w (committed_by client request next.reply)) served.grown
-        ∙ with_both old (committed client requests replies) (committed_by client request next.reply)
-        ∙ ap (λ commits. with_commits old commits) (sym (committed_more client old requests replies request next.reply served.answered));
+          ∙ with_both old (committed client requests replies) (committed_by client request next.reply)
+          ∙ ap (λ commits. with_commits old commits) (sym (committed_more client old requests replies request next.reply served.answered));
       written = subst (Appends a c) (sym (flat_map-append reply_text replies (next.reply ∷ []) ∙ ap (λ t. report_of replies ++ t) (append-nil (reply_text next.reply))))
-        (appends_both a b c (report_of replies) (reply_text next.reply) served.written next.written);
+          (appends_both a b c (report_of replies) (reply_text next.reply) served.written next.written);
     }
 
 -- the first requests and one that follows
@@ -124,8 +123,8 @@ stops_there client old mid new front rest request a b c served next =
       count = same_count client old front replies served.answered;
       answered = rw first (replies_more client old front replies request next.reply served.answered (subst (λ w. IsReply w request next.reply) served.grown next.answered));
       grown = rw first (next.grown ∙ ap (λ w. with_commits w (committed_by client request next.reply)) served.grown
-        ∙ with_both old (committed client front replies) (committed_by client request next.reply)
-        ∙ ap (λ commits. with_commits old commits) (sym (committed_more client old front replies request next.reply served.answered)));
+          ∙ with_both old (committed client front replies) (committed_by client request next.reply)
+          ∙ ap (λ commits. with_commits old commits) (sym (committed_more client old front replies request next.reply served.answered)));
       part = next.written.part;
       rest = next.written.rest;
       begins = next.written.begins;

@@ -7,3 +7,4 @@ pub mod Replies
 pub mod Report
 pub mod Serving
 pub mod Run
+pub mod Laws

@@ -15,7 +15,10 @@ pub fn write_receipt<W: Write>(writer: &mut W, receipt: &Receipt) -> Result<(), 
     ensures fault { OnErr result (AppendsPart (W.contents writer.old) (W.contents writer.new) (receipt_text receipt.now)) }
 {
     let number = Piece::Number(receipt.number);
-    write_pieces(writer, &[Piece::Text("committed "), number, Piece::Text("\n")])
+    write_pieces(
+        writer,
+        &[Piece::Text("committed "), number, Piece::Text("\n")],
+    )
 }
 
 // The number and the name of a cause, with its key where it has one.
@@ -24,14 +27,23 @@ fn write_cause<W: Write>(writer: &mut W, cause: Cause) -> Result<(), WriteFault>
 {
     match cause {
         Cause::LogFull => write_pieces(writer, &[Piece::Text("40 LogFull")]),
-        Cause::Present(key) => write_pieces(writer, &[Piece::Text("41 Present "), Piece::Number(key)]),
+        Cause::Present(key) => write_pieces(
+            writer,
+            &[Piece::Text("41 Present "), Piece::Number(key)],
+        ),
         Cause::UnknownCustomer => write_pieces(writer, &[Piece::Text("42 UnknownCustomer")]),
         Cause::UnknownSupplier => write_pieces(writer, &[Piece::Text("43 UnknownSupplier")]),
         Cause::UnknownPart => write_pieces(writer, &[Piece::Text("44 UnknownPart")]),
         Cause::UnknownDate => write_pieces(writer, &[Piece::Text("45 UnknownDate")]),
         Cause::LinesFull => write_pieces(writer, &[Piece::Text("46 LinesFull")]),
-        Cause::Absent(key) => write_pieces(writer, &[Piece::Text("47 Absent "), Piece::Number(key)]),
-        Cause::AmendAbsent(key) => write_pieces(writer, &[Piece::Text("48 AmendAbsent "), Piece::Number(key)]),
+        Cause::Absent(key) => write_pieces(
+            writer,
+            &[Piece::Text("47 Absent "), Piece::Number(key)],
+        ),
+        Cause::AmendAbsent(key) => write_pieces(
+            writer,
+            &[Piece::Text("48 AmendAbsent "), Piece::Number(key)],
+        ),
     }
 }
 
@@ -68,6 +80,9 @@ pub fn write_refusal<W: Write>(writer: &mut W, error: &RefreshError) -> Result<(
         RefreshError::Refused { at, action, cause } => {
             write_refused(writer, *at, u64::from(*action), *cause)
         }
-        RefreshError::OutOfMemory => write_pieces(writer, &[Piece::Text("refresh: out of memory\n")]),
+        RefreshError::OutOfMemory => write_pieces(
+            writer,
+            &[Piece::Text("refresh: out of memory\n")],
+        ),
     }
 }

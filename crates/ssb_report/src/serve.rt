@@ -44,9 +44,7 @@ fn rows_of(
     question: &Question,
 ) -> Result<Items<ResultRow>, AllocError>
     requires { IsBehind lines.old store.now }
-    ensures rows {
-        IfOk result (λ rows. rows ≡ answer_of question.now store.now.base.dimensions (facts_of (lines_after store.now.base store.now.log)))
-    }
+    ensures rows { IfOk result (λ rows. rows ≡ answer_of question.now store.now.base.dimensions (facts_of (lines_after store.now.base store.now.log))) }
     ensures behind { IsBehind lines.new store.now }
 {
     let taken = lines.commits() as usize;
@@ -61,12 +59,7 @@ fn rows_of(
 }
 
 // The answer to a question, or that there was no memory for it.
-fn ask(
-    alloc: Global,
-    store: &RowStore,
-    lines: &mut PlainLines,
-    question: Question,
-) -> Answer
+fn ask(alloc: Global, store: &RowStore, lines: &mut PlainLines, question: Question) -> Answer
     requires { IsBehind lines.old store.now }
     ensures reply { IsReply store.now (request.Ask question) (Answered result) }
     ensures behind { IsBehind lines.new store.now }
@@ -146,7 +139,8 @@ pub fn serve_script<W: Write>(
     writer: &mut W,
 ) -> Result<u64, RunError>
     requires { IsBehind lines.old store.old }
-    ensures served { IfOk result (λ done. (done ≡ length (request.requests_of script)) × Serves 1 store.old store.new (request.requests_of script) (W.contents writer.old) (W.contents writer.new)) }
+    ensures count { IfOk result (λ done. done ≡ length (request.requests_of script)) }
+    ensures served { OnOk result (Serves 1 store.old store.new (request.requests_of script) (W.contents writer.old) (W.contents writer.new)) }
     ensures stopped { IfErr result (λ error. Stops error 1 store.old store.new (request.requests_of script) (W.contents writer.old) (W.contents writer.new)) }
     ensures behind { IsBehind lines.new store.new }
 {

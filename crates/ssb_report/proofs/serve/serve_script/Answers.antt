@@ -31,12 +31,13 @@ pub loop-block-preserved : goal.loop-block-preserved
 loop-block-preserved g c =
     let inv = c.loop-block.invariant in
     let request = request_of c.in-Some.block in
-    let left = into_iter_items c.next.new.self in
-    (inv.0 ++ request ∷ [],
-     inv.1 ∙ ap (λ t. inv.0 ++ map request_of t) c.in-Some.ensures.items ∙ sym (append_assoc inv.0 (request ∷ []) (map request_of left)),
-     omega (arith, length-append inv.0 (request ∷ []), inv.2),
-     serves_more 1 c.args.store.now c.loop-block.store c.serve_block.new.store inv.0 request _ _ _ inv.3 (ok_of c.serve_block.result _ (sym c.is_err.ensures.value ∙ c.if-is_err.false) c.serve_block.ensures.reply),
-     c.serve_block.ensures.behind)
+    let left = into_iter_items c.next.new.self in (
+      inv.0 ++ request ∷ [],
+      inv.1 ∙ ap (λ t. inv.0 ++ map request_of t) c.in-Some.ensures.items ∙ sym (append_assoc inv.0 (request ∷ []) (map request_of left)),
+      omega (arith, length-append inv.0 (request ∷ []), inv.2),
+      serves_more 1 c.args.store.now c.loop-block.store c.serve_block.new.store inv.0 request _ _ _ inv.3 (ok_of c.serve_block.result _ (sym c.is_err.ensures.value ∙ c.if-is_err.false) c.serve_block.ensures.reply),
+      c.serve_block.ensures.behind,
+    )
 
 pub returns-then-is_err-clause-stopped : goal.returns-then-is_err-clause-stopped
 returns-then-is_err-clause-stopped g c =
@@ -46,4 +47,4 @@ returns-then-is_err-clause-stopped g c =
     let left = map request_of (into_iter_items c.next.new.self) in
     let whole : requests_of c.args.script ≡ inv.0 ++ request ∷ left = inv.1 ∙ ap (λ t. inv.0 ++ map request_of t) c.in-Some.ensures.items in
     rw (sym inv.2, whole)
-        (stops_there 1 c.args.store.now c.loop-block.store c.serve_block.new.store inv.0 left request _ _ _ inv.3 (err_of c.serve_block.result _ (sym c.is_err.ensures.value ∙ c.if-is_err.true) c.serve_block.ensures.fault))
+    (stops_there 1 c.args.store.now c.loop-block.store c.serve_block.new.store inv.0 left request _ _ _ inv.3 (err_of c.serve_block.result _ (sym c.is_err.ensures.value ∙ c.if-is_err.true) c.serve_block.ensures.fault))
