@@ -1,2 +1,4 @@
 pub mod WrittenLaws
 pub mod RowLaws
+pub mod ServingLaws
+pub mod ReplyLaws

@@ -57,7 +57,12 @@ fn write_row<W: Write>(writer: &mut W, query: Query, row: &ResultRow) -> Result<
 }
 
 // The line before the rows.
-fn write_head<W: Write>(writer: &mut W, query: Query, at: u64, count: usize) -> Result<(), WriteFault>
+fn write_head<W: Write>(
+    writer: &mut W,
+    query: Query,
+    at: u64,
+    count: usize,
+) -> Result<(), WriteFault>
     ensures { Writes (W.contents writer.old) (W.contents writer.new) result (head_text query at count) }
 {
     let name = Piece::Text(query.name());
@@ -98,16 +103,15 @@ fn write_head_and_rows<W: Write>(
 }
 
 // The line in place of rows.
-fn write_unserved<W: Write>(
-    writer: &mut W,
-    query: Query,
-    cause: Unserved,
-) -> Result<(), WriteFault>
+fn write_unserved<W: Write>(writer: &mut W, query: Query, cause: Unserved) -> Result<(), WriteFault>
     ensures { Writes (W.contents writer.old) (W.contents writer.new) result (unserved_text query cause) }
 {
     let name = Piece::Text(query.name());
     match cause {
-        Unserved::OutOfMemory => write_pieces(writer, &[name, Piece::Text(" unserved: out of memory\n")]),
+        Unserved::OutOfMemory => write_pieces(
+            writer,
+            &[name, Piece::Text(" unserved: out of memory\n")],
+        ),
         Unserved::Twin { told, found } => write_pieces(
             writer,
             &[

@@ -1,9 +1,35 @@
-//! Scripts served, and reports.
+//! The reports of the warehouse: the lines that tell a client what became of its refreshes and
+//! questions, and a script served by one thread from its bytes to its report.
+//!
+//! The one contract: what [`run_store`] writes is a report of the blocks that the script's bytes spell:
+//! block by block the reply of the warehouse that does one thing after another, or the line that tells
+//! that memory ran out. The log is longer by exactly the refreshes that this report calls committed, in
+//! order. A bad script writes and changes nothing; after a failed write a front of the report stands.
+//! The definitions stand in `specs/`: `AnswerText` and `RefreshText` (the lines), `Replies` (a reply),
+//! `Report` and `Run` (a script), `Laws` (with memory to spare there is one report).
+//!
+//! ```
+//! let mut store = RowStore::new(alloc, Arc::try_clone(&base)?)?;
+//! let mut lines = PlainLines::new(alloc, base)?;
+//! let blocks = run_store(alloc, &mut store, &mut lines, "query|Q4.1".as_bytes(), &mut output)?;
+//! // Q4.1 at 0 rows 1
+//! // 1997|UNITED STATES|660
+//! ```
 #![tactic(auto)]
 
 mod answer;
-pub mod fault;
+mod fault;
+pub mod laws;
 mod piece;
+mod refresh;
+mod run;
+mod serve;
+#[cfg(test)]
+mod tests;
 
 pub use answer::write_answer;
-pub use fault::WriteFault;
+pub use fault::{RunError, WriteFault};
+pub use refresh::{write_receipt, write_refusal};
+pub use run::{MOST_RECORDS, run_store};
+pub use serve::{CLIENT, serve_script};
+pub use ssb_script::{Block, Script, ScriptError, read_script};

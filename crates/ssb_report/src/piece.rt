@@ -44,10 +44,7 @@ fn write_piece<W: Write>(writer: &mut W, piece: Piece<'_>) -> Result<(), WriteFa
 }
 
 /// Writes the pieces, one after another.
-pub(crate) fn write_pieces<W: Write>(
-    writer: &mut W,
-    pieces: &[Piece<'_>],
-) -> Result<(), WriteFault>
+pub(crate) fn write_pieces<W: Write>(writer: &mut W, pieces: &[Piece<'_>]) -> Result<(), WriteFault>
     ensures { Writes (W.contents writer.old) (W.contents writer.new) result (flat_map piece_text pieces.now) }
 {
     for piece in pieces {

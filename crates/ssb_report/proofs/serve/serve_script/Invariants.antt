@@ -1,0 +1,18 @@
+use Rattle.std.proofs.Common.{◌≡◌, ℕ, List, ◌++◌, length, map}
+use Rattle.std.specs.Vec.Iter.{into_iter_items}
+use Rattle.row_store.specs.History.{Warehouse}
+use Rattle.ssb_script.specs.Requests.{Request, request_of, requests_of}
+use Rattle.ssb_report.specs.Report.{Serves, IsBehind}
+use Rattle.ssb_report.proofs.serve.serve_script.Given as goal
+
+-- the first requests were served, and the others are left
+abbrev pub invariant-loop-block : goal.invariant-loop-block
+invariant-loop-block g l =
+    (front : List Request)
+    × (requests_of l.fn.script ≡ front ++ map request_of (into_iter_items l.blocks))
+    × (length front ≡ l.done)
+    × Serves 1 l.fn.store l.store front (g.W.Write.contents l.fn.writer) (g.W.Write.contents l.writer)
+    × IsBehind l.lines l.store
+
+abbrev pub decreases-loop-block : goal.decreases-loop-block
+decreases-loop-block g l = length (into_iter_items l.blocks)

@@ -1,0 +1,365 @@
+ghost use Rattle.std.specs.Prelude.{IfOk};
+ghost use Rattle.ssb_report.specs.Report.{IsBehind};
+
+use super::*;
+use row_store::{Cause, PlainLines, Receipt, RefreshError, RowStore};
+use ssb_load::{Tables, load};
+use ssb_plans::{Query, Question};
+use ssb_queries::{Answer, Unserved};
+use ssb_schema::{Base, Limits};
+use std::alloc::Global;
+use std::io::{self, ErrorKind, Read, Write};
+use std::process::Abort;
+use std::sync::Arc;
+use std::test::Fail;
+
+// The small data set: three customers, suppliers, four parts and dates, and four lines of three orders.
+const CUSTOMERS: &str = "1|C1|a|UNITED KI1|UNITED KINGDOM|EUROPE|p|m|
+2|C2|a|CHINA    0|CHINA|ASIA|p|m|
+3|C3|a|UNITED ST4|UNITED STATES|AMERICA|p|m|
+";
+
+const SUPPLIERS: &str = "1|S1|a|UNITED KI5|UNITED KINGDOM|EUROPE|p|
+2|S2|a|JAPAN    3|JAPAN|ASIA|p|
+3|S3|a|UNITED ST7|UNITED STATES|AMERICA|p|
+";
+
+const PARTS: &str = "1|P1|MFGR#1|MFGR#12|MFGR#121|c|t|1|b|
+2|P2|MFGR#2|MFGR#22|MFGR#2221|c|t|1|b|
+3|P3|MFGR#2|MFGR#22|MFGR#222|c|t|1|b|
+4|P4|MFGR#1|MFGR#14|MFGR#1440|c|t|1|b|
+";
+
+const DATES: &str = "19930101|d|w|m|1993|199301|Jan1993|1|1|1|1|1|s|0|0|0|1|
+19940105|d|w|m|1994|199401|Jan1994|1|1|1|1|1|s|0|0|0|1|
+19940208|d|w|m|1994|199402|Feb1994|1|1|1|1|6|s|0|0|0|1|
+19971215|d|w|m|1997|199712|Dec1997|1|1|1|1|50|s|0|0|0|1|
+";
+
+const LINES: &str = "1|1|2|2|2|19930101|o|0|24|1000|3000|3|970|600|0|19930101|AIR|
+1|2|2|3|2|19930101|o|0|25|2000|3000|1|1980|1200|0|19930101|AIR|
+2|1|1|1|1|19971215|o|0|10|500|500|0|500|700|0|19971215|AIR|
+3|1|3|4|3|19971215|o|0|30|800|800|5|760|100|0|19971215|AIR|
+";
+
+// An absent order refuses the whole refresh; without it the refresh is committed.
+const STORED_RUN: &str = "query|Q4.1
+begin
+add
+line|9|1|3|4|3|19971215|o|0|1|10|10|0|10|2000|0|19971215|AIR
+withdraw|77
+commit
+query|Q4.1
+begin
+add
+line|9|1|3|4|3|19971215|o|0|1|10|10|0|10|2000|0|19971215|AIR
+commit
+query|Q4.1
+";
+
+const STORED_REPORT: &str = "Q4.1 at 0 rows 1
+1997|UNITED STATES|660
+refused at 0 action 2: 47 Absent 77
+Q4.1 at 0 rows 1
+1997|UNITED STATES|660
+committed 1
+Q4.1 at 1 rows 1
+1997|UNITED STATES|-1330
+";
+
+// The small data set within these limits, in a store and lines without commits.
+fn opened(alloc: Global, limits: Limits) -> Result<(RowStore, PlainLines), Fail>
+    ensures { IfOk result (λ made. IsBehind made.1 made.0) }
+{
+    let tables = Tables {
+        customer: CUSTOMERS.as_bytes(),
+        supplier: SUPPLIERS.as_bytes(),
+        part: PARTS.as_bytes(),
+        date: DATES.as_bytes(),
+        lineorder: LINES.as_bytes(),
+    };
+    let base = Arc::new(alloc, load(alloc, limits, tables)?)?;
+    let store = RowStore::new(alloc, Arc::try_clone(&base)?)?;
+    Ok((store, PlainLines::new(alloc, base)?))
+}
+
+// Whether the script over the small data set within these limits has the report.
+fn reports(alloc: Global, limits: Limits, script: &str, report: &str) -> Result<bool, Fail> {
+    let (mut store, mut lines) = opened(alloc, limits)?;
+    let mut out = Vec::new(alloc);
+    run_store(alloc, &mut store, &mut lines, script.as_bytes(), &mut out)?;
+    Ok(out.as_slice() == report.as_bytes())
+}
+
+// A writer that takes so many bytes, and then none.
+#[derive(Drop)]
+struct Room(usize);
+
+impl Write for Room {
+    fn write(&mut self, buf: &[u8]) -> io::Result<usize> {
+        let taken = buf.len().min(self.0);
+        self.0 -= taken;
+        Ok(taken)
+    }
+
+    fn flush(&mut self) -> io::Result<()> {
+        Ok(())
+    }
+}
+
+#[test]
+fn absent_order_refuses_the_whole_refresh(rt: HostRuntime) -> Result<(), Fail> {
+    let alloc = rt.alloc();
+    assert!(rt; reports(alloc, Limits::standard(), STORED_RUN, STORED_REPORT)?);
+    assert!(rt; reports(alloc, Limits::standard(), "", "")?);
+    Ok(())
+}
+
+#[test]
+fn reports_of_all_queries(rt: HostRuntime) -> Result<(), Fail> {
+    for (script, report) in [
+        ("query|Q1.1", "Q1.1 at 0 rows 1\n3000\n"),
+        ("query|Q1.2", "Q1.2 at 0 rows 1\nNULL\n"),
+        ("query|Q2.1", "Q2.1 at 0 rows 0\n"),
+        ("query|Q2.2", "Q2.2 at 0 rows 1\n970|1993|MFGR#2221\n"),
+        ("query|Q3.1", "Q3.1 at 0 rows 1\nCHINA|JAPAN|1993|2950\n"),
+        (
+            "query|Q4.2",
+            "Q4.2 at 0 rows 1\n1997|UNITED STATES|MFGR#14|660\n",
+        ),
+    ] {
+        assert!(rt;
+            reports(rt.alloc(), Limits::standard(), script, report)?,
+            "{script}"
+        );
+    }
+    Ok(())
+}
+
+#[test]
+fn constants_come_with_the_question(rt: HostRuntime) -> Result<(), Fail> {
+    for (script, report) in [
+        (
+            "query|Q2.2|MFGR#222|MFGR#2221|ASIA|",
+            "Q2.2 at 0 rows 2\n1980|1993|MFGR#222\n970|1993|MFGR#2221\n",
+        ),
+        ("query|Q2.2|MFGR#2221|MFGR#222|ASIA", "Q2.2 at 0 rows 0\n"),
+        (
+            "query|Q2.1|MFGR#12|EUROPE",
+            "Q2.1 at 0 rows 1\n500|1997|MFGR#121\n",
+        ),
+    ] {
+        assert!(rt;
+            reports(rt.alloc(), Limits::standard(), script, report)?,
+            "{script}"
+        );
+    }
+    Ok(())
+}
+
+#[test]
+fn withdrawn_order_is_added_again_in_one_refresh(rt: HostRuntime) -> Result<(), Fail> {
+    let again = "begin
+withdraw|1
+add
+line|1|1|2|2|2|19930101|o|0|24|1000|1000|2|980|600|0|19930101|AIR
+commit
+query|Q1.1
+query|Q3.1
+";
+    let reports_again =
+        "committed 1\nQ1.1 at 1 rows 1\n2000\nQ3.1 at 1 rows 1\nCHINA|JAPAN|1993|980\n";
+    assert!(rt; reports(rt.alloc(), Limits::standard(), again, reports_again)?);
+    let still_there = "begin
+add
+line|1|1|2|2|2|19930101|o|0|24|1000|1000|2|980|600|0|19930101|AIR
+withdraw|1
+commit
+";
+    let refused = "refused at 0 action 1: 41 Present 1\n";
+    assert!(rt; reports(rt.alloc(), Limits::standard(), still_there, refused)?);
+    Ok(())
+}
+
+#[test]
+fn full_lines_and_a_full_log_refuse(rt: HostRuntime) -> Result<(), Fail> {
+    let four_lines = Limits::new(4, 4, 1).ok_or("no limits")?;
+    let full = "begin
+add
+line|9|1|3|4|3|19971215|o|0|1|10|10|0|10|2000|0|19971215|AIR
+commit
+begin
+withdraw|2
+add
+line|9|1|3|4|3|19971215|o|0|1|10|10|0|10|2000|0|19971215|AIR
+commit
+begin
+withdraw|9
+commit
+";
+    let report = "refused at 0 action 1: 46 LinesFull
+committed 1
+refused at 1 action 0: 40 LogFull
+";
+    assert!(rt; reports(rt.alloc(), four_lines, full, report)?);
+    Ok(())
+}
+
+#[test]
+fn amended_order_is_replaced(rt: HostRuntime) -> Result<(), Fail> {
+    let present = "begin
+amend
+line|1|1|2|2|2|19930101|o|0|24|1000|1000|2|980|600|0|19930101|AIR
+commit
+query|Q1.1
+query|Q3.1
+";
+    let replaced = "committed 1\nQ1.1 at 1 rows 1\n2000\nQ3.1 at 1 rows 1\nCHINA|JAPAN|1993|980\n";
+    assert!(rt; reports(rt.alloc(), Limits::standard(), present, replaced)?);
+    let absent = "begin
+amend
+line|9|1|8|4|3|19971215|o|0|1|10|10|0|10|2000|0|19971215|AIR
+commit
+begin
+withdraw|1
+amend
+line|1|1|2|2|2|19930101|o|0|24|1000|1000|2|980|600|0|19930101|AIR
+commit
+";
+    let refused =
+        "refused at 0 action 1: 48 AmendAbsent 9\nrefused at 0 action 2: 48 AmendAbsent 1\n";
+    assert!(rt; reports(rt.alloc(), Limits::standard(), absent, refused)?);
+    Ok(())
+}
+
+#[test]
+fn failed_write_tells_how_many_blocks_were_done(rt: HostRuntime) -> Result<(), Fail> {
+    let alloc = rt.alloc();
+    for (room, done) in [(0, 0), (39, 0), (40, 1), (75, 1), (76, 2), (120, 3)] {
+        let (mut store, mut lines) = opened(alloc, Limits::standard())?;
+        let mut writer = Room(room);
+        let ended = run_store(
+            alloc,
+            &mut store,
+            &mut lines,
+            STORED_RUN.as_bytes(),
+            &mut writer,
+        );
+        assert!(rt; ended == Err(RunError::Write(done)), "{room}");
+    }
+    let (mut store, mut lines) = opened(alloc, Limits::standard())?;
+    let mut writer = Room(170);
+    let ended = run_store(
+        alloc,
+        &mut store,
+        &mut lines,
+        STORED_RUN.as_bytes(),
+        &mut writer,
+    );
+    assert!(rt; ended == Ok(5));
+    Ok(())
+}
+
+#[test]
+fn commit_stands_after_a_failed_write(rt: HostRuntime) -> Result<(), Fail> {
+    let alloc = rt.alloc();
+    let (mut store, mut lines) = opened(alloc, Limits::standard())?;
+    let mut writer = Room(120);
+    let ended = run_store(
+        alloc,
+        &mut store,
+        &mut lines,
+        STORED_RUN.as_bytes(),
+        &mut writer,
+    );
+    assert!(rt; ended == Err(RunError::Write(3)));
+    let mut out = Vec::new(alloc);
+    let asked = b"query|Q4.1".as_slice();
+    let ended = run_store(alloc, &mut store, &mut lines, asked, &mut out);
+    assert!(rt; ended == Ok(1));
+    let report = b"Q4.1 at 1 rows 1\n1997|UNITED STATES|-1330\n";
+    assert!(rt; out.as_slice() == report.as_slice());
+    Ok(())
+}
+
+#[test]
+fn bad_script_writes_and_changes_nothing(rt: HostRuntime) -> Result<(), Fail> {
+    let alloc = rt.alloc();
+    let (mut store, mut lines) = opened(alloc, Limits::standard())?;
+    let mut out = Vec::new(alloc);
+    let script = "begin
+add
+line|9|1|3|4|3|19971215|o|0|1|10|10|0|10|2000|0|19971215|AIR
+commit
+hello
+";
+    let ended = run_store(alloc, &mut store, &mut lines, script.as_bytes(), &mut out);
+    assert!(rt; ended == Err(RunError::Script(ScriptError::BadLine(5))));
+    assert!(rt; out.is_empty());
+    assert_eq!(rt; store.len(), 0);
+    Ok(())
+}
+
+// Gives one query, and then fails.
+#[derive(Drop)]
+struct Broken(bool);
+
+impl Read for Broken {
+    fn read(&mut self, buf: &mut [u8]) -> io::Result<usize> {
+        let query = b"query|Q1.1\n";
+        if self.0 || buf.len() < query.len() {
+            return Err(io::Error::from(ErrorKind::Other));
+        }
+        self.0 = true;
+        buf[..query.len()].copy_from_slice(query);
+        Ok(query.len())
+    }
+}
+
+#[test]
+fn failed_read_serves_nothing(rt: HostRuntime) -> Result<(), Fail> {
+    let alloc = rt.alloc();
+    let (mut store, mut lines) = opened(alloc, Limits::standard())?;
+    let mut out = Vec::new(alloc);
+    let ended = run_store(alloc, &mut store, &mut lines, Broken(false), &mut out);
+    assert!(rt; ended == Err(RunError::Script(ScriptError::Read)));
+    assert!(rt; out.is_empty());
+    Ok(())
+}
+
+#[test]
+fn lines_of_single_replies(rt: HostRuntime) -> Result<(), Fail> {
+    let mut out = Vec::new(rt.alloc());
+    write_receipt(&mut out, &Receipt { number: 1_000_000 })?;
+    write_refusal(&mut out, &RefreshError::OutOfMemory)?;
+    for cause in [
+        Cause::UnknownCustomer,
+        Cause::UnknownSupplier,
+        Cause::UnknownPart,
+        Cause::UnknownDate,
+    ] {
+        write_refusal(
+            &mut out,
+            &RefreshError::Refused {
+                at: 12,
+                action: 64,
+                cause,
+            },
+        )?;
+    }
+    for cause in [Unserved::OutOfMemory, Unserved::Twin { told: 7, found: 10 }] {
+        let query = Question::standard(rt.alloc(), Query::Q3_4)?;
+        write_answer(&mut out, &Answer::Unserved { query, cause })?;
+    }
+    let lines = "committed 1000000
+refresh: out of memory
+refused at 12 action 64: 42 UnknownCustomer
+refused at 12 action 64: 43 UnknownSupplier
+refused at 12 action 64: 44 UnknownPart
+refused at 12 action 64: 45 UnknownDate
+Q3.4 unserved: out of memory
+Q3.4 unserved: twin 7 10
+";
+    assert!(rt; out.as_slice() == lines.as_bytes());
+    Ok(())
+}
