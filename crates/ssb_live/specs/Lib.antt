@@ -1,3 +1,5 @@
 pub mod Asked
 pub mod Status
 pub mod Reported
+pub mod Demo
+pub mod SmallTexts

@@ -5,6 +5,7 @@ ghost use Rattle.ssb_live.specs.Status.{status_of};
 
 use ssb_load::LoadError;
 use ssb_plans::{ConstantsFault, NoSuchQuery};
+use ssb_script::ScriptError;
 use std::alloc::AllocError;
 use std::fmt;
 use std::io::Write;
@@ -17,6 +18,8 @@ pub enum Fault {
     NoSuchQuery(NoSuchQuery),
     Constants(ConstantsFault),
     Data(LoadError),
+    /// A script that can't be read; it is the first.
+    Script(ScriptError),
     WriteFailed,
     OutOfMemory,
 }
@@ -31,6 +34,8 @@ impl Fault {
             Fault::NoSuchQuery(_) | Fault::Constants(_) => 2,
             Fault::Data(LoadError::Read(_)) | Fault::Data(LoadError::OutOfMemory) => 4,
             Fault::Data(_) => 1,
+            Fault::Script(ScriptError::Read) | Fault::Script(ScriptError::OutOfMemory) => 4,
+            Fault::Script(_) => 1,
             Fault::CannotRead(_) | Fault::WriteFailed | Fault::OutOfMemory => 4,
         }
     }
@@ -52,6 +57,8 @@ impl fmt::Display for Fault {
             Fault::Constants(fault) => write!(f, "query: {fault}"),
             Fault::Data(LoadError::OutOfMemory) => f.write_str("out of memory"),
             Fault::Data(fault) => write!(f, "data: {fault}"),
+            Fault::Script(ScriptError::OutOfMemory) => f.write_str("out of memory"),
+            Fault::Script(fault) => write!(f, "script 1: {fault}"),
             Fault::WriteFailed => f.write_str("write failed"),
             Fault::OutOfMemory => f.write_str("out of memory"),
         }

@@ -1,12 +1,14 @@
 //! The program `ssb_live`: a warehouse of the Star Schema Benchmark on the command line.
 //!
-//! Without words it prints the report of Q1.1 over the small built-in data set. `ssb_live query --data DIR NAME
-//! [CONSTANT..]` loads five table files and prints the report of one question. The work is done by `query::run_query`, whose
-//! contract names the bytes that it writes; this file opens files and ends with a status.
+//! Without words it serves the script on standard input over the small built-in data set, as the one client of a one-thread
+//! warehouse, and prints the report. `ssb_live query --data DIR NAME [CONSTANT..]` loads five table files and prints the
+//! report of one question. The work is done by `demo::demo` and `query::run_query`, whose contracts name the bytes that they
+//! write; this file opens files and ends with a status.
 #![tactic(auto)]
 
 mod arguments;
 mod asked;
+mod demo;
 mod fault;
 mod files;
 mod query;
@@ -15,6 +17,7 @@ mod small_data;
 mod tests;
 
 use clap::ArgMatches;
+use demo::demo;
 use fault::Fault;
 use query::run_query;
 use std::io::BufWriter;
@@ -25,13 +28,12 @@ fn words(rt: &HostRuntime) -> anyhow::Result<Vec<String>> {
     Ok(std::env::args(rt)?.collect(rt.alloc())?)
 }
 
-// Answers Q1.1 over the small data set.
-fn answer_small(rt: &HostRuntime) -> Result<u8, Fault> {
-    let tables = small_data::tables();
+// Serves the script on standard input.
+fn serve_script(rt: &HostRuntime) -> Result<u8, Fault> {
     let Ok(mut out) = BufWriter::new(rt.alloc(), rt.stdout()) else {
         return Err(Fault::OutOfMemory);
     };
-    Ok(run_query(rt.alloc(), tables, "Q1.1", &[], &mut out, &mut rt.stderr()))
+    Ok(demo(rt.alloc(), rt.stdin(), &mut out, &mut rt.stderr()))
 }
 
 // Answers one question over the files of a folder.
@@ -64,7 +66,7 @@ fn main(rt: HostRuntime) -> anyhow::Result<ExitCode> {
     };
     let ended = match matches.subcommand() {
         Some((_, query)) => answer_query(&rt, query),
-        None => answer_small(&rt),
+        None => serve_script(&rt),
     };
     let status = match ended {
         Ok(status) => status,

@@ -1,5 +1,9 @@
 //! The small data set that is built into the program.
 
+ghost use Rattle.std.specs.Prelude.{Some};
+ghost use Rattle.ssb_load.specs.Load.{AreTexts};
+ghost use Rattle.ssb_live.specs.SmallTexts.{small_texts};
+
 use ssb_load::Tables;
 
 /// Its customers.
@@ -41,7 +45,9 @@ pub const LINEORDER: &str = "\
 ";
 
 /// The five texts, as readers.
-pub fn tables() -> Tables<&'static [u8]> {
+pub fn tables() -> Tables<&'static [u8]>
+    ensures { AreTexts (λ source. Some source.now) result small_texts }
+{
     Tables {
         customer: CUSTOMER.as_bytes(),
         supplier: SUPPLIER.as_bytes(),

@@ -1,0 +1,12 @@
+use Rattle.std.proofs.Common.{◌≡◌, Some, ap}
+use Rattle.ssb_schema.specs.declared.table.Table.TheVariants.{Customer, Supplier, Part, Date, Lineorder}
+use Rattle.ssb_live.proofs.small_data.tables.Goals as goal
+
+pub returns : goal.returns
+returns c = λ t. elim t [
+    | Customer ↦ ap Some c.as_bytes.ensures.value
+    | Supplier ↦ ap Some c.as_bytes-2.ensures.value
+    | Part ↦ ap Some c.as_bytes-3.ensures.value
+    | Date ↦ ap Some c.as_bytes-4.ensures.value
+    | Lineorder ↦ ap Some c.as_bytes-5.ensures.value
+  ]

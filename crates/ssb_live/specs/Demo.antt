@@ -1,0 +1,29 @@
+-- A script served over the small data set.
+use Rattle.std.specs.Prelude.{◌≡◌, ℕ, List, [], Option}
+use Rattle.ssb_live.specs.SmallTexts.{small_texts}
+use Rattle.ssb_load.specs.Load.{SpellsBase}
+use Rattle.ssb_report.specs.Run.{ServesAll, ServesPart}
+use Rattle.ssb_schema.specs.Base.{Tables}
+use Rattle.ssb_schema.specs.Limits.{limits_of}
+use Rattle.row_store.specs.History.{Warehouse}
+
+-- the base that the small data set spells, with the greatest limits
+pub record IsSmall (base : Tables) : Type 0 where
+  pub limited : limits_of base.limits ≡ (1048576, 33554432, 1000000)
+  pub spelled : SpellsBase small_texts base
+
+-- the script was served to its end: what was written is its report from the loaded state on
+pub record ServesSmall (remaining : Option (List ℕ)) (before after : Option (List ℕ)) : Type 0 where
+  pub base : Tables
+  pub small : IsSmall base
+  pub done : ℕ
+  pub ended : Warehouse
+  pub served : ServesAll remaining done (record { base = base; log = [] }) ended before after
+
+-- a write failed in the report of a reply
+pub record StopsSmall (remaining : Option (List ℕ)) (before after : Option (List ℕ)) : Type 0 where
+  pub base : Tables
+  pub small : IsSmall base
+  pub done : ℕ
+  pub ended : Warehouse
+  pub served : ServesPart remaining done (record { base = base; log = [] }) ended before after

@@ -1,0 +1,69 @@
+//! The program without words: a script served by one thread over the small data set.
+
+ghost use Rattle.std.specs.Prelude.{◌≡◌, ◌≢◌, ◌⊎◌, IfOk, OnOk, OnErr};
+ghost use Rattle.std.specs.Io.KnownBytes.{Keeps};
+ghost use Rattle.ssb_live.specs.Demo.{IsSmall, ServesSmall, StopsSmall};
+
+use crate::fault::Fault;
+use crate::small_data::tables;
+use row_store::{PlainLines, RowStore};
+use ssb_load::load;
+use ssb_report::{RunError, run_store};
+use ssb_schema::{Base, Limits};
+use std::alloc::Global;
+use std::io::{Read, Write};
+use std::sync::Arc;
+
+// The base of the small data set.
+fn base(alloc: Global) -> Result<Arc<Base>, Fault>
+    ensures { IfOk result (λ base. IsSmall base.value) }
+{
+    let base = match load(alloc, Limits::standard(), tables()) {
+        Ok(base) => base,
+        Err(fault) => return Err(Fault::Data(fault)),
+    };
+    match Arc::new(alloc, base) {
+        Ok(base) => Ok(base),
+        Err(_) => Err(Fault::OutOfMemory),
+    }
+}
+
+// Serves the script, and has the writer hand on what it holds.
+fn serve<R: Read + Drop, W: Write>(alloc: Global, input: R, out: &mut W) -> Result<(), Fault>
+    ensures report { OnOk result (ServesSmall (R.remaining input) (W.contents out.old) (W.contents out.new)) }
+    ensures fault { OnErr result (Keeps (W.contents out.old) (W.contents out.new)
+        ⊎ StopsSmall (R.remaining input) (W.contents out.old) (W.contents out.new)
+        ⊎ ServesSmall (R.remaining input) (W.contents out.old) (W.contents out.new)) }
+{
+    let base = base(alloc)?;
+    let mut store = RowStore::new(alloc, Arc::try_clone(&base)?)?;
+    let mut lines = PlainLines::new(alloc, base)?;
+    match run_store(alloc, &mut store, &mut lines, input, out) {
+        Ok(_) => {}
+        Err(RunError::Script(fault)) => return Err(Fault::Script(fault)),
+        Err(RunError::Write(_)) => return Err(Fault::WriteFailed),
+    }
+    match out.flush() {
+        Ok(()) => Ok(()),
+        Err(_) => Err(Fault::WriteFailed),
+    }
+}
+
+/// Serves a script over the small data set as the one client of a one-thread warehouse, and writes the report; or a fault
+/// line to `err`. The whole script is read first. The result is the exit status.
+pub fn demo<R: Read + Drop, W: Write, E: Write>(
+    alloc: Global,
+    input: R,
+    out: &mut W,
+    err: &mut E,
+) -> u8
+    ensures report { result ≡ 0 → ServesSmall (R.remaining input) (W.contents out.old) (W.contents out.new) }
+    ensures fault { result ≢ 0 → Keeps (W.contents out.old) (W.contents out.new)
+        ⊎ StopsSmall (R.remaining input) (W.contents out.old) (W.contents out.new)
+        ⊎ ServesSmall (R.remaining input) (W.contents out.old) (W.contents out.new) }
+{
+    match serve(alloc, input, out) {
+        Ok(()) => 0,
+        Err(fault) => fault.tell(err),
+    }
+}
