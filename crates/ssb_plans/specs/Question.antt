@@ -1,8 +1,6 @@
 -- Questions: a query with its constants, and why constants are refused.
-use Rattle.std.specs.Prelude.{ℕ, ◌+◌, Bool, not, ◌&&◌, nat_eq, List, length, Option, Some, None, option_map, position, Result, Ok, Err, if◌then◌else◌}
+use Rattle.std.specs.Prelude.{◌+◌, not, nat_eq, List, length, Option, Some, None, option_map, position, Result, Ok, Err, if◌then◌else◌}
 use Rattle.std.specs.List.{zip}
-use Rattle.std.specs.Cmp.Lexicographic.{pointwise}
-use Rattle.std.specs.Ordering.{eq_by_cmp}
 use Rattle.ssb_plans.specs.Kind.{fits, constant_kinds}
 use Rattle.ssb_plans.specs.declared.query.Query.{Query}
 use Rattle.ssb_plans.specs.declared.question.ConstantsFault.{ConstantsFault}

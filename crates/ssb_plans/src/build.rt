@@ -2,19 +2,21 @@
 ghost use Rattle.std.specs.Prelude.{◌≡◌, ◌∷◌, [], IfOk, ◌+◌, ◌<◌};
 ghost use Rattle.ssb_plans.specs.Queries.{over_all_lines, text_is, text_from_to, text_one_of_two, number_is, number_from_to, number_one_of_two, range, by_two_columns, by_three_columns, by_year_and_sum};
 
-use crate::constants::{number_at, text_at};
-use crate::value::Value;
 use crate::cond::{Cond, Test};
+use crate::constants::{number_at, text_at};
 use crate::plan::{Measure, NumberRange, OrderKey, Plan};
+use crate::value::Value;
 use ssb_schema::{Column, Items};
 use std::alloc::{AllocError, Global};
 
+/// No item.
 pub fn none<T>(alloc: Global) -> Items<T>
     ensures { result ≡ [] }
 {
     Items::from_vec(Vec::new(alloc))
 }
 
+/// One item.
 pub fn one<T: Drop>(alloc: Global, item: T) -> Result<Items<T>, AllocError>
     ensures { IfOk result (λ items. items ≡ item ∷ []) }
 {
@@ -23,6 +25,7 @@ pub fn one<T: Drop>(alloc: Global, item: T) -> Result<Items<T>, AllocError>
     Ok(Items::from_vec(items))
 }
 
+/// Two items.
 pub fn two<T: Drop>(alloc: Global, first: T, second: T) -> Result<Items<T>, AllocError>
     ensures { IfOk result (λ items. items ≡ first ∷ second ∷ []) }
 {
@@ -32,7 +35,13 @@ pub fn two<T: Drop>(alloc: Global, first: T, second: T) -> Result<Items<T>, Allo
     Ok(Items::from_vec(items))
 }
 
-pub fn text_is(alloc: Global, column: Column, constants: &[Value], place: usize) -> Result<Test, AllocError>
+/// The column is the text at the place.
+pub fn text_is(
+    alloc: Global,
+    column: Column,
+    constants: &[Value],
+    place: usize,
+) -> Result<Test, AllocError>
     ensures { IfOk result (λ test. test ≡ text_is column constants.now place) }
 {
     Ok(Test {
@@ -41,6 +50,7 @@ pub fn text_is(alloc: Global, column: Column, constants: &[Value], place: usize)
     })
 }
 
+/// The column is from the text at the place to the next one.
 pub fn text_from_to(
     alloc: Global,
     column: Column,
@@ -52,10 +62,14 @@ pub fn text_from_to(
 {
     Ok(Test {
         column,
-        cond: Cond::TextFromTo(text_at(alloc, constants, place)?, text_at(alloc, constants, place + 1)?),
+        cond: Cond::TextFromTo(
+            text_at(alloc, constants, place)?,
+            text_at(alloc, constants, place + 1)?,
+        ),
     })
 }
 
+/// The column is the text at the place or the next one.
 pub fn text_one_of_two(
     alloc: Global,
     column: Column,
@@ -73,6 +87,7 @@ pub fn text_one_of_two(
     })
 }
 
+/// The column is the number at the place.
 pub fn number_is(column: Column, constants: &[Value], place: usize) -> Test
     ensures { result ≡ number_is column constants.now place }
 {
@@ -82,6 +97,7 @@ pub fn number_is(column: Column, constants: &[Value], place: usize) -> Test
     }
 }
 
+/// The column is from the number at the place to the next one.
 pub fn number_from_to(column: Column, constants: &[Value], place: usize) -> Test
     requires { place < 8 }
     ensures { result ≡ number_from_to column constants.now place }
@@ -92,6 +108,7 @@ pub fn number_from_to(column: Column, constants: &[Value], place: usize) -> Test
     }
 }
 
+/// The column is the number at the place or the next one.
 pub fn number_one_of_two(
     alloc: Global,
     column: Column,
@@ -103,10 +120,15 @@ pub fn number_one_of_two(
 {
     Ok(Test {
         column,
-        cond: Cond::NumberOneOf(two(alloc, number_at(constants, place), number_at(constants, place + 1))?),
+        cond: Cond::NumberOneOf(two(
+            alloc,
+            number_at(constants, place),
+            number_at(constants, place + 1),
+        )?),
     })
 }
 
+/// From the number at the place to the next one.
 pub fn range(constants: &[Value], place: usize) -> Option<NumberRange>
     requires { place < 8 }
     ensures { result ≡ range constants.now place }
@@ -139,18 +161,21 @@ pub fn over_all_lines(
     }
 }
 
+/// Ascending by both group columns.
 pub fn by_two_columns(alloc: Global) -> Result<Items<OrderKey>, AllocError>
     ensures { IfOk result (λ order. order ≡ by_two_columns) }
 {
     two(alloc, OrderKey::Group(0), OrderKey::Group(1))
 }
 
+/// Ascending by all three group columns.
 pub fn by_three_columns(alloc: Global) -> Result<Items<OrderKey>, AllocError>
     ensures { IfOk result (λ order. order ≡ by_three_columns) }
 {
     Ok(Items::from_vec(vec![in alloc; OrderKey::Group(0), OrderKey::Group(1), OrderKey::Group(2)]?))
 }
 
+/// By the third group column, the sum from the greatest down, and the first two group columns.
 pub fn by_year_and_sum(alloc: Global) -> Result<Items<OrderKey>, AllocError>
     ensures { IfOk result (λ order. order ≡ by_year_and_sum) }
 {

@@ -61,7 +61,7 @@ impl Constant {
     }
 }
 
-/// The constants that a query has where none are given, as data.
+// The constants that a query has where none are given, as they stand in the program.
 fn standard(query: Query) -> &'static [Constant]
     ensures { map constant_value result.now ≡ standard_constants query }
 {

@@ -1,5 +1,21 @@
-//! What is asked of the warehouse: the thirteen queries of the Star Schema Benchmark, the constants
-//! that come with a question, and the plan of each as data.
+//! What is asked of the warehouse: the thirteen queries of the Star Schema Benchmark, as data.
+//!
+//! A client asks a `Question`: a `Query`, `Q1.1` to `Q4.3`, with its constants (a year, a region, two
+//! brands). `Question::standard` gives it the constants of the benchmark, `Question::with` others; a
+//! wrong number of them, one of the other kind, or a text that its column could not hold is refused.
+//! `question::plan` makes of it a `Plan`: the tests of each dimension, the ranges of quantity and
+//! discount, what is summed, in which groups and in which order. Nothing here runs a query: the plain
+//! evaluation and the scan, in crates above, are both stated over this plan.
+//!
+//! The contract: a plan is the row of the table in `specs/Queries.antt` with the question's constants
+//! in their places, and its order looks at every group column, so that no two rows tie.
+//!
+//! ```text
+//! let query = Query::by_name("Q2.1")?;
+//! let constants = vec![in alloc; Value::Text(category), Value::Text(region)]?;
+//! let question = Question::with(alloc, query, constants)?;
+//! let plan = question::plan(alloc, &question)?;
+//! ```
 #![tactic(auto)]
 
 mod build;
@@ -10,6 +26,8 @@ pub mod kind;
 pub mod plan;
 pub mod query;
 pub mod question;
+#[cfg(test)]
+mod tests;
 pub mod value;
 
 pub use cond::{ColumnValue, Cond, Test};

@@ -1,5 +1,5 @@
 //! The thirteen queries, and their names.
-ghost use Rattle.std.specs.Prelude.{◌≡◌, ◌≢◌, IfOk, IfErr};
+ghost use Rattle.std.specs.Prelude.{◌≡◌, ◌≢◌, IfOk, IfErr, Some};
 ghost use Rattle.ssb_plans.specs.declared.query.Query.{Query as Named};
 ghost use Rattle.ssb_plans.specs.Kind.{constant_kinds};
 ghost use Rattle.ssb_plans.specs.Query.{name_of, sum_first};
@@ -100,11 +100,37 @@ impl Query {
             Query::Q2_3 => &[Text(P_BRAND1), Text(S_REGION)],
             Query::Q3_1 => &[Text(C_REGION), Text(S_REGION), Number, Number],
             Query::Q3_2 => &[Text(C_NATION), Text(S_NATION), Number, Number],
-            Query::Q3_3 => &[Text(C_CITY), Text(C_CITY), Text(S_CITY), Text(S_CITY), Number, Number],
-            Query::Q3_4 => &[Text(C_CITY), Text(C_CITY), Text(S_CITY), Text(S_CITY), Text(D_YEARMONTH)],
+            Query::Q3_3 => &[
+                Text(C_CITY),
+                Text(C_CITY),
+                Text(S_CITY),
+                Text(S_CITY),
+                Number,
+                Number,
+            ],
+            Query::Q3_4 => &[
+                Text(C_CITY),
+                Text(C_CITY),
+                Text(S_CITY),
+                Text(S_CITY),
+                Text(D_YEARMONTH),
+            ],
             Query::Q4_1 => &[Text(C_REGION), Text(S_REGION), Text(P_MFGR), Text(P_MFGR)],
-            Query::Q4_2 => &[Text(C_REGION), Text(S_REGION), Text(P_MFGR), Text(P_MFGR), Number, Number],
-            Query::Q4_3 => &[Text(C_REGION), Text(S_NATION), Number, Number, Text(P_CATEGORY)],
+            Query::Q4_2 => &[
+                Text(C_REGION),
+                Text(S_REGION),
+                Text(P_MFGR),
+                Text(P_MFGR),
+                Number,
+                Number,
+            ],
+            Query::Q4_3 => &[
+                Text(C_REGION),
+                Text(S_NATION),
+                Number,
+                Number,
+                Text(P_CATEGORY),
+            ],
         }
     }
 
@@ -120,6 +146,8 @@ impl Query {
 }
 
 impl fmt::Display for Query {
+    ghost output = { λ query. Some (name_of query) };
+
     fn fmt<W: fmt::Write>(&self, f: &mut fmt::Formatter<W>) -> fmt::Result {
         f.write_str(self.name())
     }

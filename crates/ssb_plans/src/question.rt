@@ -14,6 +14,7 @@ use crate::query::Query;
 use crate::value::Value;
 use ssb_schema::Items;
 use std::alloc::{AllocError, Global};
+use std::fmt;
 use std::marker::Model;
 use std::sync::Arc;
 use thiserror::Error;
@@ -146,15 +147,25 @@ impl Question {
     }
 }
 
+impl fmt::Debug for Question {
+    fn fmt<W: fmt::Write>(&self, f: &mut fmt::Formatter<W>) -> fmt::Result {
+        write!(f, "{} {:?}", self.query, self.constants())
+    }
+}
+
 impl PartialEq for Question {
-    ghost use Rattle.ssb_plans.specs.QuestionEq.{question_eq, question_eq-equiv};
+    ghost use Rattle.std.specs.Prelude.{◌≡◌, ◌↔◌, IsTrue};
     ghost use Rattle.std.specs.Cmp.{partial_equiv_from_equiv};
+    ghost use Rattle.ssb_plans.specs.QuestionEq.{question_eq, question_eq-equiv};
 
     ghost eq = { question_eq };
 
     ghost laws = { partial_equiv_from_equiv question_eq-equiv };
 
-    fn eq(&self, other: &Question) -> bool {
+    fn eq(&self, other: &Question) -> bool
+        ensures value { result ≡ question_eq self.now other.now }
+        ensures same { IsTrue result ↔ (self.now ≡ other.now) }
+    {
         self.query == other.query && self.constants() == other.constants()
     }
 }

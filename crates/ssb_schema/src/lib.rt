@@ -1,4 +1,16 @@
-//! Typed rows, orders, refreshes and the base: the values that the whole warehouse is made of.
+//! The typed values that the whole warehouse is made of: rows of the five tables of the Star Schema Benchmark, orders,
+//! refreshes, and the base, which is the loaded tables with their keys looked at.
+//!
+//! The one contract: a value of these types keeps the limits of its columns, and a [`Base`] has distinct primary keys and a
+//! dimension row for every key that one of its lines names. A constructor makes the value exactly where its definition
+//! finds no fault; else it tells the first fault and hands the values back. The definitions stand in `specs/`: `Columns`
+//! (what each column takes), `Orders`, `Refreshes` and `Base`.
+//!
+//! ```
+//! let line = Line::new(fields).map_err(|refused| refused.fault)?;   // 10 OutOfRange LO_QUANTITY, say
+//! let base = Base::new(alloc, Limits::standard(), parts)?;
+//! let nation = base.customer(line.customer_key()).map(|customer| customer.nation());
+//! ```
 #![tactic(auto)]
 
 mod base;
@@ -17,6 +29,8 @@ mod part;
 mod refresh;
 mod supplier;
 mod table;
+#[cfg(test)]
+mod tests;
 mod text;
 
 pub use base::{Base, BaseError, BaseParts};

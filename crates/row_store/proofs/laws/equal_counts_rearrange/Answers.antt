@@ -1,0 +1,5 @@
+use Rattle.row_store.proofs.Rearranged.{equal_counts_rearrange}
+use Rattle.row_store.proofs.laws.equal_counts_rearrange.Goals as goal
+
+pub returns : goal.returns
+returns c = equal_counts_rearrange

@@ -1,0 +1,5 @@
+use Rattle.row_store.proofs.Rearranged.{one_state_one_answer}
+use Rattle.row_store.proofs.laws.one_state_one_answer.Goals as goal
+
+pub returns : goal.returns
+returns c = one_state_one_answer

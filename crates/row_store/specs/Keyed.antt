@@ -1,0 +1,68 @@
+-- How the orders by key stand for the live lines.
+use Rattle.std.specs.Prelude.{◌≡◌, ℕ, ◌+◌, ◌<◌, ◌≤◌, All, List, [], length, take, drop, slice_get, Option, Some, None}
+use Rattle.std.specs.Option.{option_map_or}
+use Rattle.std.specs.List.{filter_map}
+use Rattle.ssb_schema.specs.declared.line.LineFields.{LineFields}
+use Rattle.ssb_schema.specs.Base.{Tables}
+use Rattle.row_store.specs.Lines.{lines_of, added_by}
+use Rattle.row_store.specs.History.{CommitRecord, lines_after}
+use Rattle.row_store.specs.Legal.{IsLegal}
+use Rattle.row_store.specs.declared.place.Place.{Place}
+use Rattle.row_store.specs.declared.place.Source.{Source}
+use Rattle.row_store.specs.declared.place.Source.TheVariants.{Loaded, Added}
+
+-- where lines lie: the loaded lines, an index of them, and the commits
+pub record Sources : Type 0 where
+  pub loaded : List LineFields
+  pub index : List ℕ
+  pub log : List CommitRecord
+
+-- the lines at these positions
+abbrev pub lines_at : List LineFields → List ℕ → List LineFields
+lines_at lines positions = filter_map (λ i. slice_get lines i) positions
+
+-- the order key of the line at a position
+abbrev pub key_at : List LineFields → ℕ → ℕ
+key_at lines i = option_map_or (λ line. line.order_key) (slice_get lines i) 0
+
+-- the lines that an action of a commit adds
+abbrev pub order_at : List CommitRecord → ℕ → ℕ → List LineFields
+order_at log commit action = option_map_or (λ made. option_map_or added_by (slice_get made.actions action) []) (slice_get log commit) []
+
+-- so many lines from a source: the loaded lines in the order of the index, or an order of the log
+abbrev pub lines_from : Sources → ℕ → Source → List LineFields
+lines_from sources count (Loaded first) = lines_at sources.loaded (take count (drop first sources.index))
+lines_from sources count (Added commit action) = order_at sources.log commit action
+
+-- the source is within the index or the log
+abbrev pub IsWithin : Sources → ℕ → Source → Type 0
+IsWithin sources count (Loaded first) = first + count ≤ length sources.index
+IsWithin sources count (Added commit action) = commit < length sources.log
+
+-- these lines lie at the place, and there are some
+pub record IsAt (sources : Sources) (place : Place) (lines : List LineFields) : Type 0 where
+  pub found : lines_from sources place.lines place.source ≡ lines
+  pub count : place.lines ≡ length lines
+  pub some : 0 < place.lines
+  pub within : IsWithin sources place.lines place.source
+
+-- an order with no place has no lines
+abbrev pub Lies : Sources → Option Place → List LineFields → Type 0
+Lies sources None lines = lines ≡ []
+Lies sources (Some place) lines = IsAt sources place lines
+
+-- each key's place is that of its lines
+abbrev pub Located : Sources → (ℕ → Option Place) → List LineFields → Type 0
+Located sources orders lines = (key : ℕ) → Lies sources (orders key) (lines_of key lines)
+
+-- each key has its place, the lines are counted together and within the limit, and the index names loaded lines
+pub record IsKeyed (base : Tables) (sources : Sources) (orders : ℕ → Option Place) (line_count : ℕ) (lines : List LineFields) : Type 0 where
+  pub each : Located sources orders lines
+  pub total : line_count ≡ length lines
+  pub few : line_count ≤ base.limits.lines
+  pub index : All (λ i. i < length sources.loaded) sources.index
+
+-- the orders by key stand for the lines that the log leaves, and the log is legal
+pub record IsStore (base : Tables) (index : List ℕ) (log : List CommitRecord) (orders : ℕ → Option Place) (line_count : ℕ) : Type 0 where
+  pub keyed : IsKeyed base (record { loaded = base.lines; index = index; log = log }) orders line_count (lines_after base log)
+  pub legal : IsLegal base log

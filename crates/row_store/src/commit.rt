@@ -1,0 +1,42 @@
+//! Commits: the refreshes that were accepted.
+
+use ssb_schema::Refresh;
+use std::alloc::AllocError;
+use std::clone::Clone;
+use std::marker::Model;
+use std::sync::Arc;
+
+/// An accepted refresh and the number of the client that made it. Contracts see the client and the actions.
+#[derive(Drop)]
+pub struct Commit {
+    pub client: u32,
+    pub refresh: Arc<Refresh>,
+}
+
+impl Model for Commit {
+    ghost use Rattle.row_store.specs.History.{CommitRecord};
+
+    ghost Value = { CommitRecord };
+
+    ghost view = { λ c. record { client = c.client; actions = c.refresh.value } };
+}
+
+/// The clone shares the refresh.
+impl Clone for Commit {
+    ghost use Rattle.std.specs.Prelude.{◌≡◌};
+
+    ghost is_clone = { λ commit copy. copy ≡ commit };
+
+    fn clone(&self) -> Result<Commit, AllocError> {
+        Ok(Commit {
+            client: self.client,
+            refresh: Arc::try_clone(&self.refresh)?,
+        })
+    }
+}
+
+/// The number of a commit, counted from 1.
+#[derive(Clone, Copy, Debug, PartialEq, Eq)]
+pub struct Receipt {
+    pub number: u64,
+}

@@ -1,0 +1,138 @@
+//! Where the lines of an order lie, and what an action does to the places.
+ghost use Rattle.std.specs.Prelude.{◌≡◌, ◌+◌, ◌*◌, ◌^◌, ◌<◌, ◌≤◌, ℕ, List, length, nat_eq, slice_get, None, Some};
+ghost use Rattle.std.specs.HashMap.{get, spare};
+ghost use Rattle.ssb_schema.specs.declared.line.LineFields.{LineFields};
+ghost use Rattle.ssb_schema.specs.Base.{Tables};
+ghost use Rattle.row_store.specs.Lines.{added_by, lines_of, lines_after_action, lines_after_refresh};
+ghost use Rattle.row_store.specs.History.{CommitRecord};
+ghost use Rattle.row_store.specs.Refusals.{cause_of, first_refusal};
+ghost use Rattle.row_store.specs.Keyed.{Sources, IsWithin, Located, lines_from, order_at};
+
+use crate::commit::Commit;
+use ssb_schema::{Action, Line};
+use std::collections::HashMap;
+
+/// Where the lines of an order lie, and how many they are.
+#[derive(Clone, Copy)]
+pub(crate) struct Place {
+    pub(crate) lines: u32,
+    pub(crate) source: Source,
+}
+
+/// A place in the base, or in the log.
+#[derive(Clone, Copy)]
+pub(crate) enum Source {
+    /// From this position on in the index of the loaded lines.
+    Loaded(u32),
+    /// In this action of this commit.
+    Added { commit: u32, action: u32 },
+}
+
+// The lines that an action adds.
+pub(crate) fn added(action: &Action) -> &[Line]
+    ensures { result.now ≡ added_by action.now }
+{
+    match action {
+        Action::Add(order) | Action::Amend(order) => order.lines(),
+        Action::Withdraw(_) => &[],
+    }
+}
+
+// The lines that an action of a commit adds.
+pub(crate) fn order_at(log: &[Commit], commit: u32, action: u32) -> &[Line]
+    ensures { result.now ≡ order_at log.now commit action }
+{
+    let Some(made) = log.get(commit as usize) else {
+        return &[];
+    };
+    match made.refresh.actions().get(action as usize) {
+        Some(action) => added(action),
+        None => &[],
+    }
+}
+
+// How many lines the order has after the action, where it had so many before it.
+#[tactic(auto, using(crate::proofs::Counted::count_more, crate::proofs::Counted::count_other, crate::proofs::Counted::count_replaced, crate::proofs::Counted::count_other_replaced, crate::proofs::Counted::count_gone, crate::proofs::Counted::count_kept))]
+fn count_with(count: u64, action: &Action, key: u64) -> u64
+    requires { count < 2 ^ 48 }
+    ensures value { (lines : List LineFields) → length (lines_of key lines) ≡ count
+        → result ≡ length (lines_of key (lines_after_action lines action.now)) }
+    ensures bound { result ≤ count + 7 }
+{
+    match action {
+        Action::Add(order) => {
+            let lines = order.lines();
+            if order.key() == key {
+                count + lines.len() as u64
+            } else {
+                count
+            }
+        }
+        Action::Amend(order) => {
+            let lines = order.lines();
+            if order.key() == key {
+                lines.len() as u64
+            } else {
+                count
+            }
+        }
+        Action::Withdraw(gone) => { if *gone == key { 0 } else { count } }
+    }
+}
+
+// How many lines the order has after the actions, where it had so many before them.
+pub(crate) fn count_after(held: u32, earlier: &[Action], key: u64) -> u64
+    requires { length earlier.now ≤ 64 }
+    ensures value { (lines : List LineFields) → length (lines_of key lines) ≡ held
+        → result ≡ length (lines_of key (lines_after_refresh lines earlier.now)) }
+    ensures bound { result < 2 ^ 40 }
+{
+    let mut count = u64::from(held);
+    for action in earlier {
+        count = count_with(count, action, key);
+    }
+    count
+}
+
+// Puts an action into the orders by key. There is room for one more.
+fn put(orders: &mut HashMap<u64, Place>, action: &Action, source: Source)
+    requires { 0 < spare orders.old }
+    ensures each { (base : Tables) (sources : Sources) (lines : List LineFields)
+        → lines_from sources (length (added_by action.now)) source ≡ added_by action.now
+        → IsWithin sources (length (added_by action.now)) source
+        → Located sources (get nat_eq orders.old) lines
+        → cause_of base lines action.now ≡ None
+        → Located sources (get nat_eq orders.new) (lines_after_action lines action.now) }
+    ensures room { spare orders.old ≤ spare orders.new + 1 }
+{
+    match action {
+        Action::Add(order) => {
+            let lines = order.lines().len() as u32;
+            let _ = orders.insert(order.key(), Place { lines, source });
+        }
+        Action::Amend(order) => {
+            let lines = order.lines().len() as u32;
+            let _ = orders.insert(order.key(), Place { lines, source });
+        }
+        Action::Withdraw(key) => {
+            orders.remove(key);
+        }
+    }
+}
+
+// Puts the actions of a commit into the orders by key. There is room for all.
+pub(crate) fn place_all(orders: &mut HashMap<u64, Place>, actions: &[Action], commit: u32)
+    requires room { length actions.now ≤ spare orders.old }
+    requires few { length actions.now ≤ 64 }
+    ensures { (base : Tables) (sources : Sources) (lines : List LineFields) (made : CommitRecord) (number : ℕ)
+        → slice_get sources.log commit ≡ Some made
+        → made.actions ≡ actions.now
+        → Located sources (get nat_eq orders.old) lines
+        → first_refusal base number lines actions.now ≡ None
+        → Located sources (get nat_eq orders.new) (lines_after_refresh lines actions.now) }
+{
+    for i in 0..actions.len() {
+        let action = i as u32;
+        put(orders, &actions[i], Source::Added { commit, action });
+    }
+}

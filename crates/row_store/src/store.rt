@@ -1,0 +1,316 @@
+//! The primary replica: the live orders by key, and the log.
+ghost use Rattle.std.specs.Prelude.{◌≡◌, ◌+◌, ◌≤◌, ◌^◌, ◌↔◌, List, [], length, drop, None, Some, IsNone, IfSome, MatchResult, OnOk, OnErr, IfOk, IfErr};
+ghost use Rattle.std.specs.List.{list_any};
+ghost use Rattle.ssb_schema.specs.declared.line.LineFields.{LineFields};
+ghost use Rattle.row_store.specs.Lines.{lines_of, lines_after_action, lines_after_refresh};
+ghost use Rattle.row_store.specs.History.{lines_after, with_commit};
+ghost use Rattle.row_store.specs.Refusals.{lacks_customer, lacks_supplier, lacks_part, lacks_date, unknown_key, order_cause, cause_of, refusal_of};
+ghost use Rattle.row_store.specs.Legal.{Fails, IsLegal};
+
+use crate::commit::{Commit, Receipt};
+use crate::index::{index_of, place_runs};
+use crate::order_lines::OrderLines;
+use crate::place::{Place, Source, count_after, order_at, place_all};
+use crate::refusal::{ApplyError, Cause, Refusal};
+use ssb_schema::{Action, Base, Line, Order, Refresh};
+use std::alloc::{AllocError, Global};
+use std::collections::HashMap;
+use std::marker::Model;
+use std::sync::Arc;
+
+/// The live orders by key, and the log of commits. Contracts see the base and the commits.
+#[derive(Drop)]
+pub struct RowStore {
+    base: Arc<Base>,
+    // The positions of the loaded lines, in the order of their order keys.
+    index: Vec<u32>,
+    orders: HashMap<u64, Place>,
+    line_count: usize,
+    log: Vec<Commit>,
+}
+
+impl Model for RowStore {
+    ghost use Rattle.std.specs.Prelude.{nat_eq};
+    ghost use Rattle.std.specs.HashMap.{get};
+    ghost use Rattle.row_store.specs.History.{Warehouse};
+    ghost use Rattle.row_store.specs.Keyed.{IsStore};
+
+    ghost Value = { Warehouse };
+
+    ghost view = { λ s. record { base = s.base.value; log = s.log.items } };
+
+    ghost invariant = { λ s. IsStore s.base.value s.index.items s.log.items (get nat_eq s.orders) s.line_count };
+}
+
+// Whether some line names a customer that the base lacks.
+fn lacks_customer(base: &Base, lines: &[Line]) -> bool
+    ensures { result ≡ list_any (lacks_customer base.now.dimensions) lines.now }
+{
+    lines
+        .iter()
+        .any(|line| !base.has_customer(line.customer_key()))
+}
+
+// Whether some line names a supplier that the base lacks.
+fn lacks_supplier(base: &Base, lines: &[Line]) -> bool
+    ensures { result ≡ list_any (lacks_supplier base.now.dimensions) lines.now }
+{
+    lines
+        .iter()
+        .any(|line| !base.has_supplier(line.supplier_key()))
+}
+
+// Whether some line names a part that the base lacks.
+fn lacks_part(base: &Base, lines: &[Line]) -> bool
+    ensures { result ≡ list_any (lacks_part base.now.dimensions) lines.now }
+{
+    lines.iter().any(|line| !base.has_part(line.part_key()))
+}
+
+// Whether some line names a date that the base lacks.
+fn lacks_date(base: &Base, lines: &[Line]) -> bool
+    ensures { result ≡ list_any (lacks_date base.now.dimensions) lines.now }
+{
+    lines.iter().any(|line| !base.has_date(line.order_date()))
+}
+
+// The first of customer, supplier, part and date that some line names and the base lacks.
+fn unknown_key(base: &Base, lines: &[Line]) -> Option<Cause>
+    ensures { result ≡ unknown_key base.now.dimensions lines.now }
+{
+    if lacks_customer(base, lines) {
+        return Some(Cause::UnknownCustomer);
+    }
+    if lacks_supplier(base, lines) {
+        return Some(Cause::UnknownSupplier);
+    }
+    if lacks_part(base, lines) {
+        return Some(Cause::UnknownPart);
+    }
+    if lacks_date(base, lines) {
+        return Some(Cause::UnknownDate);
+    }
+    None
+}
+
+// Looks at an order's lines where so many lines are live. It answers how many are live with them.
+fn join(base: &Base, order: &Order, live: usize) -> Result<usize, Cause>
+    requires { live ≤ base.now.limits.lines }
+    ensures { (lines : List LineFields) → length lines ≡ live →
+        MatchResult result
+        (λ n. (order_cause base.now lines order.now ≡ None) × (n ≡ length lines + length order.now) × (n ≤ base.now.limits.lines))
+        (λ cause. order_cause base.now lines order.now ≡ Some cause) }
+{
+    let lines = order.lines();
+    if let Some(cause) = unknown_key(base, lines) {
+        return Err(cause);
+    }
+    let live = live + lines.len();
+    if live > base.limits().lines {
+        return Err(Cause::LinesFull);
+    }
+    Ok(live)
+}
+
+impl RowStore {
+    /// The loaded orders, and no commits.
+    pub fn new(alloc: Global, base: Arc<Base>) -> Result<RowStore, AllocError>
+        ensures { IfOk result (λ store. store ≡ record { base = base.value; log = [] }) }
+    {
+        let lines = base.lines();
+        let index = index_of(alloc, lines)?;
+        let mut orders = HashMap::new(alloc);
+        place_runs(&mut orders, lines, &index)?;
+        let line_count = lines.len();
+        Ok(RowStore {
+            base,
+            index,
+            orders,
+            line_count,
+            log: Vec::new(alloc),
+        })
+    }
+
+    /// The commits from the one after the first `n` on. `n` is at most `len()`.
+    pub fn log_from(&self, n: usize) -> &[Commit]
+        requires { n ≤ length self.now.log }
+        ensures commits { result.now ≡ drop n self.now.log }
+        ensures legal { IsLegal self.now.base self.now.log }
+    {
+        &self.log[n..]
+    }
+
+    /// The number of commits.
+    pub fn len(&self) -> usize
+        ensures { result ≡ length self.now.log }
+    {
+        self.log.len()
+    }
+
+    /// The base, which the store shares.
+    pub fn base(&self) -> &Base
+        ensures { result.now ≡ self.now.base }
+    {
+        &*self.base
+    }
+
+    /// The number of live lines.
+    pub fn line_count(&self) -> usize
+        ensures count { result ≡ length (lines_after self.now.base self.now.log) }
+        ensures few { result ≤ self.now.base.limits.lines }
+    {
+        self.line_count
+    }
+
+    /// The live lines of an order; none where no live line has the key.
+    pub fn lines_of(&self, key: u64) -> Option<OrderLines<'_>>
+        ensures absent { IsNone result ↔ (lines_of key (lines_after self.now.base self.now.log) ≡ []) }
+        ensures lines { IfSome result (λ order. order ≡ lines_of key (lines_after self.now.base self.now.log)) }
+    {
+        let place = *self.orders.get(&key)?;
+        match place.source {
+            Source::Loaded(first) => {
+                let first = first as usize;
+                let positions = &self.index[first..first + place.lines as usize];
+                Some(OrderLines::loaded(self.base.lines(), positions))
+            }
+            Source::Added { commit, action } => {
+                Some(OrderLines::added(order_at(&self.log, commit, action)))
+            }
+        }
+    }
+
+    /// The base and the commits.
+    pub fn into_parts(self) -> (Arc<Base>, Vec<Commit>)
+        ensures base { result.0.value ≡ self.base }
+        ensures log { result.1.items ≡ self.log }
+    {
+        let RowStore {
+            base,
+            index: _,
+            orders: _,
+            line_count: _,
+            log,
+        } = self;
+        (base, log)
+    }
+
+    /// Whether the refresh would be accepted, or its refusal: a full log, or the first action that is refused, each
+    /// looked at with the earlier ones in force. It takes no memory.
+    pub fn check(&self, refresh: &Refresh) -> Result<(), Refusal>
+        ensures { MatchResult result
+            (λ _. refusal_of self.now.base self.now.log refresh.now ≡ None)
+            (λ refusal. refusal_of self.now.base self.now.log refresh.now ≡ Some refusal) }
+    {
+        self.examine(refresh)?;
+        Ok(())
+    }
+
+    /// Applies all of the refresh, which becomes the next commit, or nothing. Memory is wanting only where `check`
+    /// accepts.
+    pub fn apply(&mut self, client: u32, refresh: Arc<Refresh>) -> Result<Receipt, ApplyError>
+        ensures accepted { OnOk result (refusal_of self.old.base self.old.log refresh.value ≡ None) }
+        ensures log { OnOk result (self.new ≡ with_commit self.old (record { client = client; actions = refresh.value })) }
+        ensures number { IfOk result (λ receipt. receipt.number ≡ length self.new.log) }
+        ensures failed { IfErr result (λ error. Fails error (refusal_of self.old.base self.old.log refresh.value)) }
+        ensures unchanged { OnErr result (self.new ≡ self.old) }
+    {
+        let line_count = match self.examine(&refresh) {
+            Ok(count) => count,
+            Err(refusal) => return Err(ApplyError::Refused(refusal)),
+        };
+        if self.log.reserve(1).is_err() {
+            return Err(ApplyError::OutOfMemory);
+        }
+        if self.orders.reserve(refresh.actions().len()).is_err() {
+            return Err(ApplyError::OutOfMemory);
+        }
+        let number = self.log.len();
+        place_all(&mut self.orders, refresh.actions(), number as u32);
+        self.log.push_reserved(Commit { client, refresh });
+        self.line_count = line_count;
+        Ok(Receipt {
+            number: number as u64 + 1,
+        })
+    }
+
+    // The same as `check`, and how many lines are live after the refresh.
+    fn examine(&self, refresh: &Refresh) -> Result<usize, Refusal>
+        ensures { MatchResult result
+            (λ n. (refusal_of self.now.base self.now.log refresh.now ≡ None)
+            × (n ≡ length (lines_after_refresh (lines_after self.now.base self.now.log) refresh.now))
+            × (n ≤ self.now.base.limits.lines))
+            (λ refusal. refusal_of self.now.base self.now.log refresh.now ≡ Some refusal) }
+    {
+        if self.log.len() as u64 >= self.base.limits().commits {
+            return Err(Refusal {
+                action: 0,
+                cause: Cause::LogFull,
+            });
+        }
+        let actions = refresh.actions();
+        let mut lines = self.line_count;
+        let mut number = 0;
+        for i in 0..actions.len() {
+            number += 1;
+            match self.look(&actions[..i], &actions[i], lines) {
+                Ok(count) => lines = count,
+                Err(cause) => {
+                    return Err(Refusal {
+                        action: number,
+                        cause,
+                    });
+                }
+            }
+        }
+        Ok(lines)
+    }
+
+    // Looks at an action after the earlier ones, which leave so many lines. It answers how many lines are live then.
+    fn look(&self, earlier: &[Action], action: &Action, live: usize) -> Result<usize, Cause>
+        requires few { length earlier.now ≤ 64 }
+        requires live { live ≡ length (lines_after_refresh (lines_after self.now.base self.now.log) earlier.now) }
+        requires limit { live ≤ self.now.base.limits.lines }
+        ensures { let now = lines_after_refresh (lines_after self.now.base self.now.log) earlier.now in
+            MatchResult result
+            (λ n. (cause_of self.now.base now action.now ≡ None)
+            × (n ≡ length (lines_after_action now action.now))
+            × (n ≤ self.now.base.limits.lines))
+            (λ cause. cause_of self.now.base now action.now ≡ Some cause) }
+    {
+        match action {
+            Action::Add(order) => {
+                let key = order.key();
+                let count = self.count(earlier, key);
+                if count > 0 {
+                    return Err(Cause::Present(key));
+                }
+                join(&self.base, order, live)
+            }
+            Action::Amend(order) => {
+                let key = order.key();
+                let count = self.count(earlier, key);
+                if count == 0 {
+                    return Err(Cause::AmendAbsent(key));
+                }
+                join(&self.base, order, live - count)
+            }
+            Action::Withdraw(key) => {
+                let count = self.count(earlier, *key);
+                if count == 0 {
+                    return Err(Cause::Absent(*key));
+                }
+                Ok(live - count)
+            }
+        }
+    }
+
+    // How many lines the order has after the earlier actions.
+    fn count(&self, earlier: &[Action], key: u64) -> usize
+        requires { length earlier.now ≤ 64 }
+        ensures { result ≡ length (lines_of key (lines_after_refresh (lines_after self.now.base self.now.log) earlier.now)) }
+    {
+        let held = self.orders.get(&key).map_or(0, |place| place.lines);
+        count_after(held, earlier, key) as usize
+    }
+}

@@ -1,0 +1,448 @@
+//! Worked examples of the rules, with answers that were written by hand.
+
+use crate::{ApplyError, Cause, Follower, PlainLines, Replica, RowStore};
+use ssb_schema::{
+    Action, Base, BaseError, BaseParts, Customer, CustomerFields, DateFields, DateRow, Limits,
+    Line, LineFields, Order, Part, PartFields, Refresh, Refused, Supplier, SupplierFields, Text,
+};
+use std::alloc::{AllocError, Global};
+use std::sync::Arc;
+use std::test::Fail;
+
+// The customer, supplier, part and date that a line names.
+type Keys = (u64, u64, u64, u64);
+
+const KNOWN: Keys = (3, 3, 4, 19971215);
+
+const NO_CUSTOMER: Keys = (8, 3, 4, 19971215);
+
+const NO_SUPPLIER: Keys = (3, 8, 4, 19971215);
+
+const NO_PART: Keys = (3, 3, 8, 19971215);
+
+const NO_DATE: Keys = (3, 3, 4, 19971216);
+
+// An action on the order of a key, with a line for each of these keys.
+#[derive(Clone, Copy)]
+enum Step<'a> {
+    Add(u64, &'a [Keys]),
+    Amend(u64, &'a [Keys]),
+    Withdraw(u64),
+}
+
+// The value, or its refusal as a failure of the test.
+fn made<T, F: Drop>(built: Result<T, Refused<F>>) -> Result<T, Fail> {
+    match built {
+        Ok(value) => Ok(value),
+        Err(refused) => Err(refused.fault)?,
+    }
+}
+
+fn blank(alloc: Global) -> Text {
+    Text::new(String::new(alloc))
+}
+
+fn line(alloc: Global, order_key: u64, line_number: u64, keys: Keys) -> Result<Line, Fail> {
+    let (customer_key, supplier_key, part_key, order_date) = keys;
+    made(Line::new(LineFields {
+        order_key,
+        line_number,
+        customer_key,
+        part_key,
+        supplier_key,
+        order_date,
+        order_priority: blank(alloc),
+        ship_priority: blank(alloc),
+        quantity: 1,
+        extended_price: 10,
+        order_total_price: 10,
+        discount: 0,
+        revenue: 10,
+        supply_cost: 2000,
+        tax: 0,
+        commit_date: 19971215,
+        ship_mode: blank(alloc),
+    }))
+}
+
+fn customer(alloc: Global, key: u64) -> Result<Customer, Fail> {
+    made(Customer::new(CustomerFields {
+        key,
+        name: blank(alloc),
+        address: blank(alloc),
+        city: blank(alloc),
+        nation: blank(alloc),
+        region: blank(alloc),
+        phone: blank(alloc),
+        market_segment: blank(alloc),
+    }))
+}
+
+fn supplier(alloc: Global, key: u64) -> Result<Supplier, Fail> {
+    made(Supplier::new(SupplierFields {
+        key,
+        name: blank(alloc),
+        address: blank(alloc),
+        city: blank(alloc),
+        nation: blank(alloc),
+        region: blank(alloc),
+        phone: blank(alloc),
+    }))
+}
+
+fn part(alloc: Global, key: u64) -> Result<Part, Fail> {
+    made(Part::new(PartFields {
+        key,
+        name: blank(alloc),
+        manufacturer: blank(alloc),
+        category: blank(alloc),
+        brand: blank(alloc),
+        color: blank(alloc),
+        part_type: blank(alloc),
+        size: blank(alloc),
+        container: blank(alloc),
+    }))
+}
+
+fn date(alloc: Global, key: u64) -> Result<DateRow, Fail> {
+    made(DateRow::new(DateFields {
+        key,
+        field2: blank(alloc),
+        field3: blank(alloc),
+        field4: blank(alloc),
+        year: 1997,
+        year_month_number: 199712,
+        year_month: blank(alloc),
+        field8: blank(alloc),
+        field9: blank(alloc),
+        field10: blank(alloc),
+        field11: blank(alloc),
+        week: 50,
+        field13: blank(alloc),
+        field14: blank(alloc),
+        field15: blank(alloc),
+        field16: blank(alloc),
+        field17: blank(alloc),
+    }))
+}
+
+// Customers 1 to 3, suppliers 1 to 3, parts 1 to 4, and four dates.
+fn customers(alloc: Global) -> Result<Vec<Customer>, Fail> {
+    let mut rows = Vec::new(alloc);
+    for key in 1..4 {
+        rows.push(customer(alloc, key)?)?;
+    }
+    Ok(rows)
+}
+
+fn suppliers(alloc: Global) -> Result<Vec<Supplier>, Fail> {
+    let mut rows = Vec::new(alloc);
+    for key in 1..4 {
+        rows.push(supplier(alloc, key)?)?;
+    }
+    Ok(rows)
+}
+
+fn parts(alloc: Global) -> Result<Vec<Part>, Fail> {
+    let mut rows = Vec::new(alloc);
+    for key in 1..5 {
+        rows.push(part(alloc, key)?)?;
+    }
+    Ok(rows)
+}
+
+fn dates(alloc: Global) -> Result<Vec<DateRow>, Fail> {
+    let mut rows = Vec::new(alloc);
+    for key in [19930101, 19940105, 19940208, 19971215] {
+        rows.push(date(alloc, key)?)?;
+    }
+    Ok(rows)
+}
+
+// The rows of the small data set, with these lines.
+fn base_of(alloc: Global, limits: Limits, lines: Vec<Line>) -> Result<Arc<Base>, Fail> {
+    let parts = BaseParts {
+        customers: customers(alloc)?,
+        suppliers: suppliers(alloc)?,
+        parts: parts(alloc)?,
+        dates: dates(alloc)?,
+        lines,
+    };
+    match Base::new(alloc, limits, parts) {
+        Ok(base) => Ok(Arc::new(alloc, base).map_err(AllocError::from)?),
+        Err(BaseError::Refused(refused)) => Err(refused.fault)?,
+        Err(BaseError::OutOfMemory(_)) => Err(AllocError)?,
+    }
+}
+
+// The small data set: order 1 of two lines, and orders 2 and 3 of one each.
+fn small(alloc: Global, limits: Limits) -> Result<Arc<Base>, Fail> {
+    let mut lines = Vec::new(alloc);
+    for (key, number, keys) in [
+        (1, 1, (2, 2, 2, 19930101)),
+        (1, 2, (2, 2, 3, 19930101)),
+        (2, 1, (1, 1, 1, 19971215)),
+        (3, 1, KNOWN),
+    ] {
+        lines.push(line(alloc, key, number, keys)?)?;
+    }
+    base_of(alloc, limits, lines)
+}
+
+fn order(alloc: Global, key: u64, keys: &[Keys]) -> Result<Order, Fail> {
+    let mut lines = Vec::new(alloc);
+    let mut number = 0u64;
+    for named in keys {
+        number = number.wrapping_add(1);
+        lines.push(line(alloc, key, number, *named)?)?;
+    }
+    made(Order::new(lines))
+}
+
+fn refresh(alloc: Global, steps: &[Step<'_>]) -> Result<Arc<Refresh>, Fail> {
+    let mut actions = Vec::new(alloc);
+    for step in steps {
+        let action = match step {
+            Step::Add(key, keys) => Action::Add(order(alloc, *key, keys)?),
+            Step::Amend(key, keys) => Action::Amend(order(alloc, *key, keys)?),
+            Step::Withdraw(key) => Action::Withdraw(*key),
+        };
+        actions.push(action)?;
+    }
+    let refresh = made(Refresh::new(actions))?;
+    Ok(Arc::new(alloc, refresh).map_err(AllocError::from)?)
+}
+
+// What a store replies to a refresh by client 1, as a line. Where memory is wanting, the store is as it was, and the same
+// refresh is tried once more.
+fn reply(store: &mut RowStore, told: &mut String, refresh: Arc<Refresh>) -> Result<(), Fail> {
+    let again = Arc::try_clone(&refresh)?;
+    let (commits, lines) = (store.len(), store.line_count());
+    match store.apply(1, refresh) {
+        Ok(receipt) => writeln!(told, "committed {}", receipt.number)?,
+        Err(ApplyError::Refused(refusal)) => {
+            writeln!(told, "refused {}: {}", refusal.action, refusal.cause)?
+        }
+        Err(ApplyError::OutOfMemory) => {
+            let same = store.len() == commits && store.line_count() == lines;
+            let accepted = store.check(&again).is_ok();
+            let number = store
+                .apply(1, again)
+                .map(|receipt| receipt.number)
+                .unwrap_or(0);
+            if same && accepted {
+                writeln!(told, "committed {number}")?
+            }
+        }
+    }
+    Ok(())
+}
+
+// The replies of a store of the small data set to these refreshes in turn, and how many lines are live then.
+fn replies(alloc: Global, limits: Option<Limits>, script: &[&[Step<'_>]]) -> Result<String, Fail> {
+    let limits = limits.unwrap_or(Limits::standard());
+    let mut store = RowStore::new(alloc, small(alloc, limits)?)?;
+    let mut told = String::new(alloc);
+    for steps in script {
+        reply(&mut store, &mut told, refresh(alloc, steps)?)?;
+    }
+    writeln!(told, "lines {}", store.line_count())?;
+    Ok(told)
+}
+
+// The line numbers and customers of an order's lines.
+fn lines_told(alloc: Global, store: &RowStore, key: u64) -> Result<String, Fail> {
+    let mut told = String::new(alloc);
+    if let Some(order) = store.lines_of(key) {
+        for place in 0..order.len() {
+            if let Some(line) = order.get(place) {
+                write!(told, "{}:{} ", line.line_number(), line.customer_key())?;
+            }
+        }
+    }
+    Ok(told)
+}
+
+const ADD_ONE: Step<'static> = Step::Add(1, &[KNOWN]);
+
+const ADD_NINE: Step<'static> = Step::Add(9, &[KNOWN]);
+
+const AMEND_ONE: Step<'static> = Step::Amend(1, &[KNOWN]);
+
+const AMEND_NINE: Step<'static> = Step::Amend(9, &[KNOWN]);
+
+const AGAIN: &[&[Step<'static>]] = &[&[ADD_ONE, Step::Withdraw(1)], &[Step::Withdraw(1), ADD_ONE]];
+
+#[test]
+fn withdrawn_order_is_added_again_in_one_refresh(rt: HostRuntime) -> Result<(), Fail> {
+    let told = replies(rt.alloc(), None, AGAIN)?;
+    assert_eq!(rt;
+        told.as_str(),
+        "refused 1: 41 Present 1\ncommitted 1\nlines 3\n"
+    );
+    Ok(())
+}
+
+const ABSENT: &[&[Step<'static>]] = &[&[ADD_NINE, Step::Withdraw(77)], &[ADD_NINE]];
+
+#[test]
+fn absent_order_refuses_the_whole_refresh(rt: HostRuntime) -> Result<(), Fail> {
+    let told = replies(rt.alloc(), None, ABSENT)?;
+    assert_eq!(rt;
+        told.as_str(),
+        "refused 2: 47 Absent 77\ncommitted 1\nlines 5\n"
+    );
+    Ok(())
+}
+
+const CAUSES: &[&[Step<'static>]] = &[
+    &[ADD_ONE],
+    &[Step::Add(9, &[KNOWN, NO_CUSTOMER])],
+    &[Step::Add(9, &[KNOWN, NO_SUPPLIER])],
+    &[Step::Add(9, &[KNOWN, NO_PART])],
+    &[Step::Add(9, &[KNOWN, NO_DATE])],
+    &[Step::Withdraw(77)],
+    &[AMEND_NINE],
+    &[Step::Amend(1, &[NO_CUSTOMER])],
+];
+
+#[test]
+fn each_cause_is_told(rt: HostRuntime) -> Result<(), Fail> {
+    let told = replies(rt.alloc(), None, CAUSES)?;
+    assert_eq!(rt;
+        told.as_str(),
+        "refused 1: 41 Present 1\nrefused 1: 42 UnknownCustomer\nrefused 1: 43 UnknownSupplier\nrefused 1: 44 UnknownPart\nrefused 1: 45 UnknownDate\nrefused 1: 47 Absent 77\nrefused 1: 48 AmendAbsent 9\nrefused 1: 42 UnknownCustomer\nlines 4\n"
+    );
+    Ok(())
+}
+
+const PAIRS: &[&[Step<'static>]] = &[
+    &[Step::Add(1, &[NO_CUSTOMER])],
+    &[Step::Add(9, &[NO_SUPPLIER, NO_CUSTOMER])],
+    &[Step::Add(9, &[NO_DATE])],
+    &[Step::Amend(9, &[NO_CUSTOMER])],
+    &[ADD_NINE, Step::Withdraw(77)],
+    &[Step::Withdraw(77), ADD_NINE],
+    &[Step::Withdraw(2), ADD_NINE, ADD_NINE],
+    &[Step::Withdraw(1), AMEND_ONE],
+];
+
+#[test]
+fn the_first_of_several_causes_is_told(rt: HostRuntime) -> Result<(), Fail> {
+    let told = replies(rt.alloc(), Limits::new(4, 4, 1), PAIRS)?;
+    assert_eq!(rt;
+        told.as_str(),
+        "refused 1: 41 Present 1\nrefused 1: 42 UnknownCustomer\nrefused 1: 45 UnknownDate\nrefused 1: 48 AmendAbsent 9\nrefused 1: 46 LinesFull\nrefused 1: 47 Absent 77\nrefused 3: 41 Present 9\nrefused 2: 48 AmendAbsent 1\nlines 4\n"
+    );
+    Ok(())
+}
+
+const FULL: &[&[Step<'static>]] = &[
+    &[ADD_NINE],
+    &[Step::Withdraw(2), Step::Add(9, &[KNOWN, KNOWN])],
+    &[Step::Amend(2, &[KNOWN, KNOWN])],
+    &[Step::Withdraw(2), ADD_NINE],
+    &[Step::Withdraw(77)],
+];
+
+#[test]
+fn four_lines_and_one_commit_are_the_limits(rt: HostRuntime) -> Result<(), Fail> {
+    let told = replies(rt.alloc(), Limits::new(4, 4, 1), FULL)?;
+    assert_eq!(rt;
+        told.as_str(),
+        "refused 1: 46 LinesFull\nrefused 2: 46 LinesFull\nrefused 1: 46 LinesFull\ncommitted 1\nrefused 0: 40 LogFull\nlines 4\n"
+    );
+    Ok(())
+}
+
+const AMEND: &[&[Step<'static>]] = &[&[Step::Amend(2, &[KNOWN])], &[AMEND_ONE]];
+
+#[test]
+fn amended_orders_do_not_count_their_old_lines(rt: HostRuntime) -> Result<(), Fail> {
+    let told = replies(rt.alloc(), Limits::new(4, 4, 2), AMEND)?;
+    assert_eq!(rt; told.as_str(), "committed 1\ncommitted 2\nlines 3\n");
+    Ok(())
+}
+
+#[test]
+fn order_nine_is_committed(rt: HostRuntime) -> Result<(), Fail> {
+    let alloc = rt.alloc();
+    let mut store = RowStore::new(alloc, small(alloc, Limits::standard())?)?;
+    let mut told = lines_told(alloc, &store, 9)?;
+    reply(&mut store, &mut told, refresh(alloc, &[ADD_NINE])?)?;
+    told.push_str(lines_told(alloc, &store, 9)?.as_str())?;
+    assert_eq!(rt; told.as_str(), "committed 1\n1:3 ");
+    let commits = store.len();
+    assert_eq!(rt;
+        (store.log_from(0).len(), store.log_from(commits).len()),
+        (1, 0)
+    );
+    let (base, log) = store.into_parts();
+    assert_eq!(rt; (base.lines().len(), log.len()), (4, 1));
+    Ok(())
+}
+
+// Four lines of three orders, which do not stand in the order of their keys.
+fn scattered(alloc: Global) -> Result<Vec<Line>, Fail> {
+    let mut lines = Vec::new(alloc);
+    for (key, number, customer) in [(3, 1, 1), (1, 2, 2), (2, 1, 3), (1, 1, 1)] {
+        lines.push(line(alloc, key, number, (customer, 1, 1, 19930101))?)?;
+    }
+    Ok(lines)
+}
+
+#[test]
+fn loaded_orders_may_be_scattered(rt: HostRuntime) -> Result<(), Fail> {
+    let alloc = rt.alloc();
+    let base = base_of(alloc, Limits::standard(), scattered(alloc)?)?;
+    let store = RowStore::new(alloc, base)?;
+    let told = lines_told(alloc, &store, 1)?;
+    assert_eq!(rt; told.as_str(), "2:2 1:1 ");
+    assert!(rt; store.lines_of(4).is_none());
+    Ok(())
+}
+
+// The order keys of the lines.
+fn keys_told(alloc: Global, lines: &[Line]) -> Result<String, Fail> {
+    let mut told = String::new(alloc);
+    for line in lines {
+        write!(told, "{} ", line.order_key())?;
+    }
+    Ok(told)
+}
+
+const THREE: &[Step<'static>] = &[AMEND_ONE, Step::Withdraw(2), ADD_NINE];
+
+#[test]
+fn plain_lines_follow_the_log(rt: HostRuntime) -> Result<(), Fail> {
+    let alloc = rt.alloc();
+    let base = small(alloc, Limits::standard())?;
+    let mut plain = PlainLines::new(alloc, Arc::try_clone(&base)?)?;
+    let mut store = RowStore::new(alloc, base)?;
+    store
+        .apply(1, refresh(alloc, THREE)?)
+        .map_err(|_| AllocError)?;
+    let before = plain.copy()?;
+    for commit in store.log_from(0) {
+        plain.absorb(commit)?;
+    }
+    let told = keys_told(alloc, plain.lines())?;
+    assert_eq!(rt; told.as_str(), "3 1 9 ");
+    assert_eq!(rt;
+        (before.commits(), plain.commits(), plain.taken()),
+        (0, 1, 1)
+    );
+    Ok(())
+}
+
+#[test]
+fn causes_have_their_numbers_and_names(rt: HostRuntime) -> Result<(), Fail> {
+    let told = format!(in rt.alloc();
+        "{} {} {}",
+        Cause::LogFull,
+        Cause::Present(1),
+        Cause::AmendAbsent(9)
+    )?;
+    assert_eq!(rt; told.as_str(), "40 LogFull 41 Present 1 48 AmendAbsent 9");
+    Ok(())
+}

@@ -1,0 +1,47 @@
+//! Why a record, a table or a base could not be read.
+
+ghost use Rattle.std.specs.Prelude.{◌≡◌};
+ghost use Rattle.ssb_load.specs.declared.error.LineFault.TheVariants.{OutOfMemory};
+
+use ssb_schema::{Column, SchemaFault, Table};
+use std::alloc::AllocError;
+use thiserror::Error;
+
+/// Why a record is no row of its table, or could not be made one.
+#[derive(Clone, Copy, Debug, PartialEq, Eq)]
+pub enum LineFault {
+    /// It has neither the table's number of fields nor one more that has no bytes.
+    FieldCount,
+    /// The field of a text column is no UTF-8.
+    NotUtf8(Column),
+    /// The field of a number column is no number of 64 bits.
+    NotANumber(Column),
+    /// The schema refuses the row.
+    Refused(SchemaFault),
+    OutOfMemory,
+}
+
+impl From<AllocError> for LineFault {
+    ghost from_gives = { λ _ e. e ≡ OutOfMemory };
+
+    fn from(_e: AllocError) -> LineFault {
+        LineFault::OutOfMemory
+    }
+}
+
+/// Why tables could not be loaded. Rows are numbered from 1, by record.
+#[derive(Debug, Drop, Error)]
+pub enum LoadError {
+    #[error("20 Read {0}")]
+    Read(Table),
+    #[error("21 FieldCount {0} {1}")]
+    FieldCount(Table, usize),
+    #[error("22 NotUtf8 {0} {1} {2}")]
+    NotUtf8(Table, usize, Column),
+    #[error("23 NotANumber {0} {1} {2}")]
+    NotANumber(Table, usize, Column),
+    #[error("24 Row {0} {1} {2}")]
+    Row(Table, usize, SchemaFault),
+    #[error("out of memory")]
+    OutOfMemory,
+}

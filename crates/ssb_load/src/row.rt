@@ -1,0 +1,59 @@
+//! A row of any of the five tables, read from a record.
+
+ghost use Rattle.std.specs.Prelude.{◌≡◌, ◌≤◌, ◌-◌, List, [], get_or};
+ghost use Rattle.csv.specs.Records.{fields_of};
+ghost use Rattle.ssb_schema.specs.declared.table.Table.{Table};
+ghost use Rattle.ssb_schema.specs.Columns.{Value};
+ghost use Rattle.ssb_load.specs.Row.{Gives, number_at, row_of, text_at};
+
+use crate::error::LineFault;
+use crate::field::{number, text, trimmed};
+use crate::records::field_at;
+use csv::ByteRecord;
+use ssb_schema::{Column, Table, Text};
+use std::alloc::Global;
+
+/// A row type of a table.
+pub(crate) trait TableRow: Drop {
+    // The values of its columns, in order.
+    ghost values: { Self → List Value };
+
+    ghost of_table: { Table };
+
+    /// The table whose rows these are.
+    fn table() -> Table
+        ensures { result ≡ of_table };
+
+    /// The row that a record spells, or the record's first fault.
+    fn read(alloc: Global, fields: &ByteRecord) -> Result<Self, LineFault>
+        ensures { Gives values result (row_of of_table (fields_of fields.now)) };
+}
+
+// The number that a record spells in a column. Inlined, since a row reads a dozen: each result would else
+// go through memory, which is a tenth of a load's time.
+#[inline(always)]
+#[tactic(auto, unfolding(crate::specs::Row::number_at))]
+pub(crate) fn read_number(fields: &ByteRecord, column: Column) -> Result<u64, LineFault>
+    requires { 1 ≤ column.place }
+    ensures { Gives (λ n. n) result (number_at column (get_or (fields_of fields.now) (column.place - 1) [])) }
+{
+    let field = field_at(fields, column.place - 1);
+    number(trimmed(field)).ok_or(LineFault::NotANumber(column))
+}
+
+// The text that a record spells in a column.
+#[tactic(auto, unfolding(crate::specs::Row::text_at))]
+pub(crate) fn read_text(
+    alloc: Global,
+    fields: &ByteRecord,
+    column: Column,
+) -> Result<Text, LineFault>
+    requires { 1 ≤ column.place }
+    ensures { Gives (λ t. t) result (text_at column (get_or (fields_of fields.now) (column.place - 1) [])) }
+{
+    let field = field_at(fields, column.place - 1);
+    match text(trimmed(field)) {
+        Some(text) => Ok(Text::from_str(alloc, text)?),
+        None => Err(LineFault::NotUtf8(column)),
+    }
+}

@@ -1,0 +1,344 @@
+//! The small data set, its variants, and the texts of faults.
+
+use super::*;
+use csv::ByteRecord;
+use ssb_schema::{Base, Fact, Limits};
+use std::alloc::Global;
+use std::io;
+use std::io::Read;
+use std::process::Abort;
+use std::test::Fail;
+
+const CUSTOMERS: &str = "\
+1|C1|a|UNITED KI1|UNITED KINGDOM|EUROPE|p|m|
+2|C2|a|CHINA    0|CHINA|ASIA|p|m|
+3|C3|a|UNITED ST4|UNITED STATES|AMERICA|p|m|
+";
+
+const SUPPLIERS: &str = "\
+1|S1|a|UNITED KI5|UNITED KINGDOM|EUROPE|p|
+2|S2|a|JAPAN    3|JAPAN|ASIA|p|
+3|S3|a|UNITED ST7|UNITED STATES|AMERICA|p|
+";
+
+const PARTS: &str = "\
+1|P1|MFGR#1|MFGR#12|MFGR#121|c|t|1|b|
+2|P2|MFGR#2|MFGR#22|MFGR#2221|c|t|1|b|
+3|P3|MFGR#2|MFGR#22|MFGR#222|c|t|1|b|
+4|P4|MFGR#1|MFGR#14|MFGR#1440|c|t|1|b|
+";
+
+const DATES: &str = "\
+19930101|d|w|m|1993|199301|Jan1993|1|1|1|1|1|s|0|0|0|1|
+19940105|d|w|m|1994|199401|Jan1994|1|1|1|1|1|s|0|0|0|1|
+19940208|d|w|m|1994|199402|Feb1994|1|1|1|1|6|s|0|0|0|1|
+19971215|d|w|m|1997|199712|Dec1997|1|1|1|1|50|s|0|0|0|1|
+";
+
+const LINES: &str = "\
+1|1|2|2|2|19930101|o|0|24|1000|3000|3|970|600|0|19930101|AIR|
+1|2|2|3|2|19930101|o|0|25|2000|3000|1|1980|1200|0|19930101|AIR|
+2|1|1|1|1|19971215|o|0|10|500|500|0|500|700|0|19971215|AIR|
+3|1|3|4|3|19971215|o|0|30|800|800|5|760|100|0|19971215|AIR|
+";
+
+// A file: some bytes, a read that fails, or one row again and again.
+#[derive(Drop)]
+enum File<'a> {
+    Bytes(&'a [u8]),
+    Broken,
+    Endless(&'a [u8]),
+}
+
+impl<'a> Read for File<'a> {
+    fn read(&mut self, buf: &mut [u8]) -> io::Result<usize> {
+        match self {
+            File::Bytes(bytes) => bytes.read(buf),
+            File::Broken => Err(io::Error::from(io::ErrorKind::BrokenPipe)),
+            File::Endless(row) => {
+                let mut again: &[u8] = row;
+                again.read(buf)
+            }
+        }
+    }
+}
+
+// The small data set with these files in place of its own.
+fn files<'a>(customer: File<'a>, supplier: File<'a>, lineorder: File<'a>) -> Tables<File<'a>> {
+    let part = File::Bytes(PARTS.as_bytes());
+    let date = File::Bytes(DATES.as_bytes());
+    Tables {
+        customer,
+        supplier,
+        part,
+        date,
+        lineorder,
+    }
+}
+
+fn with_customers(customer: File<'_>) -> Tables<File<'_>> {
+    let supplier = File::Bytes(SUPPLIERS.as_bytes());
+    files(customer, supplier, File::Bytes(LINES.as_bytes()))
+}
+
+fn with_lines(lineorder: File<'_>) -> Tables<File<'_>> {
+    let customer = File::Bytes(CUSTOMERS.as_bytes());
+    files(customer, File::Bytes(SUPPLIERS.as_bytes()), lineorder)
+}
+
+fn limits() -> Result<Limits, Fail> {
+    Ok(Limits::new(4, 4, 1).ok_or("limits")?)
+}
+
+// Why the tables are no base.
+fn fault_of(alloc: Global, tables: Tables<File<'_>>) -> Result<String, Fail> {
+    match load(alloc, limits()?, tables) {
+        Ok(_) => Err("loaded")?,
+        Err(e) => Ok(e.to_string(alloc)?),
+    }
+}
+
+// The same, where one text of a file stands for another.
+fn customer_fault(alloc: Global, from: &str, to: &str) -> Result<String, Fail> {
+    let text = CUSTOMERS.replace(alloc, from, to)?;
+    fault_of(alloc, with_customers(File::Bytes(text.as_bytes())))
+}
+
+fn line_fault(alloc: Global, from: &str, to: &str) -> Result<String, Fail> {
+    let text = LINES.replace(alloc, from, to)?;
+    fault_of(alloc, with_lines(File::Bytes(text.as_bytes())))
+}
+
+fn assert_small(rt: &impl Abort, base: &Base) {
+    let lines = base.lines();
+    assert_eq!(rt; lines.len(), 4);
+    let third = Fact {
+        order_key: 2,
+        customer: 1,
+        supplier: 1,
+        part: 1,
+        date: 19971215,
+        quantity: 10,
+        discount: 0,
+        price: 500,
+        revenue: 500,
+        cost: 700,
+    };
+    assert_eq!(rt; lines[2].fact(), third);
+    assert_eq!(rt; lines[3].ship_mode().as_str(), "AIR");
+    let customers = base.customers();
+    assert_eq!(rt; customers.len(), 3);
+    assert_eq!(rt; customers[1].city().as_str(), "CHINA    0");
+    assert_eq!(rt; customers[2].market_segment().as_str(), "m");
+    let suppliers = base.suppliers();
+    assert_eq!(rt; suppliers.len(), 3);
+    assert_eq!(rt; suppliers[2].phone().as_str(), "p");
+    let parts = base.parts();
+    assert_eq!(rt; parts.len(), 4);
+    assert_eq!(rt; parts[3].container().as_str(), "b");
+    let dates = base.dates();
+    assert_eq!(rt; dates.len(), 4);
+    assert_eq!(rt; dates[3].week(), 50);
+    assert_eq!(rt; dates[3].field17().as_str(), "1");
+}
+
+// The small data set with another end of each record.
+fn load_with_ends(alloc: Global, end: &str) -> Result<Base, Fail> {
+    let customers = CUSTOMERS.replace(alloc, "|\n", end)?;
+    let suppliers = SUPPLIERS.replace(alloc, "|\n", end)?;
+    let parts = PARTS.replace(alloc, "|\n", end)?;
+    let dates = DATES.replace(alloc, "|\n", end)?;
+    let lines = LINES.replace(alloc, "|\n", end)?;
+    let tables = Tables {
+        customer: customers.as_bytes(),
+        supplier: suppliers.as_bytes(),
+        part: parts.as_bytes(),
+        date: dates.as_bytes(),
+        lineorder: lines.as_bytes(),
+    };
+    Ok(load(alloc, limits()?, tables)?)
+}
+
+#[test]
+fn all_ends_of_records_spell_one_base(rt: HostRuntime) -> Result<(), Fail> {
+    for end in ["|\n", "\n", "|\r\n", "\r\n", "|\r", "|\n\n\r\n"] {
+        assert_small(&rt, &load_with_ends(rt.alloc(), end)?);
+    }
+    Ok(())
+}
+
+#[test]
+fn byte_order_mark_and_spaces_at_ends_are_dropped(rt: HostRuntime) -> Result<(), Fail> {
+    let customers = CUSTOMERS.replace(rt.alloc(), "1|C1|", "\u{feff}1  |C1|")?;
+    let lines = LINES.replace(rt.alloc(), "|AIR|", "|AIR   |")?;
+    let tables = files(
+        File::Bytes(customers.as_bytes()),
+        File::Bytes(SUPPLIERS.as_bytes()),
+        File::Bytes(lines.as_bytes()),
+    );
+    assert_small(&rt, &load(rt.alloc(), limits()?, tables)?);
+    Ok(())
+}
+
+#[test]
+fn empty_lineorder_file_makes_a_base(rt: HostRuntime) -> Result<(), Fail> {
+    let base = load(rt.alloc(), limits()?, with_lines(File::Bytes(b"")))?;
+    assert_eq!(rt; base.lines().len(), 0);
+    assert_eq!(rt; base.dates().len(), 4);
+    Ok(())
+}
+
+#[test]
+fn short_and_cut_records_are_refused(rt: HostRuntime) -> Result<(), Fail> {
+    let alloc = rt.alloc();
+    let sixteen = line_fault(alloc, "0|19930101|AIR|\n2|", "0|19930101\n2|")?;
+    assert_eq!(rt; sixteen.as_str(), "21 FieldCount lineorder 2");
+    let cut = line_fault(
+        alloc,
+        "|3|19971215|o|0|30|800|800|5|760|100|0|19971215|AIR|\n",
+        "",
+    )?;
+    assert_eq!(rt; cut.as_str(), "21 FieldCount lineorder 4");
+    let spaces = line_fault(alloc, "AIR|\n2|1|", "AIR| \n2|1|")?;
+    assert_eq!(rt; spaces.as_str(), "21 FieldCount lineorder 2");
+    Ok(())
+}
+
+#[test]
+fn name_may_have_64_bytes(rt: HostRuntime) -> Result<(), Fail> {
+    let alloc = rt.alloc();
+    let name = "0123456789012345678901234567890123456789012345678901234567890123";
+    let customers = CUSTOMERS.replace(alloc, "C2", name)?;
+    let tables = with_customers(File::Bytes(customers.as_bytes()));
+    let base = load(alloc, limits()?, tables)?;
+    assert_eq!(rt; base.customers().len(), 3);
+    assert_eq!(rt; base.customers()[1].name().as_str(), name);
+    let longer = format!(in alloc; "{name}4")?;
+    let fault = customer_fault(alloc, "C2", longer.as_str())?;
+    assert_eq!(rt; fault.as_str(), "24 Row customer 2 11 FieldTooLong C_NAME");
+    Ok(())
+}
+
+#[test]
+fn numbers_are_1_to_20_digits_of_64_bits(rt: HostRuntime) {
+    assert_eq!(rt; number(b"18446744073709551615"), Some(18446744073709551615));
+    assert_eq!(rt; number(b"00000000000000000007"), Some(7));
+    assert_eq!(rt; number(b"18446744073709551616"), None);
+    assert_eq!(rt; number(b"000000000000000000007"), None);
+    assert_eq!(rt; number(b""), None);
+    assert_eq!(rt; number(b" 7"), None);
+    assert_eq!(rt; number(b"+7"), None);
+    assert_eq!(rt; trimmed(b" 7 \t  "), b" 7 \t".as_slice());
+    assert_eq!(rt; text(b"\xc3\xa9"), Some("\u{e9}"));
+    assert_eq!(rt; text(b"\xff"), None);
+}
+
+#[test]
+fn fields_that_spell_nothing_are_refused(rt: HostRuntime) -> Result<(), Fail> {
+    let alloc = rt.alloc();
+    let quantity = line_fault(alloc, "|24|", "|x|")?;
+    assert_eq!(rt; quantity.as_str(), "23 NotANumber lineorder 1 LO_QUANTITY");
+    let digits = line_fault(alloc, "\n3|1|", "\n000000000000000000003|1|")?;
+    assert_eq!(rt; digits.as_str(), "23 NotANumber lineorder 4 LO_ORDERKEY");
+    let suppliers = File::Bytes(b"1|S1|a|c|n|r|p|\n2|S\xff|a|c|n|r|p|\n");
+    let customers = File::Bytes(CUSTOMERS.as_bytes());
+    let name = fault_of(alloc, files(customers, suppliers, File::Bytes(b"")))?;
+    assert_eq!(rt; name.as_str(), "22 NotUtf8 supplier 2 S_NAME");
+    Ok(())
+}
+
+#[test]
+fn rows_past_their_limits_are_refused(rt: HostRuntime) -> Result<(), Fail> {
+    let alloc = rt.alloc();
+    let quantity = line_fault(alloc, "|24|", "|51|")?;
+    assert_eq!(rt;
+        quantity.as_str(),
+        "24 Row lineorder 1 10 OutOfRange LO_QUANTITY"
+    );
+    let limits = Limits::new(3, 4, 1).ok_or("limits")?;
+    let lines = File::Bytes(LINES.as_bytes());
+    let parts = load(alloc, limits, with_lines(lines))
+        .err()
+        .ok_or("loaded")?;
+    assert_eq!(rt;
+        parts.to_string(alloc)?.as_str(),
+        "24 Row part 4 9 TooManyRows part"
+    );
+    let endless = File::Endless(b"1|C1|a|c|n|r|p|m|\n");
+    let customers = fault_of(alloc, with_customers(endless))?;
+    assert_eq!(rt;
+        customers.as_str(),
+        "24 Row customer 5 9 TooManyRows customer"
+    );
+    Ok(())
+}
+
+#[test]
+fn faults_between_rows_come_after_all_files(rt: HostRuntime) -> Result<(), Fail> {
+    let alloc = rt.alloc();
+    let unknown = line_fault(alloc, "1|1|2|2|2|", "1|1|8|2|2|")?;
+    assert_eq!(rt;
+        unknown.as_str(),
+        "24 Row lineorder 1 8 UnknownKey 1 customer"
+    );
+    let line = line_fault(alloc, "1|2|2|3|2|", "1|1|2|3|2|")?;
+    assert_eq!(rt;
+        line.as_str(),
+        "24 Row lineorder 2 7 KeyRepeated lineorder 2"
+    );
+    let customer = customer_fault(alloc, "2|C2|", "1|C2|")?;
+    assert_eq!(rt;
+        customer.as_str(),
+        "24 Row customer 2 7 KeyRepeated customer 2"
+    );
+    let broken = fault_of(alloc, with_lines(File::Broken))?;
+    assert_eq!(rt; broken.as_str(), "20 Read lineorder");
+    Ok(())
+}
+
+#[test]
+fn line_is_read_from_its_fields(rt: HostRuntime) -> Result<(), Fail> {
+    let fields: [&[u8]; 18] = [
+        b"9",
+        b"1",
+        b"3",
+        b"4",
+        b"3",
+        b"19971215",
+        b"o",
+        b"0",
+        b"1",
+        b"10",
+        b"10",
+        b"0",
+        b"10",
+        b"2000",
+        b"0",
+        b"19971215",
+        b"AIR  ",
+        b"",
+    ];
+    let line = line_of(rt.alloc(), &fields).ok().ok_or("refused")?;
+    assert_eq!(rt; line.order_key(), 9);
+    assert_eq!(rt; line.supply_cost(), 2000);
+    assert_eq!(rt; line.ship_mode().as_str(), "AIR");
+    let without = line_of(rt.alloc(), &fields[..17]).ok().ok_or("refused")?;
+    assert_eq!(rt; without.fact(), line.fact());
+    let short = line_of(rt.alloc(), &fields[..16]).err();
+    assert_eq!(rt; short, Some(LineFault::FieldCount));
+    Ok(())
+}
+
+#[test]
+fn script_is_read_record_by_record(rt: HostRuntime) -> Result<(), Fail> {
+    let text: &[u8] = b"query|Q4.1 |\n\nbegin";
+    let mut reader = record_reader(rt.alloc(), text);
+    let mut fields = ByteRecord::new(rt.alloc());
+    assert_eq!(rt; next_record(&mut reader, &mut fields), Ok(true));
+    assert!(rt; has_columns(&fields, 2));
+    assert_eq!(rt; field_at(&fields, 1), b"Q4.1 ".as_slice());
+    assert_eq!(rt; next_record(&mut reader, &mut fields), Ok(true));
+    assert!(rt; has_columns(&fields, 1));
+    assert_eq!(rt; next_record(&mut reader, &mut fields), Ok(false));
+    Ok(())
+}

@@ -1,0 +1,10 @@
+-- The text of a piece of a line.
+use Rattle.std.specs.Prelude.{ℕ, List, codes, decimal, None, Some}
+use Rattle.ssb_report.specs.Numbers.{sum_text}
+use Rattle.ssb_report.specs.declared.piece.Piece.{Piece}
+use Rattle.ssb_report.specs.declared.piece.Piece.TheVariants.{Text, Number, Sum}
+
+abbrev pub piece_text : Piece → List ℕ
+piece_text (Text text) = text.now
+piece_text (Number number) = decimal number
+piece_text (Sum sum) = sum_text sum

@@ -1,0 +1,5 @@
+pub mod Errors
+pub mod Lines
+pub mod Requests
+pub mod Scripts
+pub mod Steps

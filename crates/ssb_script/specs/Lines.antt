@@ -1,0 +1,190 @@
+-- What one record of a script spells.
+use Rattle.std.specs.Prelude.{ℕ, ◌+◌, ◌^◌, Bool, true, false, List, [], ◌∷◌, length, get_or, drop, find, codes, Option, Some, None, is_none, option_map, Result, Ok, Err, nat_eq, nat_lt, if◌then◌else◌}
+use Rattle.std.specs.Option.{option_and_then}
+use Rattle.std.specs.Cmp.Lexicographic.{pointwise}
+use Rattle.ssb_schema.specs.Columns as columns
+use Rattle.ssb_schema.specs.declared.table.Table.TheVariants as table
+use Rattle.ssb_schema.specs.declared.line.LineFields.{LineFields}
+use Rattle.ssb_load.specs.Records.{has_columns}
+use Rattle.ssb_load.specs.Row.{row_of}
+use Rattle.ssb_load.specs.Spelling.{number_of, text_of, without_spaces}
+use Rattle.ssb_load.specs.declared.error.LineFault.{LineFault}
+use Rattle.ssb_load.specs.declared.error.LineFault.TheVariants as row
+use Rattle.ssb_plans.specs.Kind.{constant_kinds}
+use Rattle.ssb_plans.specs.Queries.{standard_constants}
+use Rattle.ssb_plans.specs.Query.{name_of}
+use Rattle.ssb_plans.specs.Question.{constants_fault}
+use Rattle.ssb_plans.specs.declared.kind.ConstantKind.{ConstantKind}
+use Rattle.ssb_plans.specs.declared.kind.ConstantKind.TheVariants as kind
+use Rattle.ssb_plans.specs.declared.query.Query.{Query as Named}
+use Rattle.ssb_plans.specs.declared.query.TheConstants.{QUERIES}
+use Rattle.ssb_plans.specs.declared.value.Value.{Value}
+use Rattle.ssb_plans.specs.declared.value.Value.TheVariants as value
+use Rattle.ssb_schema.specs.declared.fault.SchemaFault.{SchemaFault}
+use Rattle.ssb_script.specs.declared.control.Control.{Control}
+use Rattle.ssb_script.specs.declared.control.Control.TheVariants as control
+use Rattle.ssb_script.specs.declared.control.Opening.{Opening}
+use Rattle.ssb_script.specs.declared.control.Opening.TheVariants.{Add, Amend}
+use Rattle.ssb_script.specs.declared.order_line.OrderLine.{OrderLine}
+use Rattle.ssb_script.specs.declared.order_line.OrderLine.TheVariants as order_line
+use Rattle.ssb_script.specs.declared.word.TheConstants.{WORDS}
+use Rattle.ssb_script.specs.declared.word.Word.{Word}
+use Rattle.ssb_script.specs.declared.word.Word.TheVariants as word
+
+-- what a record may say
+pub data ScriptLine : Type 0 where
+  Query : Named × List Value → ScriptLine
+  Begin : ScriptLine
+  Open : Opening → ScriptLine
+  Line : LineFields → ScriptLine
+  Withdraw : ℕ → ScriptLine
+  Commit : ScriptLine
+
+-- why a record says nothing: it is none of a script's, or the schema refuses its line
+pub data RecordFault : Type 0 where
+  Bad : RecordFault
+  Refused : SchemaFault → RecordFault
+
+-- a record's field at a place, counted from 0, without the spaces at its end
+abbrev pub field : List (List ℕ) → ℕ → List ℕ
+field fields place = without_spaces (get_or fields place [])
+
+-- the words that a record may begin with
+abbrev pub spelling_of : Word → List ℕ
+spelling_of word.Query = codes "query"
+spelling_of word.Begin = codes "begin"
+spelling_of word.Add = codes "add"
+spelling_of word.Amend = codes "amend"
+spelling_of word.Line = codes "line"
+spelling_of word.Withdraw = codes "withdraw"
+spelling_of word.Commit = codes "commit"
+
+abbrev pub word_spelled : List ℕ → Option Word
+word_spelled bytes = find (λ word. pointwise nat_eq (spelling_of word) bytes) WORDS
+
+-- the word of a record, if its first field is one
+unfoldable pub word_of : List (List ℕ) → Option Word
+word_of fields = word_spelled (field fields 0)
+
+-- the query that bytes name
+abbrev pub query_named : List ℕ → Option Named
+query_named name = find (λ query. pointwise nat_eq (name_of query) name) QUERIES
+
+-- the constant of a kind that bytes spell: a text, or a number of 32 bits
+abbrev pub constant_spelled : ConstantKind → List ℕ → Option Value
+constant_spelled (kind.Text column) bytes = option_map value.Text (text_of bytes)
+constant_spelled kind.Number bytes = option_and_then (λ n. if nat_lt n (2 ^ 32) then Some (value.Number n) else None) (number_of bytes)
+
+-- the constants of these kinds that the fields from a place on spell, where each spells one
+unfoldable pub constants_from : ℕ → List ConstantKind → List (List ℕ) → Option (List Value)
+constants_from place [] fields = Some []
+constants_from place (kind ∷ kinds) fields =
+    option_and_then (λ constant. option_map (λ rest. constant ∷ rest) (constants_from (place + 1) kinds fields)) (constant_spelled kind (field fields place))
+
+-- constants that a query takes
+abbrev pub taken_by : Named → List Value → Option (List Value)
+taken_by query constants = if is_none (constants_fault query constants) then Some constants else None
+
+-- the constants of a query: those that it has where none are given, or one in each field after its name
+unfoldable pub constants_of : Named → List (List ℕ) → Option (List Value)
+constants_of query fields =
+    if has_columns 2 fields then Some (standard_constants query)
+    else if has_columns (2 + length (constant_kinds query)) fields then option_and_then (taken_by query) (constants_from 2 (constant_kinds query) fields)
+    else None
+
+-- the query that a record names, with its constants
+abbrev pub question_of : List (List ℕ) → Option (Named × List Value)
+question_of fields = option_and_then (λ query. option_map (λ constants. (query, constants)) (constants_of query fields)) (query_named (field fields 1))
+
+-- the number, or the text, that stands in a place of a row's values
+abbrev pub number_value : columns.Value → ℕ
+number_value (columns.Number n) = n
+number_value (columns.Text bytes) = 0
+
+abbrev pub text_value : columns.Value → List ℕ
+text_value (columns.Number n) = []
+text_value (columns.Text bytes) = bytes
+
+abbrev pub number_in : List columns.Value → ℕ → ℕ
+number_in values place = number_value (get_or values place (columns.Number 0))
+
+abbrev pub text_in : List columns.Value → ℕ → List ℕ
+text_in values place = text_value (get_or values place (columns.Text []))
+
+-- the line of an order that has these values in the columns of lineorder
+abbrev pub line_with : List columns.Value → LineFields
+line_with values = record {
+  order_key = number_in values 0;
+  line_number = number_in values 1;
+  customer_key = number_in values 2;
+  part_key = number_in values 3;
+  supplier_key = number_in values 4;
+  order_date = number_in values 5;
+  order_priority = text_in values 6;
+  ship_priority = text_in values 7;
+  quantity = number_in values 8;
+  extended_price = number_in values 9;
+  order_total_price = number_in values 10;
+  discount = number_in values 11;
+  revenue = number_in values 12;
+  supply_cost = number_in values 13;
+  tax = number_in values 14;
+  commit_date = number_in values 15;
+  ship_mode = text_in values 16;
+}
+
+-- the line of an order whose columns are these fields; a schema's refusal is told, any other fault is a bad record
+abbrev pub line_or_refusal : Result (List columns.Value) LineFault → Result ScriptLine RecordFault
+line_or_refusal (Ok values) = Ok (Line (line_with values))
+line_or_refusal (Err (row.Refused why)) = Err (Refused why)
+line_or_refusal (Err row.FieldCount) = Err Bad
+line_or_refusal (Err (row.NotUtf8 column)) = Err Bad
+line_or_refusal (Err (row.NotANumber column)) = Err Bad
+line_or_refusal (Err row.OutOfMemory) = Err Bad
+
+-- a record that spells this, if it spells anything
+abbrev pub line_or_bad : Option ScriptLine → Result ScriptLine RecordFault
+line_or_bad (Some spelled) = Ok spelled
+line_or_bad None = Err Bad
+
+-- a record that has no more than its word
+abbrev pub alone : ScriptLine → List (List ℕ) → Option ScriptLine
+alone spelled fields = if has_columns 1 fields then Some spelled else None
+
+-- the key that a record gives
+abbrev pub key_of : List (List ℕ) → Option ℕ
+key_of fields = if has_columns 2 fields then number_of (field fields 1) else None
+
+-- what a record of this word spells in its fields
+abbrev pub line_after : Option Word → List (List ℕ) → Result ScriptLine RecordFault
+line_after None fields = Err Bad
+line_after (Some word.Query) fields = line_or_bad (option_map Query (question_of fields))
+line_after (Some word.Begin) fields = line_or_bad (alone Begin fields)
+line_after (Some word.Add) fields = line_or_bad (alone (Open Add) fields)
+line_after (Some word.Amend) fields = line_or_bad (alone (Open Amend) fields)
+line_after (Some word.Line) fields = line_or_refusal (row_of table.Lineorder (drop 1 fields))
+line_after (Some word.Withdraw) fields = line_or_bad (option_map Withdraw (key_of fields))
+line_after (Some word.Commit) fields = line_or_bad (alone Commit fields)
+
+-- whether a record is a `line`, which goes by its word alone
+abbrev pub is_line : Option Word → Bool
+is_line (Some word.Line) = true
+is_line _ = false
+
+-- what a record spells
+unfoldable pub line_of : List (List ℕ) → Result ScriptLine RecordFault
+line_of fields = line_after (word_of fields) fields
+
+-- what a `line` record says
+abbrev pub line_of_row : OrderLine → Result ScriptLine RecordFault
+line_of_row (order_line.Read row) = Ok (Line row)
+line_of_row (order_line.Refused why) = Err (Refused why)
+line_of_row order_line.Bad = Err Bad
+
+-- what a record that is no `line` says
+abbrev pub line_of_control : Control → ScriptLine
+line_of_control (control.Query question) = Query question
+line_of_control control.Begin = Begin
+line_of_control (control.Open opening) = Open opening
+line_of_control (control.Withdraw key) = Withdraw key
+line_of_control control.Commit = Commit

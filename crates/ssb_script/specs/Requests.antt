@@ -1,0 +1,59 @@
+-- What a script asks of the warehouse, and the lines that spell it.
+use Rattle.std.specs.Prelude.{◌≡◌, ◌++◌, List, [], ◌∷◌, All, None, map}
+use Rattle.std.specs.List.{flat_map}
+use Rattle.ssb_plans.specs.declared.query.Query.{Query as Named}
+use Rattle.ssb_plans.specs.declared.value.Value.{Value}
+use Rattle.ssb_schema.specs.Orders.{order_fault}
+use Rattle.ssb_schema.specs.Refreshes.{refresh_fault}
+use Rattle.ssb_schema.specs.declared.line.LineFields.{LineFields}
+use Rattle.ssb_schema.specs.declared.refresh.Action.{Action}
+use Rattle.ssb_schema.specs.declared.refresh.Action.TheVariants as action
+use Rattle.ssb_script.specs.declared.block.Block.{Block}
+use Rattle.ssb_script.specs.declared.block.Block.TheVariants as block
+use Rattle.ssb_script.specs.declared.block.Script.{Script}
+use Rattle.ssb_script.specs.Lines.{ScriptLine}
+use Rattle.ssb_script.specs.Lines as line
+use Rattle.ssb_script.specs.declared.control.Opening.{Opening}
+use Rattle.ssb_script.specs.declared.control.Opening.TheVariants.{Add, Amend}
+
+-- what a block asks: the actions of a refresh, or a query with its constants
+pub data Request : Type 0 where
+  Refresh : List Action → Request
+  Ask : Named × List Value → Request
+
+abbrev pub request_of : Block → Request
+request_of (block.Refresh refresh) = Refresh refresh.value
+request_of (block.Ask question) = Ask question
+
+-- the requests of a script, in order
+abbrev pub requests_of : Script → List Request
+requests_of script = map request_of script.blocks.items
+
+-- the lines of a script that spell an action, a refresh, a request
+abbrev pub lines_of_action : Action → List ScriptLine
+lines_of_action (action.Add order) = line.Open Add ∷ map line.Line order
+lines_of_action (action.Amend order) = line.Open Amend ∷ map line.Line order
+lines_of_action (action.Withdraw key) = line.Withdraw key ∷ []
+
+abbrev pub lines_of_request : Request → List ScriptLine
+lines_of_request (Refresh actions) = line.Begin ∷ (flat_map lines_of_action actions ++ line.Commit ∷ [])
+lines_of_request (Ask question) = line.Query question ∷ []
+
+abbrev pub lines_of_requests : List Request → List ScriptLine
+lines_of_requests requests = flat_map lines_of_request requests
+
+-- the action of an order that began so
+abbrev pub action_of : Opening → List LineFields → Action
+action_of Add order = action.Add order
+action_of Amend order = action.Amend order
+
+-- the order of an action is one: it has one to seven lines of one key, with distinct numbers
+abbrev pub IsWholeAction : Action → Type 0
+IsWholeAction (action.Add order) = order_fault order ≡ None
+IsWholeAction (action.Amend order) = order_fault order ≡ None
+IsWholeAction (action.Withdraw key) = Unit {0}
+
+-- a refresh has 1 to 64 actions, on orders
+abbrev pub IsWholeRequest : Request → Type 0
+IsWholeRequest (Refresh actions) = (refresh_fault actions ≡ None) × All IsWholeAction actions
+IsWholeRequest (Ask question) = Unit {0}

@@ -1,0 +1,253 @@
+//! What the records of a script have begun and not ended, and what one more record does to it.
+
+ghost use Rattle.std.specs.Prelude.{◌≡◌, ◌+◌, ◌-◌, ◌<◌, ◌^◌, ◌++◌, ◌∷◌, [], IfOk, IfErr, None, Ok, length, nat_lt};
+ghost use Rattle.csv.specs.Records.{fields_of};
+ghost use Rattle.ssb_schema.specs.Orders.{order_fault};
+ghost use Rattle.ssb_script.specs.Lines as spec;
+ghost use Rattle.ssb_script.specs.Lines.{ScriptLine, line_of_control, line_of_row};
+ghost use Rattle.ssb_script.specs.Requests.{action_of};
+ghost use Rattle.ssb_script.specs.Scripts.{HasRoom, checks_in, order_refused, refusal_at_end};
+ghost use Rattle.ssb_script.specs.Steps.{Follows, IsFoundBy, actions_at_end};
+ghost use Rattle.ssb_script.specs.declared.begun.Begun.TheVariants as begun;
+
+use crate::block::Block;
+use crate::control::{Control, Opening};
+use crate::error::ScriptError;
+use crate::fields::word_of;
+use crate::order_line::OrderLine;
+use crate::word::is_line;
+use csv::ByteRecord;
+use ssb_schema::{Action, Items, Line, Order, Refresh, SchemaFault};
+use std::alloc::{AllocError, Global};
+use std::sync::Arc;
+
+/// An order whose lines are being read.
+#[derive(Drop)]
+pub(crate) struct BegunOrder {
+    /// The actions before it in its refresh.
+    pub(crate) actions: Items<Action>,
+    pub(crate) opening: Opening,
+    /// The number of the record that began it.
+    pub(crate) number: u64,
+    pub(crate) lines: Items<Line>,
+}
+
+/// What is begun and not ended: nothing, a refresh, or an order in a refresh.
+#[derive(Drop)]
+pub(crate) enum Begun {
+    Nothing,
+    Refresh(Items<Action>),
+    Order(BegunOrder),
+}
+
+/// What comes of one record: the block that it ends, if it ends one, and what is begun after it.
+#[derive(Drop)]
+pub(crate) struct Step {
+    pub(crate) block: Option<Block>,
+    pub(crate) begun: Begun,
+}
+
+// The items with one more.
+fn pushed<T: Drop>(items: Items<T>, item: T) -> Result<Items<T>, AllocError>
+    ensures { IfOk result (λ more. more ≡ items ++ item ∷ []) }
+{
+    let mut items = items.into_vec();
+    items.push(item)?;
+    Ok(Items::from_vec(items))
+}
+
+// Whether a refresh of these actions takes one more.
+fn has_room(actions: &Items<Action>) -> bool
+    ensures { result ≡ nat_lt (length actions.now) 64 }
+{
+    actions.len() < 64
+}
+
+// What comes of the record of a number where no refresh is begun.
+fn outside(alloc: Global, number: u64, control: Control) -> Result<Step, ScriptError>
+    ensures step { IfOk result (λ step. Follows number begun.Nothing (line_of_control control) step) }
+    ensures fault { IfErr result (IsFoundBy (checks_in number begun.Nothing (Ok (line_of_control control)))) }
+{
+    match control {
+        Control::Query(question) => Ok(Step {
+            block: Some(Block::Ask(question)),
+            begun: Begun::Nothing,
+        }),
+        Control::Begin => Ok(Step {
+            block: None,
+            begun: Begun::Refresh(Items::from_vec(Vec::new(alloc))),
+        }),
+        Control::Open(_) => Err(ScriptError::BadLine(number)),
+        Control::Withdraw(_) => Err(ScriptError::BadLine(number)),
+        Control::Commit => Err(ScriptError::BadLine(number)),
+    }
+}
+
+// The record of a number begins an order.
+fn begin_order(
+    alloc: Global,
+    number: u64,
+    actions: Items<Action>,
+    opening: Opening,
+) -> Result<Step, ScriptError>
+    requires { HasRoom number (begun.Refresh actions) }
+    ensures step { IfOk result (λ step. Follows number (begun.Refresh actions) (spec.Open opening) step) }
+    ensures fault { IfErr result (IsFoundBy (checks_in number (begun.Refresh actions) (Ok (spec.Open opening)))) }
+{
+    if !has_room(&actions) {
+        return Err(ScriptError::Row(number, SchemaFault::TooManyActions));
+    }
+    let lines = Items::from_vec(Vec::new(alloc));
+    Ok(Step {
+        block: None,
+        begun: Begun::Order(BegunOrder {
+            actions,
+            opening,
+            number,
+            lines,
+        }),
+    })
+}
+
+// The record of a number withdraws an order.
+fn withdraw(number: u64, actions: Items<Action>, key: u64) -> Result<Step, ScriptError>
+    requires { HasRoom number (begun.Refresh actions) }
+    ensures step { IfOk result (λ step. Follows number (begun.Refresh actions) (spec.Withdraw key) step) }
+    ensures fault { IfErr result (IsFoundBy (checks_in number (begun.Refresh actions) (Ok (spec.Withdraw key)))) }
+{
+    if !has_room(&actions) {
+        return Err(ScriptError::Row(number, SchemaFault::TooManyActions));
+    }
+    Ok(Step {
+        block: None,
+        begun: Begun::Refresh(pushed(actions, Action::Withdraw(key))?),
+    })
+}
+
+// The record of a number ends a refresh.
+fn commit(alloc: Global, number: u64, actions: Items<Action>) -> Result<Step, ScriptError>
+    requires { HasRoom number (begun.Refresh actions) }
+    ensures step { IfOk result (λ step. Follows number (begun.Refresh actions) spec.Commit step) }
+    ensures fault { IfErr result (IsFoundBy (checks_in number (begun.Refresh actions) (Ok spec.Commit))) }
+{
+    match Refresh::new(actions.into_vec()) {
+        Ok(refresh) => Ok(Step {
+            block: Some(Block::Refresh(Arc::new(alloc, refresh)?)),
+            begun: Begun::Nothing,
+        }),
+        Err(_) => Err(ScriptError::EmptyBlock(number)),
+    }
+}
+
+// What comes of the record of a number in a refresh where no order is being read.
+fn inside(
+    alloc: Global,
+    number: u64,
+    actions: Items<Action>,
+    control: Control,
+) -> Result<Step, ScriptError>
+    requires { HasRoom number (begun.Refresh actions) }
+    ensures step { IfOk result (λ step. Follows number (begun.Refresh actions) (line_of_control control) step) }
+    ensures fault { IfErr result (IsFoundBy (checks_in number (begun.Refresh actions) (Ok (line_of_control control)))) }
+{
+    match control {
+        Control::Open(opening) => begin_order(alloc, number, actions, opening),
+        Control::Withdraw(key) => withdraw(number, actions, key),
+        Control::Commit => commit(alloc, number, actions),
+        Control::Query(_) => Err(ScriptError::BadLine(number)),
+        Control::Begin => Err(ScriptError::BadLine(number)),
+    }
+}
+
+impl BegunOrder {
+    // The actions of its refresh once it has ended.
+    fn ended(self) -> Result<Items<Action>, ScriptError>
+        ensures fault { IfErr result (IsFoundBy (refusal_at_end (begun.Order self) ∷ [])) }
+        ensures whole { IfOk result (λ actions. order_fault self.lines ≡ None) }
+        ensures actions { IfOk result (λ actions. actions ≡ self.actions ++ action_of self.opening self.lines ∷ []) }
+    {
+        match Order::new(self.lines.into_vec()) {
+            Ok(order) => Ok(pushed(self.actions, self.opening.action(order))?),
+            Err(refused) => Err(ScriptError::Row(self.number, refused.fault)),
+        }
+    }
+
+    // One more line, that of the record of this number.
+    fn with_line(self, number: u64, line: Line) -> Result<Step, ScriptError>
+        requires before { 0 < number }
+        requires room { HasRoom (number - 1) (begun.Order self) }
+        ensures step { IfOk result (λ step. Follows number (begun.Order self) (spec.Line line) step) }
+        ensures fault { IfErr result (IsFoundBy (checks_in number (begun.Order self) (Ok (spec.Line line)))) }
+    {
+        if self.lines.len() == 7 {
+            return Err(ScriptError::Row(self.number, SchemaFault::TooManyLines));
+        }
+        let lines = pushed(self.lines, line)?;
+        Ok(Step {
+            block: None,
+            begun: Begun::Order(BegunOrder {
+                actions: self.actions,
+                opening: self.opening,
+                number: self.number,
+                lines,
+            }),
+        })
+    }
+}
+
+impl Begun {
+    // The actions of its refresh once the order that is being read has ended, where a refresh is begun.
+    fn ended(self) -> Result<Option<Items<Action>>, ScriptError>
+        ensures fault { IfErr result (IsFoundBy (refusal_at_end self ∷ [])) }
+        ensures whole { IfOk result (λ actions. refusal_at_end self ≡ None) }
+        ensures actions { IfOk result (λ actions. actions ≡ actions_at_end self) }
+    {
+        match self {
+            Begun::Nothing => Ok(None),
+            Begun::Refresh(actions) => Ok(Some(actions)),
+            Begun::Order(order) => Ok(Some(order.ended()?)),
+        }
+    }
+
+    // One more record, a `line` of this number.
+    fn with_row(self, number: u64, row: OrderLine) -> Result<Step, ScriptError>
+        requires before { 0 < number }
+        requires room { HasRoom (number - 1) self }
+        ensures step { IfOk result (λ step. (line : ScriptLine) × (line_of_row row ≡ Ok line) × Follows number self line step) }
+        ensures fault { IfErr result (IsFoundBy (checks_in number self (line_of_row row))) }
+    {
+        let Begun::Order(order) = self else {
+            return Err(ScriptError::BadLine(number));
+        };
+        match row {
+            OrderLine::Read(line) => order.with_line(number, line),
+            OrderLine::Refused(why) => Err(ScriptError::Row(number, why)),
+            OrderLine::Bad => Err(ScriptError::BadLine(number)),
+        }
+    }
+
+    /// What comes of one more record, after so many.
+    pub(crate) fn after(
+        self,
+        alloc: Global,
+        before: u64,
+        fields: &ByteRecord,
+    ) -> Result<Step, ScriptError>
+        requires counted { before < 2 ^ 64 - 1 }
+        requires room { HasRoom before self }
+        ensures step { IfOk result (λ step. (line : ScriptLine) × (spec.line_of (fields_of fields.now) ≡ Ok line) × Follows (before + 1) self line step) }
+        ensures fault { IfErr result (IsFoundBy (order_refused self (spec.word_of (fields_of fields.now)) ∷ checks_in (before + 1) self (spec.line_of (fields_of fields.now)))) }
+    {
+        let number = before + 1;
+        let word = word_of(fields);
+        if is_line(word) {
+            return self.with_row(number, OrderLine::of(alloc, fields)?);
+        }
+        let actions = self.ended()?;
+        match (Control::of(alloc, word, fields)?, actions) {
+            (None, _) => Err(ScriptError::BadLine(number)),
+            (Some(control), None) => outside(alloc, number, control),
+            (Some(control), Some(actions)) => inside(alloc, number, actions, control),
+        }
+    }
+}

@@ -1,0 +1,19 @@
+//! What a script asks, block by block.
+
+use ssb_plans::Question;
+use ssb_schema::Refresh;
+use std::sync::Arc;
+
+/// What a client asks of the warehouse: a refresh, whose actions take effect together or not at all,
+/// or a question.
+#[derive(Drop)]
+pub enum Block {
+    Refresh(Arc<Refresh>),
+    Ask(Question),
+}
+
+/// The blocks of a script, in order.
+#[derive(Drop)]
+pub struct Script {
+    pub blocks: Vec<Block>,
+}

@@ -1,0 +1,37 @@
+//! The fields of one record of a script.
+
+ghost use Rattle.std.specs.Prelude.{◌≡◌, drop, map, IfOk};
+ghost use Rattle.csv.specs.Records.{fields_of};
+ghost use Rattle.ssb_script.specs.Lines.{field};
+ghost use Rattle.ssb_script.specs.Lines as spec;
+
+use crate::word::Word;
+use csv::ByteRecord;
+use ssb_load::{field_at, trimmed};
+use std::alloc::{AllocError, Global};
+
+/// The field at a place, counted from 0, without the spaces at its end.
+pub(crate) fn trimmed_at(fields: &ByteRecord, place: usize) -> &[u8]
+    ensures { result.now ≡ field (fields_of fields.now) place }
+{
+    trimmed(field_at(fields, place))
+}
+
+/// The word of a record, if its first field is one.
+#[tactic(auto, unfolding(crate::specs::Lines::word_of))]
+pub(crate) fn word_of(fields: &ByteRecord) -> Option<Word>
+    ensures { result ≡ spec.word_of (fields_of fields.now) }
+{
+    Word::spelled(trimmed_at(fields, 0))
+}
+
+/// The fields after the first.
+pub(crate) fn columns(alloc: Global, fields: &ByteRecord) -> Result<Vec<&[u8]>, AllocError>
+    ensures { IfOk result (λ columns. map (λ column. column.now) columns.items ≡ drop 1 (fields_of fields.now)) }
+{
+    let mut columns = Vec::new(alloc);
+    for place in 1..fields.len() {
+        columns.push(field_at(fields, place))?;
+    }
+    Ok(columns)
+}

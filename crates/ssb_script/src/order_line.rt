@@ -1,0 +1,37 @@
+//! The `line` records of a script.
+
+ghost use Rattle.std.specs.Prelude.{◌≡◌, IfOk, Some};
+ghost use Rattle.csv.specs.Records.{fields_of};
+ghost use Rattle.ssb_script.specs.Lines.{line_after, line_of_row};
+ghost use Rattle.ssb_script.specs.declared.word.Word.TheVariants as words;
+
+use crate::fields::columns;
+use csv::ByteRecord;
+use ssb_load::{LineFault, line_of};
+use ssb_schema::{Line, SchemaFault};
+use std::alloc::{AllocError, Global};
+
+/// What a `line` record says: a line, one that the schema refuses, or nothing.
+#[derive(Drop)]
+pub(crate) enum OrderLine {
+    Read(Line),
+    Refused(SchemaFault),
+    Bad,
+}
+
+impl OrderLine {
+    /// What a `line` record says in the fields after its word.
+    pub(crate) fn of(alloc: Global, fields: &ByteRecord) -> Result<OrderLine, AllocError>
+        ensures { IfOk result (λ row. line_after (Some words.Line) (fields_of fields.now) ≡ line_of_row row) }
+    {
+        let columns = columns(alloc, fields)?;
+        match line_of(alloc, columns.as_slice()) {
+            Ok(line) => Ok(OrderLine::Read(line)),
+            Err(LineFault::Refused(why)) => Ok(OrderLine::Refused(why)),
+            Err(LineFault::FieldCount) => Ok(OrderLine::Bad),
+            Err(LineFault::NotUtf8(_)) => Ok(OrderLine::Bad),
+            Err(LineFault::NotANumber(_)) => Ok(OrderLine::Bad),
+            Err(LineFault::OutOfMemory) => Err(AllocError),
+        }
+    }
+}

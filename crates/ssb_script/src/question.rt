@@ -1,0 +1,98 @@
+//! The `query` records of a script: a query's name, alone or with all its constants.
+
+ghost use Rattle.std.specs.Prelude.{◌≡◌, ◌<◌, length, option_map, IfOk};
+ghost use Rattle.csv.specs.Records.{fields_of};
+ghost use Rattle.ssb_script.specs.Lines as spec;
+ghost use Rattle.ssb_script.specs.Lines.{constant_spelled};
+
+use crate::fields::trimmed_at;
+use csv::ByteRecord;
+use ssb_load::{has_columns, number, text};
+use ssb_plans::{ConstantKind, QUERIES, Query, Question, QuestionError, Value};
+use ssb_schema::Text;
+use std::alloc::{AllocError, Global};
+
+// The query that bytes name.
+fn query_named(name: &[u8]) -> Option<Query>
+    ensures { result ≡ spec.query_named name.now }
+{
+    QUERIES
+        .iter()
+        .copied()
+        .find(|query| query.name().as_bytes() == name)
+}
+
+// The constant of a kind that bytes spell.
+fn constant_of(alloc: Global, kind: ConstantKind, bytes: &[u8]) -> Result<Option<Value>, AllocError>
+    ensures { IfOk result (λ constant. constant ≡ constant_spelled kind bytes.now) }
+{
+    match kind {
+        ConstantKind::Text(_) => match text(bytes) {
+            Some(text) => Ok(Some(Value::Text(Text::from_str(alloc, text)?))),
+            None => Ok(None),
+        },
+        ConstantKind::Number => match number(bytes) {
+            Some(n) if n <= u32::MAX as u64 => Ok(Some(Value::Number(n as u32))),
+            _ => Ok(None),
+        },
+    }
+}
+
+// The constants of these kinds, one in each field after the query's name.
+#[tactic(auto, unfolding(crate::specs::Lines::constants_from))]
+fn constants_from(
+    alloc: Global,
+    kinds: &[ConstantKind],
+    fields: &ByteRecord,
+) -> Result<Option<Vec<Value>>, AllocError>
+    requires { length kinds.now < 98 }
+    ensures { IfOk result (λ found. option_map (λ constants. constants.items) found ≡ spec.constants_from 2 kinds.now (fields_of fields.now)) }
+{
+    let mut constants = Vec::new(alloc);
+    for (i, kind) in kinds.iter().enumerate() {
+        let Some(constant) = constant_of(alloc, *kind, trimmed_at(fields, 2 + i))? else {
+            return Ok(None);
+        };
+        constants.push(constant)?;
+    }
+    Ok(Some(constants))
+}
+
+// The question of a query with the constants that its record gives.
+#[tactic(auto, unfolding(crate::specs::Lines::constants_of))]
+fn question_over(
+    alloc: Global,
+    query: Query,
+    fields: &ByteRecord,
+) -> Result<Option<Question>, AllocError>
+    ensures { IfOk result (λ question. question ≡ option_map (λ constants. (query, constants)) (spec.constants_of query (fields_of fields.now))) }
+{
+    if has_columns(fields, 2) {
+        return Ok(Some(Question::standard(alloc, query)?));
+    }
+    let kinds = query.constant_kinds();
+    if !has_columns(fields, 2 + kinds.len()) {
+        return Ok(None);
+    }
+    let Some(constants) = constants_from(alloc, kinds, fields)? else {
+        return Ok(None);
+    };
+    match Question::with(alloc, query, constants) {
+        Ok(question) => Ok(Some(question)),
+        Err(QuestionError::Refused(_, _)) => Ok(None),
+        Err(QuestionError::OutOfMemory(_)) => Err(AllocError),
+    }
+}
+
+/// The question that a `query` record asks, if it asks one.
+pub(crate) fn question_of(
+    alloc: Global,
+    fields: &ByteRecord,
+) -> Result<Option<Question>, AllocError>
+    ensures { IfOk result (λ question. question ≡ spec.question_of (fields_of fields.now)) }
+{
+    match query_named(trimmed_at(fields, 1)) {
+        Some(query) => question_over(alloc, query, fields),
+        None => Ok(None),
+    }
+}

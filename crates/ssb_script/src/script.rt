@@ -1,0 +1,70 @@
+//! A script from any reader.
+
+ghost use Rattle.std.specs.Prelude.{◌≡◌, ℕ, List, Some, map, ◌++◌, false, IfOk, IfErr};
+ghost use Rattle.std.specs.Option.{option_to_list};
+ghost use Rattle.ssb_script.specs.Requests.{request_of, requests_of};
+ghost use Rattle.ssb_script.specs.Scripts.{IsScriptFault, SpellsScript, is_outside};
+ghost use Rattle.ssb_script.specs.declared.begun.Begun.TheVariants.{Nothing};
+ghost use Rattle.ssb_script.specs.declared.error.ScriptError.TheVariants.{NoCommit};
+
+use crate::begun::{Begun, Step};
+use crate::block::{Block, Script};
+use crate::error::ScriptError;
+use csv::ByteRecord;
+use ssb_load::{next_record, record_reader};
+use std::alloc::{AllocError, Global};
+use std::io::Read;
+
+// Keeps the block that a record ended, if it ended one.
+fn keep(blocks: &mut Vec<Block>, block: Option<Block>) -> Result<(), AllocError>
+    ensures { IfOk result (λ _. map request_of blocks.new.items ≡ map request_of blocks.old.items ++ map request_of (option_to_list block)) }
+{
+    if let Some(block) = block {
+        blocks.push(block)?;
+    }
+    Ok(())
+}
+
+// The script of these blocks, where nothing more is begun.
+fn script_of(blocks: Vec<Block>, begun: Begun) -> Result<Script, ScriptError>
+    ensures script { IfOk result (λ script. (begun ≡ Nothing) × (requests_of script ≡ map request_of blocks.items)) }
+    ensures fault { IfErr result (λ e. (e ≡ NoCommit) × (is_outside begun ≡ false)) }
+{
+    match begun {
+        Begun::Nothing => Ok(Script { blocks }),
+        Begun::Refresh(_) => Err(ScriptError::NoCommit),
+        Begun::Order(_) => Err(ScriptError::NoCommit),
+    }
+}
+
+/// Reads a script of at most `max_records` records to its end.
+///
+/// The error is the first that the script's records have, in their order, and within a record in the
+/// order of the checks: a script of too many records is told at the first one past the bound, and a
+/// script that ends inside a refresh at its end. It reads `max_records` + 1 records at most, and
+/// reserves room only for what it has read.
+pub fn read_script<R: Read + Drop>(
+    alloc: Global,
+    source: R,
+    max_records: u64,
+) -> Result<Script, ScriptError>
+    ensures script { IfOk result (λ script. (text : List ℕ) → R.remaining source ≡ Some text → SpellsScript max_records text (requests_of script)) }
+    ensures fault { IfErr result (λ e. (text : List ℕ) → R.remaining source ≡ Some text → IsScriptFault max_records text e) }
+{
+    let mut reader = record_reader(alloc, source);
+    let mut fields = ByteRecord::new(alloc);
+    let mut blocks = Vec::new(alloc);
+    let mut begun = Begun::Nothing;
+    for before in 0..max_records {
+        if !next_record(&mut reader, &mut fields)? {
+            return script_of(blocks, begun);
+        }
+        let Step { block, begun: next } = begun.after(alloc, before, &fields)?;
+        keep(&mut blocks, block)?;
+        begun = next;
+    }
+    if next_record(&mut reader, &mut fields)? {
+        return Err(ScriptError::TooLong);
+    }
+    script_of(blocks, begun)
+}
