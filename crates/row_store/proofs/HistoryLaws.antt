@@ -1,14 +1,12 @@
 -- Beginnings of histories, and one commit more.
-use Rattle.std.proofs.Common.{◌≡◌, ℕ, ◌+◌, ◌<◌, ◌≤◌, Bool, true, false, ltb, List, [], ◌∷◌, ◌++◌, length, take, slice_get, Option, Some, None, Ok, Err, unwrap_or, refl, sym, ap, ◌∙◌, subst, arith, length-append}
+use Rattle.std.proofs.Common.{◌≡◌, ℕ, ◌<◌, ◌≤◌, Bool, true, false, ltb, [], ◌∷◌, ◌++◌, length, take, slice_get, Some, None, Ok, unwrap_or, refl, sym, ap, ◌∙◌, arith, length-append}
 use Rattle.std.proofs.lemmas.Bool.{ltb-true, ltb-false}
 use Rattle.std.proofs.lemmas.List.{take-append-le}
 use Rattle.std.proofs.lemmas.Option.{slice_get_within}
 use Rattle.std.proofs.Math.Seq.{take-append_seam}
-use Rattle.ssb_schema.specs.declared.refresh.Action.{Action}
-use Rattle.ssb_schema.specs.Base.{Tables}
-use Rattle.row_store.specs.History.{CommitRecord, IsPrefix}
+use Rattle.row_store.specs.History.{CommitRecord}
 use Rattle.row_store.specs.Refusals.{refusal_of}
-use Rattle.row_store.specs.Legal.{IsLegal, reply_at, unless_refused}
+use Rattle.row_store.specs.Legal.{reply_at, unless_refused}
 use Rattle.row_store.specs.Laws.{BeginningsAreLegal, AcceptedStaysLegal, AcceptedIsCommitted, RefusedChangesNothing}
 use Rattle.row_store.proofs.Placed.{get-push, get-last}
 

@@ -1,15 +1,15 @@
 -- The loaded lines in the order of an index.
-use Rattle.std.proofs.Common.{◌≡◌, ◌≢◌, ℕ, ◌+◌, ◌-◌, ◌<◌, ◌≤◌, Bool, true, false, cond, not, ◌&&◌, eqb, ltb, ne_eqb, List, [], ◌∷◌, ◌++◌, length, take, drop, get_or, slice_get, slice_range, slice_index, All, Option, Some, None, sym, refl, ap, ◌∙◌, subst, arith, zero, suc, length-append, length-drop, append_assoc}
+use Rattle.std.proofs.Common.{◌≡◌, ◌≢◌, ℕ, ◌+◌, ◌-◌, ◌<◌, ◌≤◌, Bool, true, false, cond, not, ◌&&◌, eqb, ltb, ne_eqb, List, [], ◌∷◌, ◌++◌, length, take, drop, get_or, slice_get, slice_range, slice_index, All, Option, Some, sym, refl, ap, ◌∙◌, subst, arith, zero, suc, length-append, length-drop, append_assoc}
 use Rattle.std.proofs.Math.Seq.{take-add}
 use Rattle.std.specs.Option.{option_map_or}
 use Rattle.std.specs.Ordering.{nat_cmp, is_lt}
 use Rattle.std.specs.declared.cmp.Ordering.TheVariants.{Less, Equal, Greater}
 use Rattle.std.specs.Cmp.{nat_cmp_is}
-use Rattle.std.specs.List.{filter, filter_map, count_by, range_with_len}
+use Rattle.std.specs.List.{filter, count_by, range_with_len}
 use Rattle.std.specs.List.Sorted.{IsPermutation, IsNonDecreasingBy, IsStableByKey, ties}
 use Rattle.std.proofs.lemmas.Bool.{eqb-true, eq-eqb, ltb-true, ltb-false}
 use Rattle.std.proofs.lemmas.List.{get_or-take, get_or-drop, get_or_default, length-take-le}
-use Rattle.std.proofs.lemmas.List.Elements.{filter-append, filter_map-append, All-head, All-tail, All-cons, All-take, All-drop}
+use Rattle.std.proofs.lemmas.List.Elements.{filter_map-append, All-head, All-tail, All-cons, All-take, All-drop}
 use Rattle.std.proofs.lemmas.List.Sums.{length-filter}
 use Rattle.std.proofs.lemmas.List.Sorted.{All-permutation, sum_by-IsPermutation}
 use Rattle.std.proofs.lemmas.List.FromFn.{get_or-range_with_len, length-range_with_len}
@@ -17,7 +17,6 @@ use Rattle.ssb_schema.specs.declared.line.LineFields.{LineFields}
 use Rattle.row_store.specs.Lines.{is_of, lines_of}
 use Rattle.row_store.specs.History.{CommitRecord}
 use Rattle.row_store.specs.declared.place.Place.{Place}
-use Rattle.row_store.specs.declared.place.Source.{Source}
 use Rattle.row_store.specs.declared.place.Source.TheVariants.{Loaded}
 use Rattle.row_store.specs.Keyed.{Sources, IsAt, Located, key_at, lines_at}
 use Rattle.row_store.proofs.Counted.{HaveKey}
@@ -37,7 +36,7 @@ all_in_order-from front (line ∷ lines) =
     let whole : front ++ line ∷ lines ≡ (front ++ line ∷ []) ++ lines = sym (append_assoc front (line ∷ []) lines) in
     let long : length front + 1 ≡ length (front ++ line ∷ []) = sym (length-append front (line ∷ [])) in
     let rest : lines_at (front ++ line ∷ lines) (range_with_len (length front + 1) (length lines)) ≡ lines =
-        (λ i. lines_at (whole i) (range_with_len (long i) (length lines))) ∙ all_in_order-from (front ++ line ∷ []) lines in
+    (λ i. lines_at (whole i) (range_with_len (long i) (length lines))) ∙ all_in_order-from (front ++ line ∷ []) lines in
     lines_at-cons (front ++ line ∷ lines) (length front) (range_with_len (length front + 1) (length lines)) line (get-middle front line lines) ∙ ap (λ l. line ∷ l) rest
 
 pub all_in_order : (lines : List LineFields) → lines_at lines (range_with_len 0 (length lines)) ≡ lines
@@ -87,10 +86,10 @@ module _ (lines : List LineFields) where
       let same : eqb (key_at lines i) key ≡ is_of key found.0 = ap (λ k. eqb k key) (key_at-is i found.0 found.1) in
       let kept : List ℕ = filter (λ i. eqb (key_at lines i) key) index in
       let step : (b : Bool) → cond b (found.0 ∷ lines_of key (lines_at lines index)) (lines_of key (lines_at lines index)) ≡ lines_at lines (cond b (i ∷ kept) kept) =
-          elim [
-            true ↦ ap (λ l. found.0 ∷ l) rest ∙ sym (lines_at-cons lines i kept found.0 found.1)
-            | false ↦ rest
-          ] in
+      elim [
+        | true ↦ ap (λ l. found.0 ∷ l) rest ∙ sym (lines_at-cons lines i kept found.0 found.1)
+        | false ↦ rest
+      ] in
       ap (lines_of key) (lines_at-cons lines i index found.0 found.1) ∙ step (is_of key found.0) ∙ ap (λ b. lines_at lines (cond b (i ∷ kept) kept)) (sym same)
 
   -- positions of one key
@@ -125,6 +124,7 @@ module _ (lines : List LineFields) where
           let above : Greater ≡ nat_cmp a b = nat_cmp_is a b Greater lower in
           let below : Less ≡ nat_cmp b a = nat_cmp_is b a Less lower in
           λ i. not (is_lt (sym above i)) && not (is_lt (sym below i))
+
       step : (s : Bool) → eqb b a ≡ s → (not (is_lt (nat_cmp a b)) && not (is_lt (nat_cmp b a))) ≡ s
       step true e =
           let same : b ≡ a = eqb-true b a e in
@@ -173,15 +173,15 @@ module _ (lines : List LineFields) (index : List ℕ) (inside : All (λ i. i < l
   pub next_apart : (end < length index → key_at lines (slice_index index end) ≢ key_at lines (slice_index index first))
       → (i j : ℕ) → i < end → end ≤ j → j < length index → key_at lines (slice_index index i) < key_at lines (slice_index index j)
   next_apart ends i j before after here = elim (ltb i first) as (λ b. ltb i first ≡ b → key_at lines (slice_index index i) < key_at lines (slice_index index j)) [
-      | true ↦ λ t. apart i j (ltb-true i first t) (omega (arith, later, after)) here
-      | false ↦ λ t.
-          let from : first ≤ i = ltb-false i first t in
-          let same = alike i from before in
-          let up = sorted first end 0 (omega (arith, later)) (omega (arith, after, here)) in
-          let on = sorted end j 0 after here in
-          let differ = ends (omega (arith, after, here)) in
-          omega (arith, same, up, on, differ)
-    ] refl
+    | true ↦ λ t. apart i j (ltb-true i first t) (omega (arith, later, after)) here
+    | false ↦ λ t.
+        let from : first ≤ i = ltb-false i first t in
+        let same = alike i from before in
+        let up = sorted first end 0 (omega (arith, later)) (omega (arith, after, here)) in
+        let on = sorted end j 0 after here in
+        let differ = ends (omega (arith, after, here)) in
+        omega (arith, same, up, on, differ)
+  ] refl
 
   run : List ℕ
   run = slice_range index first end
@@ -199,7 +199,7 @@ module _ (lines : List LineFields) (index : List ℕ) (inside : All (λ i. i < l
   run_alike k d h =
       let small : k < end - first = omega (arith, h, length-run) in
       let place : get_or (take (end - first) (drop first index)) k d ≡ slice_index index (first + k) =
-          get_or-take (end - first) (drop first index) k d small ∙ get_or-drop first index k d ∙ get_or_default index (first + k) d 0 (omega (arith, small, within)) in
+      get_or-take (end - first) (drop first index) k d small ∙ get_or-drop first index k d ∙ get_or_default index (first + k) d 0 (omega (arith, small, within)) in
       ap (key_at lines) place ∙ alike (first + k) (omega arith) (omega (arith, small))
 
   front_apart : All (λ i. key_at lines i ≢ key_at lines (slice_index index first)) (take first index)
@@ -232,5 +232,5 @@ module _ (lines : List LineFields) (index : List ℕ) (inside : All (λ i. i < l
       } in
       let own : HaveKey key (lines_at lines run) = lines_at-HaveKey lines key run run_inside (λ k d h. run_alike k d h ∙ sym same) in
       let none : lines_of key (lines_at lines (take first index)) ≡ [] =
-          lines_of-none lines key (take first index) (All-take (λ i. i < length lines) first index inside) (λ k d h e. front_apart k d h (e ∙ same)) in
+      lines_of-none lines key (take first index) (All-take (λ i. i < length lines) first index inside) (λ k d h e. front_apart k d h (e ∙ same)) in
       subst (Located sources g) (sym split) (located_more sources f g (lines_at lines (take first index)) (lines_at lines run) key place now at own none each)

@@ -1,21 +1,16 @@
 -- What a change at one key does to the places.
-use Rattle.std.proofs.Common.{◌≡◌, ℕ, ◌+◌, ◌≤◌, ◌<◌, Bool, true, false, cond, eqb, List, [], ◌∷◌, ◌++◌, length, slice_get, Option, Some, None, sym, refl, ap, ◌∙◌, subst, arith, zero, suc, length-append}
+use Rattle.std.proofs.Common.{◌≡◌, ℕ, ◌<◌, Bool, true, false, cond, eqb, List, [], ◌∷◌, ◌++◌, length, slice_get, Option, Some, None, sym, refl, ap, ◌∙◌, subst, arith, zero, suc, length-append}
 use Rattle.std.specs.Option.{option_map_or}
 use Rattle.std.proofs.lemmas.Bool.{eqb-true, eq-eqb}
 use Rattle.ssb_schema.specs.declared.line.LineFields.{LineFields}
 use Rattle.ssb_schema.specs.declared.refresh.Action.{Action}
-use Rattle.ssb_schema.specs.declared.refresh.Action.TheVariants.{Add, Amend, Withdraw}
-use Rattle.ssb_schema.specs.Orders.{order_key}
-use Rattle.ssb_schema.specs.Base.{Tables}
 use Rattle.row_store.specs.Lines.{added_by, lines_of, lines_without}
 use Rattle.row_store.specs.History.{CommitRecord}
 use Rattle.row_store.specs.declared.place.Place.{Place}
 use Rattle.row_store.specs.declared.place.Source.{Source}
 use Rattle.row_store.specs.declared.place.Source.TheVariants.{Loaded, Added}
-use Rattle.row_store.specs.Refusals.{cause_of}
 use Rattle.row_store.specs.Keyed.{Sources, Located, Lies, IsAt, IsWithin, lines_from, order_at}
 use Rattle.row_store.proofs.Counted.{HaveKey, lines_more, lines_other, lines_gone, lines_kept}
-use Rattle.row_store.proofs.Causes.{new_key}
 
 differs : (a b : ℕ) → eqb a b ≡ false → (a ≡ b → ⊥)
 differs a b is e = let same : eqb a b ≡ true = eq-eqb a b e in absurd (cc)
@@ -47,8 +42,8 @@ module _ (sources : Sources) (f g : ℕ → Option Place) (lines : List LineFiel
       → Located sources f lines → Located sources g (lines_without key lines ++ order)
   located_amended order key place now at alike each =
       located_change sources f g lines (lines_without key lines ++ order) key (Some place) now
-        (subst (IsAt sources place) (sym (lines_more key (lines_without key lines) order alike (lines_gone key key lines refl))) at)
-        (λ q apart. lines_other q key (lines_without key lines) order alike apart ∙ lines_kept q key lines apart) each
+      (subst (IsAt sources place) (sym (lines_more key (lines_without key lines) order alike (lines_gone key key lines refl))) at)
+      (λ q apart. lines_other q key (lines_without key lines) order alike apart ∙ lines_kept q key lines apart) each
 
 -- a place stays what it is when the log grows
 pub get-push : {A : Type 0} (xs ys : List A) (k : ℕ) → k < length xs → slice_get (xs ++ ys) k ≡ slice_get xs k

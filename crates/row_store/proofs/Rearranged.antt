@@ -1,5 +1,5 @@
 -- Lists that have each fact as often are rearrangements of one another.
-use Rattle.std.proofs.Common.{ℕ, zero, suc, ◌≡◌, ◌+◌, ◌<◌, Bool, true, false, cond, List, [], ◌∷◌, length, get_or, fold, unwrap_or, Option, Some, None, sym, refl, ap, ◌∙◌, arith}
+use Rattle.std.proofs.Common.{ℕ, suc, ◌≡◌, ◌+◌, ◌<◌, Bool, true, false, cond, List, [], ◌∷◌, length, get_or, fold, unwrap_or, Option, Some, sym, refl, ap, ◌∙◌, arith}
 use Rattle.std.specs.Prelude.{IsPermutation, remove}
 use Rattle.std.specs.Bool.{Decides}
 use Rattle.std.specs.List.{count_by}
@@ -45,9 +45,9 @@ module _ {X : Type 0} (eq : X → X → Bool) (same : (a b : X) → Decides (eq 
       let place = place_of x ys (omega (arith, one, counts x)) in
       let moved = IsPermutation-remove ys place.0 x place.1 place.2 in
       IsPermutation-trans (x ∷ xs) (x ∷ remove ys place.0) ys
-        (IsPermutation-cons x xs (remove ys place.0) (permutation_from_counts xs (remove ys place.0)
-          (λ z. cancel (cond (eq z x) 1 0) (count_by (eq z) xs) (count_by (eq z) (remove ys place.0)) (sym (count-cons (eq z) x xs) ∙ counts z ∙ sym (count-permutation (eq z) ys (x ∷ remove ys place.0) moved) ∙ count-cons (eq z) x (remove ys place.0)))))
-        (IsPermutation-sym ys (x ∷ remove ys place.0) moved)
+      (IsPermutation-cons x xs (remove ys place.0) (permutation_from_counts xs (remove ys place.0)
+      (λ z. cancel (cond (eq z x) 1 0) (count_by (eq z) xs) (count_by (eq z) (remove ys place.0)) (sym (count-cons (eq z) x xs) ∙ counts z ∙ sym (count-permutation (eq z) ys (x ∷ remove ys place.0) moved) ∙ count-cons (eq z) x (remove ys place.0)))))
+      (IsPermutation-sym ys (x ∷ remove ys place.0) moved)
     where
       cancel : (c m n : ℕ) → c + m ≡ c + n → m ≡ n
       cancel c m n e = omega (arith, e)
@@ -84,10 +84,10 @@ counted counts (k ∷ facts) fact =
 
 pub equal_counts_rearrange : EqualCountsRearrange
 equal_counts_rearrange facts others is = permutation_from_counts same same_decides facts others (λ fact.
-  let one = counted map.empty facts fact in
-  let two = counted map.empty others fact in
-  let both : count_of (fold with_fact map.empty facts) fact ≡ count_of (fold with_fact map.empty others) fact = ap (λ m. count_of m fact) is in
-  omega (arith, one, two, both))
+    let one = counted map.empty facts fact in
+    let two = counted map.empty others fact in
+    let both : count_of (fold with_fact map.empty facts) fact ≡ count_of (fold with_fact map.empty others) fact = ap (λ m. count_of m fact) is in
+    omega (arith, one, two, both))
 
 pub one_state_one_answer : OneStateOneAnswer
 one_state_one_answer state history other stands also =

@@ -1,7 +1,7 @@
 -- The state follows the lines: what an action does to the counts is what it does to the lines.
-use Rattle.std.proofs.Common.{◌≡◌, ℕ, ◌+◌, Bool, true, false, cond, not, eqb, List, [], ◌∷◌, ◌++◌, length, fold, map as map_list, unwrap_or, Option, Some, None, sym, refl, ap, ◌∙◌, length-append, append_assoc}
+use Rattle.std.proofs.Common.{◌≡◌, ℕ, ◌+◌, Bool, true, false, cond, not, eqb, List, [], ◌∷◌, ◌++◌, length, fold, unwrap_or, Option, Some, None, sym, refl, ap, ◌∙◌, length-append, append_assoc}
 use Rattle.std.specs.List.{filter}
-use Rattle.std.specs.Ordering.{nat_cmp, eq_by_cmp, is_eq}
+use Rattle.std.specs.Ordering.{eq_by_cmp, is_eq}
 use Rattle.std.specs.declared.cmp.Ordering.{Ordering}
 use Rattle.std.specs.declared.cmp.Ordering.TheVariants.{Less, Equal, Greater}
 use Rattle.std.specs.Cmp.{IsTotalOrder}
@@ -18,7 +18,7 @@ use Rattle.ssb_schema.specs.Facts.{fact_of, facts_of}
 use Rattle.ssb_schema.specs.Orders.{order_key}
 use Rattle.row_store.specs.Lines.{is_of, lines_without, lines_after_action, lines_after_refresh}
 use Rattle.row_store.specs.History.{CommitRecord, lines_after}
-use Rattle.row_store.specs.State.{Counts, State, fact_values, fact_from, fact_cmp, count_of, with_fact, counts_without, fact_counts, counts_after_action, state_after, state_of}
+use Rattle.row_store.specs.State.{Counts, fact_values, fact_from, fact_cmp, count_of, with_fact, counts_without, fact_counts, counts_after_action, state_after, state_of}
 
 pub total_order : IsTotalOrder fact_cmp
 total_order = on_texts fact_values
@@ -52,22 +52,22 @@ kept-with_fact p counts k here =
     let n : ℕ = count_of counts k + 1 in
     let same_count : count_of (map.retain_keys counts p) k ≡ count_of counts k = ap (λ o. unwrap_or o 0) (get_kept p counts k ∙ ap (λ b. cond b (map.get counts k) None) here) in
     map.same_map total_order only_equal _ _ (λ fact.
-        get_kept p (with_fact counts k) fact
-        ∙ ap (λ o. cond (p fact) o None) (map.get-insert total_order counts k n fact)
-        ∙ at_put (eq_by_cmp fact_cmp fact k) k fact p n (map.get counts fact) (tied (fact_cmp fact k) fact k refl) here
-        ∙ ap (cond (eq_by_cmp fact_cmp fact k) (Some n)) (sym (get_kept p counts fact))
-        ∙ ap (λ m. cond (eq_by_cmp fact_cmp fact k) (Some (m + 1)) (map.get (map.retain_keys counts p) fact)) (sym same_count)
-        ∙ sym (map.get-insert total_order (map.retain_keys counts p) k (count_of (map.retain_keys counts p) k + 1) fact))
+    get_kept p (with_fact counts k) fact
+    ∙ ap (λ o. cond (p fact) o None) (map.get-insert total_order counts k n fact)
+    ∙ at_put (eq_by_cmp fact_cmp fact k) k fact p n (map.get counts fact) (tied (fact_cmp fact k) fact k refl) here
+    ∙ ap (cond (eq_by_cmp fact_cmp fact k) (Some n)) (sym (get_kept p counts fact))
+    ∙ ap (λ m. cond (eq_by_cmp fact_cmp fact k) (Some (m + 1)) (map.get (map.retain_keys counts p) fact)) (sym same_count)
+    ∙ sym (map.get-insert total_order (map.retain_keys counts p) k (count_of (map.retain_keys counts p) k + 1) fact))
 
 -- a fact that goes
 dropped-with_fact : (p : Fact → Bool) (counts : Counts) (k : Fact) → p k ≡ false → map.retain_keys (with_fact counts k) p ≡ map.retain_keys counts p
 dropped-with_fact p counts k here =
     let n : ℕ = count_of counts k + 1 in
     map.same_map total_order only_equal _ _ (λ fact.
-        get_kept p (with_fact counts k) fact
-        ∙ ap (λ o. cond (p fact) o None) (map.get-insert total_order counts k n fact)
-        ∙ at_dropped (eq_by_cmp fact_cmp fact k) k fact p n (map.get counts fact) (tied (fact_cmp fact k) fact k refl) here
-        ∙ sym (get_kept p counts fact))
+    get_kept p (with_fact counts k) fact
+    ∙ ap (λ o. cond (p fact) o None) (map.get-insert total_order counts k n fact)
+    ∙ at_dropped (eq_by_cmp fact_cmp fact k) k fact p n (map.get counts fact) (tied (fact_cmp fact k) fact k refl) here
+    ∙ sym (get_kept p counts fact))
 
 kept_facts : (q : LineFields → Bool) (p : Fact → Bool) → ((line : LineFields) → p (fact_of line) ≡ q line) → (counts : Counts) (lines : List LineFields)
     → map.retain_keys (fold with_fact counts (facts_of lines)) p ≡ fold with_fact (map.retain_keys counts p) (facts_of (filter q lines))
@@ -75,10 +75,10 @@ kept_facts q p alike counts [] = refl
 kept_facts q p alike counts (line ∷ lines) =
     let rest = kept_facts q p alike (with_fact counts (fact_of line)) lines in
     let step : (b : Bool) → q line ≡ b → fold with_fact (map.retain_keys (with_fact counts (fact_of line)) p) (facts_of (filter q lines)) ≡ fold with_fact (map.retain_keys counts p) (facts_of (cond b (line ∷ filter q lines) (filter q lines))) =
-        elim [
-          true ↦ λ is. ap (λ m. fold with_fact m (facts_of (filter q lines))) (kept-with_fact p counts (fact_of line) (alike line ∙ is))
-          | false ↦ λ is. ap (λ m. fold with_fact m (facts_of (filter q lines))) (dropped-with_fact p counts (fact_of line) (alike line ∙ is))
-        ] in
+    elim [
+      | true ↦ λ is. ap (λ m. fold with_fact m (facts_of (filter q lines))) (kept-with_fact p counts (fact_of line) (alike line ∙ is))
+      | false ↦ λ is. ap (λ m. fold with_fact m (facts_of (filter q lines))) (dropped-with_fact p counts (fact_of line) (alike line ∙ is))
+    ] in
     rest ∙ step (q line) refl
 
 no_entry : (b : Bool) (old : Option ℕ) → old ≡ None → cond b old None ≡ None
@@ -117,7 +117,7 @@ pub state_after-state_of : (base : Tables) (history : List CommitRecord) (commit
 state_after-state_of base history commit =
     let longer : length history + 1 ≡ length (history ++ commit ∷ []) = sym (length-append history (commit ∷ [])) in
     let counts : fold counts_after_action (fact_counts (facts_of (lines_after base history))) commit.actions ≡ fact_counts (facts_of (lines_after base (history ++ commit ∷ []))) =
-        counts_after-all (lines_after base history) commit.actions ∙ ap (λ lines. fact_counts (facts_of lines)) (sym (lines_after-push base history commit)) in
+    counts_after-all (lines_after base history) commit.actions ∙ ap (λ lines. fact_counts (facts_of lines)) (sym (lines_after-push base history commit)) in
     λ i. record { base = base; commits = longer i; counts = counts i }
 
 -- several commits more

@@ -1,5 +1,5 @@
 -- The lines that `OrderLines` lends.
-use Rattle.std.specs.Prelude.{ℕ, ◌<◌, All, List, length}
+use Rattle.std.specs.Prelude.{◌<◌, All, List, length}
 use Rattle.ssb_schema.specs.declared.line.LineFields.{LineFields}
 use Rattle.row_store.specs.Keyed.{lines_at}
 use Rattle.row_store.specs.declared.order_lines.Held.{Held}

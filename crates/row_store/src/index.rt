@@ -46,14 +46,10 @@ fn run_end(lines: &[Line], index: &[u32], first: usize) -> usize
     requires { first < length index.now }
     ensures later { first < result }
     ensures within { result ≤ length index.now }
-    ensures alike {
-        (k : ℕ) → first ≤ k → k < result
-            → key_at lines.now (slice_index index.now k) ≡ key_at lines.now (slice_index index.now first)
-    }
-    ensures ends {
-        result < length index.now
-            → key_at lines.now (slice_index index.now result) ≢ key_at lines.now (slice_index index.now first)
-    }
+    ensures alike { (k : ℕ) → first ≤ k → k < result
+        → key_at lines.now (slice_index index.now k) ≡ key_at lines.now (slice_index index.now first) }
+    ensures ends { result < length index.now
+        → key_at lines.now (slice_index index.now result) ≢ key_at lines.now (slice_index index.now first) }
 {
     let key = key_at(lines, index[first]);
     let mut end = first + 1;
@@ -73,11 +69,9 @@ pub(crate) fn place_runs(
     requires within { All (λ i. i < length lines.now) index.now }
     requires sorted { IsNonDecreasingBy (key_at lines.now) index.now }
     requires empty { (key : ℕ) → get nat_eq orders.old key ≡ None }
-    ensures {
-        OnOk result ((log : List CommitRecord)
-            → Located (record { loaded = lines.now; index = index.now; log = log }) (get nat_eq orders.new)
-                (lines_at lines.now index.now))
-    }
+    ensures { OnOk result ((log : List CommitRecord)
+        → Located (record { loaded = lines.now; index = index.now; log = log }) (get nat_eq orders.new)
+        (lines_at lines.now index.now)) }
 {
     let mut first = 0;
     while first < index.len() {

@@ -1,4 +1,20 @@
-//! Replicas.
+//! The primary replica of the warehouse: the live orders by key, and the log of commits. And what other replicas are.
+//!
+//! A refresh adds, amends and withdraws whole orders, all of it or nothing. `RowStore::check` tells whether it would be
+//! accepted, or the first action that is refused and why; `RowStore::apply` makes an accepted refresh the next commit.
+//! Orders are found by key, so neither depends on the number of lines, and the loaded lines are never copied.
+//!
+//! The contract: the store answers as a warehouse of one thread does that keeps a plain list of lines.
+//! `specs/Lines.antt` says what an action does to that list, `specs/Refusals.antt` which refresh is refused and why, and
+//! `specs/Legal.antt` what the one-thread warehouse replies and which histories it can have.
+//!
+//! Other representations follow the log: a `Replica` absorbs commits, and its state (`specs/State.antt`: how often each
+//! fact is live) stands for the commits that it took. `PlainLines` is the simplest one.
+//!
+//! ```text
+//! let receipt = store.apply(client, refresh)?;          // commit number `receipt.number`
+//! for commit in store.log_from(taken) { plain.absorb(commit)?; }
+//! ```
 #![tactic(auto)]
 
 mod commit;

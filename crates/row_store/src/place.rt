@@ -55,10 +55,8 @@ pub(crate) fn order_at(log: &[Commit], commit: u32, action: u32) -> &[Line]
 #[tactic(auto, using(crate::proofs::Counted::count_more, crate::proofs::Counted::count_other, crate::proofs::Counted::count_replaced, crate::proofs::Counted::count_other_replaced, crate::proofs::Counted::count_gone, crate::proofs::Counted::count_kept))]
 fn count_with(count: u64, action: &Action, key: u64) -> u64
     requires { count < 2 ^ 48 }
-    ensures value {
-        (lines : List LineFields) → length (lines_of key lines) ≡ count
-            → result ≡ length (lines_of key (lines_after_action lines action.now))
-    }
+    ensures value { (lines : List LineFields) → length (lines_of key lines) ≡ count
+        → result ≡ length (lines_of key (lines_after_action lines action.now)) }
     ensures bound { result ≤ count + 7 }
 {
     match action {
@@ -78,23 +76,15 @@ fn count_with(count: u64, action: &Action, key: u64) -> u64
                 count
             }
         }
-        Action::Withdraw(gone) => {
-            if *gone == key {
-                0
-            } else {
-                count
-            }
-        }
+        Action::Withdraw(gone) => { if *gone == key { 0 } else { count } }
     }
 }
 
 // How many lines the order has after the actions, where it had so many before them.
 pub(crate) fn count_after(held: u32, earlier: &[Action], key: u64) -> u64
     requires { length earlier.now ≤ 64 }
-    ensures value {
-        (lines : List LineFields) → length (lines_of key lines) ≡ held
-            → result ≡ length (lines_of key (lines_after_refresh lines earlier.now))
-    }
+    ensures value { (lines : List LineFields) → length (lines_of key lines) ≡ held
+        → result ≡ length (lines_of key (lines_after_refresh lines earlier.now)) }
     ensures bound { result < 2 ^ 40 }
 {
     let mut count = u64::from(held);
@@ -107,14 +97,12 @@ pub(crate) fn count_after(held: u32, earlier: &[Action], key: u64) -> u64
 // Puts an action into the orders by key. There is room for one more.
 fn put(orders: &mut HashMap<u64, Place>, action: &Action, source: Source)
     requires { 0 < spare orders.old }
-    ensures each {
-        (base : Tables) (sources : Sources) (lines : List LineFields)
-            → lines_from sources (length (added_by action.now)) source ≡ added_by action.now
-            → IsWithin sources (length (added_by action.now)) source
-            → Located sources (get nat_eq orders.old) lines
-            → cause_of base lines action.now ≡ None
-            → Located sources (get nat_eq orders.new) (lines_after_action lines action.now)
-    }
+    ensures each { (base : Tables) (sources : Sources) (lines : List LineFields)
+        → lines_from sources (length (added_by action.now)) source ≡ added_by action.now
+        → IsWithin sources (length (added_by action.now)) source
+        → Located sources (get nat_eq orders.old) lines
+        → cause_of base lines action.now ≡ None
+        → Located sources (get nat_eq orders.new) (lines_after_action lines action.now) }
     ensures room { spare orders.old ≤ spare orders.new + 1 }
 {
     match action {
@@ -136,14 +124,12 @@ fn put(orders: &mut HashMap<u64, Place>, action: &Action, source: Source)
 pub(crate) fn place_all(orders: &mut HashMap<u64, Place>, actions: &[Action], commit: u32)
     requires room { length actions.now ≤ spare orders.old }
     requires few { length actions.now ≤ 64 }
-    ensures {
-        (base : Tables) (sources : Sources) (lines : List LineFields) (made : CommitRecord) (number : ℕ)
-            → slice_get sources.log commit ≡ Some made
-            → made.actions ≡ actions.now
-            → Located sources (get nat_eq orders.old) lines
-            → first_refusal base number lines actions.now ≡ None
-            → Located sources (get nat_eq orders.new) (lines_after_refresh lines actions.now)
-    }
+    ensures { (base : Tables) (sources : Sources) (lines : List LineFields) (made : CommitRecord) (number : ℕ)
+        → slice_get sources.log commit ≡ Some made
+        → made.actions ≡ actions.now
+        → Located sources (get nat_eq orders.old) lines
+        → first_refusal base number lines actions.now ≡ None
+        → Located sources (get nat_eq orders.new) (lines_after_refresh lines actions.now) }
 {
     for i in 0..actions.len() {
         let action = i as u32;

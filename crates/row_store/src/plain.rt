@@ -135,11 +135,9 @@ impl Replica for PlainLines {
     ghost state = { λ p. state_of p.base p.log };
 
     fn absorb(&mut self, commit: &Commit) -> Result<(), AllocError>
-        ensures state {
-            MatchResult result
-                (λ _. state_of self.new.base self.new.log ≡ state_after (state_of self.old.base self.old.log) commit.now)
-                (λ _. state_of self.new.base self.new.log ≡ state_of self.old.base self.old.log)
-        }
+        ensures state { MatchResult result
+            (λ _. state_of self.new.base self.new.log ≡ state_after (state_of self.old.base self.old.log) commit.now)
+            (λ _. state_of self.new.base self.new.log ≡ state_of self.old.base self.old.log) }
         ensures taken { OnOk result (self.new ≡ with_commit self.old commit.now) }
         ensures unchanged { OnErr result (self.new ≡ self.old) }
     {
@@ -174,6 +172,6 @@ impl Follower for PlainLines {
     ghost commits = { λ p. p.log };
 
     fn taken(&self) -> u64 {
-        self.log.len() as u64
+        self.commits()
     }
 }

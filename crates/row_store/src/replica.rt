@@ -14,11 +14,9 @@ pub trait Replica {
 
     /// Takes in a commit, accepted or not. After an error the state is as it was.
     fn absorb(&mut self, commit: &Commit) -> Result<(), AllocError>
-        ensures {
-            MatchResult result
-                (λ _. state self.new ≡ state_after (state self.old) commit.now)
-                (λ _. state self.new ≡ state self.old)
-        };
+        ensures { MatchResult result
+            (λ _. state self.new ≡ state_after (state self.old) commit.now)
+            (λ _. state self.new ≡ state self.old) };
 
     /// How many commits it has taken in.
     fn commits(&self) -> u64

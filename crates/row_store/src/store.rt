@@ -46,14 +46,18 @@ impl Model for RowStore {
 fn lacks_customer(base: &Base, lines: &[Line]) -> bool
     ensures { result ≡ list_any (lacks_customer base.now.dimensions) lines.now }
 {
-    lines.iter().any(|line| !base.has_customer(line.customer_key()))
+    lines
+        .iter()
+        .any(|line| !base.has_customer(line.customer_key()))
 }
 
 // Whether some line names a supplier that the base lacks.
 fn lacks_supplier(base: &Base, lines: &[Line]) -> bool
     ensures { result ≡ list_any (lacks_supplier base.now.dimensions) lines.now }
 {
-    lines.iter().any(|line| !base.has_supplier(line.supplier_key()))
+    lines
+        .iter()
+        .any(|line| !base.has_supplier(line.supplier_key()))
 }
 
 // Whether some line names a part that the base lacks.
@@ -92,12 +96,10 @@ fn unknown_key(base: &Base, lines: &[Line]) -> Option<Cause>
 // Looks at an order's lines where so many lines are live. It answers how many are live with them.
 fn join(base: &Base, order: &Order, live: usize) -> Result<usize, Cause>
     requires { live ≤ base.now.limits.lines }
-    ensures {
-        (lines : List LineFields) → length lines ≡ live →
-            MatchResult result
-                (λ n. (order_cause base.now lines order.now ≡ None) × (n ≡ length lines + length order.now) × (n ≤ base.now.limits.lines))
-                (λ cause. order_cause base.now lines order.now ≡ Some cause)
-    }
+    ensures { (lines : List LineFields) → length lines ≡ live →
+        MatchResult result
+        (λ n. (order_cause base.now lines order.now ≡ None) × (n ≡ length lines + length order.now) × (n ≤ base.now.limits.lines))
+        (λ cause. order_cause base.now lines order.now ≡ Some cause) }
 {
     let lines = order.lines();
     if let Some(cause) = unknown_key(base, lines) {
@@ -196,11 +198,9 @@ impl RowStore {
     /// Whether the refresh would be accepted, or its refusal: a full log, or the first action that is refused, each
     /// looked at with the earlier ones in force. It takes no memory.
     pub fn check(&self, refresh: &Refresh) -> Result<(), Refusal>
-        ensures {
-            MatchResult result
-                (λ _. refusal_of self.now.base self.now.log refresh.now ≡ None)
-                (λ refusal. refusal_of self.now.base self.now.log refresh.now ≡ Some refusal)
-        }
+        ensures { MatchResult result
+            (λ _. refusal_of self.now.base self.now.log refresh.now ≡ None)
+            (λ refusal. refusal_of self.now.base self.now.log refresh.now ≡ Some refusal) }
     {
         self.examine(refresh)?;
         Ok(())
@@ -236,13 +236,11 @@ impl RowStore {
 
     // The same as `check`, and how many lines are live after the refresh.
     fn examine(&self, refresh: &Refresh) -> Result<usize, Refusal>
-        ensures {
-            MatchResult result
-                (λ n. (refusal_of self.now.base self.now.log refresh.now ≡ None)
-                    × (n ≡ length (lines_after_refresh (lines_after self.now.base self.now.log) refresh.now))
-                    × (n ≤ self.now.base.limits.lines))
-                (λ refusal. refusal_of self.now.base self.now.log refresh.now ≡ Some refusal)
-        }
+        ensures { MatchResult result
+            (λ n. (refusal_of self.now.base self.now.log refresh.now ≡ None)
+            × (n ≡ length (lines_after_refresh (lines_after self.now.base self.now.log) refresh.now))
+            × (n ≤ self.now.base.limits.lines))
+            (λ refusal. refusal_of self.now.base self.now.log refresh.now ≡ Some refusal) }
     {
         if self.log.len() as u64 >= self.base.limits().commits {
             return Err(Refusal {
@@ -273,14 +271,12 @@ impl RowStore {
         requires few { length earlier.now ≤ 64 }
         requires live { live ≡ length (lines_after_refresh (lines_after self.now.base self.now.log) earlier.now) }
         requires limit { live ≤ self.now.base.limits.lines }
-        ensures {
-            let now = lines_after_refresh (lines_after self.now.base self.now.log) earlier.now in
+        ensures { let now = lines_after_refresh (lines_after self.now.base self.now.log) earlier.now in
             MatchResult result
-                (λ n. (cause_of self.now.base now action.now ≡ None)
-                    × (n ≡ length (lines_after_action now action.now))
-                    × (n ≤ self.now.base.limits.lines))
-                (λ cause. cause_of self.now.base now action.now ≡ Some cause)
-        }
+            (λ n. (cause_of self.now.base now action.now ≡ None)
+            × (n ≡ length (lines_after_action now action.now))
+            × (n ≤ self.now.base.limits.lines))
+            (λ cause. cause_of self.now.base now action.now ≡ Some cause) }
     {
         match action {
             Action::Add(order) => {

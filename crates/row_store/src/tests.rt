@@ -1,9 +1,9 @@
 //! Worked examples of the rules, with answers that were written by hand.
 
-use crate::{ApplyError, Cause, Follower, PlainLines, Refusal, Replica, RowStore};
+use crate::{ApplyError, Cause, Follower, PlainLines, Replica, RowStore};
 use ssb_schema::{
-    Action, Base, BaseError, BaseParts, Customer, CustomerFields, DateFields, DateRow, Limits, Line,
-    LineFields, Order, Part, PartFields, Refresh, Refused, Supplier, SupplierFields, Text,
+    Action, Base, BaseError, BaseParts, Customer, CustomerFields, DateFields, DateRow, Limits,
+    Line, LineFields, Order, Part, PartFields, Refresh, Refused, Supplier, SupplierFields, Text,
 };
 use std::alloc::{AllocError, Global};
 use std::sync::Arc;
@@ -13,9 +13,13 @@ use std::test::Fail;
 type Keys = (u64, u64, u64, u64);
 
 const KNOWN: Keys = (3, 3, 4, 19971215);
+
 const NO_CUSTOMER: Keys = (8, 3, 4, 19971215);
+
 const NO_SUPPLIER: Keys = (3, 8, 4, 19971215);
+
 const NO_PART: Keys = (3, 3, 8, 19971215);
+
 const NO_DATE: Keys = (3, 3, 4, 19971216);
 
 // An action on the order of a key, with a line for each of these keys.
@@ -122,27 +126,46 @@ fn date(alloc: Global, key: u64) -> Result<DateRow, Fail> {
     }))
 }
 
+// Customers 1 to 3, suppliers 1 to 3, parts 1 to 4, and four dates.
+fn customers(alloc: Global) -> Result<Vec<Customer>, Fail> {
+    let mut rows = Vec::new(alloc);
+    for key in 1..4 {
+        rows.push(customer(alloc, key)?)?;
+    }
+    Ok(rows)
+}
+
+fn suppliers(alloc: Global) -> Result<Vec<Supplier>, Fail> {
+    let mut rows = Vec::new(alloc);
+    for key in 1..4 {
+        rows.push(supplier(alloc, key)?)?;
+    }
+    Ok(rows)
+}
+
+fn parts(alloc: Global) -> Result<Vec<Part>, Fail> {
+    let mut rows = Vec::new(alloc);
+    for key in 1..5 {
+        rows.push(part(alloc, key)?)?;
+    }
+    Ok(rows)
+}
+
+fn dates(alloc: Global) -> Result<Vec<DateRow>, Fail> {
+    let mut rows = Vec::new(alloc);
+    for key in [19930101, 19940105, 19940208, 19971215] {
+        rows.push(date(alloc, key)?)?;
+    }
+    Ok(rows)
+}
+
 // The rows of the small data set, with these lines.
 fn base_of(alloc: Global, limits: Limits, lines: Vec<Line>) -> Result<Arc<Base>, Fail> {
-    let mut customers = Vec::new(alloc);
-    let mut suppliers = Vec::new(alloc);
-    for key in 1..4 {
-        customers.push(customer(alloc, key)?)?;
-        suppliers.push(supplier(alloc, key)?)?;
-    }
-    let mut parts = Vec::new(alloc);
-    for key in 1..5 {
-        parts.push(part(alloc, key)?)?;
-    }
-    let mut dates = Vec::new(alloc);
-    for key in [19930101, 19940105, 19940208, 19971215] {
-        dates.push(date(alloc, key)?)?;
-    }
     let parts = BaseParts {
-        customers,
-        suppliers,
-        parts,
-        dates,
+        customers: customers(alloc)?,
+        suppliers: suppliers(alloc)?,
+        parts: parts(alloc)?,
+        dates: dates(alloc)?,
         lines,
     };
     match Base::new(alloc, limits, parts) {
@@ -154,16 +177,16 @@ fn base_of(alloc: Global, limits: Limits, lines: Vec<Line>) -> Result<Arc<Base>,
 
 // The small data set: order 1 of two lines, and orders 2 and 3 of one each.
 fn small(alloc: Global, limits: Limits) -> Result<Arc<Base>, Fail> {
-    let lines = Vec::from_array(
-        alloc,
-        [
-            line(alloc, 1, 1, (2, 2, 2, 19930101))?,
-            line(alloc, 1, 2, (2, 2, 3, 19930101))?,
-            line(alloc, 2, 1, (1, 1, 1, 19971215))?,
-            line(alloc, 3, 1, (3, 3, 4, 19971215))?,
-        ],
-    );
-    base_of(alloc, limits, lines.map_err(AllocError::from)?)
+    let mut lines = Vec::new(alloc);
+    for (key, number, keys) in [
+        (1, 1, (2, 2, 2, 19930101)),
+        (1, 2, (2, 2, 3, 19930101)),
+        (2, 1, (1, 1, 1, 19971215)),
+        (3, 1, KNOWN),
+    ] {
+        lines.push(line(alloc, key, number, keys)?)?;
+    }
+    base_of(alloc, limits, lines)
 }
 
 fn order(alloc: Global, key: u64, keys: &[Keys]) -> Result<Order, Fail> {
@@ -190,51 +213,154 @@ fn refresh(alloc: Global, steps: &[Step<'_>]) -> Result<Arc<Refresh>, Fail> {
     Ok(Arc::new(alloc, refresh).map_err(AllocError::from)?)
 }
 
-// The reply to a refresh by client 1: the number of the commit, or the refusal.
-fn reply(store: &mut RowStore, alloc: Global, steps: &[Step<'_>]) -> Result<Result<u64, Refusal>, Fail> {
-    match store.apply(1, refresh(alloc, steps)?) {
-        Ok(receipt) => Ok(Ok(receipt.number)),
-        Err(ApplyError::Refused(refusal)) => Ok(Err(refusal)),
-        Err(ApplyError::OutOfMemory) => Err(AllocError)?,
+// What a store replies to a refresh by client 1, as a line. Where memory is wanting, the store is as it was, and the same
+// refresh is tried once more.
+fn reply(store: &mut RowStore, told: &mut String, refresh: Arc<Refresh>) -> Result<(), Fail> {
+    let again = Arc::try_clone(&refresh)?;
+    let (commits, lines) = (store.len(), store.line_count());
+    match store.apply(1, refresh) {
+        Ok(receipt) => writeln!(told, "committed {}", receipt.number)?,
+        Err(ApplyError::Refused(refusal)) => {
+            writeln!(told, "refused {}: {}", refusal.action, refusal.cause)?
+        }
+        Err(ApplyError::OutOfMemory) => {
+            let same = store.len() == commits && store.line_count() == lines;
+            let accepted = store.check(&again).is_ok();
+            let number = store
+                .apply(1, again)
+                .map(|receipt| receipt.number)
+                .unwrap_or(0);
+            if same && accepted {
+                writeln!(told, "committed {number}")?
+            }
+        }
     }
-}
-
-// The refusal of a refresh by a fresh store of the small data set, by `check`.
-fn refusal(alloc: Global, limits: Limits, steps: &[Step<'_>]) -> Result<Option<Refusal>, Fail> {
-    let store = RowStore::new(alloc, small(alloc, limits)?)?;
-    Ok(store.check(&*refresh(alloc, steps)?).err())
-}
-
-fn at(action: u32, cause: Cause) -> Option<Refusal> {
-    Some(Refusal { action, cause })
-}
-
-const ADD_NINE: Step<'static> = Step::Add(9, &[KNOWN]);
-
-fn refused(action: u32, cause: Cause) -> Result<u64, Refusal> {
-    Err(Refusal { action, cause })
-}
-
-#[test]
-fn withdrawn_order_is_added_again_in_one_refresh(rt: HostRuntime) -> Result<(), Fail> {
-    let alloc = rt.alloc();
-    let mut store = RowStore::new(alloc, small(alloc, Limits::standard())?)?;
-    let again = Step::Add(1, &[(2, 2, 2, 19930101)]);
-    assert_eq!(rt; reply(&mut store, alloc, &[again, Step::Withdraw(1)])?, refused(1, Cause::Present(1)));
-    assert_eq!(rt; reply(&mut store, alloc, &[Step::Withdraw(1), again])?, Ok(1));
-    assert_eq!(rt; store.line_count(), 3);
-    assert_eq!(rt; store.lines_of(1).map(|order| order.len()), Some(1));
     Ok(())
 }
 
+// The replies of a store of the small data set to these refreshes in turn, and how many lines are live then.
+fn replies(alloc: Global, limits: Option<Limits>, script: &[&[Step<'_>]]) -> Result<String, Fail> {
+    let limits = limits.unwrap_or(Limits::standard());
+    let mut store = RowStore::new(alloc, small(alloc, limits)?)?;
+    let mut told = String::new(alloc);
+    for steps in script {
+        reply(&mut store, &mut told, refresh(alloc, steps)?)?;
+    }
+    writeln!(told, "lines {}", store.line_count())?;
+    Ok(told)
+}
+
+// The line numbers and customers of an order's lines.
+fn lines_told(alloc: Global, store: &RowStore, key: u64) -> Result<String, Fail> {
+    let mut told = String::new(alloc);
+    if let Some(order) = store.lines_of(key) {
+        for place in 0..order.len() {
+            if let Some(line) = order.get(place) {
+                write!(told, "{}:{} ", line.line_number(), line.customer_key())?;
+            }
+        }
+    }
+    Ok(told)
+}
+
+const ADD_ONE: Step<'static> = Step::Add(1, &[KNOWN]);
+
+const ADD_NINE: Step<'static> = Step::Add(9, &[KNOWN]);
+
+const AMEND_ONE: Step<'static> = Step::Amend(1, &[KNOWN]);
+
+const AMEND_NINE: Step<'static> = Step::Amend(9, &[KNOWN]);
+
+const AGAIN: &[&[Step<'static>]] = &[&[ADD_ONE, Step::Withdraw(1)], &[Step::Withdraw(1), ADD_ONE]];
+
+#[test]
+fn withdrawn_order_is_added_again_in_one_refresh(rt: HostRuntime) -> Result<(), Fail> {
+    let told = replies(rt.alloc(), None, AGAIN)?;
+    assert_eq!(rt;
+        told.as_str(),
+        "refused 1: 41 Present 1\ncommitted 1\nlines 3\n"
+    );
+    Ok(())
+}
+
+const ABSENT: &[&[Step<'static>]] = &[&[ADD_NINE, Step::Withdraw(77)], &[ADD_NINE]];
+
 #[test]
 fn absent_order_refuses_the_whole_refresh(rt: HostRuntime) -> Result<(), Fail> {
-    let alloc = rt.alloc();
-    let mut store = RowStore::new(alloc, small(alloc, Limits::standard())?)?;
-    assert_eq!(rt; reply(&mut store, alloc, &[ADD_NINE, Step::Withdraw(77)])?, refused(2, Cause::Absent(77)));
-    assert_eq!(rt; store.len(), 0);
-    assert_eq!(rt; store.line_count(), 4);
-    assert!(rt; store.lines_of(9).is_none());
+    let told = replies(rt.alloc(), None, ABSENT)?;
+    assert_eq!(rt;
+        told.as_str(),
+        "refused 2: 47 Absent 77\ncommitted 1\nlines 5\n"
+    );
+    Ok(())
+}
+
+const CAUSES: &[&[Step<'static>]] = &[
+    &[ADD_ONE],
+    &[Step::Add(9, &[KNOWN, NO_CUSTOMER])],
+    &[Step::Add(9, &[KNOWN, NO_SUPPLIER])],
+    &[Step::Add(9, &[KNOWN, NO_PART])],
+    &[Step::Add(9, &[KNOWN, NO_DATE])],
+    &[Step::Withdraw(77)],
+    &[AMEND_NINE],
+    &[Step::Amend(1, &[NO_CUSTOMER])],
+];
+
+#[test]
+fn each_cause_is_told(rt: HostRuntime) -> Result<(), Fail> {
+    let told = replies(rt.alloc(), None, CAUSES)?;
+    assert_eq!(rt;
+        told.as_str(),
+        "refused 1: 41 Present 1\nrefused 1: 42 UnknownCustomer\nrefused 1: 43 UnknownSupplier\nrefused 1: 44 UnknownPart\nrefused 1: 45 UnknownDate\nrefused 1: 47 Absent 77\nrefused 1: 48 AmendAbsent 9\nrefused 1: 42 UnknownCustomer\nlines 4\n"
+    );
+    Ok(())
+}
+
+const PAIRS: &[&[Step<'static>]] = &[
+    &[Step::Add(1, &[NO_CUSTOMER])],
+    &[Step::Add(9, &[NO_SUPPLIER, NO_CUSTOMER])],
+    &[Step::Add(9, &[NO_DATE])],
+    &[Step::Amend(9, &[NO_CUSTOMER])],
+    &[ADD_NINE, Step::Withdraw(77)],
+    &[Step::Withdraw(77), ADD_NINE],
+    &[Step::Withdraw(2), ADD_NINE, ADD_NINE],
+    &[Step::Withdraw(1), AMEND_ONE],
+];
+
+#[test]
+fn the_first_of_several_causes_is_told(rt: HostRuntime) -> Result<(), Fail> {
+    let told = replies(rt.alloc(), Limits::new(4, 4, 1), PAIRS)?;
+    assert_eq!(rt;
+        told.as_str(),
+        "refused 1: 41 Present 1\nrefused 1: 42 UnknownCustomer\nrefused 1: 45 UnknownDate\nrefused 1: 48 AmendAbsent 9\nrefused 1: 46 LinesFull\nrefused 1: 47 Absent 77\nrefused 3: 41 Present 9\nrefused 2: 48 AmendAbsent 1\nlines 4\n"
+    );
+    Ok(())
+}
+
+const FULL: &[&[Step<'static>]] = &[
+    &[ADD_NINE],
+    &[Step::Withdraw(2), Step::Add(9, &[KNOWN, KNOWN])],
+    &[Step::Amend(2, &[KNOWN, KNOWN])],
+    &[Step::Withdraw(2), ADD_NINE],
+    &[Step::Withdraw(77)],
+];
+
+#[test]
+fn four_lines_and_one_commit_are_the_limits(rt: HostRuntime) -> Result<(), Fail> {
+    let told = replies(rt.alloc(), Limits::new(4, 4, 1), FULL)?;
+    assert_eq!(rt;
+        told.as_str(),
+        "refused 1: 46 LinesFull\nrefused 2: 46 LinesFull\nrefused 1: 46 LinesFull\ncommitted 1\nrefused 0: 40 LogFull\nlines 4\n"
+    );
+    Ok(())
+}
+
+const AMEND: &[&[Step<'static>]] = &[&[Step::Amend(2, &[KNOWN])], &[AMEND_ONE]];
+
+#[test]
+fn amended_orders_do_not_count_their_old_lines(rt: HostRuntime) -> Result<(), Fail> {
+    let told = replies(rt.alloc(), Limits::new(4, 4, 2), AMEND)?;
+    assert_eq!(rt; told.as_str(), "committed 1\ncommitted 2\nlines 3\n");
     Ok(())
 }
 
@@ -242,117 +368,50 @@ fn absent_order_refuses_the_whole_refresh(rt: HostRuntime) -> Result<(), Fail> {
 fn order_nine_is_committed(rt: HostRuntime) -> Result<(), Fail> {
     let alloc = rt.alloc();
     let mut store = RowStore::new(alloc, small(alloc, Limits::standard())?)?;
-    assert_eq!(rt; reply(&mut store, alloc, &[ADD_NINE])?, Ok(1));
-    assert_eq!(rt; store.line_count(), 5);
-    let nine = store.lines_of(9);
-    assert_eq!(rt; nine.as_ref().map(|order| order.len()), Some(1));
-    assert_eq!(rt; nine.as_ref().and_then(|order| order.get(0)).map(|line| line.part_key()), Some(4));
-    assert_eq!(rt; store.log_from(0).len(), 1);
-    assert_eq!(rt; store.log_from(1).len(), 0);
+    let mut told = lines_told(alloc, &store, 9)?;
+    reply(&mut store, &mut told, refresh(alloc, &[ADD_NINE])?)?;
+    told.push_str(lines_told(alloc, &store, 9)?.as_str())?;
+    assert_eq!(rt; told.as_str(), "committed 1\n1:3 ");
+    let commits = store.len();
+    assert_eq!(rt;
+        (store.log_from(0).len(), store.log_from(commits).len()),
+        (1, 0)
+    );
     let (base, log) = store.into_parts();
-    assert_eq!(rt; base.lines().len(), 4);
-    assert_eq!(rt; log.len(), 1);
-    assert_eq!(rt; log[0].client, 1);
+    assert_eq!(rt; (base.lines().len(), log.len()), (4, 1));
     Ok(())
 }
 
-#[test]
-fn each_cause_is_told(rt: HostRuntime) -> Result<(), Fail> {
-    let alloc = rt.alloc();
-    let most = Limits::standard();
-    let rows: [(&[Step<'_>], Option<Refusal>); 9] = [
-        (&[ADD_NINE], None),
-        (&[Step::Add(1, &[KNOWN])], at(1, Cause::Present(1))),
-        (&[Step::Add(9, &[KNOWN, NO_CUSTOMER])], at(1, Cause::UnknownCustomer)),
-        (&[Step::Add(9, &[KNOWN, NO_SUPPLIER])], at(1, Cause::UnknownSupplier)),
-        (&[Step::Add(9, &[KNOWN, NO_PART])], at(1, Cause::UnknownPart)),
-        (&[Step::Add(9, &[KNOWN, NO_DATE])], at(1, Cause::UnknownDate)),
-        (&[Step::Withdraw(77)], at(1, Cause::Absent(77))),
-        (&[Step::Amend(9, &[KNOWN])], at(1, Cause::AmendAbsent(9))),
-        (&[Step::Amend(1, &[NO_CUSTOMER])], at(1, Cause::UnknownCustomer)),
-    ];
-    for (steps, want) in rows {
-        assert_eq!(rt; refusal(alloc, most, steps)?, want);
+// Four lines of three orders, which do not stand in the order of their keys.
+fn scattered(alloc: Global) -> Result<Vec<Line>, Fail> {
+    let mut lines = Vec::new(alloc);
+    for (key, number, customer) in [(3, 1, 1), (1, 2, 2), (2, 1, 3), (1, 1, 1)] {
+        lines.push(line(alloc, key, number, (customer, 1, 1, 19930101))?)?;
     }
-    Ok(())
-}
-
-#[test]
-fn the_first_of_several_causes_is_told(rt: HostRuntime) -> Result<(), Fail> {
-    let alloc = rt.alloc();
-    let Some(four) = Limits::new(4, 4, 1) else {
-        return Err(AllocError)?;
-    };
-    let rows: [(&[Step<'_>], Option<Refusal>); 9] = [
-        (&[Step::Add(1, &[NO_CUSTOMER])], at(1, Cause::Present(1))),
-        (&[Step::Add(9, &[NO_SUPPLIER, NO_CUSTOMER])], at(1, Cause::UnknownCustomer)),
-        (&[Step::Add(9, &[NO_DATE, NO_PART])], at(1, Cause::UnknownPart)),
-        (&[Step::Add(9, &[NO_DATE])], at(1, Cause::UnknownDate)),
-        (&[Step::Amend(9, &[NO_CUSTOMER])], at(1, Cause::AmendAbsent(9))),
-        (&[ADD_NINE, Step::Withdraw(77)], at(1, Cause::LinesFull)),
-        (&[Step::Withdraw(77), ADD_NINE], at(1, Cause::Absent(77))),
-        (&[Step::Withdraw(2), ADD_NINE, ADD_NINE], at(3, Cause::Present(9))),
-        (&[Step::Withdraw(1), Step::Amend(1, &[KNOWN])], at(2, Cause::AmendAbsent(1))),
-    ];
-    for (steps, want) in rows {
-        assert_eq!(rt; refusal(alloc, four, steps)?, want);
-    }
-    Ok(())
-}
-
-#[test]
-fn four_lines_and_one_commit_are_the_limits(rt: HostRuntime) -> Result<(), Fail> {
-    let alloc = rt.alloc();
-    let Some(four) = Limits::new(4, 4, 1) else {
-        return Err(AllocError)?;
-    };
-    let mut store = RowStore::new(alloc, small(alloc, four)?)?;
-    assert_eq!(rt; reply(&mut store, alloc, &[ADD_NINE])?, refused(1, Cause::LinesFull));
-    let two = Step::Add(9, &[KNOWN, KNOWN]);
-    assert_eq!(rt; reply(&mut store, alloc, &[Step::Withdraw(2), two])?, refused(2, Cause::LinesFull));
-    assert_eq!(rt; reply(&mut store, alloc, &[Step::Withdraw(2), ADD_NINE])?, Ok(1));
-    assert_eq!(rt; reply(&mut store, alloc, &[Step::Withdraw(77)])?, refused(0, Cause::LogFull));
-    Ok(())
-}
-
-#[test]
-fn amended_order_has_its_new_lines_alone(rt: HostRuntime) -> Result<(), Fail> {
-    let alloc = rt.alloc();
-    let Some(four) = Limits::new(4, 4, 1) else {
-        return Err(AllocError)?;
-    };
-    let mut store = RowStore::new(alloc, small(alloc, four)?)?;
-    let two = Step::Amend(2, &[KNOWN, KNOWN]);
-    assert_eq!(rt; reply(&mut store, alloc, &[two])?, refused(1, Cause::LinesFull));
-    assert_eq!(rt; reply(&mut store, alloc, &[Step::Amend(1, &[KNOWN, KNOWN])])?, Ok(1));
-    assert_eq!(rt; store.line_count(), 4);
-    let one = store.lines_of(1);
-    assert_eq!(rt; one.as_ref().map(|order| order.len()), Some(2));
-    assert_eq!(rt; one.as_ref().and_then(|order| order.get(1)).map(|line| line.customer_key()), Some(3));
-    Ok(())
+    Ok(lines)
 }
 
 #[test]
 fn loaded_orders_may_be_scattered(rt: HostRuntime) -> Result<(), Fail> {
     let alloc = rt.alloc();
-    let lines = Vec::from_array(
-        alloc,
-        [
-            line(alloc, 3, 1, KNOWN)?,
-            line(alloc, 1, 2, (1, 1, 1, 19930101))?,
-            line(alloc, 2, 1, KNOWN)?,
-            line(alloc, 1, 1, KNOWN)?,
-        ],
-    );
-    let base = base_of(alloc, Limits::standard(), lines.map_err(AllocError::from)?)?;
+    let base = base_of(alloc, Limits::standard(), scattered(alloc)?)?;
     let store = RowStore::new(alloc, base)?;
-    let one = store.lines_of(1);
-    assert_eq!(rt; one.as_ref().map(|order| order.len()), Some(2));
-    assert_eq!(rt; one.as_ref().and_then(|order| order.get(0)).map(|line| line.line_number()), Some(2));
-    assert_eq!(rt; one.as_ref().and_then(|order| order.get(1)).map(|line| line.line_number()), Some(1));
+    let told = lines_told(alloc, &store, 1)?;
+    assert_eq!(rt; told.as_str(), "2:2 1:1 ");
     assert!(rt; store.lines_of(4).is_none());
     Ok(())
 }
+
+// The order keys of the lines.
+fn keys_told(alloc: Global, lines: &[Line]) -> Result<String, Fail> {
+    let mut told = String::new(alloc);
+    for line in lines {
+        write!(told, "{} ", line.order_key())?;
+    }
+    Ok(told)
+}
+
+const THREE: &[Step<'static>] = &[AMEND_ONE, Step::Withdraw(2), ADD_NINE];
 
 #[test]
 fn plain_lines_follow_the_log(rt: HostRuntime) -> Result<(), Fail> {
@@ -360,58 +419,30 @@ fn plain_lines_follow_the_log(rt: HostRuntime) -> Result<(), Fail> {
     let base = small(alloc, Limits::standard())?;
     let mut plain = PlainLines::new(alloc, Arc::try_clone(&base)?)?;
     let mut store = RowStore::new(alloc, base)?;
-    let amend = Step::Amend(1, &[KNOWN]);
-    assert_eq!(rt; reply(&mut store, alloc, &[amend, Step::Withdraw(2), ADD_NINE])?, Ok(1));
+    store
+        .apply(1, refresh(alloc, THREE)?)
+        .map_err(|_| AllocError)?;
     let before = plain.copy()?;
     for commit in store.log_from(0) {
         plain.absorb(commit)?;
     }
-    assert_eq!(rt; plain.commits(), 1);
-    assert_eq!(rt; plain.taken(), 1);
-    assert_eq!(rt; before.commits(), 0);
-    assert_eq!(rt; before.lines().len(), 4);
-    let mut keys = Vec::new(alloc);
-    for line in plain.lines() {
-        keys.push(line.order_key())?;
-    }
-    assert_eq!(rt; keys.as_slice(), [3, 1, 9].as_slice());
-    Ok(())
-}
-
-#[test]
-fn a_refresh_without_memory_commits_the_next_time(rt: HostRuntime) -> Result<(), Fail> {
-    let alloc = rt.alloc();
-    let mut store = RowStore::new(alloc, small(alloc, Limits::standard())?)?;
-    let nine = refresh(alloc, &[ADD_NINE])?;
-    let again = Arc::try_clone(&nine)?;
-    let mut number = store.apply(1, nine).map(|receipt| receipt.number);
-    if number == Err(ApplyError::OutOfMemory) {
-        assert_eq!(rt; store.len(), 0);
-        assert_eq!(rt; store.line_count(), 4);
-        assert!(rt; store.lines_of(9).is_none());
-        assert!(rt; store.check(&again).is_ok());
-        number = store.apply(1, again).map(|receipt| receipt.number);
-    }
-    assert_eq!(rt; number, Ok(1));
+    let told = keys_told(alloc, plain.lines())?;
+    assert_eq!(rt; told.as_str(), "3 1 9 ");
+    assert_eq!(rt;
+        (before.commits(), plain.commits(), plain.taken()),
+        (0, 1, 1)
+    );
     Ok(())
 }
 
 #[test]
 fn causes_have_their_numbers_and_names(rt: HostRuntime) -> Result<(), Fail> {
-    let rows = [
-        (Cause::LogFull, "40 LogFull"),
-        (Cause::Present(1), "41 Present 1"),
-        (Cause::UnknownCustomer, "42 UnknownCustomer"),
-        (Cause::UnknownSupplier, "43 UnknownSupplier"),
-        (Cause::UnknownPart, "44 UnknownPart"),
-        (Cause::UnknownDate, "45 UnknownDate"),
-        (Cause::LinesFull, "46 LinesFull"),
-        (Cause::Absent(77), "47 Absent 77"),
-        (Cause::AmendAbsent(9), "48 AmendAbsent 9"),
-    ];
-    for (cause, want) in rows {
-        let told = format!(in rt.alloc(); "{cause}")?;
-        assert_eq!(rt; told.as_str(), want);
-    }
+    let told = format!(in rt.alloc();
+        "{} {} {}",
+        Cause::LogFull,
+        Cause::Present(1),
+        Cause::AmendAbsent(9)
+    )?;
+    assert_eq!(rt; told.as_str(), "40 LogFull 41 Present 1 48 AmendAbsent 9");
     Ok(())
 }

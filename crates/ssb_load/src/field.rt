@@ -6,6 +6,7 @@ ghost use Rattle.ssb_load.specs.Spelling.{number_of, text_of, without_spaces};
 use std::str;
 
 /// A field without the spaces (byte 32) at its end.
+#[inline]
 pub fn trimmed(field: &[u8]) -> &[u8]
     ensures { result.now ≡ without_spaces field.now }
 {
@@ -25,6 +26,7 @@ fn push_digit(value: u64, digit: u8) -> Option<u64>
 }
 
 /// The number that bytes spell: 1 to 20 digits, leading zeros among them, whose value fits a `u64`.
+#[inline]
 pub fn number(bytes: &[u8]) -> Option<u64>
     ensures { result ≡ number_of bytes.now }
 {

@@ -29,7 +29,9 @@ pub(crate) trait TableRow: Drop {
         ensures { Gives values result (row_of of_table (fields_of fields.now)) };
 }
 
-// The number that a record spells in a column.
+// The number that a record spells in a column. Inlined, since a row reads a dozen: each result would else
+// go through memory, which is a tenth of a load's time.
+#[inline(always)]
 #[tactic(auto, unfolding(crate::specs::Row::number_at))]
 pub(crate) fn read_number(fields: &ByteRecord, column: Column) -> Result<u64, LineFault>
     requires { 1 ≤ column.place }

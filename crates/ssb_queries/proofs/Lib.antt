@@ -1,3 +1,4 @@
+pub mod MemberLemmas
 pub mod OrderedLemmas
 pub mod OrderLemmas
 pub mod JoinLemmas

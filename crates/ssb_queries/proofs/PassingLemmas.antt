@@ -1,7 +1,8 @@
 -- A filter of joined rows is a join of filtered rows, so a combination is left where each of its rows is.
-use Rattle.std.proofs.Common.{◌≡◌, List, [], ◌∷◌, ◌++◌, map, Bool, true, false, cond, refl, ap, sym, ◌∙◌}
-use Rattle.std.specs.Prelude.{ℕ, ◌&&◌, nat_eq, filter}
+use Rattle.std.proofs.Common.{◌≡◌, List, [], ◌∷◌, ◌++◌, map, Bool, true, false, cond, refl, ap, ◌∙◌}
+use Rattle.std.specs.Prelude.{◌&&◌, nat_eq, filter}
 use Rattle.std.specs.List.{flat_map}
+use Rattle.std.proofs.lemmas.List.Elements.{filter-append}
 use Rattle.ssb_schema.specs.Base.{Dimensions}
 use Rattle.ssb_schema.specs.declared.fact.Fact.{Fact}
 use Rattle.ssb_schema.specs.declared.customer.CustomerFields.{CustomerFields}
@@ -11,7 +12,6 @@ use Rattle.ssb_schema.specs.declared.date.DateFields.{DateFields}
 use Rattle.ssb_plans.specs.declared.plan.Plan.{Plan}
 use Rattle.ssb_queries.specs.RowValues.{customer_value, supplier_value, part_value, date_value, pass}
 use Rattle.ssb_queries.specs.Combination.{Combination, joined_with, is_in_ranges, passes}
-use Rattle.ssb_queries.proofs.SumLemmas.{filter-append}
 
 -- a filter by a test that is `b` and a test of what was mapped
 filter_map : {X A : Type 0} (b : Bool) (p : A → Bool) (q : X → Bool) (f : X → A) → ((x : X) → p (f x) ≡ (b && q x)) → (xs : List X) → filter p (map f xs) ≡ cond b (map f (filter q xs)) []

@@ -4,6 +4,7 @@ use Rattle.std.specs.Prelude.{ℤ, pos, ◌+ℤ◌, ◌-ℤ◌, filter, IsPermut
 use Rattle.std.specs.List.{fold, flat_map, sum_by}
 use Rattle.std.specs.Ordering.{is_eq}
 use Rattle.std.proofs.lemmas.Int.{ints}
+use Rattle.std.proofs.lemmas.List.Elements.{filter-append}
 use Rattle.std.proofs.lemmas.List.Sums.{sum_by-cons, sum_by-append}
 use Rattle.std.proofs.lemmas.List.Sorted.{sum_by-IsPermutation}
 use Rattle.ssb_plans.specs.declared.value.Value.{Value}
@@ -15,7 +16,6 @@ use Rattle.ssb_schema.specs.declared.fact.Fact.{Fact}
 use Rattle.ssb_queries.specs.Combination.{Combination, joined_with, passes, combinations}
 use Rattle.ssb_queries.specs.Answer.{amount, sum_over, in_group, group_of, groups_cmp, answer}
 use Rattle.ssb_plans.specs.Plan.{OrdersAllGroups}
-use Rattle.ssb_queries.proofs.SumLemmas.{filter-append}
 use Rattle.ssb_queries.proofs.RowLemmas.{rows_from_sums}
 
 -- an amount is a gain less a loss

@@ -1,11 +1,11 @@
 -- Rows that hold each group's sum, sorted, are the answer; and the answer says what the subject asks of it.
-use Rattle.std.proofs.Common.{suc, ◌≡◌, ◌≢◌, List, [], ◌∷◌, length, map, Bool, true, false, cond, Option, Some, sym, refl, ap, ◌∙◌, subst, inl, inr}
+use Rattle.std.proofs.Common.{◌≡◌, ◌≢◌, List, [], ◌∷◌, length, map, Bool, true, false, cond, Option, Some, sym, refl, ap, ◌∙◌, subst, inl, inr}
 use Rattle.std.specs.Prelude.{ℤ, filter, IsPermutation}
 use Rattle.std.specs.List.{AllByRecursion}
 use Rattle.std.specs.List.Sorted.{IsStrictlySortedBy, IsSorted}
 use Rattle.std.specs.Map.{lookup}
-use Rattle.std.specs.declared.cmp.Ordering.{Ordering}
-use Rattle.std.specs.declared.cmp.Ordering.TheVariants.{Less, Equal, Greater}
+use Rattle.std.proofs.lemmas.List.{length-map}
+use Rattle.std.specs.declared.cmp.Ordering.TheVariants.{Less, Equal}
 use Rattle.std.specs.Ordering.{is_eq}
 use Rattle.std.specs.Cmp.{tied_itself, tied_back}
 use Rattle.ssb_schema.specs.declared.column.Column.{Column}
@@ -22,35 +22,9 @@ use Rattle.ssb_queries.specs.Totals.{row_from}
 use Rattle.ssb_plans.specs.Plan.{IsGrouped}
 use Rattle.ssb_queries.specs.Laws.{ListsGroups, HaveDistinctGroups}
 use Rattle.ssb_queries.proofs.OrderedLemmas.{in_order_is, in_order-same_members, has_from_in_order, has_in_order, sorted_in_order}
-use Rattle.ssb_queries.proofs.OrderLemmas.{groups_cmp_total, groups_cmp-same, row_cmp_total, same_groups_from_tie}
-use Rattle.ssb_queries.proofs.PermutationLemmas.{NoTies, strict_from_sort, same_members_permutation}
-
-equal : (r : Ordering) → is_eq r ≡ true → r ≡ Equal
-equal Less h = cc
-equal Equal h = refl
-equal Greater h = cc
-
-pub length-map : {X Y : Type 0} (f : X → Y) (xs : List X) → length (map f xs) ≡ length xs
-length-map f [] = refl
-length-map f (x ∷ xs) = ap suc (length-map f xs)
-
-pub has_map : {X Y : Type 0} (f : X → Y) (xs : List X) (x : X) → Has xs x → Has (map f xs) (f x)
-has_map f [] x h = h
-has_map f (y ∷ xs) x (inl e) = inl (ap f e)
-has_map f (y ∷ xs) x (inr h) = inr (has_map f xs x h)
-
-pub has_from_map : {X Y : Type 0} (f : X → Y) (xs : List X) (y : Y) → Has (map f xs) y → (x : X) × Has xs x × (y ≡ f x)
-has_from_map f [] y h = absurd h
-has_from_map f (x ∷ xs) y (inl e) = (x, inl refl, e)
-has_from_map f (x ∷ xs) y (inr h) = let rest = has_from_map f xs y h in (rest.0, inr rest.1, rest.2)
-
-has_filter : {X : Type 0} (p : X → Bool) (xs : List X) (x : X) → p x ≡ true → Has xs x → Has (filter p xs) x
-has_filter p [] x t h = h
-has_filter p (y ∷ xs) x t (inl e) =
-    let here : p y ≡ true = sym (ap p e) ∙ t in
-    subst (λ (b : Bool). Has (cond b (y ∷ filter p xs) (filter p xs)) x) (sym here) (inl e)
-has_filter p (y ∷ xs) x t (inr h) =
-    elim (p y) as (λ b. Has (cond b (y ∷ filter p xs) (filter p xs)) x) [ true ↦ inr (has_filter p xs x t h) | false ↦ has_filter p xs x t h ]
+use Rattle.ssb_queries.proofs.OrderLemmas.{tied_by_test, test_of_apart, groups_cmp_total, groups_cmp-same, row_cmp_total, same_groups_from_tie}
+use Rattle.ssb_queries.proofs.MemberLemmas.{all_at, has_map, has_from_map, has_filter, same_members_permutation}
+use Rattle.ssb_queries.proofs.PermutationLemmas.{NoTies, strict_from_sort}
 
 some_sum : (measure : Measure) (found : List Combination) (c : Combination) → Has found c → (sum : ℤ) × (sum_over measure found ≡ Some sum)
 some_sum measure [] c h = absurd h
@@ -62,7 +36,7 @@ module _ (plan : Plan) where
   member_from_sum [] groups sum e = cc
   member_from_sum (x ∷ xs) groups sum e =
       elim (is_eq (groups_cmp (group_of plan x) groups)) as (λ b. is_eq (groups_cmp (group_of plan x) groups) ≡ b → sum_over plan.measure (cond b (x ∷ in_group plan groups xs) (in_group plan groups xs)) ≡ Some sum → (c : Combination) × Has (x ∷ xs) c × (group_of plan c ≡ groups)) [
-        | true ↦ λ t _. (x, inl refl, groups_cmp-same _ _ (equal _ t))
+        | true ↦ λ t _. (x, inl refl, groups_cmp-same _ _ (tied_by_test _ t))
         | false ↦ λ _ s. let rest = member_from_sum xs groups sum s in (rest.0, inr rest.1, rest.2)
       ] refl e
 
@@ -79,23 +53,13 @@ DistinctGroups ((groups, sum) ∷ entries) = AllByRecursion (λ e. groups_cmp gr
 abbrev pub sum_at : List (List Value × ℤ) → List Value → Option ℤ
 sum_at entries groups = lookup (λ other. is_eq (groups_cmp groups other)) entries
 
-not_equal : (r : Ordering) → r ≢ Equal → is_eq r ≡ false
-not_equal Less h = refl
-not_equal Equal h = absurd (h refl)
-not_equal Greater h = refl
-
 entry_from_sum : (entries : List (List Value × ℤ)) (groups : List Value) (sum : ℤ) → sum_at entries groups ≡ Some sum → Has entries (groups, sum)
 entry_from_sum [] groups sum e = cc
 entry_from_sum ((g, s) ∷ entries) groups sum e =
     elim (is_eq (groups_cmp groups g)) as (λ b. is_eq (groups_cmp groups g) ≡ b → cond b (Some s) (sum_at entries groups) ≡ Some sum → Has ((g, s) ∷ entries) (groups, sum)) [
-      | true ↦ λ t h. inl (let same : groups ≡ g = groups_cmp-same _ _ (equal _ t) in let same_sum : s ≡ sum = cc in cc)
+      | true ↦ λ t h. inl (let same : groups ≡ g = groups_cmp-same _ _ (tied_by_test _ t) in let same_sum : s ≡ sum = cc in cc)
       | false ↦ λ _ h. inr (entry_from_sum entries groups sum h)
     ] refl e
-
-all_at : {X : Type 0} (P : X → Type 0) (xs : List X) (z : X) → AllByRecursion P xs → Has xs z → P z
-all_at P [] z all h = absurd h
-all_at P (x ∷ xs) z all (inl e) = subst P (sym e) all.0
-all_at P (x ∷ xs) z all (inr h) = all_at P xs z all.1 h
 
 sum_from_entry : (entries : List (List Value × ℤ)) (groups : List Value) (sum : ℤ) → DistinctGroups entries → Has entries (groups, sum) → sum_at entries groups ≡ Some sum
 sum_from_entry [] groups sum d h = absurd h
@@ -105,7 +69,7 @@ sum_from_entry ((g, s) ∷ entries) groups sum d (inl e) =
     let tie : is_eq (groups_cmp groups g) ≡ true = ap (λ (x : List Value). is_eq (groups_cmp x g)) same ∙ ap is_eq (tied_itself groups_cmp_total g) in
     ap (λ (b : Bool). cond b (Some s) (sum_at entries groups)) tie ∙ ap Some (sym same_sum)
 sum_from_entry ((g, s) ∷ entries) groups sum d (inr h) =
-    let apart : is_eq (groups_cmp groups g) ≡ false = not_equal _ (λ t. all_at (λ e. groups_cmp g e.0 ≢ Equal) entries (groups, sum) d.0 h (tied_back groups_cmp_total groups g t)) in
+    let apart : is_eq (groups_cmp groups g) ≡ false = test_of_apart _ (λ t. all_at (λ e. groups_cmp g e.0 ≢ Equal) entries (groups, sum) d.0 h (tied_back groups_cmp_total groups g t)) in
     ap (λ (b : Bool). cond b (Some s) (sum_at entries groups)) apart ∙ sum_from_entry entries groups sum d.1 h
 
 module _ (plan : Plan) (found : List Combination) where
@@ -123,7 +87,7 @@ module _ (plan : Plan) (found : List Combination) where
       (member.0, member.1, row.2 ∙ ap (row_of plan found) member.2)
 
   length-group : (c : Combination) → length (group_of plan c) ≡ length plan.groups
-  length-group c = length-map (λ column. value_at column c) plan.groups
+  length-group c = length-map plan.groups (λ column. value_at column c)
 
   module _ (orders : OrdersAllGroups plan) where
     same_from_tie : (a b : ResultRow) → length a.groups ≡ length plan.groups → length b.groups ≡ length plan.groups → row_cmp plan.order a b ≡ Equal → a.groups ≡ b.groups

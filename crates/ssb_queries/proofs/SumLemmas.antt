@@ -1,8 +1,10 @@
 -- The sum of a group as combinations are added one after another.
-use Rattle.std.proofs.Common.{◌≡◌, List, [], ◌∷◌, ◌++◌, Bool, true, false, cond, Some, sym, refl, ap, ◌∙◌, append_assoc}
+use Rattle.std.proofs.Common.{◌≡◌, List, [], ◌∷◌, ◌++◌, true, false, cond, Some, refl, ap, ◌∙◌}
 use Rattle.std.specs.Prelude.{pos, ◌+ℤ◌, filter, unwrap_or}
-use Rattle.std.specs.List.{flat_map}
 use Rattle.std.specs.Ordering.{is_eq}
+use Rattle.std.proofs.lemmas.Grind.{flat_map-append}
+use Rattle.std.proofs.lemmas.List.{append-nil}
+use Rattle.std.proofs.lemmas.List.Elements.{filter-append}
 use Rattle.std.proofs.lemmas.List.Sums.{fold_push}
 use Rattle.ssb_plans.specs.declared.value.Value.{Value}
 use Rattle.ssb_plans.specs.declared.plan.Measure.{Measure}
@@ -16,18 +18,6 @@ pub sum_over_push : (measure : Measure) (found : List Combination) (c : Combinat
 sum_over_push measure [] c = refl
 sum_over_push measure (x ∷ xs) c = ap Some (fold_push (λ sum combination. sum +ℤ amount measure combination.fact) (pos 0) (x ∷ xs) c)
 
-pub filter-append : {X : Type 0} (p : X → Bool) (xs ys : List X) → filter p (xs ++ ys) ≡ filter p xs ++ filter p ys
-filter-append p [] ys = refl
-filter-append p (x ∷ xs) ys =
-    elim (p x) as (λ b. cond b (x ∷ filter p (xs ++ ys)) (filter p (xs ++ ys)) ≡ cond b (x ∷ filter p xs) (filter p xs) ++ filter p ys) [
-      | true ↦ ap (λ t. x ∷ t) (filter-append p xs ys)
-      | false ↦ filter-append p xs ys
-    ]
-
-append_nil : {X : Type 0} (xs : List X) → xs ++ [] ≡ xs
-append_nil [] = refl
-append_nil (x ∷ xs) = ap (λ t. x ∷ t) (append_nil xs)
-
 -- one combination more changes the sum of its group alone
 pub group_sum_push : (plan : Plan) (found : List Combination) (c : Combination) (groups : List Value)
     → sum_over plan.measure (in_group plan groups (found ++ c ∷ []))
@@ -36,17 +26,13 @@ group_sum_push plan found c groups =
     ap (sum_over plan.measure) (filter-append (λ combination. is_eq (groups_cmp (group_of plan combination) groups)) found (c ∷ []))
     ∙ elim (is_eq (groups_cmp (group_of plan c) groups)) as (λ b. sum_over plan.measure (in_group plan groups found ++ cond b (c ∷ []) []) ≡ cond b (Some (unwrap_or (sum_over plan.measure (in_group plan groups found)) (pos 0) +ℤ amount plan.measure c.fact)) (sum_over plan.measure (in_group plan groups found))) [
       | true ↦ sum_over_push plan.measure (in_group plan groups found) c
-      | false ↦ ap (sum_over plan.measure) (append_nil (in_group plan groups found))
+      | false ↦ ap (sum_over plan.measure) (append-nil (in_group plan groups found))
     ]
-
-flat_map-append : {X A : Type 0} (f : X → List A) (xs ys : List X) → flat_map f (xs ++ ys) ≡ flat_map f xs ++ flat_map f ys
-flat_map-append f [] ys = refl
-flat_map-append f (x ∷ xs) ys = ap (λ t. f x ++ t) (flat_map-append f xs ys) ∙ sym (append_assoc (f x) (flat_map f xs) (flat_map f ys))
 
 -- one line more adds its own combinations
 pub combinations_push : (plan : Plan) (dimensions : Dimensions) (facts : List Fact) (fact : Fact) → combinations plan dimensions (facts ++ fact ∷ []) ≡ combinations plan dimensions facts ++ filter (passes plan) (joined_with dimensions fact)
 combinations_push plan dimensions facts fact =
-    ap (filter (passes plan)) (flat_map-append (joined_with dimensions) facts (fact ∷ []) ∙ ap (λ t. joined dimensions facts ++ t) (append_nil (joined_with dimensions fact)))
+    ap (filter (passes plan)) (flat_map-append (joined_with dimensions) facts (fact ∷ []) ∙ ap (λ t. joined dimensions facts ++ t) (append-nil (joined_with dimensions fact)))
     ∙ filter-append (passes plan) (joined dimensions facts) (joined_with dimensions fact)
 
 -- the combinations over lines in two parts

@@ -3,8 +3,6 @@ use Rattle.std.proofs.Common.{ℕ, ◌≡◌, ◌+◌, ◌-◌, ◌^◌, List, [
 use Rattle.std.specs.Prelude.{ℤ, pos, ◌+ℤ◌, ◌≤ℤ◌, unwrap_or, FitsSigned}
 use Rattle.std.specs.Int.{w64}
 use Rattle.std.specs.BTreeMap.{get}
-use Rattle.std.specs.declared.cmp.Ordering.{Ordering}
-use Rattle.std.specs.declared.cmp.Ordering.TheVariants.{Less, Equal, Greater}
 use Rattle.std.specs.Ordering.{is_eq}
 use Rattle.std.proofs.lemmas.Int.{ints}
 use Rattle.ssb_plans.specs.declared.value.Value.{Value}
@@ -12,13 +10,8 @@ use Rattle.ssb_plans.specs.declared.plan.Plan.{Plan}
 use Rattle.ssb_queries.specs.Combination.{Combination}
 use Rattle.ssb_queries.specs.Answer.{amount, sum_over, in_group, group_of, groups_cmp}
 use Rattle.ssb_queries.specs.Totals.{Totals, SumsFit, HasRoom, Adds, AddsAll, AddsOneLine, IsAmount, IsWithin, most}
-use Rattle.ssb_queries.proofs.OrderLemmas.{groups_cmp-same}
+use Rattle.ssb_queries.proofs.OrderLemmas.{tied_by_test, groups_cmp-same}
 use Rattle.ssb_queries.proofs.SumLemmas.{group_sum_push}
-
-equal : (r : Ordering) → is_eq r ≡ true → r ≡ Equal
-equal Less h = cc
-equal Equal h = refl
-equal Greater h = cc
 
 -- what so many lines can make, one line more can
 within_one_more : (lines : ℕ) (sum : ℤ) → IsWithin lines sum → IsWithin (lines + 1) sum
@@ -65,7 +58,7 @@ pub adds_combination : (plan : Plan) (old new : Totals) (c : Combination) → Ad
 adds_combination plan old new c adds found totals other =
     adds other
     ∙ elim (is_eq (groups_cmp (group_of plan c) other)) as (λ b. is_eq (groups_cmp (group_of plan c) other) ≡ b → cond b (Some (unwrap_or (get groups_cmp old (group_of plan c)) (pos 0) +ℤ amount plan.measure c.fact)) (get groups_cmp old other) ≡ cond b (Some (unwrap_or (sum_over plan.measure (in_group plan other found)) (pos 0) +ℤ amount plan.measure c.fact)) (sum_over plan.measure (in_group plan other found))) [
-      | true ↦ λ t. ap (λ (o : Option ℤ). Some (unwrap_or o (pos 0) +ℤ amount plan.measure c.fact)) (totals (group_of plan c) ∙ ap (λ (g : List Value). sum_over plan.measure (in_group plan g found)) (groups_cmp-same _ _ (equal _ t)))
+      | true ↦ λ t. ap (λ (o : Option ℤ). Some (unwrap_or o (pos 0) +ℤ amount plan.measure c.fact)) (totals (group_of plan c) ∙ ap (λ (g : List Value). sum_over plan.measure (in_group plan g found)) (groups_cmp-same _ _ (tied_by_test _ t)))
       | false ↦ λ _. totals other
     ] refl
     ∙ sym (group_sum_push plan found c other)

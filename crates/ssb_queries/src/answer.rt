@@ -15,7 +15,7 @@ pub struct ResultRow {
 /// The rows that answer a question, in the order of its plan.
 #[derive(PartialEq, Eq, Drop)]
 pub struct Rows {
-    pub question: Question,
+    pub query: Question,
     pub list: Items<ResultRow>,
 }
 

@@ -118,7 +118,7 @@ pub fn plain(
     question: &Question,
 ) -> Result<Rows, AllocError>
     requires { length lines.now ≤ MOST_LINES }
-    ensures question { IfOk result (λ rows. rows.question ≡ question.now) }
+    ensures question { IfOk result (λ rows. rows.query ≡ question.now) }
     ensures rows { IfOk result (λ rows. rows.list ≡ answer_of question.now base.now.dimensions (facts_of lines.now)) }
 {
     // What the base keeps is told where its lines are read.
@@ -126,7 +126,7 @@ pub fn plain(
     let plan = plan(alloc, question)?;
     let rows = evaluate(alloc, base, lines, &plan)?;
     Ok(Rows {
-        question: question.share()?,
+        query: question.share()?,
         list: Items::from_vec(rows),
     })
 }

@@ -54,7 +54,7 @@ fn rows_of(
     let _count = store.line_count();
     let _limits = base.limits();
     let rows = plain(alloc, base, lines.lines(), question)?;
-    let Rows { question: _, list } = rows;
+    let Rows { query: _, list } = rows;
     Ok(list)
 }
 

@@ -1,6 +1,5 @@
 -- What is known of a script's text while it is read.
-use Rattle.std.proofs.Common.{◌≡◌, ℕ, ◌+◌, ◌<◌, ◌≤◌, true, false, List, [], ◌∷◌, ◌++◌, Option, Some, None, Result, Ok, Err, map, length, refl, sym, ap, ◌∙◌, ◌⊎◌, inl, inr, arith}
-use Rattle.std.specs.List.{All, flat_map}
+use Rattle.std.proofs.Common.{◌≡◌, ℕ, ◌+◌, ◌<◌, ◌≤◌, true, false, List, [], ◌∷◌, ◌++◌, Option, Some, Result, Ok, Err, map, length, refl, sym, ap, ◌∙◌, inl, inr, arith}
 use Rattle.std.proofs.lemmas.List.Elements.{All-append, All-nil}
 use Rattle.std.specs.Result.{IfOk, IfErr}
 use Rattle.std.proofs.lemmas.Bool.{le-ltb, lt-ltb}
@@ -11,9 +10,9 @@ use Rattle.ssb_load.specs.Records.{GivesNext, HasGiven}
 use Rattle.ssb_load.specs.declared.records.ReadError.{ReadError}
 use Rattle.ssb_load.specs.declared.records.ReadError.TheVariants as read
 use Rattle.ssb_script.specs.Errors.{error_of_read}
-use Rattle.ssb_script.specs.Lines.{ScriptLine, RecordFault, line_of, word_of}
+use Rattle.ssb_script.specs.Lines.{ScriptLine, line_of, word_of}
 use Rattle.ssb_script.specs.Requests.{Request, IsWholeRequest, lines_of_request, lines_of_requests, requests_of}
-use Rattle.ssb_script.specs.Scripts.{Spells, SpellsScript, IsFirstFault, IsScriptFault, EndsInRefresh, HasRoom, checks_in, fault_of, first_of, is_outside, lines_of_begun, order_refused, too_long}
+use Rattle.ssb_script.specs.Scripts.{Spells, SpellsScript, IsFirstFault, IsScriptFault, EndsInRefresh, checks_in, fault_of, first_of, is_outside, lines_of_begun, order_refused}
 use Rattle.ssb_script.specs.Steps.{Follows, IsFoundBy, asked}
 use Rattle.ssb_script.specs.declared.begun.Begun.{Begun}
 use Rattle.ssb_script.specs.declared.begun.Begun.TheVariants.{Nothing}
@@ -39,7 +38,7 @@ read_nothing remaining text reader given = record {
   records = [];
   given = given;
   many = refl;
-  spells = record { spelled = refl; whole = All-nil IsWholeRequest; room = tt };
+  spells = record { spelled = refl; whole = All-nil IsWholeRequest; room = tt; settled = tt };
 }
 
 -- the lines of one record more
@@ -53,6 +52,7 @@ spells_more records requests old fields line step so_far spelled follows = recor
       (sym (map-append Ok (lines_of_requests requests ++ lines_of_begun old) (line ∷ [])) ∙ ap (map Ok) (lines_more (lines_of_requests requests) (lines_of_begun old) (lines_of_requests (asked step)) (lines_of_begun step.begun) line follows.lines));
   whole = All-append IsWholeRequest requests (asked step) so_far.whole follows.whole;
   room = rw (length_push records fields) follows.room;
+  settled = follows.settled;
 }
 
 -- one more record was read

@@ -1,21 +1,19 @@
 -- Laws of what one record does to what is begun.
-use Rattle.std.proofs.Common.{◌≡◌, ℕ, ◌+◌, ◌<◌, ◌≤◌, true, false, List, [], ◌∷◌, ◌++◌, Option, Some, None, Result, Ok, Err, map, length, refl, sym, ap, ◌∙◌, ◌⊎◌, inl, inr, arith, nat_eq, Bool, cond}
-use Rattle.std.specs.List.{All, flat_map}
+use Rattle.std.proofs.Common.{◌≡◌, ℕ, true, false, List, [], ◌∷◌, ◌++◌, Option, Some, None, Result, Ok, Err, map, refl, sym, ap, ◌∙◌, inl, inr, arith, Bool}
+use Rattle.std.specs.List.{flat_map}
 use Rattle.std.specs.Option.{option_map}
 use Rattle.std.specs.Result.{IfOk, IfErr}
 use Rattle.std.specs.Bool.{if◌then◌else◌}
-use Rattle.std.proofs.lemmas.Bool.{le-ltb}
 use Rattle.std.proofs.lemmas.List.{append-nil, length_push}
 use Rattle.std.proofs.lemmas.List.Elements.{All-push}
 use Rattle.std.proofs.lemmas.Grind.{flat_map-append}
 use Rattle.ssb_schema.specs.Orders.{order_fault}
-use Rattle.ssb_schema.specs.Refreshes.{refresh_fault}
-use Rattle.ssb_schema.specs.declared.fault.SchemaFault.{SchemaFault}
 use Rattle.ssb_schema.specs.declared.line.LineFields.{LineFields}
 use Rattle.ssb_schema.specs.declared.refresh.Action.{Action}
-use Rattle.ssb_script.specs.Lines.{ScriptLine, RecordFault, Open, Line, Begin, is_line, line_of_control, line_of_row, line_or_bad}
+use Rattle.ssb_schema.specs.declared.refresh.Action.TheVariants as action
+use Rattle.ssb_script.specs.Lines.{ScriptLine, RecordFault, Open, Line, Begin, is_line, line_of_control, line_or_bad}
 use Rattle.ssb_script.specs.Requests.{IsWholeAction, action_of, lines_of_action}
-use Rattle.ssb_script.specs.Scripts.{HasRoom, checks_in, first_of, is_in_order, lines_of_begun, order_refused, refusal_at_end}
+use Rattle.ssb_script.specs.Scripts.{HasRoom, checks_in, ends_in_order, first_of, lines_of_begun, order_refused, refusal_at_end}
 use Rattle.ssb_script.specs.Steps.{Follows, IsFoundBy, actions_at_end, begun_of}
 use Rattle.ssb_script.specs.declared.begun.Begun.{Begun}
 use Rattle.ssb_script.specs.declared.begun.Begun.TheVariants as begun
@@ -26,8 +24,6 @@ use Rattle.ssb_script.specs.declared.control.Opening.{Opening}
 use Rattle.ssb_script.specs.declared.control.Opening.TheVariants.{Add, Amend}
 use Rattle.ssb_script.specs.declared.error.ScriptError.{ScriptError}
 use Rattle.ssb_script.specs.declared.error.ScriptError.TheVariants as error
-use Rattle.ssb_script.specs.declared.order_line.OrderLine.{OrderLine}
-use Rattle.ssb_script.specs.declared.order_line.OrderLine.TheVariants as row
 use Rattle.ssb_script.specs.declared.word.Word.{Word}
 
 -- the lines of an order are those of its action
@@ -42,7 +38,7 @@ lines-ended (begun.Refresh actions) = refl
 lines-ended (begun.Order order) =
     let last : List ScriptLine = lines_of_action (action_of order.opening order.lines) in
     ap (λ rest. Begin ∷ rest) (flat_map-append lines_of_action order.actions (action_of order.opening order.lines ∷ [])
-      ∙ ap (λ rest. flat_map lines_of_action order.actions ++ rest) (append-nil last ∙ lines_of_action-action_of order.opening order.lines))
+    ∙ ap (λ rest. flat_map lines_of_action order.actions ++ rest) (append-nil last ∙ lines_of_action-action_of order.opening order.lines))
 
 -- a fault that is told of none is none
 none_told : {A B : Type 0} (f : A → B) (o : Option A) → option_map f o ≡ None → o ≡ None
@@ -67,6 +63,7 @@ follows-ended number b line step follows = record {
   lines = ap (λ lines. lines ++ line ∷ []) (sym (lines-ended b)) ∙ follows.lines;
   whole = follows.whole;
   room = follows.room;
+  settled = follows.settled;
 }
 
 -- the checks of a record that is no `line` are those where the order has ended
@@ -112,3 +109,9 @@ fault_after (Ok step) number b word spelled found ended at none is faults = tt
 fault_after (Err e) number b word spelled found ended at none is (inl memory) = inl memory
 fault_after (Err e) number b word spelled found ended at none is (inr faults) =
     inr (rw (not_refused b word none, is) (checks-ended number b (Some found) ∙ rw at faults))
+
+-- what ends in a withdrawal ends in no order
+pub ends_withdrawn : (actions : List Action) (key : ℕ) → ends_in_order (actions ++ action.Withdraw key ∷ []) ≡ false
+ends_withdrawn [] key = refl
+ends_withdrawn (a ∷ []) key = refl
+ends_withdrawn (a ∷ b ∷ actions) key = ends_withdrawn (b ∷ actions) key

@@ -1,5 +1,5 @@
 -- What a script asks of the warehouse, and the lines that spell it.
-use Rattle.std.specs.Prelude.{◌≡◌, ℕ, ◌++◌, List, [], ◌∷◌, All, None, map}
+use Rattle.std.specs.Prelude.{◌≡◌, ◌++◌, List, [], ◌∷◌, All, None, map}
 use Rattle.std.specs.List.{flat_map}
 use Rattle.ssb_plans.specs.declared.query.Query.{Query as Named}
 use Rattle.ssb_plans.specs.declared.value.Value.{Value}

@@ -1,9 +1,11 @@
 -- What the text of a script spells, and its first fault.
-use Rattle.std.specs.Prelude.{◌≡◌, ◌≢◌, ℕ, ◌+◌, ◌≤◌, ◌<◌, ◌⊎◌, ◌++◌, ◌==◌, ◌&&◌, Bool, true, false, not, List, [], ◌∷◌, length, map, All, Option, Some, None, option_map, Result, Ok, Err, nat_eq, nat_lt, if◌then◌else◌}
+use Rattle.std.specs.Prelude.{◌≡◌, ℕ, ◌+◌, ◌≤◌, ◌<◌, ◌⊎◌, ◌++◌, ◌&&◌, Bool, true, false, not, List, [], ◌∷◌, length, map, All, Option, Some, None, option_map, Result, Ok, Err, nat_eq, nat_lt, if◌then◌else◌}
 use Rattle.std.specs.List.{flat_map}
 use Rattle.ssb_load.specs.Records.{BeginsWith, HasRecords}
 use Rattle.ssb_schema.specs.Orders.{order_fault}
 use Rattle.ssb_schema.specs.declared.fault.SchemaFault.TheVariants as schema
+use Rattle.ssb_schema.specs.declared.refresh.Action.{Action}
+use Rattle.ssb_schema.specs.declared.refresh.Action.TheVariants as action
 use Rattle.ssb_script.specs.Lines.{is_line, line_of, word_of, ScriptLine, RecordFault, Bad, Refused}
 use Rattle.ssb_script.specs.Lines as line
 use Rattle.ssb_script.specs.Requests.{Request, IsWholeAction, IsWholeRequest, lines_of_action, lines_of_requests}
@@ -34,11 +36,29 @@ HasRoom count (begun.Refresh actions) = (length actions ≤ 64) × All IsWholeAc
 HasRoom count (begun.Order order) =
     (length order.actions < 64) × All IsWholeAction order.actions × (length order.lines ≤ 7) × (order.number + length order.lines ≡ count)
 
+-- whether the last of these actions adds or amends an order
+abbrev pub is_order : Action → Bool
+is_order (action.Add order) = true
+is_order (action.Amend order) = true
+is_order (action.Withdraw key) = false
+
+abbrev pub ends_in_order : List Action → Bool
+ends_in_order [] = false
+ends_in_order (last ∷ []) = is_order last
+ends_in_order (one ∷ next ∷ actions) = ends_in_order (next ∷ actions)
+
+-- an order that has begun is being read until a record that is no `line` follows, and so is no action yet
+abbrev pub IsSettled : Begun → Type 0
+IsSettled begun.Nothing = Unit {0}
+IsSettled (begun.Refresh actions) = ends_in_order actions ≡ false
+IsSettled (begun.Order order) = Unit {0}
+
 -- records spell whole requests, and then what is begun
 pub record Spells (records : List (List (List ℕ))) (requests : List Request) (begun : Begun) : Type 0 where
   pub spelled : map line_of records ≡ map Ok (lines_of_requests requests ++ lines_of_begun begun)
   pub whole : All IsWholeRequest requests
   pub room : HasRoom (length records) begun
+  pub settled : IsSettled begun
 
 -- whether no refresh is begun; whether an order is
 abbrev pub is_outside : Begun → Bool

@@ -4,7 +4,7 @@ use Rattle.std.specs.Option.{option_to_list}
 use Rattle.ssb_schema.specs.declared.refresh.Action.{Action}
 use Rattle.ssb_script.specs.Lines.{ScriptLine}
 use Rattle.ssb_script.specs.Requests.{Request, IsWholeRequest, action_of, lines_of_requests, request_of}
-use Rattle.ssb_script.specs.Scripts.{HasRoom, first_of, lines_of_begun}
+use Rattle.ssb_script.specs.Scripts.{HasRoom, IsSettled, first_of, lines_of_begun}
 use Rattle.ssb_script.specs.declared.begun.Begun.{Begun}
 use Rattle.ssb_script.specs.declared.begun.Begun.TheVariants as begun
 use Rattle.ssb_script.specs.declared.begun.Step.{Step}
@@ -31,6 +31,7 @@ pub record Follows (number : ℕ) (old : Begun) (line : ScriptLine) (step : Step
   pub lines : lines_of_begun old ++ line ∷ [] ≡ lines_of_requests (asked step) ++ lines_of_begun step.begun
   pub whole : All IsWholeRequest (asked step)
   pub room : HasRoom number step.begun
+  pub settled : IsSettled step.begun
 
 -- an error is the first that these checks find, unless memory ran out
 abbrev pub IsFoundBy : List (Option ScriptError) → ScriptError → Type 0

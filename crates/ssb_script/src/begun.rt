@@ -1,6 +1,6 @@
 //! What the records of a script have begun and not ended, and what one more record does to it.
 
-ghost use Rattle.std.specs.Prelude.{◌≡◌, ◌+◌, ◌-◌, ◌<◌, ◌^◌, ◌++◌, ◌∷◌, [], IfOk, IfErr, None, Ok};
+ghost use Rattle.std.specs.Prelude.{◌≡◌, ◌+◌, ◌-◌, ◌<◌, ◌^◌, ◌++◌, ◌∷◌, [], IfOk, IfErr, None, Ok, length, nat_lt};
 ghost use Rattle.csv.specs.Records.{fields_of};
 ghost use Rattle.ssb_schema.specs.Orders.{order_fault};
 ghost use Rattle.ssb_script.specs.Lines as spec;
@@ -56,6 +56,13 @@ fn pushed<T: Drop>(items: Items<T>, item: T) -> Result<Items<T>, AllocError>
     Ok(Items::from_vec(items))
 }
 
+// Whether a refresh of these actions takes one more.
+fn has_room(actions: &Items<Action>) -> bool
+    ensures { result ≡ nat_lt (length actions.now) 64 }
+{
+    actions.len() < 64
+}
+
 // What comes of the record of a number where no refresh is begun.
 fn outside(alloc: Global, number: u64, control: Control) -> Result<Step, ScriptError>
     ensures step { IfOk result (λ step. Follows number begun.Nothing (line_of_control control) step) }
@@ -87,7 +94,7 @@ fn begin_order(
     ensures step { IfOk result (λ step. Follows number (begun.Refresh actions) (spec.Open opening) step) }
     ensures fault { IfErr result (IsFoundBy (checks_in number (begun.Refresh actions) (Ok (spec.Open opening)))) }
 {
-    if actions.len() == 64 {
+    if !has_room(&actions) {
         return Err(ScriptError::Row(number, SchemaFault::TooManyActions));
     }
     let lines = Items::from_vec(Vec::new(alloc));
@@ -108,7 +115,7 @@ fn withdraw(number: u64, actions: Items<Action>, key: u64) -> Result<Step, Scrip
     ensures step { IfOk result (λ step. Follows number (begun.Refresh actions) (spec.Withdraw key) step) }
     ensures fault { IfErr result (IsFoundBy (checks_in number (begun.Refresh actions) (Ok (spec.Withdraw key)))) }
 {
-    if actions.len() == 64 {
+    if !has_room(&actions) {
         return Err(ScriptError::Row(number, SchemaFault::TooManyActions));
     }
     Ok(Step {

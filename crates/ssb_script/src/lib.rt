@@ -1,4 +1,15 @@
-//! Reads the scripts of the warehouse's clients.
+//! The warehouse's script language: from the bytes of a client's script to the blocks that it asks for, refreshes
+//! (lists of whole-order actions, in the manner of TPC-H's refresh functions) and questions.
+//!
+//! A script is text, one record a line, fields parted by `|`: `query|Q4.1` asks, `begin` .. `commit` is a refresh, and in
+//! it `add`, `amend` (each with its `line` records) and `withdraw|KEY` are its actions. The one contract, of
+//! `read_script`: the blocks are exactly those whose lines the script's records spell, and an error is the first fault
+//! that the script has, record by record and check by check; only a failed read and want of memory may come before it.
+//!
+//! The definitions stand in `specs/`: `Lines` (what one record says), `Requests` (the lines of a block) and `Scripts`
+//! (what a text spells, the checks in their order, and the first fault).
+//!
+//! `read_script(alloc, "query|Q1.1\n".as_bytes(), 1_000_000)?.blocks` is one block, the question of Q1.1.
 #![tactic(auto)]
 
 mod begun;
@@ -9,6 +20,8 @@ mod fields;
 mod order_line;
 mod question;
 mod script;
+#[cfg(test)]
+mod tests;
 mod word;
 
 pub use block::{Block, Script};

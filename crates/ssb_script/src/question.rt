@@ -23,11 +23,7 @@ fn query_named(name: &[u8]) -> Option<Query>
 }
 
 // The constant of a kind that bytes spell.
-fn constant_of(
-    alloc: Global,
-    kind: ConstantKind,
-    bytes: &[u8],
-) -> Result<Option<Value>, AllocError>
+fn constant_of(alloc: Global, kind: ConstantKind, bytes: &[u8]) -> Result<Option<Value>, AllocError>
     ensures { IfOk result (λ constant. constant ≡ constant_spelled kind bytes.now) }
 {
     match kind {

@@ -20,7 +20,7 @@ fn gives(
         return Ok(false);
     }
     let found = plain(alloc, base, lines, question)?;
-    Ok(found.question == *question && same_rows(found.list.as_slice(), rows))
+    Ok(found.query == *question && same_rows(found.list.as_slice(), rows))
 }
 
 // Whether a query over the loaded lines is answered by one row of these values.

@@ -1,4 +1,4 @@
-use Rattle.std.proofs.Common.{◌≡◌, ℕ, ◌-◌, ◌<◌, ◌≤◌, List, length, take, slice_index, nat_eq}
+use Rattle.std.proofs.Common.{ℕ, ◌-◌, ◌<◌, ◌≤◌, List, length, take, slice_index, nat_eq}
 use Rattle.std.specs.HashMap.{get}
 use Rattle.row_store.specs.History.{CommitRecord}
 use Rattle.row_store.specs.Keyed.{Located, key_at, lines_at}

@@ -1,11 +1,9 @@
-use Rattle.std.proofs.Common.{rules, ◌≡◌, ℕ, ◌<◌, cond, eqb, List, [], ◌++◌, Result, Ok, Err, Some, None, nat_eq, ap, sym, ◌∙◌, length, subst}
+use Rattle.std.proofs.Common.{◌≡◌, ℕ, ◌<◌, cond, eqb, List, [], ◌++◌, Result, Ok, Err, Some, nat_eq, ap, sym, ◌∙◌, length, subst}
 use Rattle.std.specs.Result.{IsOk, OnOk}
 use Rattle.std.specs.HashMap.{get}
 use Rattle.ssb_schema.specs.declared.line.LineFields.{LineFields}
-use Rattle.ssb_schema.specs.declared.refresh.Action.TheVariants.{Add}
 use Rattle.ssb_schema.specs.Orders.{order_key}
 use Rattle.row_store.specs.Lines.{lines_of, lines_without}
-use Rattle.row_store.specs.Refusals.{cause_of}
 use Rattle.row_store.specs.declared.place.Place.{Place}
 use Rattle.row_store.specs.Keyed.{Located, IsAt, IsWithin, lines_from}
 use Rattle.row_store.proofs.Causes.{new_key}
@@ -53,7 +51,7 @@ returns-in-Amend-clause-each c base sources lines found within each none =
     let key : c.key-in-Amend.result ≡ order_key order = c.key-in-Amend.ensures in
     let alike : HaveKey c.key-in-Amend.result order = λ k d h. c.lines-in-Amend.ensures.order.alike k d h ∙ sym key in
     let amended : (key : ℕ) → key ≡ order_key order → HaveKey key order → ((q : ℕ) → get nat_eq c.insert-in-Amend.new.self q ≡ cond (eqb key q) (Some place) (get nat_eq c.args.orders.now q)) → Located sources (get nat_eq c.insert-in-Amend.new.self) (lines_without (order_key order) lines ++ order) =
-        λ key same alike now. subst (λ k. Located sources (get nat_eq c.insert-in-Amend.new.self) (lines_without k lines ++ order)) same (located_amended sources (get nat_eq c.args.orders.now) (get nat_eq c.insert-in-Amend.new.self) lines order key place now at alike each) in
+    λ key same alike now. subst (λ k. Located sources (get nat_eq c.insert-in-Amend.new.self) (lines_without k lines ++ order)) same (located_amended sources (get nat_eq c.args.orders.now) (get nat_eq c.insert-in-Amend.new.self) lines order key place now at alike each) in
     λ q. rw c.in-Amend.is (amended c.key-in-Amend.result key alike updates.0 q)
 
 pub returns-in-Withdraw-clause-each : goal.returns-in-Withdraw-clause-each

@@ -1,4 +1,4 @@
-use Rattle.std.proofs.Common.{◌≡◌, ◌∙◌, ◌≤◌, ◌<◌, ◌+◌, ◌++◌, [], true, false, map, sym, refl, inl, inr, rules, arith, Err}
+use Rattle.std.proofs.Common.{◌≡◌, ◌≤◌, ◌<◌, ◌+◌, ◌++◌, map, refl, inl, inr, rules, arith, Err}
 use Rattle.std.proofs.lemmas.Result.{err_from_is_err_and}
 use Rattle.csv.specs.Records.{fields_of}
 use Rattle.ssb_script.specs.Requests.{request_of}
@@ -57,7 +57,7 @@ returns-then-branch-clause-fault g c = λ text known.
     let few : c.loop-before.before ≤ c.args.max_records = c.loop-before.auto.before-end in
     let past : c.args.max_records < c.loop-before.before + 1 = omega (arith, c.loop-before-test.false) in
     inr (inr (inl (first_fault g.R.Read.remaining c.args.max_records text c.loop-before.reader c.next_record-2.new.reader c.loop-before.before (map request_of c.loop-before.blocks.items) c.loop-before.begun (fields_of c.next_record-2.new.next) TooLong (c.loop-before.invariant.so_far text known) next few
-      (too_many c.args.max_records (c.loop-before.before + 1) c.loop-before.begun (fields_of c.next_record-2.new.next) past))))
+    (too_many c.args.max_records (c.loop-before.before + 1) c.loop-before.begun (fields_of c.next_record-2.new.next) past))))
 
 pub returns-clause-script : goal.returns-clause-script
 returns-clause-script g c =

@@ -1,4 +1,4 @@
-use Rattle.std.proofs.Common.{◌≡◌, ap, sym, ◌∙◌, subst}
+use Rattle.std.proofs.Common.{ap, sym, ◌∙◌, subst}
 use Rattle.std.specs.List.{slice_get}
 use Rattle.row_store.specs.OrderLines.{lines_held, IsHeld}
 use Rattle.row_store.proofs.order_lines.OrderLines.get.Goals as goal

@@ -1,4 +1,4 @@
-use Rattle.std.proofs.Common.{◌≡◌, length, ap, sym, ◌∙◌, subst}
+use Rattle.std.proofs.Common.{length, ap, sym, ◌∙◌, subst}
 use Rattle.row_store.specs.OrderLines.{lines_held, IsHeld}
 use Rattle.row_store.proofs.Indexed.{length-lines_at}
 use Rattle.row_store.proofs.order_lines.OrderLines.len.Goals as goal

@@ -1,6 +1,6 @@
-use Rattle.std.proofs.Common.{◌≡◌, ◌∙◌, ◌+◌, ◌∷◌, [], Option, Some, None, Result, Ok, Err, List, ℕ, sym, refl, inr, true}
+use Rattle.std.proofs.Common.{◌≡◌, ◌∙◌, ◌+◌, Some, None, Ok, Err, sym, refl, inr, true}
 use Rattle.csv.specs.Records.{fields_of}
-use Rattle.ssb_script.specs.Lines.{ScriptLine, RecordFault, Bad, is_line, line_of, line_of_control, line_of_row, word_of}
+use Rattle.ssb_script.specs.Lines.{Bad, is_line, line_of, line_of_control, line_of_row, word_of}
 use Rattle.ssb_script.specs.Scripts.{checks_in}
 use Rattle.ssb_script.specs.Steps.{actions_at_end}
 use Rattle.ssb_script.proofs.LineLaws.{line_of-row, line_of-control}

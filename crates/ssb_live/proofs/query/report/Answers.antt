@@ -1,0 +1,22 @@
+use Rattle.ssb_schema.specs.Limits.{limits_of}
+use Rattle.std.proofs.Common.{◌≡◌, ◌∙◌, ◌⊎◌, ℕ, List, Ok, Err, inl, inr, ap}
+use Rattle.std.specs.Io.KnownBytes.{Appends}
+use Rattle.ssb_live.specs.Reported.{HasReport}
+use Rattle.ssb_load.specs.Load.{AreTexts}
+use Rattle.ssb_report.specs.AnswerText.{answer_text}
+use Rattle.ssb_report.specs.Written.{AppendsPart}
+use Rattle.ssb_schema.specs.declared.table.Table.{Table}
+use Rattle.ssb_live.proofs.Results.{on_ok_from, on_err_from}
+use Rattle.ssb_live.proofs.query.report.Goals as goal
+
+pub returns-clause-report : goal.returns-clause-report
+returns-clause-report g c =
+    on_ok_from c.write.result _ _ _ c.write.ensures (λ written texts are.
+    let has : HasReport texts c.args.question.now (answer_text c.in_ok-answer.answer) = record { base = c.in-Ok.base; limited = ap limits_of c.in-Ok.ensures.limits ∙ c.standard.ensures; spelled = c.in-Ok.ensures.base texts are; is = ap answer_text c.in_ok-answer.ensures } in
+    (answer_text c.in_ok-answer.answer, has, written))
+
+pub returns-clause-fault : goal.returns-clause-fault
+returns-clause-fault g c =
+    on_err_from c.write.result _ _ _ c.write.ensures (λ written. inr (λ texts are.
+    let has : HasReport texts c.args.question.now (answer_text c.in_ok-answer.answer) = record { base = c.in-Ok.base; limited = ap limits_of c.in-Ok.ensures.limits ∙ c.standard.ensures; spelled = c.in-Ok.ensures.base texts are; is = ap answer_text c.in_ok-answer.ensures } in
+    (answer_text c.in_ok-answer.answer, has, written)))

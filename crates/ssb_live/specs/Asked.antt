@@ -1,0 +1,38 @@
+-- The question that the words of a command line ask.
+use Rattle.std.specs.Prelude.{◌≡◌, ℕ, ◌^◌, List, [], ◌∷◌, Option, Some, None, nat_lt, if◌then◌else◌}
+use Rattle.ssb_load.specs.Spelling.{number_of}
+use Rattle.ssb_plans.specs.Kind.{constant_kinds}
+use Rattle.ssb_plans.specs.Queries.{standard_constants}
+use Rattle.ssb_plans.specs.Query.{name_of}
+use Rattle.ssb_plans.specs.declared.kind.ConstantKind.{ConstantKind}
+use Rattle.ssb_plans.specs.declared.kind.ConstantKind.TheVariants as kind
+use Rattle.ssb_plans.specs.declared.query.Query.{Query}
+use Rattle.ssb_plans.specs.declared.value.Value.{Value}
+use Rattle.ssb_plans.specs.declared.value.Value.TheVariants.{Text, Number}
+
+-- a number of 32 bits, or the word as a text, which no number is
+abbrev pub number_or_text : Option ℕ → List ℕ → Value
+number_or_text (Some n) word = if nat_lt n (2 ^ 32) then Number n else Text word
+number_or_text None word = Text word
+
+-- the constant of a kind that a word stands for: where the kind is a number, the number that it spells; else the word
+abbrev pub value_spelled : Option ConstantKind → List ℕ → Value
+value_spelled (Some kind.Number) word = number_or_text (number_of word) word
+value_spelled (Some (kind.Text column)) word = Text word
+value_spelled None word = Text word
+
+-- the constants that words stand for, one after the other
+abbrev pub values_spelled : List ConstantKind → List (List ℕ) → List Value
+values_spelled kinds [] = []
+values_spelled [] (word ∷ words) = value_spelled None word ∷ values_spelled [] words
+values_spelled (kind ∷ kinds) (word ∷ words) = value_spelled (Some kind) word ∷ values_spelled kinds words
+
+-- the constants of a query: the benchmark's where no words are given
+abbrev pub constants_asked : Query → List (List ℕ) → List Value
+constants_asked query [] = standard_constants query
+constants_asked query (word ∷ words) = values_spelled (constant_kinds query) (word ∷ words)
+
+-- a name and words ask this question
+pub record IsAsked (name : List ℕ) (words : List (List ℕ)) (question : Query × List Value) : Type 0 where
+  pub named : name_of question.0 ≡ name
+  pub constants : question.1 ≡ constants_asked question.0 words

@@ -1,0 +1,21 @@
+-- The exit status of a fault.
+use Rattle.std.specs.Prelude.{ℕ}
+use Rattle.ssb_load.specs.declared.error.LoadError.{LoadError}
+use Rattle.ssb_load.specs.declared.error.LoadError.TheVariants as load
+use Rattle.ssb_live.specs.declared.fault.Fault.{Fault}
+use Rattle.ssb_live.specs.declared.fault.Fault.TheVariants as fault
+
+-- 1: the data is refused; 4: it could not be read
+abbrev pub data_status : LoadError → ℕ
+data_status (load.Read table) = 4
+data_status load.OutOfMemory = 4
+data_status _ = 1
+
+-- 2: the words are wrong; 4: reading, writing or memory failed
+abbrev pub status_of : Fault → ℕ
+status_of (fault.NoSuchQuery why) = 2
+status_of (fault.Constants why) = 2
+status_of (fault.Data why) = data_status why
+status_of (fault.CannotRead path) = 4
+status_of fault.WriteFailed = 4
+status_of fault.OutOfMemory = 4

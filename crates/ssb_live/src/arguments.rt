@@ -1,0 +1,69 @@
+//! The words of the command line.
+
+use clap::{Arg, ArgAction, ArgMatches, Command, Error};
+use std::alloc::{AllocError, Global};
+
+const QUERY_HELP: &str = "\
+Loads the five table files of a folder and prints the report of one question: a line with the query's name, the number of
+commits (0) and the number of rows, and then the rows.
+
+The queries are Q1.1, Q1.2, Q1.3, Q2.1, Q2.2, Q2.3, Q3.1, Q3.2, Q3.3, Q3.4, Q4.1, Q4.2 and Q4.3. Without constants a query
+has those of the benchmark; else all of its constants are given, in this order:
+
+  Q1.1        year; discount from, to; quantity from, to
+  Q1.2        year and month, as 199401; discount from, to; quantity from, to
+  Q1.3        week; year; discount from, to; quantity from, to
+  Q2.1        category; supplier region
+  Q2.2        brand from, to; supplier region
+  Q2.3        brand; supplier region
+  Q3.1        customer region; supplier region; year from, to
+  Q3.2        customer nation; supplier nation; year from, to
+  Q3.3        two customer cities; two supplier cities; year from, to
+  Q3.4        two customer cities; two supplier cities; year and month, as Dec1997
+  Q4.1        customer region; supplier region; two manufacturers
+  Q4.2        as Q4.1; two years
+  Q4.3        customer region; supplier nation; two years; category
+
+Examples:
+  ssb_live query --data tables Q4.1
+  ssb_live query --data tables Q2.1 'MFGR#12' EUROPE";
+
+// The words of `query`.
+fn query_command<'a>(alloc: Global) -> Result<Command<'a>, AllocError> {
+    let data = Arg::new(alloc, "data")
+        .long("data")
+        .value_name("DIR")
+        .help("The folder of customer.tbl, supplier.tbl, part.tbl, date.tbl and lineorder.tbl")
+        .required(true)
+        .action(ArgAction::Set);
+    let name = Arg::new(alloc, "name")
+        .value_name("NAME")
+        .help("The query, as Q4.1")
+        .required(true)
+        .action(ArgAction::Set);
+    let constants = Arg::new(alloc, "constants")
+        .value_name("CONSTANT")
+        .help("All constants of the query; without them it has the benchmark's")
+        .num_args(0..)
+        .action(ArgAction::Append);
+    Command::new(alloc, "query")
+        .about("Prints the report of one question over table files")
+        .long_about(QUERY_HELP)
+        .arg(data)?
+        .arg(name)?
+        .arg(constants)
+}
+
+// All words of the program.
+fn command<'a>(alloc: Global) -> Result<Command<'a>, AllocError> {
+    Command::new(alloc, "ssb_live")
+        .about(
+            "A warehouse of the Star Schema Benchmark. Without words: serves the script on standard input over a small built-in data set, and prints the report",
+        )
+        .subcommand(query_command(alloc)?)
+}
+
+/// What the words ask for, or clap's own fault or help.
+pub fn matches<'a>(alloc: Global, words: &'a [String]) -> Result<ArgMatches<'a>, Error> {
+    command(alloc)?.try_get_matches_from(words)
+}

@@ -1,0 +1,65 @@
+//! Why the program stops, and the status that it ends with.
+
+ghost use Rattle.std.specs.Prelude.{◌≡◌};
+ghost use Rattle.ssb_live.specs.Status.{status_of};
+
+use ssb_load::LoadError;
+use ssb_plans::{ConstantsFault, NoSuchQuery};
+use std::alloc::AllocError;
+use std::fmt;
+use std::io::Write;
+
+/// A fault of the program. Its text stands after the program's name in the fault line.
+#[derive(Debug, Drop)]
+pub enum Fault {
+    /// The first file, by its path, that could not be opened.
+    CannotRead(String),
+    NoSuchQuery(NoSuchQuery),
+    Constants(ConstantsFault),
+    Data(LoadError),
+    WriteFailed,
+    OutOfMemory,
+}
+
+impl Fault {
+    /// The exit status: 1 where the data was refused, 2 for a wrong command line, 4 where reading, writing or memory
+    /// failed.
+    pub fn status(&self) -> u8
+        ensures { result ≡ status_of self.now }
+    {
+        match self {
+            Fault::NoSuchQuery(_) | Fault::Constants(_) => 2,
+            Fault::Data(LoadError::Read(_)) | Fault::Data(LoadError::OutOfMemory) => 4,
+            Fault::Data(_) => 1,
+            Fault::CannotRead(_) | Fault::WriteFailed | Fault::OutOfMemory => 4,
+        }
+    }
+
+    /// Writes the fault line, if the writer takes it, and gives the exit status.
+    pub fn tell<E: Write>(&self, err: &mut E) -> u8
+        ensures { result ≡ status_of self.now }
+    {
+        let _ = writeln!(err, "ssb_live: {self}");
+        self.status()
+    }
+}
+
+impl fmt::Display for Fault {
+    fn fmt<W: fmt::Write>(&self, f: &mut fmt::Formatter<W>) -> fmt::Result {
+        match self {
+            Fault::CannotRead(path) => write!(f, "cannot read {path}"),
+            Fault::NoSuchQuery(fault) => write!(f, "query: {fault}"),
+            Fault::Constants(fault) => write!(f, "query: {fault}"),
+            Fault::Data(LoadError::OutOfMemory) => f.write_str("out of memory"),
+            Fault::Data(fault) => write!(f, "data: {fault}"),
+            Fault::WriteFailed => f.write_str("write failed"),
+            Fault::OutOfMemory => f.write_str("out of memory"),
+        }
+    }
+}
+
+impl From<AllocError> for Fault {
+    fn from(_error: AllocError) -> Fault {
+        Fault::OutOfMemory
+    }
+}
