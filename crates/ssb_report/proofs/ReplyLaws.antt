@@ -1,13 +1,10 @@
 -- The replies of the one-thread warehouse, and others.
-use Rattle.std.proofs.Common.{◌≡◌, ℕ, Bool, true, false, List, [], ◌∷◌, Result, Ok, Err, refl, sym, ◌∙◌, ap, inl, inr}
-use Rattle.std.specs.List.{AllByRecursion}
+use Rattle.std.proofs.Common.{◌≡◌, true, false, [], ◌∷◌, Ok, Err, refl, sym, ◌∙◌, ap, inl, inr}
 use Rattle.ssb_queries.specs.declared.answer.Answer.TheVariants.{Rows, Unserved}
-use Rattle.ssb_queries.specs.declared.answer.Unserved.TheVariants as unserved
 use Rattle.row_store.specs.History.{Warehouse}
 use Rattle.row_store.specs.declared.refusal.RefreshError.TheVariants.{Refused, OutOfMemory}
 use Rattle.ssb_script.specs.Requests.{Request, Refresh, Ask}
 use Rattle.ssb_report.specs.Replies.{Reply, Refreshed, Answered, true_reply, IsInsteadOfReply, committed_by, with_commits}
-use Rattle.ssb_report.specs.Report.{AreReplies}
 use Rattle.ssb_report.specs.Laws.{true_replies, wants_memory, TrueRepliesAnswer, OthersWantMemory}
 
 -- what stands in place of the warehouse's reply tells that memory ran out
@@ -32,9 +29,9 @@ others_want_memory client warehouse (request ∷ requests) [] are served = absur
 others_want_memory client warehouse (request ∷ requests) (reply ∷ replies) are served =
     let others = others_want_memory client (with_commits warehouse (committed_by client request reply)) requests replies are.1 served.1 in
     elim are.0 [
-      inl same ↦ ap (λ first. first ∷ replies) same
-        ∙ ap (λ rest. true_reply warehouse request ∷ rest) (others ∙ ap (λ first. true_replies client (with_commits warehouse (committed_by client request first)) requests) same)
-    | inr instead ↦ absurd (cc_false (sym (instead_wants warehouse request reply instead) ∙ served.0))
+      | inl same ↦ ap (λ first. first ∷ replies) same
+          ∙ ap (λ rest. true_reply warehouse request ∷ rest) (others ∙ ap (λ first. true_replies client (with_commits warehouse (committed_by client request first)) requests) same)
+      | inr instead ↦ absurd (cc_false (sym (instead_wants warehouse request reply instead) ∙ served.0))
     ]
   where
     cc_false : true ≡ false → ⊥

@@ -1,12 +1,12 @@
 -- The line of a row, in the order in which its parts are written.
-use Rattle.std.proofs.Common.{◌≡◌, ℕ, Bool, true, false, List, [], ◌∷◌, ◌++◌, map, flat_map, refl, sym, ◌∙◌, ap, append_assoc, append-nil}
+use Rattle.std.proofs.Common.{◌≡◌, ℕ, true, false, List, [], ◌∷◌, ◌++◌, map, flat_map, refl, sym, ◌∙◌, ap, append_assoc, append-nil}
 use Rattle.std.specs.List.{join_with_byte}
 use Rattle.ssb_plans.specs.Query.{sum_first}
 use Rattle.ssb_plans.specs.declared.query.Query.{Query}
 use Rattle.ssb_plans.specs.declared.value.Value.{Value}
 use Rattle.ssb_queries.specs.declared.answer.ResultRow.{ResultRow}
 use Rattle.ssb_report.specs.Numbers.{line_feed, sum_text}
-use Rattle.ssb_report.specs.AnswerText.{value_text, columns_of, row_text, with_bar, after_bar}
+use Rattle.ssb_report.specs.AnswerText.{value_text, row_text, with_bar, after_bar}
 
 -- a column joined with values behind it
 join_after : (column : List ℕ) (values : List Value) → join_with_byte 124 (column ∷ map value_text values) ≡ column ++ flat_map after_bar values

@@ -1,12 +1,12 @@
 -- Serving one request after another.
-use Rattle.std.proofs.Common.{◌≡◌, ℕ, ◌+◌, suc, List, [], ◌∷◌, ◌++◌, length, take, drop, flat_map, Option, Result, Ok, Err, OnOk, OnErr, refl, sym, ◌∙◌, ap, subst, append_assoc, append-nil, arith}
+use Rattle.std.proofs.Common.{◌≡◌, ℕ, ◌+◌, suc, List, [], ◌∷◌, ◌++◌, length, take, drop, Option, Result, Ok, Err, OnOk, OnErr, refl, sym, ◌∙◌, ap, subst, append_assoc, append-nil}
 use Rattle.std.proofs.Math.Seq.{drop-append_seam, take-append-add}
 use Rattle.std.proofs.lemmas.List.Concat.{flat_map-append}
 use Rattle.std.specs.Io.KnownBytes.{Appends}
 use Rattle.ssb_schema.specs.Base.{Tables}
-use Rattle.row_store.specs.History.{CommitRecord, Warehouse, IsPrefix}
+use Rattle.row_store.specs.History.{CommitRecord, Warehouse}
 use Rattle.ssb_script.specs.Requests.{Request}
-use Rattle.ssb_report.specs.Written.{AppendsPart, Writes}
+use Rattle.ssb_report.specs.Written.{AppendsPart}
 use Rattle.ssb_report.specs.Replies.{Reply, IsReply, reply_text, committed_by, with_commits}
 use Rattle.ssb_report.specs.Report.{AreReplies, committed, report_of, Serves, StopsAfter, IsBehind}
 use Rattle.ssb_report.specs.Serving.{TakesPart, Answers, AnswersInPart}

@@ -1,5 +1,5 @@
 -- The text of a piece of a line.
-use Rattle.std.specs.Prelude.{ℕ, List, codes, decimal, None, Some}
+use Rattle.std.specs.Prelude.{ℕ, List, decimal}
 use Rattle.ssb_report.specs.Numbers.{sum_text}
 use Rattle.ssb_report.specs.declared.piece.Piece.{Piece}
 use Rattle.ssb_report.specs.declared.piece.Piece.TheVariants.{Text, Number, Sum}

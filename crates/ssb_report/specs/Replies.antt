@@ -12,7 +12,7 @@ use Rattle.row_store.specs.Refusals.{refusal_of}
 use Rattle.row_store.specs.Legal.{warehouse_reply}
 use Rattle.row_store.specs.declared.commit.Receipt.{Receipt}
 use Rattle.row_store.specs.declared.refusal.RefreshError.{RefreshError}
-use Rattle.row_store.specs.declared.refusal.RefreshError.TheVariants.{Refused, OutOfMemory}
+use Rattle.row_store.specs.declared.refusal.RefreshError.TheVariants.{OutOfMemory}
 use Rattle.ssb_script.specs.Requests.{Request}
 use Rattle.ssb_script.specs.Requests.{Refresh, Ask}
 use Rattle.ssb_report.specs.RefreshText.{receipt_text, refusal_text}

@@ -7,5 +7,4 @@ ghost use Rattle.ssb_report.specs.Laws.{TrueRepliesAnswer, OthersWantMemory};
 pub fn one_report()
     ensures answers { TrueRepliesAnswer }
     ensures alone { OthersWantMemory }
-{
-}
+{}

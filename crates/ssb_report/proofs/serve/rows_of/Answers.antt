@@ -1,4 +1,4 @@
-use Rattle.std.proofs.Common.{◌≡◌, ◌≤◌, length, drop, ap, sym, ◌∙◌, arith}
+use Rattle.std.proofs.Common.{◌≡◌, length, drop, ap, sym, ◌∙◌, arith}
 use Rattle.row_store.specs.History.{lines_after}
 use Rattle.ssb_report.specs.Replies.{with_commits}
 use Rattle.ssb_report.proofs.ServingLaws.{caught_up}

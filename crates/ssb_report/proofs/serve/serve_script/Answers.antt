@@ -1,9 +1,8 @@
-use Rattle.std.proofs.Common.{◌≡◌, ℕ, ◌+◌, List, [], ◌∷◌, ◌++◌, length, map, Result, Ok, Err, OnOk, OnErr, true, false, refl, ap, sym, ◌∙◌, subst, append_assoc, length-append, arith}
+use Rattle.std.proofs.Common.{◌≡◌, [], ◌∷◌, ◌++◌, length, map, Result, Ok, Err, OnOk, OnErr, true, false, refl, ap, sym, ◌∙◌, append_assoc, length-append, arith}
 use Rattle.std.proofs.lemmas.List.{length-map}
 use Rattle.std.specs.Result.{is_err}
 use Rattle.std.specs.Vec.Iter.{into_iter_items}
 use Rattle.ssb_script.specs.Requests.{request_of, requests_of}
-use Rattle.ssb_report.specs.Report.{StopsAfter}
 use Rattle.ssb_report.proofs.ServingLaws.{serves_none, serves_more, stops_there}
 use Rattle.ssb_report.proofs.serve.serve_script.Goals as goal
 

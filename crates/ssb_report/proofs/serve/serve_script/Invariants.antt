@@ -1,6 +1,5 @@
-use Rattle.std.proofs.Common.{◌≡◌, ℕ, List, ◌++◌, length, map}
+use Rattle.std.proofs.Common.{◌≡◌, List, ◌++◌, length, map}
 use Rattle.std.specs.Vec.Iter.{into_iter_items}
-use Rattle.row_store.specs.History.{Warehouse}
 use Rattle.ssb_script.specs.Requests.{Request, request_of, requests_of}
 use Rattle.ssb_report.specs.Report.{Serves, IsBehind}
 use Rattle.ssb_report.proofs.serve.serve_script.Given as goal
