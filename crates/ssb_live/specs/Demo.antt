@@ -1,5 +1,6 @@
 -- A script served over the small data set.
-use Rattle.std.specs.Prelude.{◌≡◌, ℕ, List, [], Option}
+use Rattle.std.specs.Prelude.{◌≡◌, ◌⊎◌, ℕ, List, [], Option}
+use Rattle.std.specs.Io.KnownBytes.{Keeps}
 use Rattle.ssb_live.specs.SmallTexts.{small_texts}
 use Rattle.ssb_load.specs.Load.{SpellsBase}
 use Rattle.ssb_report.specs.Run.{ServesAll, ServesPart}
@@ -27,3 +28,7 @@ pub record StopsSmall (remaining : Option (List ℕ)) (before after : Option (Li
   pub done : ℕ
   pub ended : Warehouse
   pub served : ServesPart remaining done (record { base = base; log = [] }) ended before after
+
+-- the run ended early, or its report was not handed on: nothing was written, or a report that was cut, or all of it
+abbrev pub EndsEarly : Option (List ℕ) → Option (List ℕ) → Option (List ℕ) → Type 0
+EndsEarly remaining before after = Keeps before after ⊎ (StopsSmall remaining before after ⊎ ServesSmall remaining before after)

@@ -1,8 +1,7 @@
 //! The program without words: a script served by one thread over the small data set.
 
-ghost use Rattle.std.specs.Prelude.{◌≡◌, ◌≢◌, ◌⊎◌, IfOk, OnOk, OnErr};
-ghost use Rattle.std.specs.Io.KnownBytes.{Keeps};
-ghost use Rattle.ssb_live.specs.Demo.{IsSmall, ServesSmall, StopsSmall};
+ghost use Rattle.std.specs.Prelude.{◌≡◌, ◌≢◌, IfOk, OnOk, OnErr};
+ghost use Rattle.ssb_live.specs.Demo.{IsSmall, ServesSmall, EndsEarly};
 
 use crate::fault::Fault;
 use crate::small_data::tables;
@@ -15,14 +14,20 @@ use std::io::{Read, Write};
 use std::sync::Arc;
 
 // The base of the small data set.
-fn base(alloc: Global) -> Result<Arc<Base>, Fault>
+fn small_base(alloc: Global) -> Result<Base, Fault>
+    ensures { IfOk result (λ base. IsSmall base) }
+{
+    match load(alloc, Limits::standard(), tables()) {
+        Ok(base) => Ok(base),
+        Err(fault) => Err(Fault::Data(fault)),
+    }
+}
+
+// The same, to be shared.
+fn shared_base(alloc: Global) -> Result<Arc<Base>, Fault>
     ensures { IfOk result (λ base. IsSmall base.value) }
 {
-    let base = match load(alloc, Limits::standard(), tables()) {
-        Ok(base) => base,
-        Err(fault) => return Err(Fault::Data(fault)),
-    };
-    match Arc::new(alloc, base) {
+    match Arc::new(alloc, small_base(alloc)?) {
         Ok(base) => Ok(base),
         Err(_) => Err(Fault::OutOfMemory),
     }
@@ -31,11 +36,9 @@ fn base(alloc: Global) -> Result<Arc<Base>, Fault>
 // Serves the script, and has the writer hand on what it holds.
 fn serve<R: Read + Drop, W: Write>(alloc: Global, input: R, out: &mut W) -> Result<(), Fault>
     ensures report { OnOk result (ServesSmall (R.remaining input) (W.contents out.old) (W.contents out.new)) }
-    ensures fault { OnErr result (Keeps (W.contents out.old) (W.contents out.new)
-        ⊎ StopsSmall (R.remaining input) (W.contents out.old) (W.contents out.new)
-        ⊎ ServesSmall (R.remaining input) (W.contents out.old) (W.contents out.new)) }
+    ensures fault { OnErr result (EndsEarly (R.remaining input) (W.contents out.old) (W.contents out.new)) }
 {
-    let base = base(alloc)?;
+    let base = shared_base(alloc)?;
     let mut store = RowStore::new(alloc, Arc::try_clone(&base)?)?;
     let mut lines = PlainLines::new(alloc, base)?;
     match run_store(alloc, &mut store, &mut lines, input, out) {
@@ -58,9 +61,7 @@ pub fn demo<R: Read + Drop, W: Write, E: Write>(
     err: &mut E,
 ) -> u8
     ensures report { result ≡ 0 → ServesSmall (R.remaining input) (W.contents out.old) (W.contents out.new) }
-    ensures fault { result ≢ 0 → Keeps (W.contents out.old) (W.contents out.new)
-        ⊎ StopsSmall (R.remaining input) (W.contents out.old) (W.contents out.new)
-        ⊎ ServesSmall (R.remaining input) (W.contents out.old) (W.contents out.new) }
+    ensures fault { result ≢ 0 → EndsEarly (R.remaining input) (W.contents out.old) (W.contents out.new) }
 {
     match serve(alloc, input, out) {
         Ok(()) => 0,
