@@ -1,5 +1,6 @@
 //! The fault lines and statuses of `query`, and reports over the small data set.
 
+use crate::demo::demo;
 use crate::files;
 use crate::query::run_query;
 use crate::small_data::{LINEORDER, tables};
@@ -131,6 +132,19 @@ fn a_failed_read_is_told(rt: HostRuntime) {
     assert_eq!(rt;
         told.err.as_slice(),
         "ssb_live: data: 20 Read customer\n".as_bytes()
+    );
+}
+
+#[test]
+fn a_fault_of_the_script_is_told(rt: HostRuntime) {
+    let mut out = Vec::new(rt.alloc());
+    let mut err = Vec::new(rt.alloc());
+    let status = demo(rt.alloc(), "hello\n".as_bytes(), &mut out, &mut err);
+    assert_eq!(rt; status, 1);
+    assert!(rt; out.is_empty());
+    assert_eq!(rt;
+        err.as_slice(),
+        "ssb_live: script 1: 70 BadLine 1\n".as_bytes()
     );
 }
 

@@ -6,9 +6,9 @@ use Rattle.ssb_live.proofs.small_data.tables.Goals as goal
 
 pub returns : goal.returns
 returns c = λ t. elim t as (λ t. Some (reader_of (record { customer = c.as_bytes.result; supplier = c.as_bytes-2.result; part = c.as_bytes-3.result; date = c.as_bytes-4.result; lineorder = c.as_bytes-5.result }) t).now ≡ Some (small_texts t)) [
-    | Customer ↦ ap Some c.as_bytes.ensures.value
-    | Supplier ↦ ap Some c.as_bytes-2.ensures.value
-    | Part ↦ ap Some c.as_bytes-3.ensures.value
-    | Date ↦ ap Some c.as_bytes-4.ensures.value
-    | Lineorder ↦ ap Some c.as_bytes-5.ensures.value
-  ]
+  | Customer ↦ ap Some c.as_bytes.ensures.value
+  | Supplier ↦ ap Some c.as_bytes-2.ensures.value
+  | Part ↦ ap Some c.as_bytes-3.ensures.value
+  | Date ↦ ap Some c.as_bytes-4.ensures.value
+  | Lineorder ↦ ap Some c.as_bytes-5.ensures.value
+]
