@@ -2,7 +2,8 @@
 
 ghost use Rattle.std.specs.Prelude.{◌≡◌, IfOk, IfErr};
 ghost use Rattle.std.specs.Option.{option_copied};
-ghost use Rattle.ssb_schema.specs.Base.{Dimensions, base_fault, line_fault, table_fault, unknown_of, is_same_line, IsSound, has_key, row_with, customer_key, supplier_key, part_key, date_key};
+ghost use Rattle.ssb_schema.specs.Base.{Dimensions, base_fault, line_fault, table_fault, unknown_of, is_same_line};
+ghost use Rattle.ssb_schema.specs.Base.{IsSound, has_key, row_with, customer_key, supplier_key, part_key, date_key};
 ghost use Rattle.ssb_schema.specs.Checked.{Finds};
 ghost use Rattle.ssb_schema.specs.Indexed.{AreIndexesOf};
 ghost use Rattle.ssb_schema.specs.declared.table.Table.TheVariants as table;
@@ -61,12 +62,14 @@ impl Model for Base {
 
     ghost view = { base_view };
 
-    ghost invariant = { λ base. (base_fault (base_view base) ≡ None) × AreIndexesOf base.indexes (base_view base).dimensions };
+    ghost invariant = { λ base. (base_fault (base_view base) ≡ None)
+        × AreIndexesOf base.indexes (base_view base).dimensions };
 }
 
 // The first dimension that has no row of the key which the line names.
 fn unknown(indexes: &Indexes, line: &Line) -> Option<Table>
-    ensures { (dimensions : Dimensions) → AreIndexesOf indexes.now dimensions → result ≡ unknown_of dimensions line.now }
+    ensures { (dimensions : Dimensions) → AreIndexesOf indexes.now dimensions
+        → result ≡ unknown_of dimensions line.now }
 {
     if !indexes.customers.contains(line.customer_key()) {
         Some(Table::Customer)
@@ -83,7 +86,8 @@ fn unknown(indexes: &Indexes, line: &Line) -> Option<Table>
 
 // Checks that each line is the first of its order key and line number, and names a row of each dimension.
 fn check_lines(alloc: Global, limit: usize, indexes: &Indexes, lines: &[Line]) -> Result<(), Stop>
-    ensures { (dimensions : Dimensions) → AreIndexesOf indexes.now dimensions → Finds result (table_fault limit table.Lineorder (line_fault dimensions) lines.now) }
+    ensures { (dimensions : Dimensions) → AreIndexesOf indexes.now dimensions
+        → Finds result (table_fault limit table.Lineorder (line_fault dimensions) lines.now) }
 {
     if lines.len() > limit {
         return Err(Stop::Fault(SchemaFault::TooManyRows(Table::Lineorder)));
@@ -126,8 +130,8 @@ impl BaseParts {
 impl Base {
     ghost use Rattle.ssb_schema.specs.BaseNew.{tables_of, Answers, HandsBack};
 
-    /// The base of these rows, or their first fault in the order of the tables, with the rows: too many rows of a table,
-    /// then row by row a repeated primary key, or a line that names an unknown customer, supplier, part or date.
+    /// The base of these rows, or their first fault in the order of the tables, with the rows: too many rows of a
+    /// table, then row by row a repeated primary key, or a line that names an unknown customer, supplier, part or date.
     pub fn new(alloc: Global, limits: Limits, parts: BaseParts) -> Result<Base, BaseError>
         ensures fault { Answers result (base_fault (tables_of limits parts)) }
         ensures tables { IfOk result (λ base. base ≡ tables_of limits parts) }
