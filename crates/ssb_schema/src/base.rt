@@ -1,7 +1,7 @@
 //! The base: the loaded tables, which the whole warehouse shares.
 
-ghost use Rattle.std.specs.Prelude.{◌≡◌, IfOk, IfErr};
-ghost use Rattle.std.specs.Option.{option_copied};
+ghost use Rattle.std.specs.Prelude.{◌≡◌, IfOk, IfErr, is_some, slice_get};
+ghost use Rattle.std.specs.Option.{option_and_then, option_copied};
 ghost use Rattle.ssb_schema.specs.Base.{Dimensions, base_fault, line_fault, table_fault, unknown_of, is_same_line};
 ghost use Rattle.ssb_schema.specs.Base.{IsSound, has_key, row_with, customer_key, supplier_key, part_key, date_key};
 ghost use Rattle.ssb_schema.specs.Checked.{Finds};
@@ -159,6 +159,14 @@ impl Base {
         self.limits
     }
 
+    /// Every base is sound: its rows have distinct keys and are no more than the limits allow, and its lines name rows
+    /// that are there. The law alone: it does nothing.
+    pub fn soundness(&self)
+        ensures { IsSound self.now }
+    {
+        let _lines = self.lines();
+    }
+
     /// The loaded lines.
     pub fn lines(&self) -> &[Line]
         ensures lines { result.now ≡ self.now.lines }
@@ -221,6 +229,42 @@ impl Base {
         ensures { option_copied result ≡ row_with date_key self.now.dimensions.dates key }
     {
         self.indexes.dates.row(&self.dates, key)
+    }
+
+    /// The place of the customer of this key among the customers, counted from 0, if there is one.
+    pub fn customer_position(&self, key: u64) -> Option<usize>
+        ensures row { option_and_then (slice_get self.now.dimensions.customers) result
+            ≡ row_with customer_key self.now.dimensions.customers key }
+        ensures found { is_some result ≡ has_key customer_key self.now.dimensions.customers key }
+    {
+        self.indexes.customers.position(key)
+    }
+
+    /// The place of the supplier of this key among the suppliers, counted from 0, if there is one.
+    pub fn supplier_position(&self, key: u64) -> Option<usize>
+        ensures row { option_and_then (slice_get self.now.dimensions.suppliers) result
+            ≡ row_with supplier_key self.now.dimensions.suppliers key }
+        ensures found { is_some result ≡ has_key supplier_key self.now.dimensions.suppliers key }
+    {
+        self.indexes.suppliers.position(key)
+    }
+
+    /// The place of the part of this key among the parts, counted from 0, if there is one.
+    pub fn part_position(&self, key: u64) -> Option<usize>
+        ensures row { option_and_then (slice_get self.now.dimensions.parts) result
+            ≡ row_with part_key self.now.dimensions.parts key }
+        ensures found { is_some result ≡ has_key part_key self.now.dimensions.parts key }
+    {
+        self.indexes.parts.position(key)
+    }
+
+    /// The place of the date of this key among the dates, counted from 0, if there is one.
+    pub fn date_position(&self, key: u64) -> Option<usize>
+        ensures row { option_and_then (slice_get self.now.dimensions.dates) result
+            ≡ row_with date_key self.now.dimensions.dates key }
+        ensures found { is_some result ≡ has_key date_key self.now.dimensions.dates key }
+    {
+        self.indexes.dates.position(key)
     }
 
     /// Whether there is a customer of this key.

@@ -332,6 +332,8 @@ fn a_base_finds_its_rows_by_key(rt: HostRuntime) -> Result<(), Fail> {
     assert!(rt; base.supplier(1).is_some());
     assert!(rt; base.has_part(1));
     assert!(rt; base.customer(2).is_none());
+    assert_eq!(rt; base.customer_position(1), Some(0));
+    assert_eq!(rt; base.date_position(19930102), None);
     assert!(rt; !base.has_date(19930102));
     Ok(())
 }
