@@ -1,0 +1,11 @@
+-- What the number of commits of an entered copy tells.
+use Rattle.std.proofs.Common.{◌≡◌, List, length, sym, ap, ◌∙◌}
+use Rattle.row_store.specs.History.{CommitRecord}
+use Rattle.row_store.specs.State.{State, StandsFor, state_of}
+use Rattle.twin_cell.specs.Laws.{ToldNumberIsToldList}
+use Rattle.twin_cell.proofs.Prefixes.{prefix_whole}
+
+pub told_number_is_told_list : ToldNumberIsToldList
+told_number_is_told_list state list told stands begins counted =
+    let long : length told ≡ length list = sym counted ∙ ap (λ s. s.commits) stands in
+    stands ∙ ap (state_of state.base) (sym (prefix_whole begins long))
