@@ -1,7 +1,6 @@
 -- What the number of commits of an entered copy tells.
-use Rattle.std.proofs.Common.{◌≡◌, List, length, sym, ap, ◌∙◌}
-use Rattle.row_store.specs.History.{CommitRecord}
-use Rattle.row_store.specs.State.{State, StandsFor, state_of}
+use Rattle.std.proofs.Common.{◌≡◌, length, sym, ap, ◌∙◌}
+use Rattle.row_store.specs.State.{state_of}
 use Rattle.twin_cell.specs.Laws.{ToldNumberIsToldList}
 use Rattle.twin_cell.proofs.Prefixes.{prefix_whole}
 

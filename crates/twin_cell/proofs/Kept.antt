@@ -1,5 +1,5 @@
 -- Each step of the cell keeps the rule.
-use Rattle.std.proofs.Common.{◌≡◌, ℕ, ◌≢◌, List, [], ◌∷◌, ◌++◌, fold, length, set, Option, Some, None, sym, refl, ap, ◌∙◌, subst, ⊎_elim, arith}
+use Rattle.std.proofs.Common.{◌≡◌, ℕ, ◌≢◌, List, [], ◌∷◌, ◌++◌, fold, length, set, Some, sym, refl, ap, ◌∙◌, subst, ⊎_elim}
 use mathlib.Core.Option.{some}
 use lib.ListN.{get_elem?}
 use Rattle.left_right.specs.Register.{Admits, TurnsAt, Forks, Merges}
@@ -10,7 +10,7 @@ use Rattle.row_store.specs.State.{State, state_of, state_after}
 use Rattle.row_store.proofs.StateLaws.{state_after-all}
 use Rattle.twin_cell.specs.declared.rule.View.{View}
 use Rattle.twin_cell.specs.Rule.{Follows, IsOver, HasSeen, HasPublished, newcomer}
-use Rattle.twin_cell.proofs.Prefixes.{prefix_itself, prefix_empty, prefix_through, prefix_longer, prefix_whole}
+use Rattle.twin_cell.proofs.Prefixes.{prefix_itself, prefix_empty, prefix_longer, prefix_whole}
 
 -- what the rule says of one view
 record Fits (base : Tables) (list : List CommitRecord) (v : View) : Type 0 where
@@ -82,7 +82,7 @@ module _ {X : Type 0} (state : X → State) where
       let same : (state y).base ≡ (state x).base = ap (λ s. s.base) next in
       let w : View = record { base = Some (state y).base; told = v.told ++ more; seen = v.seen } in
       let old : (j : ℕ) (u : View) → get_elem? views j ≡ some u → Fits (state y).base list u =
-          λ j u e. subst (λ b. Fits b list u) (sym same) (record { told = prefix_longer more (h.told j u e); over = h.over j u e }) in
+      λ j u e. subst (λ b. Fits b list u) (sym same) (record { told = prefix_longer more (h.told j u e); over = h.over j u e }) in
       let now : Fits (state y).base list w = record { told = subst (λ l. IsPrefix (l ++ more) list) (sym whole) (prefix_itself list); over = over_some (state y).base w refl } in (
         w,
         follows (state y) _ list (next ∙ ap (λ b. state_of b list) (sym same)) (fits_set (state y).base list views seat w old now),

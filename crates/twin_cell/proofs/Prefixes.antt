@@ -1,5 +1,5 @@
 -- Lists of commits that begin one another.
-use Rattle.std.proofs.Common.{◌≡◌, ℕ, ◌+◌, ◌≤◌, List, [], ◌∷◌, ◌++◌, length, sym, refl, ap, ◌∙◌, arith, length-append, append_assoc}
+use Rattle.std.proofs.Common.{◌≡◌, ◌+◌, List, [], ◌∷◌, ◌++◌, length, sym, refl, ap, ◌∙◌, arith, length-append, append_assoc}
 use Rattle.std.proofs.lemmas.List.{append-nil}
 use Rattle.row_store.specs.History.{CommitRecord, IsPrefix}
 
@@ -25,3 +25,7 @@ prefix_whole {a = a} {b = b} p same =
     let counted : length b ≡ length a + length p.rest = ap length p.whole ∙ length-append a p.rest in
     let none : length p.rest ≡ 0 = omega arith in
     sym (p.whole ∙ ap (λ r. a ++ r) (no_rest p.rest none) ∙ append-nil a)
+
+-- lists that are equal to such lists
+pub prefix_moved : {a b c d : List CommitRecord} → a ≡ b → d ≡ c → IsPrefix b c → IsPrefix a d
+prefix_moved {d = d} same other p = record { rest = p.rest; whole = other ∙ p.whole ∙ ap (λ l. l ++ p.rest) (sym same) }

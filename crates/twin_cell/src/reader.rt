@@ -35,14 +35,10 @@ impl<R: Replica + Drop> Model for TwinReader<R> {
 }
 
 // A step under the rule, by the play `Sees`: the seat takes the copy that is published, or comes back.
-fn try_enter<R: Replica + Drop>(
-    seat: Seat<R>,
-) -> Result<Reading<Side<R>, View, Published>, Seat<R>>
-    ensures {
-        MatchResult result
-            (λ reading. HasSeen (view_of seat.place) (R.state reading.part.value.replica) (view_of reading.place))
-            (λ back. view_of back.place ≡ view_of seat.place)
-    }
+fn try_enter<R: Replica + Drop>(seat: Seat<R>) -> Result<Reading<Side<R>, View, Published>, Seat<R>>
+    ensures { MatchResult result
+        (λ reading. HasSeen (view_of seat.place) (R.state reading.part.value.replica) (view_of reading.place))
+        (λ back. view_of back.place ≡ view_of seat.place) }
 {
     seat.enter_as::<Sees>()
 }
@@ -59,7 +55,8 @@ impl<R: Replica + Drop> TwinReader<R> {
         self.seat = seat;
     }
 
-    /// Takes the copy that is published. It tries until the copies give one.
+    /// Takes the copy that is published. It tries until the copies give one, as they do while there is a writer: a reader that
+    /// enters after the writer has gone waits for ever.
     pub fn enter<W: Wait>(self, rt: &W) -> Guard<R>
         ensures base { result.state.base ≡ self.base }
         ensures told { result.told ≡ self.told }

@@ -1,7 +1,7 @@
-use Rattle.std.proofs.Common.{rules, ◌≡◌, ◌+◌, [], ◌++◌, length, drop, Result, Ok, Err, OnOk, false, ap, ◌∙◌, arith, length-append}
+use Rattle.std.proofs.Common.{rules, ◌≡◌, ◌+◌, ◌++◌, length, drop, Result, Ok, Err, OnOk, false, ap, ◌∙◌, arith, length-append}
 use Rattle.std.specs.Result.{is_err}
 use Rattle.left_right.specs.Sides.{view as view_of}
-use Rattle.twin_cell.specs.Twin.{Writing, writing}
+use Rattle.twin_cell.specs.Twin.{Writing}
 use Rattle.twin_cell.proofs.Kept.{base_after, stands_after}
 use Rattle.twin_cell.proofs.writer.TwinWriter.publish.Goals as goal
 
