@@ -10,7 +10,7 @@ use Rattle.row_store.specs.State.{State, state_of, state_after}
 use Rattle.row_store.proofs.StateLaws.{state_after-all}
 use Rattle.twin_cell.specs.declared.rule.View.{View}
 use Rattle.twin_cell.specs.Rule.{Follows, IsOver, HasSeen, HasPublished, newcomer}
-use Rattle.twin_cell.proofs.Prefixes.{prefix_itself, prefix_empty, prefix_longer, prefix_whole}
+use Rattle.row_store.proofs.Prefixes.{begins_with_itself, prefix_empty, prefix_longer, as_long_is_the_whole}
 
 -- what the rule says of one view
 record Fits (base : Tables) (list : List CommitRecord) (v : View) : Type 0 where
@@ -76,14 +76,14 @@ module _ {X : Type 0} (state : X → State) where
       → TurnsAt Holds seat v x y (λ v x y w. HasPublished more v (state y) w)
   publishes seat v x y more stands is views h at =
       let counted : length v.told ≡ length h.list = sym (ap (λ s. s.commits) stands) ∙ ap (λ s. s.commits) h.stands in
-      let whole : v.told ≡ h.list = prefix_whole (h.told seat v at) counted in
+      let whole : v.told ≡ h.list = as_long_is_the_whole v.told h.list (h.told seat v at) counted in
       let list : List CommitRecord = h.list ++ more in
       let next : state y ≡ state_of (state x).base list = is ∙ ap (λ s. fold state_after s more) h.stands ∙ state_after-all (state x).base h.list more in
       let same : (state y).base ≡ (state x).base = ap (λ s. s.base) next in
       let w : View = record { base = Some (state y).base; told = v.told ++ more; seen = v.seen } in
       let old : (j : ℕ) (u : View) → get_elem? views j ≡ some u → Fits (state y).base list u =
-      λ j u e. subst (λ b. Fits b list u) (sym same) (record { told = prefix_longer more (h.told j u e); over = h.over j u e }) in
-      let now : Fits (state y).base list w = record { told = subst (λ l. IsPrefix (l ++ more) list) (sym whole) (prefix_itself list); over = over_some (state y).base w refl } in (
+      λ j u e. subst (λ b. Fits b list u) (sym same) (record { told = prefix_longer u.told h.list more (h.told j u e); over = h.over j u e }) in
+      let now : Fits (state y).base list w = record { told = subst (λ l. IsPrefix (l ++ more) list) (sym whole) (begins_with_itself list); over = over_some (state y).base w refl } in (
         w,
         follows (state y) _ list (next ∙ ap (λ b. state_of b list) (sym same)) (fits_set (state y).base list views seat w old now),
         record { told = refl; base = refl },
