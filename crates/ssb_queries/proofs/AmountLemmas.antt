@@ -1,5 +1,5 @@
 -- A sum of amounts is the sum of what they gain less the sum of what they lose, and neither passes 63 bits.
-use Rattle.std.proofs.Common.{ℕ, ◌≡◌, ◌+◌, ◌*◌, ◌^◌, ◌<◌, ◌≤◌, List, [], ◌∷◌, length, sym, refl, ap, ◌∙◌, arith}
+use Rattle.std.proofs.Common.{ℕ, ◌≡◌, ◌+◌, ◌*◌, ◌^◌, ◌<◌, ◌≤◌, List, [], ◌∷◌, length, refl, ap, ◌∙◌, arith}
 use Rattle.std.specs.Prelude.{ℤ, pos, ◌+ℤ◌, ◌-ℤ◌, All, FitsSigned}
 use Rattle.std.specs.Int.{w64}
 use Rattle.std.specs.List.{fold, sum_by}

@@ -1,4 +1,4 @@
-use Rattle.std.proofs.Common.{rules, ◌≡◌, ◌∙◌, false, sym}
+use Rattle.std.proofs.Common.{rules, ◌≡◌, ◌∙◌, sym}
 use Rattle.ssb_queries.specs.AnswerEq.{row_eq}
 use Rattle.ssb_queries.specs.AnswerEqLaws.{row_Decides}
 use Rattle.ssb_queries.proofs.answer.ResultRowPartialEq.eq.Goals as goal

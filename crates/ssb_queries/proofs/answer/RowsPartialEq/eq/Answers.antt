@@ -1,4 +1,4 @@
-use Rattle.std.proofs.Common.{rules, ◌≡◌, ◌∙◌, false, sym}
+use Rattle.std.proofs.Common.{rules, ◌≡◌, ◌∙◌, sym}
 use Rattle.ssb_queries.specs.AnswerEq.{rows_eq}
 use Rattle.ssb_queries.specs.AnswerEqLaws.{rows_Decides}
 use Rattle.ssb_queries.proofs.answer.RowsPartialEq.eq.Goals as goal
