@@ -26,5 +26,6 @@ status_of fault.BadWord = 2
 status_of (fault.Data why) = data_status why
 status_of (fault.Script why) = script_status why
 status_of (fault.CannotRead path) = 4
+status_of fault.NoRandomness = 4
 status_of fault.WriteFailed = 4
 status_of fault.OutOfMemory = 4

@@ -97,7 +97,7 @@ pub struct QueryWords<'m> {
 }
 
 /// The words after `query`, which clap has found.
-pub fn query_words<'m>(matches: &'m ArgMatches<'m>) -> QueryWords<'m> {
+pub fn query_words<'m>(matches: &'m ArgMatches<'_>) -> QueryWords<'m> {
     QueryWords {
         folder: matches.get_str("data").unwrap_or(""),
         name: matches.get_str("name").unwrap_or(""),

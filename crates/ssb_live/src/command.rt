@@ -1,22 +1,39 @@
 //! What the words of a command line do.
 
+use clap::ArgMatches;
+use crate::arguments::query_words;
 use crate::arguments;
-use crate::arguments::{QueryWords, query_words};
 use crate::demo::demo;
+use crate::fault::Fault;
 use crate::files;
 use crate::query::run_query;
+use std::hash::RandomState;
 use std::io::{Read, Write};
 
 // Answers one question over the files of a folder.
 fn answer_query<W: Write, E: Write>(
     rt: &HostRuntime,
-    words: QueryWords<'_>,
+    matches: &ArgMatches<'_>,
     out: &mut W,
     err: &mut E,
 ) -> u8 {
+    let words = query_words(matches);
     match files::open(rt, words.folder) {
         Ok(tables) => run_query(rt.alloc(), tables, words.name, words.constants, out, err),
         Err(fault) => fault.tell(err),
+    }
+}
+
+// Serves a script. The keys of its store are hashed at random, so that no client can choose some that collide.
+fn serve_script<I: Read + Drop, W: Write, E: Write>(
+    rt: &HostRuntime,
+    input: I,
+    out: &mut W,
+    err: &mut E,
+) -> u8 {
+    match RandomState::new(rt) {
+        Ok(hashing) => demo(rt.alloc(), hashing, input, out, err),
+        Err(_) => Fault::NoRandomness.tell(err),
     }
 }
 
@@ -33,7 +50,7 @@ pub fn run<I: Read + Drop, W: Write, E: Write>(
         Err(answer) => return arguments::tell(&answer, out, err),
     };
     match matches.subcommand() {
-        Some((_, query)) => answer_query(rt, query_words(query), out, err),
-        None => demo(rt.alloc(), input, out, err),
+        Some((_, query)) => answer_query(rt, query, out, err),
+        None => serve_script(rt, input, out, err),
     }
 }

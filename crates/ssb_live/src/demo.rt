@@ -13,6 +13,7 @@ use ssb_load::load;
 use ssb_report::{RunError, run_store};
 use ssb_schema::{Base, Limits};
 use std::alloc::Global;
+use std::hash::RandomState;
 use std::io::{Read, Write};
 use std::sync::Arc;
 
@@ -39,13 +40,18 @@ fn shared_base(alloc: Global) -> Result<Arc<Base>, Fault>
 }
 
 // Serves the script, and has the writer hand on what it holds.
-fn serve<R: Read + Drop, W: Write>(alloc: Global, input: R, out: &mut W) -> Result<(), Fault>
+fn serve<R: Read + Drop, W: Write>(
+    alloc: Global,
+    hashing: RandomState,
+    input: R,
+    out: &mut W,
+) -> Result<(), Fault>
     ensures report { OnOk result (ServesSmall (R.remaining input) (W.contents out.old) (W.contents out.new)) }
     ensures fault { OnErr result (EndsEarly (R.remaining input) (W.contents out.old) (W.contents out.new)) }
     ensures script { IfErr result (λ fault. status_of fault ≡ 1 → IsOfScript (R.remaining input)) }
 {
     let base = shared_base(alloc)?;
-    let mut store = RowStore::new(alloc, Arc::try_clone(&base)?)?;
+    let mut store = RowStore::new(alloc, Arc::try_clone(&base)?, hashing)?;
     let mut lines = PlainLines::new(alloc, base)?;
     match run_store(alloc, &mut store, &mut lines, input, out) {
         Ok(_) => {}
@@ -59,10 +65,11 @@ fn serve<R: Read + Drop, W: Write>(alloc: Global, input: R, out: &mut W) -> Resu
 }
 
 /// Serves a script over the small data set as the one client of a one-thread warehouse, and writes the report; or a fault
-/// line to `err`. The whole script is read first. The result is the exit status: 0 with nothing written to `err`, 1 where
+/// line to `err`. The whole script is read first, and the store hashes its keys with `hashing`. The result is the exit status: 0 with nothing written to `err`, 1 where
 /// the script is refused, and else 4.
 pub fn demo<R: Read + Drop, W: Write, E: Write>(
     alloc: Global,
+    hashing: RandomState,
     input: R,
     out: &mut W,
     err: &mut E,
@@ -72,7 +79,7 @@ pub fn demo<R: Read + Drop, W: Write, E: Write>(
     ensures quiet { result ≡ 0 → err.new ≡ err.old }
     ensures script { result ≡ 1 → IsOfScript (R.remaining input) }
 {
-    match serve(alloc, input, out) {
+    match serve(alloc, hashing, input, out) {
         Ok(()) => 0,
         Err(fault) => fault.tell(err),
     }

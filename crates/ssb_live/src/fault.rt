@@ -16,6 +16,8 @@ use std::io::Write;
 pub enum Fault {
     /// The first file, by its path, that could not be opened.
     CannotRead(String),
+    /// The system gave no random bytes.
+    NoRandomness,
     /// A word of the command line is no UTF-8.
     BadWord,
     NoSuchQuery(NoSuchQuery),
@@ -39,7 +41,10 @@ impl Fault {
             Fault::Data(_) => 1,
             Fault::Script(ScriptError::Read) | Fault::Script(ScriptError::OutOfMemory) => 4,
             Fault::Script(_) => 1,
-            Fault::CannotRead(_) | Fault::WriteFailed | Fault::OutOfMemory => 4,
+            Fault::CannotRead(_)
+            | Fault::NoRandomness
+            | Fault::WriteFailed
+            | Fault::OutOfMemory => 4,
         }
     }
 
@@ -56,6 +61,7 @@ impl fmt::Display for Fault {
     fn fmt<W: fmt::Write>(&self, f: &mut fmt::Formatter<W>) -> fmt::Result {
         match self {
             Fault::CannotRead(path) => write!(f, "cannot read {path}"),
+            Fault::NoRandomness => f.write_str("cannot read random bytes"),
             Fault::BadWord => f.write_str("a word is no UTF-8"),
             Fault::NoSuchQuery(fault) => write!(f, "query: {fault}"),
             Fault::Constants(fault) => write!(f, "query: {fault}"),

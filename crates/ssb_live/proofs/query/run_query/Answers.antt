@@ -16,4 +16,4 @@ returns-clause-fault g c = λ status.
     ]
 
 pub returns-clause-data : goal.returns-clause-data
-returns-clause-data g c = λ status. c.in-Err-report.ensures.data (sym c.tell-2.ensures ∙ status)
+returns-clause-data g c = λ status. c.in-Err-report.ensures.data (sym c.tell-in-Err-report.ensures ∙ status)
