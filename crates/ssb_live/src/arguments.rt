@@ -87,24 +87,6 @@ pub fn matches<'a>(alloc: Global, words: &'a [String]) -> Result<ArgMatches<'a>,
     command(alloc)?.try_get_matches_from(words)
 }
 
-/// What the words after `query` ask, and over which folder.
-#[derive(Clone, Copy, Debug, PartialEq, Eq)]
-pub struct QueryWords<'m> {
-    pub folder: &'m str,
-    pub name: &'m str,
-    /// All constants of the query, or none.
-    pub constants: &'m [&'m str],
-}
-
-/// The words after `query`, which clap has found.
-pub fn query_words<'m>(matches: &'m ArgMatches<'_>) -> QueryWords<'m> {
-    QueryWords {
-        folder: matches.get_str("data").unwrap_or(""),
-        name: matches.get_str("name").unwrap_or(""),
-        constants: matches.get_strs("constants").unwrap_or(&[]),
-    }
-}
-
 /// Writes what clap answers in place of matches, and gives the exit status. A fault of the words goes to `err`, with status
 /// 2 whether or not `err` takes it; help and the version go to `out`, which has to take them.
 pub fn tell<W: Write, E: Write>(answer: &Error, out: &mut W, err: &mut E) -> u8 {

@@ -1,12 +1,11 @@
 //! What the words of a command line do.
 
-use clap::ArgMatches;
-use crate::arguments::query_words;
 use crate::arguments;
 use crate::demo::demo;
 use crate::fault::Fault;
 use crate::files;
 use crate::query::run_query;
+use clap::ArgMatches;
 use std::hash::RandomState;
 use std::io::{Read, Write};
 
@@ -17,9 +16,11 @@ fn answer_query<W: Write, E: Write>(
     out: &mut W,
     err: &mut E,
 ) -> u8 {
-    let words = query_words(matches);
-    match files::open(rt, words.folder) {
-        Ok(tables) => run_query(rt.alloc(), tables, words.name, words.constants, out, err),
+    let folder = matches.get_str("data").unwrap_or("");
+    let name = matches.get_str("name").unwrap_or("");
+    let constants = matches.get_strs("constants").unwrap_or(&[]);
+    match files::open(rt, folder) {
+        Ok(tables) => run_query(rt.alloc(), tables, name, constants, out, err),
         Err(fault) => fault.tell(err),
     }
 }
