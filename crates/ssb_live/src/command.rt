@@ -1,10 +1,9 @@
 //! What the words of a command line do.
 
-use crate::arguments;
 use crate::demo::demo;
 use crate::fault::Fault;
-use crate::files;
 use crate::query::run_query;
+use crate::{arguments, files};
 use clap::ArgMatches;
 use std::hash::RandomState;
 use std::io::{Read, Write};

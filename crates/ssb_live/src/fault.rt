@@ -41,10 +41,8 @@ impl Fault {
             Fault::Data(_) => 1,
             Fault::Script(ScriptError::Read) | Fault::Script(ScriptError::OutOfMemory) => 4,
             Fault::Script(_) => 1,
-            Fault::CannotRead(_)
-            | Fault::NoRandomness
-            | Fault::WriteFailed
-            | Fault::OutOfMemory => 4,
+            Fault::CannotRead(_) | Fault::NoRandomness => 4,
+            Fault::WriteFailed | Fault::OutOfMemory => 4,
         }
     }
 

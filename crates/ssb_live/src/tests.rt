@@ -150,7 +150,13 @@ fn a_fault_of_the_script_is_told(rt: HostRuntime) -> Result<(), Fail> {
     let hashing = RandomState::new(&rt)?;
     let mut out = Vec::new(rt.alloc());
     let mut err = Vec::new(rt.alloc());
-    let status = demo(rt.alloc(), hashing, "hello\n".as_bytes(), &mut out, &mut err);
+    let status = demo(
+        rt.alloc(),
+        hashing,
+        "hello\n".as_bytes(),
+        &mut out,
+        &mut err,
+    );
     assert_eq!(rt; status, 1);
     assert!(rt; out.is_empty());
     assert_eq!(rt;

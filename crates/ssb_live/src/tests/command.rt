@@ -31,8 +31,12 @@ fn run_with(rt: &HostRuntime, words: &[&str], script: &str) -> Result<Told, Fail
 #[test]
 fn each_word_after_query_has_its_place(rt: HostRuntime) -> Result<(), Fail> {
     for words in [
-        &["ssb_live", "query", "--data", "t", "Q2.1", "MFGR#12", "EUROPE"][..],
-        &["ssb_live", "query", "Q2.1", "--data", "t", "MFGR#12", "EUROPE"],
+        &[
+            "ssb_live", "query", "--data", "t", "Q2.1", "MFGR#12", "EUROPE",
+        ][..],
+        &[
+            "ssb_live", "query", "Q2.1", "--data", "t", "MFGR#12", "EUROPE",
+        ],
     ] {
         let words = listed(rt.alloc(), words)?;
         let matches = arguments::matches(rt.alloc(), words.as_slice()).map_err(|_| "refused")?;
@@ -40,7 +44,10 @@ fn each_word_after_query_has_its_place(rt: HostRuntime) -> Result<(), Fail> {
         assert_eq!(rt; name, "query");
         assert_eq!(rt; query.get_str("data"), Some("t"));
         assert_eq!(rt; query.get_str("name"), Some("Q2.1"));
-        assert_eq!(rt; query.get_strs("constants"), Some(&["MFGR#12", "EUROPE"][..]));
+        assert_eq!(rt;
+            query.get_strs("constants"),
+            Some(&["MFGR#12", "EUROPE"][..])
+        );
     }
     Ok(())
 }
@@ -67,17 +74,31 @@ fn a_question_is_answered_over_the_files_of_a_folder(rt: HostRuntime) -> Result<
     let id = std::process::id(rt.process());
     let folder = format!(in rt.alloc(); "{}/ssb_live_tables_{id}", above.display())?;
     write_small(&rt, folder.as_str())?;
-    let query = ["ssb_live", "query", "--data", folder.as_str(), "Q2.1", "MFGR#12", "EUROPE"];
+    let query = [
+        "ssb_live",
+        "query",
+        "--data",
+        folder.as_str(),
+        "Q2.1",
+        "MFGR#12",
+        "EUROPE",
+    ];
     let told = run_with(&rt, &query, "")?;
     let standard = run_with(&rt, &query[..5], "")?;
     let missing = run_with(&rt, &["ssb_live", "query", "--data", "no/such", "Q9.9"], "")?;
     fs::remove_dir_all(&rt, folder.as_str())?;
     assert_eq!(rt; told.status, 0);
-    assert_eq!(rt; told.out.as_slice(), b"Q2.1 at 0 rows 1\n500|1997|MFGR#121\n".as_slice());
+    assert_eq!(rt;
+        told.out.as_slice(),
+        b"Q2.1 at 0 rows 1\n500|1997|MFGR#121\n".as_slice()
+    );
     assert!(rt; told.err.is_empty());
     assert_eq!(rt; standard.out.as_slice(), b"Q2.1 at 0 rows 0\n".as_slice());
     assert_eq!(rt; missing.status, 4);
-    assert_eq!(rt; missing.err.as_slice(), b"ssb_live: cannot read no/such/customer.tbl\n".as_slice());
+    assert_eq!(rt;
+        missing.err.as_slice(),
+        b"ssb_live: cannot read no/such/customer.tbl\n".as_slice()
+    );
     Ok(())
 }
 
@@ -85,11 +106,17 @@ fn a_question_is_answered_over_the_files_of_a_folder(rt: HostRuntime) -> Result<
 fn without_words_the_script_is_served(rt: HostRuntime) -> Result<(), Fail> {
     let told = run_with(&rt, &["ssb_live"], "query|Q4.1\n")?;
     assert_eq!(rt; told.status, 0);
-    assert_eq!(rt; told.out.as_slice(), b"Q4.1 at 0 rows 1\n1997|UNITED STATES|660\n".as_slice());
+    assert_eq!(rt;
+        told.out.as_slice(),
+        b"Q4.1 at 0 rows 1\n1997|UNITED STATES|660\n".as_slice()
+    );
     assert!(rt; told.err.is_empty());
     let told = run_with(&rt, &["ssb_live"], "begin\n")?;
     assert_eq!(rt; told.status, 1);
-    assert_eq!(rt; told.err.as_slice(), b"ssb_live: script 1: 71 NoCommit\n".as_slice());
+    assert_eq!(rt;
+        told.err.as_slice(),
+        b"ssb_live: script 1: 71 NoCommit\n".as_slice()
+    );
     Ok(())
 }
 
@@ -98,7 +125,10 @@ fn help_and_version_go_to_standard_output(rt: HostRuntime) -> Result<(), Fail> {
     let told = run_with(&rt, &["ssb_live", "--version"], "")?;
     assert_eq!(rt; told.status, 0);
     assert_eq!(rt; told.out.as_slice(), b"ssb_live 0.1.0\n".as_slice());
-    for words in [&["ssb_live", "--help"][..], &["ssb_live", "query", "--help"]] {
+    for words in [
+        &["ssb_live", "--help"][..],
+        &["ssb_live", "query", "--help"],
+    ] {
         let told = run_with(&rt, words, "")?;
         assert_eq!(rt; told.status, 0);
         assert!(rt; told.err.is_empty());
@@ -110,7 +140,10 @@ fn help_and_version_go_to_standard_output(rt: HostRuntime) -> Result<(), Fail> {
         assert_eq!(rt; run(&rt, words.as_slice(), script, &mut Full, &mut err), 4);
         assert_eq!(rt; err.as_slice(), b"ssb_live: write failed\n".as_slice());
         let mut err = Vec::new(rt.alloc());
-        assert_eq!(rt; run(&rt, words.as_slice(), script, &mut Holding, &mut err), 4);
+        assert_eq!(rt;
+            run(&rt, words.as_slice(), script, &mut Holding, &mut err),
+            4
+        );
         assert_eq!(rt; err.as_slice(), b"ssb_live: write failed\n".as_slice());
     }
     Ok(())
@@ -168,10 +201,15 @@ fn a_word_that_is_no_utf8_is_a_wrong_word(rt: HostRuntime) -> Result<(), Fail> {
     assert_eq!(rt; words.len(), 3);
     assert_eq!(rt; words[1].as_str(), "query");
     let bad = [&b"ssb_live"[..], b"query", b"\xff"];
-    let fault = arguments::words(&(Given(&bad), rt.alloc())).err().ok_or("no fault")?;
+    let fault = arguments::words(&(Given(&bad), rt.alloc()))
+        .err()
+        .ok_or("no fault")?;
     let mut err = Vec::new(rt.alloc());
     assert_eq!(rt; fault.tell(&mut err), 2);
-    assert_eq!(rt; err.as_slice(), b"ssb_live: a word is no UTF-8\n".as_slice());
+    assert_eq!(rt;
+        err.as_slice(),
+        b"ssb_live: a word is no UTF-8\n".as_slice()
+    );
     assert_eq!(rt; fault.tell(&mut Full), 2);
     Ok(())
 }

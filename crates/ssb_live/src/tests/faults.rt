@@ -14,6 +14,7 @@ const PRICE: Column = Column {
     table: Table::Lineorder,
     place: 10,
 };
+
 const NAME: Column = Column {
     table: Table::Customer,
     place: 2,
@@ -22,9 +23,21 @@ const NAME: Column = Column {
 #[test]
 fn each_fault_of_data_has_its_number_and_text(rt: HostRuntime) -> Result<(), Fail> {
     for (fault, status, text) in [
-        (LoadError::Read(Table::Customer), 4, "data: 20 Read customer"),
-        (LoadError::FieldCount(Table::Lineorder, 2), 1, "data: 21 FieldCount lineorder 2"),
-        (LoadError::NotUtf8(Table::Customer, 3, NAME), 1, "data: 22 NotUtf8 customer 3 C_NAME"),
+        (
+            LoadError::Read(Table::Customer),
+            4,
+            "data: 20 Read customer",
+        ),
+        (
+            LoadError::FieldCount(Table::Lineorder, 2),
+            1,
+            "data: 21 FieldCount lineorder 2",
+        ),
+        (
+            LoadError::NotUtf8(Table::Customer, 3, NAME),
+            1,
+            "data: 22 NotUtf8 customer 3 C_NAME",
+        ),
         (
             LoadError::NotANumber(Table::Lineorder, 1, PRICE),
             1,
@@ -82,7 +95,11 @@ fn other_faults(alloc: Global) -> Result<[(Fault, u8, &'static str); 8], Fail> {
             2,
             "query: 31 WrongCount Q1.1",
         ),
-        (Fault::Constants(ConstantsFault::BadConstant(5)), 2, "query: 32 BadConstant 5"),
+        (
+            Fault::Constants(ConstantsFault::BadConstant(5)),
+            2,
+            "query: 32 BadConstant 5",
+        ),
         (Fault::WriteFailed, 4, "write failed"),
         (Fault::OutOfMemory, 4, "out of memory"),
     ])
@@ -106,10 +123,19 @@ fn each_refusal_of_the_schema_has_its_number_and_text(rt: HostRuntime) -> Result
         (SchemaFault::LineRepeated(1), "4 LineRepeated 1"),
         (SchemaFault::NoActions, "5 NoActions"),
         (SchemaFault::TooManyActions, "6 TooManyActions"),
-        (SchemaFault::KeyRepeated(Table::Supplier, 2), "7 KeyRepeated supplier 2"),
-        (SchemaFault::UnknownKey(1, Table::Date), "8 UnknownKey 1 date"),
+        (
+            SchemaFault::KeyRepeated(Table::Supplier, 2),
+            "7 KeyRepeated supplier 2",
+        ),
+        (
+            SchemaFault::UnknownKey(1, Table::Date),
+            "8 UnknownKey 1 date",
+        ),
         (SchemaFault::TooManyRows(Table::Part), "9 TooManyRows part"),
-        (SchemaFault::OutOfRange(PRICE), "10 OutOfRange LO_EXTENDEDPRICE"),
+        (
+            SchemaFault::OutOfRange(PRICE),
+            "10 OutOfRange LO_EXTENDEDPRICE",
+        ),
         (SchemaFault::FieldTooLong(NAME), "11 FieldTooLong C_NAME"),
     ] {
         assert_eq!(rt; fault.to_string(rt.alloc())?.as_str(), text);
