@@ -1,5 +1,5 @@
 -- What a result tells of one outcome.
-use Rattle.std.specs.Prelude.{◌≡◌, ◌≢◌, false, is_err, Result, Ok, Err, MatchResult, IfErr, OnOk, OnErr}
+use Rattle.std.specs.Prelude.{◌≡◌, ◌≢◌, true, false, is_err, Result, Ok, Err, MatchResult, IfErr, OnOk, OnErr}
 use Rattle.ssb_live.specs.Status.{status_of}
 use Rattle.ssb_live.specs.declared.fault.Fault.{Fault}
 use Rattle.ssb_live.specs.declared.fault.Fault.TheVariants.{WriteFailed}
@@ -24,3 +24,7 @@ is_no_refusal (Err fault) P is = λ status. let none : status_of WriteFailed ≡
 pub is_no_word : {X : Type 0} (r : Result X Fault) → IfErr r (λ fault. fault ≡ WriteFailed) → IfErr r (λ fault. status_of fault ≢ 2)
 is_no_word (Ok x) is = tt
 is_no_word (Err fault) is = λ status. let none : status_of WriteFailed ≡ 2 = rw is at status in absurd cc
+
+pub is_err_of : {X E : Type 0} (r : Result X E) (P : Type 0) → OnErr r P → is_err r ≡ true → P
+is_err_of (Ok x) P of failed = absurd cc
+is_err_of (Err e) P of failed = of
