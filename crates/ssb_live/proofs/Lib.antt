@@ -1,3 +1,4 @@
+pub mod AskedLaws
 pub mod Flushed
 pub mod Results
 pub mod ServedLaws

@@ -1,12 +1,14 @@
 -- The question that the words of a command line ask.
-use Rattle.std.specs.Prelude.{◌≡◌, ℕ, ◌^◌, List, [], ◌∷◌, Option, Some, None, nat_lt, if◌then◌else◌}
+use Rattle.std.specs.Prelude.{◌≡◌, ◌⊎◌, ℕ, ◌^◌, List, [], ◌∷◌, Option, Some, None, nat_lt, if◌then◌else◌}
 use Rattle.ssb_load.specs.Spelling.{number_of}
 use Rattle.ssb_plans.specs.Kind.{constant_kinds}
 use Rattle.ssb_plans.specs.Queries.{standard_constants}
 use Rattle.ssb_plans.specs.Query.{name_of}
+use Rattle.ssb_plans.specs.Question.{constants_fault}
 use Rattle.ssb_plans.specs.declared.kind.ConstantKind.{ConstantKind}
 use Rattle.ssb_plans.specs.declared.kind.ConstantKind.TheVariants as kind
 use Rattle.ssb_plans.specs.declared.query.Query.{Query}
+use Rattle.ssb_plans.specs.declared.question.ConstantsFault.{ConstantsFault}
 use Rattle.ssb_plans.specs.declared.value.Value.{Value}
 use Rattle.ssb_plans.specs.declared.value.Value.TheVariants.{Text, Number}
 
@@ -32,7 +34,19 @@ abbrev pub constants_asked : Query → List (List ℕ) → List Value
 constants_asked query [] = standard_constants query
 constants_asked query (word ∷ words) = values_spelled (constant_kinds query) (word ∷ words)
 
--- a name and words ask this question
+-- a name and words ask this question, whose constants are not refused
 pub record IsAsked (name : List ℕ) (words : List (List ℕ)) (question : Query × List Value) : Type 0 where
   pub named : name_of question.0 ≡ name
   pub constants : question.1 ≡ constants_asked question.0 words
+  pub taken : constants_fault question.0 question.1 ≡ None
+
+-- the constants that words stand for are refused for a query of the name
+pub record AreRefused (name : List ℕ) (words : List (List ℕ)) : Type 0 where
+  pub query : Query
+  pub named : name_of query ≡ name
+  pub fault : ConstantsFault
+  pub is : constants_fault query (constants_asked query words) ≡ Some fault
+
+-- a name and words ask no question: no query has the name, or the constants are refused
+abbrev pub AskNothing : List ℕ → List (List ℕ) → Type 0
+AskNothing name words = ((query : Query) → name_of query ≡ name → ⊥) ⊎ AreRefused name words

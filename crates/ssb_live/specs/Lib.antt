@@ -1,5 +1,5 @@
 pub mod Asked
-pub mod Status
-pub mod Reported
 pub mod Demo
+pub mod Reported
 pub mod SmallTexts
+pub mod Status

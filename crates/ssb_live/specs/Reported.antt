@@ -2,7 +2,9 @@
 use Rattle.std.specs.Prelude.{◌≡◌, ℕ, List, Option}
 use Rattle.std.specs.Io.KnownBytes.{Appends}
 use Rattle.ssb_live.specs.Asked.{IsAsked}
-use Rattle.ssb_load.specs.Load.{SpellsBase}
+use Rattle.ssb_live.specs.Status.{data_status}
+use Rattle.ssb_load.specs.Load.{IsLoadFault, SpellsBase}
+use Rattle.ssb_load.specs.declared.error.LoadError.{LoadError}
 use Rattle.ssb_plans.specs.declared.query.Query.{Query}
 use Rattle.ssb_plans.specs.declared.value.Value.{Value}
 use Rattle.ssb_queries.specs.Answer.{answer_of}
@@ -13,6 +15,7 @@ use Rattle.ssb_report.specs.Written.{AppendsPart}
 use Rattle.ssb_schema.specs.Base.{Tables}
 use Rattle.ssb_schema.specs.Facts.{facts_of}
 use Rattle.ssb_schema.specs.Limits.{limits_of}
+use Rattle.ssb_schema.specs.declared.limits.Limits.{Limits}
 use Rattle.ssb_schema.specs.declared.table.Table.{Table}
 
 -- the answer to a question over the loaded lines of a base, after no commit
@@ -41,3 +44,11 @@ pub record ReportsPart (texts : Table → List ℕ) (name : List ℕ) (words : L
   pub report : List ℕ
   pub of_base : HasReport texts question report
   pub appends : AppendsPart old new report
+
+-- the five texts are refused: they have a fault, which is no failed read and no want of memory
+pub record AreRefused (texts : Table → List ℕ) : Type 0 where
+  pub limits : Limits
+  pub limited : limits_of limits ≡ (1048576, 33554432, 1000000)
+  pub fault : LoadError
+  pub first : IsLoadFault limits texts fault
+  pub of_data : data_status fault ≡ 1

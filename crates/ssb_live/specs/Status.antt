@@ -22,8 +22,10 @@ script_status _ = 1
 abbrev pub status_of : Fault → ℕ
 status_of (fault.NoSuchQuery why) = 2
 status_of (fault.Constants why) = 2
+status_of fault.BadWord = 2
 status_of (fault.Data why) = data_status why
 status_of (fault.Script why) = script_status why
 status_of (fault.CannotRead path) = 4
+status_of fault.NoRandomness = 4
 status_of fault.WriteFailed = 4
 status_of fault.OutOfMemory = 4

@@ -1,7 +1,14 @@
 //! The words of the command line.
 
+use crate::fault::Fault;
+use clap::error::ErrorKind;
 use clap::{Arg, ArgAction, ArgMatches, Command, Error};
 use std::alloc::{AllocError, Global};
+use std::env::Env;
+use std::io;
+use std::io::Write;
+
+const VERSION: &str = "0.1.0";
 
 const QUERY_HELP: &str = "\
 Loads the five table files of a folder and prints the report of one question: a line with the query's name, the number of
@@ -57,13 +64,41 @@ fn query_command<'a>(alloc: Global) -> Result<Command<'a>, AllocError> {
 // All words of the program.
 fn command<'a>(alloc: Global) -> Result<Command<'a>, AllocError> {
     Command::new(alloc, "ssb_live")
+        .version(VERSION)
         .about(
             "A warehouse of the Star Schema Benchmark. Without words: serves the script on standard input over a small built-in data set, and prints the report",
         )
         .subcommand(query_command(alloc)?)
 }
 
+/// The words of the command line, the program's name first.
+pub fn words<R: Env + AllocGlobal>(rt: &R) -> Result<Vec<String>, Fault> {
+    match std::env::args(rt) {
+        Ok(words) => Ok(words.collect(rt.alloc())?),
+        Err(error) => Err(match error.kind() {
+            io::ErrorKind::OutOfMemory => Fault::OutOfMemory,
+            _ => Fault::BadWord,
+        }),
+    }
+}
+
 /// What the words ask for, or clap's own fault or help.
 pub fn matches<'a>(alloc: Global, words: &'a [String]) -> Result<ArgMatches<'a>, Error> {
     command(alloc)?.try_get_matches_from(words)
+}
+
+/// Writes what clap answers in place of matches, and gives the exit status. A fault of the words goes to `err`, with status
+/// 2 whether or not `err` takes it; help and the version go to `out`, which has to take them.
+pub fn tell<W: Write, E: Write>(answer: &Error, out: &mut W, err: &mut E) -> u8 {
+    if answer.kind() == ErrorKind::OutOfMemory {
+        return Fault::OutOfMemory.tell(err);
+    }
+    if answer.use_stderr() {
+        let _ = write!(err, "{answer}");
+        return 2;
+    }
+    if write!(out, "{answer}").is_err() || out.flush().is_err() {
+        return Fault::WriteFailed.tell(err);
+    }
+    0
 }

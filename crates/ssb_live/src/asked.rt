@@ -1,8 +1,9 @@
 //! The question that the words of a command line ask.
 
-ghost use Rattle.std.specs.Prelude.{◌≡◌, IfOk, map};
+ghost use Rattle.std.specs.Prelude.{◌≡◌, ◌≢◌, IfOk, IfErr, map};
 ghost use Rattle.std.specs.Option.{option_copied};
-ghost use Rattle.ssb_live.specs.Asked.{IsAsked, values_spelled, value_spelled};
+ghost use Rattle.ssb_live.specs.Asked.{AskNothing, IsAsked, values_spelled, value_spelled};
+ghost use Rattle.ssb_live.specs.Status.{status_of};
 
 use crate::fault::Fault;
 use ssb_load::number;
@@ -38,6 +39,8 @@ fn values(alloc: Global, kinds: &[ConstantKind], words: &[&str]) -> Result<Vec<V
 /// The question of this name and these constants; without constants, the benchmark's.
 pub fn ask(alloc: Global, name: &str, constants: &[&str]) -> Result<Question, Fault>
     ensures question { IfOk result (λ question. IsAsked name.now (map (λ word. word.now) constants.now) question) }
+    ensures words { IfErr result (λ fault. status_of fault ≡ 2 → AskNothing name.now (map (λ word. word.now) constants.now)) }
+    ensures early { IfErr result (λ fault. status_of fault ≢ 1) }
 {
     let query = Query::by_name(name).map_err(|fault| Fault::NoSuchQuery(fault))?;
     if constants.is_empty() {

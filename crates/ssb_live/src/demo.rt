@@ -1,7 +1,10 @@
 //! The program without words: a script served by one thread over the small data set.
 
-ghost use Rattle.std.specs.Prelude.{◌≡◌, ◌≢◌, IfOk, OnOk, OnErr};
-ghost use Rattle.ssb_live.specs.Demo.{IsSmall, ServesSmall, EndsEarly};
+ghost use Rattle.std.specs.Prelude.{◌≡◌, ◌≢◌, IfOk, IfErr, OnOk, OnErr};
+ghost use Rattle.ssb_live.specs.Demo.{IsOfScript, IsSmall, ServesSmall, EndsEarly};
+ghost use Rattle.ssb_live.specs.Reported.{AreRefused};
+ghost use Rattle.ssb_live.specs.SmallTexts.{small_texts};
+ghost use Rattle.ssb_live.specs.Status.{status_of};
 
 use crate::fault::Fault;
 use crate::small_data::tables;
@@ -16,7 +19,8 @@ use std::sync::Arc;
 
 // The base of the small data set.
 fn small_base(alloc: Global) -> Result<Base, Fault>
-    ensures { IfOk result (λ base. IsSmall base) }
+    ensures base { IfOk result (λ base. IsSmall base) }
+    ensures data { IfErr result (λ fault. status_of fault ≡ 1 → AreRefused small_texts) }
 {
     match load(alloc, Limits::standard(), tables()) {
         Ok(base) => Ok(base),
@@ -26,7 +30,8 @@ fn small_base(alloc: Global) -> Result<Base, Fault>
 
 // The same, to be shared.
 fn shared_base(alloc: Global) -> Result<Arc<Base>, Fault>
-    ensures { IfOk result (λ base. IsSmall base.value) }
+    ensures base { IfOk result (λ base. IsSmall base.value) }
+    ensures data { IfErr result (λ fault. status_of fault ≡ 1 → AreRefused small_texts) }
 {
     match Arc::new(alloc, small_base(alloc)?) {
         Ok(base) => Ok(base),
@@ -43,6 +48,7 @@ fn serve<R: Read + Drop, W: Write>(
 ) -> Result<(), Fault>
     ensures report { OnOk result (ServesSmall (R.remaining input) (W.contents out.old) (W.contents out.new)) }
     ensures fault { OnErr result (EndsEarly (R.remaining input) (W.contents out.old) (W.contents out.new)) }
+    ensures script { IfErr result (λ fault. status_of fault ≡ 1 → IsOfScript (R.remaining input)) }
 {
     let base = shared_base(alloc)?;
     let mut store = RowStore::new(alloc, Arc::try_clone(&base)?, hashing)?;
@@ -59,7 +65,8 @@ fn serve<R: Read + Drop, W: Write>(
 }
 
 /// Serves a script over the small data set as the one client of a one-thread warehouse, and writes the report; or a fault
-/// line to `err`. The whole script is read first. The store hashes its keys with `hashing`. The result is the exit status.
+/// line to `err`. The whole script is read first, and the store hashes its keys with `hashing`. The result is the exit status: 0 with nothing written to `err`, 1 where
+/// the script is refused, and else 4.
 pub fn demo<R: Read + Drop, W: Write, E: Write>(
     alloc: Global,
     hashing: RandomState,
@@ -69,6 +76,8 @@ pub fn demo<R: Read + Drop, W: Write, E: Write>(
 ) -> u8
     ensures report { result ≡ 0 → ServesSmall (R.remaining input) (W.contents out.old) (W.contents out.new) }
     ensures fault { result ≢ 0 → EndsEarly (R.remaining input) (W.contents out.old) (W.contents out.new) }
+    ensures quiet { result ≡ 0 → err.new ≡ err.old }
+    ensures script { result ≡ 1 → IsOfScript (R.remaining input) }
 {
     match serve(alloc, hashing, input, out) {
         Ok(()) => 0,

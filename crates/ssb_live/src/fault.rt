@@ -2,6 +2,7 @@
 
 ghost use Rattle.std.specs.Prelude.{◌≡◌};
 ghost use Rattle.ssb_live.specs.Status.{status_of};
+ghost use Rattle.ssb_live.specs.declared.fault.Fault.TheVariants.{OutOfMemory};
 
 use ssb_load::LoadError;
 use ssb_plans::{ConstantsFault, NoSuchQuery};
@@ -15,6 +16,10 @@ use std::io::Write;
 pub enum Fault {
     /// The first file, by its path, that could not be opened.
     CannotRead(String),
+    /// The system gave no random bytes.
+    NoRandomness,
+    /// A word of the command line is no UTF-8.
+    BadWord,
     NoSuchQuery(NoSuchQuery),
     Constants(ConstantsFault),
     Data(LoadError),
@@ -31,12 +36,13 @@ impl Fault {
         ensures { result ≡ status_of self.now }
     {
         match self {
-            Fault::NoSuchQuery(_) | Fault::Constants(_) => 2,
+            Fault::NoSuchQuery(_) | Fault::Constants(_) | Fault::BadWord => 2,
             Fault::Data(LoadError::Read(_)) | Fault::Data(LoadError::OutOfMemory) => 4,
             Fault::Data(_) => 1,
             Fault::Script(ScriptError::Read) | Fault::Script(ScriptError::OutOfMemory) => 4,
             Fault::Script(_) => 1,
-            Fault::CannotRead(_) | Fault::WriteFailed | Fault::OutOfMemory => 4,
+            Fault::CannotRead(_) | Fault::NoRandomness => 4,
+            Fault::WriteFailed | Fault::OutOfMemory => 4,
         }
     }
 
@@ -53,6 +59,8 @@ impl fmt::Display for Fault {
     fn fmt<W: fmt::Write>(&self, f: &mut fmt::Formatter<W>) -> fmt::Result {
         match self {
             Fault::CannotRead(path) => write!(f, "cannot read {path}"),
+            Fault::NoRandomness => f.write_str("cannot read random bytes"),
+            Fault::BadWord => f.write_str("a word is no UTF-8"),
             Fault::NoSuchQuery(fault) => write!(f, "query: {fault}"),
             Fault::Constants(fault) => write!(f, "query: {fault}"),
             Fault::Data(LoadError::OutOfMemory) => f.write_str("out of memory"),
@@ -66,6 +74,8 @@ impl fmt::Display for Fault {
 }
 
 impl From<AllocError> for Fault {
+    ghost from_gives = { λ _ e. e ≡ OutOfMemory };
+
     fn from(_error: AllocError) -> Fault {
         Fault::OutOfMemory
     }

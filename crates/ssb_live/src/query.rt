@@ -1,7 +1,10 @@
 //! `query`: the report of one question over five table files.
 
-ghost use Rattle.std.specs.Prelude.{◌≡◌, ◌≢◌, ◌⊎◌, ℕ, List, IfOk, OnOk, OnErr, MatchResult, map};
-ghost use Rattle.ssb_live.specs.Reported.{HasReport, Reports, ReportsPart, opening_answer};
+ghost use Rattle.std.specs.Prelude.{◌≡◌, ◌≢◌, ◌⊎◌, ℕ, List, IfOk, IfErr, OnOk, OnErr, MatchResult, map};
+ghost use Rattle.ssb_live.specs.Asked.{AskNothing};
+ghost use Rattle.ssb_live.specs.Reported.{AreRefused, HasReport, Reports, ReportsPart, opening_answer};
+ghost use Rattle.ssb_live.specs.Status.{status_of};
+ghost use Rattle.ssb_live.specs.declared.fault.Fault.TheVariants.{OutOfMemory, WriteFailed};
 ghost use Rattle.ssb_load.specs.Load.{AreTexts};
 ghost use Rattle.ssb_report.specs.AnswerText.{answer_text};
 ghost use Rattle.ssb_report.specs.Written.{AppendsPart};
@@ -20,7 +23,8 @@ use std::io::{Read, Write};
 
 // The answer over the loaded lines of a base.
 fn answer(alloc: Global, base: &Base, question: &Question) -> Result<Answer, Fault>
-    ensures { IfOk result (λ answer. answer ≡ opening_answer base.now question.now) }
+    ensures answer { IfOk result (λ answer. answer ≡ opening_answer base.now question.now) }
+    ensures memory { IfErr result (λ fault. fault ≡ OutOfMemory) }
 {
     let rows = plain(alloc, base, base.lines(), question)?;
     Ok(Answer::Rows {
@@ -32,8 +36,9 @@ fn answer(alloc: Global, base: &Base, question: &Question) -> Result<Answer, Fau
 
 // Writes an answer, and has the writer hand on what it holds.
 fn write<W: Write>(out: &mut W, answer: &Answer) -> Result<(), Fault>
-    ensures { MatchResult result (λ _. Appends (W.contents out.old) (W.contents out.new) (answer_text answer.now))
+    ensures written { MatchResult result (λ _. Appends (W.contents out.old) (W.contents out.new) (answer_text answer.now))
         (λ _. AppendsPart (W.contents out.old) (W.contents out.new) (answer_text answer.now)) }
+    ensures fault { IfErr result (λ fault. fault ≡ WriteFailed) }
 {
     if write_answer(out, answer).is_err() {
         return Err(Fault::WriteFailed);
@@ -56,6 +61,8 @@ fn report<R: Read + Drop, W: Write>(
     ensures fault { OnErr result ((W.contents out.new ≡ W.contents out.old)
         ⊎ ((texts : Table → List ℕ) → AreTexts R.remaining tables texts
         → (report : List ℕ) × HasReport texts question.now report × AppendsPart (W.contents out.old) (W.contents out.new) report)) }
+    ensures data { IfErr result (λ fault. status_of fault ≡ 1 → (texts : Table → List ℕ) → AreTexts R.remaining tables texts → AreRefused texts) }
+    ensures later { IfErr result (λ fault. status_of fault ≢ 2) }
 {
     let base = match load(alloc, Limits::standard(), tables) {
         Ok(base) => base,
@@ -66,7 +73,8 @@ fn report<R: Read + Drop, W: Write>(
 }
 
 /// Writes the report of the question of this name and these constants (without constants, the benchmark's) over the base
-/// that the tables spell; or a fault line to `err`. The question is looked at first. The result is the exit status.
+/// that the tables spell; or a fault line to `err`. The question is looked at first. The result is the exit status: 0 with
+/// nothing written to `err`, 1 where the data is refused, 2 where the question is, and else 4.
 pub fn run_query<R: Read + Drop, W: Write, E: Write>(
     alloc: Global,
     tables: Tables<R>,
@@ -80,6 +88,9 @@ pub fn run_query<R: Read + Drop, W: Write, E: Write>(
     ensures fault { result ≢ 0 → (W.contents out.new ≡ W.contents out.old)
         ⊎ ((texts : Table → List ℕ) → AreTexts R.remaining tables texts
         → ReportsPart texts name.now (map (λ word. word.now) constants.now) (W.contents out.old) (W.contents out.new)) }
+    ensures quiet { result ≡ 0 → err.new ≡ err.old }
+    ensures data { result ≡ 1 → (texts : Table → List ℕ) → AreTexts R.remaining tables texts → AreRefused texts }
+    ensures words { result ≡ 2 → AskNothing name.now (map (λ word. word.now) constants.now) }
 {
     let question = match ask(alloc, name, constants) {
         Ok(question) => question,

@@ -1,5 +1,8 @@
 //! The fault lines and statuses of `query`, and reports over the small data set.
 
+mod command;
+mod faults;
+
 use crate::demo::demo;
 use crate::files;
 use crate::query::run_query;
@@ -147,7 +150,13 @@ fn a_fault_of_the_script_is_told(rt: HostRuntime) -> Result<(), Fail> {
     let hashing = RandomState::new(&rt)?;
     let mut out = Vec::new(rt.alloc());
     let mut err = Vec::new(rt.alloc());
-    let status = demo(rt.alloc(), hashing, "hello\n".as_bytes(), &mut out, &mut err);
+    let status = demo(
+        rt.alloc(),
+        hashing,
+        "hello\n".as_bytes(),
+        &mut out,
+        &mut err,
+    );
     assert_eq!(rt; status, 1);
     assert!(rt; out.is_empty());
     assert_eq!(rt;
@@ -177,6 +186,35 @@ fn a_failed_write_is_told(rt: HostRuntime) {
     let status = run_query(rt.alloc(), tables(), "Q1.1", &[], &mut Full, &mut err);
     assert_eq!(rt; status, 4);
     assert_eq!(rt; err.as_slice(), "ssb_live: write failed\n".as_bytes());
+}
+
+// A writer that takes all and hands nothing on.
+#[derive(Drop)]
+struct Holding;
+
+impl Write for Holding {
+    fn write(&mut self, buf: &[u8]) -> io::Result<usize> {
+        Ok(buf.len())
+    }
+
+    fn flush(&mut self) -> io::Result<()> {
+        Err(io::Error::from(io::ErrorKind::Other))
+    }
+}
+
+#[test]
+fn a_report_that_is_not_handed_on_is_told(rt: HostRuntime) -> Result<(), Fail> {
+    let mut err = Vec::new(rt.alloc());
+    let status = run_query(rt.alloc(), tables(), "Q1.1", &[], &mut Holding, &mut err);
+    assert_eq!(rt; status, 4);
+    assert_eq!(rt; err.as_slice(), "ssb_live: write failed\n".as_bytes());
+    let mut err = Vec::new(rt.alloc());
+    let hashing = RandomState::new(&rt)?;
+    let script = "query|Q1.1\n".as_bytes();
+    let status = demo(rt.alloc(), hashing, script, &mut Holding, &mut err);
+    assert_eq!(rt; status, 4);
+    assert_eq!(rt; err.as_slice(), "ssb_live: write failed\n".as_bytes());
+    Ok(())
 }
 
 #[test]

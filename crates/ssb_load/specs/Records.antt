@@ -1,11 +1,15 @@
 -- The records of a text whose fields are parted by `|`, and how far a reader has come in them.
 use Rattle.std.specs.Prelude.{◌≡◌, ℕ, ◌+◌, ◌&&◌, ◌||◌, Bool, true, false, List, [], ◌∷◌, ◌++◌, length, get_or, Option, Some, ◌==◌}
 use Rattle.csv.specs.Reading.{AreRecords, Reached, Ready, default_config, reader_config, reader_state, reader_trim, source_of, strip_bom}
+use Rattle.csv.specs.declared.error.ErrorKind.{ErrorKind}
+use Rattle.csv.specs.declared.error.ErrorKind.TheVariants as kind
 use Rattle.csv.specs.declared.parser.Config.{Config}
 use Rattle.csv.specs.declared.parser.State.{State}
 use Rattle.csv.specs.declared.parser.State.TheVariants as st
 use Rattle.csv.specs.declared.reader.Reader.{Reader}
 use Rattle.csv.specs.declared.reader.Trim.TheVariants as trim
+use Rattle.ssb_load.specs.declared.records.ReadError.{ReadError}
+use Rattle.ssb_load.specs.declared.records.ReadError.TheVariants as read
 
 -- fields are parted by `|`, and no quotes are known
 abbrev pub record_config : Config
@@ -41,3 +45,8 @@ GivesNext remaining old new true fields =
     (text : List ℕ) (records : List (List (List ℕ))) → HasGiven remaining text old records → HasGiven remaining text new (records ++ fields ∷ [])
 GivesNext remaining old new false fields =
     (text : List ℕ) (records : List (List (List ℕ))) → HasGiven remaining text old records → HasRecords text records
+
+-- why a record could not be read, of an error of csv: all but its want of memory is a failed read
+abbrev pub read_error_of : ErrorKind → ReadError
+read_error_of kind.OutOfMemory = read.OutOfMemory
+read_error_of _ = read.Read

@@ -10,6 +10,8 @@ use Rattle.ssb_load.specs.declared.error.LoadError.{LoadError}
 use Rattle.ssb_load.specs.declared.error.LoadError.TheVariants as errors
 use Rattle.ssb_load.specs.Records.{BeginsWith, HasRecords}
 use Rattle.ssb_load.specs.Row.{row_of}
+use Rattle.ssb_load.specs.declared.records.ReadError.{ReadError}
+use Rattle.ssb_load.specs.declared.records.ReadError.TheVariants as read
 
 -- a record spells a row of these values
 abbrev pub SpellsRow : Table → List (List ℕ) → List Value → Type 0
@@ -29,6 +31,11 @@ in_row t n (fault.NotUtf8 column) = errors.NotUtf8 t n column
 in_row t n (fault.NotANumber column) = errors.NotANumber t n column
 in_row t n (fault.Refused why) = errors.Row t n why
 in_row t n fault.OutOfMemory = errors.OutOfMemory
+
+-- the fault of a table whose next record could not be read
+abbrev pub in_table : Table → ReadError → LoadError
+in_table t read.Read = errors.Read t
+in_table t read.OutOfMemory = errors.OutOfMemory
 
 -- the fault of the record of this number: it is one too many, or else it spells no row
 abbrev pub HasFault : Table → ℕ → ℕ → List (List ℕ) → LoadError → Type 0

@@ -3,9 +3,9 @@
 ghost use Rattle.std.specs.Prelude.{◌≡◌, ℕ, ◌<◌, List, Some, [], get_or, IfOk};
 ghost use Rattle.csv.specs.Records.{fields_of};
 ghost use Rattle.ssb_load.specs.Records as spec;
-ghost use Rattle.ssb_load.specs.Records.{GivesNext, HasGiven, IsRecordReader};
+ghost use Rattle.ssb_load.specs.Records.{GivesNext, HasGiven, IsRecordReader, read_error_of};
 
-use csv::{ByteRecord, ErrorKind, Reader, ReaderBuilder};
+use csv::{ByteRecord, Error, ErrorKind, Reader, ReaderBuilder};
 use std::alloc::Global;
 use std::io::Read;
 
@@ -14,6 +14,17 @@ use std::io::Read;
 pub enum ReadError {
     Read,
     OutOfMemory,
+}
+
+impl From<Error> for ReadError {
+    ghost from_gives = { λ error why. why ≡ read_error_of error.kind };
+
+    fn from(error: Error) -> ReadError {
+        match error.into_kind() {
+            ErrorKind::OutOfMemory => ReadError::OutOfMemory,
+            _ => ReadError::Read,
+        }
+    }
 }
 
 /// A reader of the records of `source`, which ends a record at LF, CR LF or a lone CR, gives none for
@@ -41,10 +52,7 @@ pub fn next_record<R: Read>(
 {
     match reader.read_byte_record(next) {
         Ok(found) => Ok(found),
-        Err(e) => match e.into_kind() {
-            ErrorKind::OutOfMemory => Err(ReadError::OutOfMemory),
-            _ => Err(ReadError::Read),
-        },
+        Err(error) => Err(ReadError::from(error)),
     }
 }
 

@@ -14,7 +14,17 @@ use std::alloc::Global;
 use std::io::Read;
 
 impl LoadError {
-    ghost use Rattle.ssb_load.specs.Tables.{in_row};
+    ghost use Rattle.ssb_load.specs.Tables.{in_row, in_table};
+
+    // The fault of a table whose next record could not be read.
+    pub(crate) fn in_table(table: Table, why: ReadError) -> LoadError
+        ensures { result ≡ in_table table why }
+    {
+        match why {
+            ReadError::Read => LoadError::Read(table),
+            ReadError::OutOfMemory => LoadError::OutOfMemory,
+        }
+    }
 
     // The fault of a record, told by its table and its number.
     fn in_row(table: Table, number: usize, fault: LineFault) -> LoadError
@@ -43,8 +53,7 @@ fn next_row<R: Read>(
 {
     match next_record(reader, next) {
         Ok(found) => Ok(found),
-        Err(ReadError::Read) => Err(LoadError::Read(table)),
-        Err(ReadError::OutOfMemory) => Err(LoadError::OutOfMemory),
+        Err(why) => Err(LoadError::in_table(table, why)),
     }
 }
 

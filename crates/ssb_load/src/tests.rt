@@ -2,7 +2,7 @@
 
 use super::*;
 use csv::ByteRecord;
-use ssb_schema::{Base, Fact, Limits};
+use ssb_schema::{Base, Fact, Limits, Table};
 use std::alloc::Global;
 use std::io;
 use std::io::Read;
@@ -293,6 +293,26 @@ fn faults_between_rows_come_after_all_files(rt: HostRuntime) -> Result<(), Fail>
     );
     let broken = fault_of(alloc, with_lines(File::Broken))?;
     assert_eq!(rt; broken.as_str(), "20 Read lineorder");
+    Ok(())
+}
+
+#[test]
+fn want_of_memory_is_no_failed_read(rt: HostRuntime) -> Result<(), Fail> {
+    let memory = ReadError::from(csv::Error::out_of_memory());
+    assert_eq!(rt; memory, ReadError::OutOfMemory);
+    let told = LoadError::in_table(Table::Date, memory).to_string(rt.alloc())?;
+    assert_eq!(rt; told.as_str(), "out of memory");
+    let mut reader = record_reader(rt.alloc(), File::Broken);
+    let mut fields = ByteRecord::new(rt.alloc());
+    let failed = next_record(&mut reader, &mut fields);
+    assert_eq!(rt; failed, Err(ReadError::Read));
+    for (customer, told) in [
+        (File::Broken, "20 Read customer"),
+        (File::Bytes(b"1|C1"), "21 FieldCount customer 1"),
+    ] {
+        let fault = fault_of(rt.alloc(), with_customers(customer))?;
+        assert_eq!(rt; fault.as_str(), told);
+    }
     Ok(())
 }
 

@@ -1,0 +1,215 @@
+//! What the words of a command line do: with which status and on which writer.
+
+use crate::arguments;
+use crate::command::run;
+use crate::small_data::{CUSTOMER, DATE, LINEORDER, PART, SUPPLIER};
+use crate::tests::{Full, Holding, Told};
+use std::alloc::Global;
+use std::env::{Env, FillError};
+use std::fs;
+use std::io::Write;
+use std::test::Fail;
+
+// These words as the system gives them.
+fn listed(alloc: Global, words: &[&str]) -> Result<Vec<String>, Fail> {
+    let mut list = Vec::new(alloc);
+    for word in words {
+        list.push(String::from_str(alloc, word)?)?;
+    }
+    Ok(list)
+}
+
+// A run of these words, with this script on standard input.
+fn run_with(rt: &HostRuntime, words: &[&str], script: &str) -> Result<Told, Fail> {
+    let words = listed(rt.alloc(), words)?;
+    let mut out = Vec::new(rt.alloc());
+    let mut err = Vec::new(rt.alloc());
+    let status = run(rt, words.as_slice(), script.as_bytes(), &mut out, &mut err);
+    Ok(Told { status, out, err })
+}
+
+#[test]
+fn each_word_after_query_has_its_place(rt: HostRuntime) -> Result<(), Fail> {
+    for words in [
+        &[
+            "ssb_live", "query", "--data", "t", "Q2.1", "MFGR#12", "EUROPE",
+        ][..],
+        &[
+            "ssb_live", "query", "Q2.1", "--data", "t", "MFGR#12", "EUROPE",
+        ],
+    ] {
+        let words = listed(rt.alloc(), words)?;
+        let matches = arguments::matches(rt.alloc(), words.as_slice()).map_err(|_| "refused")?;
+        let (name, query) = matches.subcommand().ok_or("no subcommand")?;
+        assert_eq!(rt; name, "query");
+        assert_eq!(rt; query.get_str("data"), Some("t"));
+        assert_eq!(rt; query.get_str("name"), Some("Q2.1"));
+        assert_eq!(rt;
+            query.get_strs("constants"),
+            Some(&["MFGR#12", "EUROPE"][..])
+        );
+    }
+    Ok(())
+}
+
+// The small data set in files of this folder.
+fn write_small(rt: &HostRuntime, folder: &str) -> Result<(), Fail> {
+    fs::create_dir_all(rt, folder)?;
+    for (table, text) in [
+        ("customer", CUSTOMER),
+        ("supplier", SUPPLIER),
+        ("part", PART),
+        ("date", DATE),
+        ("lineorder", LINEORDER),
+    ] {
+        let path = format!(in rt.alloc(); "{folder}/{table}.tbl")?;
+        fs::write(rt, path.as_str(), text)?;
+    }
+    Ok(())
+}
+
+#[test]
+fn a_question_is_answered_over_the_files_of_a_folder(rt: HostRuntime) -> Result<(), Fail> {
+    let above = std::env::temp_dir(&rt)?;
+    let id = std::process::id(rt.process());
+    let folder = format!(in rt.alloc(); "{}/ssb_live_tables_{id}", above.display())?;
+    write_small(&rt, folder.as_str())?;
+    let query = [
+        "ssb_live",
+        "query",
+        "--data",
+        folder.as_str(),
+        "Q2.1",
+        "MFGR#12",
+        "EUROPE",
+    ];
+    let told = run_with(&rt, &query, "")?;
+    let standard = run_with(&rt, &query[..5], "")?;
+    let missing = run_with(&rt, &["ssb_live", "query", "--data", "no/such", "Q9.9"], "")?;
+    fs::remove_dir_all(&rt, folder.as_str())?;
+    assert_eq!(rt; told.status, 0);
+    assert_eq!(rt;
+        told.out.as_slice(),
+        b"Q2.1 at 0 rows 1\n500|1997|MFGR#121\n".as_slice()
+    );
+    assert!(rt; told.err.is_empty());
+    assert_eq!(rt; standard.out.as_slice(), b"Q2.1 at 0 rows 0\n".as_slice());
+    assert_eq!(rt; missing.status, 4);
+    assert_eq!(rt;
+        missing.err.as_slice(),
+        b"ssb_live: cannot read no/such/customer.tbl\n".as_slice()
+    );
+    Ok(())
+}
+
+#[test]
+fn without_words_the_script_is_served(rt: HostRuntime) -> Result<(), Fail> {
+    let told = run_with(&rt, &["ssb_live"], "query|Q4.1\n")?;
+    assert_eq!(rt; told.status, 0);
+    assert_eq!(rt;
+        told.out.as_slice(),
+        b"Q4.1 at 0 rows 1\n1997|UNITED STATES|660\n".as_slice()
+    );
+    assert!(rt; told.err.is_empty());
+    let told = run_with(&rt, &["ssb_live"], "begin\n")?;
+    assert_eq!(rt; told.status, 1);
+    assert_eq!(rt;
+        told.err.as_slice(),
+        b"ssb_live: script 1: 71 NoCommit\n".as_slice()
+    );
+    Ok(())
+}
+
+#[test]
+fn help_and_version_go_to_standard_output(rt: HostRuntime) -> Result<(), Fail> {
+    let told = run_with(&rt, &["ssb_live", "--version"], "")?;
+    assert_eq!(rt; told.status, 0);
+    assert_eq!(rt; told.out.as_slice(), b"ssb_live 0.1.0\n".as_slice());
+    for words in [
+        &["ssb_live", "--help"][..],
+        &["ssb_live", "query", "--help"],
+    ] {
+        let told = run_with(&rt, words, "")?;
+        assert_eq!(rt; told.status, 0);
+        assert!(rt; told.err.is_empty());
+        let text = std::str::from_utf8(told.out.as_slice())?;
+        assert!(rt; text.contains("Usage: ssb_live"));
+        let words = listed(rt.alloc(), words)?;
+        let script = "".as_bytes();
+        let mut err = Vec::new(rt.alloc());
+        assert_eq!(rt; run(&rt, words.as_slice(), script, &mut Full, &mut err), 4);
+        assert_eq!(rt; err.as_slice(), b"ssb_live: write failed\n".as_slice());
+        let mut err = Vec::new(rt.alloc());
+        assert_eq!(rt;
+            run(&rt, words.as_slice(), script, &mut Holding, &mut err),
+            4
+        );
+        assert_eq!(rt; err.as_slice(), b"ssb_live: write failed\n".as_slice());
+    }
+    Ok(())
+}
+
+#[test]
+fn wrong_words_end_with_status_2_whether_or_not_they_are_told(rt: HostRuntime) -> Result<(), Fail> {
+    for words in [
+        &["ssb_live", "bad"][..],
+        &["ssb_live", "query"],
+        &["ssb_live", "query", "Q1.1"],
+        &["ssb_live", "--data", "t"],
+    ] {
+        let told = run_with(&rt, words, "")?;
+        assert_eq!(rt; told.status, 2);
+        assert!(rt; told.out.is_empty());
+        assert!(rt; told.err.as_slice().starts_with(b"error: "));
+        let words = listed(rt.alloc(), words)?;
+        let mut out = Vec::new(rt.alloc());
+        let script = "".as_bytes();
+        assert_eq!(rt; run(&rt, words.as_slice(), script, &mut out, &mut Full), 2);
+    }
+    Ok(())
+}
+
+// Words that need not be text.
+#[derive(Drop)]
+struct Given<'a>(&'a [&'a [u8]]);
+
+impl<'a> Env for Given<'a> {
+    fn arg(&self, i: usize, buf: &mut [u8]) -> Result<usize, FillError> {
+        match self.0.get(i) {
+            None => Err(FillError::NotPresent),
+            Some(word) if word.len() <= buf.len() => {
+                buf[..word.len()].copy_from_slice(word);
+                Ok(word.len())
+            }
+            Some(_) => Err(FillError::TooLong),
+        }
+    }
+
+    fn var(&self, _name: &str, _buf: &mut [u8]) -> Result<usize, FillError> {
+        Err(FillError::NotPresent)
+    }
+
+    fn var_at(&self, _i: usize, _buf: &mut [u8]) -> Result<usize, FillError> {
+        Err(FillError::NotPresent)
+    }
+}
+
+#[test]
+fn a_word_that_is_no_utf8_is_a_wrong_word(rt: HostRuntime) -> Result<(), Fail> {
+    let good = [&b"ssb_live"[..], b"query", b"\xc3\xa9"];
+    let words = arguments::words(&(Given(&good), rt.alloc())).map_err(|_| "a fault")?;
+    assert_eq!(rt; words.len(), 3);
+    assert_eq!(rt; words[1].as_str(), "query");
+    let bad = [&b"ssb_live"[..], b"query", b"\xff"];
+    let fault = arguments::words(&(Given(&bad), rt.alloc()))
+        .err()
+        .ok_or("no fault")?;
+    let mut err = Vec::new(rt.alloc());
+    assert_eq!(rt; fault.tell(&mut err), 2);
+    assert_eq!(rt;
+        err.as_slice(),
+        b"ssb_live: a word is no UTF-8\n".as_slice()
+    );
+    assert_eq!(rt; fault.tell(&mut Full), 2);
+    Ok(())
+}
