@@ -41,8 +41,8 @@ joined_few base lines order e =
     go : (b : Bool) → nat_lt base.limits.lines (length lines + length order) ≡ b
         → (if b then Some LinesFull else None) ≡ None → length (lines ++ order) ≤ base.limits.lines
     go true t e' = absurd (cc e')
-    go false t e' = let both = length-append lines order in let few : length lines + length order ≤ base.limits.lines =
-        grind (arith, nat_tests) in omega arith
+    go false t e' = let both = length-append lines order in
+        let few : length lines + length order ≤ base.limits.lines = grind (arith, nat_tests) in omega arith
 
 few_after_action : (base : Tables) (lines : List LineFields) (action : Action) → cause_of base lines action ≡ None
     → length lines ≤ base.limits.lines → length (lines_after_action lines action) ≤ base.limits.lines
@@ -119,8 +119,8 @@ pub few_lines : (base : Tables) (history : List CommitRecord) (at : ℕ) (plain 
     (limits : Limits) → IsLegal base history → IsSound base → limits ≡ base.limits → limits.lines ≤ 33554432
     → plain ≡ record { base = base; log = take at history } → found ≡ lines_after plain.base plain.log
     → length found ≤ 33554432
-few_lines base history at plain found limits legal sound same bound is lines = let few =
-    few_after base history legal sound.few at in
+few_lines base history at plain found limits legal sound same bound is lines =
+    let few = few_after base history legal sound.few at in
     let here : found ≡ lines_after base (take at history) =
     lines ∙ ap (λ (p : Warehouse). lines_after p.base p.log) is in
     let count : length found ≡ length (lines_after base (take at history)) =

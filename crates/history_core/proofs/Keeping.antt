@@ -24,7 +24,7 @@ use Rattle.history_core.specs.World.{committing, putting_rows, looking, posting,
 use Rattle.history_core.specs.World.{putting_writer, answering, giving_up, collecting, step_of, run_of, opening_world}
 use Rattle.history_core.specs.OwnCommits.{commits_of}
 use Rattle.history_core.specs.Kept.{Marks, MailKept, OutcomeKept, GivenKept, ClientKept}
-use Rattle.history_core.specs.Kept.{DispatcherKept, WorldKept, EveryWorldKeeps}
+use Rattle.history_core.specs.Kept.{DispatcherKept, WorldKept, EachEventKeeps, EveryWorldKeeps}
 use Rattle.history_core.proofs.Histories.{some_injective, some_ne_none, each_renewed, length-renewed, legal_push}
 use Rattle.history_core.proofs.Histories.{named_push, own_push, others_push, length-copies, numbered_copies}
 use Rattle.history_core.proofs.Moves.{marks_renewed, unmarked_none, known_range}
@@ -201,12 +201,12 @@ module _ (base : Tables) (clients : ℕ) (w : World) (k : WorldKept base clients
 
   committed : (number : ℕ) (actions : List Action) → is_there (numbered w.clients number) ≡ true
       → refusal_of w.base w.history actions ≡ None → WorldKept base clients (committing w number actions None).0
-  committed number actions known accepted = let commit : CommitRecord =
-      commit_by number actions in let now : List CommitRecord =
-      w.history ++ commit ∷ [] in let f : ClientState → ClientState =
-      λ c. record c { seen = now; mine = c.mine ++ commit ∷ [] } in
-      let range = known_range w.clients number known in let count = k.own.count in let low = range.0 in let high =
-      range.1 in let long : length (w.history ++ commit ∷ []) ≡ length w.history + 1 =
+  committed number actions known accepted =
+      let commit : CommitRecord = commit_by number actions in
+      let now : List CommitRecord = w.history ++ commit ∷ [] in
+      let f : ClientState → ClientState = λ c. record c { seen = now; mine = c.mine ++ commit ∷ [] } in
+      let range = known_range w.clients number known in let count = k.own.count in let low = range.0 in
+      let high = range.1 in let long : length (w.history ++ commit ∷ []) ≡ length w.history + 1 =
       length-append w.history (commit ∷ []) in record {
         based = k.based;
         legal = legal_push w.base w.history commit k.legal accepted;
@@ -248,16 +248,16 @@ module _ (base : Tables) (clients : ℕ) (w : World) (k : WorldKept base clients
           → MailKept w.base (w.history ++ commit ∷ []) w.dispatchers box
       mail_more commit empty t = tt
       mail_more commit (asked q floor) t = let long = length-append w.history (commit ∷ []) in omega arith
-      mail_more commit (in_hand holder q floor) t = let long = length-append w.history (commit ∷ []) in let low =
-          t.0 in (omega arith, t.1)
+      mail_more commit (in_hand holder q floor) t = let long = length-append w.history (commit ∷ []) in
+          let low = t.0 in (omega arith, t.1)
       mail_more commit (answered q at rows) t = let long = length-append w.history (commit ∷ []) in let low =
           t.0 in (omega arith, t.1 ∙ ap (rows_after w.base q) (sym (take-append-le at w.history (commit ∷ []) t.0)))
       mail_more commit (unserved q cause) t = tt
 
       one_more : (commit : CommitRecord) (floor : ℕ) (o : Outcome) → OutcomeKept w.history floor o
           → OutcomeKept (w.history ++ commit ∷ []) floor o
-      one_more commit floor (served at) t = let long = length-append w.history (commit ∷ []) in let low =
-          t.1 in (t.0, omega arith)
+      one_more commit floor (served at) t = let long = length-append w.history (commit ∷ []) in
+          let low = t.1 in (t.0, omega arith)
       one_more commit floor (failed cause) t = tt
 
       given_more : (commit : CommitRecord) (l : List Given) → All (GivenKept w.history) l
@@ -345,8 +345,8 @@ module _ (base : Tables) (clients : ℕ) (w : World) (k : WorldKept base clients
       (λ c at was. record {
         seen = was.seen;
         mail = let both =
-            length-append c.seen was.seen.rest in let whole : length w.history ≡ length (c.seen ++ was.seen.rest) =
-            ap length was.seen.whole in omega arith;
+            length-append c.seen was.seen.rest in
+            let whole : length w.history ≡ length (c.seen ++ was.seen.rest) = ap length was.seen.whole in omega arith;
       })
   posts client question (Some (asked q floor)) = k
   posts client question (Some (in_hand d q floor)) = k
@@ -401,12 +401,12 @@ module _ (base : Tables) (clients : ℕ) (w : World) (k : WorldKept base clients
     where
       go : (b : Bool) → (holder == n) ≡ b
           → WorldKept base clients (answering w n client (Some at) (Some (in_hand holder q floor))).0
-      go true same = let mine : holder ≡ n = grind (arith, nat_tests) in let t =
-          told client (numbered w.clients client) (in_hand holder q floor) refl is in let has =
-          version_marks n at (numbered w.dispatchers n) refl marked in
+      go true same = let mine : holder ≡ n = grind (arith, nat_tests) in
+          let t = told client (numbered w.clients client) (in_hand holder q floor) refl is in
+          let has = version_marks n at (numbered w.dispatchers n) refl marked in
           let low : floor ≤ at =
-          t.1 at (subst (λ i. Marks w.dispatchers i at) (sym mine) has) in let high : at ≤ length w.history =
-          (k.dispatcher n has.0 has.1).marks at has.2 in
+          t.1 at (subst (λ i. Marks w.dispatchers i at) (sym mine) has) in
+          let high : at ≤ length w.history = (k.dispatcher n has.0 has.1).marks at has.2 in
           rw same
           (moved w.rows w.writer client
           (λ c. record c { mailbox = answered q at (rows_after w.base q (take at w.history)) }) n
@@ -465,6 +465,9 @@ module _ (base : Tables) (clients : ℕ) (w : World) (k : WorldKept base clients
   step_kept (GiveUp n client cause) =
       gives_up n client cause (is_known w (Dispatcher n)) (mailbox_of (numbered w.clients client))
   step_kept (Collect client) = collects client (mailbox_of (numbered w.clients client))
+
+pub each_event : EachEventKeeps
+each_event base clients w e k = step_kept base clients w k e
 
 pub run_kept : (base : Tables) (clients : ℕ) (events : List Event) (w : World) → WorldKept base clients w
     → WorldKept base clients (run_of w events).1

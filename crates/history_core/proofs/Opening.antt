@@ -24,9 +24,9 @@ new_clients commits count clients new = record { own = own }
     own : (number : ℕ) (client : Client) → numbered clients number ≡ Some client → (client.number ≡ number)
         × (client.seen ≤ commits)
     own zero client at = absurd (some_ne_none client (sym at))
-    own (suc place) client at = let is = new.each place client at in let n : client.number ≡ place + 1 =
-        ap (λ (c : Client). c.number) is in let s : client.seen ≡ 0 =
-        ap (λ (c : Client). c.seen) is in (omega arith, omega arith)
+    own (suc place) client at = let is = new.each place client at in
+        let n : client.number ≡ place + 1 = ap (λ (c : Client). c.number) is in
+        let s : client.seen ≡ 0 = ap (λ (c : Client). c.seen) is in (omega arith, omega arith)
 
 idle_dispatchers : (commits count : ℕ) (dispatchers : List Dispatcher) → OpeningDispatchers count dispatchers
     → DispatchersFit commits dispatchers

@@ -7,8 +7,8 @@ use Rattle.history_core.proofs.Views.{dispatchers_kept, dispatcher_marked}
 use Rattle.history_core.proofs.world.World.mark.Goals as goal
 
 pub invariant_of-self : goal.invariant_of-self
-invariant_of-self c = let now =
-    c.mark.ensures
+invariant_of-self c =
+    let now = c.mark.ensures
     ∙ ap
     (λ n. renewed c.self.inside.dispatchers c.args.number
     (λ x. record x { seen = n; mark = Some n })) c.len-length.ensures in record {
@@ -25,8 +25,8 @@ invariant_of-self c = let now =
     }
 
 pub returns : goal.returns
-returns c = let now =
-    c.mark.ensures
+returns c =
+    let now = c.mark.ensures
     ∙ ap
     (λ n. renewed c.self.inside.dispatchers c.args.number
     (λ x. record x { seen = n; mark = Some n })) c.len-length.ensures in let w : World = world_in c.self.inside in

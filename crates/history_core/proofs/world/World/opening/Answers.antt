@@ -13,8 +13,8 @@ invariant_of-result c =
     ∙ c.in_ok-try_clone.ensures)) c.in_ok-clients.ensures c.in_ok-dispatchers.ensures
 
 pub returns : goal.returns
-returns c = let w : Inside =
-    record {
+returns c =
+    let w : Inside = record {
       alloc = c.args.alloc;
       base = c.args.base;
       store = c.in_ok-store.store;

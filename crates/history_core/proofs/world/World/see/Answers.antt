@@ -8,8 +8,8 @@ use Rattle.history_core.proofs.Views.{clients_kept, dispatchers_kept, client_saw
 use Rattle.history_core.proofs.world.World.see.Goals as goal
 
 pub invariant_of-self : goal.invariant_of-self
-invariant_of-self c = let now =
-    c.see.ensures
+invariant_of-self c =
+    let now = c.see.ensures
     ∙ ap (λ n. renewed c.self.inside.clients c.in-Client.number (λ x. record x { seen = n })) c.len-length.ensures in
     record {
       base = c.self.invariant.base;
@@ -22,8 +22,8 @@ invariant_of-self c = let now =
     }
 
 pub returns-in-Client : goal.returns-in-Client
-returns-in-Client c = let now =
-    c.see.ensures
+returns-in-Client c =
+    let now = c.see.ensures
     ∙ ap (λ n. renewed c.self.inside.clients c.in-Client.number (λ x. record x { seen = n })) c.len-length.ensures in
     let w : World = world_in c.self.inside in
     ap (λ l. record w { clients = l })
@@ -33,8 +33,8 @@ returns-in-Client c = let now =
     ∙ ap (seen_by c.args.self.now) (sym c.in-Client.is)
 
 pub invariant_of-self-in-Dispatcher : goal.invariant_of-self-in-Dispatcher
-invariant_of-self-in-Dispatcher c = let now =
-    c.see-in-Dispatcher.ensures
+invariant_of-self-in-Dispatcher c =
+    let now = c.see-in-Dispatcher.ensures
     ∙ ap
     (λ n. renewed c.self.inside.dispatchers c.in-Dispatcher.number
     (λ x. record x { seen = n })) c.len-length.ensures in record {
@@ -48,8 +48,8 @@ invariant_of-self-in-Dispatcher c = let now =
     }
 
 pub returns-in-Dispatcher : goal.returns-in-Dispatcher
-returns-in-Dispatcher c = let now =
-    c.see-in-Dispatcher.ensures
+returns-in-Dispatcher c =
+    let now = c.see-in-Dispatcher.ensures
     ∙ ap
     (λ n. renewed c.self.inside.dispatchers c.in-Dispatcher.number
     (λ x. record x { seen = n })) c.len-length.ensures in let w : World = world_in c.self.inside in
