@@ -284,10 +284,8 @@ impl World {
 
     // The row store comes home with a client's refresh.
     fn put_refresh(&mut self, client: u32, refresh: &Arc<Refresh>) -> Result<Reply, AllocError>
-        ensures stepped {
-            IfOk result (λ reply.
-                step_of self.old (PutRows (Client client) (Some refresh.now.value)) ≡ (self.new, reply))
-        }
+        ensures stepped { IfOk result (λ reply.
+            step_of self.old (PutRows (Client client) (Some refresh.now.value)) ≡ (self.new, reply)) }
         ensures unchanged { OnErr result (self.new ≡ self.old) }
     {
         let who = Who::Client(client);

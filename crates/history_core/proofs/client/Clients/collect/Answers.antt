@@ -23,16 +23,16 @@ returns-in-Some-clause-reply c = let len : c.len.result ≡ length c.self.inside
     ∙ ap (λ o. collected_of (option_map (λ (x : Client). mailbox_in x.mailbox) o))
     (sym
     (numbered_read c.self.inside.list.items c.args.self.now c.args.number c.in-Some.place c.len.result
-        c.index_mut.result.now c.index_mut.ensures.value c.self.view_is len c.in-Some.ensures.place))
+    c.index_mut.result.now c.index_mut.ensures.value c.self.view_is len c.in-Some.ensures.place))
 
 pub returns-in-None-clause-left : goal.returns-in-None-clause-left
 returns-in-None-clause-left c = let len : c.len.result ≡ length c.self.inside.list.items = search rules in
     renewed_nowhere c.self.inside.list.items c.args.self.now c.args.number c.len.result _ c.self.view_is len
-        c.in-None.ensures.place
+    c.in-None.ensures.place
 
 pub returns-in-None-clause-reply : goal.returns-in-None-clause-reply
 returns-in-None-clause-reply c = let len : c.len.result ≡ length c.self.inside.list.items = search rules in
     ap (λ o. collected_of (option_map (λ (x : Client). mailbox_in x.mailbox) o))
     (sym
     (numbered_nowhere c.self.inside.list.items c.args.self.now c.args.number c.len.result c.self.view_is len
-        c.in-None.ensures.place))
+    c.in-None.ensures.place))

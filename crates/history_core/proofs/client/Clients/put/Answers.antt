@@ -18,4 +18,4 @@ returns-in-Some c = let len : c.len.result ≡ length c.self.inside.list.items =
 pub returns-in_default : goal.returns-in_default
 returns-in_default c = let len : c.len.result ≡ length c.self.inside.list.items = search rules in
     renewed_nowhere c.self.inside.list.items c.args.self.now c.args.number c.len.result _ c.self.view_is len
-        c.in_default.ensures.place
+    c.in_default.ensures.place
