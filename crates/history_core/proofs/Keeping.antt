@@ -12,6 +12,8 @@ use Rattle.ssb_queries.specs.declared.answer.Unserved.{Unserved as Cause}
 use Rattle.row_store.specs.History.{CommitRecord, IsPrefix}
 use Rattle.row_store.specs.Refusals.{refusal_of}
 use Rattle.row_store.specs.declared.refusal.Refusal.{Refusal}
+use Rattle.row_store.proofs.HistoryLaws.{accepted_stays_legal}
+use Rattle.row_store.proofs.Prefixes.{begins_with_itself, prefix_longer}
 use Rattle.history_core.specs.declared.event.Who.{Who}
 use Rattle.history_core.specs.declared.event.Who.TheVariants.{Client, Dispatcher}
 use Rattle.history_core.specs.Events.{Question, Event, TakeRows, PutRows, Look, Post, Grab}
@@ -25,16 +27,9 @@ use Rattle.history_core.specs.World.{putting_writer, answering, giving_up, colle
 use Rattle.history_core.specs.OwnCommits.{commits_of}
 use Rattle.history_core.specs.Kept.{Marks, MailKept, OutcomeKept, GivenKept, ClientKept}
 use Rattle.history_core.specs.Kept.{DispatcherKept, WorldKept, EachEventKeeps, EveryWorldKeeps}
-use Rattle.history_core.proofs.Histories.{some_injective, some_ne_none, each_renewed, length-renewed, legal_push}
+use Rattle.history_core.proofs.Histories.{some_injective, some_ne_none, each_renewed, length-renewed}
 use Rattle.history_core.proofs.Histories.{named_push, own_push, others_push, length-copies, numbered_copies}
 use Rattle.history_core.proofs.Moves.{marks_renewed, unmarked_none, known_range}
-
-prefix_self : (history : List CommitRecord) → IsPrefix history history
-prefix_self history = record { rest = []; whole = sym (append-nil history) }
-
-prefix_push : (seen history more : List CommitRecord) → IsPrefix seen history → IsPrefix seen (history ++ more)
-prefix_push seen history more p =
-    record { rest = p.rest ++ more; whole = ap (λ l. l ++ more) p.whole ∙ append_assoc seen p.rest more }
 
 all_kept : {A : Type 0} (P Q : A → Type 0) → ((a : A) → P a → Q a) → (l : List A) → All P l → All Q l
 all_kept P Q so l all k d low = so _ (all k d low)
@@ -159,7 +154,7 @@ module _ (base : Tables) (clients : ℕ) (w : World) (k : WorldKept base clients
       }
   client_sees rows writer number =
       of_client rows writer number (λ c. record c { seen = w.history }) (λ c. refl) (λ c. inr refl)
-      (λ c at was. record { seen = prefix_self w.history; mail = was.mail })
+      (λ c at was. record { seen = begins_with_itself w.history; mail = was.mail })
 
   dispatcher_sees : (rows : Option Who) (writer : Option ℕ) (number : ℕ)
       → WorldKept base clients record {
@@ -174,7 +169,7 @@ module _ (base : Tables) (clients : ℕ) (w : World) (k : WorldKept base clients
   dispatcher_sees rows writer number =
       of_dispatcher rows writer number (λ d. record d { seen = w.history })
       (marks_renewed w.dispatchers number (λ d. record d { seen = w.history }) (length w.history) (λ x m has. inl has))
-      (λ d was. record { seen = prefix_self w.history; marks = was.marks; marks_seen = was.marks; given = was.given })
+      (λ d was. record { seen = begins_with_itself w.history; marks = was.marks; marks_seen = was.marks; given = was.given })
 
   unmarks_later : (number : ℕ) → Later (renewed w.dispatchers number unmarked)
   unmarks_later number =
@@ -209,7 +204,7 @@ module _ (base : Tables) (clients : ℕ) (w : World) (k : WorldKept base clients
       let high = range.1 in let long : length (w.history ++ commit ∷ []) ≡ length w.history + 1 =
       length-append w.history (commit ∷ []) in record {
         based = k.based;
-        legal = legal_push w.base w.history commit k.legal accepted;
+        legal = accepted_stays_legal w.base w.history commit k.legal accepted;
         own = record {
           own =
               each_renewed (λ n (c : ClientState). c.mine ≡ commits_of n w.history)
@@ -227,16 +222,16 @@ module _ (base : Tables) (clients : ℕ) (w : World) (k : WorldKept base clients
         client =
             each_renewed (λ n. ClientKept w.base w.history w.dispatchers)
             (λ n. ClientKept w.base now w.dispatchers) w.clients number f k.client
-            (λ c at was. record { seen = prefix_self now; mail = mail_more commit c.mailbox was.mail })
+            (λ c at was. record { seen = begins_with_itself now; mail = mail_more commit c.mailbox was.mail })
             (λ j c other at was. record {
-              seen = prefix_push c.seen w.history (commit ∷ []) was.seen;
+              seen = prefix_longer c.seen w.history (commit ∷ []) was.seen;
               mail =
                   mail_more commit c.mailbox was.mail;
             });
         dispatcher = λ n d at. let was =
             k.dispatcher n d at in
             record {
-              seen = prefix_push d.seen w.history (commit ∷ []) was.seen;
+              seen = prefix_longer d.seen w.history (commit ∷ []) was.seen;
               marks = λ m has. let h =
                   was.marks m has in omega arith;
               marks_seen = was.marks_seen;
@@ -288,7 +283,7 @@ module _ (base : Tables) (clients : ℕ) (w : World) (k : WorldKept base clients
       (λ (e : Some (length w.history) ≡ Some m). let same : length w.history ≡ m = cc e in inr (sym same))
       (λ (e : x.version ≡ Some m). inl (inr e)) has))
       (λ d was. record {
-        seen = prefix_self w.history;
+        seen = begins_with_itself w.history;
         marks =
             λ m has. ⊎_elim
             (λ (e : Some (length w.history) ≡ Some m). let same : length w.history ≡ m = cc e in omega arith)
@@ -489,10 +484,10 @@ opening_kept base clients dispatchers = record {
       (numbered_copies clients number _ c at) refl;
   client =
       λ number c at. subst (ClientKept base [] (opening_world base clients dispatchers).dispatchers)
-      (numbered_copies clients number _ c at) record { seen = prefix_self []; mail = tt };
+      (numbered_copies clients number _ c at) record { seen = begins_with_itself []; mail = tt };
   dispatcher = λ number d at. subst (DispatcherKept []) (numbered_copies dispatchers number _ d at)
       record {
-        seen = prefix_self [];
+        seen = begins_with_itself [];
         marks =
             λ m has. absurd (⊎_elim (λ (e : None ≡ Some m). cc e) (λ (e : None ≡ Some m). cc e) has);
         marks_seen =

@@ -12,6 +12,7 @@ use Rattle.ssb_queries.specs.declared.answer.Unserved.{Unserved as Cause}
 use Rattle.row_store.specs.History.{CommitRecord}
 use Rattle.row_store.specs.Refusals.{refusal_of}
 use Rattle.row_store.specs.declared.refusal.Refusal.{Refusal}
+use Rattle.row_store.proofs.HistoryLaws.{accepted_stays_legal}
 use Rattle.history_core.specs.declared.event.Who.{Who}
 use Rattle.history_core.specs.declared.event.Who.TheVariants.{Client, Dispatcher}
 use Rattle.history_core.specs.declared.event.Reply.{Reply}
@@ -29,7 +30,7 @@ use Rattle.history_core.specs.OwnCommits.{commits_of}
 use Rattle.history_core.specs.TrueRun.{is_committed, commits_before, IsOfRequest, IsTrueReply, IsTrueRun}
 use Rattle.history_core.specs.Runs.{EveryRunIsTrue}
 use Rattle.history_core.proofs.Histories.{some_injective, some_ne_none, at_last, in_range, each_renewed, length-renewed}
-use Rattle.history_core.proofs.Histories.{legal_push, named_push, own_push, others_push, length-copies, numbered_copies}
+use Rattle.history_core.proofs.Histories.{named_push, own_push, others_push, length-copies, numbered_copies}
 use Rattle.history_core.proofs.Traces.{HasMark, Marks, MailTraced, Traced, before_front, outstanding_on}
 use Rattle.history_core.proofs.Traces.{outstanding_grabbed, posted_now, run_on, run_same, mail_on}
 
@@ -190,7 +191,7 @@ module _ (base : Tables) (clients : ℕ) (es : List Event) (rs : List Reply) (w 
         based = k.based;
         run =
             run_on w.base es rs w.history e r (commit ∷ []) k.run
-            (legal_push w.base w.history commit k.run.legal accepted) refl
+            (accepted_stays_legal w.base w.history commit k.run.legal accepted) refl
             (ap (λ n. n + 1) (sym here), (number, actions, refl, ap (slice_get now) here ∙ at_last w.history commit));
         keeps = record {
           own =

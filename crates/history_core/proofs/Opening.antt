@@ -67,8 +67,7 @@ opening_shown w base clients dispatchers rows writer is new idle =
       seen = [];
       mark = None;
       version = None;
-      given =
-          [];
+      given = [];
     } =
     all_same (dispatcher_in []) w.dispatchers _ (λ place d at. ap (dispatcher_in []) (idle.each place d at))
     ∙ ap (λ n. copies n idler) idle.count_is in

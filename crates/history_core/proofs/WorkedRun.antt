@@ -31,8 +31,7 @@ customer key city nation region =
       city = city;
       nation = nation;
       region = region;
-      phone =
-          [];
+      phone = [];
       market_segment = [];
     }
 
@@ -48,8 +47,7 @@ part key manufacturer category brand =
       manufacturer = manufacturer;
       category = category;
       brand = brand;
-      color =
-          [];
+      color = [];
       part_type = [];
       size = [];
       container = [];

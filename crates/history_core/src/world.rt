@@ -22,6 +22,7 @@ use row_store::{ApplyError, PlainLines, Replica, RowStore};
 use ssb_queries::{Question, ResultRow, Unserved, plain};
 use ssb_schema::{Base, Items, Refresh};
 use std::alloc::{AllocError, Global};
+use std::hash::RandomState;
 use std::marker::Model;
 use std::sync::Arc;
 
@@ -414,10 +415,12 @@ impl World {
         Ok(Reply::Done)
     }
 
-    /// The world in which nothing has happened.
+    /// The world in which nothing has happened, over a base, with so many clients and dispatchers. The row store hashes
+    /// its keys with `hashing`, as `RandomState::new(&rt)?`.
     pub fn opening(
         alloc: Global,
         base: Arc<Base>,
+        hashing: RandomState,
         clients: u32,
         dispatchers: u32,
     ) -> Result<World, AllocError>
@@ -425,7 +428,7 @@ impl World {
         requires dispatchers { (1 ≤ dispatchers) × (dispatchers ≤ 4) }
         ensures { IfOk result (λ world. world ≡ opening_world base.value clients dispatchers) }
     {
-        let store = RowStore::new(alloc, Arc::try_clone(&base)?)?;
+        let store = RowStore::new(alloc, Arc::try_clone(&base)?, hashing)?;
         let clients = Clients::new(alloc, clients)?;
         let dispatchers = Dispatchers::new(alloc, dispatchers)?;
         Ok(World {

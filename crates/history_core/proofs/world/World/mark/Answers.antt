@@ -11,7 +11,7 @@ invariant_of-self c =
     let now = c.mark.ensures
     ∙ ap
     (λ n. renewed c.self.inside.dispatchers c.args.number
-    (λ x. record x { seen = n; mark = Some n })) c.len-length.ensures in record {
+    (λ x. record x { seen = n; mark = Some n })) c.len-length.ensures.count in record {
       base = c.self.invariant.base;
       dispatchers =
           subst (DispatchersFit (length c.self.inside.store.log)) (sym now)
@@ -29,7 +29,7 @@ returns c =
     let now = c.mark.ensures
     ∙ ap
     (λ n. renewed c.self.inside.dispatchers c.args.number
-    (λ x. record x { seen = n; mark = Some n })) c.len-length.ensures in let w : World = world_in c.self.inside in
+    (λ x. record x { seen = n; mark = Some n })) c.len-length.ensures.count in let w : World = world_in c.self.inside in
     ap (λ l. record w { dispatchers = l })
     (ap (map (dispatcher_in c.self.inside.store.log)) now
     ∙ dispatcher_marked c.self.inside.store.log c.self.inside.dispatchers c.args.number)

@@ -14,5 +14,4 @@ plain-requires c = let here : c.self.inside.base.value ≡ c.args.self.now.base 
     c.in_ok-lines.ensures.legal (subst IsSound first c.lines-loaded.ensures.sound)
     (c.limits-limits.ensures
     ∙ ap
-    (λ
-    (b : Tables). b.limits) second) c.limits-limits.result.lines_range c.in_ok-lines.ensures.lines c.lines-2.ensures
+    (λ (b : Tables). b.limits) second) c.limits-limits.result.lines_range c.in_ok-lines.ensures.lines c.lines-2.ensures

@@ -9,8 +9,7 @@ use Rattle.history_core.proofs.world.World.run.Goals as goal
 pub returns-in_default-clause-true_stop : goal.returns-in_default-clause-true_stop
 returns-in_default-clause-true_stop c =
     true_from_opening c.args.self.now [] c.new.result.items c.args.self.now record {
-      replied =
-          c.new.ensures.items;
+      replied = c.new.ensures.items;
       led = refl;
     }
 

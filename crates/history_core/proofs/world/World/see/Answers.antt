@@ -10,7 +10,7 @@ use Rattle.history_core.proofs.world.World.see.Goals as goal
 pub invariant_of-self : goal.invariant_of-self
 invariant_of-self c =
     let now = c.see.ensures
-    ∙ ap (λ n. renewed c.self.inside.clients c.in-Client.number (λ x. record x { seen = n })) c.len-length.ensures in
+    ∙ ap (λ n. renewed c.self.inside.clients c.in-Client.number (λ x. record x { seen = n })) c.len-length.ensures.count in
     record {
       base = c.self.invariant.base;
       clients =
@@ -24,7 +24,7 @@ invariant_of-self c =
 pub returns-in-Client : goal.returns-in-Client
 returns-in-Client c =
     let now = c.see.ensures
-    ∙ ap (λ n. renewed c.self.inside.clients c.in-Client.number (λ x. record x { seen = n })) c.len-length.ensures in
+    ∙ ap (λ n. renewed c.self.inside.clients c.in-Client.number (λ x. record x { seen = n })) c.len-length.ensures.count in
     let w : World = world_in c.self.inside in
     ap (λ l. record w { clients = l })
     (ap (map (client_in c.self.inside.store.log)) now
@@ -37,7 +37,7 @@ invariant_of-self-in-Dispatcher c =
     let now = c.see-in-Dispatcher.ensures
     ∙ ap
     (λ n. renewed c.self.inside.dispatchers c.in-Dispatcher.number
-    (λ x. record x { seen = n })) c.len-length.ensures in record {
+    (λ x. record x { seen = n })) c.len-length.ensures.count in record {
       base = c.self.invariant.base;
       dispatchers =
           subst (DispatchersFit (length c.self.inside.store.log)) (sym now)
@@ -52,7 +52,7 @@ returns-in-Dispatcher c =
     let now = c.see-in-Dispatcher.ensures
     ∙ ap
     (λ n. renewed c.self.inside.dispatchers c.in-Dispatcher.number
-    (λ x. record x { seen = n })) c.len-length.ensures in let w : World = world_in c.self.inside in
+    (λ x. record x { seen = n })) c.len-length.ensures.count in let w : World = world_in c.self.inside in
     ap (λ l. record w { dispatchers = l })
     (ap (map (dispatcher_in c.self.inside.store.log)) now
     ∙ dispatcher_saw c.self.inside.store.log c.self.inside.dispatchers c.in-Dispatcher.number)
