@@ -15,7 +15,7 @@ pub few_lines : (base : Tables) (history : List CommitRecord) (at : ℕ) (plain 
 few_lines base history at plain found limits legal sound same bound is lines =
     let few = few_after base history legal sound.few at in
     let here : found ≡ lines_after base (take at history) =
-        lines ∙ ap (λ (p : Warehouse). lines_after p.base p.log) is in
+    lines ∙ ap (λ (p : Warehouse). lines_after p.base p.log) is in
     let count : length found ≡ length (lines_after base (take at history)) = ap length here in
     let top : limits.lines ≡ base.limits.lines = ap (λ (l : Limits). l.lines) same in
     omega arith

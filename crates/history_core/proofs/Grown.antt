@@ -116,10 +116,8 @@ applied_grown w store client actions number k accepted is count =
     ap (applying (world_in w) client actions) accepted
     ∙ (λ i. (
       record shown {
-        clients =
-            sym (clients_grown w.store.log commit w.clients client refl k.clients) i;
-        dispatchers =
-            sym (dispatchers_grown w.store.log commit w.dispatchers k.dispatchers) i;
+        clients = sym (clients_grown w.store.log commit w.clients client refl k.clients) i;
+        dispatchers = sym (dispatchers_grown w.store.log commit w.dispatchers k.dispatchers) i;
       },
       Committed (counted i),
     ))

@@ -71,8 +71,7 @@ module _ (base : Tables) (clients : ℕ) (w : World) (k : WorldKept base clients
         history = w.history;
         rows = rows;
         writer = writer;
-        clients =
-            renewed w.clients number f;
+        clients = renewed w.clients number f;
         dispatchers = renewed w.dispatchers holder g;
       }
   moved rows writer number f holder g later mine sees here there = record {
@@ -98,8 +97,7 @@ module _ (base : Tables) (clients : ℕ) (w : World) (k : WorldKept base clients
         (λ n. ClientKept w.base w.history (renewed w.dispatchers holder g)) w.clients number f k.client here
         (λ j c other at was. record {
           seen = was.seen;
-          mail =
-              mail_same (renewed w.dispatchers holder g) later c.mailbox was.mail;
+          mail = mail_same (renewed w.dispatchers holder g) later c.mailbox was.mail;
         });
     dispatcher =
         each_renewed (λ n. DispatcherKept w.history)
@@ -118,8 +116,7 @@ module _ (base : Tables) (clients : ℕ) (w : World) (k : WorldKept base clients
         history = w.history;
         rows = rows;
         writer = writer;
-        clients =
-            renewed w.clients number f;
+        clients = renewed w.clients number f;
         dispatchers = w.dispatchers;
       }
   of_client rows writer number f mine sees here =
@@ -134,8 +131,7 @@ module _ (base : Tables) (clients : ℕ) (w : World) (k : WorldKept base clients
         history = w.history;
         rows = rows;
         writer = writer;
-        clients =
-            w.clients;
+        clients = w.clients;
         dispatchers = renewed w.dispatchers holder g;
       }
   of_dispatcher rows writer holder g later there =
@@ -148,8 +144,7 @@ module _ (base : Tables) (clients : ℕ) (w : World) (k : WorldKept base clients
         history = w.history;
         rows = rows;
         writer = writer;
-        clients =
-            renewed w.clients number (λ c. record c { seen = w.history });
+        clients = renewed w.clients number (λ c. record c { seen = w.history });
         dispatchers = w.dispatchers;
       }
   client_sees rows writer number =
@@ -162,8 +157,7 @@ module _ (base : Tables) (clients : ℕ) (w : World) (k : WorldKept base clients
         history = w.history;
         rows = rows;
         writer = writer;
-        clients =
-            w.clients;
+        clients = w.clients;
         dispatchers = renewed w.dispatchers number (λ d. record d { seen = w.history });
       }
   dispatcher_sees rows writer number =
@@ -184,8 +178,7 @@ module _ (base : Tables) (clients : ℕ) (w : World) (k : WorldKept base clients
             λ m has. ⊎_elim (λ (e : None ≡ Some m). absurd (cc e)) (λ (e : None ≡ Some m). absurd (cc e)) has;
         marks_seen =
             λ m has. ⊎_elim (λ (e : None ≡ Some m). absurd (cc e)) (λ (e : None ≡ Some m). absurd (cc e)) has;
-        given =
-            was.given;
+        given = was.given;
       }
 
   takes : (who : Who) (known : Bool) (holder : Option Who) → WorldKept base clients (taking_rows w who known holder).0
@@ -225,8 +218,7 @@ module _ (base : Tables) (clients : ℕ) (w : World) (k : WorldKept base clients
             (λ c at was. record { seen = begins_with_itself now; mail = mail_more commit c.mailbox was.mail })
             (λ j c other at was. record {
               seen = prefix_longer c.seen w.history (commit ∷ []) was.seen;
-              mail =
-                  mail_more commit c.mailbox was.mail;
+              mail = mail_more commit c.mailbox was.mail;
             });
         dispatcher = λ n d at. let was =
             k.dispatcher n d at in
@@ -488,12 +480,9 @@ opening_kept base clients dispatchers = record {
   dispatcher = λ number d at. subst (DispatcherKept []) (numbered_copies dispatchers number _ d at)
       record {
         seen = begins_with_itself [];
-        marks =
-            λ m has. absurd (⊎_elim (λ (e : None ≡ Some m). cc e) (λ (e : None ≡ Some m). cc e) has);
-        marks_seen =
-            λ m has. absurd (⊎_elim (λ (e : None ≡ Some m). cc e) (λ (e : None ≡ Some m). cc e) has);
-        given =
-            all_none (GivenKept []);
+        marks = λ m has. absurd (⊎_elim (λ (e : None ≡ Some m). cc e) (λ (e : None ≡ Some m). cc e) has);
+        marks_seen = λ m has. absurd (⊎_elim (λ (e : None ≡ Some m). cc e) (λ (e : None ≡ Some m). cc e) has);
+        given = all_none (GivenKept []);
       };
 }
 

@@ -94,8 +94,7 @@ module _ (base : Tables) (clients : ℕ) (es : List Event) (rs : List Reply) (w 
         history = w.history;
         rows = rows;
         writer = writer;
-        clients =
-            renewed w.clients number f;
+        clients = renewed w.clients number f;
         dispatchers = ds;
       }
   moved e r rows writer number f ds quiet new later mine apart here = record {
@@ -134,8 +133,7 @@ module _ (base : Tables) (clients : ℕ) (es : List Event) (rs : List Reply) (w 
         history = w.history;
         rows = rows;
         writer = writer;
-        clients =
-            renewed w.clients number f;
+        clients = renewed w.clients number f;
         dispatchers = ds;
       }
   quieted e r rows writer number f ds quiet new later mine same apart =

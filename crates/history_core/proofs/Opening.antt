@@ -45,8 +45,7 @@ opening_kept w clients dispatchers base new idle =
     record {
       base = base;
       clients = new_clients _ clients w.clients new;
-      dispatchers =
-          idle_dispatchers _ dispatchers w.dispatchers idle;
+      dispatchers = idle_dispatchers _ dispatchers w.dispatchers idle;
     }
 
 abbrev newcomer : ClientState
@@ -78,6 +77,5 @@ opening_shown w base clients dispatchers rows writer is new idle =
       rows = rows i;
       writer = writer i;
       clients = cs i;
-      dispatchers =
-          ds i;
+      dispatchers = ds i;
     }

@@ -102,8 +102,7 @@ limits =
       dimension_rows = 4;
       lines = 8;
       commits = 2;
-      dimension_rows_range =
-          (omega arith, omega arith);
+      dimension_rows_range = (omega arith, omega arith);
       lines_range = omega arith;
       commits_range = (omega arith, omega arith);
     }
@@ -152,8 +151,7 @@ worked_run : (run_of (opening_world base 1 1)
     ∷ Done ∷ Done ∷ Done ∷ Done ∷ Done ∷ Rows q4_1 1
     (record {
       groups = Number 1997 ∷ Text (codes "UNITED STATES") ∷ [];
-      sum =
-          Some (negsuc 1329);
+      sum = Some (negsuc 1329);
     } ∷ []) ∷ NotEnabled ∷ Length 1
     ∷ Done ∷ Asks q1_1 ∷ NotEnabled ∷ Done ∷ Unserved q1_1 OutOfMemory
     ∷ Done ∷ Refused 1 1 (Absent 77) ∷ []

@@ -13,8 +13,7 @@ returns-in-Some-clause-left c = let len : c.len.result ≡ length c.self.inside.
     ap (λ m. slice_set c.self.inside.list.items c.in-Some.place record old { mailbox = m }) c.collect.ensures.left
     ∙ renewed_write c.self.inside.list.items c.args.self.now c.args.number c.in-Some.place c.len.result
     (λ x. record x {
-      mailbox =
-          left_by x.mailbox;
+      mailbox = left_by x.mailbox;
     }) c.index_mut.result.now c.index_mut.ensures.value c.self.view_is len c.in-Some.ensures.place
 
 pub returns-in-Some-clause-reply : goal.returns-in-Some-clause-reply

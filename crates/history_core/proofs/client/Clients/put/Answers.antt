@@ -11,8 +11,7 @@ returns-in-Some c = let len : c.len.result ≡ length c.self.inside.list.items =
     ap (λ m. slice_set c.self.inside.list.items c.in-Some.place record old { mailbox = m }) placed
     ∙ renewed_write c.self.inside.list.items c.args.self.now c.args.number c.in-Some.place c.len.result
     (λ x. record x {
-      mailbox =
-          c.args.mailbox;
+      mailbox = c.args.mailbox;
     }) c.index_mut.result.now c.index_mut.ensures.value c.self.view_is len c.in-Some.ensures.place
 
 pub returns-in_default : goal.returns-in_default

@@ -18,8 +18,7 @@ invariant_of-self c =
           (dispatchers_kept _ c.self.inside.dispatchers c.args.number
           (λ x. record x {
             seen = length c.self.inside.store.log;
-            mark =
-                Some (length c.self.inside.store.log);
+            mark = Some (length c.self.inside.store.log);
           }) c.self.invariant.dispatchers (λ x h. (search rules, search rules, h.2)));
       clients = c.self.invariant.clients;
     }
