@@ -8,7 +8,7 @@ use Rattle.std.specs.Cmp.{nat_cmp_is}
 use Rattle.std.specs.List.{filter, count_by, range_with_len}
 use Rattle.std.specs.List.Sorted.{IsPermutation, IsNonDecreasingBy, IsStableByKey, ties}
 use Rattle.std.proofs.lemmas.Bool.{eqb-true, eq-eqb, ltb-true, ltb-false}
-use Rattle.std.proofs.lemmas.List.{get_or-take, get_or-drop, get_or_default, length-take-le}
+use Rattle.std.proofs.lemmas.List.{get_or-take, get_or-drop, get_or_default, length-take-le, take-append-drop}
 use Rattle.std.proofs.lemmas.List.Elements.{filter_map-append, All-head, All-tail, All-cons, All-take, All-drop}
 use Rattle.std.proofs.lemmas.List.Sums.{length-filter}
 use Rattle.std.proofs.lemmas.List.Sorted.{All-permutation, sum_by-IsPermutation}
@@ -19,7 +19,7 @@ use Rattle.row_store.specs.History.{CommitRecord}
 use Rattle.row_store.specs.declared.place.Place.{Place}
 use Rattle.row_store.specs.declared.place.Source.TheVariants.{Loaded}
 use Rattle.row_store.specs.Keyed.{Sources, IsAt, Located, key_at, lines_at}
-use Rattle.row_store.proofs.Counted.{HaveKey}
+use Rattle.row_store.proofs.Counted.{HaveKey, lines_of-own, lines_of-append}
 use Rattle.row_store.proofs.Placed.{located_more}
 
 lines_at-cons : (lines : List LineFields) (i : ℕ) (index : List ℕ) (line : LineFields) → slice_get lines i ≡ Some line → lines_at lines (i ∷ index) ≡ line ∷ lines_at lines index
@@ -216,18 +216,36 @@ module _ (lines : List LineFields) (index : List ℕ) (inside : All (λ i. i < l
       let longer : first + (end - first) ≡ end = omega (arith, later) in
       ap (λ n. lines_at lines (take n index)) (sym longer) ∙ ap (lines_at lines) (take-add first (end - first) index) ∙ filter_map-append (λ i. slice_get lines i) (take first index) (take (end - first) (drop first index))
 
-  pub next_located : (log : List CommitRecord) (f g : ℕ → Option Place) (key : ℕ) → key ≡ key_at lines (slice_index index first)
+  -- the run is no longer than its order
+  run_few : (key : ℕ) → key ≡ key_at lines (slice_index index first) → length (lines_of key (lines_at lines index)) ≤ 7 → end - first ≤ 7
+  unfolding run
+  run_few key same few =
+      let front : List LineFields = lines_at lines (take first index) in
+      let after : List LineFields = lines_at lines (drop end index) in
+      let whole : lines_at lines index ≡ (front ++ lines_at lines run) ++ after =
+      ap (lines_at lines) (sym (take-append-drop end index)) ∙ filter_map-append (λ i. slice_get lines i) (take end index) (drop end index) ∙ ap (λ l. l ++ after) split in
+      let own : lines_of key (lines_at lines run) ≡ lines_at lines run = lines_of-own key (lines_at lines run) (lines_at-HaveKey lines key run run_inside (λ k d h. run_alike k d h ∙ sym same)) in
+      let count : length (lines_of key (lines_at lines index)) ≡ length (lines_of key ((front ++ lines_at lines run) ++ after)) = ap (λ l. length (lines_of key l)) whole in
+      let outer : length (lines_of key ((front ++ lines_at lines run) ++ after)) ≡ length (lines_of key (front ++ lines_at lines run)) + length (lines_of key after) =
+      ap length (lines_of-append key (front ++ lines_at lines run) after) ∙ length-append _ _ in
+      let inner : length (lines_of key (front ++ lines_at lines run)) ≡ length (lines_of key front) + length (lines_of key (lines_at lines run)) =
+      ap length (lines_of-append key front (lines_at lines run)) ∙ length-append _ _ in
+      let long : length (lines_of key (lines_at lines run)) ≡ end - first = ap length own ∙ length-lines_at lines run run_inside ∙ length-run in
+      omega (arith, few, count, outer, inner, long)
+
+  pub next_located : (log : List CommitRecord) (f g : ℕ → Option Place) (key : ℕ) → key ≡ key_at lines (slice_index index first) → length (lines_of key (lines_at lines index)) ≤ 7
       → ((q : ℕ) → g q ≡ cond (eqb key q) (Some (record { lines = end - first; source = Loaded first })) (f q))
       → Located (record { loaded = lines; index = index; log = log }) f (lines_at lines (take first index))
       → Located (record { loaded = lines; index = index; log = log }) g (lines_at lines (take end index))
   unfolding run
-  next_located log f g key same now each =
+  next_located log f g key same few now each =
       let sources : Sources = record { loaded = lines; index = index; log = log } in
       let place : Place = record { lines = end - first; source = Loaded first } in
       let at : IsAt sources place (lines_at lines run) = record {
         found = refl;
         count = sym (length-lines_at lines run run_inside ∙ length-run);
         some = omega (arith, later);
+        few = run_few key same few;
         within = omega (arith, later, within);
       } in
       let own : HaveKey key (lines_at lines run) = lines_at-HaveKey lines key run run_inside (λ k d h. run_alike k d h ∙ sym same) in

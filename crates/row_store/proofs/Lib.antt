@@ -9,4 +9,5 @@ pub mod Placed
 pub mod Prefixes
 pub mod Rearranged
 pub mod Replies
+pub mod Sevens
 pub mod StateLaws

@@ -66,7 +66,7 @@ at_push : (sources : Sources) (made : CommitRecord) (place : Option Place) (line
 at_push sources made None lines h = h
 at_push sources made (Some place) lines h =
     let p = source_push sources made place.lines place.source lines h.found h.within in
-    record { found = p.0; count = h.count; some = h.some; within = p.1 }
+    record { found = p.0; count = h.count; some = h.some; few = h.few; within = p.1 }
 
 pub located_push : (sources : Sources) (made : CommitRecord) (f : ℕ → Option Place) (lines : List LineFields) → Located sources f lines → Located (longer sources made) f lines
 located_push sources made f lines each q = at_push sources made (f q) (lines_of q lines) (each q)

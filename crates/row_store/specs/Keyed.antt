@@ -39,11 +39,12 @@ abbrev pub IsWithin : Sources → ℕ → Source → Type 0
 IsWithin sources count (Loaded first) = first + count ≤ length sources.index
 IsWithin sources count (Added commit action) = commit < length sources.log
 
--- these lines lie at the place, and there are some
+-- these lines lie at the place, and there are one to seven
 pub record IsAt (sources : Sources) (place : Place) (lines : List LineFields) : Type 0 where
   pub found : lines_from sources place.lines place.source ≡ lines
   pub count : place.lines ≡ length lines
   pub some : 0 < place.lines
+  pub few : place.lines ≤ 7
   pub within : IsWithin sources place.lines place.source
 
 -- an order with no place has no lines

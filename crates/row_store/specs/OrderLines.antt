@@ -1,5 +1,5 @@
 -- The lines that `OrderLines` lends.
-use Rattle.std.specs.Prelude.{◌<◌, All, List, length}
+use Rattle.std.specs.Prelude.{ℕ, ◌<◌, ◌≤◌, All, List, length}
 use Rattle.ssb_schema.specs.declared.line.LineFields.{LineFields}
 use Rattle.row_store.specs.Keyed.{lines_at}
 use Rattle.row_store.specs.declared.order_lines.Held.{Held}
@@ -10,6 +10,17 @@ lines_held (Loaded lines positions) = lines_at lines.now positions.now
 lines_held (Added lines) = lines.now
 
 -- the positions are within the lines
-abbrev pub IsHeld : Held → Type 0
-IsHeld (Loaded lines positions) = All (λ i. i < length lines.now) positions.now
-IsHeld (Added lines) = Unit {0}
+abbrev pub AreWithin : Held → Type 0
+AreWithin (Loaded lines positions) = All (λ i. i < length lines.now) positions.now
+AreWithin (Added lines) = Unit {0}
+
+-- how many there are
+abbrev pub count_held : Held → ℕ
+count_held (Loaded lines positions) = length positions.now
+count_held (Added lines) = length lines.now
+
+-- one to seven lines
+pub record IsHeld (held : Held) : Type 0 where
+  pub within : AreWithin held
+  pub some : 1 ≤ count_held held
+  pub few : count_held held ≤ 7

@@ -3,6 +3,7 @@ ghost use Rattle.std.specs.Prelude.{◌≡◌, ◌≢◌, ◌<◌, ◌≤◌, �
 ghost use Rattle.std.specs.List.{range_with_len};
 ghost use Rattle.std.specs.List.Sorted.{IsNonDecreasingBy};
 ghost use Rattle.std.specs.HashMap.{get};
+ghost use Rattle.ssb_schema.specs.Rows.{IsWithinLimits};
 ghost use Rattle.row_store.specs.Lines.{lines_of};
 ghost use Rattle.row_store.specs.History.{CommitRecord};
 ghost use Rattle.row_store.specs.Keyed.{Located, key_at, lines_at};
@@ -18,6 +19,15 @@ fn key_at(lines: &[Line], position: u32) -> u64
     lines
         .get(position as usize)
         .map_or(0, |line| line.order_key())
+}
+
+// It does nothing: a line tells that its values are within their limits where its fact is read.
+pub(crate) fn look_through(lines: &[Line])
+    ensures { All IsWithinLimits lines.now }
+{
+    for line in lines {
+        let _fact = line.fact();
+    }
 }
 
 // The positions below a number.
@@ -67,6 +77,7 @@ pub(crate) fn place_runs(
     requires few { length index.now < 2 ^ 32 }
     requires within { All (λ i. i < length lines.now) index.now }
     requires sorted { IsNonDecreasingBy (key_at lines.now) index.now }
+    requires orders { (key : ℕ) → length (lines_of key (lines_at lines.now index.now)) ≤ 7 }
     requires empty { (key : ℕ) → get nat_eq orders.old key ≡ None }
     ensures { OnOk result ((log : List CommitRecord)
         → Located (record { loaded = lines.now; index = index.now; log = log }) (get nat_eq orders.new)

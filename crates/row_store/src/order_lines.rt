@@ -1,5 +1,5 @@
 //! The lines of one order.
-ghost use Rattle.std.specs.Prelude.{◌≡◌, ◌<◌, All, length, slice_get};
+ghost use Rattle.std.specs.Prelude.{◌≡◌, ◌<◌, ◌≤◌, All, length, slice_get};
 ghost use Rattle.std.specs.Option.{option_copied};
 ghost use Rattle.row_store.specs.Keyed.{lines_at};
 
@@ -53,7 +53,9 @@ fn loaded_line<'a>(lines: &'a [Line], positions: &[u32], place: usize) -> Option
 
 impl<'a> OrderLines<'a> {
     pub(crate) fn loaded(lines: &'a [Line], positions: &'a [u32]) -> OrderLines<'a>
-        requires { All (λ i. i < length lines.now) positions.now }
+        requires within { All (λ i. i < length lines.now) positions.now }
+        requires some { 1 ≤ length positions.now }
+        requires few { length positions.now ≤ 7 }
         ensures { result ≡ lines_at lines.now positions.now }
     {
         OrderLines {
@@ -62,6 +64,8 @@ impl<'a> OrderLines<'a> {
     }
 
     pub(crate) fn added(lines: &'a [Line]) -> OrderLines<'a>
+        requires some { 1 ≤ length lines.now }
+        requires few { length lines.now ≤ 7 }
         ensures { result ≡ lines.now }
     {
         OrderLines {
@@ -71,7 +75,8 @@ impl<'a> OrderLines<'a> {
 
     /// How many lines the order has: 1 to 7.
     pub fn len(&self) -> usize
-        ensures { result ≡ length self.now }
+        ensures count { result ≡ length self.now }
+        ensures range { (1 ≤ result) × (result ≤ 7) }
     {
         match self.held {
             Held::Loaded(_, positions) => positions.len(),

@@ -8,7 +8,7 @@ ghost use Rattle.row_store.specs.Refusals.{lacks_customer, lacks_supplier, lacks
 ghost use Rattle.row_store.specs.Legal.{Fails, IsLegal, IsRefreshReply};
 
 use crate::commit::{Commit, Receipt};
-use crate::index::{index_of, place_runs};
+use crate::index::{index_of, look_through, place_runs};
 use crate::order_lines::OrderLines;
 use crate::place::{Places, Source, count_after, order_at, place_all};
 use crate::refusal::{ApplyError, Cause, RefreshError, Refusal};
@@ -120,6 +120,7 @@ impl RowStore {
         ensures { IfOk result (λ store. store ≡ record { base = base.value; log = [] }) }
     {
         let lines = base.lines();
+        look_through(lines);
         let index = index_of(alloc, lines)?;
         let mut orders = HashMap::with_hasher(alloc, hashing);
         place_runs(&mut orders, lines, &index)?;

@@ -430,6 +430,31 @@ fn orders_with_colliding_keys_are_found(rt: HostRuntime) -> Result<(), Fail> {
     Ok(())
 }
 
+const TOLD: &[&[Step<'static>]] = &[&[ADD_NINE], &[Step::Withdraw(1), ADD_NINE]];
+
+#[test]
+fn a_client_is_told_the_commits_so_far(rt: HostRuntime) -> Result<(), Fail> {
+    let alloc = rt.alloc();
+    let mut store = RowStore::new(
+        alloc,
+        small(alloc, Limits::standard())?,
+        RandomState::new(&rt)?,
+    )?;
+    let mut told = String::new(alloc);
+    for steps in TOLD {
+        match store.refresh(3, refresh(alloc, steps)?) {
+            Ok(receipt) => writeln!(told, "{receipt:?}")?,
+            Err(error) => writeln!(told, "{error:?}")?,
+        }
+    }
+    writeln!(told, "{:?}", store.log_from(0)[0])?;
+    assert_eq!(rt;
+        told.as_str(),
+        "Receipt { number: 1 }\nRefused { at: 1, action: 2, cause: Present(9) }\nCommit { client: 3, actions: 1 }\n"
+    );
+    Ok(())
+}
+
 // Four lines of three orders, which do not stand in the order of their keys.
 fn scattered(alloc: Global) -> Result<Vec<Line>, Fail> {
     let mut lines = Vec::new(alloc);
@@ -476,6 +501,9 @@ fn plain_lines_follow_the_log(rt: HostRuntime) -> Result<(), Fail> {
     }
     let told = keys_told(alloc, plain.lines())?;
     assert_eq!(rt; told.as_str(), "3 1 9 ");
+    let again = plain.copy()?;
+    let told = keys_told(alloc, again.lines())?;
+    assert_eq!(rt; (told.as_str(), again.taken()), ("3 1 9 ", 1));
     assert_eq!(rt;
         (before.commits(), plain.commits(), plain.taken()),
         (0, 1, 1)

@@ -1,4 +1,4 @@
-use Rattle.std.proofs.Common.{◌≡◌, ℕ, ◌<◌, cond, eqb, List, [], ◌++◌, Result, Ok, Err, Some, nat_eq, ap, sym, ◌∙◌, length, subst}
+use Rattle.std.proofs.Common.{◌≡◌, ℕ, ◌<◌, ◌≤◌, cond, eqb, List, [], ◌++◌, Result, Ok, Err, Some, nat_eq, ap, sym, ◌∙◌, length, subst}
 use Rattle.std.specs.Result.{IsOk, OnOk}
 use Rattle.std.specs.HashMap.{get}
 use Rattle.ssb_schema.specs.declared.line.LineFields.{LineFields}
@@ -27,6 +27,7 @@ returns-in-Add-clause-each c base sources lines found within each none =
       found = ap (λ n. lines_from sources n c.args.source) count ∙ there;
       count = count;
       some = subst (λ n. 0 < n) (sym count) c.lines.ensures.order.some;
+      few = subst (λ n. n ≤ 7) (sym count) c.lines.ensures.order.few;
       within = subst (λ n. IsWithin sources n c.args.source) (sym count) inside;
     } in
     let key : c.key.result ≡ order_key order = c.key.ensures in
@@ -46,6 +47,7 @@ returns-in-Amend-clause-each c base sources lines found within each none =
       found = ap (λ n. lines_from sources n c.args.source) count ∙ there;
       count = count;
       some = subst (λ n. 0 < n) (sym count) c.lines-in-Amend.ensures.order.some;
+      few = subst (λ n. n ≤ 7) (sym count) c.lines-in-Amend.ensures.order.few;
       within = subst (λ n. IsWithin sources n c.args.source) (sym count) inside;
     } in
     let key : c.key-in-Amend.result ≡ order_key order = c.key-in-Amend.ensures in

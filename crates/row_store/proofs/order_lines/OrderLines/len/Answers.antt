@@ -1,8 +1,8 @@
 use Rattle.std.proofs.Common.{length, ap, sym, ◌∙◌, subst}
-use Rattle.row_store.specs.OrderLines.{lines_held, IsHeld}
+use Rattle.row_store.specs.OrderLines.{lines_held, AreWithin}
 use Rattle.row_store.proofs.Indexed.{length-lines_at}
 use Rattle.row_store.proofs.order_lines.OrderLines.len.Goals as goal
 
-pub returns-in-Loaded : goal.returns-in-Loaded
-returns-in-Loaded c =
-    sym (length-lines_at c.in-Loaded.field-0.now c.in-Loaded.positions.now (subst IsHeld c.in-Loaded.is c.self.invariant)) ∙ ap length (sym (ap lines_held c.in-Loaded.is) ∙ c.self.view_is)
+pub returns-in-Loaded-clause-count : goal.returns-in-Loaded-clause-count
+returns-in-Loaded-clause-count c =
+    sym (length-lines_at c.in-Loaded.field-0.now c.in-Loaded.positions.now (subst AreWithin c.in-Loaded.is c.self.invariant.within)) ∙ ap length (sym (ap lines_held c.in-Loaded.is) ∙ c.self.view_is)
