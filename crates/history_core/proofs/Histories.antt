@@ -1,15 +1,11 @@
 -- Lists that grow, lists with one element changed, and legal histories.
 use Rattle.std.proofs.Common.{◌≡◌, ◌≢◌, ◌⊎◌, ℕ, zero, suc, ◌<◌, ◌≤◌, ◌==◌, Bool, true, false, List, [], ◌∷◌, ◌++◌}
 use Rattle.std.proofs.Common.{length, take, Some, None, refl, ap, sym, subst, ◌∙◌, inl, inr, ⊎_elim, arith, zero-le}
-use Rattle.std.proofs.lemmas.List.{append-nil, take-append-le}
-use Rattle.std.proofs.Math.Seq.{take-append_seam}
+use Rattle.std.proofs.lemmas.List.{append-nil}
 use Rattle.std.proofs.lemmas.List.Elements.{filter-append}
 use Rattle.std.proofs.lemmas.Bool.Decides.{nat_tests}
 use Rattle.std.specs.Prelude.{filter, slice_get}
-use Rattle.ssb_schema.specs.Base.{Tables}
 use Rattle.row_store.specs.History.{CommitRecord}
-use Rattle.row_store.specs.Refusals.{refusal_of}
-use Rattle.row_store.specs.Legal.{IsLegal}
 use Rattle.history_core.specs.Numbered.{copies, revised, numbered, renewed}
 use Rattle.history_core.specs.OwnCommits.{IsOfClients, commits_of}
 

@@ -1,15 +1,15 @@
 -- Each event keeps what every world keeps.
 use Rattle.std.proofs.Common.{◌≡◌, ◌⊎◌, ℕ, zero, suc, ◌+◌, ◌≤◌, ◌==◌, Bool, true, false, List}
 use Rattle.std.proofs.Common.{[], ◌∷◌, ◌++◌, length, take, Option, Some, None, refl, ap, sym}
-use Rattle.std.proofs.Common.{subst, ◌∙◌, inl, inr, ⊎_elim, arith, append_assoc, length-append}
-use Rattle.std.proofs.lemmas.List.{append-nil, take-append-le}
+use Rattle.std.proofs.Common.{subst, ◌∙◌, inl, inr, ⊎_elim, arith, length-append}
+use Rattle.std.proofs.lemmas.List.{take-append-le}
 use Rattle.std.proofs.lemmas.List.Elements.{All-append}
 use Rattle.std.proofs.lemmas.Bool.Decides.{nat_tests}
 use Rattle.std.specs.Prelude.{All}
 use Rattle.ssb_schema.specs.declared.refresh.Action.{Action}
 use Rattle.ssb_schema.specs.Base.{Tables}
 use Rattle.ssb_queries.specs.declared.answer.Unserved.{Unserved as Cause}
-use Rattle.row_store.specs.History.{CommitRecord, IsPrefix}
+use Rattle.row_store.specs.History.{CommitRecord}
 use Rattle.row_store.specs.Refusals.{refusal_of}
 use Rattle.row_store.specs.declared.refusal.Refusal.{Refusal}
 use Rattle.row_store.proofs.HistoryLaws.{accepted_stays_legal}
@@ -163,7 +163,8 @@ module _ (base : Tables) (clients : ℕ) (w : World) (k : WorldKept base clients
   dispatcher_sees rows writer number =
       of_dispatcher rows writer number (λ d. record d { seen = w.history })
       (marks_renewed w.dispatchers number (λ d. record d { seen = w.history }) (length w.history) (λ x m has. inl has))
-      (λ d was. record { seen = begins_with_itself w.history; marks = was.marks; marks_seen = was.marks; given = was.given })
+      (λ d was.
+          record { seen = begins_with_itself w.history; marks = was.marks; marks_seen = was.marks; given = was.given })
 
   unmarks_later : (number : ℕ) → Later (renewed w.dispatchers number unmarked)
   unmarks_later number =
