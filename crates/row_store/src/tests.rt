@@ -447,7 +447,9 @@ fn a_client_is_told_the_commits_so_far(rt: HostRuntime) -> Result<(), Fail> {
             Err(error) => writeln!(told, "{error:?}")?,
         }
     }
-    writeln!(told, "{:?}", store.log_from(0)[0])?;
+    for commit in store.log_from(0) {
+        writeln!(told, "{commit:?}")?;
+    }
     assert_eq!(rt;
         told.as_str(),
         "Receipt { number: 1 }\nRefused { at: 1, action: 2, cause: Present(9) }\nCommit { client: 3, actions: 1 }\n"

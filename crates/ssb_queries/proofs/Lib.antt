@@ -2,11 +2,12 @@ pub mod MemberLemmas
 pub mod OrderedLemmas
 pub mod OrderLemmas
 pub mod JoinLemmas
+pub mod ColumnLemmas
 pub mod SumLemmas
 pub mod PassingLemmas
 pub mod PermutationLemmas
 pub mod TotalsLemmas
 pub mod RowLemmas
+pub mod AmountLemmas
 pub mod RearrangementLemmas
-pub mod SameLemmas
 pub mod SmallDataSet

@@ -22,9 +22,15 @@ has_filter p (y ∷ xs) x t (inl e) =
     let here : p y ≡ true = sym (ap p e) ∙ t in
     subst (λ (b : Bool). Has (cond b (y ∷ filter p xs) (filter p xs)) x) (sym here) (inl e)
 has_filter p (y ∷ xs) x t (inr h) =
-    elim (p y) as (λ b. Has (cond b (y ∷ filter p xs) (filter p xs)) x) [ true ↦ inr (has_filter p xs x t h) | false ↦ has_filter p xs x t h ]
+    elim (p y) as
+    (λ b. Has (cond b (y ∷ filter p xs) (filter p xs)) x) [
+      | true ↦ inr
+          (has_filter p xs x t h)
+      | false ↦ has_filter p xs x t h
+    ]
 
-pub all_weaker : {X : Type 0} (P Q : X → Type 0) → ((x : X) → P x → Q x) → (xs : List X) → AllByRecursion P xs → AllByRecursion Q xs
+pub all_weaker : {X : Type 0} (P Q : X → Type 0) → ((x : X) → P x → Q x) → (xs : List X) → AllByRecursion P xs
+    → AllByRecursion Q xs
 all_weaker P Q h [] all = tt
 all_weaker P Q h (x ∷ xs) all = (h x all.0, all_weaker P Q h xs all.1)
 
@@ -37,8 +43,14 @@ all_at P [] z all h = absurd h
 all_at P (x ∷ xs) z all (inl e) = subst P (sym e) all.0
 all_at P (x ∷ xs) z all (inr h) = all_at P xs z all.1 h
 
-has_permutation : {X : Type 0} (xs ys : List X) → IsPermutation xs ys → (z : X) → Has ys z → Has xs z
-has_permutation xs ys moved z h = all_at (Has xs) ys z (recursion_from_All (Has xs) ys (All-permutation (Has xs) xs ys moved (All-from_recursion (Has xs) xs (all_has xs)))) h
+pub has_permutation : {X : Type 0} (xs ys : List X) → IsPermutation xs ys → (z : X) → Has ys z → Has xs z
+has_permutation xs ys moved z h = all_at (Has xs) ys z
+    (recursion_from_All (Has xs) ys
+    (All-permutation (Has xs) xs ys moved (All-from_recursion (Has xs) xs (all_has xs)))) h
 
 pub same_members_permutation : {X : Type 0} (xs ys : List X) → IsPermutation xs ys → HaveSameMembers xs ys
-same_members_permutation xs ys moved = record { forth = has_permutation ys xs (IsPermutation-sym xs ys moved); back = has_permutation xs ys moved }
+same_members_permutation xs ys moved = record {
+  forth = has_permutation ys xs
+      (IsPermutation-sym xs ys moved);
+  back = has_permutation xs ys moved;
+}

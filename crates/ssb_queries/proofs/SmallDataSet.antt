@@ -7,7 +7,8 @@ use Rattle.ssb_schema.specs.declared.date.DateFields.{DateFields}
 use Rattle.ssb_plans.specs.declared.value.Value.TheVariants.{Text, Number}
 use Rattle.ssb_queries.specs.declared.answer.ResultRow.{ResultRow}
 use Rattle.ssb_plans.specs.declared.query.Query.{Query}
-use Rattle.ssb_plans.specs.declared.query.Query.TheVariants.{Q1_1, Q1_2, Q1_3, Q2_1, Q2_2, Q2_3, Q3_1, Q3_2, Q3_3, Q3_4, Q4_1, Q4_2, Q4_3}
+use Rattle.ssb_plans.specs.declared.query.Query.TheVariants.{Q1_1, Q1_2, Q1_3, Q2_1, Q2_2, Q2_3, Q3_1, Q3_2, Q3_3, Q3_4}
+use Rattle.ssb_plans.specs.declared.query.Query.TheVariants.{Q4_1, Q4_2, Q4_3}
 use Rattle.ssb_schema.specs.Base.{Dimensions}
 use Rattle.ssb_schema.specs.declared.fact.Fact.{Fact}
 use Rattle.ssb_queries.specs.Answer.{answer}
@@ -27,7 +28,15 @@ customer key city nation region = record {
 }
 
 abbrev supplier : ℕ → List ℕ → List ℕ → List ℕ → SupplierFields
-supplier key city nation region = record { key = key; name = []; address = codes "a"; city = city; nation = nation; region = region; phone = codes "p" }
+supplier key city nation region = record {
+  key = key;
+  name = [];
+  address = codes "a";
+  city = city;
+  nation = nation;
+  region = region;
+  phone = codes "p";
+}
 
 abbrev part : ℕ → List ℕ → List ℕ → List ℕ → PartFields
 part key manufacturer category brand = record {
@@ -127,41 +136,90 @@ q2_2 = refl
 q2_3 : of Q2_3 ≡ []
 q2_3 = refl
 
-q3_1 : of Q3_1 ≡ record { groups = Text (codes "CHINA") ∷ Text (codes "JAPAN") ∷ Number 1993 ∷ []; sum = Some (pos 2950) } ∷ []
+q3_1 : of Q3_1
+    ≡ record { groups = Text (codes "CHINA") ∷ Text (codes "JAPAN") ∷ Number 1993 ∷ []; sum = Some (pos 2950) } ∷ []
 q3_1 = refl
 
-q3_2 : of Q3_2 ≡ record { groups = Text (codes "UNITED ST4") ∷ Text (codes "UNITED ST7") ∷ Number 1997 ∷ []; sum = Some (pos 760) } ∷ []
+q3_2 : of Q3_2
+    ≡ record { groups = Text (codes "UNITED ST4") ∷ Text (codes "UNITED ST7") ∷ Number 1997 ∷ []; sum = Some (pos 760) }
+    ∷ []
 q3_2 = refl
 
-q3_3 : of Q3_3 ≡ record { groups = Text (codes "UNITED KI1") ∷ Text (codes "UNITED KI5") ∷ Number 1997 ∷ []; sum = Some (pos 500) } ∷ []
+q3_3 : of Q3_3
+    ≡ record { groups = Text (codes "UNITED KI1") ∷ Text (codes "UNITED KI5") ∷ Number 1997 ∷ []; sum = Some (pos 500) }
+    ∷ []
 q3_3 = refl
 
-q3_4 : of Q3_4 ≡ record { groups = Text (codes "UNITED KI1") ∷ Text (codes "UNITED KI5") ∷ Number 1997 ∷ []; sum = Some (pos 500) } ∷ []
+q3_4 : of Q3_4
+    ≡ record { groups = Text (codes "UNITED KI1") ∷ Text (codes "UNITED KI5") ∷ Number 1997 ∷ []; sum = Some (pos 500) }
+    ∷ []
 q3_4 = refl
 
 q4_1 : of Q4_1 ≡ record { groups = Number 1997 ∷ Text (codes "UNITED STATES") ∷ []; sum = Some (pos 660) } ∷ []
 q4_1 = refl
 
-q4_2 : of Q4_2 ≡ record { groups = Number 1997 ∷ Text (codes "UNITED STATES") ∷ Text (codes "MFGR#14") ∷ []; sum = Some (pos 660) } ∷ []
+q4_2 : of Q4_2
+    ≡ record { groups = Number 1997 ∷ Text (codes "UNITED STATES") ∷ Text (codes "MFGR#14") ∷ []; sum = Some (pos 660) }
+    ∷ []
 q4_2 = refl
 
-q4_3 : of Q4_3 ≡ record { groups = Number 1997 ∷ Text (codes "UNITED ST7") ∷ Text (codes "MFGR#1440") ∷ []; sum = Some (pos 660) } ∷ []
+q4_3 : of Q4_3
+    ≡ record { groups = Number 1997 ∷ Text (codes "UNITED ST7") ∷ Text (codes "MFGR#1440") ∷ []; sum = Some (pos 660) }
+    ∷ []
 q4_3 = refl
 
+-- the three queries of the first two flights that the small data set gives no row, each over lines that do
+q1_2-january : answer (plan_of Q1_2) dimensions (facts ++ fact 9 2 2 2 19940105 26 100 4 0 0 ∷ [])
+    ≡ record { groups = []; sum = Some (pos 400) } ∷ []
+q1_2-january = refl
+
+q1_3-week_six : answer (plan_of Q1_3) dimensions (facts ++ fact 9 2 2 2 19940208 26 100 5 0 0 ∷ [])
+    ≡ record { groups = []; sum = Some (pos 500) } ∷ []
+q1_3-week_six = refl
+
+-- two lines of 1993 and one of 1997 by the American supplier; one by the Asian supplier and one of another category,
+-- which do not count
+q2_1-america :
+    answer (plan_of Q2_1) dimensions
+    (facts
+    ++ fact 9 1 1 3 19971215 10 100 0 40 0
+    ∷ fact 9 1 1 3 19930101 10 100 0 350 0
+    ∷ fact 9 1 1 3 19930101 10 100 0 25 0
+    ∷ fact 9 1 1 2 19930101 10 100 0 7 0
+    ∷ fact 9 1 4 3 19930101 10 100 0 9 0 ∷ [])
+    ≡ record { groups = Number 1993 ∷ Text (codes "MFGR#121") ∷ []; sum = Some (pos 375) }
+    ∷ record { groups = Number 1997 ∷ Text (codes "MFGR#121") ∷ []; sum = Some (pos 40) } ∷ []
+q2_1-america = refl
+
+-- with a fifth part, of the brand that is asked for: a line by the European supplier, and one by the Asian, which does
+-- not count
+q2_3-europe :
+    answer (plan_of Q2_3)
+    (record dimensions { parts = part 5 (codes "MFGR#2") (codes "MFGR#22") (codes "MFGR#2239") ∷ dimensions.parts })
+    (facts ++ fact 9 1 5 1 19940105 10 100 0 120 0 ∷ fact 9 1 5 2 19940105 10 100 0 11 0 ∷ [])
+    ≡ record { groups = Number 1994 ∷ Text (codes "MFGR#2239") ∷ []; sum = Some (pos 120) } ∷ []
+q2_3-europe = refl
+
 -- after order nine is added
-q4_1-after : answer (plan_of Q4_1) dimensions (facts ++ order_nine) ≡ record { groups = Number 1997 ∷ Text (codes "UNITED STATES") ∷ []; sum = Some (negsuc 1329) } ∷ []
+q4_1-after : answer (plan_of Q4_1) dimensions (facts ++ order_nine)
+    ≡ record { groups = Number 1997 ∷ Text (codes "UNITED STATES") ∷ []; sum = Some (negsuc 1329) } ∷ []
 q4_1-after = refl
 
 -- with constants of one's own: from MFGR#222 to MFGR#2221, so that a text stands before those that it begins
-q2_2-wider : answer (plan_over Q2_2 (Text (codes "MFGR#222") ∷ Text (codes "MFGR#2221") ∷ Text (codes "ASIA") ∷ [])) dimensions facts
-    ≡ record { groups = Number 1993 ∷ Text (codes "MFGR#222") ∷ []; sum = Some (pos 1980) } ∷ record { groups = Number 1993 ∷ Text (codes "MFGR#2221") ∷ []; sum = Some (pos 970) } ∷ []
+q2_2-wider : answer
+    (plan_over Q2_2 (Text (codes "MFGR#222") ∷ Text (codes "MFGR#2221") ∷ Text (codes "ASIA") ∷ [])) dimensions facts
+    ≡ record { groups = Number 1993 ∷ Text (codes "MFGR#222") ∷ []; sum = Some (pos 1980) }
+    ∷ record { groups = Number 1993 ∷ Text (codes "MFGR#2221") ∷ []; sum = Some (pos 970) } ∷ []
 q2_2-wider = refl
 
 -- with the two brands exchanged nothing lies between them
-q2_2-exchanged : answer (plan_over Q2_2 (Text (codes "MFGR#2221") ∷ Text (codes "MFGR#222") ∷ Text (codes "ASIA") ∷ [])) dimensions facts ≡ []
+q2_2-exchanged : answer
+    (plan_over Q2_2 (Text (codes "MFGR#2221") ∷ Text (codes "MFGR#222") ∷ Text (codes "ASIA") ∷ [])) dimensions facts
+    ≡ []
 q2_2-exchanged = refl
 
-q2_1-europe : answer (plan_over Q2_1 (Text (codes "MFGR#12") ∷ Text (codes "EUROPE") ∷ [])) dimensions facts ≡ record { groups = Number 1997 ∷ Text (codes "MFGR#121") ∷ []; sum = Some (pos 500) } ∷ []
+q2_1-europe : answer (plan_over Q2_1 (Text (codes "MFGR#12") ∷ Text (codes "EUROPE") ∷ [])) dimensions facts
+    ≡ record { groups = Number 1997 ∷ Text (codes "MFGR#121") ∷ []; sum = Some (pos 500) } ∷ []
 q2_1-europe = refl
 
 -- a line at the greatest price
@@ -169,7 +227,8 @@ abbrev dear : ℕ → Fact
 dear discount = fact 5 2 2 2 19930101 1 4294967295 discount 0 0
 
 abbrev seven : ℕ → List Fact
-seven discount = dear discount ∷ dear discount ∷ dear discount ∷ dear discount ∷ dear discount ∷ dear discount ∷ dear discount ∷ []
+seven discount = dear discount ∷ dear discount ∷ dear discount ∷ dear discount ∷ dear discount ∷ dear discount
+    ∷ dear discount ∷ []
 
 q1_1-seven : answer (plan_of Q1_1) dimensions (seven 3) ≡ record { groups = []; sum = Some (pos 90194313195) } ∷ []
 q1_1-seven = refl
@@ -177,7 +236,8 @@ q1_1-seven = refl
 q1_1-seven_outside : answer (plan_of Q1_1) dimensions (seven 10) ≡ record { groups = []; sum = None } ∷ []
 q1_1-seven_outside = refl
 
-q1_1-seven_asked : answer (plan_over Q1_1 (Number 1993 ∷ Number 10 ∷ Number 10 ∷ Number 0 ∷ Number 24 ∷ [])) dimensions (seven 10) ≡ record { groups = []; sum = Some (pos 300647710650) } ∷ []
+q1_1-seven_asked : answer (plan_over Q1_1 (Number 1993 ∷ Number 10 ∷ Number 10 ∷ Number 0 ∷ Number 24 ∷ [])) dimensions
+    (seven 10) ≡ record { groups = []; sum = Some (pos 300647710650) } ∷ []
 q1_1-seven_asked = refl
 
 -- over no lines at all there is NULL without groups, and no row with them
@@ -189,7 +249,13 @@ q4_1-nothing = refl
 
 -- the small data set with two ties: one year, equal sums
 q3_1-ties : answer (plan_of Q3_1)
-    (record dimensions { customers = customer 2 (codes "CHINA    0") (codes "CHINA") (codes "ASIA") ∷ customer 4 (codes "INDIA    1") (codes "INDIA") (codes "ASIA") ∷ []; suppliers = supplier 2 (codes "JAPAN    3") (codes "JAPAN") (codes "ASIA") ∷ supplier 4 (codes "CHINA    2") (codes "CHINA") (codes "ASIA") ∷ [] })
+    (record dimensions {
+      customers = customer 2 (codes "CHINA    0") (codes "CHINA") (codes "ASIA")
+          ∷ customer 4 (codes "INDIA    1") (codes "INDIA") (codes "ASIA")
+          ∷ [];
+      suppliers = supplier 2 (codes "JAPAN    3") (codes "JAPAN") (codes "ASIA")
+          ∷ supplier 4 (codes "CHINA    2") (codes "CHINA") (codes "ASIA") ∷ [];
+    })
     (facts ++ fact 10 4 1 2 19930101 30 1 0 2950 0 ∷ fact 11 2 1 4 19930101 30 1 0 2950 0 ∷ [])
     ≡ record { groups = Text (codes "CHINA") ∷ Text (codes "CHINA") ∷ Number 1993 ∷ []; sum = Some (pos 2950) }
     ∷ record { groups = Text (codes "CHINA") ∷ Text (codes "JAPAN") ∷ Number 1993 ∷ []; sum = Some (pos 2950) }

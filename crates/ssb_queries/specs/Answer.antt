@@ -37,7 +37,8 @@ amount Profit fact = pos fact.revenue -ℤ pos fact.cost
 -- the sum over the combinations, and nothing where there is none
 abbrev pub sum_over : Measure → List Combination → Option ℤ
 sum_over measure [] = None
-sum_over measure (first ∷ others) = Some (fold (λ sum combination. sum +ℤ amount measure combination.fact) (pos 0) (first ∷ others))
+sum_over measure (first ∷ others) = Some
+    (fold (λ sum combination. sum +ℤ amount measure combination.fact) (pos 0) (first ∷ others))
 
 -- the combinations of one group
 abbrev pub in_group : Plan → List Value → List Combination → List Combination
@@ -70,7 +71,8 @@ row_cmp (key ∷ keys) a b = ordering_then (key_cmp key a b) (row_cmp keys a b)
 
 -- the rows over what was found: one for each distinct group, in the plan's order
 abbrev pub rows_over : Plan → List Combination → List ResultRow
-rows_over plan found = in_order (row_cmp plan.order) (map (row_of plan found) (groups_among plan.groups (group_of plan) found))
+rows_over plan found = in_order (row_cmp plan.order)
+    (map (row_of plan found) (groups_among plan.groups (group_of plan) found))
 
 -- the answer by a plan over these lines
 abbrev pub answer : Plan → Dimensions → List Fact → List ResultRow

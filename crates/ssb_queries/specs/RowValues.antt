@@ -1,6 +1,8 @@
 -- What the rows of the dimensions have in the columns that queries test or group by, and when they pass tests.
 use Rattle.std.specs.Prelude.{ℕ, Bool, true, ◌&&◌, nat_eq, nat_le, List, Option, None, Some, if◌then◌else◌}
 use Rattle.std.specs.List.{list_all}
+use Rattle.ssb_schema.specs.Columns.{C_CITY, C_NATION, C_REGION, S_CITY, S_NATION, S_REGION, P_MFGR, P_CATEGORY}
+use Rattle.ssb_schema.specs.Columns.{P_BRAND1, D_YEAR, D_YEARMONTHNUM, D_YEARMONTH, D_WEEKNUMINYEAR}
 use Rattle.ssb_schema.specs.declared.customer.CustomerFields.{CustomerFields}
 use Rattle.ssb_schema.specs.declared.supplier.SupplierFields.{SupplierFields}
 use Rattle.ssb_schema.specs.declared.part.PartFields.{PartFields}
@@ -11,37 +13,34 @@ use Rattle.ssb_plans.specs.declared.cond.Test.{Test}
 use Rattle.ssb_plans.specs.declared.plan.NumberRange.{NumberRange}
 use Rattle.ssb_plans.specs.Cond.{holds}
 
--- the value at a place of the customer's columns, counted from 1: C_CITY, C_NATION, C_REGION
+-- the value at a place of the customer's columns, counted from 1
 abbrev pub customer_value : ℕ → CustomerFields → Value
 customer_value place customer =
-    if nat_eq place 4 then Text customer.city else
-    if nat_eq place 5 then Text customer.nation else
-    if nat_eq place 6 then Text customer.region else
+    if nat_eq place C_CITY.place then Text customer.city else
+    if nat_eq place C_NATION.place then Text customer.nation else
+    if nat_eq place C_REGION.place then Text customer.region else
     Number 0
 
--- S_CITY, S_NATION, S_REGION
 abbrev pub supplier_value : ℕ → SupplierFields → Value
 supplier_value place supplier =
-    if nat_eq place 4 then Text supplier.city else
-    if nat_eq place 5 then Text supplier.nation else
-    if nat_eq place 6 then Text supplier.region else
+    if nat_eq place S_CITY.place then Text supplier.city else
+    if nat_eq place S_NATION.place then Text supplier.nation else
+    if nat_eq place S_REGION.place then Text supplier.region else
     Number 0
 
--- P_MFGR, P_CATEGORY, P_BRAND1
 abbrev pub part_value : ℕ → PartFields → Value
 part_value place part =
-    if nat_eq place 3 then Text part.manufacturer else
-    if nat_eq place 4 then Text part.category else
-    if nat_eq place 5 then Text part.brand else
+    if nat_eq place P_MFGR.place then Text part.manufacturer else
+    if nat_eq place P_CATEGORY.place then Text part.category else
+    if nat_eq place P_BRAND1.place then Text part.brand else
     Number 0
 
--- D_YEAR, D_YEARMONTHNUM, D_YEARMONTH, D_WEEKNUMINYEAR
 abbrev pub date_value : ℕ → DateFields → Value
 date_value place date =
-    if nat_eq place 5 then Number date.year else
-    if nat_eq place 6 then Number date.year_month_number else
-    if nat_eq place 7 then Text date.year_month else
-    if nat_eq place 12 then Number date.week else
+    if nat_eq place D_YEAR.place then Number date.year else
+    if nat_eq place D_YEARMONTHNUM.place then Number date.year_month_number else
+    if nat_eq place D_YEARMONTH.place then Text date.year_month else
+    if nat_eq place D_WEEKNUMINYEAR.place then Number date.week else
     Number 0
 
 -- whether a row, given by its columns, passes all tests

@@ -49,7 +49,8 @@ fn add_line(
 ) -> Result<(), AllocError>
     requires sound { IsSound base.now }
     requires room { SumsFit totals.old }
-    ensures totals { OnOk result (AddsAll plan.now (filter (passes plan.now) (joined_with base.now.dimensions (fact_of line.now))) totals.old totals.new) }
+    ensures totals { OnOk result (AddsAll plan.now
+        (filter (passes plan.now) (joined_with base.now.dimensions (fact_of line.now))) totals.old totals.new) }
     ensures within { OnOk result (AddsOneLine totals.old totals.new) }
 {
     let fact = line.fact();
@@ -121,8 +122,7 @@ pub fn plain(
     ensures question { IfOk result (λ rows. rows.query ≡ question.now) }
     ensures rows { IfOk result (λ rows. rows.list ≡ answer_of question.now base.now.dimensions (facts_of lines.now)) }
 {
-    // What the base keeps is told where its lines are read.
-    let _loaded = base.lines();
+    base.soundness();
     let plan = plan(alloc, question)?;
     let rows = evaluate(alloc, base, lines, &plan)?;
     Ok(Rows {

@@ -28,7 +28,9 @@ pub struct Joined<'a> {
 
 fn passing_customer<'a>(base: &'a Base, tests: &[Test], key: u64) -> Option<&'a Customer>
     requires { IsSound base.now }
-    ensures { filter (λ row. pass tests.now (λ place. customer_value place row)) (filter (λ row. nat_eq row.key key) base.now.dimensions.customers) ≡ option_to_list (option_copied result) }
+    ensures { filter (λ row. pass tests.now (λ place. customer_value place row))
+        (filter (λ row. nat_eq row.key key) base.now.dimensions.customers)
+        ≡ option_to_list (option_copied result) }
 {
     let customer = base.customer(key)?;
     if customer_passes(tests, customer) {
@@ -40,7 +42,9 @@ fn passing_customer<'a>(base: &'a Base, tests: &[Test], key: u64) -> Option<&'a 
 
 fn passing_supplier<'a>(base: &'a Base, tests: &[Test], key: u64) -> Option<&'a Supplier>
     requires { IsSound base.now }
-    ensures { filter (λ row. pass tests.now (λ place. supplier_value place row)) (filter (λ row. nat_eq row.key key) base.now.dimensions.suppliers) ≡ option_to_list (option_copied result) }
+    ensures { filter (λ row. pass tests.now (λ place. supplier_value place row))
+        (filter (λ row. nat_eq row.key key) base.now.dimensions.suppliers)
+        ≡ option_to_list (option_copied result) }
 {
     let supplier = base.supplier(key)?;
     if supplier_passes(tests, supplier) {
@@ -52,7 +56,9 @@ fn passing_supplier<'a>(base: &'a Base, tests: &[Test], key: u64) -> Option<&'a 
 
 fn passing_part<'a>(base: &'a Base, tests: &[Test], key: u64) -> Option<&'a Part>
     requires { IsSound base.now }
-    ensures { filter (λ row. pass tests.now (λ place. part_value place row)) (filter (λ row. nat_eq row.key key) base.now.dimensions.parts) ≡ option_to_list (option_copied result) }
+    ensures { filter (λ row. pass tests.now (λ place. part_value place row))
+        (filter (λ row. nat_eq row.key key) base.now.dimensions.parts)
+        ≡ option_to_list (option_copied result) }
 {
     let part = base.part(key)?;
     if part_passes(tests, part) {
@@ -64,7 +70,9 @@ fn passing_part<'a>(base: &'a Base, tests: &[Test], key: u64) -> Option<&'a Part
 
 fn passing_date<'a>(base: &'a Base, tests: &[Test], key: u64) -> Option<&'a DateRow>
     requires { IsSound base.now }
-    ensures { filter (λ row. pass tests.now (λ place. date_value place row)) (filter (λ row. nat_eq row.key key) base.now.dimensions.dates) ≡ option_to_list (option_copied result) }
+    ensures { filter (λ row. pass tests.now (λ place. date_value place row))
+        (filter (λ row. nat_eq row.key key) base.now.dimensions.dates)
+        ≡ option_to_list (option_copied result) }
 {
     let date = base.date(key)?;
     if date_passes(tests, date) {
@@ -85,7 +93,8 @@ fn is_in_ranges(plan: &Plan, fact: Fact) -> bool
 /// line's own numbers are tested first, so that most lines need no look-up.
 pub fn passing<'a>(base: &'a Base, plan: &Plan, fact: Fact) -> Option<Joined<'a>>
     requires { IsSound base.now }
-    ensures combination { filter (passes plan.now) (joined_with base.now.dimensions fact) ≡ option_to_list (option_map combination_of result) }
+    ensures combination { filter (passes plan.now) (joined_with base.now.dimensions fact)
+        ≡ option_to_list (option_map combination_of result) }
     ensures line { IfSome result (λ joined. joined.fact ≡ fact) }
 {
     if !is_in_ranges(plan, fact) {

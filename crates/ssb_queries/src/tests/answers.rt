@@ -3,8 +3,8 @@ use crate::tests::data::Printed::{Name, Number};
 use crate::tests::data::{
     Printed, base_with_ties, lines_with_order_nine, row, seven_lines, small_base, values,
 };
-use crate::{Query, Question, ResultRow, plain, same_rows};
-use ssb_schema::{Base, Line, MOST_LINES};
+use crate::{Answer, Query, Question, ResultRow, Unserved, plain, same_rows};
+use ssb_schema::{Base, Items, Line, MOST_LINES};
 use std::alloc::Global;
 use std::test::Fail;
 
@@ -215,5 +215,55 @@ fn constants_of_ones_own_replace_the_defaults(rt: HostRuntime) -> Result<(), Fai
     let mut rows = Vec::new(alloc);
     rows.push(row(alloc, &[Number(1997), Name("MFGR#121")], Some(500))?)?;
     assert!(rt; gives(alloc, &base, base.lines(), &question, rows.as_slice())?);
+    Ok(())
+}
+
+// The answer to Q1.1 with this sum, at a number of commits.
+fn answer(alloc: Global, at: u64, sum: Option<i64>) -> Result<Answer, Fail> {
+    let mut rows = Vec::new(alloc);
+    rows.push(row(alloc, &[], sum)?)?;
+    Ok(Answer::Rows {
+        query: Question::standard(alloc, Query::Q1_1)?,
+        at,
+        rows: Items::from_vec(rows),
+    })
+}
+
+fn unserved(alloc: Global, query: Query, cause: Unserved) -> Result<Answer, Fail> {
+    let query = Question::standard(alloc, query)?;
+    Ok(Answer::Unserved { query, cause })
+}
+
+#[test]
+fn answers_are_equal_in_all_their_parts(rt: HostRuntime) -> Result<(), Fail> {
+    let alloc = rt.alloc();
+    let told = answer(alloc, 1, Some(3000))?;
+    assert_eq!(rt; told, answer(alloc, 1, Some(3000))?);
+    for other in [
+        answer(alloc, 2, Some(3000))?,
+        answer(alloc, 1, Some(3001))?,
+        answer(alloc, 1, None)?,
+        unserved(alloc, Query::Q1_1, Unserved::OutOfMemory)?,
+    ] {
+        assert!(rt; told != other);
+    }
+    let twin = Unserved::Twin { told: 1, found: 2 };
+    let refused = unserved(alloc, Query::Q1_1, twin)?;
+    assert_eq!(rt; refused, unserved(alloc, Query::Q1_1, twin)?);
+    for other in [
+        unserved(alloc, Query::Q1_2, twin)?,
+        unserved(alloc, Query::Q1_1, Unserved::Twin { told: 1, found: 1 })?,
+        unserved(alloc, Query::Q1_1, Unserved::OutOfMemory)?,
+    ] {
+        assert!(rt; refused != other);
+    }
+    Ok(())
+}
+
+#[test]
+fn an_answer_is_printed_with_its_rows(rt: HostRuntime) -> Result<(), Fail> {
+    let alloc = rt.alloc();
+    let printed = format!(in alloc; "{:?}", answer(alloc, 1, Some(-1330))?)?;
+    assert!(rt; printed.as_str().contains("sum: Some(-1330)"));
     Ok(())
 }

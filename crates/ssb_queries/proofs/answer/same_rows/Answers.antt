@@ -1,5 +1,5 @@
 use Rattle.std.proofs.lemmas.Slice.Eq.{slice_eq-Decides}
-use Rattle.ssb_queries.proofs.SameLemmas.{row_Decides}
+use Rattle.ssb_queries.specs.AnswerEqLaws.{row_Decides}
 use Rattle.ssb_queries.proofs.answer.same_rows.Goals as goal
 
 pub returns : goal.returns

@@ -25,17 +25,25 @@ pub returns-clause-totals : goal.returns-clause-totals
 returns-clause-totals c =
     let plan = c.args.plan.now in
     let combination : Combination = combination_of c.in-Some.joined in
-    let more_is : filter (passes plan) (joined_with c.args.base.now.dimensions (fact_of c.args.line.now)) ≡ combination ∷ [] =
-    ap (λ (f : Fact). filter (passes plan) (joined_with c.args.base.now.dimensions f)) (sym c.fact-fact.ensures.value) ∙ c.in-Some.ensures.combination in
-    let same_amount : cast_signed w64 (cast_unsigned w64 c.amount.result) ≡ amount plan.measure c.fact-fact.result = omega (arith, ints) in
+    let more_is : filter (passes plan) (joined_with c.args.base.now.dimensions (fact_of c.args.line.now)) ≡ combination
+    ∷ [] =
+    ap (λ (f : Fact). filter (passes plan) (joined_with c.args.base.now.dimensions f)) (sym c.fact-fact.ensures.value)
+    ∙ c.in-Some.ensures.combination in
+    let same_amount : cast_signed w64 (cast_unsigned w64 c.amount.result) ≡ amount plan.measure c.fact-fact.result
+    = omega (arith, ints) in
     let amount_is : cast_signed w64 (cast_unsigned w64 c.amount.result) ≡ amount plan.measure combination.fact =
     same_amount ∙ ap (amount plan.measure) (sym c.in-Some.ensures.line) in
-    let adds : Adds c.args.totals.now c.add.new.totals (group_of plan combination) (amount plan.measure combination.fact) =
+    let adds : Adds c.args.totals.now c.add.new.totals (group_of plan combination)
+    (amount plan.measure combination.fact) =
     subst (λ (a : ℤ). Adds c.args.totals.now c.add.new.totals (group_of plan combination) a) amount_is
-    (subst (λ (g : List Value). Adds c.args.totals.now c.add.new.totals g (cast_signed w64 (cast_unsigned w64 c.amount.result))) c.in_ok-groups.ensures c.in_ok-add.ensures) in
-    subst (λ (more : List Combination). AddsAll plan more c.args.totals.now c.add.new.totals) (sym more_is) (adds_combination plan c.args.totals.now c.add.new.totals combination adds)
+    (subst (λ (g : List Value). Adds c.args.totals.now c.add.new.totals g
+    (cast_signed w64 (cast_unsigned w64 c.amount.result))) c.in_ok-groups.ensures c.in_ok-add.ensures) in
+    subst (λ (more : List Combination). AddsAll plan more c.args.totals.now c.add.new.totals) (sym more_is)
+    (adds_combination plan c.args.totals.now c.add.new.totals combination adds)
 
 pub returns-clause-within : goal.returns-clause-within
 returns-clause-within c =
     let same : cast_signed w64 (cast_unsigned w64 c.amount.result) ≡ c.amount.result = omega (arith, ints) in
-    adds_one_line c.args.totals.now c.add.new.totals c.in_ok-groups.groups (cast_signed w64 (cast_unsigned w64 c.amount.result)) (subst IsAmount (sym same) c.amount.ensures.bounded) c.in_ok-add.ensures
+    adds_one_line c.args.totals.now c.add.new.totals c.in_ok-groups.groups
+    (cast_signed w64 (cast_unsigned w64 c.amount.result))
+    (subst IsAmount (sym same) c.amount.ensures.bounded) c.in_ok-add.ensures

@@ -23,11 +23,15 @@ loop-line-preserved c =
     let line = c.line-item.result in
     let before = facts_of (take i c.args.lines.now) in
     let lines_are : take (i + 1) c.args.lines.now ≡ take i c.args.lines.now ++ line ∷ [] =
-    take_more c.args.lines.now i line (search rules) ∙ ap (λ (x : LineFields). take i c.args.lines.now ++ x ∷ []) (sym c.line-item.is) in
-    let facts_are : facts_of (take (i + 1) c.args.lines.now) ≡ before ++ fact_of line ∷ [] = ap facts_of lines_are ∙ map-append fact_of (take i c.args.lines.now) (line ∷ []) in
-    let found_are : combinations plan dimensions (facts_of (take (i + 1) c.args.lines.now)) ≡ combinations plan dimensions before ++ filter (passes plan) (joined_with dimensions (fact_of line)) =
+    take_more c.args.lines.now i line (search rules)
+    ∙ ap (λ (x : LineFields). take i c.args.lines.now ++ x ∷ []) (sym c.line-item.is) in
+    let facts_are : facts_of (take (i + 1) c.args.lines.now) ≡ before ++ fact_of line ∷ [] = ap facts_of lines_are
+    ∙ map-append fact_of (take i c.args.lines.now) (line ∷ []) in
+    let found_are : combinations plan dimensions (facts_of (take (i + 1) c.args.lines.now))
+    ≡ combinations plan dimensions before ++ filter (passes plan) (joined_with dimensions (fact_of line)) =
     ap (combinations plan dimensions) facts_are ∙ combinations_push plan dimensions before (fact_of line) in
     record {
-      totals = subst (λ (found : List Combination). AreTotals plan found c.add_line.new.totals) (sym found_are) (c.in_ok-add_line.ensures.totals (combinations plan dimensions before) c.loop-line.invariant.totals);
+      totals = subst (λ (found : List Combination). AreTotals plan found c.add_line.new.totals) (sym found_are)
+          (c.in_ok-add_line.ensures.totals (combinations plan dimensions before) c.loop-line.invariant.totals);
       within = c.in_ok-add_line.ensures.within i c.loop-line.invariant.within;
     }

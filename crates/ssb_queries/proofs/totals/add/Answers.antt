@@ -10,5 +10,10 @@ use Rattle.ssb_queries.proofs.totals.add.Goals as goal
 pub returns : goal.returns
 returns c = λ other.
     let before : ℤ = unwrap_or (get groups_cmp c.args.totals.now c.args.groups) (pos 0) in
-    let sum_is : cast_signed w64 (cast_unsigned w64 (cast_signed w64 (cast_unsigned w64 c.sum_of.result) +ℤ cast_signed w64 (cast_unsigned w64 c.args.amount))) ≡ before +ℤ c.args.amount = omega (arith, ints) in
-    c.in_ok-insert.ensures.updates.0 other ∙ ap (λ (v : ℤ). if is_eq (groups_cmp c.args.groups other) then Some v else get groups_cmp c.args.totals.now other) sum_is
+    let sum_is : cast_signed w64
+    (cast_unsigned w64
+    (cast_signed w64 (cast_unsigned w64 c.sum_of.result) +ℤ cast_signed w64 (cast_unsigned w64 c.args.amount)))
+    ≡ before +ℤ c.args.amount = omega (arith, ints) in
+    c.in_ok-insert.ensures.updates.0 other
+    ∙ ap (λ (v : ℤ). if is_eq
+    (groups_cmp c.args.groups other) then Some v else get groups_cmp c.args.totals.now other) sum_is
