@@ -1,0 +1,135 @@
+-- Lists that grow, lists with one element changed, and legal histories.
+use Rattle.std.proofs.Common.{◌≡◌, ◌≢◌, ◌⊎◌, ℕ, zero, suc, ◌<◌, ◌≤◌, ◌==◌, Bool, true, false, List, [], ◌∷◌, ◌++◌}
+use Rattle.std.proofs.Common.{length, take, Some, None, refl, ap, sym, subst, ◌∙◌, inl, inr, ⊎_elim, arith, zero-le}
+use Rattle.std.proofs.lemmas.List.{append-nil}
+use Rattle.std.proofs.lemmas.List.Elements.{filter-append}
+use Rattle.std.proofs.lemmas.Bool.Decides.{nat_tests}
+use Rattle.std.specs.Prelude.{filter, slice_get}
+use Rattle.row_store.specs.History.{CommitRecord}
+use Rattle.history_core.specs.Numbered.{copies, revised, numbered, renewed}
+use Rattle.history_core.specs.OwnCommits.{IsOfClients, commits_of}
+
+pub some_injective : {A : Type 0} (a b : A) → Some a ≡ Some b → a ≡ b
+some_injective a b e = cc e
+
+pub some_ne_none : {A : Type 0} (a : A) → Some a ≡ None → ⊥
+some_ne_none a e = cc e
+
+module _ {A : Type 0} where
+  -- what a list has it has when more follows
+  pub at_front : (l m : List A) (j : ℕ) (b : A) → slice_get l j ≡ Some b → slice_get (l ++ m) j ≡ Some b
+  at_front [] m j b e = absurd (some_ne_none b (sym e))
+  at_front (x ∷ xs) m zero b e = e
+  at_front (x ∷ xs) m (suc j) b e = at_front xs m j b e
+
+  pub at_last : (l : List A) (a : A) → slice_get (l ++ a ∷ []) (length l) ≡ Some a
+  at_last [] a = refl
+  at_last (x ∷ xs) a = at_last xs a
+
+  -- the last place of a list that grew by one
+  pub at_end : (l : List A) (a b : A) (j : ℕ) → slice_get (l ++ a ∷ []) j ≡ Some b
+      → ((j < length l) × (slice_get l j ≡ Some b)) ⊎ ((j ≡ length l) × (a ≡ b))
+  at_end [] a b zero e = inr (refl, some_injective a b e)
+  at_end [] a b (suc j) e = absurd (some_ne_none b (sym e))
+  at_end (x ∷ xs) a b zero e = inl (omega arith, e)
+  at_end (x ∷ xs) a b (suc j) e =
+      ⊎_elim (λ t. let h = t.0 in inl (omega arith, t.1)) (λ t. inr (ap suc t.0, t.1)) (at_end xs a b j e)
+
+  -- a list with one element changed
+  pub at_revised : (l : List A) (i j : ℕ) (f : A → A) (b : A) → slice_get (revised l i f) j ≡ Some b
+      → ((j ≡ i) × ((a : A) × (slice_get l i ≡ Some a) × (f a ≡ b))) ⊎ ((j ≢ i) × (slice_get l j ≡ Some b))
+  at_revised [] i j f b e = absurd (some_ne_none b (sym e))
+  at_revised (x ∷ xs) zero zero f b e = inl (refl, (x, refl, some_injective (f x) b e))
+  at_revised (x ∷ xs) zero (suc j) f b e = inr ((λ h. omega arith), e)
+  at_revised (x ∷ xs) (suc i) zero f b e = inr ((λ h. omega arith), e)
+  at_revised (x ∷ xs) (suc i) (suc j) f b e =
+      ⊎_elim (λ t. inl (ap suc t.0, t.1)) (λ t. let n = t.0 in inr ((λ h. n (omega arith)), t.1))
+      (at_revised xs i j f b e)
+
+  pub length-revised : (l : List A) (i : ℕ) (f : A → A) → length (revised l i f) ≡ length l
+  length-revised [] i f = refl
+  length-revised (x ∷ xs) zero f = refl
+  length-revised (x ∷ xs) (suc i) f = ap suc (length-revised xs i f)
+
+-- what holds of each element of a list, and of one that f changes
+pub each_revised : {A : Type 0} (P Q : ℕ → A → Type 0) (l : List A) (i : ℕ) (f : A → A)
+    → ((j : ℕ) (a : A) → slice_get l j ≡ Some a → P j a) → ((a : A) → slice_get l i ≡ Some a → P i a → Q i (f a))
+    → ((j : ℕ) (a : A) → j ≢ i → slice_get l j ≡ Some a → P j a → Q j a) → (j : ℕ) (b : A)
+    → slice_get (revised l i f) j ≡ Some b → Q j b
+each_revised {A} P Q l i f all here others j b at = ⊎_elim
+    (λ (t : (j ≡ i) × ((a : A) × (slice_get l i ≡ Some a) × (f a ≡ b))). subst (λ (x : ℕ × A). Q x.0 x.1)
+    (λ k. (sym t.0 k, t.1.2 k)) (here t.1.0 t.1.1 (all i t.1.0 t.1.1)))
+    (λ (t : (j ≢ i) × (slice_get l j ≡ Some b)). others j b t.0 t.1 (all j b t.1))
+    (at_revised l i j f b at)
+
+pub in_range : {A : Type 0} (l : List A) (i : ℕ) (a : A) → slice_get l i ≡ Some a → i < length l
+in_range [] i a e = absurd (some_ne_none a (sym e))
+in_range (x ∷ xs) zero a e = omega arith
+in_range (x ∷ xs) (suc i) a e = let h = in_range xs i a e in omega arith
+
+-- the same for elements that are numbered from 1
+pub each_renewed : {A : Type 0} (P Q : ℕ → A → Type 0) (l : List A) (i : ℕ) (f : A → A)
+    → ((j : ℕ) (a : A) → numbered l j ≡ Some a → P j a) → ((a : A) → numbered l i ≡ Some a → P i a → Q i (f a))
+    → ((j : ℕ) (a : A) → j ≢ i → numbered l j ≡ Some a → P j a → Q j a) → (j : ℕ) (b : A)
+    → numbered (renewed l i f) j ≡ Some b → Q j b
+each_renewed P Q l i f all here others zero b at = absurd (some_ne_none b (sym at))
+each_renewed P Q l zero f all here others (suc j) b at = others (suc j) b (λ h. omega arith) at (all (suc j) b at)
+each_renewed P Q l (suc i) f all here others (suc j) b at =
+    each_revised (λ n. P (suc n)) (λ n. Q (suc n)) l i f (λ n a. all (suc n) a) here
+    (λ n a apart. others (suc n) a (λ h. apart (omega arith))) j b at
+
+pub length-renewed : {A : Type 0} (l : List A) (i : ℕ) (f : A → A) → length (renewed l i f) ≡ length l
+length-renewed l zero f = refl
+length-renewed l (suc i) f = length-revised l i f
+
+pub length-copies : {A : Type 0} (count : ℕ) (x : A) → length (copies count x) ≡ count
+length-copies zero x = refl
+length-copies (suc count) x = ap suc (length-copies count x)
+
+pub at_copies : {A : Type 0} (count place : ℕ) (x y : A) → slice_get (copies count x) place ≡ Some y → x ≡ y
+at_copies zero place x y e = absurd (some_ne_none y (sym e))
+at_copies (suc count) zero x y e = some_injective x y e
+at_copies (suc count) (suc place) x y e = at_copies count place x y e
+
+pub numbered_copies : {A : Type 0} (count number : ℕ) (x y : A) → numbered (copies count x) number ≡ Some y → x ≡ y
+numbered_copies count zero x y e = absurd (some_ne_none y (sym e))
+numbered_copies count (suc place) x y e = at_copies count place x y e
+
+-- a filter keeps of the first elements no more than of all
+pub filter_take : {A : Type 0} (test : A → Bool) (n : ℕ) (l : List A)
+    → length (filter test (take n l)) ≤ length (filter test l)
+filter_take test zero l = zero-le
+filter_take test (suc n) [] = zero-le
+filter_take {A} test (suc n) (x ∷ xs) = go (filter_take test n xs) (test x) refl
+  where
+    go : length (filter test (take n xs)) ≤ length (filter test xs) → (b : Bool) → test x ≡ b
+        → length (filter test (take (suc n) (x ∷ xs))) ≤ length (filter test (x ∷ xs))
+    go h true e = rw e (omega arith)
+    go h false e = rw e h
+
+pub named_push : (clients : ℕ) (log : List CommitRecord) (commit : CommitRecord) → IsOfClients clients log
+    → (1 ≤ commit.client) × (commit.client ≤ clients) → IsOfClients clients (log ++ commit ∷ [])
+named_push clients log commit of is = record {
+  named = λ number c at. ⊎_elim
+      (λ (t : (number < length log) × (slice_get log number ≡ Some c)). of.named number c t.1)
+      (λ (t : (number ≡ length log) × (commit ≡ c)). subst
+      (λ (x : CommitRecord). (1 ≤ x.client) × (x.client ≤ clients)) t.1 is)
+      (at_end log commit c number at);
+}
+
+-- a commit of this client is one more of its own, and one of another changes nothing
+pub own_push : (client : ℕ) (log : List CommitRecord) (commit : CommitRecord) → commit.client ≡ client
+    → commits_of client (log ++ commit ∷ []) ≡ commits_of client log ++ commit ∷ []
+own_push client log commit e =
+    filter-append (λ (c : CommitRecord). c.client == client) log (commit ∷ [])
+    ∙ ap (λ l. commits_of client log ++ l) (kept (commit.client == client) (grind (arith, nat_tests)))
+  where
+    kept : (b : Bool) → b ≡ true → commits_of client (commit ∷ []) ≡ commit ∷ []
+    kept b e' = let same : (commit.client == client) ≡ true = grind (arith, nat_tests) in rw same refl
+
+pub others_push : (client : ℕ) (log : List CommitRecord) (commit : CommitRecord) → commit.client ≢ client
+    → commits_of client (log ++ commit ∷ []) ≡ commits_of client log
+others_push client log commit n = let apart : (commit.client == client) ≡ false = grind (arith, nat_tests) in
+    let none_kept : commits_of client (commit ∷ []) ≡ [] = rw apart refl in
+    filter-append (λ (c : CommitRecord). c.client == client) log (commit ∷ [])
+    ∙ (ap (λ l. commits_of client log ++ l) none_kept ∙ append-nil (commits_of client log))

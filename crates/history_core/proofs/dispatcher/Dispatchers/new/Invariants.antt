@@ -1,0 +1,5 @@
+use Rattle.history_core.specs.Fresh.{OpeningDispatchers}
+use Rattle.history_core.proofs.dispatcher.Dispatchers.new.Given as goal
+
+abbrev pub invariant-loop : goal.invariant-loop
+invariant-loop l = OpeningDispatchers l.counter l.list.items

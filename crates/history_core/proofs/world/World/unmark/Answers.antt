@@ -1,0 +1,24 @@
+use Rattle.std.proofs.Common.{None, ap, sym, subst, ◌∙◌, length}
+use Rattle.std.specs.Prelude.{map}
+use Rattle.history_core.specs.View.{world_in, dispatcher_in, DispatchersFit}
+use Rattle.history_core.specs.World.{World, with_dispatcher, unmarked}
+use Rattle.history_core.proofs.Views.{dispatchers_kept, dispatcher_unmarked}
+use Rattle.history_core.proofs.world.World.unmark.Goals as goal
+
+pub invariant_of-self : goal.invariant_of-self
+invariant_of-self c = record {
+  base = c.self.invariant.base;
+  clients = c.self.invariant.clients;
+  dispatchers =
+      subst (DispatchersFit (length c.self.inside.store.log)) (sym c.unmark.ensures)
+      (dispatchers_kept _ c.self.inside.dispatchers _
+      (λ x. record x { mark = None; version = None }) c.self.invariant.dispatchers (λ x h. (h.0, tt, tt)));
+}
+
+pub returns : goal.returns
+returns c =
+    let w : World = world_in c.self.inside in
+    ap (λ l. record w { dispatchers = l })
+    (ap (map (dispatcher_in c.self.inside.store.log)) (c.unmark.ensures)
+    ∙ dispatcher_unmarked c.self.inside.store.log c.self.inside.dispatchers c.args.number)
+    ∙ ap (λ (w : World). with_dispatcher w c.args.number unmarked) c.self.view_is

@@ -1,0 +1,12 @@
+pub mod Events
+pub mod Numbered
+pub mod World
+pub mod OwnCommits
+pub mod TrueRun
+pub mod Runs
+pub mod MailboxView
+pub mod Fresh
+pub mod Mailboxes
+pub mod Applying
+pub mod View
+pub mod Kept
