@@ -1,27 +1,23 @@
 -- What the last state of the table says of its slots, where one seat took in all others.
-use Rattle.std.proofs.Common.{◌≡◌, ◌≢◌, ◌⊎◌, ℕ, zero, suc, ◌+◌, ◌-◌, ◌<◌, ◌≤◌, Bool, true, false, List, [], ◌∷◌, ◌++◌, map, length, Option, Some, None, refl, ap, sym, subst, ◌∙◌, ⊎_elim, arith, append_assoc, set, slice_index_or, get_or-set_same, get_or-set_other}
+use Rattle.std.proofs.Common.{◌≡◌, ◌≢◌, ℕ, ◌+◌, ◌-◌, ◌<◌, ◌≤◌, Bool, true, false, List, length, Option, Some, None, refl, ap, sym, ◌∙◌, ⊎_elim, arith, set, slice_index_or, get_or-set_same, get_or-set_other}
 use Rattle.std.proofs.lemmas.Bool.Decides.{nat_tests}
-use Rattle.std.proofs.lemmas.List.{map-append}
-use Rattle.std.specs.Prelude.{nat_lt, if◌then◌else◌}
-use mathlib.Core.Option.{some, some-injective, some-ne-none}
+use Rattle.std.specs.Prelude.{nat_lt}
+use mathlib.Core.Option.{some}
 use mathlib.Core.Logic.{dite}
 use native.Mathlib.Decide.{ℕ_discrete}
 use lib.ListN.{get_elem?}
 use Rattle.atomic_table.specs.Table.{State, Final, Seen}
 use Rattle.ssb_schema.specs.Base.{Tables}
-use Rattle.row_store.specs.History.{CommitRecord, IsPrefix, Warehouse}
-use Rattle.row_store.specs.Legal.{IsLegal}
-use Rattle.history_core.specs.declared.event.Who.{Who}
+use Rattle.row_store.specs.History.{CommitRecord}
 use Rattle.history_core.specs.declared.event.Who.TheVariants.{Client, Dispatcher}
 use Rattle.history.specs.declared.view.Terms.{Terms}
 use Rattle.history.specs.declared.view.Member.{Member}
 use Rattle.history.specs.declared.view.Role.TheVariants.{Token as Seat}
 use Rattle.history.specs.declared.view.View.{View}
 use Rattle.history.specs.Words.{store}
-use Rattle.history_core.specs.OwnCommits.{IsOfClients}
-use Rattle.history.specs.World.{World, Mailbox, empty, who_at, Kept, MemberKept}
-use Rattle.history.specs.Rule.{Slot, Homes, rows, request_of, TokenKnows, Handed, Shows, ShowsWorld}
-use Rattle.history.specs.Seats.{members_of, AreAll, HasRun, IsClosed}
+use Rattle.history.specs.World.{World, Mailbox, empty, who_at, Kept}
+use Rattle.history.specs.Rule.{Slot, Homes, rows, request_of, TokenKnows, Shows, ShowsWorld}
+use Rattle.history.specs.Seats.{members_of, AreAll, IsClosed}
 use Rattle.history.proofs.Histories.{at_end, in_range}
 use Rattle.history.proofs.Worlds.{kept_after}
 use Rattle.history.proofs.Deeds.{did_all}

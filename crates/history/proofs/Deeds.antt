@@ -1,14 +1,13 @@
 -- What each member did is what the events say.
-use Rattle.std.proofs.Common.{◌≡◌, ◌≢◌, ◌⊎◌, ℕ, ◌+◌, ◌==◌, Bool, true, false, List, [], ◌∷◌, ◌++◌, Option, Some, None, refl, ap, sym, subst, ◌∙◌, ⊎_elim, arith, length, length-append}
+use Rattle.std.proofs.Common.{◌≡◌, ◌≢◌, ℕ, ◌+◌, ◌==◌, true, false, List, [], ◌∷◌, ◌++◌, Some, None, refl, ap, sym, ◌∙◌, ⊎_elim, arith, length, length-append}
 use Rattle.std.proofs.lemmas.Bool.Decides.{nat_tests}
-use Rattle.std.specs.Prelude.{if◌then◌else◌}
 use mathlib.Core.Option.{some}
 use lib.ListN.{get_elem?}
 use Rattle.history.specs.declared.event.Event.TheVariants as named
 use Rattle.history_core.specs.declared.event.Reply.TheVariants as told
 use Rattle.history.specs.declared.view.Terms.{Terms}
 use Rattle.history.specs.declared.view.Member.{Member}
-use Rattle.history.specs.World.{World, Event, take_rows, put_rows, look, post, grab, take_writer, put_writer, answer, collect, actor, who_at, number_of, newcomer, newcomers, revised, takes_rows, marks, commits, sees, posts, grabs, takes_writer, puts_writer, answer_named, answers, collects, effect, IsAfter, name_of, deeds, deed_of, reply_of, commits_by, commits_in, told_by}
+use Rattle.history.specs.World.{World, Event, take_rows, put_rows, look, post, grab, take_writer, put_writer, answer, collect, actor, who_at, number_of, revised, takes_rows, marks, commits, sees, posts, grabs, takes_writer, puts_writer, answer_named, answers, collects, effect, IsAfter, deeds, deed_of, commits_by, commits_in, told_by}
 use Rattle.history.proofs.Histories.{at_revised}
 use Rattle.history.proofs.Worlds.{at_newcomers, kept_after}
 

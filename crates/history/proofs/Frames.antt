@@ -1,11 +1,11 @@
 -- What a step leaves true of the rest of the table.
-use Rattle.std.proofs.Common.{◌≡◌, ◌≢◌, ◌⊎◌, ℕ, zero, suc, ◌+◌, ◌*◌, ◌<◌, ◌≤◌, Bool, true, false, List, [], ◌∷◌, ◌++◌, length, set, get_or, Option, Some, None, refl, ap, sym, subst, ◌∙◌, ⊎_elim, arith, get_or-set_other}
+use Rattle.std.proofs.Common.{◌≡◌, ◌≢◌, ℕ, ◌+◌, ◌*◌, ◌<◌, ◌≤◌, Bool, true, false, List, [], ◌∷◌, length, set, Some, refl, ap, sym, subst, ◌∙◌, ⊎_elim, arith, get_or-set_other}
 use Rattle.std.specs.Prelude.{slice_index, slice_index_or, All}
 use Rattle.std.proofs.lemmas.List.Elements.{All-nil, All-cons}
 use mathlib.Core.Option.{none, some, some-injective, some-ne-none}
 use mathlib.Core.Option as maybe
 use lib.ListN.{get_elem?}
-use Rattle.atomic_table.specs.Table.{State, Me}
+use Rattle.atomic_table.specs.Table.{State}
 use Rattle.atomic_table.proofs.Lists.{at_set, set_else}
 use Rattle.ssb_schema.specs.Base.{Tables}
 use Rattle.row_store.specs.History.{CommitRecord, IsPrefix}
@@ -13,13 +13,12 @@ use Rattle.row_store.specs.Legal.{IsLegal}
 use Rattle.history.specs.declared.view.Terms.{Terms}
 use Rattle.history.specs.declared.view.Member.{Member}
 use Rattle.history.specs.declared.request.Request.{Request}
-use Rattle.history.specs.declared.view.Held.{Held}
 use Rattle.history.specs.declared.view.Role.{Role}
 use Rattle.history.specs.declared.view.Role.TheVariants.{Dealer, Token, Note, Spent}
 use Rattle.history.specs.declared.view.View.{View}
 use Rattle.history_core.specs.OwnCommits.{IsOfClients}
 use Rattle.history.specs.World.{World, Mailbox, empty, asked, in_hand, answered, revised, Kept}
-use Rattle.history.specs.Rule.{Slot, Homes, out, rows, RowsShown, WriterShown, stage, LiesIn, MailShown, IsVacant, request_of, Common, Handed, TokenKnows, DealerKnows, KnowsAs, Knows, IsOurs, Shows}
+use Rattle.history.specs.Rule.{Slot, Homes, out, rows, RowsShown, WriterShown, MailShown, IsVacant, request_of, Common, Handed, TokenKnows, KnowsAs, Knows, Shows}
 use Rattle.history.specs.Plays.{Learns}
 use Rattle.history.proofs.Histories.{prefix_self, prefix_trans, revised_else}
 

@@ -1,27 +1,22 @@
 -- Passes that are handed in one by one, the last first.
-use Rattle.std.proofs.Common.{◌≡◌, ◌≢◌, ◌⊎◌, ℕ, zero, suc, ◌+◌, ◌-◌, ◌<◌, ◌≤◌, ◌==◌, Bool, true, false, List, [], ◌∷◌, ◌++◌, map, length, Option, Some, None, refl, ap, sym, subst, ◌∙◌, inl, inr, ⊎_elim, arith, append_assoc, length-append}
+use Rattle.std.proofs.Common.{◌≡◌, ℕ, zero, suc, ◌+◌, ◌-◌, ◌<◌, ◌≤◌, ◌==◌, Bool, true, false, List, [], ◌∷◌, ◌++◌, map, length, refl, ap, sym, subst, ◌∙◌, arith, append_assoc}
 use Rattle.std.proofs.lemmas.Bool.Decides.{nat_tests}
 use Rattle.std.proofs.lemmas.List.{map-append}
 use Rattle.std.proofs.lemmas.List.Sums.{length-filter}
-use Rattle.std.specs.Prelude.{nat_lt, if◌then◌else◌, filter, count_by, All}
+use Rattle.std.specs.Prelude.{nat_lt, filter, count_by, All}
 use mathlib.Core.Option.{some, some-injective, some-ne-none}
 use lib.ListN.{get_elem?}
-use Rattle.row_store.specs.History.{CommitRecord, IsPrefix, Warehouse}
-use Rattle.row_store.specs.Legal.{IsLegal}
-use Rattle.history_core.specs.declared.event.Who.{Who}
+use Rattle.row_store.specs.History.{IsPrefix, Warehouse}
 use Rattle.history_core.specs.declared.event.Who.TheVariants.{Client, Dispatcher}
-use Rattle.history_core.specs.OwnCommits.{IsOfClients}
-use Rattle.history.specs.declared.view.Terms.{Terms}
 use Rattle.history.specs.declared.view.Member.{Member}
 use Rattle.history.specs.declared.view.View.{View}
 use Rattle.history.specs.Words.{Owns}
 use Rattle.history.specs.World.{who_at, number_of}
 use Rattle.history.specs.Plays.{gathers}
 use Rattle.history.specs.Seats.{members_of, AreAll, IsClosed}
-use Rattle.history.specs.Link.{HasTrueRun}
-use Rattle.history.specs.Tokens.{Hall, Token, IsClient, IsDispatcher}
-use Rattle.history.specs.Closing.{AreNumbered, IsAtRest, AreAllClients, AreAllDispatchers, terms_in, member_of, members_in, IsLogOf}
-use Rattle.history.proofs.Histories.{all_of, each_of, in_range}
+use Rattle.history.specs.Tokens.{Hall, Token}
+use Rattle.history.specs.Closing.{IsClientOf, IsDispatcherOf, AreClients, AreDispatchers, terms_in, member_of, members_in, IsLogOf}
+use Rattle.history.proofs.Histories.{all_of, each_of}
 use Rattle.history.proofs.Worlds.{who_client}
 use Rattle.history.proofs.Link.{has_true_run}
 
@@ -46,11 +41,11 @@ module _ {A : Type 0} where
   -- where a test passes once, some element passes it
   passes : (test : A → Bool) (xs : List A) → 1 ≤ length (filter test xs) → (k : ℕ) × (x : A) × (get_elem? xs k ≡ some x) × (test x ≡ true)
   passes test [] h = absurd (omega arith)
-  passes test (x ∷ xs) h = go (test x) refl
+  passes test (x ∷ xs) h = go (passes test xs) (test x) refl
     where
-      go : (b : Bool) → test x ≡ b → (k : ℕ) × (y : A) × (get_elem? (x ∷ xs) k ≡ some y) × (test y ≡ true)
-      go true e = (0, x, refl, e)
-      go false e = let skip : filter test (x ∷ xs) ≡ filter test xs = rw e refl in let r = passes test xs (subst (λ l. 1 ≤ length l) skip h) in (suc r.0, r.1, r.2, r.3)
+      go : (1 ≤ length (filter test xs) → (k : ℕ) × (y : A) × (get_elem? xs k ≡ some y) × (test y ≡ true)) → (b : Bool) → test x ≡ b → (k : ℕ) × (y : A) × (get_elem? (x ∷ xs) k ≡ some y) × (test y ≡ true)
+      go rest true e = (0, x, refl, e)
+      go rest false e = let skip : filter test (x ∷ xs) ≡ filter test xs = rw e refl in let r = rest (subst (λ l. 1 ≤ length l) skip h) in (suc r.0, r.1, r.2, r.3)
 
   pub counted_once : (test : A → Bool) (xs : List A) → count_by test xs ≡ 1 → (k : ℕ) × (x : A) × (get_elem? xs k ≡ some x) × (test x ≡ true)
   counted_once test xs once = let n = length-filter test xs in passes test xs (omega (arith, n, once))
@@ -69,22 +64,18 @@ pub handed_more : (rest : List Token) (t : Token) (v o : View) → o.member ≡ 
 handed_more rest t v o member = ap (λ ms. ms ++ members_of v) (map-append member_of rest (t ∷ []))
     ∙ (append_assoc (members_in rest) (member_of t ∷ []) (members_of v) ∙ ap (λ m. members_in rest ++ m ∷ members_of v) (sym member))
 
--- the pass that was popped is at rest, and so are those that are left
-pub last_rests : (hall : Hall) (all left : List Token) (t : Token) → All (IsAtRest hall) all → all ≡ left ++ t ∷ [] → IsAtRest hall t
-last_rests hall all left t rest e = each_of (IsAtRest hall) (left ++ t ∷ []) (subst (All (IsAtRest hall)) e rest) (length left) t (at_back left t)
+-- what holds of all holds of the last, and of those before it
+pub last_has : (P : Token → Type 0) (all left : List Token) (t : Token) → All P all → all ≡ left ++ t ∷ [] → P t
+last_has P all left t rest e = each_of P (left ++ t ∷ []) (subst (All P) e rest) (length left) t (at_back left t)
 
-pub left_rest : (hall : Hall) (all left : List Token) (t : Token) → All (IsAtRest hall) all → all ≡ left ++ t ∷ [] → All (IsAtRest hall) left
-left_rest hall all left t rest e = all_of (IsAtRest hall) left (λ k u at. each_of (IsAtRest hall) (left ++ t ∷ []) (subst (All (IsAtRest hall)) e rest) k u (at_front left (t ∷ []) k u at))
-
--- there is one, where there are to be some
-pub some_there : (count : ℕ) (tokens : List Token) → 1 ≤ count → AreNumbered count tokens → 0 < length tokens
-some_there count tokens some numbered = let found = counted_once (λ (t : Token). number_of t.who == 0 + 1) tokens (numbered 0 (omega (arith, some))) in let within = in_range tokens found.0 found.1 found.2 in omega (arith, within)
+pub left_have : (P : Token → Type 0) (all left : List Token) (t : Token) → All P all → all ≡ left ++ t ∷ [] → All P left
+left_have P all left t rest e = all_of P left (λ k u at. each_of P (left ++ t ∷ []) (subst (All P) e rest) k u (at_front left (t ∷ []) k u at))
 
 is_number : (n m : ℕ) → (n == m) ≡ true → n ≡ m
 is_number n m e = grind (arith, nat_tests)
 
 -- the places of clients and of dispatchers are those of the tokens
-module _ (hall : Hall) (clients dispatchers : List Token) (firsts : AreAllClients hall clients) (seconds : AreAllDispatchers hall dispatchers) where
+module _ (hall : Hall) (clients dispatchers : List Token) (firsts : AreClients hall clients) (seconds : AreDispatchers hall dispatchers) where
   pub all_there : AreAll (terms_in hall) (members_in clients ++ members_in dispatchers)
   all_there place within = go (nat_lt place hall.clients) refl
     where
@@ -92,13 +83,13 @@ module _ (hall : Hall) (clients dispatchers : List Token) (firsts : AreAllClient
       Goal = (k : ℕ) × (m : Member) × (get_elem? (members_in clients ++ members_in dispatchers) k ≡ some m) × (m.who ≡ who_at hall.clients place)
 
       go : (b : Bool) → nat_lt place hall.clients ≡ b → Goal
-      go true low = let near : place < hall.clients = grind (arith, nat_tests) in let found = counted_once (λ (t : Token). number_of t.who == place + 1) clients (firsts.numbered place near) in
-          let t : Token = found.1 in let is = each_of IsClient clients firsts.clients found.0 t found.2 in
+      go true low = let near : place < hall.clients = grind (arith, nat_tests) in let found = counted_once (λ (t : Token). number_of t.who == place + 1) clients (firsts.numbered.each place near) in
+          let t : Token = found.1 in let is = (each_of (IsClientOf hall) clients firsts.left found.0 t found.2).client in
           let number : number_of t.who ≡ place + 1 = is_number (number_of t.who) (place + 1) found.3 in
           (found.0, member_of t, at_front (members_in clients) (members_in dispatchers) found.0 (member_of t) (at_map member_of clients found.0 t found.2),
             is.1 ∙ (ap (λ n. Client n) (sym (ap number_of is.1) ∙ number) ∙ sym (who_client hall.clients place near)))
-      go false high = let far : hall.clients ≤ place = grind (arith, nat_tests) in let found = counted_once (λ (t : Token). number_of t.who == (place - hall.clients) + 1) dispatchers (seconds.numbered (place - hall.clients) (omega (arith, far, within))) in
-          let t : Token = found.1 in let is = each_of IsDispatcher dispatchers seconds.dispatchers found.0 t found.2 in
+      go false high = let far : hall.clients ≤ place = grind (arith, nat_tests) in let found = counted_once (λ (t : Token). number_of t.who == (place - hall.clients) + 1) dispatchers (seconds.numbered.each (place - hall.clients) (omega (arith, far, within))) in
+          let t : Token = found.1 in let is = (each_of (IsDispatcherOf hall) dispatchers seconds.left found.0 t found.2).dispatcher in
           let number : number_of t.who ≡ (place - hall.clients) + 1 = is_number (number_of t.who) ((place - hall.clients) + 1) found.3 in
           let name : who_at hall.clients place ≡ Dispatcher ((place - hall.clients) + 1) = rw high refl in
           (length (members_in clients) + found.0, member_of t, at_behind (members_in clients) (members_in dispatchers) found.0 (member_of t) (at_map member_of dispatchers found.0 t found.2),

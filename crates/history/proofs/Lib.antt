@@ -10,4 +10,5 @@ pub mod Deeds
 pub mod Closing
 pub mod Handing
 pub mod Passing
+pub mod Answering
 pub mod Link

@@ -5,7 +5,7 @@ use Rattle.std.proofs.lemmas.List.{append-nil, map-append}
 use Rattle.std.proofs.lemmas.List.Elements.{filter-append}
 use Rattle.std.specs.Prelude.{map, filter, nat_lt, if◌then◌else◌, slice_get}
 use Rattle.std.specs.Option.{option_map}
-use mathlib.Core.Option.{some, some-injective, some-ne-none}
+use mathlib.Core.Option.{some, some-injective}
 use mathlib.Core.Logic.{dite}
 use native.Mathlib.Decide.{ℕ_discrete}
 use lib.ListN.{get_elem?}
@@ -15,13 +15,11 @@ use Rattle.row_store.specs.History.{CommitRecord}
 use Rattle.history_core.specs.declared.event.Reply.{Reply}
 use Rattle.history_core.specs.declared.event.Reply.TheVariants as told
 use Rattle.history_core.specs.Events.{Event as Act}
-use Rattle.history_core.specs.Events as act
 use Rattle.history_core.specs.Numbered.{copies, numbered, renewed, is_there}
 use Rattle.history_core.specs.Numbered as list
 use Rattle.history_core.specs.World.{World as Machine, Mailbox as Box, ClientState, DispatcherState}
 use Rattle.history_core.specs.World as core
 use Rattle.history_core.specs.TrueRun.{IsTrueRun}
-use Rattle.history_core.specs.Runs.{HasRun as Ran}
 use Rattle.history_core.proofs.Moves as moves
 use Rattle.history_core.proofs.Histories as lists
 use Rattle.history_core.specs.declared.event.Who.{Who}
@@ -31,11 +29,11 @@ use Rattle.history.specs.declared.request.Request.{Request}
 use Rattle.history.specs.declared.view.Member.{Member}
 use Rattle.history_core.specs.World.{rows_after}
 use Rattle.history.specs.Words.{given_to}
-use Rattle.history.specs.World.{World, Mailbox, empty, asked, in_hand, answered, Event, take_rows, put_rows, look, post, grab, take_writer, put_writer, answer, collect, who_at, number_of, newcomer, newcomers, empties, opening_world, revised, takes_rows, mark_after, marks, commits, sees, posts, grabs, takes_writer, puts_writer, answers, collects, effect, Enabled, IsAfter, Kept, actor, name_of, deeds, deed_of, reply_of, commits_by, commits_in}
-use Rattle.history.specs.Link.{Done, paired, core_deed, core_replies, core_event, core_events, number_at, core_box, core_client, core_given, core_dispatcher, core_world, AreClients, AreDispatchers, Same, core_opening, IsCoreRun, EveryRunIsTheCores, core_of, actor_of, done_by, TellsOf, HasTrueRun}
+use Rattle.history.specs.World.{World, Mailbox, empty, asked, in_hand, answered, Event, take_rows, put_rows, look, post, grab, take_writer, put_writer, answer, collect, who_at, number_of, newcomers, opening_world, revised, takes_rows, mark_after, marks, commits, sees, posts, grabs, takes_writer, puts_writer, answers, collects, effect, Enabled, IsAfter, Kept, actor, deeds, deed_of, reply_of, commits_in}
+use Rattle.history.specs.Link.{Done, paired, core_deed, core_replies, core_event, core_events, number_at, core_box, core_client, core_given, core_dispatcher, core_world, AreClients, AreDispatchers, Same, core_opening, EveryRunIsTheCores, actor_of, done_by, TellsOf, HasTrueRun}
 use Rattle.history.specs.Seats.{HasRun}
 use Rattle.history.proofs.Histories.{at_revised, length-revised, in_range, there}
-use Rattle.history.proofs.Worlds.{who_client, at_newcomers, length-newcomers, at_empties, length-empties, kept_after}
+use Rattle.history.proofs.Worlds.{who_client, who_dispatcher, at_newcomers, length-newcomers, at_empties, length-empties, kept_after}
 use Rattle.history.proofs.Deeds.{deeds_more, deeds_same, count_after}
 
 module _ {A : Type 0} where
@@ -71,9 +69,6 @@ low_or_behind place clients = go (nat_lt place clients) refl
     go : (b : Bool) → nat_lt place clients ≡ b → (place < clients) ⊎ (clients ≤ place)
     go true e = inl (grind (arith, nat_tests))
     go false e = inr (grind (arith, nat_tests))
-
-who_dispatcher : (clients place : ℕ) → clients ≤ place → who_at clients place ≡ Dispatcher ((place - clients) + 1)
-who_dispatcher clients place h = let far : nat_lt place clients ≡ false = grind (arith, nat_tests) in rw far refl
 
 module _ (key : Terms) (place : ℕ) where
   number_low : place < key.clients → number_at key place ≡ place + 1

@@ -1,5 +1,5 @@
 -- Each step on a mailbox is an event of the world that the table shows, or leaves that world.
-use Rattle.std.proofs.Common.{◌≡◌, ◌≢◌, ◌⊎◌, ℕ, zero, suc, eqb, eq-eqb, ne_eqb, take, ◌+◌, ◌*◌, ◌<◌, ◌≤◌, ◌==◌, Bool, true, false, List, [], ◌∷◌, ◌++◌, length, set, get_or, Option, Some, None, refl, ap, sym, subst, ◌∙◌, inl, inr, ⊎_elim, arith, length-set, get_or-set_same, get_or-set_other}
+use Rattle.std.proofs.Common.{◌≡◌, ◌≢◌, ◌⊎◌, ℕ, zero, suc, eqb, eq-eqb, ne_eqb, take, ◌+◌, ◌<◌, ◌≤◌, ◌==◌, true, false, List, [], ◌∷◌, length, set, Some, None, refl, ap, sym, subst, ◌∙◌, inl, inr, ⊎_elim, arith, length-set, get_or-set_same, get_or-set_other}
 use Rattle.std.proofs.lemmas.List.{take-append-le}
 use Rattle.std.specs.Prelude.{slice_index}
 use lib.Seq.{set-get_or}
@@ -27,12 +27,12 @@ use Rattle.history_core.specs.World.{rows_after}
 use Rattle.history.specs.Words.{given_to, IsFresh, IsRight, IsRightAt}
 use Rattle.history.specs.World.{World, Mailbox, empty, asked, in_hand, answered, Event, post, grab, answer, collect, revised, grabs, answers, collects, effect, IsAbove, Kept}
 use Rattle.history.specs.World as world
-use Rattle.history.specs.Rule.{Slot, Homes, RowsShown, stage, LiesIn, MailShown, IsVacant, request_of, TokenKnows, KnowsAs, Knows, Shows, ShowsWorld, IsElsewhere}
+use Rattle.history.specs.Rule.{Slot, Homes, stage, LiesIn, MailShown, request_of, TokenKnows, KnowsAs, Knows, Shows, ShowsWorld, IsElsewhere}
 use Rattle.history.specs.Plays.{opened, OpensBox, posted, Posts, held, request_at, without_at, grabbed, Grabs, served_as, Answers, collected, Collects}
-use Rattle.history.proofs.Histories.{prefix_self, at_end, at_revised, each_revised, revised_here, revised_else, there, length-revised, all_of, each_of}
+use Rattle.history.proofs.Histories.{prefix_self, at_revised, each_revised, revised_here, revised_else, there, length-revised, all_of, each_of}
 use Rattle.history.proofs.Hands.{request_there, was_there, others_elsewhere, apart_without}
 use Rattle.history.proofs.Worlds.{kept_after}
-use Rattle.history.proofs.Frames.{mail_stays, Grows, same_grows, handed_grows, more_beside, rows_beside, writer_beside, writer_stays, token_step, token_knows}
+use Rattle.history.proofs.Frames.{mail_stays, Grows, handed_grows, more_beside, rows_beside, writer_beside, writer_stays, token_step, token_knows}
 use Rattle.history.proofs.RowSteps.{unmoved}
 
 pub only_empty : (box : Mailbox) → request_of box ≡ None → box ≡ empty

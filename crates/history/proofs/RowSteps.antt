@@ -1,5 +1,5 @@
 -- Each step on the rows is an event of the world that the table shows, or leaves that world.
-use Rattle.std.proofs.Common.{◌≡◌, ◌≢◌, ◌⊎◌, ℕ, zero, suc, ◌+◌, ◌-◌, ◌*◌, ◌/◌, ◌%◌, ◌^◌, ◌<◌, ◌≤◌, Bool, true, false, List, [], ◌∷◌, ◌++◌, length, drop, set, get_or, Option, Some, None, refl, ap, sym, subst, ◌∙◌, ⊎_elim, arith, length-set, length-append, get_or-set_same}
+use Rattle.std.proofs.Common.{◌≡◌, ℕ, ◌+◌, ◌-◌, ◌*◌, ◌/◌, ◌%◌, ◌^◌, ◌<◌, ◌≤◌, true, false, List, [], ◌∷◌, ◌++◌, length, drop, set, Option, Some, None, refl, ap, sym, subst, ◌∙◌, arith, length-set, length-append, get_or-set_same}
 use Rattle.std.proofs.lemmas.List.{append-nil}
 use Rattle.std.proofs.Math.Seq.{drop-append_seam}
 use Rattle.std.specs.Prelude.{slice_index, bit_or}
@@ -11,14 +11,13 @@ use lib.ListN.{get_elem?}
 use Rattle.atomic_table.specs.Table.{State, Me, step, Act, keeps, takes, gives, stepped, Valid, carried_after, Allows}
 use Rattle.atomic_table.proofs.Lists.{set_here, set_else, set_again}
 use Rattle.ssb_schema.specs.Base.{Tables}
-use Rattle.row_store.specs.History.{CommitRecord, IsPrefix}
+use Rattle.row_store.specs.History.{CommitRecord}
 use Rattle.history.specs.declared.view.Terms.{Terms}
-use Rattle.history.specs.declared.view.Member.{Member}
 use Rattle.history.specs.declared.view.Role.TheVariants.{Token}
 use Rattle.history.specs.declared.view.View.{View}
 use Rattle.history.specs.Words.{IsAccepted}
-use Rattle.history.specs.World.{World, Event, take_rows, put_rows, look, takes_rows, marks, commits, sees, effect, Can, Kept}
-use Rattle.history.specs.Rule.{Slot, Homes, rows, out, RowsShown, IsVacant, TokenKnows, KnowsAs, Knows, Shows, ShowsWorld}
+use Rattle.history.specs.World.{World, take_rows, put_rows, look, takes_rows, marks, commits, sees, effect, Can, Kept}
+use Rattle.history.specs.Rule.{Slot, Homes, rows, out, RowsShown, TokenKnows, KnowsAs, Shows, ShowsWorld}
 use Rattle.history.specs.Plays.{with_rows, looked, gave_log, put_by, gave_back, log_carried, TriesRows, PutsRows, Looks}
 use Rattle.history.proofs.Histories.{prefix_self, prefix_one, revised_here, accepted_short}
 use Rattle.history.proofs.Worlds.{kept_after}

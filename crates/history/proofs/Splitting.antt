@@ -1,9 +1,8 @@
 -- Cutting a view in two and joining two views leave the world that the table shows.
-use Rattle.std.proofs.Common.{◌≡◌, ◌≢◌, ◌⊎◌, ℕ, zero, suc, ◌+◌, ◌<◌, ◌≤◌, ◌==◌, Bool, true, false, List, [], ◌∷◌, ◌++◌, map, replicate, length, set, get_or, Option, Some, None, refl, ap, sym, subst, ◌∙◌, inl, inr, ⊎_elim, arith, length-set}
+use Rattle.std.proofs.Common.{◌≡◌, ◌≢◌, ℕ, zero, suc, ◌+◌, ◌<◌, ◌==◌, true, false, List, [], ◌∷◌, ◌++◌, map, replicate, length, set, get_or, Some, None, refl, ap, sym, subst, ◌∙◌, ⊎_elim, arith, length-set}
 use Rattle.std.proofs.lemmas.Bool.Decides.{nat_tests}
 use Rattle.std.specs.Prelude.{slice_index, if◌then◌else◌}
-use mathlib.Core.Option.{none, some, some-injective, some-ne-none}
-use mathlib.Core.Option as maybe
+use mathlib.Core.Option.{some, some-injective, some-ne-none}
 use lib.ListN.{get_elem?, length-map, length-replicate}
 use Rattle.atomic_table.specs.Table.{State, Splits, Joins, opening, rest}
 use Rattle.atomic_table.proofs.Lists.{at_set, set_else}
@@ -11,13 +10,12 @@ use Rattle.ssb_schema.specs.Base.{Tables}
 use Rattle.row_store.specs.History.{CommitRecord, IsPrefix}
 use Rattle.history.specs.declared.view.Terms.{Terms}
 use Rattle.history.specs.declared.view.Member.{Member}
-use Rattle.history.specs.declared.view.Held.{Held}
 use Rattle.history.specs.declared.view.Role.{Role}
 use Rattle.history.specs.declared.view.Role.TheVariants.{Dealer, Token, Note, Spent}
 use Rattle.history.specs.declared.view.View.{View}
 use Rattle.history.specs.declared.view.SlotValue.TheVariants.{Writer}
-use Rattle.history.specs.World.{World, Mailbox, empty, newcomer, opening_world, Kept}
-use Rattle.history.specs.Rule.{Slot, Homes, rows, stage, MailShown, IsVacant, request_of, Common, Handed, TokenKnows, DealerKnows, KnowsAs, Knows, Shows, ShowsWorld, dealer, spent, view_of}
+use Rattle.history.specs.World.{World, empty, newcomer, opening_world}
+use Rattle.history.specs.Rule.{Slot, Homes, rows, MailShown, IsVacant, request_of, Handed, TokenKnows, DealerKnows, KnowsAs, Knows, Shows, ShowsWorld, dealer, spent}
 use Rattle.history.specs.Plays.{further, dealt, token_at, token_by, token_of, note_of, hears, leaves, gathers}
 use Rattle.history.proofs.Histories.{prefix_nil, at_end, in_range}
 use Rattle.history.proofs.Worlds.{kept_after, newcomer_there, empty_there, at_empties, length-empties}

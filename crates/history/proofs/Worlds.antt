@@ -1,22 +1,20 @@
 -- What each event keeps, and so each list of events.
-use Rattle.std.proofs.Common.{◌≡◌, ◌≢◌, ◌⊎◌, ℕ, zero, suc, ◌+◌, ◌-◌, ◌<◌, ◌≤◌, ◌==◌, Bool, true, false, List, [], ◌∷◌, ◌++◌, length, take, Option, Some, None, refl, ap, sym, subst, ◌∙◌, inl, inr, ⊎_elim, arith, length-append}
+use Rattle.std.proofs.Common.{◌≡◌, ◌≢◌, ◌⊎◌, ℕ, zero, suc, ◌+◌, ◌-◌, ◌<◌, ◌≤◌, Bool, true, false, List, [], ◌∷◌, ◌++◌, length, take, Option, Some, None, refl, ap, sym, subst, ◌∙◌, inl, inr, ⊎_elim, arith, length-append}
 use Rattle.std.proofs.lemmas.Bool.Decides.{nat_tests}
 use Rattle.std.proofs.lemmas.List.{take-append-le}
-use Rattle.std.specs.Prelude.{nat_lt, if◌then◌else◌}
+use Rattle.std.specs.Prelude.{nat_lt}
 use mathlib.Core.Option.{some, some-injective, some-ne-none}
 use lib.ListN.{get_elem?}
 use Rattle.ssb_schema.specs.Base.{Tables}
 use Rattle.ssb_queries.specs.declared.answer.Answer.{Answer}
 use Rattle.ssb_queries.specs.declared.answer.Answer.TheVariants.{Rows, Unserved}
 use Rattle.row_store.specs.History.{CommitRecord, IsPrefix}
-use Rattle.row_store.specs.Legal.{IsLegal}
 use Rattle.history_core.specs.declared.event.Who.{Who}
 use Rattle.history_core.specs.declared.event.Who.TheVariants.{Client, Dispatcher}
 use Rattle.history.specs.declared.view.Terms.{Terms}
 use Rattle.history.specs.declared.request.Request.{Request}
 use Rattle.history.specs.declared.view.Member.{Member}
-use Rattle.history.specs.Words.{IsAccepted, Owns, IsRightAt, IsRight}
-use Rattle.history_core.specs.OwnCommits.{IsOfClients, commits_of}
+use Rattle.history.specs.Words.{Owns, IsRightAt, IsRight}
 use Rattle.history_core.specs.World.{rows_after}
 use Rattle.history.specs.World.{World, Mailbox, empty, asked, in_hand, answered, Event, take_rows, put_rows, look, post, grab, take_writer, put_writer, answer, collect, who_at, newcomer, newcomers, empties, opening_world, revised, takes_rows, mark_after, marks, commits, sees, posts, grabs, takes_writer, puts_writer, answers, collects, effect, Enabled, IsAfter, MemberKept, IsAbove, MailKept, Kept}
 use Rattle.history_core.proofs.Histories.{legal_push, named_push, own_push, others_push}
@@ -24,6 +22,9 @@ use Rattle.history.proofs.Histories.{prefix_self, prefix_nil, prefix_push, prefi
 
 pub who_client : (clients place : ℕ) → place < clients → who_at clients place ≡ Client (place + 1)
 who_client clients place h = let low : nat_lt place clients ≡ true = grind (arith, nat_tests) in rw low refl
+
+pub who_dispatcher : (clients place : ℕ) → clients ≤ place → who_at clients place ≡ Dispatcher ((place - clients) + 1)
+who_dispatcher clients place h = let far : nat_lt place clients ≡ false = grind (arith, nat_tests) in rw far refl
 
 -- a client's place is one less than its number
 pub who_back : (clients place client : ℕ) → who_at clients place ≡ Client client → (place < clients) × (client ≡ place + 1)

@@ -1,23 +1,21 @@
 -- Each step on the writer is an event of the world that the table shows, or leaves that world.
-use Rattle.std.proofs.Common.{◌≡◌, ◌≢◌, ◌⊎◌, ℕ, zero, suc, ◌+◌, ◌<◌, ◌≤◌, ◌==◌, eqb, eq-eqb, ne_eqb, Bool, true, false, List, [], ◌∷◌, ◌++◌, length, set, get_or, Option, Some, None, refl, ap, sym, subst, ◌∙◌, arith, length-set, get_or-set_same}
+use Rattle.std.proofs.Common.{◌≡◌, ℕ, ◌+◌, ◌≤◌, ◌==◌, eqb, eq-eqb, ne_eqb, true, false, List, ◌∷◌, set, Option, Some, None, refl, ap, sym, subst, ◌∙◌, arith, length-set, get_or-set_same}
 use Rattle.std.specs.Prelude.{slice_index}
 use prog.Atomic.{either}
 use mathlib.Core.Option.{none, some}
 use mathlib.Core.Option as maybe
 use mathlib.Core.Logic.{dite}
 use native.Mathlib.Decide.{ℕ_discrete}
-use lib.ListN.{get_elem?}
 use Rattle.atomic_table.specs.Table.{State, Me, step, Act, keeps, takes, gives, stepped, Valid, carried_after, Allows}
 use Rattle.atomic_table.proofs.Lists.{set_here, set_else}
 use Rattle.ssb_schema.specs.Base.{Tables}
 use Rattle.row_store.specs.History.{CommitRecord, IsPrefix}
 use Rattle.history.specs.declared.view.Terms.{Terms}
-use Rattle.history.specs.declared.view.Member.{Member}
 use Rattle.history.specs.declared.view.Role.TheVariants.{Token}
 use Rattle.history.specs.declared.view.View.{View}
 use Rattle.history.specs.declared.view.SlotValue.TheVariants.{Writer}
-use Rattle.history.specs.World.{World, Event, take_writer, put_writer, takes_writer, puts_writer, effect, Kept}
-use Rattle.history.specs.Rule.{Slot, Homes, out, RowsShown, WriterShown, IsOurs, TokenKnows, KnowsAs, Knows, Shows, ShowsWorld}
+use Rattle.history.specs.World.{World, take_writer, put_writer, takes_writer, puts_writer, effect}
+use Rattle.history.specs.Rule.{Slot, Homes, out, IsOurs, TokenKnows, KnowsAs, Shows, ShowsWorld}
 use Rattle.history.specs.Plays.{with_writer, without_writer, TriesWriter, PutsWriter}
 use Rattle.history.proofs.Histories.{prefix_self, prefix_trans, revised_here}
 use Rattle.history.proofs.Worlds.{kept_after}

@@ -1,5 +1,5 @@
 -- The table's events as events of the protocol's pure machine.
-use Rattle.std.specs.Prelude.{◌≡◌, ◌≢◌, ℕ, ◌+◌, ◌<◌, ◌≤◌, List, [], ◌∷◌, ◌++◌, map, filter, length, Option, Some, None, slice_get}
+use Rattle.std.specs.Prelude.{◌≡◌, ◌≢◌, ℕ, ◌+◌, ◌<◌, ◌≤◌, List, [], ◌∷◌, ◌++◌, map, filter, length, Some, None, slice_get}
 use Rattle.std.specs.Option.{option_map}
 use mathlib.Core.Option.{some}
 use lib.ListN.{get_elem?}
@@ -7,7 +7,6 @@ use Rattle.ssb_queries.specs.declared.answer.Answer.TheVariants.{Rows, Unserved}
 use Rattle.row_store.specs.History.{CommitRecord}
 use Rattle.history_core.specs.declared.event.Reply.{Reply}
 use Rattle.history_core.specs.declared.event.Reply.TheVariants.{NotEnabled}
-use Rattle.history_core.specs.declared.event.Reply.TheVariants as told
 use Rattle.history_core.specs.Events.{Event as Act}
 use Rattle.history_core.specs.Events as act
 use Rattle.history_core.specs.Numbered.{numbered}
@@ -26,7 +25,7 @@ use Rattle.history.specs.declared.request.Given.{Given}
 use Rattle.history.specs.declared.view.Member.{Member}
 use Rattle.history.specs.declared.event.Deed.{Deed}
 use Rattle.history.specs.Seats.{HasRun}
-use Rattle.history.specs.World.{World, Mailbox, empty, asked, in_hand, answered, Event, take_rows, put_rows, look, post, grab, take_writer, put_writer, answer, collect, IsAfter, who_at, number_of, name_of, reply_of, commits_in}
+use Rattle.history.specs.World.{World, Mailbox, empty, asked, in_hand, answered, Event, IsAfter, who_at, number_of, name_of, reply_of, commits_in}
 
 -- the machine's event of the same name
 abbrev pub core_of : Named → Act

@@ -1,7 +1,5 @@
 -- What each step tells, and how views are cut and joined.
-use Rattle.std.specs.Prelude.{◌≡◌, ◌≢◌, ℕ, zero, suc, ◌+◌, ◌*◌, ◌/◌, ◌%◌, ◌==◌, ◌<◌, ◌≤◌, Bool, true, false, if◌then◌else◌, All, List, [], ◌∷◌, ◌++◌, length, drop, Option, Some, None}
-use mathlib.Core.Option.{some}
-use lib.ListN.{get_elem?}
+use Rattle.std.specs.Prelude.{◌≡◌, ◌≢◌, ℕ, ◌+◌, ◌/◌, ◌%◌, ◌==◌, true, false, if◌then◌else◌, All, List, [], ◌∷◌, length, drop, Option, Some, None}
 use Rattle.atomic_table.specs.Table.{Me, Step, rest}
 use Rattle.ssb_schema.specs.Base.{Tables}
 use Rattle.ssb_queries.specs.declared.answer.Answer.{Answer}
@@ -14,7 +12,6 @@ use Rattle.history.specs.declared.view.Held.{Held}
 use Rattle.history.specs.declared.view.Role.{Role}
 use Rattle.history.specs.declared.view.Role.TheVariants.{Dealer, Token, Note, Spent}
 use Rattle.history.specs.declared.view.View.{View}
-use Rattle.history.specs.declared.view.SlotValue.{SlotValue}
 use Rattle.history.specs.declared.view.SlotValue.TheVariants.{Rows, Writer, Asked, Answered}
 use Rattle.history_core.specs.OwnCommits.{IsOfClients}
 use Rattle.history.specs.Words.{Owns, IsRight, IsFresh, given_to}

@@ -232,10 +232,10 @@ impl<W: Follower + Drop> Shared<W> {
         requires request { MayAnswer pass.old client answer }
         ensures answers { Answers pass.old client answer pass.new }
     {
+        let own = pass.place as usize;
         let place = client - 1;
         let turns = position(pass.hand.as_slice(), place);
         steps::turn_by(&mut pass.seat, turns);
-        let own = pass.place as usize;
         steps::serve(&self.board, &mut pass.seat, own, place as usize, answer);
         pass.hand.remove(turns);
         steps::turn_by(&mut pass.seat, pass.hand.len() - turns);

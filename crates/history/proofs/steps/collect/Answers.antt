@@ -1,4 +1,4 @@
-use Rattle.std.proofs.Common.{rules, ◌≡◌, ◌+◌, Some, ap}
+use Rattle.std.proofs.Common.{rules, ◌≡◌, Some, ap}
 use Rattle.history.specs.declared.view.SlotValue.TheVariants.{Answered}
 use Rattle.history.specs.Rule.{terms_of}
 use Rattle.history.proofs.MailSteps.{collects_one}

@@ -1,4 +1,4 @@
-use Rattle.std.proofs.Common.{rules, ◌≡◌, ◌<◌, Bool, List, false, length, set, slice_index_or, Some, sym, ap, subst, ◌∙◌, arith}
+use Rattle.std.proofs.Common.{rules, ◌≡◌, ◌<◌, false, length, set, slice_index_or, Some, sym, ap, subst, ◌∙◌, arith}
 use Rattle.std.specs.Slots.{slots_filled, slots_len, slots_counts}
 use mathlib.Core.Option.{some-injective}
 use Rattle.history.specs.declared.view.SlotValue.TheVariants.{Rows}

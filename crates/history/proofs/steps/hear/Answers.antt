@@ -1,4 +1,4 @@
-use Rattle.std.proofs.Common.{rules, ap, refl, ◌∙◌}
+use Rattle.std.proofs.Common.{rules, ap, ◌∙◌}
 use Rattle.history.specs.Rule.{terms_of}
 use Rattle.history.specs.Plays.{hears}
 use Rattle.history.proofs.Splitting.{tells, hears_note}

@@ -1,4 +1,4 @@
-use Rattle.std.proofs.Common.{rules, ap, ◌∙◌}
+use Rattle.std.proofs.Common.{rules}
 use Rattle.history.specs.Rule.{terms_of}
 use Rattle.history.proofs.RowSteps.{looks}
 use Rattle.history.proofs.steps.look.Goals as goal

@@ -1,4 +1,3 @@
-use Rattle.std.proofs.Common.{◌≡◌}
 use Rattle.history.specs.Seats.{Becomes}
 use Rattle.history.proofs.steps.take_writer.Given as goal
 

@@ -1,4 +1,4 @@
-use Rattle.std.proofs.Common.{◌≡◌, ◌+◌, suc, ap, sym, ◌∙◌, arith}
+use Rattle.std.proofs.Common.{◌≡◌, ◌+◌, suc, ap, ◌∙◌, arith}
 use Rattle.atomic_table.specs.Table.{turned}
 use Rattle.history.specs.Seats.{turns}
 use Rattle.history.proofs.Hands.{turns_more}

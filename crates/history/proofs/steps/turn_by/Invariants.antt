@@ -1,4 +1,3 @@
-use Rattle.std.proofs.Common.{◌≡◌}
 use Rattle.history.specs.Seats.{Becomes, turns}
 use Rattle.history.proofs.steps.turn_by.Given as goal
 

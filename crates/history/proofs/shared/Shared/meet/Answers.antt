@@ -1,4 +1,5 @@
-use Rattle.std.proofs.Common.{◌≡◌, ◌∷◌, suc, refl, sym, ap, subst, ◌∙◌}
+use Rattle.std.proofs.Common.{◌≡◌, ◌∷◌, length, sym, ap, subst, ◌∙◌}
+use Rattle.std.proofs.lemmas.List.Elements.{All-head, All-tail}
 use Rattle.row_store.specs.History.{IsPrefix}
 use Rattle.history.specs.Plays.{Learns, looked}
 use Rattle.history.specs.Tokens.{Saw}
@@ -20,19 +21,27 @@ pub invariant_of-other : goal.invariant_of-other
 invariant_of-other g c = let saw = c.look-other-inside.ensures in
     looked_seated c.other.inside c.look-other-inside.new.seat c.other.inside.seat.me.0.beside saw.0 c.look-other-inside.result c.other.invariant saw.1 (subst (λ m. Learns m.0 saw.0) c.hear.ensures.other.2 saw.3) (saw.2.2 ∙ ap (λ m. (looked m.0 saw.0, m.1)) c.hear.ensures.other.2)
 
+pub returns-clause-length : goal.returns-clause-length
+returns-clause-length g c = let saw = c.look-pass-inside.ensures in saw.1 ∙ ap (λ m. length m.0.member.seen) (sym saw.2.2)
+
 pub returns-clause-met : goal.returns-clause-met
-returns-clause-met g c = let saw = c.look-pass-inside.ensures in
+returns-clause-met g c = let saw = c.look-pass-inside.ensures in let o = c.other.inside.seat.me.0 in let v = c.pass.inside.seat.me.0 in
     let told = subst (λ m. Learns m.0 saw.0) c.hear.ensures.own.2 saw.3 in
-    let beside : IsPrefix c.other.inside.seat.me.0.member.seen saw.0 = told.begins_heard 0 _ refl in
+    let heard : IsPrefix o.member.seen saw.0 = All-head (λ list. IsPrefix list saw.0) o.member.seen v.beside told.beside in
     let now : c.look-pass-inside.new.seat.me.0.member.seen ≡ saw.0 = ap (λ m. m.0.member.seen) saw.2.2 in
-    subst (IsPrefix c.args.other.now.member.seen) (sym now) (subst (λ t. IsPrefix t.member.seen saw.0) c.other.view_is beside)
+    subst (IsPrefix c.args.other.now.seen) (sym now) (subst (λ t. IsPrefix t.seen saw.0) c.other.view_is heard)
 
 pub returns-clause-saw : goal.returns-clause-saw
-returns-clause-saw g c = let saw = c.look-pass-inside.ensures in let o = c.other.inside.seat.me.0 in let v = c.pass.inside.seat.me.0 in
+returns-clause-saw g c = let saw = c.look-pass-inside.ensures in let o = c.other.inside.seat.me.0 in let p = c.pass.inside in let v = p.seat.me.0 in
     let told = subst (λ m. Learns m.0 saw.0) c.hear.ensures.own.2 saw.3 in
-    subst (λ t. Saw t (token (passed c.pass.inside c.look-pass-inside.new.seat c.look-pass-inside.result))) c.pass.view_is
-    (saw_token c.pass.inside c.look-pass-inside.new.seat c.look-pass-inside.result (o.member.seen ∷ v.beside) saw.0 _ (saw.2.0 ∙ c.hear.ensures.own.0) (saw.2.2 ∙ ap (λ m. (looked m.0 saw.0, m.1)) c.hear.ensures.own.2)
-    told.begins (λ k h at. told.begins_heard (suc k) h at))
+    subst (λ t. Saw t (token (passed p p.hand c.look-pass-inside.new.seat c.look-pass-inside.result))) c.pass.view_is
+    (saw_token p c.look-pass-inside.new.seat c.look-pass-inside.result (o.member.seen ∷ v.beside) saw.0 (saw.2.0 ∙ c.hear.ensures.own.0) (saw.2.2 ∙ ap (λ m. (looked m.0 saw.0, m.1)) c.hear.ensures.own.2)
+    told.begins (All-tail (λ list. IsPrefix list saw.0) o.member.seen v.beside told.beside))
+
+pub returns-clause-other : goal.returns-clause-other
+returns-clause-other g c = let saw = c.look-other-inside.ensures in let p = c.other.inside in let told = subst (λ m. Learns m.0 saw.0) c.hear.ensures.other.2 saw.3 in
+    subst (λ t. Saw t (token (passed p p.hand c.look-other-inside.new.seat c.look-other-inside.result))) c.other.view_is
+    (saw_token p c.look-other-inside.new.seat c.look-other-inside.result p.seat.me.0.beside saw.0 (saw.2.0 ∙ c.hear.ensures.other.0) (saw.2.2 ∙ ap (λ m. (looked m.0 saw.0, m.1)) c.hear.ensures.other.2) told.begins told.beside)
 
 pub returns-clause-sound : goal.returns-clause-sound
 returns-clause-sound g c = ((invariant_of-pass g c).sound, (invariant_of-other g c).sound)
