@@ -1,7 +1,12 @@
+pub mod Absorbed
 pub mod Causes
 pub mod Counted
+pub mod FactCounts
+pub mod Few
 pub mod HistoryLaws
 pub mod Indexed
 pub mod Placed
+pub mod Prefixes
 pub mod Rearranged
+pub mod Replies
 pub mod StateLaws

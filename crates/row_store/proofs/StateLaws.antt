@@ -32,7 +32,7 @@ tied Equal x y e t = only_equal x y e
 tied Greater x y e t = absurd (cc)
 
 -- what stays of the counts, at a fact
-get_kept : (p : Fact → Bool) (counts : Counts) (fact : Fact) → map.get (map.retain_keys counts p) fact ≡ cond (p fact) (map.get counts fact) None
+pub get_kept : (p : Fact → Bool) (counts : Counts) (fact : Fact) → map.get (map.retain_keys counts p) fact ≡ cond (p fact) (map.get counts fact) None
 get_kept p counts fact = map.get-retain_keys counts p fact (λ x e. ap p (sym (only_equal fact x e)))
 
 -- two facts at which the counts are asked: the one that was put, and any

@@ -4,5 +4,6 @@ pub mod Refusals
 pub mod Legal
 pub mod State
 pub mod Keyed
+pub mod Absorbing
 pub mod OrderLines
 pub mod Laws

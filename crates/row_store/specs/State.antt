@@ -1,6 +1,7 @@
 -- What a replica stands for, whatever its form: the base, the number of commits, and how often each fact is live.
-use Rattle.std.specs.Prelude.{◌≡◌, ℕ, ◌+◌, not, ◌==◌, List, [], ◌∷◌, length, fold, unwrap_or, get_or, refl}
-use Rattle.std.specs.Ordering.{nat_cmp, on}
+use Rattle.std.specs.Prelude.{◌≡◌, ℕ, ◌+◌, Bool, not, ◌==◌, List, [], ◌∷◌, length, fold, unwrap_or, get_or, refl}
+use Rattle.std.specs.List.{count_by}
+use Rattle.std.specs.Ordering.{nat_cmp, on, eq_by_cmp}
 use Rattle.std.specs.declared.cmp.Ordering.{Ordering}
 use Rattle.std.specs.Cmp.Lexicographic.{slice_cmp}
 use Rattle.std.specs.FinMap as map
@@ -35,6 +36,14 @@ fact_from values = record {
 -- facts are ordered by their values
 abbrev pub fact_cmp : Fact → Fact → Ordering
 fact_cmp = on fact_values (slice_cmp nat_cmp)
+
+-- whether two facts have the same values
+abbrev pub is_same : Fact → Fact → Bool
+is_same fact other = eq_by_cmp fact_cmp fact other
+
+-- how often a fact stands in a list
+abbrev pub occurrences : Fact → List Fact → ℕ
+occurrences fact facts = count_by (is_same fact) facts
 
 -- from facts to how often each is live; a fact that is not live has no entry
 abbrev pub Counts : Type 0

@@ -3,6 +3,7 @@
 use ssb_schema::Refresh;
 use std::alloc::AllocError;
 use std::clone::Clone;
+use std::fmt::{self, Debug, Formatter};
 use std::marker::Model;
 use std::sync::Arc;
 
@@ -32,6 +33,16 @@ impl Clone for Commit {
             client: self.client,
             refresh: Arc::try_clone(&self.refresh)?,
         })
+    }
+}
+
+/// The client, and how many actions there are.
+impl Debug for Commit {
+    fn fmt<W: fmt::Write>(&self, f: &mut Formatter<W>) -> fmt::Result {
+        f.debug_struct("Commit")
+            .field("client", &self.client)
+            .field("actions", &self.refresh.actions().len())
+            .finish()
     }
 }
 

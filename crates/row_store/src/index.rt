@@ -7,10 +7,9 @@ ghost use Rattle.row_store.specs.Lines.{lines_of};
 ghost use Rattle.row_store.specs.History.{CommitRecord};
 ghost use Rattle.row_store.specs.Keyed.{Located, key_at, lines_at};
 
-use crate::place::{Place, Source};
+use crate::place::{Place, Places, Source};
 use ssb_schema::Line;
 use std::alloc::{AllocError, Global};
-use std::collections::HashMap;
 
 // The order key of the line at a position.
 fn key_at(lines: &[Line], position: u32) -> u64
@@ -61,7 +60,7 @@ fn run_end(lines: &[Line], index: &[u32], first: usize) -> usize
 
 // Puts each run of the index into the orders by key, of which there are none yet.
 pub(crate) fn place_runs(
-    orders: &mut HashMap<u64, Place>,
+    orders: &mut Places,
     lines: &[Line],
     index: &[u32],
 ) -> Result<(), AllocError>

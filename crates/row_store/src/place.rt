@@ -11,6 +11,7 @@ ghost use Rattle.row_store.specs.Keyed.{Sources, IsWithin, Located, lines_from, 
 use crate::commit::Commit;
 use ssb_schema::{Action, Line};
 use std::collections::HashMap;
+use std::hash::RandomState;
 
 /// Where the lines of an order lie, and how many they are.
 #[derive(Clone, Copy)]
@@ -27,6 +28,9 @@ pub(crate) enum Source {
     /// In this action of this commit.
     Added { commit: u32, action: u32 },
 }
+
+/// The places of the live orders, by key. A client picks the keys, so they hash with random keys.
+pub(crate) type Places = HashMap<u64, Place, RandomState>;
 
 // The lines that an action adds.
 pub(crate) fn added(action: &Action) -> &[Line]
@@ -95,7 +99,7 @@ pub(crate) fn count_after(held: u32, earlier: &[Action], key: u64) -> u64
 }
 
 // Puts an action into the orders by key. There is room for one more.
-fn put(orders: &mut HashMap<u64, Place>, action: &Action, source: Source)
+fn put(orders: &mut Places, action: &Action, source: Source)
     requires { 0 < spare orders.old }
     ensures each { (base : Tables) (sources : Sources) (lines : List LineFields)
         → lines_from sources (length (added_by action.now)) source ≡ added_by action.now
@@ -121,7 +125,7 @@ fn put(orders: &mut HashMap<u64, Place>, action: &Action, source: Source)
 }
 
 // Puts the actions of a commit into the orders by key. There is room for all.
-pub(crate) fn place_all(orders: &mut HashMap<u64, Place>, actions: &[Action], commit: u32)
+pub(crate) fn place_all(orders: &mut Places, actions: &[Action], commit: u32)
     requires room { length actions.now ≤ spare orders.old }
     requires few { length actions.now ≤ 64 }
     ensures { (base : Tables) (sources : Sources) (lines : List LineFields) (made : CommitRecord) (number : ℕ)

@@ -1,6 +1,7 @@
 //! A replica that keeps the live lines as a list.
-ghost use Rattle.std.specs.Prelude.{◌≡◌, ◌+◌, ◌++◌, ◌≤◌, [], length, take, drop, flat_map, vec_len, vec_capacity, IfOk, OnOk, OnErr, MatchResult};
-ghost use Rattle.row_store.specs.Lines.{added_by, lines_without, lines_after_action, lines_after_refresh};
+ghost use Rattle.std.specs.Prelude.{◌≡◌, ◌++◌, ◌≤◌, [], flat_map, vec_len, vec_capacity, IfOk, OnOk, OnErr, MatchResult};
+ghost use Rattle.row_store.specs.Absorbing.{gone_by, lines_without_all};
+ghost use Rattle.row_store.specs.Lines.{lines_after_action, lines_after_refresh};
 ghost use Rattle.row_store.specs.History.{lines_after, with_commit};
 ghost use Rattle.row_store.specs.State.{state_of, state_after};
 
@@ -9,7 +10,6 @@ use crate::place::added;
 use crate::replica::{Follower, Replica};
 use ssb_schema::{Action, Base, Line};
 use std::alloc::{AllocError, Global};
-use std::collections::VecDeque;
 use std::marker::Model;
 use std::sync::Arc;
 
@@ -33,79 +33,73 @@ impl Model for PlainLines {
 }
 
 // Appends clones of the lines.
-fn clone_lines(fresh: &mut VecDeque<Line>, lines: &[Line]) -> Result<(), AllocError>
+fn clone_lines(fresh: &mut Vec<Line>, lines: &[Line]) -> Result<(), AllocError>
     ensures { OnOk result (fresh.new.items ≡ fresh.old.items ++ lines.now) }
 {
     for line in lines {
-        fresh.push_back(line.clone()?)?;
+        fresh.push(line.clone()?)?;
     }
     Ok(())
 }
 
-// Clones of all lines that the actions add.
-fn cloned_lines(alloc: Global, actions: &[Action]) -> Result<VecDeque<Line>, AllocError>
-    ensures { IfOk result (λ fresh. fresh.items ≡ flat_map added_by actions.now) }
+// Notes the order whose earlier lines go by the action.
+fn note_gone(keys: &mut Vec<u64>, action: &Action) -> Result<(), AllocError>
+    ensures { OnOk result (keys.new.items ≡ keys.old.items ++ gone_by action.now) }
 {
-    let mut fresh = VecDeque::new(alloc);
+    match action {
+        Action::Add(_) => {}
+        Action::Amend(order) => keys.push(order.key())?,
+        Action::Withdraw(key) => keys.push(*key)?,
+    }
+    Ok(())
+}
+
+// The orders whose earlier lines go by the actions.
+fn gone_by_all(alloc: Global, actions: &[Action]) -> Result<Vec<u64>, AllocError>
+    ensures { IfOk result (λ keys. keys.items ≡ flat_map gone_by actions.now) }
+{
+    let mut keys = Vec::new(alloc);
     for action in actions {
-        clone_lines(&mut fresh, added(action))?;
+        note_gone(&mut keys, action)?;
     }
-    Ok(fresh)
+    Ok(keys)
 }
 
-// Moves the first lines to the end of the others, where there is room.
-fn take_lines(lines: &mut Vec<Line>, fresh: &mut VecDeque<Line>, count: usize)
-    requires there { count ≤ length fresh.old.items }
-    requires room { vec_len lines.old + count ≤ vec_capacity lines.old }
-    ensures lines { lines.new.items ≡ lines.old.items ++ take count fresh.old.items }
-    ensures fresh { fresh.new.items ≡ drop count fresh.old.items }
-    ensures len { vec_len lines.new ≡ vec_len lines.old + count }
-    ensures capacity { vec_capacity lines.new ≡ vec_capacity lines.old }
-{
-    for _ in 0..count {
-        if let Some(line) = fresh.pop_front() {
-            lines.push_reserved(line);
-        }
-    }
-}
-
-// Drops the lines of an order.
-fn drop_order(lines: &mut Vec<Line>, key: u64)
-    ensures lines { lines.new.items ≡ lines_without key lines.old.items }
+// Drops the lines of these orders, in one pass.
+fn drop_orders(lines: &mut Vec<Line>, keys: &[u64])
+    ensures lines { lines.new.items ≡ lines_without_all keys.now lines.old.items }
     ensures len { vec_len lines.new ≤ vec_len lines.old }
     ensures capacity { vec_capacity lines.new ≡ vec_capacity lines.old }
 {
-    lines.retain(|line| line.order_key() != key);
+    lines.retain(|line| !keys.contains(&line.order_key()));
 }
 
-// Takes an action, whose lines come first. There is room for them.
-fn act(lines: &mut Vec<Line>, fresh: &mut VecDeque<Line>, action: &Action)
-    requires there { take (length (added_by action.now)) fresh.old.items ≡ added_by action.now }
-    requires room { vec_len lines.old + length (added_by action.now) ≤ vec_capacity lines.old }
-    ensures lines { lines.new.items ≡ lines_after_action lines.old.items action.now }
-    ensures fresh { fresh.new.items ≡ drop (length (added_by action.now)) fresh.old.items }
-    ensures len { vec_len lines.new ≤ vec_len lines.old + length (added_by action.now) }
-    ensures capacity { vec_capacity lines.new ≡ vec_capacity lines.old }
+// Takes an action.
+fn act(lines: &mut Vec<Line>, action: &Action) -> Result<(), AllocError>
+    ensures { OnOk result (lines.new.items ≡ lines_after_action lines.old.items action.now) }
 {
     match action {
-        Action::Add(order) => take_lines(lines, fresh, order.lines().len()),
+        Action::Add(order) => clone_lines(lines, order.lines()),
         Action::Amend(order) => {
-            drop_order(lines, order.key());
-            take_lines(lines, fresh, order.lines().len());
+            drop_orders(lines, &[order.key()]);
+            clone_lines(lines, order.lines())
         }
-        Action::Withdraw(key) => drop_order(lines, *key),
+        Action::Withdraw(key) => {
+            drop_orders(lines, &[*key]);
+            Ok(())
+        }
     }
 }
 
-// Takes the actions, whose lines these are. There is room for all.
-fn act_all(lines: &mut Vec<Line>, mut fresh: VecDeque<Line>, actions: &[Action])
-    requires there { fresh.items ≡ flat_map added_by actions.now }
-    requires room { vec_len lines.old + length fresh.items ≤ vec_capacity lines.old }
-    ensures { lines.new.items ≡ lines_after_refresh lines.old.items actions.now }
+// What the actions leave where there were no lines before them.
+fn added_by_all(alloc: Global, actions: &[Action]) -> Result<Vec<Line>, AllocError>
+    ensures { IfOk result (λ fresh. fresh.items ≡ lines_after_refresh [] actions.now) }
 {
+    let mut fresh = Vec::new(alloc);
     for action in actions {
-        act(lines, &mut fresh, action);
+        act(&mut fresh, action)?;
     }
+    Ok(fresh)
 }
 
 impl PlainLines {
@@ -143,11 +137,13 @@ impl Replica for PlainLines {
     {
         let alloc = *self.lines.allocator();
         let actions = commit.refresh.actions();
-        let fresh = cloned_lines(alloc, actions)?;
+        let gone = gone_by_all(alloc, actions)?;
+        let mut fresh = added_by_all(alloc, actions)?;
         let commit = commit.clone()?;
         self.log.reserve(1)?;
         self.lines.reserve(fresh.len())?;
-        act_all(&mut self.lines, fresh, actions);
+        drop_orders(&mut self.lines, &gone);
+        let _ = self.lines.append(&mut fresh);
         self.log.push_reserved(commit);
         Ok(())
     }
@@ -156,7 +152,10 @@ impl Replica for PlainLines {
         self.log.len() as u64
     }
 
-    fn copy(&self) -> Result<PlainLines, AllocError> {
+    fn copy(&self) -> Result<PlainLines, AllocError>
+        ensures state { IfOk result (λ plain. state_of plain.base plain.log ≡ state_of self.now.base self.now.log) }
+        ensures same { IfOk result (λ plain. plain ≡ self.now) }
+    {
         let alloc = *self.lines.allocator();
         Ok(PlainLines {
             base: Arc::try_clone(&self.base)?,

@@ -5,16 +5,17 @@ ghost use Rattle.ssb_schema.specs.declared.line.LineFields.{LineFields};
 ghost use Rattle.row_store.specs.Lines.{lines_of, lines_after_action, lines_after_refresh};
 ghost use Rattle.row_store.specs.History.{lines_after, with_commit};
 ghost use Rattle.row_store.specs.Refusals.{lacks_customer, lacks_supplier, lacks_part, lacks_date, unknown_key, order_cause, cause_of, refusal_of};
-ghost use Rattle.row_store.specs.Legal.{Fails, IsLegal};
+ghost use Rattle.row_store.specs.Legal.{Fails, IsLegal, IsRefreshReply};
 
 use crate::commit::{Commit, Receipt};
 use crate::index::{index_of, place_runs};
 use crate::order_lines::OrderLines;
-use crate::place::{Place, Source, count_after, order_at, place_all};
-use crate::refusal::{ApplyError, Cause, Refusal};
+use crate::place::{Places, Source, count_after, order_at, place_all};
+use crate::refusal::{ApplyError, Cause, RefreshError, Refusal};
 use ssb_schema::{Action, Base, Line, Order, Refresh};
 use std::alloc::{AllocError, Global};
 use std::collections::HashMap;
+use std::hash::RandomState;
 use std::marker::Model;
 use std::sync::Arc;
 
@@ -24,7 +25,7 @@ pub struct RowStore {
     base: Arc<Base>,
     // The positions of the loaded lines, in the order of their order keys.
     index: Vec<u32>,
-    orders: HashMap<u64, Place>,
+    orders: Places,
     line_count: usize,
     log: Vec<Commit>,
 }
@@ -113,13 +114,14 @@ fn join(base: &Base, order: &Order, live: usize) -> Result<usize, Cause>
 }
 
 impl RowStore {
-    /// The loaded orders, and no commits.
-    pub fn new(alloc: Global, base: Arc<Base>) -> Result<RowStore, AllocError>
+    /// The loaded orders, and no commits. Orders are found by their hashed keys: with a random `hashing`, as
+    /// `RandomState::new(&rt)?`, no client can pick keys that collide.
+    pub fn new(alloc: Global, base: Arc<Base>, hashing: RandomState) -> Result<RowStore, AllocError>
         ensures { IfOk result (λ store. store ≡ record { base = base.value; log = [] }) }
     {
         let lines = base.lines();
         let index = index_of(alloc, lines)?;
-        let mut orders = HashMap::new(alloc);
+        let mut orders = HashMap::with_hasher(alloc, hashing);
         place_runs(&mut orders, lines, &index)?;
         let line_count = lines.len();
         Ok(RowStore {
@@ -142,7 +144,8 @@ impl RowStore {
 
     /// The number of commits.
     pub fn len(&self) -> usize
-        ensures { result ≡ length self.now.log }
+        ensures count { result ≡ length self.now.log }
+        ensures few { result ≤ self.now.base.limits.commits }
     {
         self.log.len()
     }
@@ -232,6 +235,25 @@ impl RowStore {
         Ok(Receipt {
             number: number as u64 + 1,
         })
+    }
+
+    /// Applies all of a client's refresh as the next commit, or nothing. The result is what the client is told: the
+    /// commit's number, or the refusal and how many commits there were.
+    pub fn refresh(&mut self, client: u32, refresh: Arc<Refresh>) -> Result<Receipt, RefreshError>
+        ensures reply { IsRefreshReply self.old.base self.old.log refresh.value result }
+        ensures committed { OnOk result (self.new ≡ with_commit self.old (record { client = client; actions = refresh.value })) }
+        ensures unchanged { OnErr result (self.new ≡ self.old) }
+    {
+        let at = self.log.len() as u64;
+        match self.apply(client, refresh) {
+            Ok(receipt) => Ok(receipt),
+            Err(ApplyError::Refused(refusal)) => Err(RefreshError::Refused {
+                at,
+                action: refusal.action,
+                cause: refusal.cause,
+            }),
+            Err(ApplyError::OutOfMemory) => Err(RefreshError::OutOfMemory),
+        }
     }
 
     // The same as `check`, and how many lines are live after the refresh.

@@ -6,6 +6,7 @@ use ssb_schema::{
     Line, LineFields, Order, Part, PartFields, Refresh, Refused, Supplier, SupplierFields, Text,
 };
 use std::alloc::{AllocError, Global};
+use std::hash::{BuildHasher, BuildHasherDefault, FoldHasher, RandomState};
 use std::sync::Arc;
 use std::test::Fail;
 
@@ -239,9 +240,14 @@ fn reply(store: &mut RowStore, told: &mut String, refresh: Arc<Refresh>) -> Resu
 }
 
 // The replies of a store of the small data set to these refreshes in turn, and how many lines are live then.
-fn replies(alloc: Global, limits: Option<Limits>, script: &[&[Step<'_>]]) -> Result<String, Fail> {
+fn replies(
+    rt: &HostRuntime,
+    limits: Option<Limits>,
+    script: &[&[Step<'_>]],
+) -> Result<String, Fail> {
+    let alloc = rt.alloc();
     let limits = limits.unwrap_or(Limits::standard());
-    let mut store = RowStore::new(alloc, small(alloc, limits)?)?;
+    let mut store = RowStore::new(alloc, small(alloc, limits)?, RandomState::new(rt)?)?;
     let mut told = String::new(alloc);
     for steps in script {
         reply(&mut store, &mut told, refresh(alloc, steps)?)?;
@@ -275,7 +281,7 @@ const AGAIN: &[&[Step<'static>]] = &[&[ADD_ONE, Step::Withdraw(1)], &[Step::With
 
 #[test]
 fn withdrawn_order_is_added_again_in_one_refresh(rt: HostRuntime) -> Result<(), Fail> {
-    let told = replies(rt.alloc(), None, AGAIN)?;
+    let told = replies(&rt, None, AGAIN)?;
     assert_eq!(rt;
         told.as_str(),
         "refused 1: 41 Present 1\ncommitted 1\nlines 3\n"
@@ -287,7 +293,7 @@ const ABSENT: &[&[Step<'static>]] = &[&[ADD_NINE, Step::Withdraw(77)], &[ADD_NIN
 
 #[test]
 fn absent_order_refuses_the_whole_refresh(rt: HostRuntime) -> Result<(), Fail> {
-    let told = replies(rt.alloc(), None, ABSENT)?;
+    let told = replies(&rt, None, ABSENT)?;
     assert_eq!(rt;
         told.as_str(),
         "refused 2: 47 Absent 77\ncommitted 1\nlines 5\n"
@@ -308,7 +314,7 @@ const CAUSES: &[&[Step<'static>]] = &[
 
 #[test]
 fn each_cause_is_told(rt: HostRuntime) -> Result<(), Fail> {
-    let told = replies(rt.alloc(), None, CAUSES)?;
+    let told = replies(&rt, None, CAUSES)?;
     assert_eq!(rt;
         told.as_str(),
         "refused 1: 41 Present 1\nrefused 1: 42 UnknownCustomer\nrefused 1: 43 UnknownSupplier\nrefused 1: 44 UnknownPart\nrefused 1: 45 UnknownDate\nrefused 1: 47 Absent 77\nrefused 1: 48 AmendAbsent 9\nrefused 1: 42 UnknownCustomer\nlines 4\n"
@@ -329,7 +335,7 @@ const PAIRS: &[&[Step<'static>]] = &[
 
 #[test]
 fn the_first_of_several_causes_is_told(rt: HostRuntime) -> Result<(), Fail> {
-    let told = replies(rt.alloc(), Limits::new(4, 4, 1), PAIRS)?;
+    let told = replies(&rt, Limits::new(4, 4, 1), PAIRS)?;
     assert_eq!(rt;
         told.as_str(),
         "refused 1: 41 Present 1\nrefused 1: 42 UnknownCustomer\nrefused 1: 45 UnknownDate\nrefused 1: 48 AmendAbsent 9\nrefused 1: 46 LinesFull\nrefused 1: 47 Absent 77\nrefused 3: 41 Present 9\nrefused 2: 48 AmendAbsent 1\nlines 4\n"
@@ -347,7 +353,7 @@ const FULL: &[&[Step<'static>]] = &[
 
 #[test]
 fn four_lines_and_one_commit_are_the_limits(rt: HostRuntime) -> Result<(), Fail> {
-    let told = replies(rt.alloc(), Limits::new(4, 4, 1), FULL)?;
+    let told = replies(&rt, Limits::new(4, 4, 1), FULL)?;
     assert_eq!(rt;
         told.as_str(),
         "refused 1: 46 LinesFull\nrefused 2: 46 LinesFull\nrefused 1: 46 LinesFull\ncommitted 1\nrefused 0: 40 LogFull\nlines 4\n"
@@ -359,7 +365,7 @@ const AMEND: &[&[Step<'static>]] = &[&[Step::Amend(2, &[KNOWN])], &[AMEND_ONE]];
 
 #[test]
 fn amended_orders_do_not_count_their_old_lines(rt: HostRuntime) -> Result<(), Fail> {
-    let told = replies(rt.alloc(), Limits::new(4, 4, 2), AMEND)?;
+    let told = replies(&rt, Limits::new(4, 4, 2), AMEND)?;
     assert_eq!(rt; told.as_str(), "committed 1\ncommitted 2\nlines 3\n");
     Ok(())
 }
@@ -367,7 +373,11 @@ fn amended_orders_do_not_count_their_old_lines(rt: HostRuntime) -> Result<(), Fa
 #[test]
 fn order_nine_is_committed(rt: HostRuntime) -> Result<(), Fail> {
     let alloc = rt.alloc();
-    let mut store = RowStore::new(alloc, small(alloc, Limits::standard())?)?;
+    let mut store = RowStore::new(
+        alloc,
+        small(alloc, Limits::standard())?,
+        RandomState::new(&rt)?,
+    )?;
     let mut told = lines_told(alloc, &store, 9)?;
     reply(&mut store, &mut told, refresh(alloc, &[ADD_NINE])?)?;
     told.push_str(lines_told(alloc, &store, 9)?.as_str())?;
@@ -379,6 +389,44 @@ fn order_nine_is_committed(rt: HostRuntime) -> Result<(), Fail> {
     );
     let (base, log) = store.into_parts();
     assert_eq!(rt; (base.lines().len(), log.len()), (4, 1));
+    Ok(())
+}
+
+// So many order keys that all fall into one of 256 places where the map hashes with the fixed seed.
+fn colliding_keys(alloc: Global, count: usize) -> Result<Vec<u64>, AllocError> {
+    let fixed = BuildHasherDefault::<FoldHasher>::new();
+    (1..1_000_000u64)
+        .filter(|key| fixed.hash_one(key) % 256 == 7)
+        .take(count)
+        .collect(alloc)
+}
+
+// One refresh that adds an order of one line for each key.
+fn adding(alloc: Global, keys: &[u64]) -> Result<Arc<Refresh>, Fail> {
+    let mut steps = Vec::new(alloc);
+    for key in keys {
+        steps.push(Step::Add(*key, &[KNOWN]))?;
+    }
+    refresh(alloc, &steps)
+}
+
+#[test]
+fn orders_with_colliding_keys_are_found(rt: HostRuntime) -> Result<(), Fail> {
+    let alloc = rt.alloc();
+    let keys = colliding_keys(alloc, 64)?;
+    let mut store = RowStore::new(
+        alloc,
+        small(alloc, Limits::standard())?,
+        RandomState::new(&rt)?,
+    )?;
+    store
+        .apply(1, adding(alloc, &keys)?)
+        .map_err(|_| AllocError)?;
+    let found = keys
+        .iter()
+        .filter(|key| store.lines_of(**key).map_or(0, |order| order.len()) == 1)
+        .count();
+    assert_eq!(rt; (keys.len(), found, store.line_count()), (64, 64, 68));
     Ok(())
 }
 
@@ -395,7 +443,7 @@ fn scattered(alloc: Global) -> Result<Vec<Line>, Fail> {
 fn loaded_orders_may_be_scattered(rt: HostRuntime) -> Result<(), Fail> {
     let alloc = rt.alloc();
     let base = base_of(alloc, Limits::standard(), scattered(alloc)?)?;
-    let store = RowStore::new(alloc, base)?;
+    let store = RowStore::new(alloc, base, RandomState::new(&rt)?)?;
     let told = lines_told(alloc, &store, 1)?;
     assert_eq!(rt; told.as_str(), "2:2 1:1 ");
     assert!(rt; store.lines_of(4).is_none());
@@ -418,7 +466,7 @@ fn plain_lines_follow_the_log(rt: HostRuntime) -> Result<(), Fail> {
     let alloc = rt.alloc();
     let base = small(alloc, Limits::standard())?;
     let mut plain = PlainLines::new(alloc, Arc::try_clone(&base)?)?;
-    let mut store = RowStore::new(alloc, base)?;
+    let mut store = RowStore::new(alloc, base, RandomState::new(&rt)?)?;
     store
         .apply(1, refresh(alloc, THREE)?)
         .map_err(|_| AllocError)?;

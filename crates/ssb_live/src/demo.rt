@@ -10,6 +10,7 @@ use ssb_load::load;
 use ssb_report::{RunError, run_store};
 use ssb_schema::{Base, Limits};
 use std::alloc::Global;
+use std::hash::RandomState;
 use std::io::{Read, Write};
 use std::sync::Arc;
 
@@ -34,12 +35,17 @@ fn shared_base(alloc: Global) -> Result<Arc<Base>, Fault>
 }
 
 // Serves the script, and has the writer hand on what it holds.
-fn serve<R: Read + Drop, W: Write>(alloc: Global, input: R, out: &mut W) -> Result<(), Fault>
+fn serve<R: Read + Drop, W: Write>(
+    alloc: Global,
+    hashing: RandomState,
+    input: R,
+    out: &mut W,
+) -> Result<(), Fault>
     ensures report { OnOk result (ServesSmall (R.remaining input) (W.contents out.old) (W.contents out.new)) }
     ensures fault { OnErr result (EndsEarly (R.remaining input) (W.contents out.old) (W.contents out.new)) }
 {
     let base = shared_base(alloc)?;
-    let mut store = RowStore::new(alloc, Arc::try_clone(&base)?)?;
+    let mut store = RowStore::new(alloc, Arc::try_clone(&base)?, hashing)?;
     let mut lines = PlainLines::new(alloc, base)?;
     match run_store(alloc, &mut store, &mut lines, input, out) {
         Ok(_) => {}
@@ -53,9 +59,10 @@ fn serve<R: Read + Drop, W: Write>(alloc: Global, input: R, out: &mut W) -> Resu
 }
 
 /// Serves a script over the small data set as the one client of a one-thread warehouse, and writes the report; or a fault
-/// line to `err`. The whole script is read first. The result is the exit status.
+/// line to `err`. The whole script is read first. The store hashes its keys with `hashing`. The result is the exit status.
 pub fn demo<R: Read + Drop, W: Write, E: Write>(
     alloc: Global,
+    hashing: RandomState,
     input: R,
     out: &mut W,
     err: &mut E,
@@ -63,7 +70,7 @@ pub fn demo<R: Read + Drop, W: Write, E: Write>(
     ensures report { result ≡ 0 → ServesSmall (R.remaining input) (W.contents out.old) (W.contents out.new) }
     ensures fault { result ≢ 0 → EndsEarly (R.remaining input) (W.contents out.old) (W.contents out.new) }
 {
-    match serve(alloc, input, out) {
+    match serve(alloc, hashing, input, out) {
         Ok(()) => 0,
         Err(fault) => fault.tell(err),
     }

@@ -20,6 +20,7 @@ use clap::ArgMatches;
 use demo::demo;
 use fault::Fault;
 use query::run_query;
+use std::hash::RandomState;
 use std::io::BufWriter;
 use std::process::ExitCode;
 
@@ -29,11 +30,17 @@ fn words(rt: &HostRuntime) -> anyhow::Result<Vec<String>> {
 }
 
 // Serves the script on standard input.
-fn serve_script(rt: &HostRuntime) -> Result<u8, Fault> {
+fn serve_script(rt: &HostRuntime, hashing: RandomState) -> Result<u8, Fault> {
     let Ok(mut out) = BufWriter::new(rt.alloc(), rt.stdout()) else {
         return Err(Fault::OutOfMemory);
     };
-    Ok(demo(rt.alloc(), rt.stdin(), &mut out, &mut rt.stderr()))
+    Ok(demo(
+        rt.alloc(),
+        hashing,
+        rt.stdin(),
+        &mut out,
+        &mut rt.stderr(),
+    ))
 }
 
 // Answers one question over the files of a folder.
@@ -66,7 +73,7 @@ fn main(rt: HostRuntime) -> anyhow::Result<ExitCode> {
     };
     let ended = match matches.subcommand() {
         Some((_, query)) => answer_query(&rt, query),
-        None => serve_script(&rt),
+        None => serve_script(&rt, RandomState::new(&rt)?),
     };
     let status = match ended {
         Ok(status) => status,

@@ -6,6 +6,7 @@ use crate::query::run_query;
 use crate::small_data::{LINEORDER, tables};
 use ssb_load::Tables;
 use std::alloc::Global;
+use std::hash::RandomState;
 use std::io;
 use std::io::{Read, Write};
 use std::test::Fail;
@@ -142,16 +143,18 @@ fn a_failed_read_is_told(rt: HostRuntime) {
 }
 
 #[test]
-fn a_fault_of_the_script_is_told(rt: HostRuntime) {
+fn a_fault_of_the_script_is_told(rt: HostRuntime) -> Result<(), Fail> {
+    let hashing = RandomState::new(&rt)?;
     let mut out = Vec::new(rt.alloc());
     let mut err = Vec::new(rt.alloc());
-    let status = demo(rt.alloc(), "hello\n".as_bytes(), &mut out, &mut err);
+    let status = demo(rt.alloc(), hashing, "hello\n".as_bytes(), &mut out, &mut err);
     assert_eq!(rt; status, 1);
     assert!(rt; out.is_empty());
     assert_eq!(rt;
         err.as_slice(),
         "ssb_live: script 1: 70 BadLine 1\n".as_bytes()
     );
+    Ok(())
 }
 
 // A writer that takes nothing.

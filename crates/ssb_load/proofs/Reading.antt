@@ -1,5 +1,5 @@
 -- What is known of a table's text while it is read.
-use Rattle.std.proofs.Common.{suc, ◌≡◌, ℕ, ◌+◌, ◌<◌, ◌≤◌, true, false, List, [], ◌∷◌, ◌++◌, Option, Some, None, Ok, Err, length, refl, ap, ◌⊎◌, inl, inr, arith}
+use Rattle.std.proofs.Common.{suc, ◌≡◌, ℕ, ◌+◌, ◌≤◌, true, false, List, [], ◌∷◌, ◌++◌, Option, Some, None, Ok, Err, length, refl, ap, ◌⊎◌, inl, inr, arith}
 use Rattle.std.specs.List.{AllZip}
 use Rattle.std.specs.Option.{IfSome}
 use Rattle.csv.specs.declared.reader.Reader.{Reader}
@@ -70,7 +70,7 @@ read_all remaining t limit known old new rows so_far next few = if_known known (
 -- records that spell rows, and then one with a fault
 first_fault : {R : Type 0} (remaining : R → Option (List ℕ)) (t : Table) (limit : ℕ) (text : List ℕ) (old new : Reader R) (rows : List (List Value)) (fields : List (List ℕ)) (e : LoadError)
     → HasRead remaining t text old rows → GivesNext remaining old new true fields
-    → ((length rows + 1 ≤ limit) × (why : LineFault) × (row_of t fields ≡ Err why) × (e ≡ in_row t (length rows + 1) why)) ⊎ ((limit < length rows + 1) × (e ≡ errors.Row t (length rows + 1) (schema.TooManyRows t)))
+    → ((length rows + 1 ≤ limit) × (why : LineFault) × (row_of t fields ≡ Err why) × (e ≡ in_row t (length rows + 1) why)) ⊎ ((length rows + 1 ≡ limit + 1) × (e ≡ errors.Row t (length rows + 1) (schema.TooManyRows t)))
     → IsFirstFault t limit text e
 first_fault remaining t limit text old new rows fields e so_far next bad =
     let given = next text so_far.records so_far.given in

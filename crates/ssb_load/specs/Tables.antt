@@ -1,5 +1,5 @@
 -- What the text of a table spells, and its first fault.
-use Rattle.std.specs.Prelude.{◌≡◌, ℕ, ◌+◌, ◌<◌, ◌≤◌, ◌⊎◌, List, [], ◌∷◌, ◌++◌, length, Ok, Err}
+use Rattle.std.specs.Prelude.{◌≡◌, ℕ, ◌+◌, ◌≤◌, ◌⊎◌, List, [], ◌∷◌, ◌++◌, length, Ok, Err}
 use Rattle.std.specs.List.{AllZip}
 use Rattle.ssb_schema.specs.Columns.{Value}
 use Rattle.ssb_schema.specs.declared.table.Table.{Table}
@@ -33,7 +33,7 @@ in_row t n fault.OutOfMemory = errors.OutOfMemory
 -- the fault of the record of this number: it is one too many, or else it spells no row
 abbrev pub HasFault : Table → ℕ → ℕ → List (List ℕ) → LoadError → Type 0
 HasFault t limit n fields e =
-    ((limit < n) × (e ≡ errors.Row t n (schema.TooManyRows t)))
+    ((n ≡ limit + 1) × (e ≡ errors.Row t n (schema.TooManyRows t)))
     ⊎ ((n ≤ limit) × (why : LineFault) × (row_of t fields ≡ Err why) × (e ≡ in_row t n why))
 
 -- the first fault of a text: its first records spell rows, and the next one has this fault

@@ -1,3 +1,4 @@
 pub mod ValueLemmas
 pub mod OrdersLemmas
 pub mod QuestionLemmas
+pub mod ConstantLemmas

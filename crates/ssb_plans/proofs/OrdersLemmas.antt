@@ -3,7 +3,8 @@ use Rattle.std.proofs.Common.{ℕ, ◌<◌, zero, suc, List, refl, inl, inr, ari
 use Rattle.ssb_plans.specs.declared.value.Value.{Value}
 use Rattle.ssb_plans.specs.declared.plan.OrderKey.TheVariants.{Group}
 use Rattle.ssb_plans.specs.declared.query.Query.{Query}
-use Rattle.ssb_plans.specs.declared.query.Query.TheVariants.{Q1_1, Q1_2, Q1_3, Q2_1, Q2_2, Q2_3, Q3_1, Q3_2, Q3_3, Q3_4, Q4_1, Q4_2, Q4_3}
+use Rattle.ssb_plans.specs.declared.query.Query.TheVariants.{Q1_1, Q1_2, Q1_3, Q2_1, Q2_2, Q2_3, Q3_1, Q3_2, Q3_3, Q3_4}
+use Rattle.ssb_plans.specs.declared.query.Query.TheVariants.{Q4_1, Q4_2, Q4_3}
 use Rattle.ssb_plans.specs.Members.{Has}
 use Rattle.ssb_plans.specs.Queries.{plan_over, by_two_columns, by_three_columns, by_year_and_sum}
 use Rattle.ssb_plans.specs.Plan.{OrdersAllGroups}
@@ -26,7 +27,8 @@ three : (place : ℕ) → place < 3 → Has by_three_columns (Group place)
 three = below_3 (λ place. Has by_three_columns (Group place)) (inl refl) (inr (inl refl)) (inr (inr (inl refl)))
 
 by_year : (place : ℕ) → place < 3 → Has by_year_and_sum (Group place)
-by_year = below_3 (λ place. Has by_year_and_sum (Group place)) (inr (inr (inl refl))) (inr (inr (inr (inl refl)))) (inl refl)
+by_year = below_3 (λ place. Has by_year_and_sum (Group place)) (inr (inr (inl refl))) (inr (inr (inr (inl refl))))
+    (inl refl)
 
 pub orders_all_groups : (query : Query) (constants : List Value) → OrdersAllGroups (plan_over query constants)
 orders_all_groups Q1_1 constants = λ place h. absurd (omega (arith, h))

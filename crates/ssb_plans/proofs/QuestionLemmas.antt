@@ -13,7 +13,8 @@ use Rattle.ssb_plans.specs.QuestionEq.{question_eq}
 use Rattle.ssb_plans.specs.Text.{text_eq}
 use Rattle.ssb_plans.specs.Value.{value_cmp}
 use Rattle.ssb_plans.specs.declared.query.Query.{Query}
-use Rattle.ssb_plans.specs.declared.query.Query.TheVariants.{Q1_1, Q1_2, Q1_3, Q2_1, Q2_2, Q2_3, Q3_1, Q3_2, Q3_3, Q3_4, Q4_1, Q4_2, Q4_3}
+use Rattle.ssb_plans.specs.declared.query.Query.TheVariants.{Q1_1, Q1_2, Q1_3, Q2_1, Q2_2, Q2_3, Q3_1, Q3_2, Q3_3, Q3_4}
+use Rattle.ssb_plans.specs.declared.query.Query.TheVariants.{Q4_1, Q4_2, Q4_3}
 use Rattle.ssb_plans.specs.declared.query.TheConstants.{QUERIES}
 use Rattle.ssb_plans.specs.declared.value.Value.{Value}
 
@@ -47,7 +48,8 @@ question_Decides a b =
     let names = bytes_eq-Decides (name_of a.0) (name_of b.0) in
     let constants = slice_eq-Decides value_Decides a.1 b.1 (pointwise (eq_by_cmp value_cmp) a.1 b.1) refl in (
       λ t. same_parts a b (name_of-same a.0 b.0 (names.0 (first_so _ _ t))) (constants.0 (second_so _ _ t)),
-      λ e. both_true _ _ (names.1 (ap (λ (question : Query × List Value). name_of question.0) e)) (constants.1 (ap (λ (question : Query × List Value). question.1) e)),
+      λ e. both_true _ _ (names.1 (ap (λ (question : Query × List Value). name_of question.0) e))
+          (constants.1 (ap (λ (question : Query × List Value). question.1) e)),
     )
   where
     same_parts : (a b : Query × List Value) → a.0 ≡ b.0 → a.1 ≡ b.1 → a ≡ b

@@ -7,7 +7,8 @@ use Rattle.ssb_plans.specs.declared.value.Value.TheVariants as value
 use Rattle.ssb_plans.specs.declared.cond.ColumnValue.{ColumnValue}
 use Rattle.ssb_plans.specs.declared.cond.ColumnValue.TheVariants as column
 use Rattle.ssb_plans.specs.declared.cond.Cond.{Cond}
-use Rattle.ssb_plans.specs.declared.cond.Cond.TheVariants.{TextIs, TextFromTo, TextOneOf, NumberIs, NumberFromTo, NumberOneOf}
+use Rattle.ssb_plans.specs.declared.cond.Cond.TheVariants.{TextIs, TextFromTo, TextOneOf, NumberIs, NumberFromTo}
+use Rattle.ssb_plans.specs.declared.cond.Cond.TheVariants.{NumberOneOf}
 
 -- the value that a row has there
 abbrev pub column_value : ColumnValue → Value

@@ -1,13 +1,14 @@
 -- What may stand in each place of a question's constants.
 use Rattle.std.specs.Prelude.{Bool, true, false, not, is_some, List, [], ◌∷◌}
-use Rattle.ssb_schema.specs.Columns.{column_fault}
 use Rattle.ssb_schema.specs.Columns as columns
-use Rattle.ssb_schema.specs.declared.column.TheConstants.{C_CITY, C_NATION, C_REGION, S_CITY, S_NATION, S_REGION, P_MFGR, P_CATEGORY, P_BRAND1, D_YEARMONTH}
+use Rattle.ssb_schema.specs.Columns.{column_fault, C_CITY, C_NATION, C_REGION, S_CITY, S_NATION, S_REGION}
+use Rattle.ssb_schema.specs.Columns.{P_MFGR, P_CATEGORY, P_BRAND1, D_YEARMONTH}
 use Rattle.ssb_schema.specs.declared.kind.Kind.TheVariants as kind
 use Rattle.ssb_plans.specs.declared.kind.ConstantKind.{ConstantKind}
 use Rattle.ssb_plans.specs.declared.kind.ConstantKind.TheVariants.{Text, Number}
 use Rattle.ssb_plans.specs.declared.query.Query.{Query}
-use Rattle.ssb_plans.specs.declared.query.Query.TheVariants.{Q1_1, Q1_2, Q1_3, Q2_1, Q2_2, Q2_3, Q3_1, Q3_2, Q3_3, Q3_4, Q4_1, Q4_2, Q4_3}
+use Rattle.ssb_plans.specs.declared.query.Query.TheVariants.{Q1_1, Q1_2, Q1_3, Q2_1, Q2_2, Q2_3, Q3_1, Q3_2, Q3_3, Q3_4}
+use Rattle.ssb_plans.specs.declared.query.Query.TheVariants.{Q4_1, Q4_2, Q4_3}
 use Rattle.ssb_plans.specs.declared.value.Value.{Value}
 use Rattle.ssb_plans.specs.declared.value.Value.TheVariants as value
 

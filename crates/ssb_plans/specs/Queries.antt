@@ -1,10 +1,12 @@
 -- The thirteen queries as data: their constants, and their plans over constants.
 use Rattle.std.specs.Prelude.{ℕ, ◌+◌, List, [], ◌∷◌, Option, None, Some, codes, slice_get}
 use Rattle.ssb_schema.specs.declared.column.Column.{Column}
-use Rattle.ssb_schema.specs.declared.column.TheConstants.{C_CITY, C_NATION, C_REGION, S_CITY, S_NATION, S_REGION, P_MFGR, P_CATEGORY, P_BRAND1, D_YEAR, D_YEARMONTHNUM, D_YEARMONTH, D_WEEKNUMINYEAR}
+use Rattle.ssb_schema.specs.Columns.{C_CITY, C_NATION, C_REGION, S_CITY, S_NATION, S_REGION}
+use Rattle.ssb_schema.specs.Columns.{P_MFGR, P_CATEGORY, P_BRAND1, D_YEAR, D_YEARMONTHNUM, D_YEARMONTH, D_WEEKNUMINYEAR}
 use Rattle.ssb_plans.specs.declared.value.Value.{Value}
 use Rattle.ssb_plans.specs.declared.value.Value.TheVariants.{Text, Number}
-use Rattle.ssb_plans.specs.declared.cond.Cond.TheVariants.{TextIs, TextFromTo, TextOneOf, NumberIs, NumberFromTo, NumberOneOf}
+use Rattle.ssb_plans.specs.declared.cond.Cond.TheVariants.{TextIs, TextFromTo, TextOneOf, NumberIs, NumberFromTo}
+use Rattle.ssb_plans.specs.declared.cond.Cond.TheVariants.{NumberOneOf}
 use Rattle.ssb_plans.specs.declared.cond.Test.{Test}
 use Rattle.ssb_plans.specs.declared.plan.Measure.{Measure}
 use Rattle.ssb_plans.specs.declared.plan.Measure.TheVariants.{PriceTimesDiscount, Revenue, Profit}
@@ -13,7 +15,8 @@ use Rattle.ssb_plans.specs.declared.plan.OrderKey.{OrderKey}
 use Rattle.ssb_plans.specs.declared.plan.OrderKey.TheVariants.{Group, SumDescending}
 use Rattle.ssb_plans.specs.declared.plan.Plan.{Plan}
 use Rattle.ssb_plans.specs.declared.query.Query.{Query}
-use Rattle.ssb_plans.specs.declared.query.Query.TheVariants.{Q1_1, Q1_2, Q1_3, Q2_1, Q2_2, Q2_3, Q3_1, Q3_2, Q3_3, Q3_4, Q4_1, Q4_2, Q4_3}
+use Rattle.ssb_plans.specs.declared.query.Query.TheVariants.{Q1_1, Q1_2, Q1_3, Q2_1, Q2_2, Q2_3, Q3_1, Q3_2, Q3_3, Q3_4}
+use Rattle.ssb_plans.specs.declared.query.Query.TheVariants.{Q4_1, Q4_2, Q4_3}
 
 -- the constants of each query where a question gives none, in the order in which it gives its own
 abbrev pub standard_constants : Query → List Value
@@ -25,11 +28,16 @@ standard_constants Q2_2 = Text (codes "MFGR#2221") ∷ Text (codes "MFGR#2228") 
 standard_constants Q2_3 = Text (codes "MFGR#2239") ∷ Text (codes "EUROPE") ∷ []
 standard_constants Q3_1 = Text (codes "ASIA") ∷ Text (codes "ASIA") ∷ Number 1992 ∷ Number 1997 ∷ []
 standard_constants Q3_2 = Text (codes "UNITED STATES") ∷ Text (codes "UNITED STATES") ∷ Number 1992 ∷ Number 1997 ∷ []
-standard_constants Q3_3 = Text (codes "UNITED KI1") ∷ Text (codes "UNITED KI5") ∷ Text (codes "UNITED KI1") ∷ Text (codes "UNITED KI5") ∷ Number 1992 ∷ Number 1997 ∷ []
-standard_constants Q3_4 = Text (codes "UNITED KI1") ∷ Text (codes "UNITED KI5") ∷ Text (codes "UNITED KI1") ∷ Text (codes "UNITED KI5") ∷ Text (codes "Dec1997") ∷ []
-standard_constants Q4_1 = Text (codes "AMERICA") ∷ Text (codes "AMERICA") ∷ Text (codes "MFGR#1") ∷ Text (codes "MFGR#2") ∷ []
-standard_constants Q4_2 = Text (codes "AMERICA") ∷ Text (codes "AMERICA") ∷ Text (codes "MFGR#1") ∷ Text (codes "MFGR#2") ∷ Number 1997 ∷ Number 1998 ∷ []
-standard_constants Q4_3 = Text (codes "AMERICA") ∷ Text (codes "UNITED STATES") ∷ Number 1997 ∷ Number 1998 ∷ Text (codes "MFGR#14") ∷ []
+standard_constants Q3_3 = Text (codes "UNITED KI1") ∷ Text (codes "UNITED KI5") ∷ Text (codes "UNITED KI1")
+    ∷ Text (codes "UNITED KI5") ∷ Number 1992 ∷ Number 1997 ∷ []
+standard_constants Q3_4 = Text (codes "UNITED KI1") ∷ Text (codes "UNITED KI5") ∷ Text (codes "UNITED KI1")
+    ∷ Text (codes "UNITED KI5") ∷ Text (codes "Dec1997") ∷ []
+standard_constants Q4_1 = Text (codes "AMERICA") ∷ Text (codes "AMERICA") ∷ Text (codes "MFGR#1")
+    ∷ Text (codes "MFGR#2") ∷ []
+standard_constants Q4_2 = Text (codes "AMERICA") ∷ Text (codes "AMERICA") ∷ Text (codes "MFGR#1")
+    ∷ Text (codes "MFGR#2") ∷ Number 1997 ∷ Number 1998 ∷ []
+standard_constants Q4_3 = Text (codes "AMERICA") ∷ Text (codes "UNITED STATES") ∷ Number 1997 ∷ Number 1998
+    ∷ Text (codes "MFGR#14") ∷ []
 
 -- the constant at a place, counted from 0; the number 0, or the empty text, where there is none of its kind
 abbrev pub number_of : Option Value → ℕ
@@ -53,19 +61,35 @@ abbrev pub text_is : Column → List Value → ℕ → Test
 text_is column constants place = record { column = column; cond = TextIs (text_at constants place) }
 
 abbrev pub text_from_to : Column → List Value → ℕ → Test
-text_from_to column constants place = record { column = column; cond = TextFromTo (text_at constants place) (text_at constants (place + 1)) }
+text_from_to column constants place = record {
+  column = column;
+  cond = TextFromTo (text_at constants place)
+      (text_at constants (place + 1));
+}
 
 abbrev pub text_one_of_two : Column → List Value → ℕ → Test
-text_one_of_two column constants place = record { column = column; cond = TextOneOf (text_at constants place ∷ text_at constants (place + 1) ∷ []) }
+text_one_of_two column constants place = record {
+  column = column;
+  cond = TextOneOf
+      (text_at constants place ∷ text_at constants (place + 1) ∷ []);
+}
 
 abbrev pub number_is : Column → List Value → ℕ → Test
 number_is column constants place = record { column = column; cond = NumberIs (number_at constants place) }
 
 abbrev pub number_from_to : Column → List Value → ℕ → Test
-number_from_to column constants place = record { column = column; cond = NumberFromTo (number_at constants place) (number_at constants (place + 1)) }
+number_from_to column constants place = record {
+  column = column;
+  cond = NumberFromTo (number_at constants place)
+      (number_at constants (place + 1));
+}
 
 abbrev pub number_one_of_two : Column → List Value → ℕ → Test
-number_one_of_two column constants place = record { column = column; cond = NumberOneOf (number_at constants place ∷ number_at constants (place + 1) ∷ []) }
+number_one_of_two column constants place = record {
+  column = column;
+  cond = NumberOneOf
+      (number_at constants place ∷ number_at constants (place + 1) ∷ []);
+}
 
 abbrev pub range : List Value → ℕ → Option NumberRange
 range constants place = Some (record { from = number_at constants place; to = number_at constants (place + 1) })

@@ -1,5 +1,6 @@
 -- Questions: a query with its constants, and why constants are refused.
-use Rattle.std.specs.Prelude.{◌+◌, not, nat_eq, List, length, Option, Some, None, option_map, position, Result, Ok, Err, if◌then◌else◌}
+use Rattle.std.specs.Prelude.{◌+◌, not, nat_eq, List, length, Option, Some, None, option_map, position, Result, Ok, Err}
+use Rattle.std.specs.Prelude.{if◌then◌else◌}
 use Rattle.std.specs.List.{zip}
 use Rattle.ssb_plans.specs.Kind.{fits, constant_kinds}
 use Rattle.ssb_plans.specs.declared.query.Query.{Query}
@@ -13,7 +14,8 @@ use Rattle.ssb_plans.specs.declared.value.Value.{Value}
 abbrev pub constants_fault : Query → List Value → Option ConstantsFault
 constants_fault query constants =
     if nat_eq (length constants) (length (constant_kinds query))
-    then option_map (λ place. BadConstant (place + 1)) (position (λ at. not (fits at.0 at.1)) (zip (constant_kinds query) constants))
+    then option_map (λ place. BadConstant (place + 1))
+    (position (λ at. not (fits at.0 at.1)) (zip (constant_kinds query) constants))
     else Some (WrongCount query)
 
 -- the fault for which constants were refused, if they were

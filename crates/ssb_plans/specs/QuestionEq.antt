@@ -12,8 +12,10 @@ use Rattle.ssb_plans.specs.declared.value.Value.{Value}
 
 -- whether two questions ask one query with equal constants
 abbrev pub question_eq : Query × List Value → Query × List Value → Bool
-question_eq = eq_of_both (on (λ question. name_of question.0) text_eq) (on (λ question. question.1) (pointwise (eq_by_cmp value_cmp)))
+question_eq = eq_of_both (on (λ question. name_of question.0) text_eq)
+    (on (λ question. question.1) (pointwise (eq_by_cmp value_cmp)))
 
 pub question_eq-equiv : IsEquivalence question_eq
 question_eq-equiv =
-    and_equiv (on_equiv (λ question. name_of question.0) nat_list_eq_equiv) (on_equiv (λ question. question.1) (lists_equiv (eq_by_cmp_equiv value_cmp_total)))
+    and_equiv (on_equiv (λ question. name_of question.0) nat_list_eq_equiv)
+    (on_equiv (λ question. question.1) (lists_equiv (eq_by_cmp_equiv value_cmp_total)))

@@ -1,6 +1,8 @@
 //! The parts that plans are made of.
 ghost use Rattle.std.specs.Prelude.{◌≡◌, ◌∷◌, [], IfOk, ◌+◌, ◌<◌};
-ghost use Rattle.ssb_plans.specs.Queries.{over_all_lines, text_is, text_from_to, text_one_of_two, number_is, number_from_to, number_one_of_two, range, by_two_columns, by_three_columns, by_year_and_sum};
+ghost use Rattle.ssb_plans.specs.Queries.{over_all_lines, text_is, text_from_to, text_one_of_two, number_is};
+ghost use Rattle.ssb_plans.specs.Queries.{number_from_to, number_one_of_two, range};
+ghost use Rattle.ssb_plans.specs.Queries.{by_two_columns, by_three_columns, by_year_and_sum};
 
 use crate::cond::{Cond, Test};
 use crate::constants::{number_at, text_at};

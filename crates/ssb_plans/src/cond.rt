@@ -7,7 +7,7 @@ use ssb_schema::{Column, Items, Text};
 use std::alloc::AllocError;
 
 /// What a value is tested for; bounds are included, so a range whose first bound is greater holds of nothing.
-#[derive(Drop)]
+#[derive(Debug, Drop)]
 pub enum Cond {
     TextIs(Text),
     TextFromTo(Text, Text),
@@ -18,7 +18,7 @@ pub enum Cond {
 }
 
 /// A test of a column of a dimension.
-#[derive(Drop)]
+#[derive(Debug, Drop)]
 pub struct Test {
     pub column: Column,
     pub cond: Cond,

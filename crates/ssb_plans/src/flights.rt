@@ -30,14 +30,16 @@ fn flight_2(alloc: Global) -> Result<Plan, AllocError>
 }
 
 fn flight_3(alloc: Global, customer: Column, supplier: Column) -> Result<Plan, AllocError>
-    ensures { IfOk result (λ plan. plan ≡ over_all_lines Measure.Revenue (customer ∷ supplier ∷ D_YEAR ∷ []) by_year_and_sum) }
+    ensures { IfOk result (λ plan. plan
+        ≡ over_all_lines Measure.Revenue (customer ∷ supplier ∷ D_YEAR ∷ []) by_year_and_sum) }
 {
     let groups = Items::from_vec(vec![in alloc; customer, supplier, D_YEAR]?);
     Ok(over_all_lines(alloc, Measure::Revenue, groups, by_year_and_sum(alloc)?))
 }
 
 fn flight_4(alloc: Global, second: Column, third: Column) -> Result<Plan, AllocError>
-    ensures { IfOk result (λ plan. plan ≡ over_all_lines Measure.Profit (D_YEAR ∷ second ∷ third ∷ []) by_three_columns) }
+    ensures { IfOk result (λ plan. plan
+        ≡ over_all_lines Measure.Profit (D_YEAR ∷ second ∷ third ∷ []) by_three_columns) }
 {
     let groups = Items::from_vec(vec![in alloc; D_YEAR, second, third]?);
     Ok(over_all_lines(alloc, Measure::Profit, groups, by_three_columns(alloc)?))

@@ -30,7 +30,7 @@ pub enum OrderKey {
 
 /// A query as data: which combinations of a line with its four dimension rows count, what is added up
 /// over them, and in which groups and order the sums stand.
-#[derive(Drop)]
+#[derive(Debug, Drop)]
 pub struct Plan {
     pub customers: Items<Test>,
     pub suppliers: Items<Test>,

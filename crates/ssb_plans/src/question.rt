@@ -2,7 +2,7 @@
 ghost use Rattle.std.specs.Prelude.{◌≡◌, ◌↔◌, ◌<◌, IfOk, IfErr, IfSome, IsTrue, None, length, not, position};
 ghost use Rattle.std.specs.List.{zip};
 ghost use Rattle.ssb_plans.specs.Kind.{fits};
-ghost use Rattle.ssb_plans.specs.Plan.{OrdersAllGroups};
+ghost use Rattle.ssb_plans.specs.Plan.{IsOverColumns, LooksForConstants, OrdersAllGroups};
 ghost use Rattle.ssb_plans.specs.Queries.{plan_over, standard_constants};
 ghost use Rattle.ssb_plans.specs.Question.{constants_fault, fault_of, back_of};
 
@@ -180,6 +180,8 @@ impl Eq for Question {
 pub fn plan(alloc: Global, question: &Question) -> Result<Plan, AllocError>
     ensures plan { IfOk result (λ plan. plan ≡ plan_over question.now.0 question.now.1) }
     ensures without_ties { IfOk result OrdersAllGroups }
+    ensures columns { IfOk result IsOverColumns }
+    ensures constants { IfOk result (LooksForConstants question.now.0 question.now.1) }
 {
     plan_over(alloc, question.query(), question.constants())
 }

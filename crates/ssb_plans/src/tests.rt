@@ -211,3 +211,17 @@ fn a_value_is_copied_out_of_its_row(rt: HostRuntime) -> Result<(), Fail> {
     assert!(rt; value.clone()? == value && value == Value::Text(city));
     Ok(())
 }
+
+#[test]
+fn a_plan_is_printed_with_its_tests(rt: HostRuntime) -> Result<(), Fail> {
+    let alloc = rt.alloc();
+    let plan = plan(alloc, &Question::standard(alloc, Query::Q1_2)?)?;
+    let printed = format!(in alloc; "{:?}", plan.dates)?;
+    assert_eq!(rt;
+        printed.as_str(),
+        "[Test { column: Column { table: Date, place: 6 }, cond: NumberIs(199401) }]"
+    );
+    let whole = format!(in alloc; "{plan:?}")?;
+    assert!(rt; whole.as_str().contains("measure: PriceTimesDiscount"));
+    Ok(())
+}

@@ -1,37 +1,52 @@
 -- The replies of the one-thread warehouse, and others.
-use Rattle.std.proofs.Common.{◌≡◌, true, false, [], ◌∷◌, Ok, Err, refl, sym, ◌∙◌, ap, inl, inr}
+use Rattle.std.proofs.Common.{◌≡◌, ◌⊎◌, Bool, true, false, List, [], ◌∷◌, Result, refl, sym, ◌∙◌, ap, inl, inr}
+use Rattle.ssb_schema.specs.declared.refresh.Action.{Action}
 use Rattle.ssb_queries.specs.declared.answer.Answer.TheVariants.{Rows, Unserved}
+use Rattle.ssb_queries.specs.declared.answer.Unserved.{Unserved as Cause}
 use Rattle.row_store.specs.History.{Warehouse}
-use Rattle.row_store.specs.declared.refusal.RefreshError.TheVariants.{Refused, OutOfMemory}
+use Rattle.row_store.specs.Legal.{IsRefreshReply}
+use Rattle.row_store.specs.declared.commit.Receipt.{Receipt}
+use Rattle.row_store.specs.declared.refusal.RefreshError.{RefreshError}
 use Rattle.ssb_script.specs.Requests.{Request, Refresh, Ask}
-use Rattle.ssb_report.specs.Replies.{Reply, Refreshed, Answered, true_reply, IsInsteadOfReply, committed_by, with_commits}
-use Rattle.ssb_report.specs.Laws.{true_replies, wants_memory, TrueRepliesAnswer, OthersWantMemory}
+use Rattle.ssb_report.specs.Replies.{Reply, Refreshed, Answered, true_reply, IsReply, committed_by, with_commits}
+use Rattle.ssb_report.specs.Laws.{true_replies, gives_up, TrueRepliesAnswer, OthersGiveUp}
 
--- what stands in place of the warehouse's reply tells that memory ran out
-instead_wants : (warehouse : Warehouse) (request : Request) (reply : Reply) → IsInsteadOfReply warehouse request reply → wants_memory reply ≡ true
-instead_wants warehouse (Refresh actions) (Refreshed (Ok receipt)) instead = absurd instead
-instead_wants warehouse (Refresh actions) (Refreshed (Err (Refused at action cause))) instead = absurd instead
-instead_wants warehouse (Refresh actions) (Refreshed (Err OutOfMemory)) instead = refl
-instead_wants warehouse (Refresh actions) (Answered answer) instead = absurd instead
-instead_wants warehouse (Ask question) (Refreshed result) instead = absurd instead
-instead_wants warehouse (Ask question) (Answered (Rows query at rows)) instead = absurd instead
-instead_wants warehouse (Ask question) (Answered (Unserved query cause)) instead = refl
+-- a reply is that of the one-thread warehouse, or gives up
+abbrev TrueOrGivenUp : Warehouse → Request → Reply → Type 0
+TrueOrGivenUp warehouse request reply = (reply ≡ true_reply warehouse request) ⊎ (gives_up reply ≡ true)
+
+refreshed_so : (warehouse : Warehouse) (actions : List Action) (reply : Result Receipt RefreshError) → IsRefreshReply warehouse.base warehouse.log actions reply → TrueOrGivenUp warehouse (Refresh actions) (Refreshed reply)
+refreshed_so warehouse actions reply is = elim is [
+  | inl same ↦ inl (ap Refreshed same)
+  | inr full ↦ inr (ap (λ r. gives_up (Refreshed r)) full.0)
+]
+
+true_or_given_up : (causes : Cause → Bool) (warehouse : Warehouse) (request : Request) (reply : Reply) → IsReply causes warehouse request reply → TrueOrGivenUp warehouse request reply
+true_or_given_up causes warehouse (Refresh actions) (Refreshed reply) is = refreshed_so warehouse actions reply is
+true_or_given_up causes warehouse (Refresh actions) (Answered answer) is = absurd is
+true_or_given_up causes warehouse (Ask question) (Refreshed result) is = absurd is
+true_or_given_up causes warehouse (Ask question) (Answered (Rows query at rows)) is = inl (ap Answered is)
+true_or_given_up causes warehouse (Ask question) (Answered (Unserved query cause)) is = inr refl
+
+true_reply_may : (causes : Cause → Bool) (warehouse : Warehouse) (request : Request) → IsReply causes warehouse request (true_reply warehouse request)
+true_reply_may causes warehouse (Refresh actions) = inl refl
+true_reply_may causes warehouse (Ask question) = refl
 
 pub true_replies_answer : TrueRepliesAnswer
-true_replies_answer client warehouse [] = tt
-true_replies_answer client warehouse (request ∷ requests) =
-    (inl refl, true_replies_answer client (with_commits warehouse (committed_by client request (true_reply warehouse request))) requests)
+true_replies_answer causes client warehouse [] = tt
+true_replies_answer causes client warehouse (request ∷ requests) =
+    (true_reply_may causes warehouse request, true_replies_answer causes client (with_commits warehouse (committed_by client request (true_reply warehouse request))) requests)
 
-pub others_want_memory : OthersWantMemory
-others_want_memory client warehouse [] [] are served = refl
-others_want_memory client warehouse [] (reply ∷ replies) are served = absurd are
-others_want_memory client warehouse (request ∷ requests) [] are served = absurd are
-others_want_memory client warehouse (request ∷ requests) (reply ∷ replies) are served =
-    let others = others_want_memory client (with_commits warehouse (committed_by client request reply)) requests replies are.1 served.1 in
-    elim are.0 [
+pub others_give_up : OthersGiveUp
+others_give_up causes client warehouse [] [] are served = refl
+others_give_up causes client warehouse [] (reply ∷ replies) are served = absurd are
+others_give_up causes client warehouse (request ∷ requests) [] are served = absurd are
+others_give_up causes client warehouse (request ∷ requests) (reply ∷ replies) are served =
+    let others = others_give_up causes client (with_commits warehouse (committed_by client request reply)) requests replies are.1 served.1 in
+    elim (true_or_given_up causes warehouse request reply are.0) [
       | inl same ↦ ap (λ first. first ∷ replies) same
           ∙ ap (λ rest. true_reply warehouse request ∷ rest) (others ∙ ap (λ first. true_replies client (with_commits warehouse (committed_by client request first)) requests) same)
-      | inr instead ↦ absurd (cc_false (sym (instead_wants warehouse request reply instead) ∙ served.0))
+      | inr given_up ↦ absurd (cc_false (sym given_up ∙ served.0))
     ]
   where
     cc_false : true ≡ false → ⊥

@@ -1,13 +1,18 @@
 -- Serving one request after another.
-use Rattle.std.proofs.Common.{◌≡◌, ℕ, ◌+◌, suc, List, [], ◌∷◌, ◌++◌, length, take, drop, Option, Result, Ok, Err, OnOk, OnErr, refl, sym, ◌∙◌, ap, subst, append_assoc, append-nil}
+use Rattle.std.proofs.Common.{◌≡◌, ℕ, ◌+◌, suc, Bool, List, [], ◌∷◌, ◌++◌, length, take, drop, Option, Result, Ok, Err, OnOk, OnErr, refl, sym, ◌∙◌, ap, subst, append_assoc, append-nil}
 use Rattle.std.proofs.Math.Seq.{drop-append_seam, take-append-add}
 use Rattle.std.proofs.lemmas.List.Concat.{flat_map-append}
 use Rattle.std.specs.Io.KnownBytes.{Appends}
 use Rattle.ssb_schema.specs.Base.{Tables}
 use Rattle.row_store.specs.History.{CommitRecord, Warehouse}
-use Rattle.ssb_script.specs.Requests.{Request}
-use Rattle.ssb_report.specs.Written.{AppendsPart}
-use Rattle.ssb_report.specs.Replies.{Reply, IsReply, reply_text, committed_by, with_commits}
+use Rattle.ssb_script.specs.Requests.{Request, Refresh}
+use Rattle.ssb_report.specs.Written.{StopsShort}
+use Rattle.ssb_schema.specs.declared.refresh.Action.{Action}
+use Rattle.ssb_queries.specs.declared.answer.Unserved.{Unserved as Cause}
+use Rattle.row_store.specs.History.{with_commit}
+use Rattle.row_store.specs.declared.commit.Receipt.{Receipt}
+use Rattle.row_store.specs.declared.refusal.RefreshError.{RefreshError}
+use Rattle.ssb_report.specs.Replies.{Reply, Refreshed, IsReply, memory_alone, reply_text, committed_by, with_commits}
 use Rattle.ssb_report.specs.Report.{AreReplies, committed, report_of, Serves, StopsAfter, IsBehind}
 use Rattle.ssb_report.specs.Serving.{TakesPart, Answers, AnswersInPart}
 use Rattle.ssb_report.proofs.WrittenLaws.{appends_none, appends_both}
@@ -47,63 +52,70 @@ behind_at_start lines store base fresh_lines fresh_store = record {
 }
 
 -- as many replies as requests
-pub same_count : (client : ℕ) (old : Warehouse) (requests : List Request) (replies : List Reply) → AreReplies client old requests replies → length replies ≡ length requests
-same_count client old [] [] are = refl
-same_count client old [] (reply ∷ replies) are = absurd are
-same_count client old (request ∷ requests) [] are = absurd are
-same_count client old (request ∷ requests) (reply ∷ replies) are = ap suc (same_count client _ requests replies are.1)
+pub same_count : (causes : Cause → Bool) (client : ℕ) (old : Warehouse) (requests : List Request) (replies : List Reply) → AreReplies causes client old requests replies → length replies ≡ length requests
+same_count causes client old [] [] are = refl
+same_count causes client old [] (reply ∷ replies) are = absurd are
+same_count causes client old (request ∷ requests) [] are = absurd are
+same_count causes client old (request ∷ requests) (reply ∷ replies) are = ap suc (same_count causes client _ requests replies are.1)
 
 -- replies, and one more
-replies_more : (client : ℕ) (old : Warehouse) (requests : List Request) (replies : List Reply) (request : Request) (reply : Reply)
-    → AreReplies client old requests replies → IsReply (with_commits old (committed client requests replies)) request reply
-    → AreReplies client old (requests ++ request ∷ []) (replies ++ reply ∷ [])
-replies_more client old [] [] request reply are next = (subst (λ w. IsReply w request reply) (with_none old) next, tt)
-replies_more client old [] (other ∷ replies) request reply are next = absurd are
-replies_more client old (other ∷ requests) [] request reply are next = absurd are
-replies_more client old (first ∷ requests) (answer ∷ replies) request reply are next = (
+replies_more : (causes : Cause → Bool) (client : ℕ) (old : Warehouse) (requests : List Request) (replies : List Reply) (request : Request) (reply : Reply)
+    → AreReplies causes client old requests replies → IsReply causes (with_commits old (committed client requests replies)) request reply
+    → AreReplies causes client old (requests ++ request ∷ []) (replies ++ reply ∷ [])
+replies_more causes client old [] [] request reply are next = (subst (λ w. IsReply causes w request reply) (with_none old) next, tt)
+replies_more causes client old [] (other ∷ replies) request reply are next = absurd are
+replies_more causes client old (other ∷ requests) [] request reply are next = absurd are
+replies_more causes client old (first ∷ requests) (answer ∷ replies) request reply are next = (
   are.0,
-  replies_more client (with_commits old (committed_by client first answer)) requests replies request reply are.1
-      (subst (λ w. IsReply w request reply) (sym (with_both old (committed_by client first answer) (committed client requests replies))) next),
+  replies_more causes client (with_commits old (committed_by client first answer)) requests replies request reply are.1
+      (subst (λ w. IsReply causes w request reply) (sym (with_both old (committed_by client first answer) (committed client requests replies))) next),
 )
 
-committed_more : (client : ℕ) (old : Warehouse) (requests : List Request) (replies : List Reply) (request : Request) (reply : Reply)
-    → AreReplies client old requests replies
+committed_more : (causes : Cause → Bool) (client : ℕ) (old : Warehouse) (requests : List Request) (replies : List Reply) (request : Request) (reply : Reply)
+    → AreReplies causes client old requests replies
     → committed client (requests ++ request ∷ []) (replies ++ reply ∷ []) ≡ committed client requests replies ++ committed_by client request reply
-committed_more client old [] [] request reply are = append-nil (committed_by client request reply)
-committed_more client old [] (other ∷ replies) request reply are = absurd are
-committed_more client old (other ∷ requests) [] request reply are = absurd are
-committed_more client old (first ∷ requests) (answer ∷ replies) request reply are =
-    ap (λ commits. committed_by client first answer ++ commits) (committed_more client (with_commits old (committed_by client first answer)) requests replies request reply are.1)
+committed_more causes client old [] [] request reply are = append-nil (committed_by client request reply)
+committed_more causes client old [] (other ∷ replies) request reply are = absurd are
+committed_more causes client old (other ∷ requests) [] request reply are = absurd are
+committed_more causes client old (first ∷ requests) (answer ∷ replies) request reply are =
+    ap (λ commits. committed_by client first answer ++ commits) (committed_more causes client (with_commits old (committed_by client first answer)) requests replies request reply are.1)
     ∙ sym (append_assoc (committed_by client first answer) (committed client requests replies) (committed_by client request reply))
+
+-- a refresh that was answered
+pub refreshed_store : (client : ℕ) (old new : Warehouse) (actions : List Action) (reply : Result Receipt RefreshError)
+    → OnOk reply (new ≡ with_commit old (record { client = client; actions = actions })) → OnErr reply (new ≡ old)
+    → new ≡ with_commits old (committed_by client (Refresh actions) (Refreshed reply))
+refreshed_store client old new actions (Ok receipt) grown same = grown
+refreshed_store client old new actions (Err error) grown same = same ∙ sym (with_none old)
 
 -- a request whose reply was written, or a part of it
 pub answers_ok : {X E : Type 0} (r : Result X E) (client : ℕ) (old new : Warehouse) (request : Request) (reply : Reply) (a b : Option (List ℕ))
-    → IsReply old request reply → new ≡ with_commits old (committed_by client request reply)
+    → IsReply memory_alone old request reply → new ≡ with_commits old (committed_by client request reply)
     → OnOk r (Appends a b (reply_text reply)) → OnOk r (Answers client old new request a b)
 answers_ok (Ok v) client old new request reply a b answered grown written = record { reply = reply; answered = answered; grown = grown; written = written }
 answers_ok (Err e) client old new request reply a b answered grown written = tt
 
 pub answers_part : {X E : Type 0} (r : Result X E) (client : ℕ) (old new : Warehouse) (request : Request) (reply : Reply) (a b : Option (List ℕ))
-    → IsReply old request reply → new ≡ with_commits old (committed_by client request reply)
-    → OnErr r (AppendsPart a b (reply_text reply)) → OnErr r (AnswersInPart client old new request a b)
+    → IsReply memory_alone old request reply → new ≡ with_commits old (committed_by client request reply)
+    → OnErr r (StopsShort a b (reply_text reply)) → OnErr r (AnswersInPart client old new request a b)
 answers_part (Ok v) client old new request reply a b answered grown written = tt
 answers_part (Err e) client old new request reply a b answered grown written = record { reply = reply; answered = answered; grown = grown; written = written }
 
 -- no request
-pub serves_none : (client : ℕ) (old : Warehouse) (before : Option (List ℕ)) → Serves client old old [] before before
+pub serves_none : (client : ℕ) (old : Warehouse) (before : Option (List ℕ)) → Serves memory_alone client old old [] before before
 serves_none client old before = record { replies = []; answered = tt; grown = sym (with_none old); written = appends_none before }
 
 -- one request more
 pub serves_more : (client : ℕ) (old mid new : Warehouse) (requests : List Request) (request : Request) (a b c : Option (List ℕ))
-    → Serves client old mid requests a b → Answers client mid new request b c → Serves client old new (requests ++ request ∷ []) a c
+    → Serves memory_alone client old mid requests a b → Answers client mid new request b c → Serves memory_alone client old new (requests ++ request ∷ []) a c
 serves_more client old mid new requests request a b c served next =
     let replies = served.replies in
     record {
       replies = replies ++ next.reply ∷ [];
-      answered = replies_more client old requests replies request next.reply served.answered (subst (λ w. IsReply w request next.reply) served.grown next.answered);
+      answered = replies_more memory_alone client old requests replies request next.reply served.answered (subst (λ w. IsReply memory_alone w request next.reply) served.grown next.answered);
       grown = next.grown ∙ ap (λ w. with_commits w (committed_by client request next.reply)) served.grown
           ∙ with_both old (committed client requests replies) (committed_by client request next.reply)
-          ∙ ap (λ commits. with_commits old commits) (sym (committed_more client old requests replies request next.reply served.answered));
+          ∙ ap (λ commits. with_commits old commits) (sym (committed_more memory_alone client old requests replies request next.reply served.answered));
       written = subst (Appends a c) (sym (flat_map-append reply_text replies (next.reply ∷ []) ∙ ap (λ t. report_of replies ++ t) (append-nil (reply_text next.reply))))
           (appends_both a b c (report_of replies) (reply_text next.reply) served.written next.written);
     }
@@ -113,20 +125,21 @@ take_next : (front rest : List Request) (request : Request) → take (length fro
 take_next front rest request = take-append-add front (request ∷ rest) 1
 
 pub stops_there : (client : ℕ) (old mid new : Warehouse) (front rest : List Request) (request : Request) (a b c : Option (List ℕ))
-    → Serves client old mid front a b → AnswersInPart client mid new request b c → StopsAfter (length front) client old new (front ++ request ∷ rest) a c
+    → Serves memory_alone client old mid front a b → AnswersInPart client mid new request b c → StopsAfter memory_alone (length front) client old new (front ++ request ∷ rest) a c
 stops_there client old mid new front rest request a b c served next =
     let replies = served.replies in
     let first = take_next front rest request in
     record {
       replies = replies;
       last = next.reply;
-      count = same_count client old front replies served.answered;
-      answered = rw first (replies_more client old front replies request next.reply served.answered (subst (λ w. IsReply w request next.reply) served.grown next.answered));
+      count = same_count memory_alone client old front replies served.answered;
+      answered = rw first (replies_more memory_alone client old front replies request next.reply served.answered (subst (λ w. IsReply memory_alone w request next.reply) served.grown next.answered));
       grown = rw first (next.grown ∙ ap (λ w. with_commits w (committed_by client request next.reply)) served.grown
           ∙ with_both old (committed client front replies) (committed_by client request next.reply)
-          ∙ ap (λ commits. with_commits old commits) (sym (committed_more client old front replies request next.reply served.answered)));
+          ∙ ap (λ commits. with_commits old commits) (sym (committed_more memory_alone client old front replies request next.reply served.answered)));
       part = next.written.part;
       rest = next.written.rest;
       begins = next.written.begins;
+      left = next.written.left;
       written = appends_both a b c (report_of replies) next.written.part served.written next.written.appends;
     }

@@ -2,6 +2,7 @@
 use Rattle.std.specs.Prelude.{◌≡◌, ℕ, Bool, true, false, List, [], ◌∷◌, Ok, Err}
 use Rattle.std.specs.List.{AllByRecursion}
 use Rattle.ssb_queries.specs.declared.answer.Answer.TheVariants.{Rows, Unserved}
+use Rattle.ssb_queries.specs.declared.answer.Unserved.{Unserved as Cause}
 use Rattle.row_store.specs.History.{Warehouse}
 use Rattle.row_store.specs.declared.refusal.RefreshError.TheVariants.{Refused, OutOfMemory}
 use Rattle.ssb_script.specs.Requests.{Request}
@@ -14,20 +15,20 @@ true_replies client warehouse [] = []
 true_replies client warehouse (request ∷ requests) =
     true_reply warehouse request ∷ true_replies client (with_commits warehouse (committed_by client request (true_reply warehouse request))) requests
 
--- whether a reply tells that memory ran out
-abbrev pub wants_memory : Reply → Bool
-wants_memory (Refreshed (Ok receipt)) = false
-wants_memory (Refreshed (Err (Refused at action cause))) = false
-wants_memory (Refreshed (Err OutOfMemory)) = true
-wants_memory (Answered (Rows query at rows)) = false
-wants_memory (Answered (Unserved query cause)) = true
+-- whether a reply tells that its request was given up
+abbrev pub gives_up : Reply → Bool
+gives_up (Refreshed (Ok receipt)) = false
+gives_up (Refreshed (Err (Refused at action cause))) = false
+gives_up (Refreshed (Err OutOfMemory)) = true
+gives_up (Answered (Rows query at rows)) = false
+gives_up (Answered (Unserved query cause)) = true
 
 -- they answer every list of requests
 abbrev pub TrueRepliesAnswer : Type 0
-TrueRepliesAnswer = (client : ℕ) (warehouse : Warehouse) (requests : List Request) → AreReplies client warehouse requests (true_replies client warehouse requests)
+TrueRepliesAnswer = (causes : Cause → Bool) (client : ℕ) (warehouse : Warehouse) (requests : List Request) → AreReplies causes client warehouse requests (true_replies client warehouse requests)
 
--- and no other replies do, where none tells that memory ran out
-abbrev pub OthersWantMemory : Type 0
-OthersWantMemory =
-    (client : ℕ) (warehouse : Warehouse) (requests : List Request) (replies : List Reply)
-    → AreReplies client warehouse requests replies → AllByRecursion (λ reply. wants_memory reply ≡ false) replies → replies ≡ true_replies client warehouse requests
+-- and no other replies do, where none tells that its request was given up
+abbrev pub OthersGiveUp : Type 0
+OthersGiveUp =
+    (causes : Cause → Bool) (client : ℕ) (warehouse : Warehouse) (requests : List Request) (replies : List Reply)
+    → AreReplies causes client warehouse requests replies → AllByRecursion (λ reply. gives_up reply ≡ false) replies → replies ≡ true_replies client warehouse requests

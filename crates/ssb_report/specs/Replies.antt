@@ -1,18 +1,17 @@
--- The replies to requests: those of the one-thread warehouse, and those that want of memory allows.
-use Rattle.std.specs.Prelude.{◌≡◌, ℕ, ◌⊎◌, List, [], ◌∷◌, ◌++◌, length, None, Result, Ok, Err}
+-- The replies to requests: those of the one-thread warehouse, and those that may stand in their place.
+use Rattle.std.specs.Prelude.{◌≡◌, ℕ, Bool, true, false, List, [], ◌∷◌, ◌++◌, length, Result, Ok, Err}
 use Rattle.ssb_plans.specs.declared.query.Query.{Query as Named}
 use Rattle.ssb_plans.specs.declared.value.Value.{Value}
 use Rattle.ssb_schema.specs.Facts.{facts_of}
 use Rattle.ssb_queries.specs.Answer.{answer_of}
 use Rattle.ssb_queries.specs.declared.answer.Answer.{Answer}
 use Rattle.ssb_queries.specs.declared.answer.Answer.TheVariants.{Rows, Unserved}
-use Rattle.ssb_queries.specs.declared.answer.Unserved.TheVariants as unserved
+use Rattle.ssb_queries.specs.declared.answer.Unserved.{Unserved as Cause}
+use Rattle.ssb_queries.specs.declared.answer.Unserved.TheVariants.{OutOfMemory, Twin}
 use Rattle.row_store.specs.History.{CommitRecord, Warehouse, lines_after}
-use Rattle.row_store.specs.Refusals.{refusal_of}
-use Rattle.row_store.specs.Legal.{warehouse_reply}
+use Rattle.row_store.specs.Legal.{warehouse_reply, IsRefreshReply}
 use Rattle.row_store.specs.declared.commit.Receipt.{Receipt}
 use Rattle.row_store.specs.declared.refusal.RefreshError.{RefreshError}
-use Rattle.row_store.specs.declared.refusal.RefreshError.TheVariants.{OutOfMemory}
 use Rattle.ssb_script.specs.Requests.{Request}
 use Rattle.ssb_script.specs.Requests.{Refresh, Ask}
 use Rattle.ssb_report.specs.RefreshText.{receipt_text, refusal_text}
@@ -39,14 +38,22 @@ abbrev pub true_reply : Warehouse → Request → Reply
 true_reply warehouse (Refresh actions) = Refreshed (warehouse_reply warehouse.base warehouse.log actions)
 true_reply warehouse (Ask question) = Answered (warehouse_answer warehouse question)
 
--- a reply that may stand in its place: memory ran out for a refresh that would be accepted, or for the answer
-abbrev pub IsInsteadOfReply : Warehouse → Request → Reply → Type 0
-IsInsteadOfReply warehouse (Refresh actions) (Refreshed (Err OutOfMemory)) = refusal_of warehouse.base warehouse.log actions ≡ None
-IsInsteadOfReply warehouse (Ask question) (Answered (Unserved query unserved.OutOfMemory)) = query ≡ question
-IsInsteadOfReply warehouse request reply = ⊥
+-- whether a question may be left unanswered for this cause where one thread serves: memory ran out
+abbrev pub memory_alone : Cause → Bool
+memory_alone OutOfMemory = true
+memory_alone (Twin told found) = false
 
-abbrev pub IsReply : Warehouse → Request → Reply → Type 0
-IsReply warehouse request reply = (reply ≡ true_reply warehouse request) ⊎ IsInsteadOfReply warehouse request reply
+-- a question has the answer of the one-thread warehouse, or is left unanswered for one of the causes that may stand
+abbrev pub IsAnswer : (Cause → Bool) → Warehouse → Named × List Value → Answer → Type 0
+IsAnswer causes warehouse question (Rows query at rows) = Rows query at rows ≡ warehouse_answer warehouse question
+IsAnswer causes warehouse question (Unserved query cause) = (query ≡ question) × (causes cause ≡ true)
+
+-- a reply that may be given: to a refresh that of the one-thread warehouse, or that memory ran out where that is a receipt
+abbrev pub IsReply : (Cause → Bool) → Warehouse → Request → Reply → Type 0
+IsReply causes warehouse (Refresh actions) (Refreshed reply) = IsRefreshReply warehouse.base warehouse.log actions reply
+IsReply causes warehouse (Ask question) (Answered answer) = IsAnswer causes warehouse question answer
+IsReply causes warehouse (Refresh actions) (Answered answer) = ⊥
+IsReply causes warehouse (Ask question) (Refreshed reply) = ⊥
 
 -- the commit that a client's request becomes where the reply is a receipt
 abbrev pub committed_by : ℕ → Request → Reply → List CommitRecord

@@ -1,17 +1,18 @@
--- The report of a list of requests.
-use Rattle.std.specs.Prelude.{◌≡◌, ℕ, ◌+◌, List, [], ◌∷◌, ◌++◌, length, take, flat_map, Option}
+-- The report of a list of requests. For which causes a question may be left unanswered is given.
+use Rattle.std.specs.Prelude.{◌≡◌, ℕ, ◌+◌, ◌<◌, Bool, List, [], ◌∷◌, ◌++◌, length, take, flat_map, Option}
 use Rattle.std.specs.Io.KnownBytes.{Appends}
 use Rattle.row_store.specs.History.{CommitRecord, Warehouse, IsPrefix}
+use Rattle.ssb_queries.specs.declared.answer.Unserved.{Unserved as Cause}
 use Rattle.ssb_script.specs.Requests.{Request}
 use Rattle.ssb_report.specs.Replies.{Reply, IsReply, reply_text, committed_by, with_commits}
 
 -- the replies may be given to a client's requests, one after another, from a warehouse that each commit makes longer
-abbrev pub AreReplies : ℕ → Warehouse → List Request → List Reply → Type 0
-AreReplies client warehouse [] [] = Unit {0}
-AreReplies client warehouse (request ∷ requests) (reply ∷ replies) =
-    IsReply warehouse request reply × AreReplies client (with_commits warehouse (committed_by client request reply)) requests replies
-AreReplies client warehouse [] (reply ∷ replies) = ⊥
-AreReplies client warehouse (request ∷ requests) [] = ⊥
+abbrev pub AreReplies : (Cause → Bool) → ℕ → Warehouse → List Request → List Reply → Type 0
+AreReplies causes client warehouse [] [] = Unit {0}
+AreReplies causes client warehouse (request ∷ requests) (reply ∷ replies) =
+    IsReply causes warehouse request reply × AreReplies causes client (with_commits warehouse (committed_by client request reply)) requests replies
+AreReplies causes client warehouse [] (reply ∷ replies) = ⊥
+AreReplies causes client warehouse (request ∷ requests) [] = ⊥
 
 -- the commits that a client's requests become by these replies, in order
 abbrev pub committed : ℕ → List Request → List Reply → List CommitRecord
@@ -24,22 +25,23 @@ abbrev pub report_of : List Reply → List ℕ
 report_of replies = flat_map reply_text replies
 
 -- all requests of a client were answered: what was written is a report of them, and the log is longer by what it calls committed
-pub record Serves (client : ℕ) (old new : Warehouse) (requests : List Request) (before after : Option (List ℕ)) : Type 0 where
+pub record Serves (causes : Cause → Bool) (client : ℕ) (old new : Warehouse) (requests : List Request) (before after : Option (List ℕ)) : Type 0 where
   pub replies : List Reply
-  pub answered : AreReplies client old requests replies
+  pub answered : AreReplies causes client old requests replies
   pub grown : new ≡ with_commits old (committed client requests replies)
   pub written : Appends before after (report_of replies)
 
--- the first requests and one more were answered: what was written is a report of the first ones and a part of that of the last reply
-pub record StopsAfter (done client : ℕ) (old new : Warehouse) (requests : List Request) (before after : Option (List ℕ)) : Type 0 where
+-- the first requests and one more were answered: what was written is a report of the first ones and a part of that of the last reply, of which something is left
+pub record StopsAfter (causes : Cause → Bool) (done client : ℕ) (old new : Warehouse) (requests : List Request) (before after : Option (List ℕ)) : Type 0 where
   pub replies : List Reply
   pub last : Reply
   pub count : length replies ≡ done
-  pub answered : AreReplies client old (take (done + 1) requests) (replies ++ last ∷ [])
+  pub answered : AreReplies causes client old (take (done + 1) requests) (replies ++ last ∷ [])
   pub grown : new ≡ with_commits old (committed client (take (done + 1) requests) (replies ++ last ∷ []))
   pub part : List ℕ
   pub rest : List ℕ
   pub begins : reply_text last ≡ part ++ rest
+  pub left : 0 < length rest
   pub written : Appends before after (report_of replies ++ part)
 
 -- the lines have taken the first commits of the store, over the same base

@@ -7,6 +7,7 @@ use Rattle.ssb_script.specs.Scripts.{SpellsScript, IsScriptFault}
 use Rattle.ssb_script.specs.declared.error.ScriptError.{ScriptError}
 use Rattle.ssb_report.specs.declared.fault.RunError.{RunError}
 use Rattle.ssb_report.specs.declared.fault.RunError.TheVariants.{Script, Write}
+use Rattle.ssb_report.specs.Replies.{memory_alone}
 use Rattle.ssb_report.specs.Report.{Serves, StopsAfter}
 
 -- the most records of a script
@@ -22,7 +23,7 @@ pub record ServesAll (remaining : Option (List ℕ)) (done : ℕ) (old new : War
   pub requests : List Request
   pub asked : AreAsked remaining requests
   pub count : length requests ≡ done
-  pub served : Serves 1 old new requests before after
+  pub served : Serves memory_alone 1 old new requests before after
 
 -- the script could not be read: nothing was served and nothing written
 pub record IsUnread (remaining : Option (List ℕ)) (fault : ScriptError) (old new lines_old lines_new : Warehouse) (before after : Option (List ℕ)) : Type 0 where
@@ -35,7 +36,7 @@ pub record IsUnread (remaining : Option (List ℕ)) (fault : ScriptError) (old n
 pub record ServesPart (remaining : Option (List ℕ)) (done : ℕ) (old new : Warehouse) (before after : Option (List ℕ)) : Type 0 where
   pub requests : List Request
   pub asked : AreAsked remaining requests
-  pub stopped : StopsAfter done 1 old new requests before after
+  pub stopped : StopsAfter memory_alone done 1 old new requests before after
 
 -- how a run ends with an error
 abbrev pub Ends : Option (List ℕ) → RunError → Warehouse → Warehouse → Warehouse → Warehouse → Option (List ℕ) → Option (List ℕ) → Type 0

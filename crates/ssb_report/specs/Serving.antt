@@ -5,8 +5,8 @@ use Rattle.row_store.specs.History.{CommitRecord, Warehouse}
 use Rattle.ssb_script.specs.Requests.{Request}
 use Rattle.ssb_report.specs.declared.fault.RunError.{RunError}
 use Rattle.ssb_report.specs.declared.fault.RunError.TheVariants.{Script, Write}
-use Rattle.ssb_report.specs.Written.{AppendsPart}
-use Rattle.ssb_report.specs.Replies.{Reply, IsReply, reply_text, committed_by, with_commits}
+use Rattle.ssb_report.specs.Written.{StopsShort}
+use Rattle.ssb_report.specs.Replies.{Reply, IsReply, memory_alone, reply_text, committed_by, with_commits}
 use Rattle.ssb_report.specs.Report.{StopsAfter}
 
 -- the first of these commits were taken
@@ -19,18 +19,18 @@ pub record TakesPart (old new : Warehouse) (commits : List CommitRecord) : Type 
 -- a request was answered: what was written is the report of the reply, and the log is longer by what it calls committed
 pub record Answers (client : ℕ) (old new : Warehouse) (request : Request) (before after : Option (List ℕ)) : Type 0 where
   pub reply : Reply
-  pub answered : IsReply old request reply
+  pub answered : IsReply memory_alone old request reply
   pub grown : new ≡ with_commits old (committed_by client request reply)
   pub written : Appends before after (reply_text reply)
 
 -- a request was answered, but a part of the report alone was written
 pub record AnswersInPart (client : ℕ) (old new : Warehouse) (request : Request) (before after : Option (List ℕ)) : Type 0 where
   pub reply : Reply
-  pub answered : IsReply old request reply
+  pub answered : IsReply memory_alone old request reply
   pub grown : new ≡ with_commits old (committed_by client request reply)
-  pub written : AppendsPart before after (reply_text reply)
+  pub written : StopsShort before after (reply_text reply)
 
 -- serving stops only where a write fails
 abbrev pub Stops : RunError → ℕ → Warehouse → Warehouse → List Request → Option (List ℕ) → Option (List ℕ) → Type 0
 Stops (Script fault) client old new requests before after = ⊥
-Stops (Write done) client old new requests before after = StopsAfter done client old new requests before after
+Stops (Write done) client old new requests before after = StopsAfter memory_alone done client old new requests before after

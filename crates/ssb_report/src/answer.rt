@@ -1,7 +1,7 @@
 //! The report of an answer.
 ghost use Rattle.std.specs.Prelude.{◌≡◌, OnOk, OnErr, flat_map};
 ghost use Rattle.std.specs.Io.KnownBytes.{Appends};
-ghost use Rattle.ssb_report.specs.Written.{AppendsPart, Writes};
+ghost use Rattle.ssb_report.specs.Written.{StopsShort, Writes};
 ghost use Rattle.ssb_report.specs.Piece.{piece_text};
 ghost use Rattle.ssb_report.specs.AnswerText.{answer_text, unserved_text, head_text, row_text, rows_text, value_text, with_bar, after_bar};
 
@@ -130,7 +130,7 @@ fn write_unserved<W: Write>(writer: &mut W, query: Query, cause: Unserved) -> Re
 /// rows, and a line for each row; or the line of an unserved question. It takes no memory.
 pub fn write_answer<W: Write>(writer: &mut W, answer: &Answer) -> Result<(), WriteFault>
     ensures report { OnOk result (Appends (W.contents writer.old) (W.contents writer.new) (answer_text answer.now)) }
-    ensures fault { OnErr result (AppendsPart (W.contents writer.old) (W.contents writer.new) (answer_text answer.now)) }
+    ensures fault { OnErr result (StopsShort (W.contents writer.old) (W.contents writer.new) (answer_text answer.now)) }
 {
     match answer {
         Answer::Rows { query, at, rows } => {

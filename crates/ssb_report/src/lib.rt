@@ -9,7 +9,7 @@
 //! `Report` and `Run` (a script), `Laws` (with memory to spare there is one report).
 //!
 //! ```
-//! let mut store = RowStore::new(alloc, Arc::try_clone(&base)?)?;
+//! let mut store = RowStore::new(alloc, Arc::try_clone(&base)?, RandomState::new(&rt)?)?;
 //! let mut lines = PlainLines::new(alloc, base)?;
 //! let blocks = run_store(alloc, &mut store, &mut lines, "query|Q4.1".as_bytes(), &mut output)?;
 //! // Q4.1 at 0 rows 1

@@ -1,7 +1,7 @@
 //! The reports of refreshes.
 ghost use Rattle.std.specs.Prelude.{OnOk, OnErr};
 ghost use Rattle.std.specs.Io.KnownBytes.{Appends};
-ghost use Rattle.ssb_report.specs.Written.{AppendsPart, Writes};
+ghost use Rattle.ssb_report.specs.Written.{StopsShort, Writes};
 ghost use Rattle.ssb_report.specs.RefreshText.{receipt_text, refusal_text, refused_text, cause_text};
 
 use crate::fault::WriteFault;
@@ -12,7 +12,7 @@ use std::io::Write;
 /// Writes the report of a commit, its number. It takes no memory.
 pub fn write_receipt<W: Write>(writer: &mut W, receipt: &Receipt) -> Result<(), WriteFault>
     ensures report { OnOk result (Appends (W.contents writer.old) (W.contents writer.new) (receipt_text receipt.now)) }
-    ensures fault { OnErr result (AppendsPart (W.contents writer.old) (W.contents writer.new) (receipt_text receipt.now)) }
+    ensures fault { OnErr result (StopsShort (W.contents writer.old) (W.contents writer.new) (receipt_text receipt.now)) }
 {
     let number = Piece::Number(receipt.number);
     write_pieces(
@@ -74,7 +74,7 @@ fn write_refused<W: Write>(
 /// and the cause; or that memory ran out. It takes no memory.
 pub fn write_refusal<W: Write>(writer: &mut W, error: &RefreshError) -> Result<(), WriteFault>
     ensures report { OnOk result (Appends (W.contents writer.old) (W.contents writer.new) (refusal_text error.now)) }
-    ensures fault { OnErr result (AppendsPart (W.contents writer.old) (W.contents writer.new) (refusal_text error.now)) }
+    ensures fault { OnErr result (StopsShort (W.contents writer.old) (W.contents writer.new) (refusal_text error.now)) }
 {
     match error {
         RefreshError::Refused { at, action, cause } => {

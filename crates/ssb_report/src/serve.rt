@@ -5,22 +5,21 @@ ghost use Rattle.ssb_queries.specs.Answer.{answer_of};
 ghost use Rattle.row_store.specs.History.{Warehouse, lines_after};
 ghost use Rattle.ssb_script.specs.Requests as request;
 ghost use Rattle.std.specs.Io.KnownBytes.{Appends};
-ghost use Rattle.ssb_report.specs.Written.{AppendsPart};
-ghost use Rattle.ssb_report.specs.Replies.{IsReply, Refreshed, Answered, reply_text, committed_by, with_commits};
+ghost use Rattle.ssb_report.specs.Written.{StopsShort};
+ghost use Rattle.ssb_report.specs.Replies.{IsReply, Refreshed, Answered, memory_alone, reply_text, with_commits};
 ghost use Rattle.ssb_report.specs.Report.{Serves, StopsAfter, IsBehind};
 ghost use Rattle.ssb_report.specs.Serving.{TakesPart, Answers, AnswersInPart, Stops};
 
 use crate::answer::write_answer;
 use crate::fault::{RunError, WriteFault};
 use crate::refresh::{write_receipt, write_refusal};
-use row_store::{ApplyError, Commit, PlainLines, Receipt, RefreshError, Replica, RowStore};
+use row_store::{Commit, PlainLines, Receipt, RefreshError, Replica, RowStore};
 use ssb_plans::Question;
 use ssb_queries::{Answer, ResultRow, Rows, Unserved, plain};
-use ssb_schema::{Items, Refresh};
+use ssb_schema::Items;
 use ssb_script::{Block, Script};
 use std::alloc::{AllocError, Global};
 use std::io::Write;
-use std::sync::Arc;
 
 /// The number of the client whose script is served.
 pub const CLIENT: u32 = 1;
@@ -61,7 +60,7 @@ fn rows_of(
 // The answer to a question, or that there was no memory for it.
 fn ask(alloc: Global, store: &RowStore, lines: &mut PlainLines, question: Question) -> Answer
     requires { IsBehind lines.old store.now }
-    ensures reply { IsReply store.now (request.Ask question) (Answered result) }
+    ensures reply { IsReply memory_alone store.now (request.Ask question) (Answered result) }
     ensures behind { IsBehind lines.new store.now }
 {
     match rows_of(alloc, store, lines, &question) {
@@ -77,30 +76,13 @@ fn ask(alloc: Global, store: &RowStore, lines: &mut PlainLines, question: Questi
     }
 }
 
-// Applies a refresh of the client.
-fn refresh(store: &mut RowStore, refresh: Arc<Refresh>) -> Result<Receipt, RefreshError>
-    ensures reply { IsReply store.old (request.Refresh refresh.value) (Refreshed result) }
-    ensures store { store.new ≡ with_commits store.old (committed_by 1 (request.Refresh refresh.value) (Refreshed result)) }
-{
-    let at = store.len() as u64;
-    match store.apply(CLIENT, refresh) {
-        Ok(receipt) => Ok(receipt),
-        Err(ApplyError::Refused(refusal)) => Err(RefreshError::Refused {
-            at,
-            action: refusal.action,
-            cause: refusal.cause,
-        }),
-        Err(ApplyError::OutOfMemory) => Err(RefreshError::OutOfMemory),
-    }
-}
-
 // The report of a refresh's reply.
 fn write_reply<W: Write>(
     writer: &mut W,
     reply: &Result<Receipt, RefreshError>,
 ) -> Result<(), WriteFault>
     ensures report { OnOk result (Appends (W.contents writer.old) (W.contents writer.new) (reply_text (Refreshed reply.now))) }
-    ensures fault { OnErr result (AppendsPart (W.contents writer.old) (W.contents writer.new) (reply_text (Refreshed reply.now))) }
+    ensures fault { OnErr result (StopsShort (W.contents writer.old) (W.contents writer.new) (reply_text (Refreshed reply.now))) }
 {
     match reply {
         Ok(receipt) => write_receipt(writer, receipt),
@@ -122,7 +104,7 @@ fn serve_block<W: Write>(
     ensures behind { IsBehind lines.new store.new }
 {
     match block {
-        Block::Refresh(asked) => write_reply(writer, &refresh(store, asked)),
+        Block::Refresh(asked) => write_reply(writer, &store.refresh(CLIENT, asked)),
         Block::Ask(question) => write_answer(writer, &ask(alloc, store, lines, question)),
     }
 }
@@ -140,7 +122,7 @@ pub fn serve_script<W: Write>(
 ) -> Result<u64, RunError>
     requires { IsBehind lines.old store.old }
     ensures count { IfOk result (λ done. done ≡ length (request.requests_of script)) }
-    ensures served { OnOk result (Serves 1 store.old store.new (request.requests_of script) (W.contents writer.old) (W.contents writer.new)) }
+    ensures served { OnOk result (Serves memory_alone 1 store.old store.new (request.requests_of script) (W.contents writer.old) (W.contents writer.new)) }
     ensures stopped { IfErr result (λ error. Stops error 1 store.old store.new (request.requests_of script) (W.contents writer.old) (W.contents writer.new)) }
     ensures behind { IsBehind lines.new store.new }
 {

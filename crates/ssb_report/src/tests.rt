@@ -8,6 +8,7 @@ use ssb_plans::{Query, Question};
 use ssb_queries::{Answer, Unserved};
 use ssb_schema::{Base, Limits};
 use std::alloc::Global;
+use std::hash::RandomState;
 use std::io::{self, ErrorKind, Read, Write};
 use std::process::Abort;
 use std::sync::Arc;
@@ -68,9 +69,10 @@ Q4.1 at 1 rows 1
 ";
 
 // The small data set within these limits, in a store and lines without commits.
-fn opened(alloc: Global, limits: Limits) -> Result<(RowStore, PlainLines), Fail>
+fn opened(rt: &HostRuntime, limits: Limits) -> Result<(RowStore, PlainLines), Fail>
     ensures { IfOk result (λ made. IsBehind made.1 made.0) }
 {
+    let alloc = rt.alloc();
     let tables = Tables {
         customer: CUSTOMERS.as_bytes(),
         supplier: SUPPLIERS.as_bytes(),
@@ -79,13 +81,14 @@ fn opened(alloc: Global, limits: Limits) -> Result<(RowStore, PlainLines), Fail>
         lineorder: LINES.as_bytes(),
     };
     let base = Arc::new(alloc, load(alloc, limits, tables)?)?;
-    let store = RowStore::new(alloc, Arc::try_clone(&base)?)?;
+    let store = RowStore::new(alloc, Arc::try_clone(&base)?, RandomState::new(rt)?)?;
     Ok((store, PlainLines::new(alloc, base)?))
 }
 
 // Whether the script over the small data set within these limits has the report.
-fn reports(alloc: Global, limits: Limits, script: &str, report: &str) -> Result<bool, Fail> {
-    let (mut store, mut lines) = opened(alloc, limits)?;
+fn reports(rt: &HostRuntime, limits: Limits, script: &str, report: &str) -> Result<bool, Fail> {
+    let alloc = rt.alloc();
+    let (mut store, mut lines) = opened(rt, limits)?;
     let mut out = Vec::new(alloc);
     run_store(alloc, &mut store, &mut lines, script.as_bytes(), &mut out)?;
     Ok(out.as_slice() == report.as_bytes())
@@ -110,8 +113,8 @@ impl Write for Room {
 #[test]
 fn absent_order_refuses_the_whole_refresh(rt: HostRuntime) -> Result<(), Fail> {
     let alloc = rt.alloc();
-    assert!(rt; reports(alloc, Limits::standard(), STORED_RUN, STORED_REPORT)?);
-    assert!(rt; reports(alloc, Limits::standard(), "", "")?);
+    assert!(rt; reports(&rt, Limits::standard(), STORED_RUN, STORED_REPORT)?);
+    assert!(rt; reports(&rt, Limits::standard(), "", "")?);
     Ok(())
 }
 
@@ -129,7 +132,7 @@ fn reports_of_all_queries(rt: HostRuntime) -> Result<(), Fail> {
         ),
     ] {
         assert!(rt;
-            reports(rt.alloc(), Limits::standard(), script, report)?,
+            reports(&rt, Limits::standard(), script, report)?,
             "{script}"
         );
     }
@@ -150,7 +153,7 @@ fn constants_come_with_the_question(rt: HostRuntime) -> Result<(), Fail> {
         ),
     ] {
         assert!(rt;
-            reports(rt.alloc(), Limits::standard(), script, report)?,
+            reports(&rt, Limits::standard(), script, report)?,
             "{script}"
         );
     }
@@ -169,7 +172,7 @@ query|Q3.1
 ";
     let reports_again =
         "committed 1\nQ1.1 at 1 rows 1\n2000\nQ3.1 at 1 rows 1\nCHINA|JAPAN|1993|980\n";
-    assert!(rt; reports(rt.alloc(), Limits::standard(), again, reports_again)?);
+    assert!(rt; reports(&rt, Limits::standard(), again, reports_again)?);
     let still_there = "begin
 add
 line|1|1|2|2|2|19930101|o|0|24|1000|1000|2|980|600|0|19930101|AIR
@@ -177,7 +180,7 @@ withdraw|1
 commit
 ";
     let refused = "refused at 0 action 1: 41 Present 1\n";
-    assert!(rt; reports(rt.alloc(), Limits::standard(), still_there, refused)?);
+    assert!(rt; reports(&rt, Limits::standard(), still_there, refused)?);
     Ok(())
 }
 
@@ -201,7 +204,7 @@ commit
 committed 1
 refused at 1 action 0: 40 LogFull
 ";
-    assert!(rt; reports(rt.alloc(), four_lines, full, report)?);
+    assert!(rt; reports(&rt, four_lines, full, report)?);
     Ok(())
 }
 
@@ -215,7 +218,7 @@ query|Q1.1
 query|Q3.1
 ";
     let replaced = "committed 1\nQ1.1 at 1 rows 1\n2000\nQ3.1 at 1 rows 1\nCHINA|JAPAN|1993|980\n";
-    assert!(rt; reports(rt.alloc(), Limits::standard(), present, replaced)?);
+    assert!(rt; reports(&rt, Limits::standard(), present, replaced)?);
     let absent = "begin
 amend
 line|9|1|8|4|3|19971215|o|0|1|10|10|0|10|2000|0|19971215|AIR
@@ -228,7 +231,7 @@ commit
 ";
     let refused =
         "refused at 0 action 1: 48 AmendAbsent 9\nrefused at 0 action 2: 48 AmendAbsent 1\n";
-    assert!(rt; reports(rt.alloc(), Limits::standard(), absent, refused)?);
+    assert!(rt; reports(&rt, Limits::standard(), absent, refused)?);
     Ok(())
 }
 
@@ -236,7 +239,7 @@ commit
 fn failed_write_tells_how_many_blocks_were_done(rt: HostRuntime) -> Result<(), Fail> {
     let alloc = rt.alloc();
     for (room, done) in [(0, 0), (39, 0), (40, 1), (75, 1), (76, 2), (120, 3)] {
-        let (mut store, mut lines) = opened(alloc, Limits::standard())?;
+        let (mut store, mut lines) = opened(&rt, Limits::standard())?;
         let mut writer = Room(room);
         let ended = run_store(
             alloc,
@@ -247,7 +250,7 @@ fn failed_write_tells_how_many_blocks_were_done(rt: HostRuntime) -> Result<(), F
         );
         assert!(rt; ended == Err(RunError::Write(done)), "{room}");
     }
-    let (mut store, mut lines) = opened(alloc, Limits::standard())?;
+    let (mut store, mut lines) = opened(&rt, Limits::standard())?;
     let mut writer = Room(170);
     let ended = run_store(
         alloc,
@@ -263,7 +266,7 @@ fn failed_write_tells_how_many_blocks_were_done(rt: HostRuntime) -> Result<(), F
 #[test]
 fn commit_stands_after_a_failed_write(rt: HostRuntime) -> Result<(), Fail> {
     let alloc = rt.alloc();
-    let (mut store, mut lines) = opened(alloc, Limits::standard())?;
+    let (mut store, mut lines) = opened(&rt, Limits::standard())?;
     let mut writer = Room(120);
     let ended = run_store(
         alloc,
@@ -285,7 +288,7 @@ fn commit_stands_after_a_failed_write(rt: HostRuntime) -> Result<(), Fail> {
 #[test]
 fn bad_script_writes_and_changes_nothing(rt: HostRuntime) -> Result<(), Fail> {
     let alloc = rt.alloc();
-    let (mut store, mut lines) = opened(alloc, Limits::standard())?;
+    let (mut store, mut lines) = opened(&rt, Limits::standard())?;
     let mut out = Vec::new(alloc);
     let script = "begin
 add
@@ -319,7 +322,7 @@ impl Read for Broken {
 #[test]
 fn failed_read_serves_nothing(rt: HostRuntime) -> Result<(), Fail> {
     let alloc = rt.alloc();
-    let (mut store, mut lines) = opened(alloc, Limits::standard())?;
+    let (mut store, mut lines) = opened(&rt, Limits::standard())?;
     let mut out = Vec::new(alloc);
     let ended = run_store(alloc, &mut store, &mut lines, Broken(false), &mut out);
     assert!(rt; ended == Err(RunError::Script(ScriptError::Read)));

@@ -1,18 +1,18 @@
 -- Laws of the first fault of a list of rows.
-use Rattle.std.proofs.Common.{◌≡◌, ◌<◌, ◌≤◌, ℕ, zero, suc, ◌+◌, Bool, true, false, not, cond, ◌||◌, ◌&&◌, nat_eq, List, [], ◌∷◌, ◌++◌, Option, Some, None, length, take, drop, refl, sym, ◌∙◌, ap, arith}
+use Rattle.std.proofs.Common.{◌≡◌, ◌<◌, ◌≤◌, ℕ, zero, suc, ◌+◌, Bool, true, false, not, cond, ◌||◌, List}
+use Rattle.std.proofs.Common.{[], ◌∷◌, ◌++◌, Option, Some, None, length, take, drop, refl, sym, ◌∙◌, ap, arith}
 use Rattle.std.specs.List.{slice_get, list_any}
 use Rattle.std.proofs.lemmas.List.Folds.{list_any-append}
 use Rattle.std.proofs.lemmas.List.{take_more, drop_all, length-take, append_assoc, append-nil}
 use Rattle.std.proofs.lemmas.Option.{slice_get_within, get_or_from_slice_get}
-use Rattle.ssb_schema.specs.declared.table.Table.{Table}
 use Rattle.ssb_schema.specs.declared.fault.SchemaFault.{SchemaFault}
-use Rattle.ssb_schema.specs.declared.fault.SchemaFault.TheVariants as fault
 use Rattle.ssb_schema.specs.Columns.{or_else}
 use Rattle.ssb_schema.specs.FirstFault.{rows_fault, AreDistinct}
 use Rattle.ssb_schema.proofs.Checks.{drop_at_element}
 
 -- the first elements, and one more
-pub take_with_element : {X : Type 0} (xs : List X) (i : ℕ) (x : X) → slice_get xs i ≡ Some x → take (i + 1) xs ≡ take i xs ++ x ∷ []
+pub take_with_element : {X : Type 0} (xs : List X) (i : ℕ) (x : X) → slice_get xs i ≡ Some x
+    → take (i + 1) xs ≡ take i xs ++ x ∷ []
 take_with_element xs i x e =
     let within = slice_get_within xs i x e in
     take_more xs i x within ∙ ap (λ y. take i xs ++ y ∷ []) (get_or_from_slice_get xs i x x e)
@@ -40,23 +40,28 @@ or_else_none None b e = (refl, e)
 or_else_none (Some f) b e = absurd cc
 
 -- a test that found no fault
-pub test_none : {X : Type 0} (test : Bool) (f : X) (other : Option X) → cond test (Some f) other ≡ None → (test ≡ false) × (other ≡ None)
+pub test_none : {X : Type 0} (test : Bool) (f : X) (other : Option X) → cond test (Some f) other ≡ None → (test ≡ false)
+    × (other ≡ None)
 test_none true f other e = absurd cc
 test_none false f other e = (refl, e)
 
 -- the first fault from a row on is the fault there, or else the first one after it
-pub rows_fault_next : {R : Type 0} (f : List R → R → Option SchemaFault) (rows : List R) (i : ℕ) (r : R) → slice_get rows i ≡ Some r
-    → rows_fault f (take i rows) (drop i rows) ≡ or_else (f (take i rows) r) (rows_fault f (take (i + 1) rows) (drop (i + 1) rows))
+pub rows_fault_next : {R : Type 0} (f : List R → R → Option SchemaFault) (rows : List R) (i : ℕ) (r : R)
+    → slice_get rows i ≡ Some r
+    → rows_fault f (take i rows) (drop i rows)
+    ≡ or_else (f (take i rows) r) (rows_fault f (take (i + 1) rows) (drop (i + 1) rows))
 unfolding rows_fault
 rows_fault_next f rows i r e = rw (drop_at_element rows i r e, take_with_element rows i r e) refl
 
 -- past the last row there is no fault
-pub rows_fault_ends : {R : Type 0} (f : List R → R → Option SchemaFault) (earlier rows : List R) (i : ℕ) → length rows ≤ i → rows_fault f earlier (drop i rows) ≡ None
+pub rows_fault_ends : {R : Type 0} (f : List R → R → Option SchemaFault) (earlier rows : List R) (i : ℕ)
+    → length rows ≤ i → rows_fault f earlier (drop i rows) ≡ None
 unfolding rows_fault
 rows_fault_ends f earlier rows i le = rw (drop_all i rows le) refl
 
 -- no row has a fault where there is no first one
-pub rows_fault_none : {R : Type 0} (f : List R → R → Option SchemaFault) (earlier rows : List R) → rows_fault f earlier rows ≡ None
+pub rows_fault_none : {R : Type 0} (f : List R → R → Option SchemaFault) (earlier rows : List R)
+    → rows_fault f earlier rows ≡ None
     → (i : ℕ) (r : R) → slice_get rows i ≡ Some r → f (earlier ++ take i rows) r ≡ None
 unfolding rows_fault
 rows_fault_none f earlier [] e i r at = absurd cc
@@ -78,7 +83,8 @@ take-nil zero = refl
 take-nil (suc n) = refl
 
 -- an element of a list in which no element passes
-list_any_at : {X : Type 0} (p : X → Bool) (xs : List X) (i : ℕ) (x : X) → list_any p xs ≡ false → slice_get xs i ≡ Some x → p x ≡ false
+list_any_at : {X : Type 0} (p : X → Bool) (xs : List X) (i : ℕ) (x : X) → list_any p xs ≡ false
+    → slice_get xs i ≡ Some x → p x ≡ false
 list_any_at p [] i x none at = absurd cc
 list_any_at p (y ∷ ys) zero x none at = let same : y ≡ x = cc in rw (← same) (or_false (p y) (list_any p ys) none).0
 list_any_at p (y ∷ ys) (suc i) x none at = list_any_at p ys i x (or_false (p y) (list_any p ys) none).1 at
@@ -92,7 +98,8 @@ slice_get-take (x ∷ xs) (suc n) (suc i) lt = slice_get-take xs n i (omega (ari
 
 -- rows of which none is the same as an earlier one are distinct
 pub distinct_where_none : {R : Type 0} (same : R → R → Bool) (rows : List R)
-    → ((i : ℕ) (r : R) → slice_get rows i ≡ Some r → list_any (λ e. same e r) (take i rows) ≡ false) → AreDistinct same rows
+    → ((i : ℕ) (r : R) → slice_get rows i ≡ Some r → list_any (λ e. same e r) (take i rows) ≡ false)
+    → AreDistinct same rows
 distinct_where_none same rows none i j earlier later lt at_i at_j =
     list_any_at (λ e. same e later) (take j rows) i earlier (none j later at_j) (slice_get-take rows j i lt ∙ at_i)
 
@@ -104,8 +111,11 @@ one_more false true = refl
 one_more false false = refl
 
 -- whether a key is among those seen, after one more row
-pub seen_next : {R K : Type 0} (eq : K → K → Bool) (key : R → K) (rows : List R) (i : ℕ) (r : R) (q : K) (has after : Bool)
-    → slice_get rows i ≡ Some r → after ≡ cond (eq (key r) q) true has → has ≡ list_any (λ e. eq (key e) q) (take i rows)
+pub seen_next : {R K : Type 0} (eq : K → K → Bool) (key : R → K) (rows : List R) (i : ℕ) (r : R) (q : K)
+    (has after : Bool)
+    → slice_get rows i ≡ Some r → after ≡ cond (eq (key r) q) true has
+    → has ≡ list_any (λ e. eq (key e) q) (take i rows)
     → after ≡ list_any (λ e. eq (key e) q) (take (i + 1) rows)
 seen_next eq key rows i r q has after e added so_far =
-    added ∙ one_more (eq (key r) q) has ∙ rw (take_with_element rows i r e, list_any-append (λ e. eq (key e) q) (take i rows) (r ∷ []), so_far) refl
+    added ∙ one_more (eq (key r) q) has
+    ∙ rw (take_with_element rows i r e, list_any-append (λ e. eq (key e) q) (take i rows) (r ∷ []), so_far) refl

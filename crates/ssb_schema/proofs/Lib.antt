@@ -4,3 +4,4 @@ pub mod FirstFaultLaws
 pub mod OrderLaws
 pub mod BaseLaws
 pub mod PairLaws
+pub mod ColumnLaws

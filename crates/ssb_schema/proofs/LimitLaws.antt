@@ -1,5 +1,6 @@
 -- What a row without a fault keeps.
-use Rattle.std.proofs.Common.{◌≡◌, ◌<◌, ◌≤◌, ◌^◌, ℕ, zero, suc, ◌+◌, Bool, true, false, ◌||◌, nat_lt, cond, List, [], ◌∷◌, Option, Some, None, refl, arith}
+use Rattle.std.proofs.Common.{◌≡◌, ◌<◌, ◌≤◌, ◌^◌, ℕ, zero, suc, ◌+◌, Bool, true, false, ◌||◌, nat_lt, cond, List, []}
+use Rattle.std.proofs.Common.{◌∷◌, Option, Some, None, refl, arith}
 use Rattle.std.specs.List.{slice_get}
 use Rattle.std.proofs.lemmas.Bool.{ltb-false}
 use Rattle.ssb_schema.specs.declared.table.Table.{Table}
@@ -11,6 +12,7 @@ use Rattle.ssb_schema.specs.declared.fault.SchemaFault.{SchemaFault}
 use Rattle.ssb_schema.specs.Columns.{Value, Number, column_fault, first_fault, kinds_of, row_fault, or_else}
 use Rattle.ssb_schema.specs.declared.line.LineFields.{LineFields}
 use Rattle.ssb_schema.specs.declared.date.DateFields.{DateFields}
+use Rattle.ssb_schema.specs.Facts.{fact_of, IsFactWithinLimits}
 use Rattle.ssb_schema.specs.Rows.{date_values, line_values, IsWithinLimits}
 
 -- neither answer is there where the first of them is not
@@ -25,29 +27,37 @@ neither false true f e = absurd cc
 neither false false f e = (refl, refl)
 
 -- a number without a fault is within its range
-in_range : (column : Column) (least most n : ℕ) → column_fault column (kind.Number least most) (Number n) ≡ None → (least ≤ n) × (n ≤ most)
+in_range : (column : Column) (least most n : ℕ) → column_fault column (kind.Number least most) (Number n) ≡ None
+    → (least ≤ n) × (n ≤ most)
 in_range column least most n e =
     let h = neither (nat_lt n least) (nat_lt most n) _ e in
     (ltb-false n least h.0, ltb-false most n h.1)
 
 -- each number of a row without a fault is within its range
 pub number_within : (t : Table) (place i least most n : ℕ) (ks : List Kind) (vs : List Value)
-    → first_fault t place ks vs ≡ None → slice_get ks i ≡ Some (kind.Number least most) → slice_get vs i ≡ Some (Number n) → (least ≤ n) × (n ≤ most)
+    → first_fault t place ks vs ≡ None → slice_get ks i ≡ Some (kind.Number least most)
+    → slice_get vs i ≡ Some (Number n) → (least ≤ n) × (n ≤ most)
 unfolding first_fault
 number_within t place i least most n [] vs e at_k at_v = absurd cc
 number_within t place i least most n (k ∷ ks) [] e at_k at_v = absurd cc
 number_within t place zero least most n (k ∷ ks) (v ∷ vs) e at_k at_v =
-    let here = (or_else_none (column_fault (record { table = t; place = place }) k v) (first_fault t (place + 1) ks vs) e).0 in
+    let here =
+    (or_else_none (column_fault (record { table = t; place = place }) k v) (first_fault t (place + 1) ks vs) e).0 in
     let k-is : k ≡ kind.Number least most = cc in
     let v-is : v ≡ Number n = cc in
     in_range (record { table = t; place = place }) least most n (rw (k-is, v-is) at here)
-number_within t place (suc i) least most n (k ∷ ks) (v ∷ vs) e at_k at_v = number_within t (place + 1) i least most n ks vs (or_else_none (column_fault (record { table = t; place = place }) k v) (first_fault t (place + 1) ks vs) e).1 at_k at_v
+number_within t place (suc i) least most n (k ∷ ks) (v ∷ vs) e at_k at_v = number_within t
+    (place + 1) i least most n ks vs
+    (or_else_none (column_fault (record { table = t; place = place }) k v)
+    (first_fault t (place + 1) ks vs) e).1 at_k at_v
 
 -- a line without a fault is within the limits
 pub line_within : (r : LineFields) → row_fault table.Lineorder (line_values r) ≡ None → IsWithinLimits r
 line_within r e =
-    let at : (i least most n : ℕ) → slice_get (kinds_of table.Lineorder) i ≡ Some (kind.Number least most) → slice_get (line_values r) i ≡ Some (Number n) → (least ≤ n) × (n ≤ most)
-    = λ i least most n at_k at_v. number_within table.Lineorder 1 i least most n (kinds_of table.Lineorder) (line_values r) e at_k at_v in
+    let at : (i least most n : ℕ) → slice_get (kinds_of table.Lineorder) i ≡ Some (kind.Number least most)
+    → slice_get (line_values r) i ≡ Some (Number n) → (least ≤ n) × (n ≤ most)
+    = λ i least most n at_k at_v. number_within table.Lineorder 1 i least most n (kinds_of table.Lineorder)
+    (line_values r) e at_k at_v in
     record {
       line_number = at 1 1 7 r.line_number refl refl;
       quantity = at 8 1 50 r.quantity refl refl;
@@ -59,6 +69,16 @@ line_within r e =
       tax = (at 14 0 8 r.tax refl refl).1;
     }
 
+-- so are those of its fact
+pub fact_within : (r : LineFields) → IsWithinLimits r → IsFactWithinLimits (fact_of r)
+fact_within r h = record {
+  quantity = h.quantity;
+  discount = h.discount;
+  price = h.extended_price;
+  revenue = h.revenue;
+  cost = h.supply_cost;
+}
+
 -- the numbers of a date are within their columns' ranges
 pub record IsDateWithinLimits (row : DateFields) : Type 0 where
   pub year : row.year < 2 ^ 32
@@ -68,8 +88,10 @@ pub record IsDateWithinLimits (row : DateFields) : Type 0 where
 -- a date without a fault is within the limits
 pub date_within : (row : DateFields) → row_fault table.Date (date_values row) ≡ None → IsDateWithinLimits row
 date_within row e =
-    let at : (i n : ℕ) → slice_get (kinds_of table.Date) i ≡ Some (kind.Number 0 4294967295) → slice_get (date_values row) i ≡ Some (Number n) → n ≤ 4294967295
-    = λ i n at_k at_v. (number_within table.Date 1 i 0 4294967295 n (kinds_of table.Date) (date_values row) e at_k at_v).1 in
+    let at : (i n : ℕ) → slice_get (kinds_of table.Date) i ≡ Some (kind.Number 0 4294967295)
+    → slice_get (date_values row) i ≡ Some (Number n) → n ≤ 4294967295
+    = λ i n at_k at_v.
+    (number_within table.Date 1 i 0 4294967295 n (kinds_of table.Date) (date_values row) e at_k at_v).1 in
     record {
       year = omega (arith, at 4 row.year refl refl);
       year_month_number = omega (arith, at 5 row.year_month_number refl refl);

@@ -1,5 +1,6 @@
 -- What the tables of a base keep between them.
-use Rattle.std.specs.Prelude.{◌≡◌, ℕ, ◌+◌, ◌≤◌, Bool, true, not, ◌&&◌, List, [], length, All, Option, Some, None, Result, Ok, Err, nat_eq, nat_lt, if◌then◌else◌}
+use Rattle.std.specs.Prelude.{◌≡◌, ℕ, ◌+◌, ◌≤◌, Bool, true, not, ◌&&◌, List, [], length, All, Option, Some, None}
+use Rattle.std.specs.Prelude.{nat_eq, nat_lt, if◌then◌else◌}
 use Rattle.std.specs.List.{list_any, find}
 use Rattle.std.specs.Option.{option_map}
 use Rattle.ssb_schema.specs.Columns.{or_else}
@@ -57,7 +58,8 @@ is_same_line earlier line = nat_eq earlier.order_key line.order_key && nat_eq ea
 
 -- a row that is the same as an earlier one by this test; its number is one more than there are rows before it
 abbrev pub repeated_fault : {R : Type 0} → Table → (R → R → Bool) → List R → R → Option SchemaFault
-repeated_fault t same earlier row = if list_any (λ e. same e row) earlier then Some (fault.KeyRepeated t (length earlier + 1)) else None
+repeated_fault t same earlier row =
+    if list_any (λ e. same e row) earlier then Some (fault.KeyRepeated t (length earlier + 1)) else None
 
 -- the first dimension that has no row of the key which the line names
 abbrev pub unknown_of : Dimensions → LineFields → Option Table
@@ -71,11 +73,13 @@ unknown_of dimensions line =
 -- a line that an earlier one repeats, or that names an unknown row
 abbrev pub line_fault : Dimensions → List LineFields → LineFields → Option SchemaFault
 line_fault dimensions earlier line =
-    or_else (repeated_fault table.Lineorder is_same_line earlier line) (option_map (λ t. fault.UnknownKey (length earlier + 1) t) (unknown_of dimensions line))
+    or_else (repeated_fault table.Lineorder is_same_line earlier line)
+    (option_map (λ t. fault.UnknownKey (length earlier + 1) t) (unknown_of dimensions line))
 
 -- the first fault of a table's rows: too many of them, and then row by row
 abbrev pub table_fault : {R : Type 0} → ℕ → Table → (List R → R → Option SchemaFault) → List R → Option SchemaFault
-table_fault limit t fault_after rows = if nat_lt limit (length rows) then Some (fault.TooManyRows t) else rows_fault fault_after [] rows
+table_fault limit t fault_after rows =
+    if nat_lt limit (length rows) then Some (fault.TooManyRows t) else rows_fault fault_after [] rows
 
 -- the first fault of a dimension: too many rows, or a repeated key
 abbrev pub dimension_fault : {R : Type 0} → Limits → Table → (R → ℕ) → List R → Option SchemaFault

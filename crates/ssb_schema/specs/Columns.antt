@@ -1,5 +1,6 @@
--- What the columns of a table take, and the first fault of a row.
-use Rattle.std.specs.Prelude.{◌≡◌, ℕ, ◌+◌, Bool, true, not, ◌&&◌, ◌||◌, List, [], ◌∷◌, length, Option, Some, None, nat_lt, nat_eq, ◌==◌, if◌then◌else◌}
+-- The columns of the five tables: their names, their places and what they take; and the first fault of a row.
+use Rattle.std.specs.Prelude.{ℕ, ◌+◌, Bool, not, ◌&&◌, ◌||◌, List, [], ◌∷◌, length, map, codes, find, Option}
+use Rattle.std.specs.Prelude.{Some, None, option_map, unwrap_or, nat_lt, nat_eq, ◌==◌, if◌then◌else◌}
 use Rattle.std.specs.List.{list_all, ends_with}
 use Rattle.ssb_schema.specs.declared.table.Table.{Table}
 use Rattle.ssb_schema.specs.declared.table.Table.TheVariants as table
@@ -20,7 +21,7 @@ abbrev pub value_of : Cell → Value
 value_of (cell.Number n) = Number n
 value_of (cell.Text t) = Text t.now
 
--- a key, an amount (a price or a number of a date), a number in a range
+-- a key, an amount (a price or a number of a date), a text, a number in a range
 abbrev pub key : Kind
 key = kind.Number 0 18446744073709551615
 
@@ -33,13 +34,177 @@ text = kind.Text
 abbrev pub from : ℕ → ℕ → Kind
 from least most = kind.Number least most
 
+-- the name of a table, as its file has it
+abbrev pub table_name : Table → List ℕ
+table_name table.Customer = codes "customer"
+table_name table.Supplier = codes "supplier"
+table_name table.Part = codes "part"
+table_name table.Date = codes "date"
+table_name table.Lineorder = codes "lineorder"
+
+-- a column as the benchmark has it: its place in the file of its table, counted from 1, its name, and what it takes
+pub record Described : Type 0 where
+  pub place : ℕ
+  pub name : List ℕ
+  pub kind : Kind
+
+abbrev pub column : ℕ → List ℕ → Kind → Described
+column place name takes = record { place = place; name = name; kind = takes }
+
+-- the columns of each table, in the order of its file; those of a date that nothing reads are named by their places
+abbrev pub columns_of : Table → List Described
+columns_of table.Customer =
+    column 1 (codes "C_CUSTKEY") key
+    ∷ column 2 (codes "C_NAME") text
+    ∷ column 3 (codes "C_ADDRESS") text
+    ∷ column 4 (codes "C_CITY") text
+    ∷ column 5 (codes "C_NATION") text
+    ∷ column 6 (codes "C_REGION") text
+    ∷ column 7 (codes "C_PHONE") text
+    ∷ column 8 (codes "C_MKTSEGMENT") text ∷ []
+columns_of table.Supplier =
+    column 1 (codes "S_SUPPKEY") key
+    ∷ column 2 (codes "S_NAME") text
+    ∷ column 3 (codes "S_ADDRESS") text
+    ∷ column 4 (codes "S_CITY") text
+    ∷ column 5 (codes "S_NATION") text
+    ∷ column 6 (codes "S_REGION") text
+    ∷ column 7 (codes "S_PHONE") text ∷ []
+columns_of table.Part =
+    column 1 (codes "P_PARTKEY") key
+    ∷ column 2 (codes "P_NAME") text
+    ∷ column 3 (codes "P_MFGR") text
+    ∷ column 4 (codes "P_CATEGORY") text
+    ∷ column 5 (codes "P_BRAND1") text
+    ∷ column 6 (codes "P_COLOR") text
+    ∷ column 7 (codes "P_TYPE") text
+    ∷ column 8 (codes "P_SIZE") text
+    ∷ column 9 (codes "P_CONTAINER") text ∷ []
+columns_of table.Date =
+    column 1 (codes "D_DATEKEY") key
+    ∷ column 2 (codes "D_FIELD2") text
+    ∷ column 3 (codes "D_FIELD3") text
+    ∷ column 4 (codes "D_FIELD4") text
+    ∷ column 5 (codes "D_YEAR") amount
+    ∷ column 6 (codes "D_YEARMONTHNUM") amount
+    ∷ column 7 (codes "D_YEARMONTH") text
+    ∷ column 8 (codes "D_FIELD8") text
+    ∷ column 9 (codes "D_FIELD9") text
+    ∷ column 10 (codes "D_FIELD10") text
+    ∷ column 11 (codes "D_FIELD11") text
+    ∷ column 12 (codes "D_WEEKNUMINYEAR") amount
+    ∷ column 13 (codes "D_FIELD13") text
+    ∷ column 14 (codes "D_FIELD14") text
+    ∷ column 15 (codes "D_FIELD15") text
+    ∷ column 16 (codes "D_FIELD16") text
+    ∷ column 17 (codes "D_FIELD17") text ∷ []
+columns_of table.Lineorder =
+    column 1 (codes "LO_ORDERKEY") key
+    ∷ column 2 (codes "LO_LINENUMBER") (from 1 7)
+    ∷ column 3 (codes "LO_CUSTKEY") key
+    ∷ column 4 (codes "LO_PARTKEY") key
+    ∷ column 5 (codes "LO_SUPPKEY") key
+    ∷ column 6 (codes "LO_ORDERDATE") key
+    ∷ column 7 (codes "LO_ORDERPRIORITY") text
+    ∷ column 8 (codes "LO_SHIPPRIORITY") text
+    ∷ column 9 (codes "LO_QUANTITY") (from 1 50)
+    ∷ column 10 (codes "LO_EXTENDEDPRICE") amount
+    ∷ column 11 (codes "LO_ORDTOTALPRICE") amount
+    ∷ column 12 (codes "LO_DISCOUNT") (from 0 10)
+    ∷ column 13 (codes "LO_REVENUE") amount
+    ∷ column 14 (codes "LO_SUPPLYCOST") amount
+    ∷ column 15 (codes "LO_TAX") (from 0 8)
+    ∷ column 16 (codes "LO_COMMITDATE") key
+    ∷ column 17 (codes "LO_SHIPMODE") text ∷ []
+
 -- what each column of a table takes, in order
 abbrev pub kinds_of : Table → List Kind
-kinds_of table.Customer = key ∷ text ∷ text ∷ text ∷ text ∷ text ∷ text ∷ text ∷ []
-kinds_of table.Supplier = key ∷ text ∷ text ∷ text ∷ text ∷ text ∷ text ∷ []
-kinds_of table.Part = key ∷ text ∷ text ∷ text ∷ text ∷ text ∷ text ∷ text ∷ text ∷ []
-kinds_of table.Date = key ∷ text ∷ text ∷ text ∷ amount ∷ amount ∷ text ∷ text ∷ text ∷ text ∷ text ∷ amount ∷ text ∷ text ∷ text ∷ text ∷ text ∷ []
-kinds_of table.Lineorder = key ∷ from 1 7 ∷ key ∷ key ∷ key ∷ key ∷ text ∷ text ∷ from 1 50 ∷ amount ∷ amount ∷ from 0 10 ∷ amount ∷ amount ∷ from 0 8 ∷ key ∷ text ∷ []
+kinds_of t = map (λ described. described.kind) (columns_of t)
+
+-- what is said of a column, if its table has such a place
+abbrev pub described : Column → Option Described
+described column = find (λ row. nat_eq row.place column.place) (columns_of column.table)
+
+-- the name of a column; empty where its table has no such place
+abbrev pub column_name : Column → List ℕ
+column_name column = unwrap_or (option_map (λ row. row.name) (described column)) []
+
+-- what a column takes, if its table has such a place
+abbrev pub column_kind : Column → Option Kind
+column_kind column = option_map (λ row. row.kind) (described column)
+
+-- the columns that queries test, group by, or take constants of
+abbrev pub C_CITY : Column
+C_CITY = record { table = table.Customer; place = 4 }
+
+abbrev pub C_NATION : Column
+C_NATION = record { table = table.Customer; place = 5 }
+
+abbrev pub C_REGION : Column
+C_REGION = record { table = table.Customer; place = 6 }
+
+abbrev pub S_CITY : Column
+S_CITY = record { table = table.Supplier; place = 4 }
+
+abbrev pub S_NATION : Column
+S_NATION = record { table = table.Supplier; place = 5 }
+
+abbrev pub S_REGION : Column
+S_REGION = record { table = table.Supplier; place = 6 }
+
+abbrev pub P_MFGR : Column
+P_MFGR = record { table = table.Part; place = 3 }
+
+abbrev pub P_CATEGORY : Column
+P_CATEGORY = record { table = table.Part; place = 4 }
+
+abbrev pub P_BRAND1 : Column
+P_BRAND1 = record { table = table.Part; place = 5 }
+
+abbrev pub D_YEAR : Column
+D_YEAR = record { table = table.Date; place = 5 }
+
+abbrev pub D_YEARMONTHNUM : Column
+D_YEARMONTHNUM = record { table = table.Date; place = 6 }
+
+abbrev pub D_YEARMONTH : Column
+D_YEARMONTH = record { table = table.Date; place = 7 }
+
+abbrev pub D_WEEKNUMINYEAR : Column
+D_WEEKNUMINYEAR = record { table = table.Date; place = 12 }
+
+abbrev pub query_columns : List Column
+query_columns =
+    C_CITY
+    ∷ C_NATION
+    ∷ C_REGION
+    ∷ S_CITY
+    ∷ S_NATION
+    ∷ S_REGION
+    ∷ P_MFGR
+    ∷ P_CATEGORY
+    ∷ P_BRAND1
+    ∷ D_YEAR
+    ∷ D_YEARMONTHNUM
+    ∷ D_YEARMONTH
+    ∷ D_WEEKNUMINYEAR ∷ []
+
+-- their names, one by one
+abbrev pub query_names : List (List ℕ)
+query_names =
+    codes "C_CITY"
+    ∷ codes "C_NATION"
+    ∷ codes "C_REGION"
+    ∷ codes "S_CITY"
+    ∷ codes "S_NATION"
+    ∷ codes "S_REGION"
+    ∷ codes "P_MFGR"
+    ∷ codes "P_CATEGORY"
+    ∷ codes "P_BRAND1"
+    ∷ codes "D_YEAR"
+    ∷ codes "D_YEARMONTHNUM"
+    ∷ codes "D_YEARMONTH"
+    ∷ codes "D_WEEKNUMINYEAR" ∷ []
 
 -- a byte that may stand in a text: not the delimiter, CR or LF
 abbrev pub is_plain_byte : ℕ → Bool
@@ -55,7 +220,8 @@ is_plain bytes = list_all is_plain_byte bytes && not (ends_in_space bytes)
 
 -- what is wrong with a value in a column
 abbrev pub column_fault : Column → Kind → Value → Option SchemaFault
-column_fault column (kind.Number least most) (Number n) = if nat_lt n least || nat_lt most n then Some (fault.OutOfRange column) else None
+column_fault column (kind.Number least most) (Number n) = if nat_lt n least || nat_lt most n then Some
+    (fault.OutOfRange column) else None
 column_fault column kind.Text (Text t) =
     if nat_lt 64 (length t) then Some (fault.FieldTooLong column)
     else if not (is_plain t) then Some (fault.OutOfRange column)
@@ -72,7 +238,8 @@ or_else None other = other
 unfoldable pub first_fault : Table → ℕ → List Kind → List Value → Option SchemaFault
 first_fault t place [] values = None
 first_fault t place (k ∷ kinds) [] = None
-first_fault t place (k ∷ kinds) (v ∷ values) = or_else (column_fault (record { table = t; place = place }) k v) (first_fault t (place + 1) kinds values)
+first_fault t place (k ∷ kinds) (v ∷ values) = or_else (column_fault (record { table = t; place = place }) k v)
+    (first_fault t (place + 1) kinds values)
 
 -- the first fault of a row, in the order of its columns
 abbrev pub row_fault : Table → List Value → Option SchemaFault

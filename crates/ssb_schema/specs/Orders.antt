@@ -1,5 +1,6 @@
 -- What an order is. An order is seen as the list of its lines.
-use Rattle.std.specs.Prelude.{◌≡◌, ℕ, ◌≤◌, ◌<◌, Bool, not, List, [], ◌∷◌, length, All, Option, Some, None, nat_eq, nat_lt, if◌then◌else◌}
+use Rattle.std.specs.Prelude.{◌≡◌, ℕ, ◌≤◌, ◌<◌, Bool, not, List, [], ◌∷◌, length, All, Option, Some, None, nat_eq}
+use Rattle.std.specs.Prelude.{nat_lt, if◌then◌else◌}
 use Rattle.std.specs.List.{list_any, list_all}
 use Rattle.ssb_schema.specs.FirstFault.{rows_fault, AreDistinct}
 use Rattle.ssb_schema.specs.declared.fault.SchemaFault.{SchemaFault}
@@ -16,7 +17,8 @@ has_number_of earlier line = nat_eq earlier.line_number line.line_number
 
 -- a line whose number an earlier line has
 abbrev pub repeated_number : List LineFields → LineFields → Option SchemaFault
-repeated_number earlier line = if list_any (λ e. has_number_of e line) earlier then Some (fault.LineRepeated line.line_number) else None
+repeated_number earlier line =
+    if list_any (λ e. has_number_of e line) earlier then Some (fault.LineRepeated line.line_number) else None
 
 -- the first fault of the lines of an order
 abbrev pub order_fault : List LineFields → Option SchemaFault

@@ -1,5 +1,5 @@
 -- The values of a row of each table, in the order of its columns.
-use Rattle.std.specs.Prelude.{ℕ, ◌<◌, ◌≤◌, ◌^◌, List, [], ◌∷◌}
+use Rattle.std.specs.Prelude.{◌<◌, ◌≤◌, ◌^◌, List, [], ◌∷◌}
 use Rattle.ssb_schema.specs.Columns.{Value, Number, Text}
 use Rattle.ssb_schema.specs.declared.customer.CustomerFields.{CustomerFields}
 use Rattle.ssb_schema.specs.declared.supplier.SupplierFields.{SupplierFields}
@@ -9,23 +9,33 @@ use Rattle.ssb_schema.specs.declared.line.LineFields.{LineFields}
 
 abbrev pub customer_values : CustomerFields → List Value
 customer_values row =
-    Number row.key ∷ Text row.name ∷ Text row.address ∷ Text row.city ∷ Text row.nation ∷ Text row.region ∷ Text row.phone ∷ Text row.market_segment ∷ []
+    Number row.key ∷ Text row.name ∷ Text row.address ∷ Text row.city ∷ Text row.nation ∷ Text row.region
+    ∷ Text row.phone ∷ Text row.market_segment ∷ []
 
 abbrev pub supplier_values : SupplierFields → List Value
 supplier_values row =
-    Number row.key ∷ Text row.name ∷ Text row.address ∷ Text row.city ∷ Text row.nation ∷ Text row.region ∷ Text row.phone ∷ []
+    Number row.key ∷ Text row.name ∷ Text row.address ∷ Text row.city ∷ Text row.nation ∷ Text row.region
+    ∷ Text row.phone ∷ []
 
 abbrev pub part_values : PartFields → List Value
 part_values row =
-    Number row.key ∷ Text row.name ∷ Text row.manufacturer ∷ Text row.category ∷ Text row.brand ∷ Text row.color ∷ Text row.part_type ∷ Text row.size ∷ Text row.container ∷ []
+    Number row.key ∷ Text row.name ∷ Text row.manufacturer ∷ Text row.category ∷ Text row.brand ∷ Text row.color
+    ∷ Text row.part_type ∷ Text row.size ∷ Text row.container ∷ []
 
 abbrev pub date_values : DateFields → List Value
 date_values row =
-    Number row.key ∷ Text row.field2 ∷ Text row.field3 ∷ Text row.field4 ∷ Number row.year ∷ Number row.year_month_number ∷ Text row.year_month ∷ Text row.field8 ∷ Text row.field9 ∷ Text row.field10 ∷ Text row.field11 ∷ Number row.week ∷ Text row.field13 ∷ Text row.field14 ∷ Text row.field15 ∷ Text row.field16 ∷ Text row.field17 ∷ []
+    Number row.key ∷ Text row.field2 ∷ Text row.field3 ∷ Text row.field4 ∷ Number row.year
+    ∷ Number row.year_month_number ∷ Text row.year_month ∷ Text row.field8 ∷ Text row.field9 ∷ Text row.field10
+    ∷ Text row.field11 ∷ Number row.week ∷ Text row.field13 ∷ Text row.field14 ∷ Text row.field15 ∷ Text row.field16
+    ∷ Text row.field17 ∷ []
 
 abbrev pub line_values : LineFields → List Value
 line_values line =
-    Number line.order_key ∷ Number line.line_number ∷ Number line.customer_key ∷ Number line.part_key ∷ Number line.supplier_key ∷ Number line.order_date ∷ Text line.order_priority ∷ Text line.ship_priority ∷ Number line.quantity ∷ Number line.extended_price ∷ Number line.order_total_price ∷ Number line.discount ∷ Number line.revenue ∷ Number line.supply_cost ∷ Number line.tax ∷ Number line.commit_date ∷ Text line.ship_mode ∷ []
+    Number line.order_key ∷ Number line.line_number ∷ Number line.customer_key ∷ Number line.part_key
+    ∷ Number line.supplier_key ∷ Number line.order_date ∷ Text line.order_priority ∷ Text line.ship_priority
+    ∷ Number line.quantity ∷ Number line.extended_price ∷ Number line.order_total_price ∷ Number line.discount
+    ∷ Number line.revenue ∷ Number line.supply_cost ∷ Number line.tax ∷ Number line.commit_date
+    ∷ Text line.ship_mode ∷ []
 
 -- the numbers of a line are within their columns' ranges
 pub record IsWithinLimits (line : LineFields) : Type 0 where

@@ -28,6 +28,11 @@ line_view line = record {
 abbrev pub base_view : BaseInside → Tables
 base_view base = record {
   limits = base.limits;
-  dimensions = record { customers = base.customers.items; suppliers = base.suppliers.items; parts = base.parts.items; dates = base.dates.items };
+  dimensions = record {
+    customers = base.customers.items;
+    suppliers = base.suppliers.items;
+    parts = base.parts.items;
+    dates = base.dates.items;
+  };
   lines = base.lines.items;
 }

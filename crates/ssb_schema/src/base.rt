@@ -1,8 +1,9 @@
 //! The base: the loaded tables, which the whole warehouse shares.
 
-ghost use Rattle.std.specs.Prelude.{◌≡◌, IfOk, IfErr};
-ghost use Rattle.std.specs.Option.{option_copied};
-ghost use Rattle.ssb_schema.specs.Base.{Dimensions, base_fault, line_fault, table_fault, unknown_of, is_same_line, IsSound, has_key, row_with, customer_key, supplier_key, part_key, date_key};
+ghost use Rattle.std.specs.Prelude.{◌≡◌, IfOk, IfErr, is_some, slice_get};
+ghost use Rattle.std.specs.Option.{option_and_then, option_copied};
+ghost use Rattle.ssb_schema.specs.Base.{Dimensions, base_fault, line_fault, table_fault, unknown_of, is_same_line};
+ghost use Rattle.ssb_schema.specs.Base.{IsSound, has_key, row_with, customer_key, supplier_key, part_key, date_key};
 ghost use Rattle.ssb_schema.specs.Checked.{Finds};
 ghost use Rattle.ssb_schema.specs.Indexed.{AreIndexesOf};
 ghost use Rattle.ssb_schema.specs.declared.table.Table.TheVariants as table;
@@ -61,12 +62,14 @@ impl Model for Base {
 
     ghost view = { base_view };
 
-    ghost invariant = { λ base. (base_fault (base_view base) ≡ None) × AreIndexesOf base.indexes (base_view base).dimensions };
+    ghost invariant = { λ base. (base_fault (base_view base) ≡ None)
+        × AreIndexesOf base.indexes (base_view base).dimensions };
 }
 
 // The first dimension that has no row of the key which the line names.
 fn unknown(indexes: &Indexes, line: &Line) -> Option<Table>
-    ensures { (dimensions : Dimensions) → AreIndexesOf indexes.now dimensions → result ≡ unknown_of dimensions line.now }
+    ensures { (dimensions : Dimensions) → AreIndexesOf indexes.now dimensions
+        → result ≡ unknown_of dimensions line.now }
 {
     if !indexes.customers.contains(line.customer_key()) {
         Some(Table::Customer)
@@ -83,7 +86,8 @@ fn unknown(indexes: &Indexes, line: &Line) -> Option<Table>
 
 // Checks that each line is the first of its order key and line number, and names a row of each dimension.
 fn check_lines(alloc: Global, limit: usize, indexes: &Indexes, lines: &[Line]) -> Result<(), Stop>
-    ensures { (dimensions : Dimensions) → AreIndexesOf indexes.now dimensions → Finds result (table_fault limit table.Lineorder (line_fault dimensions) lines.now) }
+    ensures { (dimensions : Dimensions) → AreIndexesOf indexes.now dimensions
+        → Finds result (table_fault limit table.Lineorder (line_fault dimensions) lines.now) }
 {
     if lines.len() > limit {
         return Err(Stop::Fault(SchemaFault::TooManyRows(Table::Lineorder)));
@@ -126,8 +130,8 @@ impl BaseParts {
 impl Base {
     ghost use Rattle.ssb_schema.specs.BaseNew.{tables_of, Answers, HandsBack};
 
-    /// The base of these rows, or their first fault in the order of the tables, with the rows: too many rows of a table,
-    /// then row by row a repeated primary key, or a line that names an unknown customer, supplier, part or date.
+    /// The base of these rows, or their first fault in the order of the tables, with the rows: too many rows of a
+    /// table, then row by row a repeated primary key, or a line that names an unknown customer, supplier, part or date.
     pub fn new(alloc: Global, limits: Limits, parts: BaseParts) -> Result<Base, BaseError>
         ensures fault { Answers result (base_fault (tables_of limits parts)) }
         ensures tables { IfOk result (λ base. base ≡ tables_of limits parts) }
@@ -153,6 +157,14 @@ impl Base {
         ensures { result ≡ self.now.limits }
     {
         self.limits
+    }
+
+    /// Every base is sound: its rows have distinct keys and are no more than the limits allow, and its lines name rows
+    /// that are there. The law alone: it does nothing.
+    pub fn soundness(&self)
+        ensures { IsSound self.now }
+    {
+        let _lines = self.lines();
     }
 
     /// The loaded lines.
@@ -217,6 +229,42 @@ impl Base {
         ensures { option_copied result ≡ row_with date_key self.now.dimensions.dates key }
     {
         self.indexes.dates.row(&self.dates, key)
+    }
+
+    /// The place of the customer of this key among the customers, counted from 0, if there is one.
+    pub fn customer_position(&self, key: u64) -> Option<usize>
+        ensures row { option_and_then (slice_get self.now.dimensions.customers) result
+            ≡ row_with customer_key self.now.dimensions.customers key }
+        ensures found { is_some result ≡ has_key customer_key self.now.dimensions.customers key }
+    {
+        self.indexes.customers.position(key)
+    }
+
+    /// The place of the supplier of this key among the suppliers, counted from 0, if there is one.
+    pub fn supplier_position(&self, key: u64) -> Option<usize>
+        ensures row { option_and_then (slice_get self.now.dimensions.suppliers) result
+            ≡ row_with supplier_key self.now.dimensions.suppliers key }
+        ensures found { is_some result ≡ has_key supplier_key self.now.dimensions.suppliers key }
+    {
+        self.indexes.suppliers.position(key)
+    }
+
+    /// The place of the part of this key among the parts, counted from 0, if there is one.
+    pub fn part_position(&self, key: u64) -> Option<usize>
+        ensures row { option_and_then (slice_get self.now.dimensions.parts) result
+            ≡ row_with part_key self.now.dimensions.parts key }
+        ensures found { is_some result ≡ has_key part_key self.now.dimensions.parts key }
+    {
+        self.indexes.parts.position(key)
+    }
+
+    /// The place of the date of this key among the dates, counted from 0, if there is one.
+    pub fn date_position(&self, key: u64) -> Option<usize>
+        ensures row { option_and_then (slice_get self.now.dimensions.dates) result
+            ≡ row_with date_key self.now.dimensions.dates key }
+        ensures found { is_some result ≡ has_key date_key self.now.dimensions.dates key }
+    {
+        self.indexes.dates.position(key)
     }
 
     /// Whether there is a customer of this key.

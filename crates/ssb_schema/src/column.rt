@@ -1,5 +1,8 @@
 //! The columns of the tables, with their names.
 
+ghost use Rattle.std.specs.Prelude.{◌≡◌, [], map, slice_get, unwrap_or, Some};
+ghost use Rattle.ssb_schema.specs.Columns.{columns_of, column_name, query_columns, query_names};
+
 use crate::table::Table;
 use std::fmt;
 
@@ -88,6 +91,22 @@ pub const D_WEEKNUMINYEAR: Column = Column {
     place: 12,
 };
 
+static QUERY_COLUMNS: [Column; 13] = [
+    C_CITY,
+    C_NATION,
+    C_REGION,
+    S_CITY,
+    S_NATION,
+    S_REGION,
+    P_MFGR,
+    P_CATEGORY,
+    P_BRAND1,
+    D_YEAR,
+    D_YEARMONTHNUM,
+    D_YEARMONTH,
+    D_WEEKNUMINYEAR,
+];
+
 static CUSTOMER: [&str; 8] = [
     "C_CUSTKEY",
     "C_NAME",
@@ -162,7 +181,9 @@ static LINEORDER: [&str; 17] = [
 ];
 
 // The names of a table's columns, in the order of its file.
-fn names(table: Table) -> &'static [&'static str] {
+fn names(table: Table) -> &'static [&'static str]
+    ensures { map (λ name. name.now) result.now ≡ map (λ described. described.name) (columns_of table) }
+{
     match table {
         Table::Customer => &CUSTOMER,
         Table::Supplier => &SUPPLIER,
@@ -172,17 +193,39 @@ fn names(table: Table) -> &'static [&'static str] {
     }
 }
 
+/// The columns that queries test, group by, or take constants of, each by its name in the benchmark.
+pub fn query_columns() -> &'static [Column]
+    ensures columns { result.now ≡ query_columns }
+    ensures names { map column_name query_columns ≡ query_names }
+{
+    &QUERY_COLUMNS
+}
+
+// The name at a place, counted from 0.
+fn name_at(names: &[&'static str], at: usize) -> &'static str
+    ensures { result.now ≡ unwrap_or (slice_get (map (λ name. name.now) names.now) at) [] }
+{
+    match names.get(at) {
+        Some(name) => name,
+        None => "",
+    }
+}
+
 impl Column {
     /// The name of the column, as the benchmark and the faults have it; empty where the table has no such place.
-    pub fn name(self) -> &'static str {
+    pub fn name(self) -> &'static str
+        ensures { result.now ≡ column_name self }
+    {
         if self.place == 0 {
             return "";
         }
-        names(self.table).get(self.place - 1).copied().unwrap_or("")
+        name_at(names(self.table), self.place - 1)
     }
 }
 
 impl fmt::Display for Column {
+    ghost output = { λ column. Some (column_name column) };
+
     fn fmt<W: fmt::Write>(&self, f: &mut fmt::Formatter<W>) -> fmt::Result {
         f.write_str(self.name())
     }

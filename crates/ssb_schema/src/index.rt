@@ -112,6 +112,13 @@ impl Index {
         self.places.contains_key(&key)
     }
 
+    /// The place of the row that has the key, if there is one.
+    pub fn position(&self, key: u64) -> Option<usize>
+        ensures { result ≡ place_of self.now key }
+    {
+        self.places.get(&key).copied()
+    }
+
     /// The row that has the key, if there is one.
     pub fn row<'a, T: Keyed>(&self, rows: &'a [T], key: u64) -> Option<&'a T>
         requires { IsIndexOf T.key_of rows.now rows.now (place_of self.now) }

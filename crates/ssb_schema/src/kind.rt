@@ -2,7 +2,8 @@
 
 ghost use Rattle.std.specs.Prelude.{◌≡◌, ◌+◌, length, map};
 ghost use Rattle.std.specs.List.{list_all};
-ghost use Rattle.ssb_schema.specs.Columns.{Value, Text, is_plain_byte, is_plain, column_fault, first_fault, kinds_of, row_fault, value_of};
+ghost use Rattle.ssb_schema.specs.Columns.{Value, Text, is_plain_byte, is_plain, column_fault, first_fault};
+ghost use Rattle.ssb_schema.specs.Columns.{kinds_of, row_fault, value_of};
 ghost use Rattle.ssb_schema.specs.declared.kind.Kind.TheVariants as kind;
 
 use crate::column::Column;

@@ -1,10 +1,10 @@
 //! The typed values that the whole warehouse is made of: rows of the five tables of the Star Schema Benchmark, orders,
 //! refreshes, and the base, which is the loaded tables with their keys looked at.
 //!
-//! The one contract: a value of these types keeps the limits of its columns, and a [`Base`] has distinct primary keys and a
-//! dimension row for every key that one of its lines names. A constructor makes the value exactly where its definition
-//! finds no fault; else it tells the first fault and hands the values back. The definitions stand in `specs/`: `Columns`
-//! (what each column takes), `Orders`, `Refreshes` and `Base`.
+//! The one contract: a value of these types keeps the limits of its columns, and a [`Base`] has distinct primary keys
+//! and a dimension row for every key that one of its lines names. A constructor makes the value exactly where its
+//! definition finds no fault; else it tells the first fault and hands the values back. The definitions stand in
+//! `specs/`: `Columns` (each column's name, place and kind), `Orders`, `Refreshes` and `Base`.
 //!
 //! ```
 //! let line = Line::new(fields).map_err(|refused| refused.fault)?;   // 10 OutOfRange LO_QUANTITY, say
@@ -36,7 +36,7 @@ mod text;
 pub use base::{Base, BaseError, BaseParts};
 pub use column::{
     C_CITY, C_NATION, C_REGION, Column, D_WEEKNUMINYEAR, D_YEAR, D_YEARMONTH, D_YEARMONTHNUM,
-    P_BRAND1, P_CATEGORY, P_MFGR, S_CITY, S_NATION, S_REGION,
+    P_BRAND1, P_CATEGORY, P_MFGR, S_CITY, S_NATION, S_REGION, query_columns,
 };
 pub use customer::{Customer, CustomerFields};
 pub use date::{DateFields, DateRow};

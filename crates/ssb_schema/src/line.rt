@@ -50,7 +50,8 @@ pub struct LineFields {
     pub ship_mode: Text,
 }
 
-/// A line whose values are within their columns' limits. Contracts see its values; the numbers lie packed to their ranges.
+/// A line whose values are within their columns' limits. Contracts see its values; the numbers lie packed to their
+/// ranges.
 #[derive(Clone, Drop)]
 pub struct Line {
     order_key: u64,
@@ -119,7 +120,7 @@ impl LineFields {
 }
 
 impl Line {
-    ghost use Rattle.ssb_schema.specs.Facts.{fact_of};
+    ghost use Rattle.ssb_schema.specs.Facts.{fact_of, IsFactWithinLimits};
     ghost use Rattle.ssb_schema.specs.Refusals.{fault_of};
     ghost use Rattle.ssb_schema.specs.Rows.{line_values, IsWithinLimits};
 
@@ -160,6 +161,7 @@ impl Line {
     pub fn fact(&self) -> Fact
         ensures value { result ≡ fact_of self.now }
         ensures limits { IsWithinLimits self.now }
+        ensures ranges { IsFactWithinLimits result }
     {
         Fact {
             order_key: self.order_key,

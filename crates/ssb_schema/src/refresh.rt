@@ -7,12 +7,14 @@ use crate::fault::{Refused, SchemaFault};
 use crate::order::Order;
 use std::marker::Model;
 
-/// What a refresh does with one order: adds one that is absent, replaces one that is present, or withdraws the order of
-/// this key.
+/// What a refresh does with one order.
 #[derive(Drop)]
 pub enum Action {
+    /// Adds an order whose key is absent.
     Add(Order),
+    /// Puts an order in the place of the one of its key, which is present.
     Amend(Order),
+    /// Takes away the order of this key, which is present.
     Withdraw(u64),
 }
 

@@ -1,5 +1,8 @@
 //! The five tables of the benchmark.
 
+ghost use Rattle.std.specs.Prelude.{◌≡◌, Some};
+ghost use Rattle.ssb_schema.specs.Columns.{table_name};
+
 use std::fmt;
 
 /// A table of the Star Schema Benchmark: four dimensions and the fact table, in the order in which they are loaded.
@@ -14,7 +17,9 @@ pub enum Table {
 
 impl Table {
     /// The name of the table, as its file and the faults have it.
-    pub fn name(self) -> &'static str {
+    pub fn name(self) -> &'static str
+        ensures { result.now ≡ table_name self }
+    {
         match self {
             Table::Customer => "customer",
             Table::Supplier => "supplier",
@@ -26,6 +31,8 @@ impl Table {
 }
 
 impl fmt::Display for Table {
+    ghost output = { λ table. Some (table_name table) };
+
     fn fmt<W: fmt::Write>(&self, f: &mut fmt::Formatter<W>) -> fmt::Result {
         f.write_str(self.name())
     }

@@ -1,9 +1,9 @@
 //! Worked examples of the rules, with answers that were written by hand.
 
 use crate::{
-    Action, Base, BaseError, BaseParts, Customer, CustomerFields, DateFields, DateRow, Limits,
-    Line, LineFields, Order, Part, PartFields, Refresh, Refused, SchemaFault, Supplier,
-    SupplierFields, Text,
+    Action, Base, BaseError, BaseParts, Column, Customer, CustomerFields, DateFields, DateRow,
+    Items, Limits, Line, LineFields, Order, Part, PartFields, Refresh, Refused, SchemaFault,
+    Supplier, SupplierFields, Table, Text, query_columns,
 };
 use std::alloc::Global;
 use std::test::Fail;
@@ -332,6 +332,8 @@ fn a_base_finds_its_rows_by_key(rt: HostRuntime) -> Result<(), Fail> {
     assert!(rt; base.supplier(1).is_some());
     assert!(rt; base.has_part(1));
     assert!(rt; base.customer(2).is_none());
+    assert_eq!(rt; base.customer_position(1), Some(0));
+    assert_eq!(rt; base.date_position(19930102), None);
     assert!(rt; !base.has_date(19930102));
     Ok(())
 }
@@ -381,5 +383,51 @@ fn one_row_past_a_limit_is_too_many(rt: HostRuntime) -> Result<(), Fail> {
         let told = base_fault(alloc, one, parts)?;
         assert_eq!(rt; told.as_str(), want);
     }
+    Ok(())
+}
+
+#[test]
+fn columns_have_the_benchmarks_names_at_its_places(rt: HostRuntime) -> Result<(), Fail> {
+    let alloc = rt.alloc();
+    for (table, place, name) in [
+        (Table::Customer, 4, "C_CITY"),
+        (Table::Customer, 5, "C_NATION"),
+        (Table::Customer, 6, "C_REGION"),
+        (Table::Supplier, 4, "S_CITY"),
+        (Table::Supplier, 5, "S_NATION"),
+        (Table::Supplier, 6, "S_REGION"),
+        (Table::Part, 3, "P_MFGR"),
+        (Table::Part, 4, "P_CATEGORY"),
+        (Table::Part, 5, "P_BRAND1"),
+        (Table::Date, 5, "D_YEAR"),
+        (Table::Date, 6, "D_YEARMONTHNUM"),
+        (Table::Date, 7, "D_YEARMONTH"),
+        (Table::Date, 12, "D_WEEKNUMINYEAR"),
+    ] {
+        let column = Column { table, place };
+        assert_eq!(rt; column.name(), name);
+        assert!(rt; query_columns().contains(&column), "{name}");
+    }
+    let last = Column {
+        table: Table::Lineorder,
+        place: 17,
+    };
+    let printed = format!(in alloc; "{last} of {}", last.table)?;
+    assert_eq!(rt; printed.as_str(), "LO_SHIPMODE of lineorder");
+    for place in [0, 18] {
+        let outside = Column {
+            table: Table::Lineorder,
+            place,
+        };
+        assert_eq!(rt; outside.name(), "", "{place}");
+    }
+    Ok(())
+}
+
+#[test]
+fn items_are_printed_as_a_list(rt: HostRuntime) -> Result<(), Fail> {
+    let items = Items::from_vec(vec![in rt.alloc(); 3u8, 4]?);
+    let printed = format!(in rt.alloc(); "{items:?}")?;
+    assert_eq!(rt; printed.as_str(), "[3, 4]");
     Ok(())
 }

@@ -1,3 +1,4 @@
 pub mod LineLaws
+pub mod OneReading
 pub mod Reading
 pub mod StepLaws

@@ -1,7 +1,8 @@
 -- What a record spells, by its word.
 use Rattle.std.proofs.Common.{◌≡◌, ℕ, true, List, Option, Some, None, refl, sym, ap, ◌∙◌}
 use Rattle.std.specs.Option.{option_map}
-use Rattle.ssb_script.specs.Lines.{is_line, line_after, line_of, line_of_row, line_of_control, line_or_bad, word_of}
+use Rattle.ssb_script.specs.Lines.{is_line, line_after, line_of, line_or_bad, word_of}
+use Rattle.ssb_script.specs.Steps.{line_of_row, line_of_control}
 use Rattle.ssb_script.specs.declared.control.Control.{Control}
 use Rattle.ssb_script.specs.declared.order_line.OrderLine.{OrderLine}
 use Rattle.ssb_script.specs.declared.word.Word.{Word}

@@ -9,13 +9,12 @@ use Rattle.csv.specs.declared.reader.Reader.{Reader}
 use Rattle.ssb_load.specs.Records.{GivesNext, HasGiven}
 use Rattle.ssb_load.specs.declared.records.ReadError.{ReadError}
 use Rattle.ssb_load.specs.declared.records.ReadError.TheVariants as read
+use Rattle.ssb_script.specs.Begun.{Begun, Nothing}
 use Rattle.ssb_script.specs.Errors.{error_of_read}
 use Rattle.ssb_script.specs.Lines.{ScriptLine, line_of, word_of}
 use Rattle.ssb_script.specs.Requests.{Request, IsWholeRequest, lines_of_request, lines_of_requests, requests_of}
 use Rattle.ssb_script.specs.Scripts.{Spells, SpellsScript, IsFirstFault, IsScriptFault, EndsInRefresh, checks_in, fault_of, first_of, is_outside, lines_of_begun, order_refused}
-use Rattle.ssb_script.specs.Steps.{Follows, IsFoundBy, asked}
-use Rattle.ssb_script.specs.declared.begun.Begun.{Begun}
-use Rattle.ssb_script.specs.declared.begun.Begun.TheVariants.{Nothing}
+use Rattle.ssb_script.specs.Steps.{Follows, IsFoundBy, asked, begun_in}
 use Rattle.ssb_script.specs.declared.begun.Step.{Step}
 use Rattle.ssb_script.specs.declared.block.Script.{Script}
 use Rattle.ssb_script.specs.declared.error.ScriptError.{ScriptError}
@@ -46,10 +45,10 @@ lines_more : (before begun asked begun' : List ScriptLine) (line : ScriptLine) �
 lines_more before begun asked begun' line e = append_assoc before begun (line ∷ []) ∙ ap (λ rest. before ++ rest) e ∙ sym (append_assoc before asked begun')
 
 spells_more : (records : List (List (List ℕ))) (requests : List Request) (old : Begun) (fields : List (List ℕ)) (line : ScriptLine) (step : Step)
-    → Spells records requests old → line_of fields ≡ Ok line → Follows (length records + 1) old line step → Spells (records ++ fields ∷ []) (requests ++ asked step) step.begun
+    → Spells records requests old → line_of fields ≡ Ok line → Follows (length records + 1) old line step → Spells (records ++ fields ∷ []) (requests ++ asked step) (begun_in step.begun)
 spells_more records requests old fields line step so_far spelled follows = record {
   spelled = rw (map-append line_of records (fields ∷ []), so_far.spelled, spelled, flat_map-append lines_of_request requests (asked step))
-      (sym (map-append Ok (lines_of_requests requests ++ lines_of_begun old) (line ∷ [])) ∙ ap (map Ok) (lines_more (lines_of_requests requests) (lines_of_begun old) (lines_of_requests (asked step)) (lines_of_begun step.begun) line follows.lines));
+      (sym (map-append Ok (lines_of_requests requests ++ lines_of_begun old) (line ∷ [])) ∙ ap (map Ok) (lines_more (lines_of_requests requests) (lines_of_begun old) (lines_of_requests (asked step)) (lines_of_begun (begun_in step.begun)) line follows.lines));
   whole = All-append IsWholeRequest requests (asked step) so_far.whole follows.whole;
   room = rw (length_push records fields) follows.room;
   settled = follows.settled;
@@ -58,7 +57,7 @@ spells_more records requests old fields line step so_far spelled follows = recor
 -- one more record was read
 pub read_more : {R : Type 0} (remaining : R → Option (List ℕ)) (text : List ℕ) (old new : Reader R) (count : ℕ) (requests : List Request) (begun : Begun) (fields : List (List ℕ)) (line : ScriptLine) (step : Step)
     → HasRead remaining text old count requests begun → GivesNext remaining old new true fields → line_of fields ≡ Ok line → Follows (count + 1) begun line step
-    → HasRead remaining text new (count + 1) (requests ++ asked step) step.begun
+    → HasRead remaining text new (count + 1) (requests ++ asked step) (begun_in step.begun)
 read_more remaining text old new count requests begun fields line step so_far next spelled follows = record {
   records = so_far.records ++ fields ∷ [];
   given = next text so_far.records so_far.given;

@@ -11,12 +11,12 @@ use Rattle.ssb_schema.specs.Orders.{order_fault}
 use Rattle.ssb_schema.specs.declared.line.LineFields.{LineFields}
 use Rattle.ssb_schema.specs.declared.refresh.Action.{Action}
 use Rattle.ssb_schema.specs.declared.refresh.Action.TheVariants as action
-use Rattle.ssb_script.specs.Lines.{ScriptLine, RecordFault, Open, Line, Begin, is_line, line_of_control, line_or_bad}
+use Rattle.ssb_script.specs.Begun.{Begun}
+use Rattle.ssb_script.specs.Begun as begun
+use Rattle.ssb_script.specs.Lines.{ScriptLine, RecordFault, Open, Line, Begin, is_line, line_or_bad}
 use Rattle.ssb_script.specs.Requests.{IsWholeAction, action_of, lines_of_action}
 use Rattle.ssb_script.specs.Scripts.{HasRoom, checks_in, ends_in_order, first_of, lines_of_begun, order_refused, refusal_at_end}
-use Rattle.ssb_script.specs.Steps.{Follows, IsFoundBy, actions_at_end, begun_of}
-use Rattle.ssb_script.specs.declared.begun.Begun.{Begun}
-use Rattle.ssb_script.specs.declared.begun.Begun.TheVariants as begun
+use Rattle.ssb_script.specs.Steps.{Follows, IsFoundBy, actions_at_end, begun_of, line_of_control}
 use Rattle.ssb_script.specs.declared.begun.Step.{Step}
 use Rattle.ssb_script.specs.declared.control.Control.{Control}
 use Rattle.ssb_script.specs.declared.control.Control.TheVariants as control

@@ -1,4 +1,6 @@
+pub mod Begun
 pub mod Errors
+pub mod Laws
 pub mod Lines
 pub mod Requests
 pub mod Scripts

@@ -21,13 +21,8 @@ use Rattle.ssb_plans.specs.declared.query.TheConstants.{QUERIES}
 use Rattle.ssb_plans.specs.declared.value.Value.{Value}
 use Rattle.ssb_plans.specs.declared.value.Value.TheVariants as value
 use Rattle.ssb_schema.specs.declared.fault.SchemaFault.{SchemaFault}
-use Rattle.ssb_script.specs.declared.control.Control.{Control}
-use Rattle.ssb_script.specs.declared.control.Control.TheVariants as control
 use Rattle.ssb_script.specs.declared.control.Opening.{Opening}
 use Rattle.ssb_script.specs.declared.control.Opening.TheVariants.{Add, Amend}
-use Rattle.ssb_script.specs.declared.order_line.OrderLine.{OrderLine}
-use Rattle.ssb_script.specs.declared.order_line.OrderLine.TheVariants as order_line
-use Rattle.ssb_script.specs.declared.word.TheConstants.{WORDS}
 use Rattle.ssb_script.specs.declared.word.Word.{Word}
 use Rattle.ssb_script.specs.declared.word.Word.TheVariants as word
 
@@ -59,8 +54,12 @@ spelling_of word.Line = codes "line"
 spelling_of word.Withdraw = codes "withdraw"
 spelling_of word.Commit = codes "commit"
 
+abbrev pub words : List Word
+words = word.Query ∷ word.Begin ∷ word.Add ∷ word.Amend ∷ word.Line ∷ word.Withdraw ∷ word.Commit ∷ []
+
+-- the word that bytes spell, letter for letter
 abbrev pub word_spelled : List ℕ → Option Word
-word_spelled bytes = find (λ word. pointwise nat_eq (spelling_of word) bytes) WORDS
+word_spelled bytes = find (λ word. pointwise nat_eq (spelling_of word) bytes) words
 
 -- the word of a record, if its first field is one
 unfoldable pub word_of : List (List ℕ) → Option Word
@@ -174,17 +173,3 @@ is_line _ = false
 -- what a record spells
 unfoldable pub line_of : List (List ℕ) → Result ScriptLine RecordFault
 line_of fields = line_after (word_of fields) fields
-
--- what a `line` record says
-abbrev pub line_of_row : OrderLine → Result ScriptLine RecordFault
-line_of_row (order_line.Read row) = Ok (Line row)
-line_of_row (order_line.Refused why) = Err (Refused why)
-line_of_row order_line.Bad = Err Bad
-
--- what a record that is no `line` says
-abbrev pub line_of_control : Control → ScriptLine
-line_of_control (control.Query question) = Query question
-line_of_control control.Begin = Begin
-line_of_control (control.Open opening) = Open opening
-line_of_control (control.Withdraw key) = Withdraw key
-line_of_control control.Commit = Commit

@@ -6,13 +6,13 @@ use Rattle.ssb_schema.specs.Orders.{order_fault}
 use Rattle.ssb_schema.specs.declared.fault.SchemaFault.TheVariants as schema
 use Rattle.ssb_schema.specs.declared.refresh.Action.{Action}
 use Rattle.ssb_schema.specs.declared.refresh.Action.TheVariants as action
+use Rattle.ssb_script.specs.Begun.{Begun}
+use Rattle.ssb_script.specs.Begun as begun
 use Rattle.ssb_script.specs.Lines.{is_line, line_of, word_of, ScriptLine, RecordFault, Bad, Refused}
 use Rattle.ssb_script.specs.Lines as line
 use Rattle.ssb_script.specs.Requests.{Request, IsWholeAction, IsWholeRequest, lines_of_action, lines_of_requests}
 use Rattle.ssb_script.specs.declared.error.ScriptError.{ScriptError}
 use Rattle.ssb_script.specs.declared.error.ScriptError.TheVariants as error
-use Rattle.ssb_script.specs.declared.begun.Begun.{Begun}
-use Rattle.ssb_script.specs.declared.begun.Begun.TheVariants as begun
 use Rattle.ssb_script.specs.declared.word.Word.{Word}
 
 -- a text spells these requests: its records, at most so many, spell their lines and nothing else

@@ -1,15 +1,46 @@
--- What one record of a script does to what is begun.
-use Rattle.std.specs.Prelude.{◌≡◌, ℕ, ◌⊎◌, ◌++◌, List, [], ◌∷◌, map, All, Option, Some, None}
+-- What one record of a script says, and does to what is begun.
+use Rattle.std.specs.Prelude.{◌≡◌, ℕ, ◌⊎◌, ◌++◌, List, [], ◌∷◌, map, All, Option, Some, None, Result, Ok, Err}
 use Rattle.std.specs.Option.{option_to_list}
 use Rattle.ssb_schema.specs.declared.refresh.Action.{Action}
-use Rattle.ssb_script.specs.Lines.{ScriptLine}
+use Rattle.ssb_script.specs.Begun.{Begun, BegunOrder}
+use Rattle.ssb_script.specs.Begun as begun
+use Rattle.ssb_script.specs.Lines.{ScriptLine, RecordFault}
+use Rattle.ssb_script.specs.Lines as line
 use Rattle.ssb_script.specs.Requests.{Request, IsWholeRequest, action_of, lines_of_requests, request_of}
 use Rattle.ssb_script.specs.Scripts.{HasRoom, IsSettled, first_of, lines_of_begun}
-use Rattle.ssb_script.specs.declared.begun.Begun.{Begun}
-use Rattle.ssb_script.specs.declared.begun.Begun.TheVariants as begun
+use Rattle.ssb_script.specs.declared.begun.Begun.{Begun as Held}
+use Rattle.ssb_script.specs.declared.begun.Begun.TheVariants as held
+use Rattle.ssb_script.specs.declared.begun.BegunOrder.{BegunOrder as HeldOrder}
 use Rattle.ssb_script.specs.declared.begun.Step.{Step}
+use Rattle.ssb_script.specs.declared.control.Control.{Control}
+use Rattle.ssb_script.specs.declared.control.Control.TheVariants as control
+use Rattle.ssb_script.specs.declared.order_line.OrderLine.{OrderLine}
+use Rattle.ssb_script.specs.declared.order_line.OrderLine.TheVariants as order_line
 use Rattle.ssb_script.specs.declared.error.ScriptError.{ScriptError}
 use Rattle.ssb_script.specs.declared.error.ScriptError.TheVariants.{OutOfMemory}
+
+-- what is begun, of what the reading holds of it
+abbrev pub begun_order : HeldOrder → BegunOrder
+begun_order order = record { actions = order.actions; opening = order.opening; number = order.number; lines = order.lines }
+
+abbrev pub begun_in : Held → Begun
+begun_in held.Nothing = begun.Nothing
+begun_in (held.Refresh actions) = begun.Refresh actions
+begun_in (held.Order order) = begun.Order (begun_order order)
+
+-- what a `line` record says
+abbrev pub line_of_row : OrderLine → Result ScriptLine RecordFault
+line_of_row (order_line.Read row) = Ok (line.Line row)
+line_of_row (order_line.Refused why) = Err (line.Refused why)
+line_of_row order_line.Bad = Err line.Bad
+
+-- what a record that is no `line` says
+abbrev pub line_of_control : Control → ScriptLine
+line_of_control (control.Query question) = line.Query question
+line_of_control control.Begin = line.Begin
+line_of_control (control.Open opening) = line.Open opening
+line_of_control (control.Withdraw key) = line.Withdraw key
+line_of_control control.Commit = line.Commit
 
 -- the actions of the refresh that is begun, with that of the order which was being read
 abbrev pub actions_at_end : Begun → Option (List Action)
@@ -28,10 +59,10 @@ asked step = map request_of (option_to_list step.block)
 
 -- a step takes up one more line, of the record of this number
 pub record Follows (number : ℕ) (old : Begun) (line : ScriptLine) (step : Step) : Type 0 where
-  pub lines : lines_of_begun old ++ line ∷ [] ≡ lines_of_requests (asked step) ++ lines_of_begun step.begun
+  pub lines : lines_of_begun old ++ line ∷ [] ≡ lines_of_requests (asked step) ++ lines_of_begun (begun_in step.begun)
   pub whole : All IsWholeRequest (asked step)
-  pub room : HasRoom number step.begun
-  pub settled : IsSettled step.begun
+  pub room : HasRoom number (begun_in step.begun)
+  pub settled : IsSettled (begun_in step.begun)
 
 -- an error is the first that these checks find, unless memory ran out
 abbrev pub IsFoundBy : List (Option ScriptError) → ScriptError → Type 0

@@ -4,11 +4,11 @@ ghost use Rattle.std.specs.Prelude.{◌≡◌, ◌+◌, ◌-◌, ◌<◌, ◌^�
 ghost use Rattle.csv.specs.Records.{fields_of};
 ghost use Rattle.ssb_schema.specs.Orders.{order_fault};
 ghost use Rattle.ssb_script.specs.Lines as spec;
-ghost use Rattle.ssb_script.specs.Lines.{ScriptLine, line_of_control, line_of_row};
+ghost use Rattle.ssb_script.specs.Lines.{ScriptLine};
 ghost use Rattle.ssb_script.specs.Requests.{action_of};
 ghost use Rattle.ssb_script.specs.Scripts.{HasRoom, checks_in, order_refused, refusal_at_end};
-ghost use Rattle.ssb_script.specs.Steps.{Follows, IsFoundBy, actions_at_end};
-ghost use Rattle.ssb_script.specs.declared.begun.Begun.TheVariants as begun;
+ghost use Rattle.ssb_script.specs.Steps.{Follows, IsFoundBy, actions_at_end, begun_in, begun_order, line_of_control, line_of_row};
+ghost use Rattle.ssb_script.specs.Begun as begun;
 
 use crate::block::Block;
 use crate::control::{Control, Opening};
@@ -162,7 +162,7 @@ fn inside(
 impl BegunOrder {
     // The actions of its refresh once it has ended.
     fn ended(self) -> Result<Items<Action>, ScriptError>
-        ensures fault { IfErr result (IsFoundBy (refusal_at_end (begun.Order self) ∷ [])) }
+        ensures fault { IfErr result (IsFoundBy (refusal_at_end (begun.Order (begun_order self)) ∷ [])) }
         ensures whole { IfOk result (λ actions. order_fault self.lines ≡ None) }
         ensures actions { IfOk result (λ actions. actions ≡ self.actions ++ action_of self.opening self.lines ∷ []) }
     {
@@ -175,9 +175,9 @@ impl BegunOrder {
     // One more line, that of the record of this number.
     fn with_line(self, number: u64, line: Line) -> Result<Step, ScriptError>
         requires before { 0 < number }
-        requires room { HasRoom (number - 1) (begun.Order self) }
-        ensures step { IfOk result (λ step. Follows number (begun.Order self) (spec.Line line) step) }
-        ensures fault { IfErr result (IsFoundBy (checks_in number (begun.Order self) (Ok (spec.Line line)))) }
+        requires room { HasRoom (number - 1) (begun.Order (begun_order self)) }
+        ensures step { IfOk result (λ step. Follows number (begun.Order (begun_order self)) (spec.Line line) step) }
+        ensures fault { IfErr result (IsFoundBy (checks_in number (begun.Order (begun_order self)) (Ok (spec.Line line)))) }
     {
         if self.lines.len() == 7 {
             return Err(ScriptError::Row(self.number, SchemaFault::TooManyLines));
@@ -198,9 +198,9 @@ impl BegunOrder {
 impl Begun {
     // The actions of its refresh once the order that is being read has ended, where a refresh is begun.
     fn ended(self) -> Result<Option<Items<Action>>, ScriptError>
-        ensures fault { IfErr result (IsFoundBy (refusal_at_end self ∷ [])) }
-        ensures whole { IfOk result (λ actions. refusal_at_end self ≡ None) }
-        ensures actions { IfOk result (λ actions. actions ≡ actions_at_end self) }
+        ensures fault { IfErr result (IsFoundBy (refusal_at_end (begun_in self) ∷ [])) }
+        ensures whole { IfOk result (λ actions. refusal_at_end (begun_in self) ≡ None) }
+        ensures actions { IfOk result (λ actions. actions ≡ actions_at_end (begun_in self)) }
     {
         match self {
             Begun::Nothing => Ok(None),
@@ -212,9 +212,9 @@ impl Begun {
     // One more record, a `line` of this number.
     fn with_row(self, number: u64, row: OrderLine) -> Result<Step, ScriptError>
         requires before { 0 < number }
-        requires room { HasRoom (number - 1) self }
-        ensures step { IfOk result (λ step. (line : ScriptLine) × (line_of_row row ≡ Ok line) × Follows number self line step) }
-        ensures fault { IfErr result (IsFoundBy (checks_in number self (line_of_row row))) }
+        requires room { HasRoom (number - 1) (begun_in self) }
+        ensures step { IfOk result (λ step. (line : ScriptLine) × (line_of_row row ≡ Ok line) × Follows number (begun_in self) line step) }
+        ensures fault { IfErr result (IsFoundBy (checks_in number (begun_in self) (line_of_row row))) }
     {
         let Begun::Order(order) = self else {
             return Err(ScriptError::BadLine(number));
@@ -234,9 +234,9 @@ impl Begun {
         fields: &ByteRecord,
     ) -> Result<Step, ScriptError>
         requires counted { before < 2 ^ 64 - 1 }
-        requires room { HasRoom before self }
-        ensures step { IfOk result (λ step. (line : ScriptLine) × (spec.line_of (fields_of fields.now) ≡ Ok line) × Follows (before + 1) self line step) }
-        ensures fault { IfErr result (IsFoundBy (order_refused self (spec.word_of (fields_of fields.now)) ∷ checks_in (before + 1) self (spec.line_of (fields_of fields.now)))) }
+        requires room { HasRoom before (begun_in self) }
+        ensures step { IfOk result (λ step. (line : ScriptLine) × (spec.line_of (fields_of fields.now) ≡ Ok line) × Follows (before + 1) (begun_in self) line step) }
+        ensures fault { IfErr result (IsFoundBy (order_refused (begun_in self) (spec.word_of (fields_of fields.now)) ∷ checks_in (before + 1) (begun_in self) (spec.line_of (fields_of fields.now)))) }
     {
         let number = before + 1;
         let word = word_of(fields);

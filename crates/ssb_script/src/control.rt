@@ -3,7 +3,8 @@
 ghost use Rattle.std.specs.Prelude.{◌≡◌, false, option_map, IfOk};
 ghost use Rattle.csv.specs.Records.{fields_of};
 ghost use Rattle.ssb_script.specs.Lines as spec;
-ghost use Rattle.ssb_script.specs.Lines.{is_line, line_after, line_of_control, line_or_bad};
+ghost use Rattle.ssb_script.specs.Lines.{is_line, line_after, line_or_bad};
+ghost use Rattle.ssb_script.specs.Steps.{line_of_control};
 ghost use Rattle.ssb_script.specs.Requests.{action_of};
 
 use crate::fields::trimmed_at;

@@ -17,6 +17,7 @@ mod block;
 mod control;
 mod error;
 mod fields;
+mod laws;
 mod order_line;
 mod question;
 mod script;
@@ -26,4 +27,5 @@ mod word;
 
 pub use block::{Block, Script};
 pub use error::ScriptError;
+pub use laws::one_reading;
 pub use script::read_script;

@@ -4,7 +4,8 @@ ghost use Rattle.std.specs.Prelude.{◌≡◌, ℕ, List, Some, map, ◌++◌, f
 ghost use Rattle.std.specs.Option.{option_to_list};
 ghost use Rattle.ssb_script.specs.Requests.{request_of, requests_of};
 ghost use Rattle.ssb_script.specs.Scripts.{IsScriptFault, SpellsScript, is_outside};
-ghost use Rattle.ssb_script.specs.declared.begun.Begun.TheVariants.{Nothing};
+ghost use Rattle.ssb_script.specs.Begun.{Nothing};
+ghost use Rattle.ssb_script.specs.Steps.{begun_in};
 ghost use Rattle.ssb_script.specs.declared.error.ScriptError.TheVariants.{NoCommit};
 
 use crate::begun::{Begun, Step};
@@ -27,8 +28,8 @@ fn keep(blocks: &mut Vec<Block>, block: Option<Block>) -> Result<(), AllocError>
 
 // The script of these blocks, where nothing more is begun.
 fn script_of(blocks: Vec<Block>, begun: Begun) -> Result<Script, ScriptError>
-    ensures script { IfOk result (λ script. (begun ≡ Nothing) × (requests_of script ≡ map request_of blocks.items)) }
-    ensures fault { IfErr result (λ e. (e ≡ NoCommit) × (is_outside begun ≡ false)) }
+    ensures script { IfOk result (λ script. (begun_in begun ≡ Nothing) × (requests_of script ≡ map request_of blocks.items)) }
+    ensures fault { IfErr result (λ e. (e ≡ NoCommit) × (is_outside (begun_in begun) ≡ false)) }
 {
     match begun {
         Begun::Nothing => Ok(Script { blocks }),

@@ -1,11 +1,15 @@
 use Rattle.std.proofs.Common.{◌≡◌, ◌∙◌, sym}
 use Rattle.std.specs.Io.KnownBytes.{Appends}
 use Rattle.ssb_report.specs.AnswerText.{answer_text}
+use Rattle.ssb_report.proofs.WrittenLaws.{part_of_short}
 use Rattle.ssb_live.proofs.Flushed.{appended_kept, appended_whole}
-use Rattle.ssb_live.proofs.Results.{is_ok_of}
+use Rattle.ssb_live.proofs.Results.{is_ok_of, is_err_of}
 use Rattle.ssb_live.proofs.query.write.Goals as goal
 
 pub returns-in-Err : goal.returns-in-Err
 returns-in-Err g c =
     let written : Appends (g.W.Write.contents c.args.out.now) (g.W.Write.contents c.write_answer.new.writer) (answer_text c.args.answer.now) = is_ok_of c.write_answer.result _ c.write_answer.ensures.report (sym c.is_err.ensures.value ∙ c.if-is_err.false) in
     appended_whole _ _ _ (appended_kept _ _ _ _ written c.flush.ensures.bytes)
+
+pub returns-then-is_err : goal.returns-then-is_err
+returns-then-is_err g c = part_of_short _ _ _ (is_err_of c.write_answer.result _ c.write_answer.ensures.fault (sym c.is_err.ensures.value ∙ c.if-is_err.true))

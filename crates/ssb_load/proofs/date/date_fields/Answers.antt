@@ -17,6 +17,7 @@ returns-in_err-first c =
     search rules
 
 pub returns-in_err-last : goal.returns-in_err-last
+unfolding values_from
 returns-in_err-last c =
     let e = c.in_err-last.field-0.0 in
     let fields = fields_of c.args.fields.now in

@@ -5,4 +5,6 @@ use Rattle.ssb_plans.specs.Constant.{constant_value}
 use Rattle.ssb_plans.proofs.constants.is_standard.Goals as goal
 
 pub returns : goal.returns
-returns c = rw (← c.standard.ensures) (slice_eq-Decides value_Decides c.args.constants.now (map constant_value c.standard.result.now) c.are.result c.are.ensures)
+returns c = rw (← c.standard.ensures)
+    (slice_eq-Decides value_Decides c.args.constants.now
+    (map constant_value c.standard.result.now) c.are.result c.are.ensures)

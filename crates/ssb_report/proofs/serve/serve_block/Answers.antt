@@ -1,20 +1,20 @@
 use Rattle.std.proofs.Common.{sym}
 use Rattle.ssb_script.specs.Requests.{Refresh, Ask}
 use Rattle.ssb_report.specs.Replies.{Refreshed, Answered}
-use Rattle.ssb_report.proofs.ServingLaws.{with_none, answers_ok, answers_part}
+use Rattle.ssb_report.proofs.ServingLaws.{with_none, refreshed_store, answers_ok, answers_part}
 use Rattle.ssb_report.proofs.serve.serve_block.Goals as goal
 
 pub returns-in-Refresh-clause-reply : goal.returns-in-Refresh-clause-reply
 returns-in-Refresh-clause-reply g c =
     rw c.in-Refresh.is
-    (answers_ok c.write_reply.result 1 c.args.store.now c.refresh.new.store (Refresh c.in-Refresh.asked.value) (Refreshed c.refresh.result) _ _
-    c.refresh.ensures.reply c.refresh.ensures.store c.write_reply.ensures.report)
+    (answers_ok c.write_reply.result 1 c.args.store.now c.refresh.new.self (Refresh c.in-Refresh.asked.value) (Refreshed c.refresh.result) _ _
+    c.refresh.ensures.reply (refreshed_store 1 c.args.store.now c.refresh.new.self c.in-Refresh.asked.value c.refresh.result c.refresh.ensures.committed c.refresh.ensures.unchanged) c.write_reply.ensures.report)
 
 pub returns-in-Refresh-clause-fault : goal.returns-in-Refresh-clause-fault
 returns-in-Refresh-clause-fault g c =
     rw c.in-Refresh.is
-    (answers_part c.write_reply.result 1 c.args.store.now c.refresh.new.store (Refresh c.in-Refresh.asked.value) (Refreshed c.refresh.result) _ _
-    c.refresh.ensures.reply c.refresh.ensures.store c.write_reply.ensures.fault)
+    (answers_part c.write_reply.result 1 c.args.store.now c.refresh.new.self (Refresh c.in-Refresh.asked.value) (Refreshed c.refresh.result) _ _
+    c.refresh.ensures.reply (refreshed_store 1 c.args.store.now c.refresh.new.self c.in-Refresh.asked.value c.refresh.result c.refresh.ensures.committed c.refresh.ensures.unchanged) c.write_reply.ensures.fault)
 
 pub returns-in-Ask-clause-reply : goal.returns-in-Ask-clause-reply
 returns-in-Ask-clause-reply g c =

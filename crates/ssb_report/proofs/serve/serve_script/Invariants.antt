@@ -1,6 +1,7 @@
 use Rattle.std.proofs.Common.{◌≡◌, List, ◌++◌, length, map}
 use Rattle.std.specs.Vec.Iter.{into_iter_items}
 use Rattle.ssb_script.specs.Requests.{Request, request_of, requests_of}
+use Rattle.ssb_report.specs.Replies.{memory_alone}
 use Rattle.ssb_report.specs.Report.{Serves, IsBehind}
 use Rattle.ssb_report.proofs.serve.serve_script.Given as goal
 
@@ -10,7 +11,7 @@ invariant-loop-block g l =
     (front : List Request)
     × (requests_of l.fn.script ≡ front ++ map request_of (into_iter_items l.blocks))
     × (length front ≡ l.done)
-    × Serves 1 l.fn.store l.store front (g.W.Write.contents l.fn.writer) (g.W.Write.contents l.writer)
+    × Serves memory_alone 1 l.fn.store l.store front (g.W.Write.contents l.fn.writer) (g.W.Write.contents l.writer)
     × IsBehind l.lines l.store
 
 abbrev pub decreases-loop-block : goal.decreases-loop-block

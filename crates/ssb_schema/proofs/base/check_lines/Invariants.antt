@@ -11,6 +11,8 @@ abbrev pub invariant-loop-i : goal.invariant-loop-i
 invariant-loop-i l =
     record {
       rest : (dimensions : Dimensions) → AreIndexesOf l.indexes dimensions
-          → rows_fault (line_fault dimensions) (take l.i l.lines) (drop l.i l.lines) ≡ rows_fault (line_fault dimensions) [] l.lines;
-      seen : (q : ℕ × ℕ) → set.contains same_pair l.seen q ≡ list_any (λ e. same_pair (line_key e) q) (take l.i l.lines);
+          → rows_fault (line_fault dimensions) (take l.i l.lines) (drop l.i l.lines)
+          ≡ rows_fault (line_fault dimensions) [] l.lines;
+      seen : (q : ℕ × ℕ)
+          → set.contains same_pair l.seen q ≡ list_any (λ e. same_pair (line_key e) q) (take l.i l.lines);
     }

@@ -10,17 +10,22 @@ pub returns-then-has_number : goal.returns-then-has_number
 returns-then-has_number c =
     let lines = c.args.lines.now in
     let line = c.index-lines-i.result in
-    let at : slice_get lines c.loop-i.i ≡ Some line = slice_get_read lines (length lines) c.loop-i.i line refl c.loop-i-test.true c.index-lines-i.is in
-    let found : list_any (λ e. has_number_of e line) (take c.loop-i.i lines) ≡ true = sym (rw c.line_number-number.ensures at c.has_number.ensures) ∙ c.if-has_number.true in
-    let here : repeated_number (take c.loop-i.i lines) line ≡ Some (fault.LineRepeated c.line_number-number.result) = rw found (ap (λ n. Some (fault.LineRepeated n)) (sym c.line_number-number.ensures)) in
+    let at : slice_get lines c.loop-i.i ≡ Some line
+    = slice_get_read lines (length lines) c.loop-i.i line refl c.loop-i-test.true c.index-lines-i.is in
+    let found : list_any (λ e. has_number_of e line) (take c.loop-i.i lines) ≡ true
+    = sym (rw c.line_number-number.ensures at c.has_number.ensures) ∙ c.if-has_number.true in
+    let here : repeated_number (take c.loop-i.i lines) line ≡ Some (fault.LineRepeated c.line_number-number.result)
+    = rw found (ap (λ n. Some (fault.LineRepeated n)) (sym c.line_number-number.ensures)) in
     sym (sym c.loop-i.invariant ∙ rows_fault_next repeated_number lines c.loop-i.i line at ∙ or_else_found _ _ _ here)
 
 pub loop-i-preserved : goal.loop-i-preserved
 loop-i-preserved c =
     let lines = c.args.lines.now in
     let line = c.index-lines-i.result in
-    let at : slice_get lines c.loop-i.i ≡ Some line = slice_get_read lines (length lines) c.loop-i.i line refl c.loop-i-test.true c.index-lines-i.is in
-    let absent : list_any (λ e. has_number_of e line) (take c.loop-i.i lines) ≡ false = sym (rw c.line_number-number.ensures at c.has_number.ensures) ∙ c.if-has_number.false in
+    let at : slice_get lines c.loop-i.i ≡ Some line
+    = slice_get_read lines (length lines) c.loop-i.i line refl c.loop-i-test.true c.index-lines-i.is in
+    let absent : list_any (λ e. has_number_of e line) (take c.loop-i.i lines) ≡ false
+    = sym (rw c.line_number-number.ensures at c.has_number.ensures) ∙ c.if-has_number.false in
     let here : repeated_number (take c.loop-i.i lines) line ≡ None = rw absent refl in
     sym (rows_fault_next repeated_number lines c.loop-i.i line at ∙ or_else_absent _ _ here) ∙ c.loop-i.invariant
 

@@ -1,14 +1,10 @@
-use Rattle.std.proofs.Common.{rules, ◌≡◌, ◌+◌, ◌≤◌, ◌++◌, ◌∷◌, [], List, false, length, sym, ap, ◌∙◌, arith}
-use Rattle.std.specs.List.{flat_map}
+use Rattle.std.proofs.Common.{rules, ◌≡◌, ◌+◌, ◌≤◌, ◌++◌, ◌∷◌, [], length, sym, ◌∙◌, arith}
 use Rattle.std.proofs.lemmas.Bool.{ltb-true}
 use Rattle.std.proofs.lemmas.List.{length_push}
 use Rattle.std.proofs.lemmas.List.Elements.{All-push, All-nil}
 use Rattle.std.proofs.lemmas.Grind.{flat_map-append}
-use Rattle.ssb_schema.specs.declared.refresh.Action.{Action}
 use Rattle.ssb_schema.specs.declared.refresh.Action.TheVariants.{Withdraw}
-use Rattle.ssb_script.specs.Lines as line
 use Rattle.ssb_script.specs.Requests.{IsWholeAction, IsWholeRequest, lines_of_action}
-use Rattle.ssb_script.specs.Scripts.{ends_in_order}
 use Rattle.ssb_script.proofs.StepLaws.{ends_withdrawn}
 use Rattle.ssb_script.proofs.begun.withdraw.Goals as goal
 

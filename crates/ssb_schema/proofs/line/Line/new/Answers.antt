@@ -1,22 +1,25 @@
-use Rattle.std.proofs.Common.{◌≡◌, ◌∙◌, None, sym, arith}
-use Rattle.ssb_schema.specs.Rows.{IsWithinLimits}
+use Rattle.std.proofs.Common.{◌∙◌, sym, arith}
 use Rattle.ssb_schema.proofs.LimitLaws.{line_within}
 use Rattle.ssb_schema.proofs.line.Line.new.Goals as goal
 
 pub overflow_cast-result : goal.overflow_cast-result
-overflow_cast-result c = omega (arith, (line_within (c.args.fields) (sym c.fault.ensures ∙ c.in_default.is)).extended_price)
+overflow_cast-result c = omega
+    (arith, (line_within (c.args.fields) (sym c.fault.ensures ∙ c.in_default.is)).extended_price)
 
 pub overflow_cast-result-2 : goal.overflow_cast-result-2
-overflow_cast-result-2 c = omega (arith, (line_within (c.args.fields) (sym c.fault.ensures ∙ c.in_default.is)).order_total_price)
+overflow_cast-result-2 c = omega
+    (arith, (line_within (c.args.fields) (sym c.fault.ensures ∙ c.in_default.is)).order_total_price)
 
 pub overflow_cast-result-3 : goal.overflow_cast-result-3
 overflow_cast-result-3 c = omega (arith, (line_within (c.args.fields) (sym c.fault.ensures ∙ c.in_default.is)).revenue)
 
 pub overflow_cast-result-4 : goal.overflow_cast-result-4
-overflow_cast-result-4 c = omega (arith, (line_within (c.args.fields) (sym c.fault.ensures ∙ c.in_default.is)).supply_cost)
+overflow_cast-result-4 c = omega
+    (arith, (line_within (c.args.fields) (sym c.fault.ensures ∙ c.in_default.is)).supply_cost)
 
 pub overflow_cast-result-5 : goal.overflow_cast-result-5
-overflow_cast-result-5 c = omega (arith, (line_within (c.args.fields) (sym c.fault.ensures ∙ c.in_default.is)).line_number)
+overflow_cast-result-5 c = omega
+    (arith, (line_within (c.args.fields) (sym c.fault.ensures ∙ c.in_default.is)).line_number)
 
 pub overflow_cast-result-6 : goal.overflow_cast-result-6
 overflow_cast-result-6 c = omega (arith, (line_within (c.args.fields) (sym c.fault.ensures ∙ c.in_default.is)).quantity)

@@ -1,0 +1,50 @@
+-- The columns of a table are found at their places.
+use Rattle.std.proofs.Common.{◌≡◌, ◌∙◌, ◌<◌, ℕ, zero, suc, ◌+◌, ◌-◌, Bool, true, false, ◌&&◌, nat_eq, List, []}
+use Rattle.std.proofs.Common.{◌∷◌, map, refl, sym, ap, arith}
+use Rattle.std.specs.List.{slice_get, find}
+use Rattle.std.specs.Cmp.{first_so, second_so}
+use Rattle.std.specs.Option.{option_map, unwrap_or}
+use Rattle.std.proofs.lemmas.Bool.Decides.{nat_tests}
+use Rattle.std.proofs.lemmas.Option.{slice_get-map}
+use Rattle.ssb_schema.specs.declared.table.Table.{Table}
+use Rattle.ssb_schema.specs.declared.table.Table.TheVariants as table
+use Rattle.ssb_schema.specs.declared.column.Column.{Column}
+use Rattle.ssb_schema.specs.Columns.{Described, columns_of, column_name}
+
+-- whether the places count from here
+abbrev are_placed : ℕ → List Described → Bool
+are_placed place [] = true
+are_placed place (row ∷ rows) = nat_eq row.place place && are_placed (suc place) rows
+
+placed : (t : Table) → are_placed 1 (columns_of t) ≡ true
+placed table.Customer = refl
+placed table.Supplier = refl
+placed table.Part = refl
+placed table.Date = refl
+placed table.Lineorder = refl
+
+found_at : (rows : List Described) (place i : ℕ) → are_placed place rows ≡ true
+    → find (λ row. nat_eq row.place (place + i)) rows ≡ slice_get rows i
+found_at [] place i h = refl
+found_at (row ∷ rows) place zero h =
+    let here : nat_eq row.place (place + 0) ≡ true
+    = grind (arith, nat_tests, first_so (nat_eq row.place place) (are_placed (suc place) rows) h) in
+    rw here refl
+found_at (row ∷ rows) place (suc i) h =
+    let not_here : nat_eq row.place (place + suc i) ≡ false
+    = grind (arith, nat_tests, first_so (nat_eq row.place place) (are_placed (suc place) rows) h) in
+    let same : suc place + i ≡ place + suc i = omega arith in
+    rw not_here (ap (λ (n : ℕ). find (λ other. nat_eq other.place n) rows) (sym same)
+    ∙ found_at rows (suc place) i (second_so (nat_eq row.place place) (are_placed (suc place) rows) h))
+
+-- the name at a place, from the names in order
+pub name_at : (column : Column) (names : List (List ℕ)) → 0 < column.place
+    → names ≡ map (λ row. row.name) (columns_of column.table)
+    → unwrap_or (slice_get names (column.place - 1)) [] ≡ column_name column
+name_at column names some are =
+    let place_is : 1 + (column.place - 1) ≡ column.place = omega (arith, some) in
+    let found = ap (λ (n : ℕ). find (λ row. nat_eq row.place n) (columns_of column.table)) (sym place_is)
+    ∙ found_at (columns_of column.table) 1 (column.place - 1) (placed column.table) in
+    ap (λ xs. unwrap_or (slice_get xs (column.place - 1)) []) are
+    ∙ ap (λ o. unwrap_or o []) (slice_get-map (λ row. row.name) (columns_of column.table) (column.place - 1))
+    ∙ ap (λ o. unwrap_or (option_map (λ row. row.name) o) []) (sym found)

@@ -1,0 +1,21 @@
+-- What the records of a script have begun and not ended.
+use Rattle.std.specs.Prelude.{ℕ, List}
+use Rattle.ssb_schema.specs.declared.line.LineFields.{LineFields}
+use Rattle.ssb_schema.specs.declared.refresh.Action.{Action}
+use Rattle.ssb_script.specs.declared.control.Opening.{Opening}
+
+-- an order whose lines are being read
+pub record BegunOrder : Type 0 where
+  -- the actions before it in its refresh
+  pub actions : List Action
+  -- how it began, and the number of the record that began it
+  pub opening : Opening
+  pub number : ℕ
+  -- its lines so far
+  pub lines : List LineFields
+
+-- nothing is begun, or a refresh with these actions so far, or an order in a refresh
+pub data Begun : Type 0 where
+  Nothing : Begun
+  Refresh : List Action → Begun
+  Order : BegunOrder → Begun

@@ -1,0 +1,5 @@
+use Rattle.twin_cell.proofs.Copies.{told_number_is_told_list}
+use Rattle.twin_cell.proofs.laws.told_number_is_told_list.Goals as goal
+
+pub returns : goal.returns
+returns c = told_number_is_told_list

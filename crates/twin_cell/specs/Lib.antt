@@ -1,0 +1,4 @@
+pub mod NoTables
+pub mod Rule
+pub mod Twin
+pub mod Laws
