@@ -59,15 +59,15 @@ module _ (history : List CommitRecord) (commit : CommitRecord) where
       → ClientsFit (length (history ++ commit ∷ [])) clients
   clients_more clients are =
       record {
-        own = λ number c at. let h = are.own number c at in let seen = h.1 in let more =
-            longer in (h.0, omega arith);
+        own = λ number c at. let h = are.own number c at in let seen = h.1 in
+            let more = longer in (h.0, omega arith);
       }
 
   pub dispatchers_more : (dispatchers : List Dispatcher) → DispatchersFit (length history) dispatchers
       → DispatchersFit (length (history ++ commit ∷ [])) dispatchers
   dispatchers_more dispatchers are = record {
-    own = λ number d at. let h = are.own number d at in let seen = h.0 in let more =
-        longer in (omega arith, within_more d.mark _ _ more h.1, within_more d.version _ _ more h.2);
+    own = λ number d at. let h = are.own number d at in let seen = h.0 in
+        let more = longer in (omega arith, within_more d.mark _ _ more h.1, within_more d.version _ _ more h.2);
   }
 
   pub dispatchers_grown : (dispatchers : List Dispatcher) → DispatchersFit (length history) dispatchers
@@ -108,18 +108,16 @@ pub applied_grown : (w : Inside) (store : Warehouse) (client : ℕ) (actions : L
     → refusal_of w.store.base w.store.log actions ≡ None → store ≡ with_commit w.store (commit_by client actions)
     → number ≡ length store.log
     → applied (world_in w) client actions ≡ (world_in record w { store = store }, Committed number)
-applied_grown w store client actions number k accepted is count = let commit : CommitRecord =
-    commit_by client actions in
+applied_grown w store client actions number k accepted is count =
+    let commit : CommitRecord = commit_by client actions in
     let counted : length w.store.log + 1 ≡ number =
     sym (count ∙ ap (λ (s : Warehouse). length s.log) is ∙ length-append w.store.log (commit ∷ [])) in
     let shown : World = record (world_in w) { history = w.store.log ++ commit ∷ [] } in
     ap (applying (world_in w) client actions) accepted
     ∙ (λ i. (
       record shown {
-        clients =
-            sym (clients_grown w.store.log commit w.clients client refl k.clients) i;
-        dispatchers =
-            sym (dispatchers_grown w.store.log commit w.dispatchers k.dispatchers) i;
+        clients = sym (clients_grown w.store.log commit w.clients client refl k.clients) i;
+        dispatchers = sym (dispatchers_grown w.store.log commit w.dispatchers k.dispatchers) i;
       },
       Committed (counted i),
     ))

@@ -111,22 +111,6 @@ filter_take {A} test (suc n) (x ∷ xs) = go (filter_take test n xs) (test x) re
     go h true e = rw e (omega arith)
     go h false e = rw e h
 
--- a legal history stays legal with one commit more that nothing speaks against
-pub legal_push : (base : Tables) (log : List CommitRecord) (commit : CommitRecord) → IsLegal base log
-    → refusal_of base log commit.actions ≡ None → IsLegal base (log ++ commit ∷ [])
-legal_push base log commit legal accepted = record {
-  accepted = λ number c at. ⊎_elim
-      (λ (t : (number < length log) × (slice_get log number ≡ Some c)). let h =
-      t.0 in
-      subst (λ l. refusal_of base l c.actions ≡ None) (sym (take-append-le number log (commit ∷ []) (omega arith)))
-      (legal.accepted number c t.1))
-      (λ (t : (number ≡ length log) × (commit ≡ c)). subst
-      (λ (l : List CommitRecord × CommitRecord). refusal_of base l.0 l.1.actions ≡ None)
-      (λ i.
-      (sym (ap (λ n. take n (log ++ commit ∷ [])) t.0 ∙ take-append_seam log (commit ∷ [])) i, t.1 i)) accepted)
-      (at_end log commit c number at);
-}
-
 pub named_push : (clients : ℕ) (log : List CommitRecord) (commit : CommitRecord) → IsOfClients clients log
     → (1 ≤ commit.client) × (commit.client ≤ clients) → IsOfClients clients (log ++ commit ∷ [])
 named_push clients log commit of is = record {

@@ -12,6 +12,8 @@ use Rattle.ssb_queries.specs.declared.answer.Unserved.{Unserved as Cause}
 use Rattle.row_store.specs.History.{CommitRecord, IsPrefix}
 use Rattle.row_store.specs.Refusals.{refusal_of}
 use Rattle.row_store.specs.declared.refusal.Refusal.{Refusal}
+use Rattle.row_store.proofs.HistoryLaws.{accepted_stays_legal}
+use Rattle.row_store.proofs.Prefixes.{begins_with_itself, prefix_longer}
 use Rattle.history_core.specs.declared.event.Who.{Who}
 use Rattle.history_core.specs.declared.event.Who.TheVariants.{Client, Dispatcher}
 use Rattle.history_core.specs.Events.{Question, Event, TakeRows, PutRows, Look, Post, Grab}
@@ -24,17 +26,10 @@ use Rattle.history_core.specs.World.{committing, putting_rows, looking, posting,
 use Rattle.history_core.specs.World.{putting_writer, answering, giving_up, collecting, step_of, run_of, opening_world}
 use Rattle.history_core.specs.OwnCommits.{commits_of}
 use Rattle.history_core.specs.Kept.{Marks, MailKept, OutcomeKept, GivenKept, ClientKept}
-use Rattle.history_core.specs.Kept.{DispatcherKept, WorldKept, EveryWorldKeeps}
-use Rattle.history_core.proofs.Histories.{some_injective, some_ne_none, each_renewed, length-renewed, legal_push}
+use Rattle.history_core.specs.Kept.{DispatcherKept, WorldKept, EachEventKeeps, EveryWorldKeeps}
+use Rattle.history_core.proofs.Histories.{some_injective, some_ne_none, each_renewed, length-renewed}
 use Rattle.history_core.proofs.Histories.{named_push, own_push, others_push, length-copies, numbered_copies}
 use Rattle.history_core.proofs.Moves.{marks_renewed, unmarked_none, known_range}
-
-prefix_self : (history : List CommitRecord) → IsPrefix history history
-prefix_self history = record { rest = []; whole = sym (append-nil history) }
-
-prefix_push : (seen history more : List CommitRecord) → IsPrefix seen history → IsPrefix seen (history ++ more)
-prefix_push seen history more p =
-    record { rest = p.rest ++ more; whole = ap (λ l. l ++ more) p.whole ∙ append_assoc seen p.rest more }
 
 all_kept : {A : Type 0} (P Q : A → Type 0) → ((a : A) → P a → Q a) → (l : List A) → All P l → All Q l
 all_kept P Q so l all k d low = so _ (all k d low)
@@ -76,8 +71,7 @@ module _ (base : Tables) (clients : ℕ) (w : World) (k : WorldKept base clients
         history = w.history;
         rows = rows;
         writer = writer;
-        clients =
-            renewed w.clients number f;
+        clients = renewed w.clients number f;
         dispatchers = renewed w.dispatchers holder g;
       }
   moved rows writer number f holder g later mine sees here there = record {
@@ -103,8 +97,7 @@ module _ (base : Tables) (clients : ℕ) (w : World) (k : WorldKept base clients
         (λ n. ClientKept w.base w.history (renewed w.dispatchers holder g)) w.clients number f k.client here
         (λ j c other at was. record {
           seen = was.seen;
-          mail =
-              mail_same (renewed w.dispatchers holder g) later c.mailbox was.mail;
+          mail = mail_same (renewed w.dispatchers holder g) later c.mailbox was.mail;
         });
     dispatcher =
         each_renewed (λ n. DispatcherKept w.history)
@@ -123,8 +116,7 @@ module _ (base : Tables) (clients : ℕ) (w : World) (k : WorldKept base clients
         history = w.history;
         rows = rows;
         writer = writer;
-        clients =
-            renewed w.clients number f;
+        clients = renewed w.clients number f;
         dispatchers = w.dispatchers;
       }
   of_client rows writer number f mine sees here =
@@ -139,8 +131,7 @@ module _ (base : Tables) (clients : ℕ) (w : World) (k : WorldKept base clients
         history = w.history;
         rows = rows;
         writer = writer;
-        clients =
-            w.clients;
+        clients = w.clients;
         dispatchers = renewed w.dispatchers holder g;
       }
   of_dispatcher rows writer holder g later there =
@@ -153,13 +144,12 @@ module _ (base : Tables) (clients : ℕ) (w : World) (k : WorldKept base clients
         history = w.history;
         rows = rows;
         writer = writer;
-        clients =
-            renewed w.clients number (λ c. record c { seen = w.history });
+        clients = renewed w.clients number (λ c. record c { seen = w.history });
         dispatchers = w.dispatchers;
       }
   client_sees rows writer number =
       of_client rows writer number (λ c. record c { seen = w.history }) (λ c. refl) (λ c. inr refl)
-      (λ c at was. record { seen = prefix_self w.history; mail = was.mail })
+      (λ c at was. record { seen = begins_with_itself w.history; mail = was.mail })
 
   dispatcher_sees : (rows : Option Who) (writer : Option ℕ) (number : ℕ)
       → WorldKept base clients record {
@@ -167,14 +157,13 @@ module _ (base : Tables) (clients : ℕ) (w : World) (k : WorldKept base clients
         history = w.history;
         rows = rows;
         writer = writer;
-        clients =
-            w.clients;
+        clients = w.clients;
         dispatchers = renewed w.dispatchers number (λ d. record d { seen = w.history });
       }
   dispatcher_sees rows writer number =
       of_dispatcher rows writer number (λ d. record d { seen = w.history })
       (marks_renewed w.dispatchers number (λ d. record d { seen = w.history }) (length w.history) (λ x m has. inl has))
-      (λ d was. record { seen = prefix_self w.history; marks = was.marks; marks_seen = was.marks; given = was.given })
+      (λ d was. record { seen = begins_with_itself w.history; marks = was.marks; marks_seen = was.marks; given = was.given })
 
   unmarks_later : (number : ℕ) → Later (renewed w.dispatchers number unmarked)
   unmarks_later number =
@@ -189,8 +178,7 @@ module _ (base : Tables) (clients : ℕ) (w : World) (k : WorldKept base clients
             λ m has. ⊎_elim (λ (e : None ≡ Some m). absurd (cc e)) (λ (e : None ≡ Some m). absurd (cc e)) has;
         marks_seen =
             λ m has. ⊎_elim (λ (e : None ≡ Some m). absurd (cc e)) (λ (e : None ≡ Some m). absurd (cc e)) has;
-        given =
-            was.given;
+        given = was.given;
       }
 
   takes : (who : Who) (known : Bool) (holder : Option Who) → WorldKept base clients (taking_rows w who known holder).0
@@ -201,15 +189,15 @@ module _ (base : Tables) (clients : ℕ) (w : World) (k : WorldKept base clients
 
   committed : (number : ℕ) (actions : List Action) → is_there (numbered w.clients number) ≡ true
       → refusal_of w.base w.history actions ≡ None → WorldKept base clients (committing w number actions None).0
-  committed number actions known accepted = let commit : CommitRecord =
-      commit_by number actions in let now : List CommitRecord =
-      w.history ++ commit ∷ [] in let f : ClientState → ClientState =
-      λ c. record c { seen = now; mine = c.mine ++ commit ∷ [] } in
-      let range = known_range w.clients number known in let count = k.own.count in let low = range.0 in let high =
-      range.1 in let long : length (w.history ++ commit ∷ []) ≡ length w.history + 1 =
+  committed number actions known accepted =
+      let commit : CommitRecord = commit_by number actions in
+      let now : List CommitRecord = w.history ++ commit ∷ [] in
+      let f : ClientState → ClientState = λ c. record c { seen = now; mine = c.mine ++ commit ∷ [] } in
+      let range = known_range w.clients number known in let count = k.own.count in let low = range.0 in
+      let high = range.1 in let long : length (w.history ++ commit ∷ []) ≡ length w.history + 1 =
       length-append w.history (commit ∷ []) in record {
         based = k.based;
-        legal = legal_push w.base w.history commit k.legal accepted;
+        legal = accepted_stays_legal w.base w.history commit k.legal accepted;
         own = record {
           own =
               each_renewed (λ n (c : ClientState). c.mine ≡ commits_of n w.history)
@@ -227,16 +215,15 @@ module _ (base : Tables) (clients : ℕ) (w : World) (k : WorldKept base clients
         client =
             each_renewed (λ n. ClientKept w.base w.history w.dispatchers)
             (λ n. ClientKept w.base now w.dispatchers) w.clients number f k.client
-            (λ c at was. record { seen = prefix_self now; mail = mail_more commit c.mailbox was.mail })
+            (λ c at was. record { seen = begins_with_itself now; mail = mail_more commit c.mailbox was.mail })
             (λ j c other at was. record {
-              seen = prefix_push c.seen w.history (commit ∷ []) was.seen;
-              mail =
-                  mail_more commit c.mailbox was.mail;
+              seen = prefix_longer c.seen w.history (commit ∷ []) was.seen;
+              mail = mail_more commit c.mailbox was.mail;
             });
         dispatcher = λ n d at. let was =
             k.dispatcher n d at in
             record {
-              seen = prefix_push d.seen w.history (commit ∷ []) was.seen;
+              seen = prefix_longer d.seen w.history (commit ∷ []) was.seen;
               marks = λ m has. let h =
                   was.marks m has in omega arith;
               marks_seen = was.marks_seen;
@@ -248,16 +235,16 @@ module _ (base : Tables) (clients : ℕ) (w : World) (k : WorldKept base clients
           → MailKept w.base (w.history ++ commit ∷ []) w.dispatchers box
       mail_more commit empty t = tt
       mail_more commit (asked q floor) t = let long = length-append w.history (commit ∷ []) in omega arith
-      mail_more commit (in_hand holder q floor) t = let long = length-append w.history (commit ∷ []) in let low =
-          t.0 in (omega arith, t.1)
+      mail_more commit (in_hand holder q floor) t = let long = length-append w.history (commit ∷ []) in
+          let low = t.0 in (omega arith, t.1)
       mail_more commit (answered q at rows) t = let long = length-append w.history (commit ∷ []) in let low =
           t.0 in (omega arith, t.1 ∙ ap (rows_after w.base q) (sym (take-append-le at w.history (commit ∷ []) t.0)))
       mail_more commit (unserved q cause) t = tt
 
       one_more : (commit : CommitRecord) (floor : ℕ) (o : Outcome) → OutcomeKept w.history floor o
           → OutcomeKept (w.history ++ commit ∷ []) floor o
-      one_more commit floor (served at) t = let long = length-append w.history (commit ∷ []) in let low =
-          t.1 in (t.0, omega arith)
+      one_more commit floor (served at) t = let long = length-append w.history (commit ∷ []) in
+          let low = t.1 in (t.0, omega arith)
       one_more commit floor (failed cause) t = tt
 
       given_more : (commit : CommitRecord) (l : List Given) → All (GivenKept w.history) l
@@ -288,7 +275,7 @@ module _ (base : Tables) (clients : ℕ) (w : World) (k : WorldKept base clients
       (λ (e : Some (length w.history) ≡ Some m). let same : length w.history ≡ m = cc e in inr (sym same))
       (λ (e : x.version ≡ Some m). inl (inr e)) has))
       (λ d was. record {
-        seen = prefix_self w.history;
+        seen = begins_with_itself w.history;
         marks =
             λ m has. ⊎_elim
             (λ (e : Some (length w.history) ≡ Some m). let same : length w.history ≡ m = cc e in omega arith)
@@ -345,8 +332,8 @@ module _ (base : Tables) (clients : ℕ) (w : World) (k : WorldKept base clients
       (λ c at was. record {
         seen = was.seen;
         mail = let both =
-            length-append c.seen was.seen.rest in let whole : length w.history ≡ length (c.seen ++ was.seen.rest) =
-            ap length was.seen.whole in omega arith;
+            length-append c.seen was.seen.rest in
+            let whole : length w.history ≡ length (c.seen ++ was.seen.rest) = ap length was.seen.whole in omega arith;
       })
   posts client question (Some (asked q floor)) = k
   posts client question (Some (in_hand d q floor)) = k
@@ -401,12 +388,12 @@ module _ (base : Tables) (clients : ℕ) (w : World) (k : WorldKept base clients
     where
       go : (b : Bool) → (holder == n) ≡ b
           → WorldKept base clients (answering w n client (Some at) (Some (in_hand holder q floor))).0
-      go true same = let mine : holder ≡ n = grind (arith, nat_tests) in let t =
-          told client (numbered w.clients client) (in_hand holder q floor) refl is in let has =
-          version_marks n at (numbered w.dispatchers n) refl marked in
+      go true same = let mine : holder ≡ n = grind (arith, nat_tests) in
+          let t = told client (numbered w.clients client) (in_hand holder q floor) refl is in
+          let has = version_marks n at (numbered w.dispatchers n) refl marked in
           let low : floor ≤ at =
-          t.1 at (subst (λ i. Marks w.dispatchers i at) (sym mine) has) in let high : at ≤ length w.history =
-          (k.dispatcher n has.0 has.1).marks at has.2 in
+          t.1 at (subst (λ i. Marks w.dispatchers i at) (sym mine) has) in
+          let high : at ≤ length w.history = (k.dispatcher n has.0 has.1).marks at has.2 in
           rw same
           (moved w.rows w.writer client
           (λ c. record c { mailbox = answered q at (rows_after w.base q (take at w.history)) }) n
@@ -466,6 +453,9 @@ module _ (base : Tables) (clients : ℕ) (w : World) (k : WorldKept base clients
       gives_up n client cause (is_known w (Dispatcher n)) (mailbox_of (numbered w.clients client))
   step_kept (Collect client) = collects client (mailbox_of (numbered w.clients client))
 
+pub each_event : EachEventKeeps
+each_event base clients w e k = step_kept base clients w k e
+
 pub run_kept : (base : Tables) (clients : ℕ) (events : List Event) (w : World) → WorldKept base clients w
     → WorldKept base clients (run_of w events).1
 run_kept base clients [] w k = k
@@ -486,16 +476,13 @@ opening_kept base clients dispatchers = record {
       (numbered_copies clients number _ c at) refl;
   client =
       λ number c at. subst (ClientKept base [] (opening_world base clients dispatchers).dispatchers)
-      (numbered_copies clients number _ c at) record { seen = prefix_self []; mail = tt };
+      (numbered_copies clients number _ c at) record { seen = begins_with_itself []; mail = tt };
   dispatcher = λ number d at. subst (DispatcherKept []) (numbered_copies dispatchers number _ d at)
       record {
-        seen = prefix_self [];
-        marks =
-            λ m has. absurd (⊎_elim (λ (e : None ≡ Some m). cc e) (λ (e : None ≡ Some m). cc e) has);
-        marks_seen =
-            λ m has. absurd (⊎_elim (λ (e : None ≡ Some m). cc e) (λ (e : None ≡ Some m). cc e) has);
-        given =
-            all_none (GivenKept []);
+        seen = begins_with_itself [];
+        marks = λ m has. absurd (⊎_elim (λ (e : None ≡ Some m). cc e) (λ (e : None ≡ Some m). cc e) has);
+        marks_seen = λ m has. absurd (⊎_elim (λ (e : None ≡ Some m). cc e) (λ (e : None ≡ Some m). cc e) has);
+        given = all_none (GivenKept []);
       };
 }
 

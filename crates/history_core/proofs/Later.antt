@@ -31,8 +31,8 @@ before_post : (es : List Event) (rs : List Reply) (client : ℕ) (question q : Q
 before_post es rs client question q rows at first second o h less = go (nat_lt o.posted first) refl
   where
     go : (b : Bool) → nat_lt o.posted first ≡ b → first < o.grabbed
-    go true e = let after : o.posted < first = grind (arith, nat_tests) in let same : first ≡ o.grabbed =
-        o.alone first (Collect client) (Rows q at rows) after less h refl in
+    go true e = let after : o.posted < first = grind (arith, nat_tests) in
+        let same : first ≡ o.grabbed = o.alone first (Collect client) (Rows q at rows) after less h refl in
         let clash : Collect client ≡ Grab o.dispatcher client =
         some_injective _ _ (sym h.0 ∙ (ap (slice_get es) same ∙ o.was_grabbed.0)) in absurd (cc clash)
     go false e = let low : first ≤ o.posted = grind (arith, nat_tests) in let early = o.posted_first in omega arith
@@ -42,12 +42,12 @@ pub never_back : (base : Tables) (es : List Event) (rs : List Reply) (history : 
     → first < second
     → Happens es rs first (Collect client) (Rows p early f) → Happens es rs second (Collect client) (Rows q late g)
     → early ≤ late
-never_back base es rs history k client first second p q early late f g less h i = let t =
-    k.true_replies first (Collect client) (Rows p early f) h in let s =
-    k.true_replies second (Collect client) (Rows q late g) i in
+never_back base es rs history k client first second p q early late f g less h i =
+    let t = k.true_replies first (Collect client) (Rows p early f) h in
+    let s = k.true_replies second (Collect client) (Rows q late g) i in
     let same : client ≡ s.0 = cc s.1 in
     let low =
     before_post es rs s.0 q p f early first second s.2
     (subst (λ n. Happens es rs first (Collect n) (Rows p early f)) same h) less in
-    let high = t.4 in let floor = s.3 in let more =
-    takes_more is_committed first s.2.grabbed rs (omega arith) in omega arith
+    let high = t.4 in let floor = s.3 in
+    let more = takes_more is_committed first s.2.grabbed rs (omega arith) in omega arith

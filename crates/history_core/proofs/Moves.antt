@@ -12,6 +12,7 @@ use Rattle.ssb_queries.specs.declared.answer.Unserved.{Unserved as Cause}
 use Rattle.row_store.specs.History.{CommitRecord}
 use Rattle.row_store.specs.Refusals.{refusal_of}
 use Rattle.row_store.specs.declared.refusal.Refusal.{Refusal}
+use Rattle.row_store.proofs.HistoryLaws.{accepted_stays_legal}
 use Rattle.history_core.specs.declared.event.Who.{Who}
 use Rattle.history_core.specs.declared.event.Who.TheVariants.{Client, Dispatcher}
 use Rattle.history_core.specs.declared.event.Reply.{Reply}
@@ -29,7 +30,7 @@ use Rattle.history_core.specs.OwnCommits.{commits_of}
 use Rattle.history_core.specs.TrueRun.{is_committed, commits_before, IsOfRequest, IsTrueReply, IsTrueRun}
 use Rattle.history_core.specs.Runs.{EveryRunIsTrue}
 use Rattle.history_core.proofs.Histories.{some_injective, some_ne_none, at_last, in_range, each_renewed, length-renewed}
-use Rattle.history_core.proofs.Histories.{legal_push, named_push, own_push, others_push, length-copies, numbered_copies}
+use Rattle.history_core.proofs.Histories.{named_push, own_push, others_push, length-copies, numbered_copies}
 use Rattle.history_core.proofs.Traces.{HasMark, Marks, MailTraced, Traced, before_front, outstanding_on}
 use Rattle.history_core.proofs.Traces.{outstanding_grabbed, posted_now, run_on, run_same, mail_on}
 
@@ -93,8 +94,7 @@ module _ (base : Tables) (clients : ℕ) (es : List Event) (rs : List Reply) (w 
         history = w.history;
         rows = rows;
         writer = writer;
-        clients =
-            renewed w.clients number f;
+        clients = renewed w.clients number f;
         dispatchers = ds;
       }
   moved e r rows writer number f ds quiet new later mine apart here = record {
@@ -133,8 +133,7 @@ module _ (base : Tables) (clients : ℕ) (es : List Event) (rs : List Reply) (w 
         history = w.history;
         rows = rows;
         writer = writer;
-        clients =
-            renewed w.clients number f;
+        clients = renewed w.clients number f;
         dispatchers = ds;
       }
   quieted e r rows writer number f ds quiet new later mine same apart =
@@ -179,18 +178,18 @@ module _ (base : Tables) (clients : ℕ) (es : List Event) (rs : List Reply) (w 
   committed : (number : ℕ) (actions : List Action) → is_there (numbered w.clients number) ≡ true
       → refusal_of w.base w.history actions ≡ None
       → Next (PutRows (Client number) (Some actions)) (committing w number actions None)
-  committed number actions known accepted = let commit : CommitRecord = commit_by number actions in let e : Event =
-      PutRows (Client number) (Some actions) in let r : Reply = Committed (length w.history + 1) in
-      let now : List CommitRecord = w.history ++ commit ∷ [] in let f : ClientState → ClientState =
-      λ c. record c { seen = now; mine = c.mine ++ commit ∷ [] } in
+  committed number actions known accepted = let commit : CommitRecord = commit_by number actions in
+      let e : Event = PutRows (Client number) (Some actions) in let r : Reply = Committed (length w.history + 1) in
+      let now : List CommitRecord = w.history ++ commit ∷ [] in
+      let f : ClientState → ClientState = λ c. record c { seen = now; mine = c.mine ++ commit ∷ [] } in
       let here : commits_before (rs ++ r ∷ []) (length rs) ≡ length w.history =
       before_front es rs even e r (length rs) (omega arith) ∙ sym k.run.no_others in
-      let range = known_range w.clients number known in let count = k.keeps.count in let low = range.0 in let high =
-      range.1 in record {
+      let range = known_range w.clients number known in let count = k.keeps.count in let low = range.0 in
+      let high = range.1 in record {
         based = k.based;
         run =
             run_on w.base es rs w.history e r (commit ∷ []) k.run
-            (legal_push w.base w.history commit k.run.legal accepted) refl
+            (accepted_stays_legal w.base w.history commit k.run.legal accepted) refl
             (ap (λ n. n + 1) (sym here), (number, actions, refl, ap (slice_get now) here ∙ at_last w.history commit));
         keeps = record {
           own =
@@ -210,8 +209,8 @@ module _ (base : Tables) (clients : ℕ) (es : List Event) (rs : List Reply) (w 
             (λ h. h) was)
             (λ j c other at was. mail_on w.base es rs even e r w.history
             (commit ∷ []) k.run.no_others w.dispatchers w.dispatchers (λ _ _ h. inl h) j c.mailbox (λ h. h) was);
-        marks = λ n mark has. let h = k.marks n mark has in let long =
-            length-append w.history (commit ∷ []) in omega arith;
+        marks = λ n mark has. let h = k.marks n mark has in
+            let long = length-append w.history (commit ∷ []) in omega arith;
       }
 
   commits : (number : ℕ) (actions : List Action) → is_there (numbered w.clients number) ≡ true
@@ -340,11 +339,11 @@ module _ (base : Tables) (clients : ℕ) (es : List Event) (rs : List Reply) (w 
     where
       go : (b : Bool) → (holder == n) ≡ b
           → Next (Answer n client) (answering w n client (Some at) (Some (in_hand holder question floor)))
-      go true same = let mine : holder ≡ n = grind (arith, nat_tests) in let t =
-          told client (numbered w.clients client) (in_hand holder question floor) refl is in let has =
-          version_marks n at (numbered w.dispatchers n) refl marked in
-          let low = t.1 at (subst (λ i. Marks w.dispatchers i at) (sym mine) has) in let high =
-          k.marks n at has in let early = t.0.grabbed_before in
+      go true same = let mine : holder ≡ n = grind (arith, nat_tests) in
+          let t = told client (numbered w.clients client) (in_hand holder question floor) refl is in
+          let has = version_marks n at (numbered w.dispatchers n) refl marked in
+          let low = t.1 at (subst (λ i. Marks w.dispatchers i at) (sym mine) has) in
+          let high = k.marks n at has in let early = t.0.grabbed_before in
           let front = before_front es rs even (Answer n client) Done t.0.grabbed (omega arith) in
           rw same
           (moved (Answer n client) Done w.rows w.writer client
@@ -388,14 +387,14 @@ module _ (base : Tables) (clients : ℕ) (es : List Event) (rs : List Reply) (w 
 
   collects : (client : ℕ) (o : Option Mailbox) → mailbox_of (numbered w.clients client) ≡ o
       → Next (Collect client) (collecting w client o)
-  collects client (Some (answered question at rows)) is = let t =
-      told client (numbered w.clients client) (answered question at rows) refl is in let counted =
-      k.run.no_others in let high = t.2 in
+  collects client (Some (answered question at rows)) is =
+      let t = told client (numbered w.clients client) (answered question at rows) refl is in
+      let counted = k.run.no_others in let high = t.2 in
       moved (Collect client) (Rows question at rows) w.rows w.writer client
       (λ c. record c { mailbox = empty }) w.dispatchers refl (client, refl, t.0, t.1, omega arith, t.3)
       (λ _ _ h. inl h) (λ c. refl) (apart_from client) (λ c there. tt)
-  collects client (Some (unserved question cause)) is = let t =
-      told client (numbered w.clients client) (unserved question cause) refl is in
+  collects client (Some (unserved question cause)) is =
+      let t = told client (numbered w.clients client) (unserved question cause) refl is in
       moved (Collect client) (Unserved question cause) w.rows w.writer client
       (λ c. record c { mailbox = empty }) w.dispatchers refl (client, refl, t) (λ _ _ h. inl h) (λ c. refl)
       (apart_from client) (λ c there. tt)
@@ -455,9 +454,9 @@ opening_traced base clients dispatchers = record {
 }
 
 pub every_run : EveryRunIsTrue
-every_run base clients dispatchers events = let last : World =
-    (run_of (opening_world base clients dispatchers) events).1 in let replies : List Reply =
-    (run_of (opening_world base clients dispatchers) events).0 in
+every_run base clients dispatchers events =
+    let last : World = (run_of (opening_world base clients dispatchers) events).1 in
+    let replies : List Reply = (run_of (opening_world base clients dispatchers) events).0 in
     let k : Traced base clients events replies last =
     run_traced base clients events [] [] (opening_world base clients dispatchers)
     (opening_traced base clients dispatchers) in

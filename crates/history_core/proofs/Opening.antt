@@ -24,9 +24,9 @@ new_clients commits count clients new = record { own = own }
     own : (number : ℕ) (client : Client) → numbered clients number ≡ Some client → (client.number ≡ number)
         × (client.seen ≤ commits)
     own zero client at = absurd (some_ne_none client (sym at))
-    own (suc place) client at = let is = new.each place client at in let n : client.number ≡ place + 1 =
-        ap (λ (c : Client). c.number) is in let s : client.seen ≡ 0 =
-        ap (λ (c : Client). c.seen) is in (omega arith, omega arith)
+    own (suc place) client at = let is = new.each place client at in
+        let n : client.number ≡ place + 1 = ap (λ (c : Client). c.number) is in
+        let s : client.seen ≡ 0 = ap (λ (c : Client). c.seen) is in (omega arith, omega arith)
 
 idle_dispatchers : (commits count : ℕ) (dispatchers : List Dispatcher) → OpeningDispatchers count dispatchers
     → DispatchersFit commits dispatchers
@@ -45,8 +45,7 @@ opening_kept w clients dispatchers base new idle =
     record {
       base = base;
       clients = new_clients _ clients w.clients new;
-      dispatchers =
-          idle_dispatchers _ dispatchers w.dispatchers idle;
+      dispatchers = idle_dispatchers _ dispatchers w.dispatchers idle;
     }
 
 abbrev newcomer : ClientState
@@ -67,8 +66,7 @@ opening_shown w base clients dispatchers rows writer is new idle =
       seen = [];
       mark = None;
       version = None;
-      given =
-          [];
+      given = [];
     } =
     all_same (dispatcher_in []) w.dispatchers _ (λ place d at. ap (dispatcher_in []) (idle.each place d at))
     ∙ ap (λ n. copies n idler) idle.count_is in
@@ -79,6 +77,5 @@ opening_shown w base clients dispatchers rows writer is new idle =
       rows = rows i;
       writer = writer i;
       clients = cs i;
-      dispatchers =
-          ds i;
+      dispatchers = ds i;
     }

@@ -23,8 +23,8 @@ module _ {A : Type 0} where
   pub revised_agree : (l : List A) (place : ℕ) (f g : A → A) (x : A) → slice_get l place ≡ Some x → f x ≡ g x
       → revised l place f ≡ revised l place g
   revised_agree [] place f g x at same = refl
-  revised_agree (y ∷ ys) zero f g x at same = let e : y ≡ x =
-      some_injective y x at in ap (λ z. z ∷ ys) (ap f e ∙ (same ∙ sym (ap g e)))
+  revised_agree (y ∷ ys) zero f g x at same =
+      let e : y ≡ x = some_injective y x at in ap (λ z. z ∷ ys) (ap f e ∙ (same ∙ sym (ap g e)))
   revised_agree (y ∷ ys) (suc place) f g x at same = ap (λ l. y ∷ l) (revised_agree ys place f g x at same)
 
   pub renewed_agree : (l : List A) (number : ℕ) (f g : A → A) (x : A) → numbered l number ≡ Some x → f x ≡ g x
@@ -86,8 +86,8 @@ module _ {A : Type 0} where
     where
       go : (b : Bool) → nat_lt first count ≡ b → slice_get shown first ≡ Some x
       go true e = let same : place ≡ first = let t : Some place ≡ Some first =
-          is ∙ rw e refl in cc t in let low : first < length l = let h : first < count =
-          grind (arith, nat_tests) in omega arith in
+          is ∙ rw e refl in cc t in let low : first < length l =
+          let h : first < count = grind (arith, nat_tests) in omega arith in
           ap (λ m. slice_get m first) (sym view)
           ∙ (get_within l first x low ∙ ap (λ n. Some (slice_index_or l n x)) (sym same) ∙ ap Some (sym there))
       go false e = let t : Some place ≡ None = is ∙ rw e refl in absurd (cc t)

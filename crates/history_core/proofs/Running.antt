@@ -24,8 +24,8 @@ world_push w (x ∷ xs) e = world_push (step_of w x).0 xs e
 
 pub run_push : (w : World) (es : List Event) (e : Event) (replies : List Reply) (now after : World) (reply : Reply)
     → HasRun w es replies now → step_of now e ≡ (after, reply) → HasRun w (es ++ e ∷ []) (replies ++ reply ∷ []) after
-run_push w es e replies now after reply has step = let here : step_of (run_of w es).1 e ≡ (after, reply) =
-    ap (λ x. step_of x e) (sym has.led) ∙ step in record {
+run_push w es e replies now after reply has step =
+    let here : step_of (run_of w es).1 e ≡ (after, reply) = ap (λ x. step_of x e) (sym has.led) ∙ step in record {
       replied =
           ap (λ l. l ++ reply ∷ []) has.replied
           ∙ (ap (λ (x : World × Reply). (run_of w es).0 ++ x.1 ∷ []) (sym here) ∙ sym (replies_push w es e));
@@ -37,8 +37,8 @@ pub run_next : (w : World) (es : List Given) (i : ℕ) (replies : List Reply) (n
     (d : Given) → i < length es → HasRun w (map event_of (take i es)) replies now
     → step_of now (event_of (slice_index_or es i d)) ≡ (after, reply)
     → HasRun w (map event_of (take (i + 1) es)) (replies ++ reply ∷ []) after
-run_next w es i replies now after reply d low has step = let next : suc i ≡ i + 1 = omega arith in let x =
-    slice_index_or es i d in
+run_next w es i replies now after reply d low has step = let next : suc i ≡ i + 1 = omega arith in
+    let x = slice_index_or es i d in
     let longer : map event_of (take i es) ++ event_of x ∷ [] ≡ map event_of (take (i + 1) es) =
     sym (map-append event_of (take i es) (x ∷ []))
     ∙ ap (map event_of) (sym (take-suc es i d low) ∙ ap (λ n. take n es) next) in
@@ -47,8 +47,8 @@ run_next w es i replies now after reply d low has step = let next : suc i ≡ i 
 
 pub true_from_opening : (before : World) (events : List Event) (replies : List Reply) (after : World)
     → HasRun before events replies after → IsTrueFromOpening before events replies after
-true_from_opening before events replies after has base clients dispatchers opening = let t =
-    every_run base clients dispatchers events in
+true_from_opening before events replies after has base clients dispatchers opening =
+    let t = every_run base clients dispatchers events in
     let led : (run_of (opening_world base clients dispatchers) events).1 ≡ after =
     ap (λ v. (run_of v events).1) (sym opening) ∙ sym has.led in
     let said : (run_of (opening_world base clients dispatchers) events).0 ≡ replies =

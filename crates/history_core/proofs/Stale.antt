@@ -30,14 +30,14 @@ module _ (base : Tables) (actions : List Action) (question : Question) (rows : L
   no_grab (suc (suc (suc (suc (suc (suc n)))))) d h low = some_ne_none _ (sym h.0)
 
   pub stale : IsTrueRun base events replies (commit_by 1 actions ∷ []) → ⊥
-  stale true_run = let t =
-      true_run.true_replies 5 (Collect 1) (Rows question 0 rows) (refl, refl) in go (t.0, t.1, t.2, t.3)
+  stale true_run =
+      let t = true_run.true_replies 5 (Collect 1) (Rows question 0 rows) (refl, refl) in go (t.0, t.1, t.2, t.3)
     where
       go :
           ((client : ℕ) × (Collect 1 ≡ Collect client) × (request : Outstanding events replies client question 5)
           × (commits_before replies request.grabbed ≤ 0)) → ⊥
-      go t = let same : 1 ≡ t.0 =
-          cc t.1 in
+      go t =
+          let same : 1 ≡ t.0 = cc t.1 in
           no_grab t.2.grabbed t.2.dispatcher
           (subst (λ n. Happens events replies t.2.grabbed (Grab t.2.dispatcher n) (Asks question))
           (sym same) t.2.was_grabbed) t.3

@@ -73,8 +73,8 @@ module _ (es : List Event) (rs : List Reply) (even : length rs ≡ length es) (e
       (λ (s : (place ≡ length es) × (e ≡ a)). let short = t.0 in let long = s.0 in absurd (omega arith))
       (at_end es e a place h.0))
       (λ (t : (place ≡ length rs) × (r ≡ b)). ⊎_elim
-      (λ (s : (place < length es) × (slice_get es place ≡ Some a)). let long = t.0 in let short =
-      s.0 in absurd (omega arith))
+      (λ (s : (place < length es) × (slice_get es place ≡ Some a)). let long = t.0 in
+      let short = s.0 in absurd (omega arith))
       (λ (s : (place ≡ length es) × (e ≡ a)). inr (t.0, s.1, t.1))
       (at_end es e a place h.0))
       (at_end rs r b place h.1)
@@ -202,8 +202,8 @@ reply_later base es rs history even e r more counted place a Done low t = tt
 reply_later base es rs history even e r more counted place a (Asks question) low t = tt
 reply_later base es rs history even e r more counted place a (Length number) low t =
     t ∙ sym (before_front es rs even e r place low)
-reply_later base es rs history even e r more counted place a (Committed number) low t = let same =
-    before_front es rs even e r place low in (
+reply_later base es rs history even e r more counted place a (Committed number) low t =
+    let same = before_front es rs even e r place low in (
       t.0 ∙ ap (λ n. n + 1) (sym same),
       (
         t.1.0,
@@ -213,15 +213,15 @@ reply_later base es rs history even e r more counted place a (Committed number) 
             ∙ at_front history more (commits_before rs place) _ t.1.3,
       ),
     )
-reply_later base es rs history even e r more counted place a (Refused at action cause) low t = let same =
-    before_front es rs even e r place low in let most = before_most rs place in let is = t.0 in (
+reply_later base es rs history even e r more counted place a (Refused at action cause) low t =
+    let same = before_front es rs even e r place low in let most = before_most rs place in let is = t.0 in (
       t.0 ∙ sym same,
       (t.1.0, t.1.1, t.1.2, ap (λ l. refusal_of base l t.1.1) (front_taken history more at (omega arith)) ∙ t.1.3),
     )
-reply_later base es rs history even e r more counted place a (Rows question at rows) low t = let same =
-    before_front es rs even e r place low in let most = before_most rs place in let high = t.4 in
-    let early = t.2.grabbed_before in let same_grab =
-    before_front es rs even e r t.2.grabbed (omega arith) in let floor = t.3 in (
+reply_later base es rs history even e r more counted place a (Rows question at rows) low t =
+    let same = before_front es rs even e r place low in let most = before_most rs place in let high = t.4 in
+    let early = t.2.grabbed_before in
+    let same_grab = before_front es rs even e r t.2.grabbed (omega arith) in let floor = t.3 in (
       t.0,
       t.1,
       outstanding_front es rs even e r t.0 question place low t.2,
@@ -242,8 +242,8 @@ pub run_on : (base : Tables) (es : List Event) (rs : List Reply) (history : List
 run_on base es rs history e r more k legal many new = let even = k.replied in record {
   replied = length-append rs (r ∷ []) ∙ (ap (λ n. n + 1) even ∙ sym (length-append es (e ∷ [])));
   legal = legal;
-  no_others = let both = length-append history more in let was = k.no_others in let now =
-      before_last rs r in omega arith;
+  no_others = let both = length-append history more in let was = k.no_others in
+      let now = before_last rs r in omega arith;
   true_replies = λ place a b happens. ⊎_elim
       (λ (t : (place < length rs) × Happens es rs place a b). let short =
       t.0 in
@@ -259,8 +259,8 @@ run_on base es rs history e r more k legal many new = let even = k.replied in re
 pub run_same : (base : Tables) (es : List Event) (rs : List Reply) (history : List CommitRecord) (e : Event)
     (r : Reply) → IsTrueRun base es rs history → is_committed r ≡ false
     → IsTrueReply base es rs history (length rs) e r → IsTrueRun base (es ++ e ∷ []) (rs ++ r ∷ []) history
-run_same base es rs history e r k quiet new = let whole =
-    append-nil history in subst (IsTrueRun base (es ++ e ∷ []) (rs ++ r ∷ [])) whole
+run_same base es rs history e r k quiet new =
+    let whole = append-nil history in subst (IsTrueRun base (es ++ e ∷ []) (rs ++ r ∷ [])) whole
     (run_on base es rs history e r [] k (subst (IsLegal base) (sym whole) k.legal) (sym (uncounted r quiet))
     (reply_later base es rs history k.replied e r [] k.no_others (length rs) e r (omega arith) new))
 
@@ -277,15 +277,15 @@ mail_on base es rs even e r history more counted ds after marks client empty apa
 mail_on base es rs even e r history more counted ds after marks client (asked question floor) apart t =
     posted_on es rs even e r client question apart t
 mail_on base es rs even e r history more counted ds after marks client (in_hand holder question floor) apart t =
-    let early = t.0.grabbed_before in let same = before_front es rs even e r t.0.grabbed (omega arith) in let most =
-    before_most rs t.0.grabbed in (
+    let early = t.0.grabbed_before in let same = before_front es rs even e r t.0.grabbed (omega arith) in
+    let most = before_most rs t.0.grabbed in (
       outstanding_on es rs even e r client question apart t.0,
       λ mark has. ⊎_elim (λ (was : Marks ds holder mark). let h = t.1 mark was in omega arith)
           (λ (new : mark ≡ length history). omega arith) (marks holder mark has),
     )
 mail_on base es rs even e r history more counted ds after marks client (answered question at rows) apart t =
-    let early = t.0.grabbed_before in let same = before_front es rs even e r t.0.grabbed (omega arith) in let floor =
-    t.1 in let high = t.2 in let both = length-append history more in (
+    let early = t.0.grabbed_before in let same = before_front es rs even e r t.0.grabbed (omega arith) in
+    let floor = t.1 in let high = t.2 in let both = length-append history more in (
       outstanding_on es rs even e r client question apart t.0,
       omega arith,
       omega arith,

@@ -71,8 +71,7 @@ module _ (history : List CommitRecord) where
         seen = take_all history i;
         mark = d.mark;
         version = d.version;
-        given =
-            (dispatcher_in history d).given;
+        given = (dispatcher_in history d).given;
       })
 
   pub dispatcher_marked : (dispatchers : List Dispatcher) (number : ℕ)
@@ -87,8 +86,7 @@ module _ (history : List CommitRecord) where
         seen = take_all history i;
         mark = Some (length history);
         version = d.version;
-        given =
-            (dispatcher_in history d).given;
+        given = (dispatcher_in history d).given;
       })
 
   pub dispatcher_unmarked : (dispatchers : List Dispatcher) (number : ℕ)
@@ -111,8 +109,7 @@ module _ (history : List CommitRecord) where
         seen = take d.seen history;
         mark = d.mark;
         version = d.version;
-        given =
-            map-append given_of d.given (given ∷ []) i;
+        given = map-append given_of d.given (given ∷ []) i;
       })
 
 pub within_some : (o : Option ℕ) (n : ℕ) → IsWithin o n → IfSome o (λ at. at ≤ n)

@@ -31,8 +31,7 @@ customer key city nation region =
       city = city;
       nation = nation;
       region = region;
-      phone =
-          [];
+      phone = [];
       market_segment = [];
     }
 
@@ -48,8 +47,7 @@ part key manufacturer category brand =
       manufacturer = manufacturer;
       category = category;
       brand = brand;
-      color =
-          [];
+      color = [];
       part_type = [];
       size = [];
       container = [];
@@ -104,8 +102,7 @@ limits =
       dimension_rows = 4;
       lines = 8;
       commits = 2;
-      dimension_rows_range =
-          (omega arith, omega arith);
+      dimension_rows_range = (omega arith, omega arith);
       lines_range = omega arith;
       commits_range = (omega arith, omega arith);
     }
@@ -154,8 +151,7 @@ worked_run : (run_of (opening_world base 1 1)
     ∷ Done ∷ Done ∷ Done ∷ Done ∷ Done ∷ Rows q4_1 1
     (record {
       groups = Number 1997 ∷ Text (codes "UNITED STATES") ∷ [];
-      sum =
-          Some (negsuc 1329);
+      sum = Some (negsuc 1329);
     } ∷ []) ∷ NotEnabled ∷ Length 1
     ∷ Done ∷ Asks q1_1 ∷ NotEnabled ∷ Done ∷ Unserved q1_1 OutOfMemory
     ∷ Done ∷ Refused 1 1 (Absent 77) ∷ []

@@ -6,7 +6,8 @@ use Rattle.row_store.specs.Legal.{IsLegal}
 use Rattle.history_core.specs.Events.{Event}
 use Rattle.history_core.specs.Numbered.{numbered}
 use Rattle.history_core.specs.World.{World, ClientState, DispatcherState, Mailbox, empty, asked, in_hand, answered}
-use Rattle.history_core.specs.World.{unserved, Outcome, served, failed, Given, rows_after, opening_world, run_of}
+use Rattle.history_core.specs.World.{unserved, Outcome, served, failed, Given, rows_after, opening_world, step_of}
+use Rattle.history_core.specs.World.{run_of}
 use Rattle.history_core.specs.OwnCommits.{OwnCommits, commits_of}
 
 -- a dispatcher has this mark or version
@@ -45,6 +46,9 @@ pub record DispatcherKept (history : List CommitRecord) (dispatcher : Dispatcher
   pub marks_seen : (mark : ℕ) → HasMark dispatcher mark → mark ≤ length dispatcher.seen
   pub given : All (GivenKept history) dispatcher.given
 
+-- what a world keeps: its base; a legal history with the clients' own commits; what each client and dispatcher has seen
+-- is a
+-- beginning of the history; floors, marks, versions and answers are within it
 pub record WorldKept (base : Tables) (clients : ℕ) (w : World) : Type 0 where
   pub based : w.base ≡ base
   pub legal : IsLegal w.base w.history
@@ -55,6 +59,10 @@ pub record WorldKept (base : Tables) (clients : ℕ) (w : World) : Type 0 where
       → ClientKept w.base w.history w.dispatchers c
   pub dispatcher : (number : ℕ) (d : DispatcherState) → numbered w.dispatchers number ≡ Some d
       → DispatcherKept w.history d
+
+abbrev pub EachEventKeeps : Type 0
+EachEventKeeps = (base : Tables) (clients : ℕ) (w : World) (event : Event) → WorldKept base clients w
+    → WorldKept base clients (step_of w event).0
 
 abbrev pub EveryWorldKeeps : Type 0
 EveryWorldKeeps =

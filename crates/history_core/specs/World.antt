@@ -149,7 +149,8 @@ putting_rows w (Client number) None true true = (seen_by record w { rows = None 
 putting_rows w (Client number) (Some actions) true true =
     committing w number actions (refusal_of w.base w.history actions)
 putting_rows w (Dispatcher number) None true true =
-    let marks : DispatcherState → DispatcherState = λ d. record d { seen = w.history; mark = Some (length w.history) } in
+    let marks : DispatcherState → DispatcherState =
+    λ d. record d { seen = w.history; mark = Some (length w.history) } in
     (with_dispatcher record w { rows = None } number marks, Done)
 putting_rows w who refresh known holds = (w, NotEnabled)
 

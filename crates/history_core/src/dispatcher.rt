@@ -153,7 +153,8 @@ impl Dispatchers {
 
     /// The dispatcher gave one answer more. After an error all is as it was.
     pub fn give(&mut self, number: u32, given: Given) -> Result<(), AllocError>
-        ensures gave { OnOk result (self.new ≡ renewed self.old number (λ d. record d { given = d.given ++ given ∷ [] })) }
+        ensures gave { OnOk result
+            (self.new ≡ renewed self.old number (λ d. record d { given = d.given ++ given ∷ [] })) }
         ensures unchanged { OnErr result (self.new ≡ self.old) }
     {
         if let Some(place) = place_of(number, self.list.len()) {

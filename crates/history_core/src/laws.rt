@@ -1,7 +1,7 @@
-//! What every run of the protocol is.
-ghost use Rattle.history_core.specs.Kept.{EveryWorldKeeps};
-ghost use Rattle.history_core.specs.TrueRun.{AnswersNeverGoBack};
+//! What every run of the protocol is, and what every world keeps.
+ghost use Rattle.history_core.specs.Kept.{EachEventKeeps, EveryWorldKeeps};
 ghost use Rattle.history_core.specs.Runs.{EveryRunIsTrue};
+ghost use Rattle.history_core.specs.TrueRun.{AnswersNeverGoBack};
 
 /// Each run from an opening world is a true run, and leaves each client its own commits.
 pub fn every_run_is_true()
@@ -11,6 +11,11 @@ pub fn every_run_is_true()
 /// The answers to one client never go back to fewer commits.
 pub fn answers_never_go_back()
     ensures { AnswersNeverGoBack }
+{}
+
+/// What a world keeps, each event keeps.
+pub fn each_event_keeps()
+    ensures { EachEventKeeps }
 {}
 
 /// Every world that events lead to from an opening one has a legal history, of which all that was seen is a beginning;

@@ -1,4 +1,5 @@
-//! The machine.
+//! The machine: its public calls, then a method for each event, then the parts of which these are made. Only the parts
+//! know the fields; all else speaks of the world that they show.
 ghost use Rattle.std.specs.Prelude.{◌≡◌, ◌≤◌, length, take, map, Some, None, IfOk, IfErr, IfSome, OnOk, OnErr};
 ghost use Rattle.row_store.specs.Legal.{IsLegal};
 ghost use Rattle.history_core.specs.declared.event.Who.TheVariants.{Client, Dispatcher};
@@ -22,6 +23,7 @@ use row_store::{ApplyError, PlainLines, Replica, RowStore};
 use ssb_queries::{Question, ResultRow, Unserved, plain};
 use ssb_schema::{Base, Items, Refresh};
 use std::alloc::{AllocError, Global};
+use std::hash::RandomState;
 use std::marker::Model;
 use std::sync::Arc;
 
@@ -68,355 +70,12 @@ fn same(holder: Who, who: Who) -> bool
 }
 
 impl World {
-    // Whether the number is known.
-    fn knows(&self, who: Who) -> bool
-        ensures { result ≡ is_known self.now who }
-    {
-        match who {
-            Who::Client(number) => self.clients.find(number).is_some(),
-            Who::Dispatcher(number) => self.dispatchers.find(number).is_some(),
-        }
-    }
-
-    // It has seen the whole history.
-    fn see(&mut self, who: Who)
-        ensures { self.new ≡ seen_by self.old who }
-    {
-        let length = self.store.len();
-        match who {
-            Who::Client(number) => self.clients.see(number, length),
-            Who::Dispatcher(number) => self.dispatchers.see(number, length),
-        }
-    }
-
-    fn hold_rows(&mut self, rows: Option<Who>)
-        ensures { self.new ≡ record self.old { rows = rows } }
-    {
-        self.rows = rows;
-    }
-
-    fn hold_writer(&mut self, writer: Option<u32>)
-        ensures { self.new ≡ record self.old { writer = writer } }
-    {
-        self.writer = writer;
-    }
-
-    fn put(&mut self, number: u32, mailbox: Mailbox)
-        ensures { self.new ≡ into_mailbox self.old number (mailbox_in mailbox) }
-    {
-        self.clients.put(number, mailbox);
-    }
-
-    fn unmark(&mut self, number: u32)
-        ensures { self.new ≡ with_dispatcher self.old number unmarked }
-    {
-        self.dispatchers.unmark(number);
-    }
-
-    // So much of the history has the dispatcher seen when it gives the row store back.
-    fn mark(&mut self, number: u32)
-        ensures { self.new ≡ with_dispatcher self.old number
-            (λ d. record d { seen = self.old.history; mark = Some (length self.old.history) }) }
-    {
-        let length = self.store.len();
-        self.dispatchers.mark(number, length);
-    }
-
-    fn set_version(&mut self, number: u32)
-        ensures { self.new ≡ with_dispatcher self.old number (λ d. record d { version = d.mark }) }
-    {
-        self.dispatchers.set_version(number);
-    }
-
-    fn give(&mut self, number: u32, given: Given) -> Result<(), AllocError>
-        ensures gave { OnOk result (self.new ≡ with_dispatcher self.old number
-            (gave given.client given.floor (outcome_of given.outcome))) }
-        ensures unchanged { OnErr result (self.new ≡ self.old) }
-    {
-        self.dispatchers.give(number, given)?;
-        Ok(())
-    }
-
-    // What a client may ask with: how many commits it has seen, where its mailbox is empty.
-    fn floor(&self, client: u32) -> Option<u64>
-        ensures { result ≡ floor_of (numbered self.now.clients client) }
-    {
-        let client = self.clients.find(client)?;
-        client.mailbox.floor(client.seen as u64)
-    }
-
-    // The request of a client that nobody has grabbed.
-    fn asked(&self, client: u32) -> Result<Option<(Question, u64)>, AllocError>
-        ensures { IfOk result (λ request. request ≡ asked_of (mailbox_of (numbered self.now.clients client))) }
-    {
-        match self.clients.find(client) {
-            Some(client) => client.mailbox.asked(),
-            None => Ok(None),
-        }
-    }
-
-    // The request of a client that the dispatcher has in hand.
-    fn held(&self, number: u32, client: u32) -> Result<Option<(Question, u64)>, AllocError>
-        ensures { IfOk result (λ request. request ≡ held_of number (mailbox_of (numbered self.now.clients client))) }
-    {
-        match self.clients.find(client) {
-            Some(client) => client.mailbox.held(number),
-            None => Ok(None),
-        }
-    }
-
-    fn version(&self, number: u32) -> Option<u64>
-        ensures version { result ≡ version_of (numbered self.now.dispatchers number) }
-        ensures within { IfSome result (λ at. at ≤ length self.now.history) }
-    {
-        self.dispatchers.find(number)?.version
-    }
-
-    fn holds_rows(&self, who: Who) -> bool
-        ensures { result ≡ holds_rows self.now.rows who }
-    {
-        match self.rows {
-            Some(holder) => same(holder, who),
-            None => false,
-        }
-    }
-
-    fn holds_writer(&self, number: u32) -> bool
-        ensures { result ≡ holds_writer self.now.writer number }
-    {
-        match self.writer {
-            Some(holder) => holder == number,
-            None => false,
-        }
-    }
-
-    // Hands out the answer in a client's mailbox, if there is one.
-    fn collect(&mut self, client: u32) -> Reply
-        ensures left { self.new ≡ with_client self.old client (λ c. record c { mailbox = left_in c.mailbox }) }
-        ensures reply { result ≡ collected_of (mailbox_of (numbered self.old.clients client)) }
-    {
-        self.clients.collect(client)
-    }
-
-    // The live lines after the first `at` commits, from the loaded ones on.
-    fn lines_after(&self, at: u64) -> Result<PlainLines, AllocError>
-        requires { at ≤ length self.now.history }
-        ensures lines { IfOk result (λ lines. lines ≡ record { base = self.now.base; log = take at self.now.history }) }
-        ensures legal { IsLegal self.now.base self.now.history }
-    {
-        let commits = &self.store.log_from(0)[..at as usize];
-        let mut lines = PlainLines::new(self.alloc, Arc::try_clone(&self.base)?)?;
-        for commit in commits {
-            lines.absorb(commit)?;
-        }
-        Ok(lines)
-    }
-
-    // The rows that answer a question after the first `at` commits.
-    fn rows_after(&self, question: &Question, at: u64) -> Result<Items<ResultRow>, AllocError>
-        requires { at ≤ length self.now.history }
-        ensures { IfOk result (λ rows. rows ≡ rows_after self.now.base question.now (take at self.now.history)) }
-    {
-        // What a base keeps is told where it is read.
-        let _loaded = self.base.lines();
-        let _limits = self.base.limits();
-        let lines = self.lines_after(at)?;
-        let rows = plain(self.alloc, &self.base, lines.lines(), question)?;
-        Ok(rows.list)
-    }
-
-    // Applies a client's refresh, which is accepted or refused.
-    fn apply(&mut self, client: u32, refresh: &Arc<Refresh>) -> Result<Reply, AllocError>
-        ensures applied { IfOk result (λ reply. applied self.old client refresh.now.value ≡ (self.new, reply)) }
-        ensures unchanged { OnErr result (self.new ≡ self.old) }
-    {
-        let refresh = Arc::try_clone(refresh)?;
-        let receipt = match self.store.apply(client, refresh) {
-            Ok(receipt) => receipt,
-            Err(ApplyError::Refused(refusal)) => {
-                return Ok(Reply::Refused {
-                    at: self.store.len() as u64,
-                    action: refusal.action,
-                    cause: refusal.cause,
-                });
-            }
-            Err(ApplyError::OutOfMemory) => return Err(AllocError),
-        };
-        Ok(Reply::Committed(receipt.number))
-    }
-
-    fn take_rows(&mut self, who: Who) -> Reply
-        ensures { step_of self.old (TakeRows who) ≡ (self.new, result) }
-    {
-        if !self.knows(who) {
-            return Reply::NotEnabled;
-        }
-        if self.rows.is_some() {
-            return Reply::NotEnabled;
-        }
-        self.hold_rows(Some(who));
-        self.see(who);
-        Reply::Done
-    }
-
-    // The row store comes home as it was.
-    fn return_rows(&mut self, who: Who) -> Reply
-        ensures { step_of self.old (PutRows who None) ≡ (self.new, result) }
-    {
-        if !self.knows(who) {
-            return Reply::NotEnabled;
-        }
-        if !self.holds_rows(who) {
-            return Reply::NotEnabled;
-        }
-        self.hold_rows(None);
-        match who {
-            Who::Client(_) => {
-                self.see(who);
-                Reply::Done
-            }
-            Who::Dispatcher(number) => {
-                self.mark(number);
-                Reply::Done
-            }
-        }
-    }
-
-    // The row store comes home with a client's refresh.
-    fn put_refresh(&mut self, client: u32, refresh: &Arc<Refresh>) -> Result<Reply, AllocError>
-        ensures stepped { IfOk result (λ reply. step_of self.old (PutRows (Client client) (Some refresh.now.value)) ≡ (self.new, reply)) }
-        ensures unchanged { OnErr result (self.new ≡ self.old) }
-    {
-        let who = Who::Client(client);
-        if !self.knows(who) {
-            return Ok(Reply::NotEnabled);
-        }
-        if !self.holds_rows(who) {
-            return Ok(Reply::NotEnabled);
-        }
-        let reply = self.apply(client, refresh)?;
-        self.hold_rows(None);
-        self.see(who);
-        Ok(reply)
-    }
-
-    fn look(&mut self, who: Who) -> Reply
-        ensures { step_of self.old (Look who) ≡ (self.new, result) }
-    {
-        if !self.knows(who) {
-            return Reply::NotEnabled;
-        }
-        let length = self.store.len();
-        self.see(who);
-        Reply::Length(length as u64)
-    }
-
-    fn post(&mut self, client: u32, question: &Question) -> Result<Reply, AllocError>
-        ensures stepped { IfOk result (λ reply. step_of self.old (Post client question.now) ≡ (self.new, reply)) }
-        ensures unchanged { OnErr result (self.new ≡ self.old) }
-    {
-        let Some(floor) = self.floor(client) else {
-            return Ok(Reply::NotEnabled);
-        };
-        let question = question.share()?;
-        self.put(client, Mailbox::Asked { question, floor });
-        Ok(Reply::Done)
-    }
-
-    fn grab(&mut self, number: u32, client: u32) -> Result<Reply, AllocError>
-        ensures stepped { IfOk result (λ reply. step_of self.old (Grab number client) ≡ (self.new, reply)) }
-        ensures unchanged { OnErr result (self.new ≡ self.old) }
-    {
-        if !self.knows(Who::Dispatcher(number)) {
-            return Ok(Reply::NotEnabled);
-        }
-        let Some((question, floor)) = self.asked(client)? else {
-            return Ok(Reply::NotEnabled);
-        };
-        let shared = question.share()?;
-        let mailbox = Mailbox::InHand {
-            dispatcher: number,
-            question,
-            floor,
-        };
-        self.put(client, mailbox);
-        self.unmark(number);
-        Ok(Reply::Query(shared))
-    }
-
-    fn take_writer(&mut self, number: u32) -> Reply
-        ensures { step_of self.old (TakeWriter number) ≡ (self.new, result) }
-    {
-        if !self.knows(Who::Dispatcher(number)) {
-            return Reply::NotEnabled;
-        }
-        if self.writer.is_some() {
-            return Reply::NotEnabled;
-        }
-        self.hold_writer(Some(number));
-        self.unmark(number);
-        Reply::Done
-    }
-
-    fn put_writer(&mut self, number: u32) -> Reply
-        ensures { step_of self.old (PutWriter number) ≡ (self.new, result) }
-    {
-        if !self.knows(Who::Dispatcher(number)) {
-            return Reply::NotEnabled;
-        }
-        if !self.holds_writer(number) {
-            return Reply::NotEnabled;
-        }
-        self.hold_writer(None);
-        self.set_version(number);
-        Reply::Done
-    }
-
-    fn answer(&mut self, number: u32, client: u32) -> Result<Reply, AllocError>
-        ensures stepped { IfOk result (λ reply. step_of self.old (Answer number client) ≡ (self.new, reply)) }
-        ensures unchanged { OnErr result (self.new ≡ self.old) }
-    {
-        let Some(at) = self.version(number) else {
-            return Ok(Reply::NotEnabled);
-        };
-        let Some((question, floor)) = self.held(number, client)? else {
-            return Ok(Reply::NotEnabled);
-        };
-        let rows = self.rows_after(&question, at)?;
-        let given = Given {
-            client,
-            floor,
-            outcome: Outcome::Served(at),
-        };
-        self.give(number, given)?;
-        self.put(client, Mailbox::Answered { question, at, rows });
-        Ok(Reply::Done)
-    }
-
-    fn give_up(&mut self, number: u32, client: u32, cause: Unserved) -> Result<Reply, AllocError>
-        ensures stepped { IfOk result (λ reply. step_of self.old (GiveUp number client cause) ≡ (self.new, reply)) }
-        ensures unchanged { OnErr result (self.new ≡ self.old) }
-    {
-        if !self.knows(Who::Dispatcher(number)) {
-            return Ok(Reply::NotEnabled);
-        }
-        let Some((question, floor)) = self.held(number, client)? else {
-            return Ok(Reply::NotEnabled);
-        };
-        let given = Given {
-            client,
-            floor,
-            outcome: Outcome::Failed(cause),
-        };
-        self.give(number, given)?;
-        self.put(client, Mailbox::Unserved { question, cause });
-        Ok(Reply::Done)
-    }
-
-    /// The world in which nothing has happened.
+    /// The world in which nothing has happened, over a base, with so many clients and dispatchers. The row store hashes
+    /// its keys with `hashing`, as `RandomState::new(&rt)?`.
     pub fn opening(
         alloc: Global,
         base: Arc<Base>,
+        hashing: RandomState,
         clients: u32,
         dispatchers: u32,
     ) -> Result<World, AllocError>
@@ -424,7 +83,7 @@ impl World {
         requires dispatchers { (1 ≤ dispatchers) × (dispatchers ≤ 4) }
         ensures { IfOk result (λ world. world ≡ opening_world base.value clients dispatchers) }
     {
-        let store = RowStore::new(alloc, Arc::try_clone(&base)?)?;
+        let store = RowStore::new(alloc, Arc::try_clone(&base)?, hashing)?;
         let clients = Clients::new(alloc, clients)?;
         let dispatchers = Dispatchers::new(alloc, dispatchers)?;
         Ok(World {
@@ -492,5 +151,374 @@ impl World {
             replies.push_reserved(reply);
         }
         Ok(replies)
+    }
+}
+
+// The events.
+impl World {
+    // The row store is given out, while it is home, and its holder sees the whole history.
+    fn take_rows(&mut self, who: Who) -> Reply
+        ensures { step_of self.old (TakeRows who) ≡ (self.new, result) }
+    {
+        if !self.knows(who) {
+            return Reply::NotEnabled;
+        }
+        if self.rows.is_some() {
+            return Reply::NotEnabled;
+        }
+        self.hold_rows(Some(who));
+        self.see(who);
+        Reply::Done
+    }
+
+    // The row store comes home as it was.
+    fn return_rows(&mut self, who: Who) -> Reply
+        ensures { step_of self.old (PutRows who None) ≡ (self.new, result) }
+    {
+        if !self.knows(who) {
+            return Reply::NotEnabled;
+        }
+        if !self.holds_rows(who) {
+            return Reply::NotEnabled;
+        }
+        self.hold_rows(None);
+        match who {
+            Who::Client(_) => {
+                self.see(who);
+                Reply::Done
+            }
+            Who::Dispatcher(number) => {
+                self.mark(number);
+                Reply::Done
+            }
+        }
+    }
+
+    // The row store comes home with a client's refresh.
+    fn put_refresh(&mut self, client: u32, refresh: &Arc<Refresh>) -> Result<Reply, AllocError>
+        ensures stepped { IfOk result (λ reply.
+            step_of self.old (PutRows (Client client) (Some refresh.now.value)) ≡ (self.new, reply)) }
+        ensures unchanged { OnErr result (self.new ≡ self.old) }
+    {
+        let who = Who::Client(client);
+        if !self.knows(who) {
+            return Ok(Reply::NotEnabled);
+        }
+        if !self.holds_rows(who) {
+            return Ok(Reply::NotEnabled);
+        }
+        let reply = self.apply(client, refresh)?;
+        self.hold_rows(None);
+        self.see(who);
+        Ok(reply)
+    }
+
+    // The whole history is seen.
+    fn look(&mut self, who: Who) -> Reply
+        ensures { step_of self.old (Look who) ≡ (self.new, result) }
+    {
+        if !self.knows(who) {
+            return Reply::NotEnabled;
+        }
+        let length = self.store.len();
+        self.see(who);
+        Reply::Length(length as u64)
+    }
+
+    // A question goes into the client's empty mailbox, with what the client has seen as its floor.
+    fn post(&mut self, client: u32, question: &Question) -> Result<Reply, AllocError>
+        ensures stepped { IfOk result (λ reply. step_of self.old (Post client question.now) ≡ (self.new, reply)) }
+        ensures unchanged { OnErr result (self.new ≡ self.old) }
+    {
+        let Some(floor) = self.floor(client) else {
+            return Ok(Reply::NotEnabled);
+        };
+        let question = question.share()?;
+        self.put(client, Mailbox::Asked { question, floor });
+        Ok(Reply::Done)
+    }
+
+    // A request goes from its mailbox into the hand of a dispatcher, whose mark and version are void.
+    fn grab(&mut self, number: u32, client: u32) -> Result<Reply, AllocError>
+        ensures stepped { IfOk result (λ reply. step_of self.old (Grab number client) ≡ (self.new, reply)) }
+        ensures unchanged { OnErr result (self.new ≡ self.old) }
+    {
+        if !self.knows(Who::Dispatcher(number)) {
+            return Ok(Reply::NotEnabled);
+        }
+        let Some((question, floor)) = self.asked(client)? else {
+            return Ok(Reply::NotEnabled);
+        };
+        let shared = question.share()?;
+        let mailbox = Mailbox::InHand {
+            dispatcher: number,
+            question,
+            floor,
+        };
+        self.put(client, mailbox);
+        self.unmark(number);
+        Ok(Reply::Query(shared))
+    }
+
+    // The writer is given out, while it is home. The mark and the version of its holder are void.
+    fn take_writer(&mut self, number: u32) -> Reply
+        ensures { step_of self.old (TakeWriter number) ≡ (self.new, result) }
+    {
+        if !self.knows(Who::Dispatcher(number)) {
+            return Reply::NotEnabled;
+        }
+        if self.writer.is_some() {
+            return Reply::NotEnabled;
+        }
+        self.hold_writer(Some(number));
+        self.unmark(number);
+        Reply::Done
+    }
+
+    // The writer comes home: the mark is the version.
+    fn put_writer(&mut self, number: u32) -> Reply
+        ensures { step_of self.old (PutWriter number) ≡ (self.new, result) }
+    {
+        if !self.knows(Who::Dispatcher(number)) {
+            return Reply::NotEnabled;
+        }
+        if !self.holds_writer(number) {
+            return Reply::NotEnabled;
+        }
+        self.hold_writer(None);
+        self.set_version(number);
+        Reply::Done
+    }
+
+    // The request in hand is answered at the version. All that can fail comes before the first change.
+    fn answer(&mut self, number: u32, client: u32) -> Result<Reply, AllocError>
+        ensures stepped { IfOk result (λ reply. step_of self.old (Answer number client) ≡ (self.new, reply)) }
+        ensures unchanged { OnErr result (self.new ≡ self.old) }
+    {
+        let Some(at) = self.version(number) else {
+            return Ok(Reply::NotEnabled);
+        };
+        let Some((question, floor)) = self.held(number, client)? else {
+            return Ok(Reply::NotEnabled);
+        };
+        let rows = self.rows_after(&question, at)?;
+        let given = Given {
+            client,
+            floor,
+            outcome: Outcome::Served(at),
+        };
+        self.give(number, given)?;
+        self.put(client, Mailbox::Answered { question, at, rows });
+        Ok(Reply::Done)
+    }
+
+    // The request in hand is given up.
+    fn give_up(&mut self, number: u32, client: u32, cause: Unserved) -> Result<Reply, AllocError>
+        ensures stepped { IfOk result (λ reply. step_of self.old (GiveUp number client cause) ≡ (self.new, reply)) }
+        ensures unchanged { OnErr result (self.new ≡ self.old) }
+    {
+        if !self.knows(Who::Dispatcher(number)) {
+            return Ok(Reply::NotEnabled);
+        }
+        let Some((question, floor)) = self.held(number, client)? else {
+            return Ok(Reply::NotEnabled);
+        };
+        let given = Given {
+            client,
+            floor,
+            outcome: Outcome::Failed(cause),
+        };
+        self.give(number, given)?;
+        self.put(client, Mailbox::Unserved { question, cause });
+        Ok(Reply::Done)
+    }
+}
+
+// The parts of events.
+impl World {
+    // Whether the number is known.
+    fn knows(&self, who: Who) -> bool
+        ensures { result ≡ is_known self.now who }
+    {
+        match who {
+            Who::Client(number) => self.clients.find(number).is_some(),
+            Who::Dispatcher(number) => self.dispatchers.find(number).is_some(),
+        }
+    }
+
+    // It has seen the whole history.
+    fn see(&mut self, who: Who)
+        ensures { self.new ≡ seen_by self.old who }
+    {
+        let length = self.store.len();
+        match who {
+            Who::Client(number) => self.clients.see(number, length),
+            Who::Dispatcher(number) => self.dispatchers.see(number, length),
+        }
+    }
+
+    // Who holds the row store, if anybody.
+    fn hold_rows(&mut self, rows: Option<Who>)
+        ensures { self.new ≡ record self.old { rows = rows } }
+    {
+        self.rows = rows;
+    }
+
+    // Who holds the writer, if anybody.
+    fn hold_writer(&mut self, writer: Option<u32>)
+        ensures { self.new ≡ record self.old { writer = writer } }
+    {
+        self.writer = writer;
+    }
+
+    // What lies in the client's mailbox from now on.
+    fn put(&mut self, number: u32, mailbox: Mailbox)
+        ensures { self.new ≡ into_mailbox self.old number (mailbox_in mailbox) }
+    {
+        self.clients.put(number, mailbox);
+    }
+
+    // The dispatcher has neither a mark nor a version.
+    fn unmark(&mut self, number: u32)
+        ensures { self.new ≡ with_dispatcher self.old number unmarked }
+    {
+        self.dispatchers.unmark(number);
+    }
+
+    // So much of the history has the dispatcher seen when it gives the row store back.
+    fn mark(&mut self, number: u32)
+        ensures { self.new ≡ with_dispatcher self.old number
+            (λ d. record d { seen = self.old.history; mark = Some (length self.old.history) }) }
+    {
+        let length = self.store.len();
+        self.dispatchers.mark(number, length);
+    }
+
+    // The dispatcher's mark is its version.
+    fn set_version(&mut self, number: u32)
+        ensures { self.new ≡ with_dispatcher self.old number (λ d. record d { version = d.mark }) }
+    {
+        self.dispatchers.set_version(number);
+    }
+
+    // The dispatcher gave one answer more.
+    fn give(&mut self, number: u32, given: Given) -> Result<(), AllocError>
+        ensures gave { OnOk result (self.new ≡ with_dispatcher self.old number
+            (gave given.client given.floor (outcome_of given.outcome))) }
+        ensures unchanged { OnErr result (self.new ≡ self.old) }
+    {
+        self.dispatchers.give(number, given)?;
+        Ok(())
+    }
+
+    // What a client may ask with: how many commits it has seen, where its mailbox is empty.
+    fn floor(&self, client: u32) -> Option<u64>
+        ensures { result ≡ floor_of (numbered self.now.clients client) }
+    {
+        let client = self.clients.find(client)?;
+        client.mailbox.floor(client.seen as u64)
+    }
+
+    // The request of a client that nobody has grabbed.
+    fn asked(&self, client: u32) -> Result<Option<(Question, u64)>, AllocError>
+        ensures { IfOk result (λ request. request ≡ asked_of (mailbox_of (numbered self.now.clients client))) }
+    {
+        match self.clients.find(client) {
+            Some(client) => client.mailbox.asked(),
+            None => Ok(None),
+        }
+    }
+
+    // The request of a client that the dispatcher has in hand.
+    fn held(&self, number: u32, client: u32) -> Result<Option<(Question, u64)>, AllocError>
+        ensures { IfOk result (λ request. request ≡ held_of number (mailbox_of (numbered self.now.clients client))) }
+    {
+        match self.clients.find(client) {
+            Some(client) => client.mailbox.held(number),
+            None => Ok(None),
+        }
+    }
+
+    // The version of a dispatcher, if it has one.
+    fn version(&self, number: u32) -> Option<u64>
+        ensures version { result ≡ version_of (numbered self.now.dispatchers number) }
+        ensures within { IfSome result (λ at. at ≤ length self.now.history) }
+    {
+        self.dispatchers.find(number)?.version
+    }
+
+    // Whether it is this one who holds the row store.
+    fn holds_rows(&self, who: Who) -> bool
+        ensures { result ≡ holds_rows self.now.rows who }
+    {
+        match self.rows {
+            Some(holder) => same(holder, who),
+            None => false,
+        }
+    }
+
+    // Whether it is this dispatcher who holds the writer.
+    fn holds_writer(&self, number: u32) -> bool
+        ensures { result ≡ holds_writer self.now.writer number }
+    {
+        match self.writer {
+            Some(holder) => holder == number,
+            None => false,
+        }
+    }
+
+    // Hands out the answer in a client's mailbox, if there is one.
+    fn collect(&mut self, client: u32) -> Reply
+        ensures left { self.new ≡ with_client self.old client (λ c. record c { mailbox = left_in c.mailbox }) }
+        ensures reply { result ≡ collected_of (mailbox_of (numbered self.old.clients client)) }
+    {
+        self.clients.collect(client)
+    }
+
+    // The live lines after the first `at` commits, from the loaded ones on.
+    fn lines_after(&self, at: u64) -> Result<PlainLines, AllocError>
+        requires { at ≤ length self.now.history }
+        ensures lines { IfOk result (λ lines. lines ≡ record { base = self.now.base; log = take at self.now.history }) }
+        ensures legal { IsLegal self.now.base self.now.history }
+    {
+        let commits = &self.store.log_from(0)[..at as usize];
+        let mut lines = PlainLines::new(self.alloc, Arc::try_clone(&self.base)?)?;
+        for commit in commits {
+            lines.absorb(commit)?;
+        }
+        Ok(lines)
+    }
+
+    // The rows that answer a question after the first `at` commits.
+    fn rows_after(&self, question: &Question, at: u64) -> Result<Items<ResultRow>, AllocError>
+        requires { at ≤ length self.now.history }
+        ensures { IfOk result (λ rows. rows ≡ rows_after self.now.base question.now (take at self.now.history)) }
+    {
+        // What a base keeps is told where it is read.
+        let _loaded = self.base.lines();
+        let _limits = self.base.limits();
+        let lines = self.lines_after(at)?;
+        let rows = plain(self.alloc, &self.base, lines.lines(), question)?;
+        Ok(rows.list)
+    }
+
+    // Applies a client's refresh, which is accepted or refused.
+    fn apply(&mut self, client: u32, refresh: &Arc<Refresh>) -> Result<Reply, AllocError>
+        ensures applied { IfOk result (λ reply. applied self.old client refresh.now.value ≡ (self.new, reply)) }
+        ensures unchanged { OnErr result (self.new ≡ self.old) }
+    {
+        let refresh = Arc::try_clone(refresh)?;
+        let receipt = match self.store.apply(client, refresh) {
+            Ok(receipt) => receipt,
+            Err(ApplyError::Refused(refusal)) => {
+                return Ok(Reply::Refused {
+                    at: self.store.len() as u64,
+                    action: refusal.action,
+                    cause: refusal.cause,
+                });
+            }
+            Err(ApplyError::OutOfMemory) => return Err(AllocError),
+        };
+        Ok(Reply::Committed(receipt.number))
     }
 }

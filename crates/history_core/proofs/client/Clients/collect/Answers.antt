@@ -13,8 +13,7 @@ returns-in-Some-clause-left c = let len : c.len.result ≡ length c.self.inside.
     ap (λ m. slice_set c.self.inside.list.items c.in-Some.place record old { mailbox = m }) c.collect.ensures.left
     ∙ renewed_write c.self.inside.list.items c.args.self.now c.args.number c.in-Some.place c.len.result
     (λ x. record x {
-      mailbox =
-          left_by x.mailbox;
+      mailbox = left_by x.mailbox;
     }) c.index_mut.result.now c.index_mut.ensures.value c.self.view_is len c.in-Some.ensures.place
 
 pub returns-in-Some-clause-reply : goal.returns-in-Some-clause-reply
@@ -22,14 +21,17 @@ returns-in-Some-clause-reply c = let len : c.len.result ≡ length c.self.inside
     c.collect.ensures.reply
     ∙ ap (λ o. collected_of (option_map (λ (x : Client). mailbox_in x.mailbox) o))
     (sym
-    (numbered_read c.self.inside.list.items c.args.self.now c.args.number c.in-Some.place c.len.result c.index_mut.result.now c.index_mut.ensures.value c.self.view_is len c.in-Some.ensures.place))
+    (numbered_read c.self.inside.list.items c.args.self.now c.args.number c.in-Some.place c.len.result
+    c.index_mut.result.now c.index_mut.ensures.value c.self.view_is len c.in-Some.ensures.place))
 
 pub returns-in-None-clause-left : goal.returns-in-None-clause-left
 returns-in-None-clause-left c = let len : c.len.result ≡ length c.self.inside.list.items = search rules in
-    renewed_nowhere c.self.inside.list.items c.args.self.now c.args.number c.len.result _ c.self.view_is len c.in-None.ensures.place
+    renewed_nowhere c.self.inside.list.items c.args.self.now c.args.number c.len.result _ c.self.view_is len
+    c.in-None.ensures.place
 
 pub returns-in-None-clause-reply : goal.returns-in-None-clause-reply
 returns-in-None-clause-reply c = let len : c.len.result ≡ length c.self.inside.list.items = search rules in
     ap (λ o. collected_of (option_map (λ (x : Client). mailbox_in x.mailbox) o))
     (sym
-    (numbered_nowhere c.self.inside.list.items c.args.self.now c.args.number c.len.result c.self.view_is len c.in-None.ensures.place))
+    (numbered_nowhere c.self.inside.list.items c.args.self.now c.args.number c.len.result c.self.view_is len
+    c.in-None.ensures.place))

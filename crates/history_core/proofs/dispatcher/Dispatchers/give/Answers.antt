@@ -17,4 +17,5 @@ returns-in_ok-push-clause-gave c = let len : c.len.result ≡ length c.self.insi
 
 pub returns-in_default-clause-gave : goal.returns-in_default-clause-gave
 returns-in_default-clause-gave c = let len : c.len.result ≡ length c.self.inside.list.items = search rules in
-    renewed_nowhere c.self.inside.list.items c.args.self.now c.args.number c.len.result _ c.self.view_is len c.in_default.ensures.place
+    renewed_nowhere c.self.inside.list.items c.args.self.now c.args.number c.len.result _ c.self.view_is len
+    c.in_default.ensures.place

@@ -11,4 +11,5 @@ invariant_of-self-2 c =
 
 pub returns-clause-applied : goal.returns-clause-applied
 returns-clause-applied c = (λ i. applied (sym c.self.view_is i) c.args.client (sym c.in_ok-refresh.ensures i))
-    ∙ applied_grown c.self.inside c.apply.new.self c.args.client c.in_ok-refresh.refresh.value c.in-Ok.receipt.number c.self.invariant c.in-Ok.ensures.accepted c.in-Ok.ensures.log c.in-Ok.ensures.number
+    ∙ applied_grown c.self.inside c.apply.new.self c.args.client c.in_ok-refresh.refresh.value c.in-Ok.receipt.number
+    c.self.invariant c.in-Ok.ensures.accepted c.in-Ok.ensures.log c.in-Ok.ensures.number

@@ -19,8 +19,8 @@ invariant_of-self c = record {
 }
 
 pub returns-clause-left : goal.returns-clause-left
-returns-clause-left c = let w : World =
-    world_in c.self.inside in
+returns-clause-left c =
+    let w : World = world_in c.self.inside in
     ap (λ l. record w { clients = l })
     (ap (map (client_in c.self.inside.store.log)) c.collect.ensures.left
     ∙ client_left c.self.inside.store.log c.self.inside.clients c.args.client)

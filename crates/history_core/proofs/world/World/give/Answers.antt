@@ -16,8 +16,8 @@ invariant_of-self-2 c = record {
 }
 
 pub returns-clause-gave : goal.returns-clause-gave
-returns-clause-gave c = let w : World =
-    world_in c.self.inside in
+returns-clause-gave c =
+    let w : World = world_in c.self.inside in
     ap (λ l. record w { dispatchers = l })
     (ap (map (dispatcher_in c.self.inside.store.log)) c.in_ok-give.ensures.gave
     ∙ dispatcher_gave c.self.inside.store.log c.self.inside.dispatchers c.args.number c.args.given)

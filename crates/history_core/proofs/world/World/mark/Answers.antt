@@ -7,29 +7,28 @@ use Rattle.history_core.proofs.Views.{dispatchers_kept, dispatcher_marked}
 use Rattle.history_core.proofs.world.World.mark.Goals as goal
 
 pub invariant_of-self : goal.invariant_of-self
-invariant_of-self c = let now =
-    c.mark.ensures
+invariant_of-self c =
+    let now = c.mark.ensures
     ∙ ap
     (λ n. renewed c.self.inside.dispatchers c.args.number
-    (λ x. record x { seen = n; mark = Some n })) c.len-length.ensures in record {
+    (λ x. record x { seen = n; mark = Some n })) c.len-length.ensures.count in record {
       base = c.self.invariant.base;
       dispatchers =
           subst (DispatchersFit (length c.self.inside.store.log)) (sym now)
           (dispatchers_kept _ c.self.inside.dispatchers c.args.number
           (λ x. record x {
             seen = length c.self.inside.store.log;
-            mark =
-                Some (length c.self.inside.store.log);
+            mark = Some (length c.self.inside.store.log);
           }) c.self.invariant.dispatchers (λ x h. (search rules, search rules, h.2)));
       clients = c.self.invariant.clients;
     }
 
 pub returns : goal.returns
-returns c = let now =
-    c.mark.ensures
+returns c =
+    let now = c.mark.ensures
     ∙ ap
     (λ n. renewed c.self.inside.dispatchers c.args.number
-    (λ x. record x { seen = n; mark = Some n })) c.len-length.ensures in let w : World = world_in c.self.inside in
+    (λ x. record x { seen = n; mark = Some n })) c.len-length.ensures.count in let w : World = world_in c.self.inside in
     ap (λ l. record w { dispatchers = l })
     (ap (map (dispatcher_in c.self.inside.store.log)) now
     ∙ dispatcher_marked c.self.inside.store.log c.self.inside.dispatchers c.args.number)

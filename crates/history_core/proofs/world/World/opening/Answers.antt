@@ -13,23 +13,20 @@ invariant_of-result c =
     ∙ c.in_ok-try_clone.ensures)) c.in_ok-clients.ensures c.in_ok-dispatchers.ensures
 
 pub returns : goal.returns
-returns c = let w : Inside =
-    record {
+returns c =
+    let w : Inside = record {
       alloc = c.args.alloc;
       base = c.args.base;
       store = c.in_ok-store.store;
       rows = None;
-      writer =
-          None;
+      writer = None;
       clients = c.in_ok-clients.clients;
       dispatchers = c.in_ok-dispatchers.dispatchers;
     } in
     opening_shown w c.args.base.value c.args.clients c.args.dispatchers refl refl
     (c.in_ok-store.ensures
     ∙ ap
-    (λ
-    (b : Tables). record {
+    (λ (b : Tables). record {
       base = b;
-      log =
-          [];
+      log = [];
     }) c.in_ok-try_clone.ensures) c.in_ok-clients.ensures c.in_ok-dispatchers.ensures

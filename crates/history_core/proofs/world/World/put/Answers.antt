@@ -17,8 +17,8 @@ invariant_of-self c = record {
 }
 
 pub returns : goal.returns
-returns c = let w : World =
-    world_in c.self.inside in
+returns c =
+    let w : World = world_in c.self.inside in
     ap (λ l. record w { clients = l })
     (ap (map (client_in c.self.inside.store.log)) (c.put.ensures)
     ∙ client_put c.self.inside.store.log c.self.inside.clients c.args.number c.args.mailbox)

@@ -9,14 +9,15 @@ use Rattle.history_core.proofs.world.World.run.Goals as goal
 pub returns-in_default-clause-true_stop : goal.returns-in_default-clause-true_stop
 returns-in_default-clause-true_stop c =
     true_from_opening c.args.self.now [] c.new.result.items c.args.self.now record {
-      replied =
-          c.new.ensures.items;
+      replied = c.new.ensures.items;
       led = refl;
     }
 
 pub returns-in_default-step-clause-true_stop : goal.returns-in_default-step-clause-true_stop
 returns-in_default-step-clause-true_stop c =
-    true_before c.args.self.now c.args.events.now c.len.result c.loop-event.event-index c.loop-event.replies.items c.loop-event.self c.step.new.self (c.len.ensures ∙ c.loop-event.invariant.len) c.in_default-step.ensures.unchanged c.loop-event.invariant.ran
+    true_before c.args.self.now c.args.events.now c.len.result c.loop-event.event-index c.loop-event.replies.items
+    c.loop-event.self c.step.new.self
+    (c.len.ensures ∙ c.loop-event.invariant.len) c.in_default-step.ensures.unchanged c.loop-event.invariant.ran
 
 pub loop-event-preserved : goal.loop-event-preserved
 loop-event-preserved c = record {
@@ -25,14 +26,15 @@ loop-event-preserved c = record {
       (λ l. HasRun c.args.self.now
       (map event_of (take (c.loop-event.event-index + 1) c.args.events.now)) l c.step.new.self)
       (sym c.push_reserved.ensures.items)
-      (run_next _ c.args.events.now c.loop-event.event-index c.loop-event.replies.items c.loop-event.self c.step.new.self c.in-Ok-step.reply c.event-item.result c.loop-event-test.true c.loop-event.invariant.ran
+      (run_next _ c.args.events.now c.loop-event.event-index c.loop-event.replies.items c.loop-event.self
+      c.step.new.self c.in-Ok-step.reply c.event-item.result c.loop-event-test.true c.loop-event.invariant.ran
       (ap (λ e. step_of c.loop-event.self (event_of e)) (sym c.event-item.is) ∙ c.in-Ok-step.ensures.stepped));
   len = search rules;
   room = search rules;
 }
 
 pub returns-clause-true_run : goal.returns-clause-true_run
-returns-clause-true_run c = let end =
-    c.loop-event-test.false in
+returns-clause-true_run c =
+    let end = c.loop-event-test.false in
     true_at_end c.args.self.now c.args.events.now c.loop-event.event-index c.loop-event.replies.items c.loop-event.self
     (omega arith) c.loop-event.invariant.ran

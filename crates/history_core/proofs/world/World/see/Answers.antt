@@ -8,9 +8,9 @@ use Rattle.history_core.proofs.Views.{clients_kept, dispatchers_kept, client_saw
 use Rattle.history_core.proofs.world.World.see.Goals as goal
 
 pub invariant_of-self : goal.invariant_of-self
-invariant_of-self c = let now =
-    c.see.ensures
-    ∙ ap (λ n. renewed c.self.inside.clients c.in-Client.number (λ x. record x { seen = n })) c.len-length.ensures in
+invariant_of-self c =
+    let now = c.see.ensures
+    ∙ ap (λ n. renewed c.self.inside.clients c.in-Client.number (λ x. record x { seen = n })) c.len-length.ensures.count in
     record {
       base = c.self.invariant.base;
       clients =
@@ -22,9 +22,9 @@ invariant_of-self c = let now =
     }
 
 pub returns-in-Client : goal.returns-in-Client
-returns-in-Client c = let now =
-    c.see.ensures
-    ∙ ap (λ n. renewed c.self.inside.clients c.in-Client.number (λ x. record x { seen = n })) c.len-length.ensures in
+returns-in-Client c =
+    let now = c.see.ensures
+    ∙ ap (λ n. renewed c.self.inside.clients c.in-Client.number (λ x. record x { seen = n })) c.len-length.ensures.count in
     let w : World = world_in c.self.inside in
     ap (λ l. record w { clients = l })
     (ap (map (client_in c.self.inside.store.log)) now
@@ -33,11 +33,11 @@ returns-in-Client c = let now =
     ∙ ap (seen_by c.args.self.now) (sym c.in-Client.is)
 
 pub invariant_of-self-in-Dispatcher : goal.invariant_of-self-in-Dispatcher
-invariant_of-self-in-Dispatcher c = let now =
-    c.see-in-Dispatcher.ensures
+invariant_of-self-in-Dispatcher c =
+    let now = c.see-in-Dispatcher.ensures
     ∙ ap
     (λ n. renewed c.self.inside.dispatchers c.in-Dispatcher.number
-    (λ x. record x { seen = n })) c.len-length.ensures in record {
+    (λ x. record x { seen = n })) c.len-length.ensures.count in record {
       base = c.self.invariant.base;
       dispatchers =
           subst (DispatchersFit (length c.self.inside.store.log)) (sym now)
@@ -48,11 +48,11 @@ invariant_of-self-in-Dispatcher c = let now =
     }
 
 pub returns-in-Dispatcher : goal.returns-in-Dispatcher
-returns-in-Dispatcher c = let now =
-    c.see-in-Dispatcher.ensures
+returns-in-Dispatcher c =
+    let now = c.see-in-Dispatcher.ensures
     ∙ ap
     (λ n. renewed c.self.inside.dispatchers c.in-Dispatcher.number
-    (λ x. record x { seen = n })) c.len-length.ensures in let w : World = world_in c.self.inside in
+    (λ x. record x { seen = n })) c.len-length.ensures.count in let w : World = world_in c.self.inside in
     ap (λ l. record w { dispatchers = l })
     (ap (map (dispatcher_in c.self.inside.store.log)) now
     ∙ dispatcher_saw c.self.inside.store.log c.self.inside.dispatchers c.in-Dispatcher.number)

@@ -16,8 +16,8 @@ invariant_of-self c = record {
 }
 
 pub returns : goal.returns
-returns c = let w : World =
-    world_in c.self.inside in
+returns c =
+    let w : World = world_in c.self.inside in
     ap (λ l. record w { dispatchers = l })
     (ap (map (dispatcher_in c.self.inside.store.log)) (c.unmark.ensures)
     ∙ dispatcher_unmarked c.self.inside.store.log c.self.inside.dispatchers c.args.number)
