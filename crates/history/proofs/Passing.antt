@@ -12,7 +12,8 @@ use Rattle.row_store.specs.History.{CommitRecord, Warehouse, IsPrefix}
 use Rattle.ssb_queries.specs.declared.answer.Answer.{Answer}
 use Rattle.history_core.specs.declared.event.Who.TheVariants.{Client}
 use Rattle.history_core.specs.Events.{Question}
-use Rattle.history_core.proofs.Histories.{legal_push, named_push}
+use Rattle.row_store.proofs.HistoryLaws.{accepted_stays_legal}
+use Rattle.history_core.proofs.Histories.{named_push}
 use Rattle.history.specs.declared.view.Member.{Member}
 use Rattle.history.specs.declared.request.Request.{Request}
 use Rattle.history.specs.declared.view.Held.{Held}
@@ -286,7 +287,7 @@ module _ {W : Type 0} where
       (λ (more : (commit : CommitRecord) × (m.who ≡ Client commit.client) × IsAccepted v.terms.base m.seen commit × (rows.log ≡ m.seen ++ commit ∷ [])).
       let commit : CommitRecord = more.0 in let low = who_back v.terms.clients p.place commit.client (sym (is.member ∙ is.who) ∙ more.1) in let h₀ = low.0 in let h₁ = low.1 in
       subst (λ x. IsSound (token_of_view z (record v { member = x; holds_rows = false }))) (sym (put_line_more m rows.log commit more.3)) record {
-        legal = legal_push v.terms.base m.seen commit is.sound.legal more.2;
+        legal = accepted_stays_legal v.terms.base m.seen commit is.sound.legal more.2;
         named = named_push v.terms.clients m.seen commit is.sound.named (omega arith, omega arith);
         owns = owns_more m.who commit m.mine m.seen more.1 is.sound.owns;
       })

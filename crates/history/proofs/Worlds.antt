@@ -17,7 +17,8 @@ use Rattle.history.specs.declared.view.Member.{Member}
 use Rattle.history.specs.Words.{Owns, IsRightAt, IsRight}
 use Rattle.history_core.specs.World.{rows_after}
 use Rattle.history.specs.World.{World, Mailbox, empty, asked, in_hand, answered, Event, take_rows, put_rows, look, post, grab, take_writer, put_writer, answer, collect, who_at, newcomer, newcomers, empties, opening_world, revised, takes_rows, mark_after, marks, commits, sees, posts, grabs, takes_writer, puts_writer, answers, collects, effect, Enabled, IsAfter, MemberKept, IsAbove, MailKept, Kept}
-use Rattle.history_core.proofs.Histories.{legal_push, named_push, own_push, others_push}
+use Rattle.row_store.proofs.HistoryLaws.{accepted_stays_legal}
+use Rattle.history_core.proofs.Histories.{named_push, own_push, others_push}
 use Rattle.history.proofs.Histories.{prefix_self, prefix_nil, prefix_push, prefix_length, prefix_one, at_revised, each_revised, length-revised, in_range}
 
 pub who_client : (clients place : ℕ) → place < clients → who_at clients place ≡ Client (place + 1)
@@ -208,7 +209,7 @@ kept_effect key (put_rows place None) w k can = record {
   mail = mail_seen key w k place w.history (marks w.history) (prefix_self w.history) (λ m floor low above. ((λ mark e. ⊎_elim (λ (same : m.mark ≡ Some mark). above.0 mark same) (λ (same : mark ≡ length w.history). omega arith) (mark_either m.who (length w.history) m.mark mark e)), above.1));
 }
 kept_effect key (put_rows place (Some commit)) w k (m, at, (held, low, by, accepted)) = let now : List CommitRecord = w.history ++ commit ∷ [] in record {
-  legal = legal_push key.base w.history commit k.legal accepted;
+  legal = accepted_stays_legal key.base w.history commit k.legal accepted;
   named = named_push key.clients w.history commit k.named (omega arith, omega arith);
   count = counted key w k place (commits now commit);
   members = committing key w k place commit low by;

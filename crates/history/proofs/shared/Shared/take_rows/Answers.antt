@@ -7,7 +7,7 @@ use Rattle.history.proofs.shared.Shared.take_rows.Goals as goal
 
 pub invariant_of-pass : goal.invariant_of-pass
 invariant_of-pass g c = let took = c.take_rows-rows.ensures in let free : c.pass.inside.seat.me.0.holds_rows ≡ false = ap (λ t. t.has_rows) c.pass.view_is ∙ c.requires.free in
-    took_seated c.pass.inside c.take_rows-rows.new.seat took.0 c.len.result c.pass.invariant free (c.len.ensures ∙ ap (λ s. length s.log) took.1) took.3 took.2.2
+    took_seated c.pass.inside c.take_rows-rows.new.seat took.0 c.len.result c.pass.invariant free (c.len.ensures.count ∙ ap (λ s. length s.log) took.1) took.3 took.2.2
 
 pub returns-clause-rows : goal.returns-clause-rows
 returns-clause-rows g c = let took = c.take_rows-rows.ensures in took.1 ∙ ap (λ m. store m.0.terms.base m.0.member.seen) (sym took.2.2)
