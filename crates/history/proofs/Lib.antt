@@ -1,0 +1,14 @@
+pub mod Histories
+pub mod Hands
+pub mod Worlds
+pub mod Frames
+pub mod RowSteps
+pub mod WriterSteps
+pub mod MailSteps
+pub mod Splitting
+pub mod Deeds
+pub mod Closing
+pub mod Handing
+pub mod Passing
+pub mod Answering
+pub mod Link

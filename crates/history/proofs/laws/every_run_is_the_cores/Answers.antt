@@ -1,0 +1,5 @@
+use Rattle.history.proofs.Link.{every_run}
+use Rattle.history.proofs.laws.every_run_is_the_cores.Goals as goal
+
+pub returns : goal.returns
+returns c = every_run

@@ -1,0 +1,31 @@
+use Rattle.std.proofs.Common.{◌≡◌, ◌++◌}
+use Rattle.std.specs.Prelude.{All}
+use Rattle.history.specs.Seats.{IsToken, members_of}
+use Rattle.history.specs.Closing.{IsClientOf, IsDispatcherOf, members_in}
+use Rattle.history.specs.Passes.{hall_of}
+use Rattle.history.proofs.Closing.{HoldsNothing}
+use Rattle.history.proofs.shared.Shared.close.Given as goal
+
+abbrev pub invariant-loop-pass : goal.invariant-loop-pass
+invariant-loop-pass g l = record {
+  table : hall_of l.seat.table_id l.seat.me.0.terms ≡ l.fn.self;
+  token : IsToken l.seat;
+  nothing : HoldsNothing l.seat.me.0;
+  left : All (IsDispatcherOf l.fn.self) l.dispatchers.items;
+  members : members_in l.fn.dispatchers.items ≡ members_in l.dispatchers.items ++ members_of l.seat.me.0;
+}
+
+abbrev pub decreases-loop-pass : goal.decreases-loop-pass
+decreases-loop-pass g l = goal.left-loop-pass g l
+
+abbrev pub invariant-loop-pass-2 : goal.invariant-loop-pass-2
+invariant-loop-pass-2 g l = record {
+  table : hall_of l.seat.table_id l.seat.me.0.terms ≡ l.fn.self;
+  token : IsToken l.seat;
+  nothing : HoldsNothing l.seat.me.0;
+  left : All (IsClientOf l.fn.self) l.clients.items;
+  members : members_in l.fn.clients.items ++ members_in l.fn.dispatchers.items ≡ members_in l.clients.items ++ members_of l.seat.me.0;
+}
+
+abbrev pub decreases-loop-pass-2 : goal.decreases-loop-pass-2
+decreases-loop-pass-2 g l = goal.left-loop-pass-2 g l

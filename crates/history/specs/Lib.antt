@@ -1,0 +1,9 @@
+pub mod Words
+pub mod World
+pub mod Rule
+pub mod Plays
+pub mod Seats
+pub mod Link
+pub mod Tokens
+pub mod Closing
+pub mod Passes
