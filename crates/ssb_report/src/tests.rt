@@ -82,7 +82,8 @@ fn opened(rt: &HostRuntime, limits: Limits) -> Result<(RowStore, PlainLines), Fa
     };
     let base = Arc::new(alloc, load(alloc, limits, tables)?)?;
     let store = RowStore::new(alloc, Arc::try_clone(&base)?, RandomState::new(rt)?)?;
-    Ok((store, PlainLines::new(alloc, base)?))
+    let lines = PlainLines::new(alloc, base)?;
+    Ok((store, lines))
 }
 
 // Whether the script over the small data set within these limits has the report.

@@ -12,4 +12,4 @@ unfolding fresh
 returns c =
     let base = c.in_ok-base.base.value in
     let shared : c.in_ok-try_clone.field-0.value ≡ base = search rules in
-    behind_at_start c.in_ok-new.field-0 c.in_ok-store.store base c.in_ok-new.ensures (c.in_ok-store.ensures ∙ ap fresh shared)
+    behind_at_start c.in_ok-lines.lines c.in_ok-store.store base c.in_ok-lines.ensures (c.in_ok-store.ensures ∙ ap fresh shared)
