@@ -1,0 +1,7 @@
+pub mod Found
+pub mod AddsLemmas
+pub mod SelectLemmas
+pub mod FoundLemmas
+pub mod Written
+pub mod BatchLemmas
+pub mod PartsLemmas

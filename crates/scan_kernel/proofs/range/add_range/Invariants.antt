@@ -1,0 +1,17 @@
+use Rattle.std.proofs.Common.{◌-◌, ◌≤◌}
+use Rattle.std.specs.List.{range_with_len}
+use Rattle.scan_kernel.specs.Room.{HasRoom}
+use Rattle.scan_kernel.specs.Totals.{AddsBatch, HaveSizes}
+use Rattle.scan_kernel.proofs.range.add_range.Given as goal
+
+abbrev pub decreases-loop-at : goal.decreases-loop-at
+decreases-loop-at l = l.to - l.at
+
+abbrev pub invariant-loop-at : goal.invariant-loop-at
+invariant-loop-at l = record {
+  order : l.initial.at ≤ l.at;
+  within : l.at ≤ l.to;
+  room : HasRoom 2048 l.room;
+  sizes : HaveSizes l.groupings l.totals;
+  added : AddsBatch l.lines l.masks l.groupings (range_with_len l.initial.at (l.at - l.initial.at)) l.initial.totals l.totals;
+}

@@ -1,0 +1,49 @@
+//! The fact table and the groups as the scan reads them.
+ghost use Rattle.std.specs.Prelude.{◌≡◌, length};
+
+use ssb_plans::Measure;
+
+/// The columns of the fact table, a place for each line.
+#[derive(Clone, Copy)]
+pub struct LineColumns<'a> {
+    /// Where the line's customer stands in its table; likewise the next three.
+    pub customer: &'a [u32],
+    pub supplier: &'a [u32],
+    pub part: &'a [u32],
+    pub date: &'a [u32],
+    /// LO_QUANTITY times 16, and LO_DISCOUNT.
+    pub terms: &'a [u16],
+    /// LO_EXTENDEDPRICE.
+    pub price: &'a [u32],
+    /// LO_REVENUE.
+    pub revenue: &'a [u32],
+    /// LO_SUPPLYCOST.
+    pub cost: &'a [u32],
+    pub ghost suppliers: { length supplier.now ≡ length customer.now },
+    pub ghost parts: { length part.now ≡ length customer.now },
+    pub ghost dates: { length date.now ≡ length customer.now },
+    pub ghost all_terms: { length terms.now ≡ length customer.now },
+    pub ghost prices: { length price.now ≡ length customer.now },
+    pub ghost revenues: { length revenue.now ≡ length customer.now },
+    pub ghost costs: { length cost.now ≡ length customer.now },
+}
+
+/// A column that lines are grouped by.
+#[derive(Clone, Copy)]
+pub struct GroupColumn<'a> {
+    /// Where the line's row of the dimension stands, by place.
+    pub positions: &'a [u32],
+    /// The code of the row's value in the column, by position.
+    pub codes: &'a [u32],
+    /// What a code adds to the number of the line's group.
+    pub parts: &'a [u32],
+}
+
+/// What a question adds up, and in which groups.
+#[derive(Drop)]
+pub struct Grouping<'a> {
+    pub measure: Measure,
+    pub columns: Vec<GroupColumn<'a>>,
+    /// How many groups there are; each has a number below it.
+    pub size: usize,
+}

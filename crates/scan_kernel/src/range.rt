@@ -1,0 +1,176 @@
+//! The totals of a batch over a range of places, in one thread.
+ghost use Rattle.std.specs.Prelude.{◌≡◌, ℕ, ◌<◌, ◌≤◌, ◌-◌, ◌^◌, IfOk, length, replicate, vec_len, slice_index_or};
+ghost use Rattle.std.specs.List.{range_with_len};
+ghost use Rattle.scan_kernel.specs.Places.{CanSearch};
+ghost use Rattle.scan_kernel.specs.Room.{HasRoom};
+ghost use Rattle.scan_kernel.specs.declared.columns.Grouping.{Grouping};
+ghost use Rattle.scan_kernel.specs.declared.totals.Totals.{Totals};
+ghost use Rattle.scan_kernel.specs.Totals.{CanSumAll, HaveSizes, AddsBatch, AreBatchTotals, AreZeros};
+
+use crate::batch::add_found;
+use crate::columns::{Grouping, LineColumns};
+use crate::masks::Masks;
+use crate::search::search;
+use crate::totals::Totals;
+use std::alloc::{AllocError, Global};
+
+/// How many places are searched at a time: what is found of them stays in the nearest cache.
+pub const CHUNK: usize = 2048;
+
+/// What is found of a chunk.
+#[derive(Drop)]
+struct Room {
+    places: Vec<u32>,
+    found: Vec<u16>,
+    selected: Vec<u32>,
+    groups: Vec<u32>,
+}
+
+/// Adds the places of one chunk to the totals of each question.
+fn add_chunk(
+    lines: &LineColumns<'_>,
+    masks: &Masks,
+    groupings: &[Grouping<'_>],
+    from: usize,
+    to: usize,
+    room: &mut Room,
+    totals: &mut [Totals],
+)
+    requires few { length groupings.now ≤ 16 }
+    requires within { to ≤ length lines.now.customer.now }
+    requires small { length lines.now.customer.now ≤ 2 ^ 32 }
+    requires order { from ≤ to }
+    requires room { HasRoom (to - from) room.old }
+    requires covers { CanSearch lines.now masks.now }
+    requires can_sum { CanSumAll lines.now masks.now groupings.now }
+    requires sizes { HaveSizes groupings.now totals.old }
+    ensures room { (count : ℕ) → HasRoom count room.old → HasRoom count room.new }
+    ensures sizes { HaveSizes groupings.now totals.new }
+    ensures added { AddsBatch lines.now masks.now groupings.now (range_with_len from (to - from)) totals.old totals.new }
+{
+    let count = search(lines, masks, from, to, &mut room.places, &mut room.found);
+    add_found(
+        lines,
+        masks,
+        groupings,
+        from,
+        to,
+        &room.places[..count],
+        &room.found[..count],
+        &mut room.selected,
+        &mut room.groups,
+        totals,
+    );
+}
+
+/// Adds the places of a range to the totals of each question, chunk by chunk.
+fn add_range(
+    lines: &LineColumns<'_>,
+    masks: &Masks,
+    groupings: &[Grouping<'_>],
+    from: usize,
+    to: usize,
+    room: &mut Room,
+    totals: &mut [Totals],
+)
+    requires few { length groupings.now ≤ 16 }
+    requires within { to ≤ length lines.now.customer.now }
+    requires small { length lines.now.customer.now ≤ 2 ^ 32 }
+    requires order { from ≤ to }
+    requires room { HasRoom 2048 room.old }
+    requires covers { CanSearch lines.now masks.now }
+    requires can_sum { CanSumAll lines.now masks.now groupings.now }
+    requires sizes { HaveSizes groupings.now totals.old }
+    ensures sizes { HaveSizes groupings.now totals.new }
+    ensures added { AddsBatch lines.now masks.now groupings.now (range_with_len from (to - from)) totals.old totals.new }
+{
+    let mut at = from;
+    while at < to {
+        let end = if to - at > CHUNK { at + CHUNK } else { to };
+        add_chunk(lines, masks, groupings, at, end, room, totals);
+        at = end;
+    }
+}
+
+fn zeros(alloc: Global, count: usize) -> Result<Vec<u64>, AllocError>
+    ensures items { IfOk result (λ v. v.items ≡ replicate count 0) }
+    ensures len { IfOk result (λ v. vec_len v ≡ count) }
+{
+    vec![in alloc; 0u64; count]
+}
+
+fn masks_room(alloc: Global, count: usize) -> Result<Vec<u16>, AllocError>
+    ensures { IfOk result (λ v. vec_len v ≡ count) }
+{
+    vec![in alloc; 0u16; count]
+}
+
+fn places_room(alloc: Global, count: usize) -> Result<Vec<u32>, AllocError>
+    ensures { IfOk result (λ v. vec_len v ≡ count) }
+{
+    vec![in alloc; 0u32; count]
+}
+
+fn room_for(alloc: Global, count: usize) -> Result<Room, AllocError>
+    ensures { IfOk result (λ room. HasRoom count room) }
+{
+    let places = places_room(alloc, count)?;
+    let found = masks_room(alloc, count)?;
+    let selected = places_room(alloc, count)?;
+    let groups = places_room(alloc, count)?;
+    Ok(Room {
+        places,
+        found,
+        selected,
+        groups,
+    })
+}
+
+/// Totals of no places.
+fn no_totals(alloc: Global, size: usize) -> Result<Totals, AllocError>
+    ensures { IfOk result (λ totals. AreZeros size totals) }
+{
+    let counts = zeros(alloc, size)?;
+    let gains = zeros(alloc, size)?;
+    let losses = zeros(alloc, size)?;
+    Ok(Totals {
+        counts,
+        gains,
+        losses,
+    })
+}
+
+/// Totals of no places for each question.
+pub fn no_batch_totals(alloc: Global, groupings: &[Grouping<'_>]) -> Result<Vec<Totals>, AllocError>
+    ensures all { IfOk result (λ v. length v.items ≡ length groupings.now) }
+    ensures each { IfOk result (λ v. (k : ℕ) (grouping : Grouping) (t : Totals) → k < length groupings.now → AreZeros (slice_index_or groupings.now k grouping).size (slice_index_or v.items k t)) }
+{
+    let mut all = Vec::with_capacity(alloc, groupings.len())?;
+    for grouping in groupings {
+        all.push(no_totals(alloc, grouping.size)?)?;
+    }
+    Ok(all)
+}
+
+/// The totals of each question over the places from `from` up to `to`.
+pub fn range_totals(
+    alloc: Global,
+    lines: &LineColumns<'_>,
+    masks: &Masks,
+    groupings: &[Grouping<'_>],
+    from: usize,
+    to: usize,
+) -> Result<Vec<Totals>, AllocError>
+    requires few { length groupings.now ≤ 16 }
+    requires within { to ≤ length lines.now.customer.now }
+    requires small { length lines.now.customer.now ≤ 2 ^ 32 }
+    requires order { from ≤ to }
+    requires covers { CanSearch lines.now masks.now }
+    requires can_sum { CanSumAll lines.now masks.now groupings.now }
+    ensures { IfOk result (λ v. AreBatchTotals lines.now masks.now groupings.now (range_with_len from (to - from)) v.items) }
+{
+    let mut room = room_for(alloc, CHUNK)?;
+    let mut totals = no_batch_totals(alloc, groupings)?;
+    add_range(lines, masks, groupings, from, to, &mut room, &mut totals);
+    Ok(totals)
+}
