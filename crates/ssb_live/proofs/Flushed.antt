@@ -1,5 +1,5 @@
 -- A writer that hands on what it holds keeps what was written.
-use Rattle.std.proofs.Common.{◌≡◌, ◌∙◌, ℕ, List, [], ◌++◌, Option, None, Some, refl, sym, ap, append-nil}
+use Rattle.std.proofs.Common.{◌∙◌, ℕ, List, [], Option, None, Some, sym, append-nil}
 use Rattle.std.specs.Io.KnownBytes.{Appends, Keeps}
 use Rattle.ssb_report.specs.Written.{AppendsPart}
 

@@ -1,4 +1,4 @@
-use Rattle.std.proofs.Common.{◌≡◌, ◌∙◌, Some, List, ℕ, map, inr, sym, ap, rules}
+use Rattle.std.proofs.Common.{◌≡◌, ◌∙◌, List, ℕ, map, inr, sym, ap, rules}
 use Rattle.ssb_live.specs.Asked.{constants_asked, values_spelled}
 use Rattle.ssb_plans.specs.Kind.{constant_kinds}
 use Rattle.ssb_plans.specs.Query.{name_of}

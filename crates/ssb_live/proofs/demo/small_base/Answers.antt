@@ -1,4 +1,4 @@
-use Rattle.std.proofs.Common.{◌≡◌, ◌∙◌, ap}
+use Rattle.std.proofs.Common.{◌∙◌, ap}
 use Rattle.ssb_schema.specs.Limits.{limits_of}
 use Rattle.ssb_live.specs.SmallTexts.{small_texts}
 use Rattle.ssb_live.proofs.demo.small_base.Goals as goal

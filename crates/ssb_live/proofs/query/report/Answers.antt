@@ -1,11 +1,7 @@
 use Rattle.ssb_schema.specs.Limits.{limits_of}
-use Rattle.std.proofs.Common.{◌≡◌, ◌∙◌, ◌⊎◌, ℕ, List, Ok, Err, inl, inr, ap}
-use Rattle.std.specs.Io.KnownBytes.{Appends}
+use Rattle.std.proofs.Common.{◌∙◌, inr, ap}
 use Rattle.ssb_live.specs.Reported.{HasReport}
-use Rattle.ssb_load.specs.Load.{AreTexts}
 use Rattle.ssb_report.specs.AnswerText.{answer_text}
-use Rattle.ssb_report.specs.Written.{AppendsPart}
-use Rattle.ssb_schema.specs.declared.table.Table.{Table}
 use Rattle.ssb_live.proofs.Results.{on_ok_from, on_err_from, is_no_refusal, is_no_word}
 use Rattle.ssb_live.proofs.query.report.Goals as goal
 

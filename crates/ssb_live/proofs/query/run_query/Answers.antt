@@ -1,4 +1,4 @@
-use Rattle.std.proofs.Common.{◌≡◌, ◌⊎◌, ◌∙◌, sym, inl, inr}
+use Rattle.std.proofs.Common.{◌∙◌, sym, inl, inr}
 use Rattle.ssb_live.proofs.query.run_query.Goals as goal
 
 pub returns-in-Ok-report-clause-report : goal.returns-in-Ok-report-clause-report

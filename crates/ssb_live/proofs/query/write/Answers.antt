@@ -1,4 +1,4 @@
-use Rattle.std.proofs.Common.{◌≡◌, ◌∙◌, sym}
+use Rattle.std.proofs.Common.{◌∙◌, sym}
 use Rattle.std.specs.Io.KnownBytes.{Appends}
 use Rattle.ssb_report.specs.AnswerText.{answer_text}
 use Rattle.ssb_report.proofs.WrittenLaws.{part_of_short}
