@@ -130,12 +130,12 @@ module _ {W : Type 0} where
       go zero e = absurd (cc (sym (none_of_zero hs) ∙ e))
       go (suc m) e = let back : suc m - 1 ≡ m = omega arith in let up : suc m ≡ m + 1 = omega arith in
           let has : request_at m hs ≡ Some asked = sym (request_shown m hs) ∙ (ap (λ n. request_of n (map shown hs)) (sym up) ∙ e) in let at = request_there m hs asked has in record {
-        one = omega arith;
-        number = omega arith;
-        has = ap (λ n. request_at n hs) back ∙ has;
-        near = subst (λ n. n < p.seat.me.0.terms.clients) (sym back) (each_of (λ (h : Held). h.place < p.seat.me.0.terms.clients) hs is.near at.0 (held m asked) at.1);
-        contains = subst (λ (x : List ℕ × ℕ). Contains x.0 x.1) (λ i. (sym is.hand i, sym back i)) (contains_place m hs at.0 asked at.1);
-      }
+            one = omega arith;
+            number = omega arith;
+            has = ap (λ n. request_at n hs) back ∙ has;
+            near = subst (λ n. n < p.seat.me.0.terms.clients) (sym back) (each_of (λ (h : Held). h.place < p.seat.me.0.terms.clients) hs is.near at.0 (held m asked) at.1);
+            contains = subst (λ (x : List ℕ × ℕ). Contains x.0 x.1) (λ i. (sym is.hand i, sym back i)) (contains_place m hs at.0 asked at.1);
+          }
 
   -- where its place stands in the hand stands its slot
   pub found_of : (p : Pass W) (place k : ℕ) → IsSeated p → slice_get p.hand.items k ≡ Some place → Found place k p.seat.me.0.grabbed

@@ -85,15 +85,21 @@ module _ (hall : Hall) (clients dispatchers : List Token) (firsts : AreClients h
       go : (b : Bool) → nat_lt place hall.clients ≡ b → Goal
       go true low = let near : place < hall.clients = grind (arith, nat_tests) in let found = counted_once (λ (t : Token). number_of t.who == place + 1) clients (firsts.numbered.each place near) in
           let t : Token = found.1 in let is = (each_of (IsClientOf hall) clients firsts.left found.0 t found.2).client in
-          let number : number_of t.who ≡ place + 1 = is_number (number_of t.who) (place + 1) found.3 in
-          (found.0, member_of t, at_front (members_in clients) (members_in dispatchers) found.0 (member_of t) (at_map member_of clients found.0 t found.2),
-            is.1 ∙ (ap (λ n. Client n) (sym (ap number_of is.1) ∙ number) ∙ sym (who_client hall.clients place near)))
+          let number : number_of t.who ≡ place + 1 = is_number (number_of t.who) (place + 1) found.3 in (
+            found.0,
+            member_of t,
+            at_front (members_in clients) (members_in dispatchers) found.0 (member_of t) (at_map member_of clients found.0 t found.2),
+            is.1 ∙ (ap (λ n. Client n) (sym (ap number_of is.1) ∙ number) ∙ sym (who_client hall.clients place near)),
+          )
       go false high = let far : hall.clients ≤ place = grind (arith, nat_tests) in let found = counted_once (λ (t : Token). number_of t.who == (place - hall.clients) + 1) dispatchers (seconds.numbered.each (place - hall.clients) (omega (arith, far, within))) in
           let t : Token = found.1 in let is = (each_of (IsDispatcherOf hall) dispatchers seconds.left found.0 t found.2).dispatcher in
           let number : number_of t.who ≡ (place - hall.clients) + 1 = is_number (number_of t.who) ((place - hall.clients) + 1) found.3 in
-          let name : who_at hall.clients place ≡ Dispatcher ((place - hall.clients) + 1) = rw high refl in
-          (length (members_in clients) + found.0, member_of t, at_behind (members_in clients) (members_in dispatchers) found.0 (member_of t) (at_map member_of dispatchers found.0 t found.2),
-            is.1 ∙ (ap (λ n. Dispatcher n) (sym (ap number_of is.1) ∙ number) ∙ sym name))
+          let name : who_at hall.clients place ≡ Dispatcher ((place - hall.clients) + 1) = rw high refl in (
+            length (members_in clients) + found.0,
+            member_of t,
+            at_behind (members_in clients) (members_in dispatchers) found.0 (member_of t) (at_map member_of dispatchers found.0 t found.2),
+            is.1 ∙ (ap (λ n. Dispatcher n) (sym (ap number_of is.1) ∙ number) ∙ sym name),
+          )
 
 -- what is left, where all members of the closing seat are those of the two lists
 module _ (hall : Hall) (clients dispatchers : List Token) (rows : Warehouse) (closed : IsClosed (terms_in hall) (members_in clients ++ members_in dispatchers) rows) where

@@ -134,14 +134,14 @@ found_at place zero (h ∷ hs) g apart at same = let here : h.place ≡ place = 
 }
 found_at place (suc k) (h ∷ hs) g apart at same = let r = found_at place k hs g apart.1 at same in
     let unequal = equal_no h.place place (λ e. each_of (λ (x : Held). x.place ≢ h.place) hs apart.0 k g at (same ∙ sym e)) in record {
-  asked = r.asked;
-  front = h ∷ r.front;
-  back = r.back;
-  whole = ap (λ l. h ∷ l) r.whole;
-  at = ap suc r.at;
-  left = without_later place h hs unequal ∙ ap (λ l. h ∷ l) r.left;
-  is = request_later place h hs unequal ∙ r.is;
-}
+      asked = r.asked;
+      front = h ∷ r.front;
+      back = r.back;
+      whole = ap (λ l. h ∷ l) r.whole;
+      at = ap suc r.at;
+      left = without_later place h hs unequal ∙ ap (λ l. h ∷ l) r.left;
+      is = request_later place h hs unequal ∙ r.is;
+    }
 
 -- turning the slots so many times as there are in front brings those behind to the front
 module _ {A : Type 0} where

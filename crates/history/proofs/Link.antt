@@ -247,16 +247,16 @@ module _ (key : Terms) (w : World) (k : Kept key w) (cs : List ClientState) (ds 
   stepped_put_commit : (p : ℕ) (commit : CommitRecord) → Enabled key (put_rows p (Some commit)) w → Stepped key (put_rows p (Some commit)) w cs ds
   stepped_put_commit p commit (m, at, (held, low, by, accepted)) = let now : List CommitRecord = w.history ++ commit ∷ [] in
       let who = person_low key p low ∙ ap (λ n. Client n) (sym by) in let known = client_known p m low at in let holds = holding p held in record {
-    clients = renewed cs commit.client (λ x. record x { seen = now; mine = x.mine ++ commit ∷ [] });
-    dispatchers = ds;
-    reply = told.Committed (length w.history + 1);
-    is = (λ i. core.putting_rows c (who i) (Some commit.actions) (known i) (holds i)) ∙ λ i. core.committing c commit.client commit.actions (accepted i);
-    enabled = λ e. cc e;
-    replied = refl;
-    each_client = client_acts key w.members w.mailboxes cs all_clients p commit.client (commits now commit) (λ x. record x { seen = now; mine = x.mine ++ commit ∷ [] }) by (λ m b. refl);
-    each_dispatcher = dispatchers_stay key w.members ds all_dispatchers p (commits now commit) low;
-    boxes = boxes;
-  }
+        clients = renewed cs commit.client (λ x. record x { seen = now; mine = x.mine ++ commit ∷ [] });
+        dispatchers = ds;
+        reply = told.Committed (length w.history + 1);
+        is = (λ i. core.putting_rows c (who i) (Some commit.actions) (known i) (holds i)) ∙ λ i. core.committing c commit.client commit.actions (accepted i);
+        enabled = λ e. cc e;
+        replied = refl;
+        each_client = client_acts key w.members w.mailboxes cs all_clients p commit.client (commits now commit) (λ x. record x { seen = now; mine = x.mine ++ commit ∷ [] }) by (λ m b. refl);
+        each_dispatcher = dispatchers_stay key w.members ds all_dispatchers p (commits now commit) low;
+        boxes = boxes;
+      }
 
   stepped_look : (p : ℕ) → Enabled key (look p) w → Stepped key (look p) w cs ds
   stepped_look p (m, at, can) = ⊎_elim client dispatcher (low_or_behind p key.clients)
@@ -290,36 +290,36 @@ module _ (key : Terms) (w : World) (k : Kept key w) (cs : List ClientState) (ds 
   stepped_post : (p : ℕ) (request : Request) → Enabled key (post p request) w → Stepped key (post p request) w cs ds
   stepped_post p request (m, at, (vacant, floor)) = let low = is_client p empty vacant in let box = own_mailbox p empty vacant in
       let f : ClientState → ClientState = λ x. record x { mailbox = core.asked request.query (length x.seen) } in record {
-    clients = renewed cs (number_at key p) f;
-    dispatchers = ds;
-    reply = told.Done;
-    is = λ i. core.posting c (number_at key p) request.query (box i);
-    enabled = λ e. cc e;
-    replied = refl;
-    each_client = clients_stay key w.members (revised w.mailboxes p (λ _. asked request)) (renewed cs (number_at key p) f)
-        (client_box key w.members w.mailboxes cs all_clients p (number_at key p) (asked request) f (number_low key p low)
+        clients = renewed cs (number_at key p) f;
+        dispatchers = ds;
+        reply = told.Done;
+        is = λ i. core.posting c (number_at key p) request.query (box i);
+        enabled = λ e. cc e;
+        replied = refl;
+        each_client = clients_stay key w.members (revised w.mailboxes p (λ _. asked request)) (renewed cs (number_at key p) f)
+            (client_box key w.members w.mailboxes cs all_clients p (number_at key p) (asked request) f (number_low key p low)
             (λ x b there' _. let same : m ≡ x = some-injective m x (sym at ∙ there') in let fl : request.floor ≡ length x.seen = floor ∙ ap (λ (y : Member). length y.seen) same in
             λ i. record { seen = x.seen; mine = x.mine; mailbox = core.asked request.query (fl i) }))
-        p (posts request) (λ m b low. refl);
-    each_dispatcher = dispatchers_stay key w.members ds all_dispatchers p (posts request) low;
-    boxes = length-revised w.mailboxes p (λ _. asked request) ∙ boxes;
-  }
+            p (posts request) (λ m b low. refl);
+        each_dispatcher = dispatchers_stay key w.members ds all_dispatchers p (posts request) low;
+        boxes = length-revised w.mailboxes p (λ _. asked request) ∙ boxes;
+      }
 
   stepped_grab : (p client : ℕ) (request : Request) → Enabled key (grab p client request) w → Stepped key (grab p client request) w cs ds
   stepped_grab p client request (m, at, (far, is_asked)) = let known = known_dispatcher p m far at in let box = mailbox_there client (asked request) is_asked in
       let new : Mailbox = in_hand p request in let f : ClientState → ClientState = λ x. record x { mailbox = core_box key new } in record {
-    clients = renewed cs (client + 1) f;
-    dispatchers = renewed ds (number_at key p) core.unmarked;
-    reply = told.Query request.query;
-    is = λ i. core.grabbing c (number_at key p) (client + 1) (known i) (box i);
-    enabled = λ e. cc e;
-    replied = refl;
-    each_client = clients_stay key w.members (revised w.mailboxes client (λ _. new)) (renewed cs (client + 1) f)
-        (client_box key w.members w.mailboxes cs all_clients client (client + 1) new f refl (λ x b _ _. refl))
-        p (grabs client request) (λ m b low. refl);
-    each_dispatcher = dispatcher_acts key w.members ds all_dispatchers p (grabs client request) core.unmarked far (λ m. refl);
-    boxes = length-revised w.mailboxes client (λ _. new) ∙ boxes;
-  }
+        clients = renewed cs (client + 1) f;
+        dispatchers = renewed ds (number_at key p) core.unmarked;
+        reply = told.Query request.query;
+        is = λ i. core.grabbing c (number_at key p) (client + 1) (known i) (box i);
+        enabled = λ e. cc e;
+        replied = refl;
+        each_client = clients_stay key w.members (revised w.mailboxes client (λ _. new)) (renewed cs (client + 1) f)
+            (client_box key w.members w.mailboxes cs all_clients client (client + 1) new f refl (λ x b _ _. refl))
+            p (grabs client request) (λ m b low. refl);
+        each_dispatcher = dispatcher_acts key w.members ds all_dispatchers p (grabs client request) core.unmarked far (λ m. refl);
+        boxes = length-revised w.mailboxes client (λ _. new) ∙ boxes;
+      }
 
   stepped_take_writer : (p : ℕ) → Enabled key (take_writer p) w → Stepped key (take_writer p) w cs ds
   stepped_take_writer p (m, at, (far, free)) = let known = known_dispatcher p m far at in record {
@@ -337,16 +337,16 @@ module _ (key : Terms) (w : World) (k : Kept key w) (cs : List ClientState) (ds 
   stepped_put_writer : (p : ℕ) → Enabled key (put_writer p) w → Stepped key (put_writer p) w cs ds
   stepped_put_writer p (m, at, (far, held)) = let known = known_dispatcher p m far at in
       let holds : core.holds_writer c.writer (number_at key p) ≡ true = ap (λ (r : Option ℕ). core.holds_writer (option_map (number_at key) r) (number_at key p)) held ∙ equal_self (number_at key p) in record {
-    clients = cs;
-    dispatchers = renewed ds (number_at key p) (λ d. record d { version = d.mark });
-    reply = told.Done;
-    is = λ i. core.putting_writer c (number_at key p) (known i) (holds i);
-    enabled = λ e. cc e;
-    replied = refl;
-    each_client = clients_stay key w.members w.mailboxes cs all_clients p puts_writer (λ m b low. refl);
-    each_dispatcher = dispatcher_acts key w.members ds all_dispatchers p puts_writer (λ d. record d { version = d.mark }) far (λ m. refl);
-    boxes = boxes;
-  }
+        clients = cs;
+        dispatchers = renewed ds (number_at key p) (λ d. record d { version = d.mark });
+        reply = told.Done;
+        is = λ i. core.putting_writer c (number_at key p) (known i) (holds i);
+        enabled = λ e. cc e;
+        replied = refl;
+        each_client = clients_stay key w.members w.mailboxes cs all_clients p puts_writer (λ m b low. refl);
+        each_dispatcher = dispatcher_acts key w.members ds all_dispatchers p puts_writer (λ d. record d { version = d.mark }) far (λ m. refl);
+        boxes = boxes;
+      }
 
   stepped_answer : (p client : ℕ) (request : Request) (found : Answer) → Enabled key (answer p client request found) w → Stepped key (answer p client request found) w cs ds
   stepped_answer p client request (Rows question at found) (m, there', (far, hand, (same, version, rows))) =
@@ -356,37 +356,37 @@ module _ (key : Terms) (w : World) (k : Kept key w) (cs : List ClientState) (ds 
       let new : Mailbox = answered request (Rows question at found) in let f : ClientState → ClientState = λ x. record x { mailbox = core.answered request.query at (core.rows_after key.base request.query (take at w.history)) } in
       let g : DispatcherState → DispatcherState = core.gave (client + 1) request.floor (core.served at) in
       let next : Machine × Reply = (core_world key (effect (answer p client request (Rows question at found)) w) (renewed cs (client + 1) f) (renewed ds n g), told.Done) in record {
-    clients = renewed cs (client + 1) f;
-    dispatchers = renewed ds n g;
-    reply = told.Done;
-    is = (λ i. core.answering c n (client + 1) (versions i) (box i)) ∙ ap (λ (b : Bool). if b then next else (c, told.NotEnabled)) (equal_self n);
-    enabled = λ e. cc e;
-    replied = refl;
-    each_client = clients_stay key w.members (revised w.mailboxes client (λ _. new)) (renewed cs (client + 1) f)
-        (client_box key w.members w.mailboxes cs all_clients client (client + 1) new f refl (λ x b _ _. λ i. record { seen = x.seen; mine = x.mine; mailbox = core.answered (same i) at (right i) }))
-        p (answers client request (Rows question at found)) (λ m b low. refl);
-    each_dispatcher = dispatcher_acts key w.members ds all_dispatchers p (answers client request (Rows question at found)) g far
-        (λ x i. record { seen = x.seen; mark = x.mark; version = x.version; given = map-append core_given x.given (given_to (client + 1) request (Rows question at found) ∷ []) i });
-    boxes = length-revised w.mailboxes client (λ _. new) ∙ boxes;
-  }
+        clients = renewed cs (client + 1) f;
+        dispatchers = renewed ds n g;
+        reply = told.Done;
+        is = (λ i. core.answering c n (client + 1) (versions i) (box i)) ∙ ap (λ (b : Bool). if b then next else (c, told.NotEnabled)) (equal_self n);
+        enabled = λ e. cc e;
+        replied = refl;
+        each_client = clients_stay key w.members (revised w.mailboxes client (λ _. new)) (renewed cs (client + 1) f)
+            (client_box key w.members w.mailboxes cs all_clients client (client + 1) new f refl (λ x b _ _. λ i. record { seen = x.seen; mine = x.mine; mailbox = core.answered (same i) at (right i) }))
+            p (answers client request (Rows question at found)) (λ m b low. refl);
+        each_dispatcher = dispatcher_acts key w.members ds all_dispatchers p (answers client request (Rows question at found)) g far
+            (λ x i. record { seen = x.seen; mark = x.mark; version = x.version; given = map-append core_given x.given (given_to (client + 1) request (Rows question at found) ∷ []) i });
+        boxes = length-revised w.mailboxes client (λ _. new) ∙ boxes;
+      }
   stepped_answer p client request (Unserved question cause) (m, there', (far, hand, (same, differs))) =
       let n : ℕ = number_at key p in let box = mailbox_there client (in_hand p request) hand in let known = known_dispatcher p m far there' in
       let new : Mailbox = answered request (Unserved question cause) in let f : ClientState → ClientState = λ x. record x { mailbox = core.unserved request.query cause } in
       let g : DispatcherState → DispatcherState = core.gave (client + 1) request.floor (core.failed cause) in
       let next : Machine × Reply = (core_world key (effect (answer p client request (Unserved question cause)) w) (renewed cs (client + 1) f) (renewed ds n g), told.Done) in record {
-    clients = renewed cs (client + 1) f;
-    dispatchers = renewed ds n g;
-    reply = told.Done;
-    is = (λ i. core.giving_up c n (client + 1) cause (known i) (box i)) ∙ ap (λ (b : Bool). if b then next else (c, told.NotEnabled)) (equal_self n);
-    enabled = λ e. cc e;
-    replied = refl;
-    each_client = clients_stay key w.members (revised w.mailboxes client (λ _. new)) (renewed cs (client + 1) f)
-        (client_box key w.members w.mailboxes cs all_clients client (client + 1) new f refl (λ x b _ _. λ i. record { seen = x.seen; mine = x.mine; mailbox = core.unserved (same i) cause }))
-        p (answers client request (Unserved question cause)) (λ m b low. refl);
-    each_dispatcher = dispatcher_acts key w.members ds all_dispatchers p (answers client request (Unserved question cause)) g far
-        (λ x i. record { seen = x.seen; mark = x.mark; version = x.version; given = map-append core_given x.given (given_to (client + 1) request (Unserved question cause) ∷ []) i });
-    boxes = length-revised w.mailboxes client (λ _. new) ∙ boxes;
-  }
+        clients = renewed cs (client + 1) f;
+        dispatchers = renewed ds n g;
+        reply = told.Done;
+        is = (λ i. core.giving_up c n (client + 1) cause (known i) (box i)) ∙ ap (λ (b : Bool). if b then next else (c, told.NotEnabled)) (equal_self n);
+        enabled = λ e. cc e;
+        replied = refl;
+        each_client = clients_stay key w.members (revised w.mailboxes client (λ _. new)) (renewed cs (client + 1) f)
+            (client_box key w.members w.mailboxes cs all_clients client (client + 1) new f refl (λ x b _ _. λ i. record { seen = x.seen; mine = x.mine; mailbox = core.unserved (same i) cause }))
+            p (answers client request (Unserved question cause)) (λ m b low. refl);
+        each_dispatcher = dispatcher_acts key w.members ds all_dispatchers p (answers client request (Unserved question cause)) g far
+            (λ x i. record { seen = x.seen; mark = x.mark; version = x.version; given = map-append core_given x.given (given_to (client + 1) request (Unserved question cause) ∷ []) i });
+        boxes = length-revised w.mailboxes client (λ _. new) ∙ boxes;
+      }
 
   emptied : (p : ℕ) (request : Request) (found : Answer) → get_elem? w.mailboxes p ≡ some (answered request found) → AreClients key (revised w.members p (collects found)) (revised w.mailboxes p (λ _. empty)) (renewed cs (number_at key p) (λ x. record x { mailbox = core.empty }))
   emptied p request found at = let low = is_client p (answered request found) at in
@@ -470,12 +470,13 @@ pub run_same : (key : Terms) (events : List Event) (w : World) → IsAfter key e
 run_same key [] w is = (subst (λ x. Same key x (core_opening key)) (sym is) (opening_same key), (λ place reply at. absurd (cc at)), refl)
 run_same key (event ∷ before) w (v, after, can, is) = let ran : List Reply × Machine = core.run_of (core_opening key) (core_events key before) in let was = run_same key before v after in
     let next = step_same key event v ran.1 (kept_after key before v after) was.0 can in
-    subst (λ (r : List Reply × Machine). Same key w r.1 × AllEnabled r.0 × (r.0 ≡ core_replies (event ∷ before))) (sym (run_end (core_opening key) (core_events key before) (core_event key event)))
-    (subst (λ x. Same key x (core.step_of ran.1 (core_event key event)).0) (sym is) next.0,
-    (λ place reply at. ⊎_elim (λ (t : (place < length ran.0) × (slice_get ran.0 place ≡ Some reply)). was.1 place reply t.1)
-        (λ (t : (place ≡ length ran.0) × ((core.step_of ran.1 (core_event key event)).1 ≡ reply)). subst (λ r. r ≢ told.NotEnabled) t.1 next.1)
-        (lists.at_end ran.0 (core.step_of ran.1 (core_event key event)).1 reply place at)),
-    λ i. was.2 i ++ (next.2 ∙ ap (λ n. reply_of n event) (count_after key before v after)) i ∷ [])
+    subst (λ (r : List Reply × Machine). Same key w r.1 × AllEnabled r.0 × (r.0 ≡ core_replies (event ∷ before))) (sym (run_end (core_opening key) (core_events key before) (core_event key event))) (
+      subst (λ x. Same key x (core.step_of ran.1 (core_event key event)).0) (sym is) next.0,
+      (λ place reply at. ⊎_elim (λ (t : (place < length ran.0) × (slice_get ran.0 place ≡ Some reply)). was.1 place reply t.1)
+          (λ (t : (place ≡ length ran.0) × ((core.step_of ran.1 (core_event key event)).1 ≡ reply)). subst (λ r. r ≢ told.NotEnabled) t.1 next.1)
+          (lists.at_end ran.0 (core.step_of ran.1 (core_event key event)).1 reply place at)),
+      λ i. was.2 i ++ (next.2 ∙ ap (λ n. reply_of n event) (count_after key before v after)) i ∷ [],
+    )
 
 pub every_run : EveryRunIsTheCores
 every_run key events w after = let ran : List Reply × Machine = core.run_of (core_opening key) (core_events key events) in let both = run_same key events w after in record {
@@ -509,14 +510,14 @@ acts_as key (collect p request found) w boxes (m, at, hand) = let within = in_ra
 names_apart : (key : Terms) (a b : ℕ) → a ≢ b → core.is_same ((who_at key.clients a)) ((who_at key.clients b)) ≡ false
 names_apart key a b apart = ⊎_elim
     (λ (low : a < key.clients). ⊎_elim
-        (λ (low' : b < key.clients). (λ i. core.is_same (person_low key a low i) (person_low key b low' i)) ∙ differ (a + 1) (b + 1) (λ e. apart (omega (arith, e))))
-        (λ (far : key.clients ≤ b). λ i. core.is_same (person_low key a low i) (person_behind key b far i))
-        (low_or_behind b key.clients))
+    (λ (low' : b < key.clients). (λ i. core.is_same (person_low key a low i) (person_low key b low' i)) ∙ differ (a + 1) (b + 1) (λ e. apart (omega (arith, e))))
+    (λ (far : key.clients ≤ b). λ i. core.is_same (person_low key a low i) (person_behind key b far i))
+    (low_or_behind b key.clients))
     (λ (far : key.clients ≤ a). ⊎_elim
-        (λ (low : b < key.clients). λ i. core.is_same (person_behind key a far i) (person_low key b low i))
-        (λ (far' : key.clients ≤ b). (λ i. core.is_same (person_behind key a far i) (person_behind key b far' i)) ∙ differ (number_at key a) (number_at key b)
-            (λ e. let na = number_behind key a far in let nb = number_behind key b far' in apart (omega (arith, e, na, nb, far, far'))))
-        (low_or_behind b key.clients))
+    (λ (low : b < key.clients). λ i. core.is_same (person_behind key a far i) (person_low key b low i))
+    (λ (far' : key.clients ≤ b). (λ i. core.is_same (person_behind key a far i) (person_behind key b far' i)) ∙ differ (number_at key a) (number_at key b)
+    (λ e. let na = number_behind key a far in let nb = number_behind key b far' in apart (omega (arith, e, na, nb, far, far'))))
+    (low_or_behind b key.clients))
     (low_or_behind a key.clients)
   where
     differ : (x y : ℕ) → x ≢ y → (x == y) ≡ false

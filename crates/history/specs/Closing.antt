@@ -40,7 +40,15 @@ terms_in hall = record { base = hall.base; clients = hall.clients; dispatchers =
 
 -- what a token says of its client or dispatcher
 abbrev pub member_of : Token → Member
-member_of t = record { who = t.who; seen = t.seen; mine = t.mine; mark = t.mark; version = t.version; given = t.given; did = t.did }
+member_of t = record {
+  who = t.who;
+  seen = t.seen;
+  mine = t.mine;
+  mark = t.mark;
+  version = t.version;
+  given = t.given;
+  did = t.did;
+}
 
 abbrev pub members_in : List Token → List Member
 members_in tokens = map member_of tokens

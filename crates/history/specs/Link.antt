@@ -1,5 +1,6 @@
 -- The table's events as events of the protocol's pure machine.
-use Rattle.std.specs.Prelude.{◌≡◌, ◌≢◌, ℕ, ◌+◌, ◌<◌, ◌≤◌, List, [], ◌∷◌, ◌++◌, map, filter, length, Some, None, slice_get}
+use Rattle.std.specs.Prelude.{◌≡◌, ◌≢◌, ℕ, ◌+◌, ◌<◌, ◌≤◌, List, [], ◌∷◌, ◌++◌, map, filter, length, Some, None}
+use Rattle.std.specs.Prelude.{slice_get}
 use Rattle.std.specs.Option.{option_map}
 use mathlib.Core.Option.{some}
 use lib.ListN.{get_elem?}
@@ -25,7 +26,8 @@ use Rattle.history.specs.declared.request.Given.{Given}
 use Rattle.history.specs.declared.view.Member.{Member}
 use Rattle.history.specs.declared.event.Deed.{Deed}
 use Rattle.history.specs.Seats.{HasRun}
-use Rattle.history.specs.World.{World, Mailbox, empty, asked, in_hand, answered, Event, IsAfter, who_at, number_of, name_of, reply_of, commits_in}
+use Rattle.history.specs.World.{World, Mailbox, empty, asked, in_hand, answered, Event, IsAfter, who_at, number_of}
+use Rattle.history.specs.World.{name_of, reply_of, commits_in}
 
 -- the machine's event of the same name
 abbrev pub core_of : Named → Act
@@ -89,10 +91,13 @@ core_world key w clients dispatchers = record {
 }
 
 abbrev pub AreClients : Terms → List Member → List Mailbox → List ClientState → Type 0
-AreClients key members boxes clients = (place : ℕ) (m : Member) (box : Mailbox) → place < key.clients → get_elem? members place ≡ some m → get_elem? boxes place ≡ some box → numbered clients (place + 1) ≡ Some (core_client key m box)
+AreClients key members boxes clients = (place : ℕ) (m : Member) (box : Mailbox) → place < key.clients
+    → get_elem? members place ≡ some m → get_elem? boxes place ≡ some box
+    → numbered clients (place + 1) ≡ Some (core_client key m box)
 
 abbrev pub AreDispatchers : Terms → List Member → List DispatcherState → Type 0
-AreDispatchers key members dispatchers = (place : ℕ) (m : Member) → key.clients ≤ place → get_elem? members place ≡ some m → numbered dispatchers (number_at key place) ≡ Some (core_dispatcher m)
+AreDispatchers key members dispatchers = (place : ℕ) (m : Member) → key.clients ≤ place
+    → get_elem? members place ≡ some m → numbered dispatchers (number_at key place) ≡ Some (core_dispatcher m)
 
 -- the machine's world tells the same as the table's
 pub record Same (key : Terms) (w : World) (c : Machine) : Type 0 where
@@ -150,10 +155,13 @@ done_by who events replies = filter (λ (done : Done). core.is_same (actor_of do
 
 -- the machine's world tells of the client or dispatcher what the member does
 abbrev pub TellsOf : Machine → Who → Member → Type 0
-TellsOf c (Client number) m = (part : ClientState) × (numbered c.clients number ≡ Some part) × (part.seen ≡ m.seen) × (part.mine ≡ m.mine)
+TellsOf c (Client number) m =
+    (part : ClientState) × (numbered c.clients number ≡ Some part) × (part.seen ≡ m.seen) × (part.mine ≡ m.mine)
 TellsOf c (Dispatcher number) m = numbered c.dispatchers number ≡ Some (core_dispatcher m)
 
--- there is a run of the machine in which each event is enabled, a true run of this history, in which each of these members did what it says that it did, and was told what it says, and is as it says at the end; then both parts are home, and every mailbox is empty
+-- there is a run of the machine in which each event is enabled, a true run of this history, in which each of these
+-- members did what it says that it did, and was told what it says, and is as it says at the end; then both parts are
+-- home, and every mailbox is empty
 pub record HasTrueRun (terms : Terms) (members : List Member) (history : List CommitRecord) : Type 0 where
   pub events : List Act
   pub replies : List Reply
@@ -170,4 +178,5 @@ pub record HasTrueRun (terms : Terms) (members : List Member) (history : List Co
 
 -- so has each run of the table in which some members did what they say
 abbrev pub EveryRunHasATrueRun : Type 0
-EveryRunHasATrueRun = (terms : Terms) (members : List Member) (history : List CommitRecord) → HasRun terms members history → HasTrueRun terms members history
+EveryRunHasATrueRun = (terms : Terms) (members : List Member) (history : List CommitRecord)
+    → HasRun terms members history → HasTrueRun terms members history

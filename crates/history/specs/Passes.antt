@@ -1,5 +1,6 @@
 -- What a pass and a table keep.
-use Rattle.std.specs.Prelude.{◌≡◌, ℕ, ◌+◌, ◌<◌, ◌≤◌, Bool, true, false, All, nat_lt, if◌then◌else◌, List, [], ◌∷◌, map, length, Option, Some, None}
+use Rattle.std.specs.Prelude.{◌≡◌, ℕ, ◌+◌, ◌<◌, ◌≤◌, Bool, true, false, All, nat_lt, if◌then◌else◌, List, [], ◌∷◌}
+use Rattle.std.specs.Prelude.{map, length, Option, Some, None}
 use Rattle.atomic_table.specs.Seated.{TableId}
 use Rattle.history.specs.declared.view.Terms.{Terms}
 use Rattle.history.specs.declared.view.Held.{Held}
@@ -16,7 +17,8 @@ use Rattle.history.specs.Tokens.{Hall, Token, IsSound, IsClient, IsDispatcher}
 use Rattle.history.specs.Closing.{member_of}
 
 abbrev pub hall_of : TableId → Terms → Hall
-hall_of table terms = record { table = table; base = terms.base; clients = terms.clients; dispatchers = terms.dispatchers }
+hall_of table terms =
+    record { table = table; base = terms.base; clients = terms.clients; dispatchers = terms.dispatchers }
 
 -- a slot is in the seat's hands while it has the part, before the others
 abbrev pub hands : {W : Type 0} → ℕ → Bool → List (ℕ × Slot W) → List (ℕ × Slot W)
@@ -80,7 +82,8 @@ module _ {W : Type 0} where
     pub seen_len : p.seen_len ≡ length p.seat.me.0.member.seen
     -- the places of the clients whose requests are in hand, in the order of their slots
     pub hand : p.hand.items ≡ map (λ (h : Held). h.place) p.seat.me.0.grabbed
-    pub carried : p.seat.me.1 ≡ hands 0 p.seat.me.0.holds_rows (hands 1 p.seat.me.0.holds_writer (boxes p.seat.me.0 p.place))
+    pub carried : p.seat.me.1
+        ≡ hands 0 p.seat.me.0.holds_rows (hands 1 p.seat.me.0.holds_writer (boxes p.seat.me.0 p.place))
     pub in_hand : IsInHand p.seat.me.0 p.place
     pub few : p.seat.me.0.terms.clients ≤ 16
     pub near : All (λ (h : Held). h.place < p.seat.me.0.terms.clients) p.seat.me.0.grabbed

@@ -1,5 +1,6 @@
 -- What each step tells, and how views are cut and joined.
-use Rattle.std.specs.Prelude.{◌≡◌, ◌≢◌, ℕ, ◌+◌, ◌/◌, ◌%◌, ◌==◌, true, false, if◌then◌else◌, All, List, [], ◌∷◌, length, drop, Option, Some, None}
+use Rattle.std.specs.Prelude.{◌≡◌, ◌≢◌, ℕ, ◌+◌, ◌/◌, ◌%◌, ◌==◌, true, false, if◌then◌else◌, All, List, [], ◌∷◌}
+use Rattle.std.specs.Prelude.{length, drop, Option, Some, None}
 use Rattle.atomic_table.specs.Table.{Me, Step, rest}
 use Rattle.ssb_schema.specs.Base.{Tables}
 use Rattle.ssb_queries.specs.declared.answer.Answer.{Answer}
@@ -15,10 +16,12 @@ use Rattle.history.specs.declared.view.View.{View}
 use Rattle.history.specs.declared.view.SlotValue.TheVariants.{Rows, Writer, Asked, Answered}
 use Rattle.history_core.specs.OwnCommits.{IsOfClients}
 use Rattle.history.specs.Words.{Owns, IsRight, IsFresh, given_to}
-use Rattle.history.specs.World.{newcomer, takes_rows, marks, commits, sees, posts, grabs, takes_writer, puts_writer, answers, collects}
+use Rattle.history.specs.World.{newcomer, takes_rows, marks, commits, sees, posts, grabs, takes_writer, puts_writer}
+use Rattle.history.specs.World.{answers, collects}
 use Rattle.history.specs.Rule.{Slot, rows, nobody, view_of, IsElsewhere}
 
--- what a member learns of the history: it is legal, begins with all that the member saw or had beside that, and has the member's commits
+-- what a member learns of the history: it is legal, begins with all that the member saw or had beside that, and has
+-- the member's commits
 pub record Learns (v : View) (history : List CommitRecord) : Type 0 where
   pub legal : IsLegal v.terms.base history
   pub named : IsOfClients v.terms.clients history
@@ -67,7 +70,8 @@ grabbed v client asked = record v { member = grabs client asked v.member; grabbe
 -- a client's request, which was in hand, is answered
 abbrev pub served_as : View → ℕ → Option Request → Answer → View
 served_as v client None reply = v
-served_as v client (Some asked) reply = record v { member = answers client asked reply v.member; grabbed = without_at client v.grabbed }
+served_as v client (Some asked) reply =
+    record v { member = answers client asked reply v.member; grabbed = without_at client v.grabbed }
 
 abbrev pub served : View → ℕ → Answer → View
 served v client reply = served_as v client (request_at client v.grabbed) reply
@@ -133,41 +137,52 @@ module _ {W : Type 0} where
   -- an even word was found, and the store was taken; or an odd one, and nothing changed
   abbrev pub TriesRows : Step (Slot W) → Me (Slot W) View → ℕ → Me (Slot W) View → Type 0
   TriesRows st me found after =
-      (found % 2 ≡ 0 → (history : List CommitRecord) × (after ≡ (with_rows me.0 history, (0, rows me.0.terms.base history) ∷ me.1)) × Learns me.0 history)
+      (found % 2 ≡ 0 → (history : List CommitRecord)
+      × (after ≡ (with_rows me.0 history, (0, rows me.0.terms.base history) ∷ me.1)) × Learns me.0 history)
       × (found % 2 ≡ 1 → after ≡ me)
 
   abbrev pub PutsRows : Step (Slot W) → Me (Slot W) View → ℕ → Me (Slot W) View → Type 0
   PutsRows st me found after = after ≡ (gave_back me.0 (log_carried me.1), rest me.1)
 
   abbrev pub Looks : Step (Slot W) → Me (Slot W) View → ℕ → Me (Slot W) View → Type 0
-  Looks st me found after = (history : List CommitRecord) × (after ≡ (looked me.0 history, me.1)) × Learns me.0 history × (found / 2 ≡ length history)
+  Looks st me found after = (history : List CommitRecord) × (after ≡ (looked me.0 history, me.1))
+      × Learns me.0 history × (found / 2 ≡ length history)
 
   abbrev pub OpensBox : Step (Slot W) → Me (Slot W) View → ℕ → Me (Slot W) View → Type 0
   OpensBox st me found after = (place : ℕ) → me.0.role ≡ Token place → after ≡ (opened me.0, (2 + place, None) ∷ me.1)
 
   abbrev pub Posts : Step (Slot W) → Me (Slot W) View → ℕ → Me (Slot W) View → Type 0
-  Posts st me found after = (place : ℕ) (request : Request) → me.1 ≡ (2 + place, Some (Asked request)) ∷ rest me.1 → after ≡ (posted me.0 request, rest me.1)
+  Posts st me found after = (place : ℕ) (request : Request) → me.1 ≡ (2 + place, Some (Asked request)) ∷ rest me.1
+      → after ≡ (posted me.0 request, rest me.1)
 
   abbrev pub Grabs : Step (Slot W) → Me (Slot W) View → ℕ → Me (Slot W) View → Type 0
   Grabs st me found after =
-      (found ≡ 1 → (client : ℕ) → st.word ≡ 2 + client → (request : Request) × (after ≡ (grabbed me.0 client request, (2 + client, Some (Asked request)) ∷ me.1)) × IsElsewhere client me.0.grabbed)
+      (found ≡ 1 → (client : ℕ) → st.word ≡ 2 + client → (request : Request)
+      × (after ≡ (grabbed me.0 client request, (2 + client, Some (Asked request)) ∷ me.1))
+      × IsElsewhere client me.0.grabbed)
       × (found ≢ 1 → after ≡ me)
 
   abbrev pub Answers : Step (Slot W) → Me (Slot W) View → ℕ → Me (Slot W) View → Type 0
-  Answers st me found after = (client : ℕ) (reply : Answer) → st.word ≡ 2 + client → me.1 ≡ (2 + client, Some (Answered reply)) ∷ rest me.1
-      → (after ≡ (served me.0 client reply, rest me.1)) × ((asked : Request) → request_at client me.0.grabbed ≡ Some asked → IsFresh (given_to (client + 1) asked reply))
+  Answers st me found after =
+      (client : ℕ) (reply : Answer) → st.word ≡ 2 + client → me.1 ≡ (2 + client, Some (Answered reply)) ∷ rest me.1
+      → (after ≡ (served me.0 client reply, rest me.1))
+      × ((asked : Request) → request_at client me.0.grabbed ≡ Some asked
+      → IsFresh (given_to (client + 1) asked reply))
 
   abbrev pub Collects : Step (Slot W) → Me (Slot W) View → ℕ → Me (Slot W) View → Type 0
   Collects st me found after =
-      (found ≡ 3 → (place : ℕ) → me.0.role ≡ Token place → (history : List CommitRecord) × (request : Request) × (reply : Answer)
-      × (after ≡ (collected me.0 history reply, (2 + place, Some (Answered reply)) ∷ me.1)) × (me.0.asked ≡ Some request) × IsRight me.0.terms.base history request reply)
+      (found ≡ 3 → (place : ℕ) → me.0.role ≡ Token place → (history : List CommitRecord) × (request : Request)
+      × (reply : Answer)
+      × (after ≡ (collected me.0 history reply, (2 + place, Some (Answered reply)) ∷ me.1))
+      × (me.0.asked ≡ Some request) × IsRight me.0.terms.base history request reply)
       × (found ≢ 3 → after ≡ me)
 
 module _ {W : Type 0} (base_of : W → Tables) (taken : W → List CommitRecord) where
   -- the writer was home and was taken, or nothing changed
   abbrev pub TriesWriter : Step (Slot W) → Me (Slot W) View → ℕ → Me (Slot W) View → Type 0
   TriesWriter st me found after =
-      (found ≡ 0 → (writer : W) × (base_of writer ≡ me.0.terms.base) × (after ≡ (with_writer me.0 (taken writer), (1, Some (Writer writer)) ∷ me.1)))
+      (found ≡ 0 → (writer : W) × (base_of writer ≡ me.0.terms.base)
+      × (after ≡ (with_writer me.0 (taken writer), (1, Some (Writer writer)) ∷ me.1)))
       × (found ≢ 0 → after ≡ me)
 
   abbrev pub PutsWriter : Step (Slot W) → Me (Slot W) View → ℕ → Me (Slot W) View → Type 0

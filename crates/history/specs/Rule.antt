@@ -1,5 +1,6 @@
 -- The rule: the table shows a world that events lead to.
-use Rattle.std.specs.Prelude.{◌≡◌, ◌≢◌, ℕ, ◌+◌, ◌*◌, ◌<◌, ◌≤◌, true, false, All, List, [], ◌∷◌, length, slice_index, Option, Some, None}
+use Rattle.std.specs.Prelude.{◌≡◌, ◌≢◌, ℕ, ◌+◌, ◌*◌, ◌<◌, ◌≤◌, true, false, All, List, [], ◌∷◌, length, slice_index}
+use Rattle.std.specs.Prelude.{Option, Some, None}
 use mathlib.Core.Option.{some}
 use mathlib.Core.Option as maybe
 use lib.ListN.{get_elem?}
@@ -45,7 +46,19 @@ nobody = record { who = Client 0; seen = []; mine = []; mark = None; version = N
 
 -- a view that plays this role for this member, and has nothing
 abbrev pub view_of : Terms → Role → Member → View
-view_of terms role member = record { terms = terms; role = role; member = member; holds_rows = false; holds_writer = false; beside = []; gathered = []; has_box = false; asked = None; grabbed = [] }
+view_of terms role member =
+    record {
+      terms = terms;
+      role = role;
+      member = member;
+      holds_rows = false;
+      holds_writer = false;
+      beside = [];
+      gathered = [];
+      has_box = false;
+      asked = None;
+      grabbed = [];
+    }
 
 -- the view of the first seat
 abbrev pub dealer : Terms → View
@@ -88,7 +101,8 @@ module _ {W : Type 0} where
   abbrev pub rows : Tables → List CommitRecord → Slot W
   rows base log = Some (Rows (store base log))
 
-  -- word 0 is twice the length of the history, and 1 more while the row store is out; the store lies in slot 0 while it is home
+  -- word 0 is twice the length of the history, and 1 more while the row store is out; the store lies in slot 0 while
+  -- it is home
   pub record RowsShown (key : Terms) (words : List ℕ) (homes : Homes W) (w : World) : Type 0 where
     pub word : slice_index words 0 ≡ 2 * length w.history + out w.rows
     pub home : w.rows ≡ None → get_elem? homes 0 ≡ some (some (rows key.base w.history))
@@ -109,7 +123,8 @@ module _ {W : Type 0} where
   IsVacant homes client = get_elem? homes (2 + client) ≡ some (some None)
 
   -- the seat owner p plays for the member at p
-  pub record TokenKnows (key : Terms) (homes : Homes W) (w : World) (owner : ℕ → ℕ) (seat : ℕ) (v : View) (place : ℕ) : Type 0 where
+  pub record TokenKnows (key : Terms) (homes : Homes W) (w : World) (owner : ℕ → ℕ)
+      (seat : ℕ) (v : View) (place : ℕ) : Type 0 where
     pub common : Common key w v
     pub plays : owner place ≡ seat
     pub member : get_elem? w.members place ≡ some v.member
@@ -118,18 +133,23 @@ module _ {W : Type 0} where
     pub writer : v.holds_writer ≡ true → w.writer ≡ Some place
     pub idle : v.holds_writer ≡ false → w.writer ≢ Some place
     pub asked : (box : Mailbox) → get_elem? w.mailboxes place ≡ some box → v.asked ≡ request_of box
-    pub grabbed : (k : ℕ) (g : Held) → get_elem? v.grabbed k ≡ some g → get_elem? w.mailboxes g.place ≡ some (in_hand place g.request)
+    pub grabbed : (k : ℕ) (g : Held) → get_elem? v.grabbed k ≡ some g
+        → get_elem? w.mailboxes g.place ≡ some (in_hand place g.request)
     pub apart : AreApart v.grabbed
-    pub vacant : v.has_box ≡ false → place < key.clients → (get_elem? w.mailboxes place ≡ some empty) × IsVacant homes place
+    pub vacant : v.has_box ≡ false → place < key.clients → (get_elem? w.mailboxes place ≡ some empty)
+        × IsVacant homes place
     pub gathered : (k : ℕ) (m : Member) → get_elem? v.gathered k ≡ some m → Handed w owner seat place m
 
-  pub record DealerKnows (key : Terms) (homes : Homes W) (w : World) (owner : ℕ → ℕ) (seat : ℕ) (v : View) (next : ℕ) : Type 0 where
+  pub record DealerKnows (key : Terms) (homes : Homes W) (w : World) (owner : ℕ → ℕ)
+      (seat : ℕ) (v : View) (next : ℕ) : Type 0 where
     pub common : Common key w v
     pub plays : (place : ℕ) → next ≤ place → owner place ≡ seat
-    pub members : (place : ℕ) → next ≤ place → place < key.clients + key.dispatchers → get_elem? w.members place ≡ some (newcomer key.clients place)
+    pub members : (place : ℕ) → next ≤ place → place < key.clients + key.dispatchers
+        → get_elem? w.members place ≡ some (newcomer key.clients place)
     pub free : (place : ℕ) → next ≤ place → w.rows ≢ Some place
     pub idle : (place : ℕ) → next ≤ place → w.writer ≢ Some place
-    pub vacant : (place : ℕ) → next ≤ place → place < key.clients → (get_elem? w.mailboxes place ≡ some empty) × IsVacant homes place
+    pub vacant : (place : ℕ) → next ≤ place → place < key.clients → (get_elem? w.mailboxes place ≡ some empty)
+        × IsVacant homes place
 
   -- what the world says of a seat, by what the seat is for
   abbrev pub KnowsAs : Terms → Homes W → World → (ℕ → ℕ) → ℕ → View → Role → Type 0
@@ -149,7 +169,8 @@ module _ {W : Type 0} (base_of : W → Tables) (taken : W → List CommitRecord)
   -- word 1 is 1 while the writer is out; it lies in slot 1 while it is home
   pub record WriterShown (key : Terms) (words : List ℕ) (homes : Homes W) (w : World) : Type 0 where
     pub word : slice_index words 1 ≡ out w.writer
-    pub home : w.writer ≡ None → (writer : W) × (get_elem? homes 1 ≡ some (some (Some (Writer writer)))) × IsOurs key w.history writer
+    pub home : w.writer ≡ None → (writer : W) × (get_elem? homes 1 ≡ some (some (Some (Writer writer))))
+        × IsOurs key w.history writer
 
   pub record Shows (key : Terms) (s : State (Slot W) View) (w : World) : Type 0 where
     pub owner : ℕ → ℕ
@@ -158,7 +179,8 @@ module _ {W : Type 0} (base_of : W → Tables) (taken : W → List CommitRecord)
     pub box_count : length w.mailboxes ≡ key.clients
     pub rows : RowsShown key s.words s.homes w
     pub writer : WriterShown key s.words s.homes w
-    pub mail : (client : ℕ) (box : Mailbox) → get_elem? w.mailboxes client ≡ some box → MailShown s.words s.homes client box
+    pub mail : (client : ℕ) (box : Mailbox) → get_elem? w.mailboxes client ≡ some box
+        → MailShown s.words s.homes client box
     pub seats : (seat : ℕ) (v : View) → get_elem? s.views seat ≡ some v → Knows key s.homes w owner seat v
 
   -- the rule
@@ -167,5 +189,17 @@ module _ {W : Type 0} (base_of : W → Tables) (taken : W → List CommitRecord)
 
 -- what a seat is left with that another took in
 abbrev pub spent : View
-spent = let nothing : Tables = record { limits = record { dimension_rows = 1; lines = 0; commits = 1; dimension_rows_range = (lit≤ tt, lit≤ tt); lines_range = lit≤ tt; commits_range = (lit≤ tt, lit≤ tt) }; dimensions = record { customers = []; suppliers = []; parts = []; dates = [] }; lines = [] } in
+spent = let nothing : Tables =
+    record {
+      limits = record {
+        dimension_rows = 1;
+        lines = 0;
+        commits = 1;
+        dimension_rows_range = (lit≤ tt, lit≤ tt);
+        lines_range = lit≤ tt;
+        commits_range = (lit≤ tt, lit≤ tt);
+      };
+      dimensions = record { customers = []; suppliers = []; parts = []; dates = [] };
+      lines = [];
+    } in
     view_of record { base = nothing; clients = 0; dispatchers = 0 } Spent nobody

@@ -48,7 +48,8 @@ module _ {W : Type 0} where
 
   -- the same seat, with this view and these slots in hand
   abbrev pub Becomes : Place W → View → List (ℕ × Slot W) → Place W → Type 0
-  Becomes before v carried after = (after.table_id ≡ before.table_id) × (after.id ≡ before.id) × (after.me ≡ (v, carried))
+  Becomes before v carried after =
+      (after.table_id ≡ before.table_id) × (after.id ≡ before.id) × (after.me ≡ (v, carried))
 
   -- the slot is in the seat's hands, before the others, and its value is out
   abbrev pub Carries : ℕ → Place W → Type 0
@@ -56,27 +57,35 @@ module _ {W : Type 0} where
 
   -- the row store was taken, with a history that the seat has then seen
   abbrev pub Takes : Place W → Warehouse → Place W → Type 0
-  Takes before rows after = (history : List CommitRecord) × (rows ≡ store before.me.0.terms.base history) × Becomes before (with_rows before.me.0 history) ((0, None) ∷ before.me.1) after × Learns before.me.0 history
+  Takes before rows after = (history : List CommitRecord) × (rows ≡ store before.me.0.terms.base history)
+      × Becomes before (with_rows before.me.0 history) ((0, None) ∷ before.me.1) after × Learns before.me.0 history
 
   abbrev pub LooksAt : Place W → ℕ → Place W → Type 0
-  LooksAt before found after = (history : List CommitRecord) × (found ≡ length history) × Becomes before (looked before.me.0 history) before.me.1 after × Learns before.me.0 history
+  LooksAt before found after = (history : List CommitRecord) × (found ≡ length history)
+      × Becomes before (looked before.me.0 history) before.me.1 after × Learns before.me.0 history
 
   -- the log is what the seat has seen, and one accepted commit of its client
   abbrev pub Adds : Place W → List CommitRecord → Type 0
-  Adds seat log = (commit : CommitRecord) × (place : ℕ) × (seat.me.0.role ≡ Token place) × (place < seat.me.0.terms.clients) × (commit.client ≡ place + 1) × IsAccepted seat.me.0.terms.base seat.me.0.member.seen commit × (log ≡ seat.me.0.member.seen ++ commit ∷ [])
+  Adds seat log = (commit : CommitRecord) × (place : ℕ) × (seat.me.0.role ≡ Token place)
+      × (place < seat.me.0.terms.clients) × (commit.client ≡ place + 1)
+      × IsAccepted seat.me.0.terms.base seat.me.0.member.seen commit × (log ≡ seat.me.0.member.seen ++ commit ∷ [])
 
   -- the answer is to a request in hand, whose slot is the seat's first; its rows are right at the version
   abbrev pub MayServe : Place W → ℕ → Answer → Type 0
-  MayServe seat client reply = (asked : Request) × (request_at client seat.me.0.grabbed ≡ Some asked) × (seat.me.1 ≡ (2 + client, None) ∷ rest seat.me.1)
+  MayServe seat client reply = (asked : Request) × (request_at client seat.me.0.grabbed ≡ Some asked)
+      × (seat.me.1 ≡ (2 + client, None) ∷ rest seat.me.1)
       × IsRightAt seat.me.0.terms.base seat.me.0.member.seen seat.me.0.member.version asked reply
 
   abbrev pub Serves : Place W → ℕ → Answer → Place W → Type 0
   Serves before client reply after = Becomes before (served before.me.0 client reply) (rest before.me.1) after
-      × ((asked : Request) → request_at client before.me.0.grabbed ≡ Some asked → IsFresh (given_to (client + 1) asked reply))
+      × ((asked : Request) → request_at client before.me.0.grabbed ≡ Some asked
+      → IsFresh (given_to (client + 1) asked reply))
 
   -- the answer is to what the client asked, and right in a history that then lies beside what it has seen
   abbrev pub Collects : Place W → ℕ → Answer → Place W → Type 0
-  Collects before place reply after = (history : List CommitRecord) × (request : Request) × (before.me.0.asked ≡ Some request) × IsRight before.me.0.terms.base history request reply × Becomes before (collected before.me.0 history reply) ((2 + place, None) ∷ before.me.1) after
+  Collects before place reply after = (history : List CommitRecord) × (request : Request)
+      × (before.me.0.asked ≡ Some request) × IsRight before.me.0.terms.base history request reply
+      × Becomes before (collected before.me.0 history reply) ((2 + place, None) ∷ before.me.1) after
 
   -- the seat deals the tokens of this table, from this place on
   abbrev pub IsDealer : Place W → Terms → ℕ → Type 0
@@ -85,7 +94,8 @@ module _ {W : Type 0} where
 module _ {W : Type 0} (base_of : W → Tables) (taken : W → List CommitRecord) where
   -- a writer over the table's base was taken, and what it stands for lies beside what the seat has seen
   abbrev pub TakesWriter : Place W → W → Place W → Type 0
-  TakesWriter before writer after = (base_of writer ≡ before.me.0.terms.base) × Becomes before (with_writer before.me.0 (taken writer)) ((1, None) ∷ before.me.1) after
+  TakesWriter before writer after = (base_of writer ≡ before.me.0.terms.base)
+      × Becomes before (with_writer before.me.0 (taken writer)) ((1, None) ∷ before.me.1) after
 
   -- the writer is over the table's base, and stands for a beginning of what the seat has seen
   abbrev pub MayPutWriter : Place W → W → Type 0
@@ -106,9 +116,11 @@ module _ {W : Type 0} where
 
 -- each client and each dispatcher is among the members
 abbrev pub AreAll : Terms → List Member → Type 0
-AreAll terms members = (place : ℕ) → place < terms.clients + terms.dispatchers → (k : ℕ) × (m : Member) × (get_elem? members k ≡ some m) × (m.who ≡ who_at terms.clients place)
+AreAll terms members = (place : ℕ) → place < terms.clients + terms.dispatchers → (k : ℕ) × (m : Member)
+    × (get_elem? members k ≡ some m) × (m.who ≡ who_at terms.clients place)
 
--- there is a run of events, each of them enabled, that has this log, and in which each of these members did what it says that it did, and is as it says at the end: then nobody has a part, and every mailbox is empty
+-- there is a run of events, each of them enabled, that has this log, and in which each of these members did what it
+-- says that it did, and is as it says at the end: then nobody has a part, and every mailbox is empty
 pub record HasRun (terms : Terms) (members : List Member) (history : List CommitRecord) : Type 0 where
   pub events : List Event
   pub world : World
@@ -117,7 +129,9 @@ pub record HasRun (terms : Terms) (members : List Member) (history : List Commit
   pub rows : world.rows ≡ None
   pub writer : world.writer ≡ None
   pub mail : (client : ℕ) (box : Mailbox) → get_elem? world.mailboxes client ≡ some box → box ≡ empty
-  pub did : (k : ℕ) (m : Member) → get_elem? members k ≡ some m → (place : ℕ) × (m.who ≡ who_at terms.clients place) × (get_elem? world.members place ≡ some m) × (m.did ≡ deeds terms place events)
+  pub did : (k : ℕ) (m : Member) → get_elem? members k ≡ some m → (place : ℕ)
+      × (m.who ≡ who_at terms.clients place) × (get_elem? world.members place ≡ some m)
+      × (m.did ≡ deeds terms place events)
 
 -- the log is legal and has the commits of these members, each of whom has seen a beginning of it
 pub record IsClosed (terms : Terms) (members : List Member) (rows : Warehouse) : Type 0 where

@@ -1,5 +1,7 @@
--- What a pass shows: who it is, what it has seen, made, given and done, and what it holds; and what each call makes of that.
-use Rattle.std.specs.Prelude.{◌≡◌, ◌⊎◌, ℕ, ◌==◌, Bool, true, false, All, if◌then◌else◌, List, [], ◌∷◌, ◌++◌, length, map, Option, Some, None}
+-- What a pass shows: who it is, what it has seen, made, given and done, and what it holds; and what each call makes
+-- of that.
+use Rattle.std.specs.Prelude.{◌≡◌, ◌⊎◌, ℕ, ◌==◌, Bool, true, false, All, if◌then◌else◌, List, [], ◌∷◌, ◌++◌, length}
+use Rattle.std.specs.Prelude.{map, Option, Some, None}
 use Rattle.std.specs.List.{range_with_len}
 use Rattle.atomic_table.specs.Seated.{TableId}
 use Rattle.ssb_schema.specs.Base.{Tables}
@@ -42,7 +44,8 @@ pub record Token : Type 0 where
   pub has_writer : Bool
   -- what a client asked and has not collected
   pub asked : Option Request
-  -- the length of the history at a dispatcher's last return of the rows, and the mark at its last return of the writer; a grab and taking the writer clear both
+  -- the length of the history at a dispatcher's last return of the rows, and the mark at its last return of the
+  -- writer; a grab and taking the writer clear both
   pub mark : Option ℕ
   pub version : Option ℕ
   -- what a dispatcher has in hand, the newest first, and the answers that it gave
@@ -53,7 +56,22 @@ pub record Token : Type 0 where
 
 -- what a client or dispatcher that opens has
 abbrev pub new_token : Hall → Who → Token
-new_token hall who = record { hall = hall; who = who; seen = []; mine = []; beside = []; has_rows = false; has_writer = false; asked = None; mark = None; version = None; grabbed = []; given = []; did = [] }
+new_token hall who =
+    record {
+      hall = hall;
+      who = who;
+      seen = [];
+      mine = [];
+      beside = [];
+      has_rows = false;
+      has_writer = false;
+      asked = None;
+      mark = None;
+      version = None;
+      grabbed = [];
+      given = [];
+      did = [];
+    }
 
 -- one token for each client, and one for each dispatcher, by number from 1
 abbrev pub new_clients : Hall → List Token
@@ -82,33 +100,59 @@ did_more t event reply = t.did ++ record { event = event; reply = reply } ∷ []
 pub record Saw (before after : Token) : Type 0 where
   pub begins : IsPrefix before.seen after.seen
   pub beside : All (λ list. IsPrefix list after.seen) before.beside
-  pub now : after ≡ record before { seen = after.seen; beside = []; did = did_more before (event.Look before.who) (Length (length after.seen)) }
+  pub now : after ≡ record before {
+    seen = after.seen;
+    beside = [];
+    did = did_more before (event.Look before.who) (Length (length after.seen));
+  }
 
 -- the token has looked, and took the row store
 pub record Took (before after : Token) : Type 0 where
   pub begins : IsPrefix before.seen after.seen
   pub beside : All (λ list. IsPrefix list after.seen) before.beside
-  pub now : after ≡ record before { seen = after.seen; beside = []; has_rows = true; did = did_more before (event.TakeRows before.who) Done }
+  pub now : after ≡ record before {
+    seen = after.seen;
+    beside = [];
+    has_rows = true;
+    did = did_more before (event.TakeRows before.who) Done;
+  }
 
 -- the token after it gave the rows back unchanged
 abbrev pub gave_back : Token → Token
-gave_back t = record t { has_rows = false; mark = mark_after t.who (length t.seen) t.mark; did = did_more t (event.PutRows t.who None) Done }
+gave_back t = record t {
+  has_rows = false;
+  mark = mark_after t.who (length t.seen) t.mark;
+  did = did_more t (event.PutRows t.who None) Done;
+}
 
 -- the token after it gave the rows back with one commit more, which has a number from 1
 abbrev pub committed : Token → CommitRecord → Token
-committed t commit = record t { seen = t.seen ++ commit ∷ []; mine = t.mine ++ commit ∷ []; has_rows = false; did = did_more t (event.PutRows t.who (Some commit.actions)) (Committed (length (t.seen ++ commit ∷ []))) }
+committed t commit =
+    record t {
+      seen = t.seen ++ commit ∷ [];
+      mine = t.mine ++ commit ∷ [];
+      has_rows = false;
+      did = did_more t (event.PutRows t.who (Some commit.actions)) (Committed (length (t.seen ++ commit ∷ [])));
+    }
 
 -- the store as it was taken, or with one commit more of the token's client
 abbrev pub MayPut : Token → Warehouse → Type 0
-MayPut t rows = (rows.base ≡ t.hall.base) × ((rows.log ≡ t.seen) ⊎ ((commit : CommitRecord) × (t.who ≡ Client commit.client) × (refusal_of t.hall.base t.seen commit.actions ≡ None) × (rows.log ≡ t.seen ++ commit ∷ [])))
+MayPut t rows = (rows.base ≡ t.hall.base)
+    × ((rows.log ≡ t.seen) ⊎ ((commit : CommitRecord) × (t.who ≡ Client commit.client)
+    × (refusal_of t.hall.base t.seen commit.actions ≡ None) × (rows.log ≡ t.seen ++ commit ∷ [])))
 
 -- the token after it gave this store back
 abbrev pub Put : Token → Warehouse → Token → Type 0
-Put before rows after = ((rows.log ≡ before.seen) → after ≡ gave_back before) × ((commit : CommitRecord) → rows.log ≡ before.seen ++ commit ∷ [] → after ≡ committed before commit)
+Put before rows after = ((rows.log ≡ before.seen) → after ≡ gave_back before)
+    × ((commit : CommitRecord) → rows.log ≡ before.seen ++ commit ∷ [] → after ≡ committed before commit)
 
 -- the client asked a question, with the length of what it has seen as the floor
 abbrev pub posted : Token → Question → Token
-posted t question = record t { asked = Some (request question (length t.seen)); did = did_more t (event.Post (number_of t.who) question) Done }
+posted t question =
+    record t {
+      asked = Some (request question (length t.seen));
+      did = did_more t (event.Post (number_of t.who) question) Done;
+    }
 
 -- the request of this client among those in hand
 abbrev pub request_of : ℕ → List Grabbed → Option Request
@@ -123,7 +167,13 @@ without client (first ∷ others) = if first.client == client then others else f
 -- a dispatcher has one request more in hand, and neither mark nor version
 pub record Grabs (before : Token) (client : ℕ) (question : Question) (after : Token) : Type 0 where
   pub floor : ℕ
-  pub now : after ≡ record before { mark = None; version = None; grabbed = record { client = client; request = request question floor } ∷ before.grabbed; did = did_more before (event.Grab (number_of before.who) client) (Asks question) }
+  pub now : after ≡ record before {
+    mark = None;
+    version = None;
+    grabbed = record { client = client; request = request question floor } ∷ before.grabbed;
+    did =
+        did_more before (event.Grab (number_of before.who) client) (Asks question);
+  }
 
 -- the answer is to this request, and right at the token's version
 abbrev pub Serves : Token → Request → Answer → Type 0
@@ -140,23 +190,41 @@ pub record Answers (before : Token) (client : ℕ) (reply : Answer) (after : Tok
   pub asked : Request
   pub held : request_of client before.grabbed ≡ Some asked
   pub fresh : IsFresh (given_to client asked reply)
-  pub now : after ≡ record before { grabbed = without client before.grabbed; given = before.given ++ given_to client asked reply ∷ []; did = did_more before (answer_named (number_of before.who) client reply) Done }
+  pub now : after ≡ record before {
+    grabbed = without client before.grabbed;
+    given = before.given ++ given_to client asked reply ∷ [];
+    did =
+        did_more before (answer_named (number_of before.who) client reply) Done;
+  }
 
--- a client has collected the answer to what it asked, which is right in a history that the next look shows to be a beginning
+-- a client has collected the answer to what it asked, which is right in a history that the next look shows to be a
+-- beginning
 pub record Collected (before : Token) (reply : Answer) (after : Token) : Type 0 where
   pub asked : Request
   pub was : before.asked ≡ Some asked
   pub history : List CommitRecord
   pub right : IsRight before.hall.base history asked reply
-  pub now : after ≡ record before { asked = None; beside = history ∷ before.beside; did = did_more before (event.Collect (number_of before.who)) (told_by reply) }
+  pub now : after ≡ record before {
+    asked = None;
+    beside = history ∷ before.beside;
+    did = did_more before (event.Collect (number_of before.who)) (told_by reply);
+  }
 
 -- the token has the writer, and what that has taken lies beside what it has seen
 abbrev pub with_writer : Token → List CommitRecord → Token
-with_writer t taken = record t { beside = taken ∷ t.beside; has_writer = true; mark = None; version = None; did = did_more t (event.TakeWriter (number_of t.who)) Done }
+with_writer t taken =
+    record t {
+      beside = taken ∷ t.beside;
+      has_writer = true;
+      mark = None;
+      version = None;
+      did = did_more t (event.TakeWriter (number_of t.who)) Done;
+    }
 
 -- the token gave the writer back
 abbrev pub without_writer : Token → Token
-without_writer t = record t { has_writer = false; version = t.mark; did = did_more t (event.PutWriter (number_of t.who)) Done }
+without_writer t =
+    record t { has_writer = false; version = t.mark; did = did_more t (event.PutWriter (number_of t.who)) Done }
 
 -- the token holds neither part, and has no request in hand
 pub record IsFree (t : Token) : Type 0 where

@@ -40,12 +40,14 @@ request question floor = record { query = question; floor = floor }
 
 -- the answer is to this request; its rows are right after the first commits of the history, so many as the version says
 abbrev pub IsRightAt : Tables → List CommitRecord → Option ℕ → Request → Answer → Type 0
-IsRightAt base history version asked (Rows query at rows) = (query ≡ asked.query) × (version ≡ Some at) × (rows ≡ rows_after base query (take at history))
+IsRightAt base history version asked (Rows query at rows) =
+    (query ≡ asked.query) × (version ≡ Some at) × (rows ≡ rows_after base query (take at history))
 IsRightAt base history version asked (Unserved query cause) = (query ≡ asked.query) × IsCause cause
 
 -- the answer is to this request; its rows are right after the first commits of the history, no fewer than the floor
 abbrev pub IsRight : Tables → List CommitRecord → Request → Answer → Type 0
-IsRight base history asked (Rows query at rows) = (query ≡ asked.query) × (asked.floor ≤ at) × (at ≤ length history) × (rows ≡ rows_after base query (take at history))
+IsRight base history asked (Rows query at rows) = (query ≡ asked.query) × (asked.floor ≤ at)
+    × (at ≤ length history) × (rows ≡ rows_after base query (take at history))
 IsRight base history asked (Unserved query cause) = (query ≡ asked.query) × IsCause cause
 
 abbrev pub outcome_of : Answer → Outcome

@@ -1,5 +1,6 @@
 -- The protocol as a pure machine: what there is, and what each event does.
-use Rattle.std.specs.Prelude.{◌≡◌, ℕ, zero, suc, ◌==◌, ◌+◌, ◌-◌, ◌<◌, ◌≤◌, nat_lt, if◌then◌else◌, List, [], ◌∷◌, ◌++◌, length, Option, Some, None}
+use Rattle.std.specs.Prelude.{◌≡◌, ℕ, zero, suc, ◌==◌, ◌+◌, ◌-◌, ◌<◌, ◌≤◌, nat_lt, if◌then◌else◌, List, [], ◌∷◌, ◌++◌}
+use Rattle.std.specs.Prelude.{length, Option, Some, None}
 use mathlib.Core.Option.{some}
 use lib.ListN.{get_elem?}
 use Rattle.ssb_schema.specs.Base.{Tables}
@@ -27,7 +28,8 @@ pub data Mailbox : Type 0 where
   in_hand : ℕ → Request → Mailbox
   answered : Request → Answer → Mailbox
 
--- the history, the places of the members that hold the row store and the writer, the members, first the clients and then the dispatchers, and the clients' mailboxes
+-- the history, the places of the members that hold the row store and the writer, the members, first the clients and
+-- then the dispatchers, and the clients' mailboxes
 pub record World : Type 0 where
   pub history : List CommitRecord
   pub rows : Option ℕ
@@ -66,7 +68,8 @@ number_of (Client number) = number
 number_of (Dispatcher number) = number
 
 abbrev pub newcomer : ℕ → ℕ → Member
-newcomer clients place = record { who = who_at clients place; seen = []; mine = []; mark = None; version = None; given = []; did = [] }
+newcomer clients place =
+    record { who = who_at clients place; seen = []; mine = []; mark = None; version = None; given = []; did = [] }
 
 -- so many newcomers, from this place on
 abbrev pub newcomers : ℕ → ℕ → ℕ → List Member
@@ -78,7 +81,14 @@ empties zero = []
 empties (suc more) = empty ∷ empties more
 
 abbrev pub opening_world : Terms → World
-opening_world key = record { history = []; rows = None; writer = None; members = newcomers key.clients 0 (key.clients + key.dispatchers); mailboxes = empties key.clients }
+opening_world key =
+    record {
+      history = [];
+      rows = None;
+      writer = None;
+      members = newcomers key.clients 0 (key.clients + key.dispatchers);
+      mailboxes = empties key.clients;
+    }
 
 -- the list with f of the element at this place
 abbrev pub revised : {A : Type 0} → List A → ℕ → (A → A) → List A
@@ -101,11 +111,14 @@ mark_after (Dispatcher number) count mark = Some count
 
 -- it gave the row store back as it was
 abbrev pub marks : List CommitRecord → Member → Member
-marks history m = with_deed (named.PutRows m.who None) told.Done record m { seen = history; mark = mark_after m.who (length history) m.mark }
+marks history m = with_deed (named.PutRows m.who None) told.Done
+    record m { seen = history; mark = mark_after m.who (length history) m.mark }
 
 -- it gave the row store back with this commit, which is the last of the history
 abbrev pub commits : List CommitRecord → CommitRecord → Member → Member
-commits history commit m = with_deed (named.PutRows m.who (Some commit.actions)) (told.Committed (length history)) record m { seen = history; mine = m.mine ++ commit ∷ [] }
+commits history commit m =
+    with_deed (named.PutRows m.who (Some commit.actions)) (told.Committed (length history))
+    record m { seen = history; mine = m.mine ++ commit ∷ [] }
 
 abbrev pub sees : List CommitRecord → Member → Member
 sees history m = with_deed (named.Look m.who) (told.Length (length history)) record m { seen = history }
@@ -114,7 +127,9 @@ abbrev pub posts : Request → Member → Member
 posts request m = with_deed (named.Post (number_of m.who) request.query) told.Done m
 
 abbrev pub grabs : ℕ → Request → Member → Member
-grabs client request m = with_deed (named.Grab (number_of m.who) (client + 1)) (told.Query request.query) record m { mark = None; version = None }
+grabs client request m =
+    with_deed (named.Grab (number_of m.who) (client + 1)) (told.Query request.query)
+    record m { mark = None; version = None }
 
 abbrev pub takes_writer : Member → Member
 takes_writer m = with_deed (named.TakeWriter (number_of m.who)) told.Done record m { mark = None; version = None }
@@ -127,7 +142,9 @@ answer_named dispatcher client (Rows question at found) = named.Answer dispatche
 answer_named dispatcher client (Unserved question cause) = named.GiveUp dispatcher client cause
 
 abbrev pub answers : ℕ → Request → Answer → Member → Member
-answers client request reply m = with_deed (answer_named (number_of m.who) (client + 1) reply) told.Done record m { given = m.given ++ given_to (client + 1) request reply ∷ [] }
+answers client request reply m =
+    with_deed (answer_named (number_of m.who) (client + 1) reply) told.Done
+    record m { given = m.given ++ given_to (client + 1) request reply ∷ [] }
 
 -- what a client is told that collects this answer
 abbrev pub told_by : Answer → Reply
@@ -141,26 +158,47 @@ collects reply m = with_deed (named.Collect (number_of m.who)) (told_by reply) m
 abbrev pub effect : Event → World → World
 effect (take_rows place) w = record w { rows = Some place; members = revised w.members place (takes_rows w.history) }
 effect (put_rows place None) w = record w { rows = None; members = revised w.members place (marks w.history) }
-effect (put_rows place (Some commit)) w = let now = w.history ++ commit ∷ [] in record w { history = now; rows = None; members = revised w.members place (commits now commit) }
+effect (put_rows place (Some commit)) w =
+    let now = w.history ++ commit ∷ [] in record w {
+      history = now;
+      rows = None;
+      members = revised w.members place (commits now commit);
+    }
 effect (look place) w = record w { members = revised w.members place (sees w.history) }
-effect (post place request) w = record w { members = revised w.members place (posts request); mailboxes = revised w.mailboxes place (λ _. asked request) }
-effect (grab place client request) w = record w { members = revised w.members place (grabs client request); mailboxes = revised w.mailboxes client (λ _. in_hand place request) }
+effect (post place request) w =
+    record w {
+      members = revised w.members place (posts request);
+      mailboxes = revised w.mailboxes place (λ _. asked request);
+    }
+effect (grab place client request) w =
+    record w {
+      members = revised w.members place (grabs client request);
+      mailboxes = revised w.mailboxes client (λ _. in_hand place request);
+    }
 effect (take_writer place) w = record w { writer = Some place; members = revised w.members place takes_writer }
 effect (put_writer place) w = record w { writer = None; members = revised w.members place puts_writer }
-effect (answer place client request reply) w = record w { members = revised w.members place (answers client request reply); mailboxes = revised w.mailboxes client (λ _. answered request reply) }
-effect (collect place request reply) w = record w { members = revised w.members place (collects reply); mailboxes = revised w.mailboxes place (λ _. empty) }
+effect (answer place client request reply) w =
+    record w {
+      members = revised w.members place (answers client request reply);
+      mailboxes = revised w.mailboxes client (λ _. answered request reply);
+    }
+effect (collect place request reply) w =
+    record w { members = revised w.members place (collects reply); mailboxes = revised w.mailboxes place (λ _. empty) }
 
 -- what lets the member at its place act; a refused refresh is put_rows with no commit
 abbrev pub Can : Terms → Event → World → Member → Type 0
 Can key (take_rows place) w m = w.rows ≡ None
 Can key (put_rows place None) w m = w.rows ≡ Some place
-Can key (put_rows place (Some commit)) w m = (w.rows ≡ Some place) × (place < key.clients) × (commit.client ≡ place + 1) × IsAccepted key.base w.history commit
+Can key (put_rows place (Some commit)) w m = (w.rows ≡ Some place) × (place < key.clients)
+    × (commit.client ≡ place + 1) × IsAccepted key.base w.history commit
 Can key (look place) w m = Unit {0}
 Can key (post place request) w m = (get_elem? w.mailboxes place ≡ some empty) × (request.floor ≡ length m.seen)
 Can key (grab place client request) w m = (key.clients ≤ place) × (get_elem? w.mailboxes client ≡ some (asked request))
 Can key (take_writer place) w m = (key.clients ≤ place) × (w.writer ≡ None)
 Can key (put_writer place) w m = (key.clients ≤ place) × (w.writer ≡ Some place)
-Can key (answer place client request reply) w m = (key.clients ≤ place) × (get_elem? w.mailboxes client ≡ some (in_hand place request)) × IsRightAt key.base w.history m.version request reply
+Can key (answer place client request reply) w m = (key.clients ≤ place)
+    × (get_elem? w.mailboxes client ≡ some (in_hand place request))
+    × IsRightAt key.base w.history m.version request reply
 Can key (collect place request reply) w m = get_elem? w.mailboxes place ≡ some (answered request reply)
 
 abbrev pub Enabled : Terms → Event → World → Type 0
@@ -212,7 +250,9 @@ deed_of key commits event = record { event = name_of key event; reply = reply_of
 -- what the member at a place did in these events, in order
 abbrev pub deeds : Terms → ℕ → List Event → List Deed
 deeds key place [] = []
-deeds key place (event ∷ before) = if actor event == place then deeds key place before ++ deed_of key (commits_in before) event ∷ [] else deeds key place before
+deeds key place (event ∷ before) =
+    if actor event == place then deeds key place before ++ deed_of key (commits_in before) event ∷ []
+    else deeds key place before
 
 -- what is true of each member
 pub record MemberKept (clients : ℕ) (history : List CommitRecord) (place : ℕ) (m : Member) : Type 0 where
@@ -224,13 +264,15 @@ pub record MemberKept (clients : ℕ) (history : List CommitRecord) (place : ℕ
 
 -- the member has no mark and no version below this floor
 abbrev pub IsAbove : ℕ → Member → Type 0
-IsAbove floor m = ((mark : ℕ) → m.mark ≡ Some mark → floor ≤ mark) × ((version : ℕ) → m.version ≡ Some version → floor ≤ version)
+IsAbove floor m = ((mark : ℕ) → m.mark ≡ Some mark → floor ≤ mark)
+    × ((version : ℕ) → m.version ≡ Some version → floor ≤ version)
 
 -- what is true of each mailbox
 abbrev pub MailKept : Tables → List CommitRecord → List Member → Mailbox → Type 0
 MailKept base history members empty = Unit {0}
 MailKept base history members (asked request) = request.floor ≤ length history
-MailKept base history members (in_hand place request) = (request.floor ≤ length history) × ((m : Member) → get_elem? members place ≡ some m → IsAbove request.floor m)
+MailKept base history members (in_hand place request) =
+    (request.floor ≤ length history) × ((m : Member) → get_elem? members place ≡ some m → IsAbove request.floor m)
 MailKept base history members (answered request reply) = IsRight base history request reply
 
 -- what is true of each world that events lead to
@@ -242,4 +284,5 @@ pub record Kept (key : Terms) (w : World) : Type 0 where
   pub held : (place : ℕ) → w.rows ≡ Some place → place < key.clients + key.dispatchers
   pub writer_held : (place : ℕ) → w.writer ≡ Some place → place < key.clients + key.dispatchers
   pub holder : (place : ℕ) (m : Member) → w.rows ≡ Some place → get_elem? w.members place ≡ some m → m.seen ≡ w.history
-  pub mail : (client : ℕ) (box : Mailbox) → get_elem? w.mailboxes client ≡ some box → MailKept key.base w.history w.members box
+  pub mail : (client : ℕ) (box : Mailbox) → get_elem? w.mailboxes client ≡ some box
+      → MailKept key.base w.history w.members box

@@ -6,11 +6,11 @@ ghost use Rattle.history.specs.Rule.{terms_of, IsElsewhere};
 ghost use Rattle.history.specs.Plays.{gathers, gave_back, hears, note_of, opened, posted, grabbed, without_writer};
 ghost use Rattle.history.specs.Seats.{Has, Carries, IsToken, IsTokenAt, IsClientAt, IsDispatcherAt, IsFree, AreAll, members_of, IsClosed, Takes, LooksAt, Adds, Becomes, turns, MayServe, Serves, Collects, TakesWriter, MayPutWriter};
 
+use crate::request::Request;
 use crate::rule::{
     Board, Collect, Gather, Grab, Hear, Look, OpenBox, Place, Post, PutRows, PutWriter, Serve,
     Tell, TryRows, TryWriter, Yield,
 };
-use crate::request::Request;
 use crate::view::SlotValue;
 use row_store::{Follower, RowStore};
 use ssb_queries::Answer;

@@ -59,9 +59,9 @@ invariant_of-pass g c = let is = c.pass.invariant in let p = c.pass.inside in le
 pub returns : goal.returns
 returns g c = let is = c.pass.invariant in let p = c.pass.inside in let place = c.args.client - 1 in let asked = c.requires.request.asked in
     let hand = in_hand p c.args.pass.now c.args.client asked c.pass.view_is is c.requires.request.held in let n = c.len.result - c.position-turns.result in record {
-  answers = subst (λ t. Answers t c.args.client c.args.answer (token (passed p c.remove.new.self c.turn_by-2.new.seat p.seen_len))) c.pass.view_is
-      (answered_token p c.remove.new.self c.turn_by-2.new.seat place c.args.client asked c.args.answer _ hand.number hand.has
+      answers = subst (λ t. Answers t c.args.client c.args.answer (token (passed p c.remove.new.self c.turn_by-2.new.seat p.seen_len))) c.pass.view_is
+          (answered_token p c.remove.new.self c.turn_by-2.new.seat place c.args.client asked c.args.answer _ hand.number hand.has
           (c.serve.ensures.1 asked (ap (λ m. request_at place m.0.grabbed) c.turn_by.ensures.2 ∙ hand.has))
           (c.turn_by-2.ensures.0 ∙ (c.serve.ensures.0.0 ∙ c.turn_by.ensures.0))
           (c.turn_by-2.ensures.2 ∙ ap (λ m. (m.0, turns n m.1)) (c.serve.ensures.0.2 ∙ ap (λ m. (served m.0 place c.args.answer, rest m.1)) c.turn_by.ensures.2)));
-}
+    }
