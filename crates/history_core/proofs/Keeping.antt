@@ -164,7 +164,7 @@ module _ (base : Tables) (clients : ℕ) (w : World) (k : WorldKept base clients
       of_dispatcher rows writer number (λ d. record d { seen = w.history })
       (marks_renewed w.dispatchers number (λ d. record d { seen = w.history }) (length w.history) (λ x m has. inl has))
       (λ d was.
-          record { seen = begins_with_itself w.history; marks = was.marks; marks_seen = was.marks; given = was.given })
+      record { seen = begins_with_itself w.history; marks = was.marks; marks_seen = was.marks; given = was.given })
 
   unmarks_later : (number : ℕ) → Later (renewed w.dispatchers number unmarked)
   unmarks_later number =

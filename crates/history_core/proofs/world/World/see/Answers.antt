@@ -11,7 +11,7 @@ pub invariant_of-self : goal.invariant_of-self
 invariant_of-self c =
     let now = c.see.ensures
     ∙ ap (λ n. renewed c.self.inside.clients c.in-Client.number (λ x. record x { seen = n }))
-        c.len-length.ensures.count in
+    c.len-length.ensures.count in
     record {
       base = c.self.invariant.base;
       clients =
@@ -26,7 +26,7 @@ pub returns-in-Client : goal.returns-in-Client
 returns-in-Client c =
     let now = c.see.ensures
     ∙ ap (λ n. renewed c.self.inside.clients c.in-Client.number (λ x. record x { seen = n }))
-        c.len-length.ensures.count in
+    c.len-length.ensures.count in
     let w : World = world_in c.self.inside in
     ap (λ l. record w { clients = l })
     (ap (map (client_in c.self.inside.store.log)) now

@@ -1,0 +1,81 @@
+//! A column of a dimension in codes.
+ghost use Rattle.std.specs.Prelude.{◌≡◌, ℕ, ◌+◌, ◌<◌, ◌^◌, List, [], map, length, slice_get, slice_index, IfOk, Some};
+ghost use Rattle.ssb_plans.specs.Queries.{number_of, text_of};
+ghost use Rattle.dim_index.specs.Codes.{distinct, codes_of};
+
+use crate::dictionary::Dictionary;
+use crate::row::DimensionRow;
+use ssb_queries::Value;
+use std::alloc::{AllocError, Global};
+use std::marker::Model;
+
+/// A column of a dimension: its distinct values, and the code of each row's value. Contracts see the values, row by row.
+#[derive(Drop)]
+pub struct CodedColumn {
+    dictionary: Dictionary,
+    codes: Vec<u32>,
+}
+
+impl Model for CodedColumn {
+    ghost use Rattle.std.specs.Prelude.{List};
+    ghost use Rattle.ssb_plans.specs.declared.value.Value.{Value as PlainValue};
+    ghost use Rattle.dim_index.specs.CodedColumns.{IsCoded, values_in};
+
+    ghost Value = { List PlainValue };
+
+    ghost view = { λ c. values_in c.dictionary c.codes.items };
+
+    ghost invariant = { λ c. IsCoded c.dictionary c.codes.items };
+}
+
+impl CodedColumn {
+    /// The column at a place of the rows.
+    pub(crate) fn of<T: DimensionRow>(
+        alloc: Global,
+        rows: &[T],
+        place: usize,
+    ) -> Result<CodedColumn, AllocError>
+        requires { length rows.now < 2 ^ 32 }
+        ensures { IfOk result (λ column. column ≡ map (T.value_of place) rows.now) }
+    {
+        let mut dictionary = Dictionary::new(alloc);
+        let mut codes = Vec::new(alloc);
+        codes.reserve(rows.len())?;
+        for row in rows {
+            let code = dictionary.enter(row.value(place))?;
+            codes.push(code)?;
+        }
+        Ok(CodedColumn { dictionary, codes })
+    }
+
+    /// A column of no rows.
+    pub(crate) fn none(alloc: Global) -> CodedColumn
+        ensures { result ≡ [] }
+    {
+        CodedColumn {
+            dictionary: Dictionary::new(alloc),
+            codes: Vec::new(alloc),
+        }
+    }
+
+    /// How many rows there are.
+    pub fn len(&self) -> usize
+        ensures { result ≡ length self.now }
+    {
+        self.codes.len()
+    }
+
+    /// The codes of the rows' values, by position.
+    pub fn codes(&self) -> &[u32]
+        ensures { result.now ≡ codes_of self.now }
+    {
+        self.codes.as_slice()
+    }
+
+    /// The distinct values, by code.
+    pub fn dictionary(&self) -> &Dictionary
+        ensures { result.now ≡ distinct self.now }
+    {
+        &self.dictionary
+    }
+}

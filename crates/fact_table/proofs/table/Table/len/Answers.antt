@@ -1,0 +1,8 @@
+use Rattle.std.proofs.Common.{rules, arith}
+use Rattle.fact_table.proofs.PlaceLists.{long}
+use Rattle.fact_table.proofs.table.Table.len.Goals as goal
+
+pub returns : goal.returns
+returns c =
+    let n = long c.self.inside c.args.self.now c.self.view_is in
+    search (rules, n)

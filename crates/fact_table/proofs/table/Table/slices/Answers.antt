@@ -1,0 +1,21 @@
+use Rattle.std.proofs.Common.{refl, ◌≡◌, ◌∙◌, ap, map, vec_len}
+use Rattle.fact_table.specs.declared.place.Place.{Place}
+use Rattle.fact_table.specs.Columns.{Held, place_at}
+use Rattle.fact_table.proofs.PlaceLists.{alike_long, column_of}
+use Rattle.fact_table.proofs.table.Table.slices.Goals as goal
+
+pub returns : goal.returns
+returns c =
+    let t = c.self.inside in
+    let all = alike_long t c.self.invariant in
+    let f = place_at t.order.items t.customer.items t.supplier.items t.part.items t.date.items t.terms.items t.price.items t.revenue.items t.cost.items in
+    record {
+      customers = c.as_slice.ensures.value ∙ column_of (λ place. place.customer) f t.customer.items (vec_len t.order) all.customer_len (λ i. refl) ∙ ap (λ (h : Held). map (λ (place : Place). place.customer) h.places) c.self.view_is;
+      suppliers = c.as_slice-2.ensures.value ∙ column_of (λ place. place.supplier) f t.supplier.items (vec_len t.order) all.supplier_len (λ i. refl) ∙ ap (λ (h : Held). map (λ (place : Place). place.supplier) h.places) c.self.view_is;
+      parts = c.as_slice-3.ensures.value ∙ column_of (λ place. place.part) f t.part.items (vec_len t.order) all.part_len (λ i. refl) ∙ ap (λ (h : Held). map (λ (place : Place). place.part) h.places) c.self.view_is;
+      dates = c.as_slice-4.ensures.value ∙ column_of (λ place. place.date) f t.date.items (vec_len t.order) all.date_len (λ i. refl) ∙ ap (λ (h : Held). map (λ (place : Place). place.date) h.places) c.self.view_is;
+      terms = c.as_slice-5.ensures.value ∙ column_of (λ place. place.terms) f t.terms.items (vec_len t.order) all.terms_len (λ i. refl) ∙ ap (λ (h : Held). map (λ (place : Place). place.terms) h.places) c.self.view_is;
+      prices = c.as_slice-6.ensures.value ∙ column_of (λ place. place.price) f t.price.items (vec_len t.order) all.price_len (λ i. refl) ∙ ap (λ (h : Held). map (λ (place : Place). place.price) h.places) c.self.view_is;
+      revenues = c.as_slice-7.ensures.value ∙ column_of (λ place. place.revenue) f t.revenue.items (vec_len t.order) all.revenue_len (λ i. refl) ∙ ap (λ (h : Held). map (λ (place : Place). place.revenue) h.places) c.self.view_is;
+      costs = c.as_slice-8.ensures.value ∙ column_of (λ place. place.cost) f t.cost.items (vec_len t.order) all.cost_len (λ i. refl) ∙ ap (λ (h : Held). map (λ (place : Place). place.cost) h.places) c.self.view_is;
+    }
