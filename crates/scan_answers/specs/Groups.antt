@@ -65,12 +65,15 @@ group_values columns number = values_of columns (codes_of (counts_of columns) nu
 
 -- a value has one code
 abbrev pub AreApart : List Value → Type 0
-AreApart values = (i j : ℕ) → i < length values → j < length values → slice_index_or values i (Number 0) ≡ slice_index_or values j (Number 0) → i ≡ j
+AreApart values =
+    (i j : ℕ) → i < length values → j < length values
+        → slice_index_or values i (Number 0) ≡ slice_index_or values j (Number 0) → i ≡ j
 
 -- groups of different numbers are different
 abbrev pub GroupsAreApart : Type 0
 GroupsAreApart =
-    (columns : List (List Value)) → AllByRecursion AreApart columns → (g h : ℕ) → g < size_of (counts_of columns) → h < size_of (counts_of columns) → group_values columns g ≡ group_values columns h → g ≡ h
+    (columns : List (List Value)) → AllByRecursion AreApart columns → (g h : ℕ) → g < size_of (counts_of columns)
+        → h < size_of (counts_of columns) → group_values columns g ≡ group_values columns h → g ≡ h
 
 -- the code of a value: its place in the column's list
 abbrev pub code_in : List Value → Value → ℕ
@@ -81,7 +84,8 @@ abbrev pub ListValues : List Column → List (List Value) → Combination → Ty
 ListValues [] [] c = Unit {0}
 ListValues [] (values ∷ columns) c = ⊥
 ListValues (column ∷ groups) [] c = ⊥
-ListValues (column ∷ groups) (values ∷ columns) c = (slice_get values (code_in values (value_at column c)) ≡ Some (value_at column c)) × ListValues groups columns c
+ListValues (column ∷ groups) (values ∷ columns) c =
+    (slice_get values (code_in values (value_at column c)) ≡ Some (value_at column c)) × ListValues groups columns c
 
 -- the combination's code in each group column
 abbrev pub group_codes : List Column → List (List Value) → Combination → List ℕ
@@ -97,4 +101,5 @@ group_number groups columns c = number_of (counts_of columns) (group_codes group
 abbrev pub CodesNumberGroups : Type 0
 CodesNumberGroups =
     (plan : Plan) (columns : List (List Value)) (c : Combination) → ListValues plan.groups columns c
-    → (group_number plan.groups columns c < size_of (counts_of columns)) × (group_values columns (group_number plan.groups columns c) ≡ group_of plan c)
+    → (group_number plan.groups columns c < size_of (counts_of columns))
+        × (group_values columns (group_number plan.groups columns c) ≡ group_of plan c)

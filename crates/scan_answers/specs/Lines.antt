@@ -13,7 +13,8 @@ use Rattle.scan_answers.specs.Dense.{numbered, total}
 
 -- the lines that pass and have the number
 abbrev pub takes : Plan → Combination → Dimensions → (Combination → ℕ) → ℕ → Fact → Bool
-takes plan blank dimensions number g fact = passes_line plan blank dimensions fact && nat_eq (number (combine blank dimensions fact)) g
+takes plan blank dimensions number g fact =
+    passes_line plan blank dimensions fact && nat_eq (number (combine blank dimensions fact)) g
 
 abbrev pub price_times_discount : Fact → ℕ
 price_times_discount fact = fact.price * fact.discount
@@ -33,5 +34,7 @@ pub record AreOfLines (found : List Combination) (facts : List Fact) : Type 0 wh
 
 abbrev pub GroupsAreOfLines : Type 0
 GroupsAreOfLines =
-    (blank : Combination) (plan : Plan) (base : Tables) (lines : List LineFields) (number : Combination → ℕ) (g : ℕ) → IsSound base → All (IsKnown base.dimensions) lines
-    → AreOfLines (numbered number g (combinations plan base.dimensions (facts_of lines))) (filter (takes plan blank base.dimensions number g) (facts_of lines))
+    (blank : Combination) (plan : Plan) (base : Tables) (lines : List LineFields) (number : Combination → ℕ) (g : ℕ)
+        → IsSound base → All (IsKnown base.dimensions) lines
+    → AreOfLines (numbered number g (combinations plan base.dimensions (facts_of lines)))
+        (filter (takes plan blank base.dimensions number g) (facts_of lines))

@@ -8,7 +8,8 @@ use Rattle.ssb_queries.specs.Combination.{Combination, passes, is_in_ranges}
 
 -- bit k is set where plan k passes
 abbrev pub IsMask : (Plan → Bool) → List Plan → ℕ → Type 0
-IsMask test plans mask = (k : ℕ) (plan : Plan) → slice_get plans k ≡ Some plan → bit_at mask k ≡ (if test plan then 1 else 0)
+IsMask test plans mask =
+    (k : ℕ) (plan : Plan) → slice_get plans k ≡ Some plan → bit_at mask k ≡ (if test plan then 1 else 0)
 
 -- masks of a row of each dimension and of the line's own numbers make the mask of the combination
 abbrev pub MasksCombine : Type 0
@@ -19,4 +20,5 @@ MasksCombine =
     → IsMask (λ plan. pass plan.suppliers (λ place. supplier_value place c.supplier)) plans suppliers
     → IsMask (λ plan. pass plan.parts (λ place. part_value place c.part)) plans parts
     → IsMask (λ plan. pass plan.dates (λ place. date_value place c.date)) plans dates
-    → IsMask (λ plan. passes plan c) plans (bit_and (bit_and (bit_and (bit_and numbers customers) suppliers) parts) dates)
+    → IsMask (λ plan. passes plan c) plans
+        (bit_and (bit_and (bit_and (bit_and numbers customers) suppliers) parts) dates)

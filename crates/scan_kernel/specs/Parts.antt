@@ -10,7 +10,8 @@ bound count size part = min (part * size) count
 
 -- the places of a part
 abbrev pub part_places : ℕ → ℕ → ℕ → List ℕ
-part_places count size part = range_with_len (bound count size part) (bound count size (part + 1) - bound count size part)
+part_places count size part =
+    range_with_len (bound count size part) (bound count size (part + 1) - bound count size part)
 
 -- the totals of two lists of places together
 pub record MergesTotals (left right new : Totals) : Type 0 where
@@ -19,4 +20,6 @@ pub record MergesTotals (left right new : Totals) : Type 0 where
   pub losses_are : Merges left.losses.items right.losses.items new.losses.items
 
 abbrev pub MergesBatch : ℕ → List Totals → List Totals → List Totals → Type 0
-MergesBatch count left right new = (k : ℕ) (r t : Totals) → k < count → MergesTotals (slice_index_or left k t) (slice_index_or right k r) (slice_index_or new k t)
+MergesBatch count left right new =
+    (k : ℕ) (r t : Totals) → k < count
+        → MergesTotals (slice_index_or left k t) (slice_index_or right k r) (slice_index_or new k t)

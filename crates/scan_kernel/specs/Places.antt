@@ -45,16 +45,19 @@ pub record CanSearch (lines : LineColumns) (masks : Masks) : Type 0 where
   pub terms : All (λ term. term < length masks.terms) lines.terms.now
 
 -- the first `count` places are those from `from` up to `to` that some question takes, in order, with their masks
-pub record IsSearch (lines : LineColumns) (masks : Masks) (from to count : ℕ) (old_places places old_found found : List ℕ) : Type 0 where
+pub record IsSearch (lines : LineColumns) (masks : Masks) (from to count : ℕ)
+    (old_places places old_found found : List ℕ) : Type 0 where
   pub room : length places ≡ length old_places
   pub marks : length found ≡ length old_found
   pub within : count ≤ length places
-  pub are_found : take count places ≡ filter (λ place. nat_lt 0 (mask_at lines masks place)) (range_with_len from (to - from))
+  pub are_found : take count places ≡ filter (λ place. nat_lt 0 (mask_at lines masks place))
+      (range_with_len from (to - from))
   pub have_masks : take count found ≡ map (mask_at lines masks) (take count places)
 
 -- what the group column adds to the number of the group of the line at a place
 abbrev pub part_at : ℕ → GroupColumn → ℕ
-part_at place column = slice_index column.parts.now (slice_index column.codes.now (slice_index column.positions.now place))
+part_at place column =
+    slice_index column.parts.now (slice_index column.codes.now (slice_index column.positions.now place))
 
 -- the number of the group of the line at a place
 abbrev pub group_at : List GroupColumn → ℕ → ℕ

@@ -9,7 +9,8 @@ sum_in amount group g places = sum_by amount (filter (λ place. nat_eq (group pl
 -- each group's number has grown by its sum over the places, modulo 2^64
 pub record Adds (amount : ℕ → ℕ) (group : ℕ → ℕ) (places old new : List ℕ) : Type 0 where
   pub len : length new ≡ length old
-  pub each : (g : ℕ) → g < length old → slice_index new g % 2 ^ 64 ≡ (slice_index old g + sum_in amount group g places) % 2 ^ 64
+  pub each : (g : ℕ) → g < length old
+      → slice_index new g % 2 ^ 64 ≡ (slice_index old g + sum_in amount group g places) % 2 ^ 64
 
 -- the sums of two lists, number by number, modulo 2^64
 pub record Merges (xs ys zs : List ℕ) : Type 0 where
