@@ -1,10 +1,9 @@
 -- The distinct values of a list, and their codes.
-use Rattle.std.proofs.Common.{◌≡◌, ℕ, ◌+◌, ◌<◌, ◌≤◌, Bool, true, false, cond, not, List, [], ◌∷◌, ◌++◌, length, map, take, get_or, Option, Some, None, zero, suc, sym, refl, ap, ◌∙◌, arith, subst, unwrap_or, length-append}
+use Rattle.std.proofs.Common.{◌≡◌, ℕ, ◌+◌, ◌<◌, ◌≤◌, Bool, true, false, cond, not, List, [], ◌∷◌, ◌++◌, length, map, take, get_or, Some, None, zero, suc, sym, refl, ap, ◌∙◌, arith, subst, unwrap_or, length-append}
 use Rattle.std.specs.Prelude.{◌||◌, nat_lt}
-use Rattle.std.specs.List.{filter, list_any, position, position_or_len, slice_get, All}
+use Rattle.std.specs.List.{filter, list_any, position_or_len, slice_get, All}
 use Rattle.std.proofs.lemmas.List.{get_or-map, get_or_append_left, length-map, map-append, append-nil, take_more}
 use Rattle.std.proofs.lemmas.List.Elements.{filter-append, All-filter, All-push}
-use Rattle.std.proofs.lemmas.List.Folds.{list_any-append}
 use Rattle.std.proofs.lemmas.List.Sums.{position_or_len_is}
 use Rattle.std.proofs.lemmas.Bool.{lt-ltb}
 use Rattle.std.proofs.Math.Seq.{take-length}

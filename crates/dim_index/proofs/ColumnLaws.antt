@@ -1,5 +1,5 @@
 -- The columns that no query reads have the number 0 in every row.
-use Rattle.std.proofs.Common.{◌≡◌, ℕ, Bool, false, cond, List, map, refl, sym, ap, ◌∙◌, eqb}
+use Rattle.std.proofs.Common.{◌≡◌, Bool, false, cond, map, sym, ap, ◌∙◌, eqb}
 use Rattle.std.proofs.lemmas.Bool.{ne_eqb}
 use Rattle.ssb_schema.specs.declared.table.Table.TheVariants as table
 use Rattle.ssb_schema.specs.declared.customer.CustomerFields.{CustomerFields}

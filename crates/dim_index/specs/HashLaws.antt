@@ -1,5 +1,5 @@
 -- Values that are the same are hashed alike.
-use Rattle.std.specs.Prelude.{◌≡◌, true, IsTrue}
+use Rattle.std.specs.Prelude.{◌≡◌, IsTrue}
 use Rattle.std.proofs.Common.{ap}
 use Rattle.ssb_plans.specs.declared.value.Value.{Value}
 use Rattle.ssb_plans.proofs.ValueLemmas.{value_Decides}

@@ -9,7 +9,8 @@ use ssb_queries::Value;
 use std::alloc::{AllocError, Global};
 use std::marker::Model;
 
-/// A column of a dimension: its distinct values, and the code of each row's value. Contracts see the values, row by row.
+/// A column of a dimension: its distinct values, and the code of each row's value. Contracts see the values, row by
+/// row.
 #[derive(Drop)]
 pub struct CodedColumn {
     dictionary: Dictionary,

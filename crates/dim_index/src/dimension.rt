@@ -14,8 +14,8 @@ pub struct PlacedColumn {
     pub column: CodedColumn,
 }
 
-/// The columns of a dimension that queries read: at most four. Each other column reads as the number 0, so one stands for
-/// all of them.
+/// The columns of a dimension that queries read: at most four. Each other column reads as the number 0, so one stands
+/// for all of them.
 #[derive(Drop)]
 pub struct Dimension {
     pub first: PlacedColumn,

@@ -100,7 +100,6 @@ fn dates(alloc: Global, base: &Base) -> Result<Dimension, AllocError>
 
 impl DimIndex {
     /// The index of a base.
-    #[tactic(none)]
     pub fn new(alloc: Global, base: Arc<Base>) -> Result<DimIndex, AllocError>
         ensures { IfOk result (λ index. index ≡ base.value) }
     {
@@ -153,8 +152,8 @@ impl DimIndex {
         }
     }
 
-    /// A column of a dimension in codes. A column that no query reads has the number 0 in every row; one of the fact table
-    /// has no rows.
+    /// A column of a dimension in codes. A column that no query reads has the number 0 in every row; one of the fact
+    /// table has no rows.
     pub fn column(&self, column: Column) -> &CodedColumn
         ensures { result.now ≡ values_of self.now column }
     {

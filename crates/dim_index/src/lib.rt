@@ -1,8 +1,9 @@
 //! The dimensions of the warehouse made ready for the scan: rows by position, columns in codes, bitmaps of tests.
 //!
-//! The columnar replica keeps a line's customer, supplier, part and date as positions in the lists of the dimensions, and
-//! `DimIndex::position` finds the position of a key. Each column that queries test or group by stands as one list of codes
-//! by position, which all queries share: equal values have equal codes, which count from 0 in the order of first sight.
+//! The columnar replica keeps a line's customer, supplier, part and date as positions in the lists of the
+//! dimensions, and `DimIndex::position` finds the position of a key. Each column that queries test or group by stands
+//! as one list of codes by position, which all queries share: equal values have equal codes, which count from 0 in the
+//! order of first sight.
 //!
 //! ```text
 //!   city by position:   LIMA  OSLO  LIMA  ROME        dictionary:  0 LIMA   1 OSLO   2 ROME
@@ -26,8 +27,6 @@ mod dictionary;
 mod dimension;
 mod index;
 mod row;
-#[cfg(test)]
-mod tests;
 
 pub use bitmap::Bitmap;
 pub use coded::CodedColumn;

@@ -1,11 +1,8 @@
 -- A filter over all places, and one over the live ones.
 use Rattle.std.proofs.Common.{◌≡◌, Bool, true, false, cond, List, [], ◌∷◌, map, refl, sym, ap, ◌∙◌}
-use Rattle.std.specs.Prelude.{◌&&◌, not}
+use Rattle.std.specs.Prelude.{◌&&◌}
 use Rattle.std.specs.List.{filter}
-use Rattle.ssb_schema.specs.declared.fact.Fact.{Fact}
-use Rattle.ssb_schema.specs.Base.{Dimensions}
-use Rattle.fact_table.specs.declared.place.Place.{Place}
-use Rattle.fact_table.specs.Places.{is_live, fact_at, live_facts}
+use Rattle.fact_table.specs.Places.{is_live, fact_at}
 use Rattle.fact_table.specs.Filters.{FreePlacesDropOut, LiveFactsThatPass}
 
 -- by the tests at the first element: it stays in both, or in neither

@@ -1,4 +1,4 @@
-use Rattle.std.proofs.Common.{◌∙◌, ◌++◌, ◌∷◌, [], ap, sym, Bool}
+use Rattle.std.proofs.Common.{◌∙◌, ◌++◌, ◌∷◌, [], ap, sym}
 use Rattle.std.proofs.lemmas.List.{map_more}
 use Rattle.ssb_queries.specs.RowValues.{pass}
 use Rattle.dim_index.proofs.index.bits.Goals as goal

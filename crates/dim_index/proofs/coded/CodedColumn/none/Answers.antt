@@ -1,4 +1,3 @@
-use Rattle.std.proofs.Common.{arith}
 use Rattle.dim_index.proofs.CodeLaws.{coded_nothing}
 use Rattle.dim_index.proofs.coded.CodedColumn.none.Goals as goal
 

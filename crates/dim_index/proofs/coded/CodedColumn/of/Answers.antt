@@ -2,7 +2,7 @@ use Rattle.std.proofs.Common.{arith, ◌≡◌, ◌∙◌, sym, ap, map, length,
 use Rattle.std.proofs.lemmas.List.{get_or-map, length-map}
 use Rattle.ssb_plans.specs.Cond.{column_value}
 use Rattle.ssb_plans.specs.declared.value.Value.{Value}
-use Rattle.dim_index.proofs.CodeLaws.{coded_none, coded_more, coded_all}
+use Rattle.dim_index.proofs.CodeLaws.{coded_none, coded_more}
 use Rattle.dim_index.proofs.coded.CodedColumn.of.Goals as goal
 
 pub loop-row-init : goal.loop-row-init

@@ -1,7 +1,6 @@
 use Rattle.std.proofs.Common.{◌≡◌, ◌∙◌, ap, sym, subst, List, map}
 use Rattle.std.specs.Prelude.{IfOk}
 use Rattle.ssb_schema.specs.declared.table.Table.{Table}
-use Rattle.ssb_schema.specs.declared.table.Table.TheVariants as table
 use Rattle.ssb_schema.specs.declared.customer.CustomerFields.{CustomerFields}
 use Rattle.ssb_schema.specs.declared.supplier.SupplierFields.{SupplierFields}
 use Rattle.ssb_schema.specs.declared.part.PartFields.{PartFields}

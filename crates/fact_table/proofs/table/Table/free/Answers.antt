@@ -1,4 +1,4 @@
-use Rattle.std.proofs.Common.{arith, ◌<◌, ◌≡◌, ◌∙◌, ap, set, vec_len, get_or}
+use Rattle.std.proofs.Common.{arith, ◌<◌, ◌∙◌, ap, set, vec_len}
 use Rattle.fact_table.specs.declared.place.Place.{Place}
 use Rattle.fact_table.specs.Places.{freed}
 use Rattle.fact_table.specs.Columns.{Held, place_at}

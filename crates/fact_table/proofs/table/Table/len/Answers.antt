@@ -1,4 +1,4 @@
-use Rattle.std.proofs.Common.{rules, arith}
+use Rattle.std.proofs.Common.{rules}
 use Rattle.fact_table.proofs.PlaceLists.{long}
 use Rattle.fact_table.proofs.table.Table.len.Goals as goal
 

@@ -1,4 +1,4 @@
-use Rattle.std.proofs.Common.{arith, ◌≡◌, ◌+◌, ◌++◌, [], ◌∷◌, ◌∙◌, ap, map, vec_len}
+use Rattle.std.proofs.Common.{◌≡◌, ◌+◌, ◌++◌, [], ◌∷◌, ◌∙◌, ap, map, vec_len}
 use Rattle.std.specs.List.{range_with_len}
 use Rattle.fact_table.specs.Columns.{Held, place_at}
 use Rattle.fact_table.proofs.PlaceLists.{alike_long, push_places}
