@@ -67,13 +67,13 @@ group_values columns number = values_of columns (codes_of (counts_of columns) nu
 abbrev pub AreApart : List Value → Type 0
 AreApart values =
     (i j : ℕ) → i < length values → j < length values
-        → slice_index_or values i (Number 0) ≡ slice_index_or values j (Number 0) → i ≡ j
+    → slice_index_or values i (Number 0) ≡ slice_index_or values j (Number 0) → i ≡ j
 
 -- groups of different numbers are different
 abbrev pub GroupsAreApart : Type 0
 GroupsAreApart =
     (columns : List (List Value)) → AllByRecursion AreApart columns → (g h : ℕ) → g < size_of (counts_of columns)
-        → h < size_of (counts_of columns) → group_values columns g ≡ group_values columns h → g ≡ h
+    → h < size_of (counts_of columns) → group_values columns g ≡ group_values columns h → g ≡ h
 
 -- the code of a value: its place in the column's list
 abbrev pub code_in : List Value → Value → ℕ
@@ -102,4 +102,4 @@ abbrev pub CodesNumberGroups : Type 0
 CodesNumberGroups =
     (plan : Plan) (columns : List (List Value)) (c : Combination) → ListValues plan.groups columns c
     → (group_number plan.groups columns c < size_of (counts_of columns))
-        × (group_values columns (group_number plan.groups columns c) ≡ group_of plan c)
+    × (group_values columns (group_number plan.groups columns c) ≡ group_of plan c)

@@ -35,6 +35,6 @@ pub record AreOfLines (found : List Combination) (facts : List Fact) : Type 0 wh
 abbrev pub GroupsAreOfLines : Type 0
 GroupsAreOfLines =
     (blank : Combination) (plan : Plan) (base : Tables) (lines : List LineFields) (number : Combination → ℕ) (g : ℕ)
-        → IsSound base → All (IsKnown base.dimensions) lines
+    → IsSound base → All (IsKnown base.dimensions) lines
     → AreOfLines (numbered number g (combinations plan base.dimensions (facts_of lines)))
-        (filter (takes plan blank base.dimensions number g) (facts_of lines))
+    (filter (takes plan blank base.dimensions number g) (facts_of lines))

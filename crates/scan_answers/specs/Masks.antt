@@ -21,4 +21,4 @@ MasksCombine =
     → IsMask (λ plan. pass plan.parts (λ place. part_value place c.part)) plans parts
     → IsMask (λ plan. pass plan.dates (λ place. date_value place c.date)) plans dates
     → IsMask (λ plan. passes plan c) plans
-        (bit_and (bit_and (bit_and (bit_and numbers customers) suppliers) parts) dates)
+    (bit_and (bit_and (bit_and (bit_and numbers customers) suppliers) parts) dates)

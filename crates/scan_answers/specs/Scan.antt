@@ -32,17 +32,17 @@ taken blank plan base lines number g = filter (takes plan blank base.dimensions 
 abbrev pub ScanMakesTotals : Type 0
 ScanMakesTotals =
     (blank : Combination) (plan : Plan) (base : Tables) (lines : List LineFields) (columns : List (List Value))
-        (count : ℕ → ℕ) (sum : ℕ → ℤ)
+    (count : ℕ → ℕ) (sum : ℕ → ℤ)
     → IsSound base → All (IsKnown base.dimensions) lines
     → AllByRecursion AreApart columns
     → ((c : Combination) → Has (combinations plan base.dimensions (facts_of lines)) c
-        → ListValues plan.groups columns c)
+    → ListValues plan.groups columns c)
     → ((g : ℕ) → g < size_of (counts_of columns)
-        → count g ≡ length (taken blank plan base lines (group_number plan.groups columns) g))
+    → count g ≡ length (taken blank plan base lines (group_number plan.groups columns) g))
     → ((g : ℕ) → g < size_of (counts_of columns)
-        → sum g ≡ line_sum plan.measure (taken blank plan base lines (group_number plan.groups columns) g))
+    → sum g ≡ line_sum plan.measure (taken blank plan base lines (group_number plan.groups columns) g))
     → AreDenseTotals plan (combinations plan base.dimensions (facts_of lines)) (group_number plan.groups columns)
-        (size_of (counts_of columns)) (group_values columns) count sum
+    (size_of (counts_of columns)) (group_values columns) count sum
 
 -- the rows answer the question over any lines of which these are the counts and sums
 abbrev pub AnswersLines : Query × List Value → List (List Value) → (ℕ → ℕ) → (ℕ → ℤ) → List ResultRow → Type 0
@@ -51,12 +51,12 @@ AnswersLines question columns count sum rows =
     → IsSound base → All (IsKnown base.dimensions) lines
     → AllByRecursion AreApart columns
     → ((c : Combination) → Has (combinations (plan_over question.0 question.1) base.dimensions (facts_of lines)) c
-        → ListValues (plan_over question.0 question.1).groups columns c)
+    → ListValues (plan_over question.0 question.1).groups columns c)
     → ((g : ℕ) → g < size_of (counts_of columns)
-        → count g ≡ length (taken blank (plan_over question.0 question.1) base lines
-        (group_number (plan_over question.0 question.1).groups columns) g))
+    → count g ≡ length (taken blank (plan_over question.0 question.1) base lines
+    (group_number (plan_over question.0 question.1).groups columns) g))
     → ((g : ℕ) → g < size_of (counts_of columns)
-        → sum g ≡ line_sum (plan_over question.0 question.1).measure
-        (taken blank (plan_over question.0 question.1) base lines
-        (group_number (plan_over question.0 question.1).groups columns) g))
+    → sum g ≡ line_sum (plan_over question.0 question.1).measure
+    (taken blank (plan_over question.0 question.1) base lines
+    (group_number (plan_over question.0 question.1).groups columns) g))
     → rows ≡ answer_of question base.dimensions (facts_of lines)

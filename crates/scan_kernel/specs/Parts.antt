@@ -22,4 +22,4 @@ pub record MergesTotals (left right new : Totals) : Type 0 where
 abbrev pub MergesBatch : ℕ → List Totals → List Totals → List Totals → Type 0
 MergesBatch count left right new =
     (k : ℕ) (r t : Totals) → k < count
-        → MergesTotals (slice_index_or left k t) (slice_index_or right k r) (slice_index_or new k t)
+    → MergesTotals (slice_index_or left k t) (slice_index_or right k r) (slice_index_or new k t)

@@ -28,7 +28,7 @@ taken lines masks k places = filter (has_bit lines masks k) places
 abbrev pub AreTotals : LineColumns → Masks → ℕ → Grouping → List ℕ → Totals → Type 0
 AreTotals lines masks k grouping places totals =
     AddsTo lines grouping (taken lines masks k places) (replicate grouping.size 0) (replicate grouping.size 0)
-        (replicate grouping.size 0) totals
+    (replicate grouping.size 0) totals
 
 -- question k can be summed: each line that it takes is of one of the groups
 pub record CanSum (lines : LineColumns) (masks : Masks) (k : ℕ) (grouping : Grouping) : Type 0 where
@@ -52,8 +52,8 @@ pub record HaveSizes (groupings : List Grouping) (totals : List Totals) : Type 0
 abbrev pub AddsBatch : LineColumns → Masks → List Grouping → List ℕ → List Totals → List Totals → Type 0
 AddsBatch lines masks groupings places old new =
     (k : ℕ) (grouping : Grouping) (t : Totals) → k < length groupings
-        → AddsPlaces lines (slice_index_or groupings k grouping) (taken lines masks k places)
-            (slice_index_or old k t) (slice_index_or new k t)
+    → AddsPlaces lines (slice_index_or groupings k grouping) (taken lines masks k places)
+    (slice_index_or old k t) (slice_index_or new k t)
 
 -- each question has its totals over the places
 pub record AreBatchTotals (lines : LineColumns) (masks : Masks) (groupings : List Grouping) (places : List ℕ)
