@@ -1,8 +1,7 @@
 -- The passes of a table of three clients and two dispatchers, as the tests use them.
-use Rattle.std.proofs.Common.{◌≡◌, ◌⊎◌, ℕ, zero, suc, ◌+◌, ◌<◌, ◌≤◌, ◌==◌, false, List, [], ◌∷◌, ◌++◌, map, length}
+use Rattle.std.proofs.Common.{◌≡◌, ℕ, zero, suc, ◌+◌, ◌<◌, ◌==◌, false, List, [], ◌∷◌, ◌++◌}
 use Rattle.std.proofs.Common.{true, None, Some, refl, ap, sym, subst, ◌∙◌, inl, inr, ⊎_elim, arith}
-use Rattle.std.specs.Prelude.{All, count_by, if◌then◌else◌, Result, Ok, Err, OnOk, OnErr}
-use Rattle.std.specs.List.{range_with_len}
+use Rattle.std.specs.Prelude.{All, count_by, Result, Ok, Err, OnOk, OnErr}
 use Rattle.std.proofs.lemmas.List.Elements.{All-nil, All-cons}
 use Rattle.std.proofs.lemmas.List.FromFn.{get_or-map-range_with_len, length-map-range_with_len}
 use Rattle.row_store.specs.History.{CommitRecord, Warehouse, with_commit}
@@ -21,9 +20,9 @@ use Rattle.history.specs.declared.request.Grabbed.{Grabbed}
 use Rattle.history.specs.Words.{store, request}
 use Rattle.std.proofs.lemmas.Bool.Decides.{nat_tests}
 use Rattle.history.specs.World.{number_of}
-use Rattle.history.specs.Tokens.{Hall, Token, new_token, new_clients, new_dispatchers, IsFree, Took, MayPut, Put, gave_back, committed}
+use Rattle.history.specs.Tokens.{Hall, Token, new_token, new_clients, new_dispatchers, Took, MayPut, Put, gave_back, committed}
 use Rattle.history.specs.Tokens.{request_of, without, Grabs, MayAnswer, Answers, Collected}
-use Rattle.history.specs.Closing.{AreNumbered, IsClientOf, IsDispatcherOf, AreClients, AreDispatchers}
+use Rattle.history.specs.Closing.{IsClientOf, IsDispatcherOf, AreClients, AreDispatchers}
 
 pub fresh_clients : (hall : Hall) → All (IsClientOf hall) (new_clients hall)
 fresh_clients hall k d low = let f : ℕ → Token = λ number. new_token hall (Client number) in let long = length-map-range_with_len f 1 hall.clients in

@@ -1,4 +1,4 @@
-use Rattle.std.proofs.Common.{◌≡◌, ap, ◌∙◌}
+use Rattle.std.proofs.Common.{ap, ◌∙◌}
 use Rattle.history.specs.Tokens.{Token}
 use Rattle.history.proofs.Tickets.{collected_rests}
 use Rattle.history.proofs.tests.await_answer.Goals as goal

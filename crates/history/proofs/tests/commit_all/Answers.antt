@@ -1,4 +1,4 @@
-use Rattle.std.proofs.Common.{◌≡◌, sym, ◌∙◌}
+use Rattle.std.proofs.Common.{sym, ◌∙◌}
 use Rattle.history.proofs.Tickets.{refreshed}
 use Rattle.history.proofs.tests.commit_all.Goals as goal
 

@@ -1,4 +1,4 @@
-use Rattle.std.proofs.Common.{◌≡◌, sym, subst}
+use Rattle.std.proofs.Common.{sym, subst}
 use Rattle.std.specs.Prelude.{All}
 use Rattle.history.specs.Closing.{IsClientOf, IsDispatcherOf}
 use Rattle.history.proofs.Tickets.{fresh_clients, fresh_dispatchers}
