@@ -12,3 +12,4 @@ pub mod Handing
 pub mod Passing
 pub mod Answering
 pub mod Link
+pub mod Tickets
