@@ -1,0 +1,3 @@
+pub mod FactCounts
+pub mod PlaceLaws
+pub mod CodingLaws
