@@ -1,11 +1,11 @@
 -- What a write, a new place and a withdrawal do to the live lines.
-use Rattle.std.proofs.Common.{◌≡◌, ◌≢◌, ℕ, ◌+◌, ◌-◌, ◌<◌, ◌≤◌, Bool, true, false, cond, not, eqb, List, [], ◌∷◌, ◌++◌, length, map, fold, take, Option, Some, None, slice_get, sym, refl, ap, ◌∙◌, subst, arith, zero, suc, set, get_or, length-append, inl, inr, ⊎_elim, ◌⊎◌}
+use Rattle.std.proofs.Common.{◌≡◌, ◌≢◌, ℕ, ◌+◌, ◌-◌, ◌<◌, ◌≤◌, Bool, true, false, cond, not, eqb, List, [], ◌∷◌, ◌++◌, length, map, fold, take, Option, Some, None, sym, refl, ap, ◌∙◌, subst, arith, zero, suc, set, get_or, length-append, inl, inr, ⊎_elim, ◌⊎◌}
 use Rattle.std.specs.List.{filter, All}
 use Rattle.std.specs.FinMap as finite
 use Rattle.std.proofs.lemmas.List.{map-append, get_or_default, take_more}
 use Rattle.std.proofs.lemmas.List.Sums.{fold-append}
 use Rattle.std.proofs.lemmas.List.Elements.{filter-append}
-use Rattle.std.proofs.lemmas.Bool.{eqb-true, eqb-false, eq-eqb, ne_eqb}
+use Rattle.std.proofs.lemmas.Bool.{eqb-true, eq-eqb}
 use Rattle.std.proofs.lemmas.Option.{same_Some, cond_some}
 use Rattle.std.specs.Option.{option_map, option_eq}
 use Rattle.ssb_schema.specs.Base.{Dimensions}
@@ -14,10 +14,11 @@ use Rattle.ssb_schema.specs.declared.refresh.Action.TheVariants.{Withdraw}
 use Rattle.row_store.specs.State.{Counts, with_fact, fact_counts, counts_after_action}
 use Rattle.fact_table.specs.declared.place.Place.{Place}
 use Rattle.fact_table.specs.Places.{is_live, freed, fact_at, live_facts, IsWithin}
-use Rattle.fact_columns.specs.Spans.{if_live, live_in, live_at, live_count, kept, is_of_other, Covers, Spanned}
+use Rattle.fact_columns.specs.Spans.{if_live, live_at, live_count, kept, is_of_other, Covers, Spanned}
 use Rattle.fact_columns.specs.Coded.{counts_at, with_places}
 use Rattle.fact_columns.specs.declared.span.Span.{Span}
-use Rattle.fact_columns.proofs.FactCounts.{counted_last, counts_without_order}
+use Rattle.row_store.proofs.FactCounts.{counted_last}
+use Rattle.fact_columns.proofs.FactCounts.{counts_without_order}
 
 abbrev lives : List Place → List Place
 lives places = filter is_live places
@@ -96,6 +97,15 @@ count_written (first ∷ places) (suc place) line within free live =
     ap length (live_front first (set places place line))
     ∙ length_front (if_live first) (lives (set places place line)) (lives places) (count_written places place line (omega (arith, within)) free live)
     ∙ ap (λ ls. length ls + 1) (sym (live_front first places))
+
+cond_length : (b : Bool) (line : Place) (lines : List Place) (n : ℕ) → length lines ≤ n → length (cond b (line ∷ lines) lines) ≤ suc n
+cond_length true line lines n few = omega (arith, few)
+cond_length false line lines n few = omega (arith, few)
+
+-- no more lines are live than there are places
+pub live_few : (places : List Place) → live_count places ≤ length places
+live_few [] = omega arith
+live_few (first ∷ places) = cond_length (is_live first) first (lives places) (length places) (live_few places)
 
 -- a freed place
 freed_dead : (line : Place) → if_live (freed line) ≡ None
@@ -240,12 +250,12 @@ spanned_put f g places later first key lines mine alike below above own grows ea
     (λ lt. grows found.order place (each place found (sym (below place lt) ∙ is)))
     (λ from. ⊎_elim
     (λ within.
-        let i : ℕ = place - first in
-        let here : first + i ≡ place = omega (arith, from) in
-        let inside : i < length lines = omega (arith, from, within) in
-        let line : get_or lines i found ≡ found = same_Some _ found (sym (mine i found inside) ∙ ap (live_at later) here ∙ is) in
-        let same : found.order ≡ key = sym (ap (λ (p : Place). p.order) line) ∙ alike i found inside in
-        subst (λ k. Covers (g k) place) (sym same) (own place from within))
+    let i : ℕ = place - first in
+    let here : first + i ≡ place = omega (arith, from) in
+    let inside : i < length lines = omega (arith, from, within) in
+    let line : get_or lines i found ≡ found = same_Some _ found (sym (mine i found inside) ∙ ap (live_at later) here ∙ is) in
+    let same : found.order ≡ key = sym (ap (λ (p : Place). p.order) line) ∙ alike i found inside in
+    subst (λ k. Covers (g k) place) (sym same) (own place from within))
     (λ past. grows found.order place (each place found (sym (above place past) ∙ is)))
     (order place (first + length lines)))
     (order place first)
@@ -258,8 +268,8 @@ mine_more places later first i lines d within here others mine k o lt =
     ⊎_elim
     (λ below. others (first + k) (λ e. omega (arith, below, e)) ∙ mine k o below)
     (λ from.
-        let same : i ≡ k = omega (arith, from, lt) in
-        subst (λ j. live_at later (first + j) ≡ Some (get_or lines j o)) same (here ∙ ap Some (get_or_default lines i d o within)))
+    let same : i ≡ k = omega (arith, from, lt) in
+    subst (λ j. live_at later (first + j) ≡ Some (get_or lines j o)) same (here ∙ ap Some (get_or_default lines i d o within)))
     (order k i)
 
 pub with_more : (dimensions : Dimensions) (counts before after : Counts) (lines : List Place) (i : ℕ) (d : Place) → i < length lines → before ≡ with_places dimensions counts (take i lines)
@@ -276,8 +286,8 @@ gone_more key place before mid later done left here others k lt =
     ⊎_elim
     (λ below. others k (λ e. omega (arith, below, e)) ∙ done k below)
     (λ from.
-        let same : place ≡ k = omega (arith, from, lt) in
-        subst (λ j. live_at later j ≡ kept (is_of_other key) (live_at before j)) same (here ∙ ap (kept (is_of_other key)) (left place (omega arith))))
+    let same : place ≡ k = omega (arith, from, lt) in
+    subst (λ j. live_at later j ≡ kept (is_of_other key) (live_at before j)) same (here ∙ ap (kept (is_of_other key)) (left place (omega arith))))
     (order k place)
 
 pub is_of_key : (key : ℕ) (o : Option Place) → option_eq eqb (option_map (λ (line : Place). line.order) o) (Some key) ≡ true → option_map (λ (line : Place). line.order) o ≡ Some key

@@ -1,5 +1,5 @@
 -- What follows of columns that stand for a history.
-use Rattle.std.specs.Prelude.{◌≡◌, List, IsPermutation}
+use Rattle.std.specs.Prelude.{List, IsPermutation}
 use Rattle.ssb_schema.specs.Facts.{facts_of}
 use Rattle.row_store.specs.History.{CommitRecord, lines_after}
 use Rattle.row_store.specs.State.{StandsFor}

@@ -1,10 +1,10 @@
 -- What the columns hold, and what they stand for.
-use Rattle.std.specs.Prelude.{◌≡◌, ℕ, ◌<◌, ◌^◌, All, List, length, filter}
+use Rattle.std.specs.Prelude.{◌≡◌, ℕ, ◌<◌, ◌^◌, All, List, length}
 use Rattle.ssb_schema.specs.Base.{Tables}
 use Rattle.ssb_schema.specs.declared.fact.Fact.{Fact}
 use Rattle.row_store.specs.State.{State, fact_counts}
 use Rattle.fact_table.specs.declared.place.Place.{Place}
-use Rattle.fact_table.specs.Places.{IsWithin, is_live, live_facts}
+use Rattle.fact_table.specs.Places.{IsWithin, live_facts}
 
 -- the base, the number of commits taken in, the places, and the facts of the live ones
 pub record Stored : Type 0 where

@@ -1,16 +1,17 @@
 //! Lines in codes.
-ghost use Rattle.std.specs.Prelude.{◌≡◌, ◌++◌, ℕ, List, length, flat_map, IfOk, OnOk};
+ghost use Rattle.std.specs.Prelude.{◌++◌, List, flat_map, IfOk, OnOk};
 ghost use Rattle.ssb_schema.specs.declared.fact.Fact.{Fact as PlainFact};
 ghost use Rattle.ssb_schema.specs.Facts.{fact_of, facts_of};
 ghost use Rattle.row_store.specs.Lines.{added_by};
 ghost use Rattle.fact_columns.specs.Coded.{IsCodeOf, AreCodesOf};
 
+use crate::action::added;
 use dim_index::DimIndex;
 use fact_table::{Place, terms};
 use ssb_schema::{Action, Line, Table};
 use std::alloc::{AllocError, Global};
 
-// A line in codes; an error where the base lacks a row that it names.
+/// A line in codes; an error where the base lacks a row that it names.
 pub fn coded(index: &DimIndex, line: &Line) -> Result<Place, AllocError>
     ensures { IfOk result (IsCodeOf index.now.dimensions (fact_of line.now)) }
 {
@@ -50,18 +51,12 @@ fn code_lines(index: &DimIndex, lines: &[Line], fresh: &mut Vec<Place>) -> Resul
     Ok(())
 }
 
-/// The lines that an action adds.
-pub fn added(action: &Action) -> &[Line]
-    ensures { result.now ≡ added_by action.now }
-{
-    match action {
-        Action::Add(order) | Action::Amend(order) => order.lines(),
-        Action::Withdraw(_) => &[],
-    }
-}
-
 /// All lines that the actions add, in codes.
-pub fn coded_actions(alloc: Global, index: &DimIndex, actions: &[Action]) -> Result<Vec<Place>, AllocError>
+pub fn coded_actions(
+    alloc: Global,
+    index: &DimIndex,
+    actions: &[Action],
+) -> Result<Vec<Place>, AllocError>
     ensures { IfOk result (λ fresh. AreCodesOf index.now.dimensions (facts_of (flat_map added_by actions.now)) fresh.items) }
 {
     let mut fresh = Vec::new(alloc);

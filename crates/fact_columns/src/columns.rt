@@ -1,11 +1,9 @@
 //! The columns as a replica.
-ghost use Rattle.std.specs.Prelude.{◌≡◌, ◌+◌, ◌<◌, ℕ, [], List, All, length, slice_index_or, IfOk, MatchResult, OnOk, OnErr};
-ghost use Rattle.ssb_schema.specs.Base.{Tables};
+ghost use Rattle.std.specs.Prelude.{◌≡◌, ◌<◌, [], List, length, slice_index_or, IfOk, MatchResult, OnErr};
 ghost use Rattle.row_store.specs.History.{CommitRecord, lines_after};
 ghost use Rattle.row_store.specs.State.{StandsFor, state_of, state_after};
 ghost use Rattle.fact_table.specs.declared.place.Place.{Place as PlainPlace};
 ghost use Rattle.fact_table.specs.Columns.{AreColumnsOf};
-ghost use Rattle.fact_table.specs.Places.{is_live, quantity_in, discount_in};
 ghost use Rattle.fact_columns.specs.Stored.{Stored, IsRead, columns_state};
 
 use crate::coding::coded_actions;
@@ -50,7 +48,11 @@ impl Model for Columns {
 impl Columns {
     /// The loaded lines of the index's base, and no commits. Orders are found by their hashed keys: with a random
     /// `hashing`, as `RandomState::new(&rt)?`, no client can pick keys that collide.
-    pub fn new(alloc: Global, index: Arc<DimIndex>, hashing: RandomState) -> Result<Columns, AllocError>
+    pub fn new(
+        alloc: Global,
+        index: Arc<DimIndex>,
+        hashing: RandomState,
+    ) -> Result<Columns, AllocError>
         ensures { IfOk result (λ columns. columns_state columns ≡ state_of index.value []) }
     {
         let base = index.base();
@@ -131,7 +133,13 @@ impl Replica for Columns {
         self.table.reserve(fresh.len())?;
         self.spans.reserve(actions.len())?;
         self.hints.reserve(actions.len())?;
-        let freed = act_all(&mut self.table, &mut self.spans, &mut self.hints, actions, fresh.as_slice());
+        let freed = act_all(
+            &mut self.table,
+            &mut self.spans,
+            &mut self.hints,
+            actions,
+            fresh.as_slice(),
+        );
         self.rows = self.rows + fresh.len() - freed;
         self.commits = commits;
         Ok(())

@@ -22,6 +22,7 @@
 //! ```
 #![tactic(auto)]
 
+mod action;
 mod coding;
 mod columns;
 mod hints;

@@ -20,7 +20,6 @@ pub fn table_of(alloc: Global, index: &DimIndex, lines: &[Line]) -> Result<Table
     let mut table = Table::new(alloc);
     table.reserve(lines.len())?;
     for line in lines {
-        table.reserve(1)?;
         table.push(coded(index, line)?);
     }
     Ok(table)

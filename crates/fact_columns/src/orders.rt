@@ -8,9 +8,9 @@ ghost use Rattle.row_store.specs.Lines.{added_by};
 ghost use Rattle.row_store.specs.State.{counts_after_action};
 ghost use Rattle.fact_table.specs.Places.{is_live, IsWithin};
 ghost use Rattle.fact_columns.specs.Spans.{AreFree, Spanned, live_count};
-ghost use Rattle.fact_columns.specs.Coded.{AreCodesOf, counts_at, with_places};
+ghost use Rattle.fact_columns.specs.Coded.{AreCodesOf, counts_at, with_places, key_of};
 
-use crate::coding::added;
+use crate::action::added;
 use crate::hints::Hints;
 use crate::placing::{are_free, free_order, put_all};
 use crate::span::{Span, Spans, take_span, widen};
@@ -111,11 +111,18 @@ fn withdraw(table: &mut Table, spans: &mut Spans, hints: &mut Hints, key: u64) -
 }
 
 // Does what the action says; these are the lines that it adds, in codes. It answers how many lines went.
-fn act(table: &mut Table, spans: &mut Spans, hints: &mut Hints, action: &Action, lines: &[Place]) -> usize
+fn act(
+    table: &mut Table,
+    spans: &mut Spans,
+    hints: &mut Hints,
+    action: &Action,
+    lines: &[Place],
+) -> usize
     requires room { length lines.now ≤ table.old.room }
     requires small { length table.old.places + length lines.now < 2 ^ 32 }
     requires spare { 0 < spare spans.old }
     requires coded { (dimensions : Dimensions) × AreCodesOf dimensions (facts_of (added_by action.now)) lines.now }
+    requires alike { All (λ line. line.order_key ≡ key_of action.now) (added_by action.now) }
     requires spanned { Spanned (get nat_eq spans.old) table.old.places }
     ensures spanned { Spanned (get nat_eq spans.new) table.new.places }
     ensures counts { (dimensions : Dimensions) → AreCodesOf dimensions (facts_of (added_by action.now)) lines.now → counts_at dimensions table.new.places ≡ counts_after_action (counts_at dimensions table.old.places) action.now }
@@ -140,7 +147,13 @@ fn act(table: &mut Table, spans: &mut Spans, hints: &mut Hints, action: &Action,
 }
 
 /// Does what the actions say; these are the lines that they add, in codes. It answers how many lines went.
-pub fn act_all(table: &mut Table, spans: &mut Spans, hints: &mut Hints, actions: &[Action], fresh: &[Place]) -> usize
+pub fn act_all(
+    table: &mut Table,
+    spans: &mut Spans,
+    hints: &mut Hints,
+    actions: &[Action],
+    fresh: &[Place],
+) -> usize
     requires room { length fresh.now ≤ table.old.room }
     requires small { length table.old.places + length fresh.now < 2 ^ 32 }
     requires spare { length actions.now ≤ spare spans.old }

@@ -18,7 +18,11 @@ fn live_order(table: &Table, place: usize) -> Option<u64>
         return None;
     }
     let line = table.at(place);
-    if line.is_live() { Some(line.order) } else { None }
+    if line.is_live() {
+        Some(line.order)
+    } else {
+        None
+    }
 }
 
 /// Whether so many places from the first on are free or new, without a gap behind the last place.

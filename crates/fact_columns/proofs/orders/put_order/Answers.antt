@@ -1,4 +1,4 @@
-use Rattle.std.proofs.Common.{rules, nat_eq}
+use Rattle.std.proofs.Common.{nat_eq}
 use Rattle.std.specs.HashMap.{get}
 use Rattle.fact_columns.proofs.PlaceLaws.{spanned_put}
 use Rattle.fact_columns.proofs.orders.put_order.Goals as goal

@@ -1,4 +1,4 @@
-use Rattle.std.proofs.Common.{rules, nat_eq}
+use Rattle.std.proofs.Common.{nat_eq}
 use Rattle.std.specs.HashMap.{get}
 use Rattle.fact_columns.proofs.PlaceLaws.{covered, withdrawn, spanned_withdrawn}
 use Rattle.fact_columns.proofs.orders.take_order.Goals as goal

@@ -1,4 +1,4 @@
-use Rattle.std.proofs.Common.{arith, length, get_or}
+use Rattle.std.proofs.Common.{get_or}
 use Rattle.std.proofs.lemmas.List.{length-set}
 use Rattle.std.proofs.lemmas.List.Elements.{All-set}
 use Rattle.fact_table.specs.Places.{IsWithin, freed}
