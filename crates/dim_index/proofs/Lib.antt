@@ -1,3 +1,4 @@
 pub mod KeyLaws
 pub mod CodeLaws
 pub mod ColumnLaws
+pub mod BitLaws

@@ -1,5 +1,5 @@
 -- Which rows of a dimension pass tests, by the words that the meaning of queries uses.
-use Rattle.std.specs.Prelude.{Bool, List, [], map}
+use Rattle.std.specs.Prelude.{Bool, ◌&&◌, List, [], map, zip}
 use Rattle.ssb_schema.specs.declared.table.Table.{Table}
 use Rattle.ssb_schema.specs.declared.table.Table.TheVariants as table
 use Rattle.ssb_schema.specs.Base.{Tables}
@@ -13,3 +13,7 @@ bits_of base table.Supplier tests = map (λ row. pass tests (λ place. supplier_
 bits_of base table.Part tests = map (λ row. pass tests (λ place. part_value place row)) base.dimensions.parts
 bits_of base table.Date tests = map (λ row. pass tests (λ place. date_value place row)) base.dimensions.dates
 bits_of base table.Lineorder tests = []
+
+-- the rows that are left of some by one more test, told row by row
+abbrev pub narrowed : List Bool → List Bool → List Bool
+narrowed rows passes = map (λ row. row.0 && row.1) (zip rows passes)

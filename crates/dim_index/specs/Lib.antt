@@ -5,4 +5,4 @@ pub mod HashLaws
 pub mod CodedColumns
 pub mod Bitmaps
 pub mod Indexed
-pub mod Dimensions
+pub mod Kept

@@ -1,11 +1,13 @@
 //! A column of a dimension in codes.
-ghost use Rattle.std.specs.Prelude.{◌≡◌, ℕ, ◌+◌, ◌<◌, ◌^◌, List, [], map, length, slice_get, slice_index, IfOk, Some};
+ghost use Rattle.std.specs.Prelude.{◌≡◌, ℕ, ◌+◌, ◌<◌, ◌^◌, List, [], map, length, slice_get, slice_index, IfOk, OnOk, Some};
 ghost use Rattle.ssb_plans.specs.Queries.{number_of, text_of};
+ghost use Rattle.ssb_plans.specs.Cond.{holds};
 ghost use Rattle.dim_index.specs.Codes.{distinct, codes_of};
+ghost use Rattle.dim_index.specs.Bitmaps.{narrowed};
 
 use crate::dictionary::Dictionary;
 use crate::row::DimensionRow;
-use ssb_queries::Value;
+use ssb_queries::{Cond, Value};
 use std::alloc::{AllocError, Global};
 use std::marker::Model;
 
@@ -57,6 +59,23 @@ impl CodedColumn {
             dictionary: Dictionary::new(alloc),
             codes: Vec::new(alloc),
         }
+    }
+
+    /// Takes away the rows whose value a test does not hold of.
+    pub(crate) fn narrow(
+        &self,
+        alloc: Global,
+        cond: &Cond,
+        rows: &mut [bool],
+    ) -> Result<(), AllocError>
+        requires { length rows.old ≡ length self.now }
+        ensures { OnOk result (rows.new ≡ narrowed rows.old (map (holds cond.now) self.now)) }
+    {
+        let passes = self.dictionary.passing(alloc, cond)?;
+        for (row, code) in self.codes.iter().enumerate() {
+            rows[row] = passes[*code as usize] && rows[row];
+        }
+        Ok(())
     }
 
     /// How many rows there are.

@@ -1,15 +1,15 @@
 //! The distinct values of a column, each with its code.
-ghost use Rattle.std.specs.Prelude.{◌≡◌, ◌+◌, ◌<◌, ◌≤◌, ◌^◌, List, [], length, slice_get, slice_index_or, IfOk, OnOk, OnErr, Some};
+ghost use Rattle.std.specs.Prelude.{◌≡◌, ◌+◌, ◌<◌, ◌≤◌, ◌^◌, List, [], map, length, slice_get, slice_index_or, IfOk, OnOk, OnErr, Some};
 ghost use Rattle.std.specs.Hash as fed;
 ghost use Rattle.indexmap.specs.IndexSet.{insert_key};
 ghost use Rattle.ssb_plans.specs.declared.value.Value.{Value as PlainValue};
 ghost use Rattle.ssb_plans.specs.declared.value.Value.TheVariants as plain;
-ghost use Rattle.ssb_plans.specs.Cond.{column_value};
+ghost use Rattle.ssb_plans.specs.Cond.{column_value, holds};
 ghost use Rattle.ssb_plans.specs.Queries.{number_of, text_of};
 ghost use Rattle.dim_index.specs.Codes.{is_same, hash_input_of};
 
 use indexmap::IndexSet;
-use ssb_queries::{ColumnValue, Value};
+use ssb_queries::{ColumnValue, Cond, Value};
 use std::alloc::{AllocError, Global};
 use std::hash::{Hash, Hasher};
 use std::marker::Model;
@@ -78,6 +78,16 @@ impl Model for Dictionary {
     ghost view = { λ dictionary. dictionary.words.keys };
 }
 
+// A value as it stands in a row.
+fn lent(value: &Value) -> ColumnValue<'_>
+    ensures { column_value result ≡ value.now }
+{
+    match value {
+        Value::Text(text) => ColumnValue::Text(text),
+        Value::Number(number) => ColumnValue::Number(*number),
+    }
+}
+
 impl Dictionary {
     /// A dictionary of no values.
     pub fn new(alloc: Global) -> Dictionary
@@ -109,6 +119,17 @@ impl Dictionary {
             Ok((code, _)) => Ok(code as u32),
             Err(_) => Err(AllocError),
         }
+    }
+
+    /// Of each value, by code, whether a test holds of it.
+    pub(crate) fn passing(&self, alloc: Global, cond: &Cond) -> Result<Vec<bool>, AllocError>
+        ensures { IfOk result (λ passes. passes.items ≡ map (holds cond.now) self.now) }
+    {
+        let mut passes = Vec::with_capacity(alloc, self.len())?;
+        for word in self.words.as_slice() {
+            passes.push(cond.holds(lent(&word.value)))?;
+        }
+        Ok(passes)
     }
 
     /// The value of a code.

@@ -1,21 +1,17 @@
 //! The index of the dimensions.
-ghost use Rattle.std.specs.Prelude.{◌≡◌, ℕ, ◌<◌, ◌^◌, Some, IfOk, length, map, slice_get, slice_index};
+ghost use Rattle.std.specs.Prelude.{◌≡◌, ℕ, ◌<◌, ◌^◌, ◌++◌, Some, IfOk, OnOk, length, map, slice_get, slice_index};
 ghost use Rattle.ssb_plans.specs.Queries.{number_of, text_of};
-ghost use Rattle.ssb_queries.specs.RowValues.{pass};
-ghost use Rattle.ssb_schema.specs.declared.table.Table.TheVariants as table;
-ghost use Rattle.dim_index.specs.Dimensions.{HasColumns};
 ghost use Rattle.dim_index.specs.Keys.{position_of, keys_of};
-ghost use Rattle.dim_index.specs.Values.{values_at, values_of};
+ghost use Rattle.dim_index.specs.Values.{values_of};
 ghost use Rattle.dim_index.specs.Codes.{distinct, codes_of};
 ghost use Rattle.dim_index.specs.Bitmaps.{bits_of};
 
 use crate::bitmap::Bitmap;
 use crate::coded::CodedColumn;
 use crate::dictionary::Dictionary;
-use crate::dimension::Dimension;
-use crate::row::DimensionRow;
+use crate::kept::{kept_at, unread_columns};
 use ssb_queries::Test;
-use ssb_schema::{Base, Column, Table};
+use ssb_schema::{Base, Column, Table, query_columns};
 use std::alloc::{AllocError, Global};
 use std::marker::Model;
 use std::sync::Arc;
@@ -24,12 +20,8 @@ use std::sync::Arc;
 #[derive(Drop)]
 pub struct DimIndex {
     base: Arc<Base>,
-    customers: Dimension,
-    suppliers: Dimension,
-    parts: Dimension,
-    dates: Dimension,
-    // The columns of the fact table, which no query reads.
-    none: CodedColumn,
+    // The kept columns, in the order of `specs/Kept.antt`.
+    columns: Vec<CodedColumn>,
 }
 
 impl Model for DimIndex {
@@ -54,48 +46,35 @@ fn short(position: Option<usize>) -> Option<u32>
     }
 }
 
-// Of each row whether it passes.
-fn bits<T: DimensionRow>(alloc: Global, rows: &[T], tests: &[Test]) -> Result<Bitmap, AllocError>
-    ensures { IfOk result (λ bitmap. bitmap ≡ map (λ row. pass tests.now (λ place. T.value_of place row)) rows.now) }
+// The column of a base, in codes.
+fn coded(alloc: Global, base: &Base, column: Column) -> Result<CodedColumn, AllocError>
+    ensures { IfOk result (λ coded. coded ≡ values_of base.now column) }
 {
-    let mut bits = Vec::new(alloc);
-    bits.reserve(rows.len())?;
-    for row in rows {
-        bits.push(row.passes(tests))?;
+    base.soundness();
+    let place = column.place;
+    match column.table {
+        Table::Customer => CodedColumn::of(alloc, base.customers(), place),
+        Table::Supplier => CodedColumn::of(alloc, base.suppliers(), place),
+        Table::Part => CodedColumn::of(alloc, base.parts(), place),
+        Table::Date => CodedColumn::of(alloc, base.dates(), place),
+        Table::Lineorder => Ok(CodedColumn::none(alloc)),
     }
-    Ok(Bitmap::from_vec(bits))
 }
 
-fn customers(alloc: Global, base: &Base) -> Result<Dimension, AllocError>
-    ensures { IfOk result (HasColumns (values_at base.now table.Customer)) }
+// More columns of a base, in codes.
+fn push_coded(
+    alloc: Global,
+    base: &Base,
+    columns: &[Column],
+    kept: &mut Vec<CodedColumn>,
+) -> Result<(), AllocError>
+    ensures { OnOk result (kept.new.items ≡ kept.old.items ++ map (values_of base.now) columns.now) }
 {
-    base.soundness();
-    let rows = base.customers();
-    Dimension::of(alloc, rows, (4, 5, 6, 0))
-}
-
-fn suppliers(alloc: Global, base: &Base) -> Result<Dimension, AllocError>
-    ensures { IfOk result (HasColumns (values_at base.now table.Supplier)) }
-{
-    base.soundness();
-    let rows = base.suppliers();
-    Dimension::of(alloc, rows, (4, 5, 6, 0))
-}
-
-fn parts(alloc: Global, base: &Base) -> Result<Dimension, AllocError>
-    ensures { IfOk result (HasColumns (values_at base.now table.Part)) }
-{
-    base.soundness();
-    let rows = base.parts();
-    Dimension::of(alloc, rows, (3, 4, 5, 0))
-}
-
-fn dates(alloc: Global, base: &Base) -> Result<Dimension, AllocError>
-    ensures { IfOk result (HasColumns (values_at base.now table.Date)) }
-{
-    base.soundness();
-    let rows = base.dates();
-    Dimension::of(alloc, rows, (5, 6, 7, 12))
+    for column in columns {
+        let values = coded(alloc, base, *column)?;
+        kept.push(values)?;
+    }
+    Ok(())
 }
 
 impl DimIndex {
@@ -103,18 +82,10 @@ impl DimIndex {
     pub fn new(alloc: Global, base: Arc<Base>) -> Result<DimIndex, AllocError>
         ensures { IfOk result (λ index. index ≡ base.value) }
     {
-        let customers = customers(alloc, &base)?;
-        let suppliers = suppliers(alloc, &base)?;
-        let parts = parts(alloc, &base)?;
-        let dates = dates(alloc, &base)?;
-        Ok(DimIndex {
-            base,
-            customers,
-            suppliers,
-            parts,
-            dates,
-            none: CodedColumn::none(alloc),
-        })
+        let mut columns = Vec::new(alloc);
+        push_coded(alloc, &base, query_columns(), &mut columns)?;
+        push_coded(alloc, &base, unread_columns(), &mut columns)?;
+        Ok(DimIndex { base, columns })
     }
 
     /// The base.
@@ -157,13 +128,7 @@ impl DimIndex {
     pub fn column(&self, column: Column) -> &CodedColumn
         ensures { result.now ≡ values_of self.now column }
     {
-        match column.table {
-            Table::Customer => self.customers.column(column.place),
-            Table::Supplier => self.suppliers.column(column.place),
-            Table::Part => self.parts.column(column.place),
-            Table::Date => self.dates.column(column.place),
-            Table::Lineorder => &self.none,
-        }
+        &self.columns[kept_at(column)]
     }
 
     /// The codes of a column's values, by position.
@@ -214,13 +179,14 @@ impl DimIndex {
     pub fn bitmap(&self, alloc: Global, table: Table, tests: &[Test]) -> Result<Bitmap, AllocError>
         ensures { IfOk result (λ bitmap. bitmap ≡ bits_of self.now table tests.now) }
     {
-        let base = self.base();
-        match table {
-            Table::Customer => bits(alloc, base.customers(), tests),
-            Table::Supplier => bits(alloc, base.suppliers(), tests),
-            Table::Part => bits(alloc, base.parts(), tests),
-            Table::Date => bits(alloc, base.dates(), tests),
-            Table::Lineorder => Ok(Bitmap::from_vec(Vec::new(alloc))),
+        let mut bits = vec![in alloc; true; self.positions(table)]?;
+        for test in tests {
+            let column = self.column(Column {
+                table,
+                place: test.column.place,
+            });
+            column.narrow(alloc, &test.cond, bits.as_mut_slice())?;
         }
+        Ok(Bitmap::from_vec(bits))
     }
 }

@@ -24,8 +24,8 @@
 mod bitmap;
 mod coded;
 mod dictionary;
-mod dimension;
 mod index;
+mod kept;
 mod row;
 
 pub use bitmap::Bitmap;

@@ -2,12 +2,9 @@
 ghost use Rattle.std.specs.Prelude.{◌≡◌, ℕ};
 ghost use Rattle.ssb_plans.specs.declared.value.Value.{Value as PlainValue};
 ghost use Rattle.ssb_plans.specs.Cond.{column_value};
-ghost use Rattle.ssb_queries.specs.RowValues.{customer_value, supplier_value, part_value, date_value, pass};
+ghost use Rattle.ssb_queries.specs.RowValues.{customer_value, supplier_value, part_value, date_value};
 
-use ssb_queries::{
-    ColumnValue, Test, customer_passes, customer_value, date_passes, date_value, part_passes,
-    part_value, supplier_passes, supplier_value,
-};
+use ssb_queries::{ColumnValue, customer_value, date_value, part_value, supplier_value};
 use ssb_schema::{Customer, DateRow, Part, Supplier};
 
 /// A row of a dimension.
@@ -17,10 +14,6 @@ pub trait DimensionRow {
     /// The value at a place of the columns, counted from 1; the number 0 where no query reads the column.
     fn value(&self, place: usize) -> ColumnValue<'_>
         ensures { column_value result ≡ value_of place self.now };
-
-    /// Whether it passes all tests.
-    fn passes(&self, tests: &[Test]) -> bool
-        ensures { result ≡ pass tests.now (λ place. value_of place self.now) };
 }
 
 impl DimensionRow for Customer {
@@ -28,10 +21,6 @@ impl DimensionRow for Customer {
 
     fn value(&self, place: usize) -> ColumnValue<'_> {
         customer_value(self, place)
-    }
-
-    fn passes(&self, tests: &[Test]) -> bool {
-        customer_passes(tests, self)
     }
 }
 
@@ -41,10 +30,6 @@ impl DimensionRow for Supplier {
     fn value(&self, place: usize) -> ColumnValue<'_> {
         supplier_value(self, place)
     }
-
-    fn passes(&self, tests: &[Test]) -> bool {
-        supplier_passes(tests, self)
-    }
 }
 
 impl DimensionRow for Part {
@@ -53,10 +38,6 @@ impl DimensionRow for Part {
     fn value(&self, place: usize) -> ColumnValue<'_> {
         part_value(self, place)
     }
-
-    fn passes(&self, tests: &[Test]) -> bool {
-        part_passes(tests, self)
-    }
 }
 
 impl DimensionRow for DateRow {
@@ -64,9 +45,5 @@ impl DimensionRow for DateRow {
 
     fn value(&self, place: usize) -> ColumnValue<'_> {
         date_value(self, place)
-    }
-
-    fn passes(&self, tests: &[Test]) -> bool {
-        date_passes(tests, self)
     }
 }

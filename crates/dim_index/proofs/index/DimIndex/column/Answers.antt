@@ -1,30 +1,22 @@
-use Rattle.std.proofs.Common.{◌∙◌, ap, sym}
-use Rattle.ssb_schema.specs.declared.table.Table.{Table}
-use Rattle.ssb_schema.specs.declared.table.Table.TheVariants as table
+use Rattle.std.proofs.Common.{arith, ap, ◌∙◌, List, length, get_or, map}
+use Rattle.std.proofs.lemmas.Option.{slice_get_within, get_or_from_slice_get}
 use Rattle.ssb_schema.specs.Base.{Tables}
-use Rattle.dim_index.specs.Values.{values_at}
+use Rattle.ssb_plans.specs.declared.value.Value.{Value}
+use Rattle.dim_index.specs.Values.{values_of}
+use Rattle.dim_index.specs.Kept.{kept_columns}
 use Rattle.dim_index.proofs.index.DimIndex.column.Goals as goal
 
-pub returns-in-Customer : goal.returns-in-Customer
-returns-in-Customer c =
-    c.column.ensures (values_at c.self.inside.base.value table.Customer) c.self.invariant.customers
-    ∙ ap (λ (base : Tables). values_at base table.Customer c.args.column.place) c.self.view_is
-    ∙ ap (λ (t : Table). values_at c.args.self.now t c.args.column.place) (sym c.in-Customer.is)
+pub index-requires : goal.index-requires
+index-requires c =
+    let base = c.self.inside.base.value in
+    let within = slice_get_within (map (values_of base) kept_columns) c.kept_at.result (values_of base c.args.column) (c.kept_at.ensures base) in
+    omega (arith, within, ap length c.self.invariant)
 
-pub returns-in-Supplier : goal.returns-in-Supplier
-returns-in-Supplier c =
-    c.column-in-Supplier.ensures (values_at c.self.inside.base.value table.Supplier) c.self.invariant.suppliers
-    ∙ ap (λ (base : Tables). values_at base table.Supplier c.args.column.place) c.self.view_is
-    ∙ ap (λ (t : Table). values_at c.args.self.now t c.args.column.place) (sym c.in-Supplier.is)
-
-pub returns-in-Part : goal.returns-in-Part
-returns-in-Part c =
-    c.column-in-Part.ensures (values_at c.self.inside.base.value table.Part) c.self.invariant.parts
-    ∙ ap (λ (base : Tables). values_at base table.Part c.args.column.place) c.self.view_is
-    ∙ ap (λ (t : Table). values_at c.args.self.now t c.args.column.place) (sym c.in-Part.is)
-
-pub returns-in-Date : goal.returns-in-Date
-returns-in-Date c =
-    c.column-in-Date.ensures (values_at c.self.inside.base.value table.Date) c.self.invariant.dates
-    ∙ ap (λ (base : Tables). values_at base table.Date c.args.column.place) c.self.view_is
-    ∙ ap (λ (t : Table). values_at c.args.self.now t c.args.column.place) (sym c.in-Date.is)
+pub returns : goal.returns
+returns c =
+    let base = c.self.inside.base.value in
+    let found = c.index.result.now in
+    c.index.ensures
+    ∙ ap (λ (columns : List (List Value)). get_or columns c.kept_at.result found) c.self.invariant
+    ∙ get_or_from_slice_get (map (values_of base) kept_columns) c.kept_at.result (values_of base c.args.column) found (c.kept_at.ensures base)
+    ∙ ap (λ (base : Tables). values_of base c.args.column) c.self.view_is
