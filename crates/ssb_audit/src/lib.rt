@@ -18,7 +18,10 @@
 mod answers;
 mod commits;
 mod fault;
+pub mod laws;
 mod snapshot;
+#[cfg(test)]
+mod tests;
 mod trace;
 mod verdict;
 

@@ -1,6 +1,7 @@
 //! The audit of a trace.
 
 ghost use Rattle.std.specs.Prelude.{OnOk};
+ghost use Rattle.ssb_audit.specs.Legal.{IsLegalTrace};
 ghost use Rattle.ssb_audit.specs.Traces.{Tells, trace_fault};
 
 use crate::answers::check_answers;
@@ -23,6 +24,7 @@ pub fn audit(
     hashing: RandomState,
     trace: &Trace,
 ) -> Result<(), AuditFault>
+    ensures legal { OnOk result (IsLegalTrace base.value trace.now) }
     ensures fault { Tells result (trace_fault base.value trace.now) }
 {
     let commits = trace.commits.as_slice();
