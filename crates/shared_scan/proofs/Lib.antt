@@ -1,0 +1,16 @@
+pub mod RowLemmas
+pub mod LineLemmas
+pub mod NumberLemmas
+pub mod SumLemmas
+pub mod TotalsLemmas
+pub mod GroupLemmas
+pub mod NumberingLemmas
+pub mod MaskingLemmas
+pub mod DistinctLemmas
+pub mod PartLemmas
+pub mod GroupedLemmas
+pub mod GroupColumnLemmas
+pub mod BatchLemmas
+pub mod CanScanLemmas
+pub mod CanSumLemmas
+pub mod ReadyLemmas

@@ -1,0 +1,9 @@
+pub mod Prepared
+pub mod Laws
+pub mod Numbering
+pub mod Masking
+pub mod Grouped
+pub mod GroupColumns
+pub mod Batch
+pub mod PreparedBatch
+pub mod CanScan
