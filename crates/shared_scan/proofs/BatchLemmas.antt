@@ -1,16 +1,14 @@
 -- The questions of a batch, made ready one after another.
-use Rattle.std.proofs.Common.{ℕ, ◌≡◌, ◌≢◌, ◌+◌, ◌<◌, List, [], ◌∷◌, ◌++◌, length, get_or, eqb, true, false, Some, sym, ap, subst, ◌∙◌, arith, ◌⊎◌, inl, inr}
+use Rattle.std.proofs.Common.{ℕ, ◌≡◌, ◌+◌, ◌<◌, List, [], ◌∷◌, ◌++◌, length, get_or, Some, sym, ap, subst, ◌∙◌, arith}
 use Rattle.std.specs.Prelude.{slice_get}
-use Rattle.std.proofs.lemmas.Bool.Decides.{eqb_tells}
-use Rattle.std.proofs.lemmas.List.{length-map}
-use Rattle.std.proofs.Math.ListN.{get_or-append}
-use Rattle.std.proofs.Math.Seq.{get_or-append_seam}
+use Rattle.std.proofs.lemmas.List.{length-map, get_or-map, ext_get_or}
 use Rattle.std.proofs.lemmas.Option.{slice_get-get_or}
 use Rattle.ssb_schema.specs.Base.{Tables, IsSound}
 use Rattle.ssb_schema.specs.declared.column.Column.{Column}
 use Rattle.ssb_schema.specs.declared.table.Table.{Table}
 use Rattle.ssb_schema.specs.declared.table.Table.TheVariants as table
 use Rattle.ssb_plans.specs.declared.query.Query.{Query}
+use Rattle.ssb_plans.specs.declared.query.Query.TheVariants.{Q1_1}
 use Rattle.ssb_plans.specs.declared.value.Value.{Value}
 use Rattle.ssb_queries.specs.RowValues.{customer_value, supplier_value, part_value, date_value}
 use Rattle.dim_index.specs.Values.{values_of, values_at}
@@ -19,8 +17,9 @@ use Rattle.shared_scan.specs.Prepared.{masks_in}
 use Rattle.shared_scan.specs.Masking.{CoverRows}
 use Rattle.shared_scan.specs.Numbering.{HasMasks}
 use Rattle.shared_scan.specs.Grouped.{HaveMasks}
-use Rattle.shared_scan.specs.Batch.{IsReady}
+use Rattle.shared_scan.specs.Batch.{IsReady, AreReady, questions_of}
 use Rattle.shared_scan.specs.declared.ready.Ready.{Ready}
+use Rattle.shared_scan.proofs.EachLemmas.{each_more, item_of}
 
 -- no dimension has as many rows as there are numbers of 32 bits
 pub few_rows : (base : Tables) → IsSound base → (column : Column) → length (values_of base column) < 4294967295
@@ -46,26 +45,24 @@ pub ready_more : (base : Tables) (masks : Masks) (questions : List (Query × Lis
     → length all ≡ n → n < length questions → this ≡ get_or questions n this → IsReady base masks n this one
     → ((k : ℕ) (question : Query × List Value) (r : Ready) → k < n → slice_get questions k ≡ Some question → IsReady base masks k question (get_or all k r))
     → (k : ℕ) (question : Query × List Value) (r : Ready) → k < n + 1 → slice_get questions k ≡ Some question → IsReady base masks k question (get_or (all ++ one ∷ []) k r)
-ready_more base masks questions all n this one len below is ready done k question r h at = go (eqb_tells k n) where
-  same : k ≡ n → IsReady base masks k question (get_or (all ++ one ∷ []) k r)
-  same e =
-      let found : slice_get questions n ≡ Some this = slice_get-get_or questions n this below ∙ ap Some (sym is) in
-      let both : Some question ≡ Some this = sym at ∙ ap (slice_get questions) e ∙ found in
-      let question_is : this ≡ question = sym (some_same question this both) in
-      let one_is : get_or (all ++ one ∷ []) k r ≡ one = ap (λ (j : ℕ). get_or (all ++ one ∷ []) j r) (e ∙ sym len) ∙ get_or-append_seam all one [] r in
-      let P : ℕ → Type 0 = λ j. IsReady base masks j this one in
-      let Q : Query × List Value → Type 0 = λ q. IsReady base masks k q one in
-      let R : Ready → Type 0 = λ v. IsReady base masks k question v in
-      subst R (sym one_is) (subst Q question_is (subst P (sym e) ready))
-    where
-      some_same : (a b : Query × List Value) → Some a ≡ Some b → a ≡ b
-      some_same a b e = cc
+ready_more base masks questions all n this one len below is ready done k question r h at =
+    let P : ℕ → Ready → Type 0 = λ j v. (q : Query × List Value) → slice_get questions j ≡ Some q → IsReady base masks j q v in
+    let found : slice_get questions n ≡ Some this = slice_get-get_or questions n this below ∙ ap Some (sym is) in
+    let here : P n one = λ q at_n. subst (λ (v : Query × List Value). IsReady base masks n v one) (some_same this q (sym found ∙ at_n)) ready in
+    each_more P all n one len here (λ j v less q at_j. done j q v less at_j) k r h question at
+  where
+    some_same : (a b : Query × List Value) → Some a ≡ Some b → a ≡ b
+    some_same a b e = cc
 
-  other : k ≢ n → IsReady base masks k question (get_or (all ++ one ∷ []) k r)
-  other ne =
-      let R : Ready → Type 0 = λ v. IsReady base masks k question v in
-      subst R (sym (get_or-append all (one ∷ []) r k (omega (arith, len, h, ne)))) (done k question r (omega (arith, h, ne)) at)
+-- any question
+no_question : Query × List Value
+no_question = (Q1_1, [])
 
-  go : ((eqb k n ≡ true) × (k ≡ n)) ⊎ ((eqb k n ≡ false) × (k ≢ n)) → IsReady base masks k question (get_or (all ++ one ∷ []) k r)
-  go (inl (_, e)) = same e
-  go (inr (_, ne)) = other ne
+-- what was made ready for each question has that question
+pub questions_are : (base : Tables) (masks : Masks) (questions : List (Query × List Value)) (all : List Ready) → length all ≡ length questions → AreReady base masks questions all → questions_of all ≡ questions
+questions_are base masks questions all len ready =
+    ext_get_or no_question (questions_of all) questions (length-map all (λ ready. ready.question) ∙ len) (λ i below.
+    let inside : i < length all = omega (arith, below, length-map all (λ ready. ready.question)) in
+    let there : i < length questions = omega (arith, inside, len) in
+    let r = item_of all i inside in
+    get_or-map (λ (ready : Ready). ready.question) all i r no_question inside ∙ (ready i (get_or questions i no_question) r (slice_get-get_or questions i no_question there)).question_is)

@@ -14,3 +14,5 @@ pub mod BatchLemmas
 pub mod CanScanLemmas
 pub mod CanSumLemmas
 pub mod ReadyLemmas
+pub mod EachLemmas
+pub mod ScanLemmas

@@ -69,6 +69,6 @@ exact amount group xs new size g h below fits few =
     let total = sum_in amount group g xs in
     sym (mod-eq_of_lt fits) ∙ h.each g there ∙ ap (λ (v : ℕ). (v + total) % 2 ^ 64) zero_is ∙ ap (λ (v : ℕ). v % 2 ^ 64) (zero-add total) ∙ mod-eq_of_lt few
 
-pub bounded : (amount : ℕ → ℕ) (most count : ℕ) (xs : List ℕ) → ((i : ℕ) → amount i ≤ most) → length xs ≤ count → count * most < 2 ^ 64 → sum_by amount xs < 2 ^ 64
-bounded amount most count xs small few fits =
+pub bounded : (amount : ℕ → ℕ) (most count limit : ℕ) (xs : List ℕ) → ((i : ℕ) → amount i ≤ most) → length xs ≤ count → count * most < limit → sum_by amount xs < limit
+bounded amount most count limit xs small few fits =
     omega (arith, sum_by-le amount most xs (All-from_get_or (λ (i : ℕ). amount i ≤ most) xs 0 (λ j _. small (get_or xs j 0))), mul-le-mul_right most few, fits)

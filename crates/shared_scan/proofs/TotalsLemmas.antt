@@ -1,12 +1,12 @@
 -- Rows that are right for the totals over all places are the answer over the live lines.
-use Rattle.std.proofs.Common.{ℕ, zero, suc, ◌≡◌, ◌*◌, ◌%◌, ◌^◌, ◌<◌, ◌≤◌, ◌&&◌, List, [], ◌∷◌, length, map, get_or, Bool, true, false, cond, not, Some, refl, sym, ap, ◌∙◌, arith, subst}
+use Rattle.std.proofs.Common.{ℕ, zero, suc, ◌≡◌, ◌*◌, ◌%◌, ◌^◌, ◌<◌, ◌≤◌, ◌&&◌, List, [], ◌∷◌, length, map, get_or, replicate, Bool, true, false, cond, not, Some, refl, sym, ap, ◌∙◌, arith, subst}
 use Rattle.std.specs.Prelude.{pos, ◌-ℤ◌, nat_eq, nat_lt, slice_get, filter}
 use Rattle.std.specs.List.{All, AllByRecursion, range_with_len, sum_by}
 use Rattle.std.specs.Int.{bit_at}
 use Rattle.std.specs.Cmp.{unsigned_Decides}
 use Rattle.std.proofs.Math.ListN.{get_or-map}
 use Rattle.std.proofs.lemmas.Bool.{ltb-true, ltb-false}
-use Rattle.std.proofs.lemmas.List.{length-map, get_or_past}
+use Rattle.std.proofs.lemmas.List.{length-map, get_or_past, length-replicate}
 use Rattle.std.proofs.lemmas.List.Elements.{All-filter, recursion_from_All}
 use Rattle.std.proofs.Math.Nat.{mul-le-mul}
 use Rattle.scan_kernel.proofs.FoundLemmas.{all_mapped}
@@ -35,6 +35,7 @@ use Rattle.scan_kernel.specs.declared.columns.Grouping.{Grouping}
 use Rattle.scan_kernel.specs.declared.masks.Masks.{Masks}
 use Rattle.scan_kernel.specs.declared.totals.Totals.{Totals}
 use Rattle.scan_kernel.specs.Places.{has_bit, group_at, gain_at, loss_at}
+use Rattle.scan_kernel.specs.Sums.{Adds}
 use Rattle.scan_kernel.specs.Totals.{AreTotals}
 use Rattle.scan_answers.specs.Combined.{combine, passes_line}
 use Rattle.scan_answers.specs.Groups.{size_of, counts_of, group_number, ListValues}
@@ -255,7 +256,7 @@ module _ (base : Tables) (question : Query × List Value) (plans : List Plan) (k
     counts_are : (g : ℕ) → g < size_of (counts_of columns) → get_or totals.counts.items g 0 ≡ length (filter (takes_fact g) (live_facts d places))
     counts_are g below =
         exact (λ (i : ℕ). 1) (group_at grouping.columns.items) (filter bit (range_with_len 0 (length places))) totals.counts.items grouping.size g summed.counts_are (in_size g below) (counts_fit g)
-        (bounded (λ (i : ℕ). 1) 1 33554432 (of_group g) (λ i. omega arith) (some_of_all g) (omega arith))
+        (bounded (λ (i : ℕ). 1) 1 33554432 (2 ^ 64) (of_group g) (λ i. omega arith) (some_of_all g) (omega arith))
         ∙ count_ones (of_group g) ∙ sym (length-map (of_group g) fact) ∙ ap length (sym (taken_is g))
 
     pub gains_are : (g : ℕ) → g < size_of (counts_of columns) → get_or totals.gains.items g 0 ≡ sum_by (gain_of plan.measure) (filter (takes_fact g) (live_facts d places))
@@ -264,7 +265,7 @@ module _ (base : Tables) (question : Query × List Value) (plans : List Plan) (k
         let same : (i : ℕ) → amount i ≡ gain_of plan.measure (fact i) = λ i. gain_is d places lines grouping.measure i are ∙ ap (λ (m : Measure). gain_of m (fact i)) grouped.measures in
         let small : (i : ℕ) → amount i ≤ 2 ^ 36 = λ i. subst (λ (n : ℕ). n ≤ 2 ^ 36) (sym (same i)) (gain_small d places plan.measure i within) in
         exact amount (group_at grouping.columns.items) (filter bit (range_with_len 0 (length places))) totals.gains.items grouping.size g summed.gains_are (in_size g below) (gains_fit g)
-        (bounded amount (2 ^ 36) 33554432 (of_group g) small (some_of_all g) (omega arith))
+        (bounded amount (2 ^ 36) 33554432 (2 ^ 64) (of_group g) small (some_of_all g) (omega arith))
         ∙ sym (sum_mapped (gain_of plan.measure) fact amount same (of_group g)) ∙ ap (sum_by (gain_of plan.measure)) (sym (taken_is g))
 
     pub losses_are : (g : ℕ) → g < size_of (counts_of columns) → get_or totals.losses.items g 0 ≡ sum_by (loss_of plan.measure) (filter (takes_fact g) (live_facts d places))
@@ -273,8 +274,31 @@ module _ (base : Tables) (question : Query × List Value) (plans : List Plan) (k
         let same : (i : ℕ) → amount i ≡ loss_of plan.measure (fact i) = λ i. loss_is d places lines grouping.measure i are ∙ ap (λ (m : Measure). loss_of m (fact i)) grouped.measures in
         let small : (i : ℕ) → amount i ≤ 2 ^ 36 = λ i. subst (λ (n : ℕ). n ≤ 2 ^ 36) (sym (same i)) (loss_small d places plan.measure i within) in
         exact amount (group_at grouping.columns.items) (filter bit (range_with_len 0 (length places))) totals.losses.items grouping.size g summed.losses_are (in_size g below) (losses_fit g)
-        (bounded amount (2 ^ 36) 33554432 (of_group g) small (some_of_all g) (omega arith))
+        (bounded amount (2 ^ 36) 33554432 (2 ^ 64) (of_group g) small (some_of_all g) (omega arith))
         ∙ sym (sum_mapped (loss_of plan.measure) fact amount same (of_group g)) ∙ ap (sum_by (loss_of plan.measure)) (sym (taken_is g))
+
+    -- what is added up of any measure, and its difference, fits 64 bits with a sign
+    small_sum : (amount : ℕ → ℕ) (new : List ℕ) (g : ℕ) → Adds amount (group_at grouping.columns.items) (filter bit (range_with_len 0 (length places))) (replicate grouping.size 0) new
+        → ((i : ℕ) → amount i ≤ 2 ^ 36) → ((g : ℕ) → get_or new g 0 < 2 ^ 64) → get_or new g 0 < 2 ^ 62
+    small_sum amount new g adds small fits =
+        elim (nat_lt g grouping.size) as (λ b. nat_lt g grouping.size ≡ b → get_or new g 0 < 2 ^ 62) [
+          | true ↦ λ e. let below : g < grouping.size = ltb-true g grouping.size e in
+              let sum = exact amount (group_at grouping.columns.items) (filter bit (range_with_len 0 (length places))) new grouping.size g adds below (fits g)
+              (bounded amount (2 ^ 36) 33554432 (2 ^ 64) (of_group g) small (some_of_all g) (omega arith)) in
+              omega (arith, sum, bounded amount (2 ^ 36) 33554432 (2 ^ 62) (of_group g) small (some_of_all g) (omega arith))
+          | false ↦ λ e. let past : length new ≤ g = omega (arith, ltb-false g grouping.size e, adds.len, length-replicate {A = ℕ} grouping.size 0) in
+              omega (arith, get_or_past new g 0 past)
+        ] refl
+
+    pub gains_small : (g : ℕ) → get_or totals.gains.items g 0 < 2 ^ 62
+    gains_small g =
+        small_sum (gain_at lines grouping.measure) totals.gains.items g summed.gains_are
+        (λ i. subst (λ (n : ℕ). n ≤ 2 ^ 36) (sym (gain_is d places lines grouping.measure i are)) (gain_small d places grouping.measure i within)) gains_fit
+
+    pub losses_small : (g : ℕ) → get_or totals.losses.items g 0 < 2 ^ 62
+    losses_small g =
+        small_sum (loss_at lines grouping.measure) totals.losses.items g summed.losses_are
+        (λ i. subst (λ (n : ℕ). n ≤ 2 ^ 36) (sym (loss_is d places lines grouping.measure i are)) (loss_small d places grouping.measure i within)) losses_fit
 
     lists_all : (c : Combination) → Has (combinations plan d (live_facts d places)) c → ListValues plan.groups columns c
     lists_all c h =

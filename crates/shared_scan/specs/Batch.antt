@@ -22,6 +22,10 @@ pub record IsReady (base : Tables) (masks : Masks) (k : ℕ) (question : Query �
 abbrev pub plans_of : List (Query × List Value) → List Plan
 plans_of questions = map (λ question. plan_over question.0 question.1) questions
 
+-- the questions that were made ready
+abbrev pub questions_of : List Ready → List (Query × List Value)
+questions_of all = map (λ ready. ready.question) all
+
 -- each question is made ready
 abbrev pub AreReady : Tables → Masks → List (Query × List Value) → List Ready → Type 0
 AreReady base masks questions all =

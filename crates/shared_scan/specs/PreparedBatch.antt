@@ -1,19 +1,20 @@
 -- A batch made ready.
-use Rattle.std.specs.Prelude.{◌≡◌, ◌≤◌, List, length}
-use Rattle.ssb_schema.specs.Base.{Tables}
+use Rattle.std.specs.Prelude.{◌≤◌, List, length, map}
 use Rattle.ssb_plans.specs.declared.query.Query.{Query}
 use Rattle.ssb_plans.specs.declared.value.Value.{Value}
 use Rattle.shared_scan.specs.Prepared.{AreMasksOf}
 use Rattle.shared_scan.specs.Masking.{CoverRows}
-use Rattle.shared_scan.specs.Batch.{plans_of, AreReady}
-use Rattle.shared_scan.specs.declared.prepared.PreparedBatch.{PreparedBatch}
+use Rattle.shared_scan.specs.Answers.{Prepared}
+use Rattle.shared_scan.specs.Batch.{plans_of, questions_of, AreReady}
+use Rattle.shared_scan.specs.declared.prepared.PreparedBatch.TheInside.{Inside}
 
--- the batch is of these questions, over this base
-pub record IsPreparedBatch (base : Tables) (questions : List (Query × List Value))
-    (batch : PreparedBatch) : Type 0 where
-  pub index_is : batch.index.value ≡ base
-  pub few : length questions ≤ 16
-  pub masks_tell : AreMasksOf (plans_of questions) base.dimensions batch.masks
-  pub masks_cover : CoverRows base.dimensions batch.masks
-  pub all : length batch.questions.items ≡ length questions
-  pub ready : AreReady base batch.masks questions batch.questions.items
+-- a batch as contracts see it
+abbrev pub prepared : Inside → Prepared
+prepared batch = record { base = batch.index.value; questions = questions_of batch.questions.items }
+
+-- the masks and the groups are those of the questions, over the base
+pub record IsPrepared (batch : Inside) : Type 0 where
+  pub few : length batch.questions.items ≤ 16
+  pub masks_tell : AreMasksOf (plans_of (questions_of batch.questions.items)) batch.index.value.dimensions batch.masks
+  pub masks_cover : CoverRows batch.index.value.dimensions batch.masks
+  pub ready : AreReady batch.index.value batch.masks (questions_of batch.questions.items) batch.questions.items

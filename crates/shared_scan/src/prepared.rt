@@ -1,6 +1,5 @@
 //! A batch of questions made ready.
 ghost use Rattle.std.specs.Prelude.{◌≡◌, ◌≤◌, IfOk, length};
-ghost use Rattle.shared_scan.specs.PreparedBatch.{IsPreparedBatch};
 
 use crate::batch_masks::batch_masks;
 use crate::prepare::{plans_of, prepare_question};
@@ -9,14 +8,27 @@ use dim_index::DimIndex;
 use scan_kernel::Masks;
 use ssb_queries::Question;
 use std::alloc::{AllocError, Global};
+use std::marker::Model;
 use std::sync::Arc;
 
-/// At most 16 questions made ready for one pass over the columns.
+/// At most 16 questions made ready for one pass over the columns. Contracts see the base that they were prepared on, and
+/// the questions.
 #[derive(Drop)]
 pub struct PreparedBatch {
     pub(crate) index: Arc<DimIndex>,
     pub(crate) masks: Masks,
     pub(crate) questions: Vec<Ready>,
+}
+
+impl Model for PreparedBatch {
+    ghost use Rattle.shared_scan.specs.Answers.{Prepared};
+    ghost use Rattle.shared_scan.specs.PreparedBatch.{prepared, IsPrepared};
+
+    ghost Value = { Prepared };
+
+    ghost view = { prepared };
+
+    ghost invariant = { IsPrepared };
 }
 
 impl PreparedBatch {
@@ -27,7 +39,7 @@ impl PreparedBatch {
         questions: &[Question],
     ) -> Result<PreparedBatch, AllocError>
         requires { length questions.now ≤ 16 }
-        ensures { IfOk result (IsPreparedBatch index.value questions.now) }
+        ensures { IfOk result (λ batch. batch ≡ record { base = index.value; questions = questions.now }) }
     {
         index.base().soundness();
         let plans = plans_of(alloc, questions)?;
