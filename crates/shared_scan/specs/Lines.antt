@@ -1,5 +1,5 @@
 -- The columns of the fact table, as the loops read them.
-use Rattle.std.specs.Prelude.{ℕ, ◌≡◌, ◌<◌, ◌≤◌, ◌^◌, All, List, length}
+use Rattle.std.specs.Prelude.{◌≡◌, ◌<◌, ◌≤◌, ◌^◌, All, List, length}
 use Rattle.ssb_schema.specs.Base.{Tables}
 use Rattle.fact_table.specs.declared.place.Place.{Place}
 use Rattle.fact_table.specs.declared.slices.Slices.{Slices}

@@ -1,7 +1,5 @@
 -- A batch made ready.
-use Rattle.std.specs.Prelude.{◌≤◌, List, length, map}
-use Rattle.ssb_plans.specs.declared.query.Query.{Query}
-use Rattle.ssb_plans.specs.declared.value.Value.{Value}
+use Rattle.std.specs.Prelude.{◌≤◌, length}
 use Rattle.shared_scan.specs.Prepared.{AreMasksOf}
 use Rattle.shared_scan.specs.Masking.{CoverRows}
 use Rattle.shared_scan.specs.Answers.{Prepared}

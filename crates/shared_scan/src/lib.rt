@@ -1,6 +1,7 @@
 //! Every question of a batch in one pass over the columns.
 #![tactic(auto)]
 
+mod answering;
 mod batch_masks;
 mod group_columns;
 mod grouping;
@@ -9,12 +10,12 @@ pub mod laws;
 mod lines;
 mod masking;
 mod numbering;
+mod over_slices;
 mod prepare;
 mod prepared;
 mod ready;
-mod scan;
 mod sums;
 mod tested;
 
+pub use answering::{scan, scan_parallel};
 pub use prepared::PreparedBatch;
-pub use scan::{scan_slices, scan_slices_parallel};

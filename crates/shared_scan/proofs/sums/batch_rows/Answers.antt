@@ -18,8 +18,8 @@ loop-number-preserved c =
     let in_totals : n < length totals = omega (arith, c.loop-number-test.true, c.requires.len) in
     let P : ℕ → Rows → Type 0 = λ k rows. (ready : Ready) (t : Totals) → AreRowsOf (get_or all k ready) (get_or totals k t) rows in
     let here : P n one = λ r t.
-        let of_ready = subst (λ (v : Ready). AreRowsOf v c.index-totals-number.result one) (c.index-all-number.is ∙ get_or_default all n c.index-all-number.result r c.loop-number-test.true) c.in_ok-question_rows.ensures in
-        subst (λ (v : Totals). AreRowsOf (get_or all n r) v one) (c.index-totals-number.is ∙ get_or_default totals n c.index-totals-number.result t in_totals) of_ready in
+    let of_ready = subst (λ (v : Ready). AreRowsOf v c.index-totals-number.result one) (c.index-all-number.is ∙ get_or_default all n c.index-all-number.result r c.loop-number-test.true) c.in_ok-question_rows.ensures in
+    subst (λ (v : Totals). AreRowsOf (get_or all n r) v one) (c.index-totals-number.is ∙ get_or_default totals n c.index-totals-number.result t in_totals) of_ready in
     let R : List Rows → Type 0 = λ list. (k : ℕ) (rows : Rows) → k < n + 1 → P k (get_or list k rows) in
     record {
       len = ap length items ∙ length-append done (one ∷ []) ∙ ap (λ (m : ℕ). m + 1) c.loop-number.invariant.len;

@@ -1,4 +1,4 @@
-use Rattle.std.proofs.Common.{ℕ, ◌≡◌, ◌+◌, ◌<◌, List, [], ◌∷◌, ◌++◌, length, get_or, Some, refl, sym, ap, subst, ◌∙◌, arith}
+use Rattle.std.proofs.Common.{ℕ, ◌≡◌, ◌+◌, ◌<◌, List, [], ◌∷◌, ◌++◌, length, get_or, Some, sym, ap, subst, ◌∙◌, arith}
 use Rattle.std.specs.Prelude.{slice_get}
 use Rattle.std.proofs.lemmas.List.{length-append}
 use Rattle.std.proofs.lemmas.Option.{slice_get_within}
@@ -55,4 +55,4 @@ returns c =
     let all = c.loop-number.all.items in
     let count : c.loop-number.number ≡ length questions = omega (arith, c.loop-number-test.false, c.loop-number.auto) in
     let ready : AreReady base masks questions all = λ k question r at. c.loop-number.invariant.ready k question r (omega (arith, slice_get_within questions k question at, count)) at in
-    ap (λ (qs : List (Query × List Value)). record {base = base; questions = qs}) (questions_are base masks questions all (c.loop-number.invariant.len ∙ count) ready)
+    ap (λ (qs : List (Query × List Value)). record { base = base; questions = qs }) (questions_are base masks questions all (c.loop-number.invariant.len ∙ count) ready)

@@ -1,14 +1,13 @@
-use Rattle.std.proofs.Common.{◌≡◌, ℕ, ◌-◌, List, length, IfOk, sym, ap, subst, ◌∙◌, arith}
+use Rattle.std.proofs.Common.{◌≡◌, ℕ, length, IfOk, sym, subst, arith}
 use Rattle.std.specs.List.{range_with_len}
-use Rattle.ssb_schema.specs.Base.{Tables, IsSound}
-use Rattle.fact_table.specs.declared.place.Place.{Place}
+use Rattle.ssb_schema.specs.Base.{IsSound}
 use Rattle.fact_table.specs.Places.{live_facts}
 use Rattle.scan_kernel.specs.Totals.{AreBatchTotals}
 use Rattle.shared_scan.specs.Answers.{Prepared, answers_over}
 use Rattle.shared_scan.specs.Lines.{AreOfBase, HavePlaces}
 use Rattle.shared_scan.proofs.CanScanLemmas.{can_search}
-use Rattle.shared_scan.proofs.ScanLemmas.{if_ok_then, line_count, one_length, parts_all, can_sum_all, fit_all, rows_answer}
-use Rattle.shared_scan.proofs.scan.scan_slices_parallel.Goals as goal
+use Rattle.shared_scan.proofs.ScanLemmas.{if_ok_then, line_count, parts_all, can_sum_all, fit_all, rows_answer}
+use Rattle.shared_scan.proofs.over_slices.scan_slices_parallel.Goals as goal
 
 pub groupings-requires : goal.groupings-requires
 groupings-requires g c = rw (c.deref.ensures.value) (parts_all c.batch.inside.index.value c.batch.inside.masks c.batch.inside.questions.items c.batch.invariant.ready)

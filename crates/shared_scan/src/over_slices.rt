@@ -1,4 +1,4 @@
-//! One pass over the columns for a batch of questions.
+//! The pass over the columns of a list of places.
 ghost use Rattle.std.specs.Prelude.{◌≡◌, List, IfOk};
 ghost use Rattle.fact_table.specs.declared.place.Place.{Place};
 ghost use Rattle.fact_table.specs.Columns.{AreColumnsOf};
