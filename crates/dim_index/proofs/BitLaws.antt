@@ -1,5 +1,5 @@
 -- Rows that are narrowed, one by one.
-use Rattle.std.proofs.Common.{◌≡◌, ℕ, ◌+◌, ◌<◌, ◌≤◌, Bool, true, false, List, [], ◌∷◌, ◌++◌, length, get_or, map, take, drop, set, suc, zero, refl, sym, ap, ◌∙◌, add-zero, replicate, arith}
+use Rattle.std.proofs.Common.{◌≡◌, ℕ, ◌+◌, ◌<◌, ◌≤◌, Bool, true, List, [], ◌∷◌, ◌++◌, length, get_or, map, take, drop, set, suc, zero, refl, sym, ap, ◌∙◌, add-zero, replicate, arith}
 use Rattle.std.specs.Prelude.{◌&&◌}
 use Rattle.std.proofs.lemmas.List.{get_or-drop, drop-drop, drop-set-lt, take_more_set, take_more, take_all}
 use Rattle.std.proofs.lemmas.List.{get_or-map, length-map}
@@ -56,12 +56,6 @@ passes_at test dictionary values codes row d are within known =
     ∙ get_or-map test (values_in dictionary codes) row (Number 0) d (omega (arith, within, length-map codes value))
     ∙ ap test (get_or-map value codes row 0 (Number 0) within)
     ∙ sym (get_or-map test dictionary (get_or codes row 0) (Number 0) d known)
-
-pub and_turned : (a b : Bool) → (a && b) ≡ (b && a)
-and_turned true true = refl
-and_turned true false = refl
-and_turned false true = refl
-and_turned false false = refl
 
 -- before the first test every row is left
 pub bits_none : (base : Tables) (t : Table) → replicate (length (keys_of base t)) true ≡ bits_of base t []

@@ -73,7 +73,8 @@ impl CodedColumn {
     {
         let passes = self.dictionary.passing(alloc, cond)?;
         for (row, code) in self.codes.iter().enumerate() {
-            rows[row] = passes[*code as usize] && rows[row];
+            // Both sides are read, so that no branch is guessed wrong.
+            rows[row] &= passes[*code as usize];
         }
         Ok(())
     }

@@ -27,6 +27,8 @@ mod dictionary;
 mod index;
 mod kept;
 mod row;
+#[cfg(test)]
+mod tests;
 
 pub use bitmap::Bitmap;
 pub use coded::CodedColumn;

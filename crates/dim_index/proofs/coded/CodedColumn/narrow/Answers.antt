@@ -5,9 +5,8 @@ use Rattle.ssb_plans.specs.declared.value.Value.{Value}
 use Rattle.ssb_plans.specs.declared.value.Value.TheVariants.{Number}
 use Rattle.ssb_plans.specs.Cond.{holds}
 use Rattle.dim_index.specs.Bitmaps.{narrowed}
-use Rattle.dim_index.proofs.BitLaws.{written_more, not_yet, narrowed_at, length_narrowed, passes_at, and_turned, written_all}
+use Rattle.dim_index.proofs.BitLaws.{written_more, not_yet, narrowed_at, length_narrowed, passes_at, written_all}
 use Rattle.dim_index.proofs.coded.CodedColumn.narrow.Goals as goal
-use Rattle.dim_index.proofs.coded.CodedColumn.narrow.Goals.{then-index, else-index}
 
 pub loop-row-preserved : goal.loop-row-preserved
 loop-row-preserved c =
@@ -20,7 +19,7 @@ loop-row-preserved c =
     let wanted = narrowed old passes in
     let row = c.loop-row.row in
     let now = c.loop-row.rows in
-    let x = c.if-index.rows in
+    let x = get_or now row false && c.index.result.now in
     let coded : row < length codes = omega (arith, c.loop-row-test.true, ap length c.deref-code-items.ensures.value) in
     let value : ℕ → Value = λ code. get_or dictionary code (Number 0) in
     let same : length old ≡ length passes = omega (arith, c.requires, length-map values test) in
@@ -33,17 +32,11 @@ loop-row-preserved c =
     ∙ ap (λ (l : List ℕ). get_or (map test dictionary) (get_or l row 0) c.index.result.now) c.deref-code-items.ensures.value
     ∙ get_or_default (map test dictionary) (get_or codes row 0) c.index.result.now false (omega (arith, known, length-map dictionary test))
     ∙ sym (passes_at test dictionary values codes row false c.self.view_is coded known) in
-    let is : x ≡ (c.index.result.now && get_or now row x) = elim c.if-index.branch [
-      | then-index w ↦ w.rows-is ∙ get_or_default now row _ x (omega (arith, within, c.loop-row.auto.rows)) ∙ ap (λ b. b && get_or now row x) (sym w.if-index.true)
-      | else-index w ↦ w.rows-is ∙ w.if-index.false ∙ ap (λ b. b && get_or now row x) (sym w.if-index.false)
-    ] in
     let wants : x ≡ get_or wanted row x =
-    is
-    ∙ ap (λ b. b && get_or now row x) read
-    ∙ and_turned (get_or passes row false) (get_or now row x)
-    ∙ ap (λ b. b && get_or passes row false) (not_yet wanted old now row x c.loop-row.invariant)
-    ∙ ap (λ b. get_or old row x && b) (get_or_default passes row false x (omega (arith, within, same)))
-    ∙ sym (narrowed_at old passes row x same within) in
+    ap (λ b. b && c.index.result.now) (not_yet wanted old now row false c.loop-row.invariant)
+    ∙ ap (λ b. get_or old row false && b) read
+    ∙ sym (narrowed_at old passes row false same within)
+    ∙ get_or_default wanted row false x there in
     written_more wanted old now row x (omega (arith, within, c.loop-row.auto.rows)) there wants c.loop-row.invariant
 
 pub returns : goal.returns

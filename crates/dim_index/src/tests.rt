@@ -1,0 +1,375 @@
+//! Worked examples over the dimensions of the small data set, with answers that were written by hand.
+
+use crate::{Bitmap, DimIndex};
+use ssb_queries::{Cond, Test};
+use ssb_schema::{
+    Base, BaseParts, C_CITY, C_NATION, C_REGION, Column, Customer, CustomerFields, D_WEEKNUMINYEAR,
+    D_YEAR, D_YEARMONTH, D_YEARMONTHNUM, DateFields, DateRow, Items, Limits, P_BRAND1, P_CATEGORY,
+    P_MFGR, Part, PartFields, S_CITY, S_NATION, S_REGION, Supplier, SupplierFields, Table, Text,
+    query_columns,
+};
+use std::alloc::{AllocError, Global};
+use std::sync::Arc;
+use std::test::Fail;
+
+fn text(alloc: Global, text: &str) -> Result<Text, AllocError> {
+    Text::from_str(alloc, text)
+}
+
+// What stands in a column that no query reads.
+fn blank(alloc: Global) -> Text {
+    Text::new(String::new(alloc))
+}
+
+// A city, nation and region.
+#[derive(Clone, Copy)]
+struct Place(&'static str, &'static str, &'static str);
+
+const CUSTOMERS: [Place; 3] = [
+    Place("UNITED KI1", "UNITED KINGDOM", "EUROPE"),
+    Place("CHINA    0", "CHINA", "ASIA"),
+    Place("UNITED ST4", "UNITED STATES", "AMERICA"),
+];
+
+const SUPPLIERS: [Place; 3] = [
+    Place("UNITED KI5", "UNITED KINGDOM", "EUROPE"),
+    Place("JAPAN    3", "JAPAN", "ASIA"),
+    Place("UNITED ST7", "UNITED STATES", "AMERICA"),
+];
+
+// A part's manufacturer, category and brand.
+const PARTS: [[&str; 3]; 4] = [
+    ["MFGR#1", "MFGR#12", "MFGR#121"],
+    ["MFGR#2", "MFGR#22", "MFGR#2221"],
+    ["MFGR#2", "MFGR#22", "MFGR#222"],
+    ["MFGR#1", "MFGR#14", "MFGR#1440"],
+];
+
+// A date's key, month and week.
+const DATES: [(u64, u64, &str, u64); 4] = [
+    (19930101, 199301, "Jan1993", 1),
+    (19940105, 199401, "Jan1994", 1),
+    (19940208, 199402, "Feb1994", 6),
+    (19971215, 199712, "Dec1997", 50),
+];
+
+fn customer(alloc: Global, key: u64, place: Place) -> Result<Customer, Fail> {
+    let city = text(alloc, place.0)?;
+    let nation = text(alloc, place.1)?;
+    let region = text(alloc, place.2)?;
+    let made = Customer::new(CustomerFields {
+        key,
+        name: blank(alloc),
+        address: blank(alloc),
+        city,
+        nation,
+        region,
+        phone: blank(alloc),
+        market_segment: blank(alloc),
+    });
+    Ok(made.ok().ok_or("customer")?)
+}
+
+fn supplier(alloc: Global, key: u64, place: Place) -> Result<Supplier, Fail> {
+    let city = text(alloc, place.0)?;
+    let nation = text(alloc, place.1)?;
+    let region = text(alloc, place.2)?;
+    let made = Supplier::new(SupplierFields {
+        key,
+        name: blank(alloc),
+        address: blank(alloc),
+        city,
+        nation,
+        region,
+        phone: blank(alloc),
+    });
+    Ok(made.ok().ok_or("supplier")?)
+}
+
+fn part(alloc: Global, key: u64, kinds: [&str; 3]) -> Result<Part, Fail> {
+    let manufacturer = text(alloc, kinds[0])?;
+    let category = text(alloc, kinds[1])?;
+    let brand = text(alloc, kinds[2])?;
+    let made = Part::new(PartFields {
+        key,
+        name: blank(alloc),
+        manufacturer,
+        category,
+        brand,
+        color: blank(alloc),
+        part_type: blank(alloc),
+        size: blank(alloc),
+        container: blank(alloc),
+    });
+    Ok(made.ok().ok_or("part")?)
+}
+
+fn date(alloc: Global, key: u64, month: u64, name: &str, week: u64) -> Result<DateRow, Fail> {
+    let year_month = text(alloc, name)?;
+    let made = DateRow::new(DateFields {
+        key,
+        field2: blank(alloc),
+        field3: blank(alloc),
+        field4: blank(alloc),
+        year: month / 100,
+        year_month_number: month,
+        year_month,
+        field8: blank(alloc),
+        field9: blank(alloc),
+        field10: blank(alloc),
+        field11: blank(alloc),
+        week,
+        field13: blank(alloc),
+        field14: blank(alloc),
+        field15: blank(alloc),
+        field16: blank(alloc),
+        field17: blank(alloc),
+    });
+    Ok(made.ok().ok_or("date")?)
+}
+
+fn customers(alloc: Global) -> Result<Vec<Customer>, Fail> {
+    let mut customers = Vec::new(alloc);
+    for (key, place) in (1..4).zip(&CUSTOMERS) {
+        customers.push(customer(alloc, key, *place)?)?;
+    }
+    Ok(customers)
+}
+
+fn suppliers(alloc: Global) -> Result<Vec<Supplier>, Fail> {
+    let mut suppliers = Vec::new(alloc);
+    for (key, place) in (1..4).zip(&SUPPLIERS) {
+        suppliers.push(supplier(alloc, key, *place)?)?;
+    }
+    Ok(suppliers)
+}
+
+fn parts(alloc: Global) -> Result<Vec<Part>, Fail> {
+    let mut parts = Vec::new(alloc);
+    for (key, kinds) in (1..5).zip(&PARTS) {
+        parts.push(part(alloc, key, *kinds)?)?;
+    }
+    Ok(parts)
+}
+
+fn dates(alloc: Global) -> Result<Vec<DateRow>, Fail> {
+    let mut dates = Vec::new(alloc);
+    for (key, month, name, week) in &DATES {
+        dates.push(date(alloc, *key, *month, name, *week)?)?;
+    }
+    Ok(dates)
+}
+
+fn index_of(alloc: Global, parts: BaseParts) -> Result<DimIndex, Fail> {
+    let base = Base::new(alloc, Limits::standard(), parts)
+        .ok()
+        .ok_or("base")?;
+    Ok(DimIndex::new(alloc, Arc::new(alloc, base)?)?)
+}
+
+fn small_index(alloc: Global) -> Result<DimIndex, Fail> {
+    let customers = customers(alloc)?;
+    let suppliers = suppliers(alloc)?;
+    let parts = parts(alloc)?;
+    let dates = dates(alloc)?;
+    index_of(
+        alloc,
+        BaseParts {
+            customers,
+            suppliers,
+            parts,
+            dates,
+            lines: Vec::new(alloc),
+        },
+    )
+}
+
+// The index of dimensions without rows.
+fn empty_index(alloc: Global) -> Result<DimIndex, Fail> {
+    index_of(
+        alloc,
+        BaseParts {
+            customers: Vec::new(alloc),
+            suppliers: Vec::new(alloc),
+            parts: Vec::new(alloc),
+            dates: Vec::new(alloc),
+            lines: Vec::new(alloc),
+        },
+    )
+}
+
+const TABLES: [Table; 5] = [
+    Table::Customer,
+    Table::Supplier,
+    Table::Part,
+    Table::Date,
+    Table::Lineorder,
+];
+
+#[test]
+fn equal_values_have_equal_codes(rt: HostRuntime) -> Result<(), Fail> {
+    let index = small_index(rt.alloc())?;
+    for (column, codes) in [
+        (P_MFGR, [0, 1, 1, 0]),
+        (P_CATEGORY, [0, 1, 1, 2]),
+        (P_BRAND1, [0, 1, 2, 3]),
+        (D_YEAR, [0, 1, 1, 2]),
+        (D_YEARMONTHNUM, [0, 1, 2, 3]),
+        (D_YEARMONTH, [0, 1, 2, 3]),
+        (D_WEEKNUMINYEAR, [0, 0, 1, 2]),
+    ] {
+        assert_eq!(rt;
+            index.codes_of(column),
+            codes.as_slice(),
+            "{}",
+            column.name()
+        );
+    }
+    for column in [C_CITY, C_NATION, C_REGION, S_CITY, S_NATION, S_REGION] {
+        assert_eq!(rt;
+            index.codes_of(column),
+            [0, 1, 2].as_slice(),
+            "{}",
+            column.name()
+        );
+    }
+    Ok(())
+}
+
+#[test]
+fn codes_are_read_back(rt: HostRuntime) -> Result<(), Fail> {
+    let index = small_index(rt.alloc())?;
+    for (column, code, text) in [
+        (C_CITY, 1, "CHINA    0"),
+        (C_NATION, 0, "UNITED KINGDOM"),
+        (C_REGION, 2, "AMERICA"),
+        (S_CITY, 1, "JAPAN    3"),
+        (P_MFGR, 1, "MFGR#2"),
+        (P_CATEGORY, 2, "MFGR#14"),
+        (D_YEARMONTH, 3, "Dec1997"),
+        (D_YEAR, 0, ""),
+        (P_MFGR, 2, ""),
+    ] {
+        assert_eq!(rt; index.text(column, code), text, "{}", column.name());
+    }
+    for (column, code, number) in [
+        (D_YEAR, 2, 1997),
+        (D_YEARMONTHNUM, 1, 199401),
+        (D_WEEKNUMINYEAR, 1, 6),
+        (D_YEARMONTH, 3, 0),
+        (D_YEAR, 3, 0),
+    ] {
+        assert_eq!(rt; index.number(column, code), number, "{}", column.name());
+    }
+    Ok(())
+}
+
+#[test]
+fn a_column_that_no_query_reads_has_one_value(rt: HostRuntime) -> Result<(), Fail> {
+    let index = small_index(rt.alloc())?;
+    let part_name = Column {
+        table: Table::Part,
+        place: 2,
+    };
+    assert_eq!(rt; index.codes(part_name), 1);
+    for position in 0..index.column(part_name).len() {
+        assert_eq!(rt; index.code(part_name, position), 0);
+    }
+    assert_eq!(rt; index.number(part_name, 0), 0);
+    let order_key = Column {
+        table: Table::Lineorder,
+        place: 1,
+    };
+    assert_eq!(rt; index.codes(order_key), 0);
+    Ok(())
+}
+
+#[test]
+fn keys_have_positions(rt: HostRuntime) -> Result<(), Fail> {
+    let index = small_index(rt.alloc())?;
+    for (table, key, position) in [
+        (Table::Customer, 1, Some(0)),
+        (Table::Customer, 4, None),
+        (Table::Supplier, 3, Some(2)),
+        (Table::Part, 4, Some(3)),
+        (Table::Date, 19940208, Some(2)),
+        (Table::Date, 19930102, None),
+        (Table::Lineorder, 1, None),
+    ] {
+        assert_eq!(rt; index.position(table, key), position, "{key}");
+    }
+    for (table, rows) in TABLES.iter().zip([3, 3, 4, 4, 0]) {
+        assert_eq!(rt; index.positions(*table), rows, "{}", table.name());
+    }
+    Ok(())
+}
+
+// What a table's one test leaves.
+fn left(index: &DimIndex, alloc: Global, column: Column, cond: Cond) -> Result<Bitmap, Fail> {
+    let mut tests = Vec::new(alloc);
+    tests.push(Test { column, cond })?;
+    Ok(index.bitmap(alloc, column.table, tests.as_slice())?)
+}
+
+#[test]
+fn bitmaps_tell_the_rows_that_pass(rt: HostRuntime) -> Result<(), Fail> {
+    let alloc = rt.alloc();
+    let index = small_index(alloc)?;
+    let asia = left(&index, alloc, C_REGION, Cond::TextIs(text(alloc, "ASIA")?))?;
+    assert_eq!(rt; asia.as_slice(), [false, true, false].as_slice());
+    let mut nations = Vec::new(alloc);
+    nations.push(text(alloc, "JAPAN")?)?;
+    nations.push(text(alloc, "UNITED STATES")?)?;
+    let nations = left(
+        &index,
+        alloc,
+        S_NATION,
+        Cond::TextOneOf(Items::from_vec(nations)),
+    )?;
+    assert_eq!(rt; nations.as_slice(), [false, true, true].as_slice());
+    let brands = Cond::TextFromTo(text(alloc, "MFGR#2221")?, text(alloc, "MFGR#2228")?);
+    let brands = left(&index, alloc, P_BRAND1, brands)?;
+    assert_eq!(rt; brands.as_slice(), [false, true, false, false].as_slice());
+    let years = left(&index, alloc, D_YEAR, Cond::NumberFromTo(1993, 1994))?;
+    assert_eq!(rt; years.as_slice(), [true, true, true, false].as_slice());
+    Ok(())
+}
+
+#[test]
+fn a_row_has_to_pass_all_tests(rt: HostRuntime) -> Result<(), Fail> {
+    let alloc = rt.alloc();
+    let index = small_index(alloc)?;
+    let mut tests = Vec::new(alloc);
+    let all = index.bitmap(alloc, Table::Date, tests.as_slice())?;
+    assert_eq!(rt; all.as_slice(), [true, true, true, true].as_slice());
+    tests.push(Test {
+        column: D_YEAR,
+        cond: Cond::NumberIs(1994),
+    })?;
+    tests.push(Test {
+        column: D_WEEKNUMINYEAR,
+        cond: Cond::NumberIs(6),
+    })?;
+    let week = index.bitmap(alloc, Table::Date, tests.as_slice())?;
+    assert_eq!(rt; week.as_slice(), [false, false, true, false].as_slice());
+    let none = index.bitmap(alloc, Table::Lineorder, tests.as_slice())?;
+    assert_eq!(rt; none.len(), 0);
+    Ok(())
+}
+
+#[test]
+fn a_dimension_may_have_no_rows(rt: HostRuntime) -> Result<(), Fail> {
+    let alloc = rt.alloc();
+    let index = empty_index(alloc)?;
+    for column in query_columns() {
+        assert_eq!(rt; index.codes(*column), 0, "{}", column.name());
+        assert_eq!(rt; index.codes_of(*column).len(), 0, "{}", column.name());
+    }
+    for table in TABLES {
+        assert_eq!(rt; index.positions(table), 0, "{}", table.name());
+        assert_eq!(rt; index.position(table, 1), None, "{}", table.name());
+    }
+    let asia = left(&index, alloc, C_REGION, Cond::TextIs(text(alloc, "ASIA")?))?;
+    assert_eq!(rt; asia.len(), 0);
+    Ok(())
+}
