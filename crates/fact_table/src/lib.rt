@@ -19,6 +19,8 @@ pub mod laws;
 mod place;
 mod slices;
 mod table;
+#[cfg(test)]
+mod tests;
 
 pub use place::{Place, terms};
 pub use slices::Slices;
