@@ -1,0 +1,227 @@
+//! Worked examples over the small data set, with answers that were written by hand.
+
+mod small_data;
+
+use crate::Columns;
+use row_store::{Commit, PlainLines, Replica};
+use small_data::{Step, Told, base, commit, index, lines};
+use ssb_schema::{Fact, Line};
+use std::alloc::Global;
+use std::hash::RandomState;
+use std::test::Fail;
+
+// The line of order 9.
+const NINE: Told = (1, (3, 3, 4, 19971215), (1, 10, 0, 10, 2000));
+
+// Three lines of an order.
+const THREE: &[Told] = &[
+    (1, (1, 2, 3, 19940105), (5, 100, 2, 98, 50)),
+    (2, (2, 3, 4, 19940208), (6, 200, 3, 194, 60)),
+    (3, (3, 1, 1, 19930101), (7, 300, 4, 288, 70)),
+];
+
+// The columns over a base of these lines.
+fn columns_of(rt: &HostRuntime, alloc: Global, lines: Vec<Line>) -> Result<Columns, Fail> {
+    let base = base(alloc, lines)?;
+    Ok(Columns::new(alloc, index(alloc, &base)?, RandomState::new(rt)?)?)
+}
+
+// Those over the small data set.
+fn columns(rt: &HostRuntime, alloc: Global) -> Result<Columns, Fail> {
+    columns_of(rt, alloc, lines(alloc)?)
+}
+
+// Takes in a commit. Where memory is wanting the rows, places and commits are as they were, and it is tried once more.
+fn take(columns: &mut Columns, commit: &Commit) -> Result<(), Fail> {
+    let before = (columns.rows(), columns.places(), columns.commits());
+    if columns.absorb(commit).is_ok() {
+        return Ok(());
+    }
+    if (columns.rows(), columns.places(), columns.commits()) != before {
+        return Err("changed by an error")?;
+    }
+    Ok(columns.absorb(commit)?)
+}
+
+// Takes in a commit of each of these lists of actions.
+fn take_all(alloc: Global, columns: &mut Columns, script: &[&[Step<'_>]]) -> Result<(), Fail> {
+    for steps in script {
+        take(columns, &commit(alloc, steps)?)?;
+    }
+    Ok(())
+}
+
+// The fact of a live line, its keys read back; None where the place is free, or there is none.
+fn fact(columns: &Columns, i: usize) -> Option<Fact> {
+    if i >= columns.places() {
+        return None;
+    }
+    let base = columns.index().base();
+    let line = columns.at(i);
+    if !line.is_live() {
+        return None;
+    }
+    Some(Fact {
+        order_key: line.order,
+        customer: base.customers().get(line.customer as usize)?.key(),
+        supplier: base.suppliers().get(line.supplier as usize)?.key(),
+        part: base.parts().get(line.part as usize)?.key(),
+        date: base.dates().get(line.date as usize)?.key(),
+        quantity: u8::try_from(line.quantity()).ok()?,
+        discount: line.discount(),
+        price: line.price,
+        revenue: line.revenue,
+        cost: line.cost,
+    })
+}
+
+// The live facts by place.
+fn facts(alloc: Global, columns: &Columns) -> Result<Vec<Fact>, Fail> {
+    let mut facts = Vec::new(alloc);
+    for i in 0..columns.places() {
+        if let Some(fact) = fact(columns, i) {
+            facts.push(fact)?;
+        }
+    }
+    Ok(facts)
+}
+
+// The facts in text.
+fn told(alloc: Global, columns: &Columns) -> Result<String, Fail> {
+    let mut told = String::new(alloc);
+    for f in &facts(alloc, columns)? {
+        write!(
+            told,
+            "{} {} {} {} {} ",
+            f.order_key, f.customer, f.supplier, f.part, f.date
+        )?;
+        writeln!(
+            told,
+            "{} {} {} {} {}",
+            f.quantity, f.discount, f.price, f.revenue, f.cost
+        )?;
+    }
+    Ok(told)
+}
+
+const WITHDRAW_ONE: &[Step<'static>] = &[Step::Withdraw(1)];
+
+const ADD_NINE: &[Step<'static>] = &[Step::Add(9, &[NINE])];
+
+#[test]
+fn a_withdrawn_place_is_used_again(rt: HostRuntime) -> Result<(), Fail> {
+    let alloc = rt.alloc();
+    let mut columns = columns(&rt, alloc)?;
+    take_all(alloc, &mut columns, &[WITHDRAW_ONE, ADD_NINE])?;
+    assert_eq!(rt; columns.rows(), 3);
+    assert_eq!(rt; columns.places(), 4);
+    assert_eq!(rt; columns.commits(), 2);
+    let told = told(alloc, &columns)?;
+    assert_eq!(rt;
+        told.as_str(),
+        "9 3 3 4 19971215 1 0 10 10 2000\n2 1 1 1 19971215 10 0 500 500 700\n3 3 3 4 19971215 30 5 800 760 100\n"
+    );
+    Ok(())
+}
+
+#[test]
+fn an_amended_order_has_its_new_lines_alone(rt: HostRuntime) -> Result<(), Fail> {
+    let alloc = rt.alloc();
+    let mut columns = columns(&rt, alloc)?;
+    take_all(alloc, &mut columns, &[&[Step::Amend(1, &[NINE])]])?;
+    assert_eq!(rt; (columns.rows(), columns.places()), (3, 4));
+    let told = told(alloc, &columns)?;
+    assert_eq!(rt;
+        told.as_str(),
+        "1 3 3 4 19971215 1 0 10 10 2000\n2 1 1 1 19971215 10 0 500 500 700\n3 3 3 4 19971215 30 5 800 760 100\n"
+    );
+    Ok(())
+}
+
+#[test]
+fn an_empty_base_grows(rt: HostRuntime) -> Result<(), Fail> {
+    let alloc = rt.alloc();
+    let mut columns = columns_of(&rt, alloc, Vec::new(alloc))?;
+    assert_eq!(rt; (columns.rows(), columns.places()), (0, 0));
+    take_all(alloc, &mut columns, &[WITHDRAW_ONE, ADD_NINE])?;
+    let told = told(alloc, &columns)?;
+    assert_eq!(rt; told.as_str(), "9 3 3 4 19971215 1 0 10 10 2000\n");
+    assert_eq!(rt; columns.commits(), 2);
+    Ok(())
+}
+
+// Commits that are accepted, and some that no store accepts.
+const MIXED: &[&[Step<'static>]] = &[
+    &[Step::Add(9, &[NINE]), Step::Withdraw(2)],
+    &[Step::Amend(1, THREE), Step::Add(4, THREE)],
+    &[Step::Add(4, THREE), Step::Withdraw(77)],
+    &[
+        Step::Withdraw(9),
+        Step::Add(9, THREE),
+        Step::Amend(9, &[NINE]),
+    ],
+    &[Step::Amend(88, THREE), Step::Withdraw(4)],
+    &[Step::Add(3, &[NINE]), Step::Add(3, THREE)],
+];
+
+// How often a fact stands in a list.
+fn count(facts: &[Fact], fact: Fact) -> usize {
+    facts.iter().filter(|other| **other == fact).count()
+}
+
+#[test]
+fn the_rows_are_the_lines_of_a_plain_list(rt: HostRuntime) -> Result<(), Fail> {
+    let alloc = rt.alloc();
+    let mut columns = columns(&rt, alloc)?;
+    let mut plain = PlainLines::new(alloc, base(alloc, lines(alloc)?)?)?;
+    for (i, steps) in MIXED.iter().enumerate() {
+        let commit = commit(alloc, steps)?;
+        take(&mut columns, &commit)?;
+        plain.absorb(&commit)?;
+        assert_eq!(rt; columns.rows(), plain.lines().len(), "after {i}");
+        let copy = columns.copy()?;
+        let facts = facts(alloc, &copy)?;
+        let wanted: Vec<Fact> = plain.lines().iter().map(|line| line.fact()).collect(alloc)?;
+        for fact in &facts {
+            assert_eq!(rt; count(&facts, *fact), count(&wanted, *fact), "after {i}");
+        }
+    }
+    // Three lines of order 1, the loaded one of order 3 and four more, three of order 88 and one of order 9.
+    assert_eq!(rt; columns.rows(), 12);
+    Ok(())
+}
+
+#[test]
+fn places_do_not_grow_with_turnover(rt: HostRuntime) -> Result<(), Fail> {
+    let alloc = rt.alloc();
+    let mut columns = columns(&rt, alloc)?;
+    for _ in 0..100 {
+        take_all(
+            alloc,
+            &mut columns,
+            &[
+                &[Step::Add(7, THREE), Step::Add(9, &[NINE])],
+                &[Step::Withdraw(9)],
+                &[Step::Withdraw(7)],
+            ],
+        )?;
+    }
+    assert_eq!(rt; (columns.rows(), columns.places()), (4, 8));
+    Ok(())
+}
+
+// A line of a supplier that the base lacks.
+const UNKNOWN: Told = (2, (3, 8, 4, 19971215), (1, 10, 0, 10, 2000));
+
+#[test]
+fn an_unknown_key_changes_nothing(rt: HostRuntime) -> Result<(), Fail> {
+    let alloc = rt.alloc();
+    let mut columns = columns(&rt, alloc)?;
+    let before = told(alloc, &columns)?;
+    let commit = commit(alloc, &[Step::Withdraw(1), Step::Add(9, &[NINE, UNKNOWN])])?;
+    assert!(rt; columns.absorb(&commit).is_err());
+    let after = told(alloc, &columns)?;
+    assert_eq!(rt; after.as_str(), before.as_str());
+    assert_eq!(rt; (columns.rows(), columns.commits()), (4, 0));
+    Ok(())
+}
