@@ -43,7 +43,8 @@ pub fn coded(index: &DimIndex, line: &Line) -> Result<Place, AllocError>
 
 // Puts lines in codes behind others.
 fn code_lines(index: &DimIndex, lines: &[Line], fresh: &mut Vec<Place>) -> Result<(), AllocError>
-    ensures { (before : List PlainFact) → AreCodesOf index.now.dimensions before fresh.old.items → OnOk result (AreCodesOf index.now.dimensions (before ++ facts_of lines.now) fresh.new.items) }
+    ensures { (before : List PlainFact) → AreCodesOf index.now.dimensions before fresh.old.items
+        → OnOk result (AreCodesOf index.now.dimensions (before ++ facts_of lines.now) fresh.new.items) }
 {
     for line in lines {
         fresh.push(coded(index, line)?)?;
@@ -57,7 +58,8 @@ pub fn coded_actions(
     index: &DimIndex,
     actions: &[Action],
 ) -> Result<Vec<Place>, AllocError>
-    ensures { IfOk result (λ fresh. AreCodesOf index.now.dimensions (facts_of (flat_map added_by actions.now)) fresh.items) }
+    ensures { IfOk result
+        (λ fresh. AreCodesOf index.now.dimensions (facts_of (flat_map added_by actions.now)) fresh.items) }
 {
     let mut fresh = Vec::new(alloc);
     for action in actions {

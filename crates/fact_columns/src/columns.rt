@@ -84,7 +84,8 @@ impl Columns {
     /// How many lines are live.
     pub fn rows(&self) -> usize
         ensures rows { result ≡ length self.now.facts }
-        ensures lines { (history : List CommitRecord) → StandsFor (columns_state self.now) history → result ≡ length (lines_after self.now.base history) }
+        ensures lines { (history : List CommitRecord) → StandsFor (columns_state self.now) history
+            → result ≡ length (lines_after self.now.base history) }
     {
         self.rows
     }

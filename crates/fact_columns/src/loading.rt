@@ -29,7 +29,8 @@ pub fn table_of(alloc: Global, index: &DimIndex, lines: &[Line]) -> Result<Table
 fn end_of_order(lines: &[Line], first: usize) -> usize
     requires { first < length lines.now }
     ensures ends { (first < result) × (result ≤ length lines.now) }
-    ensures alike { (i : ℕ) (line : LineFields) → first ≤ i → i < result → (slice_index_or lines.now i line).order_key ≡ (slice_index_or lines.now first line).order_key }
+    ensures alike { (i : ℕ) (line : LineFields) → first ≤ i → i < result
+        → (slice_index_or lines.now i line).order_key ≡ (slice_index_or lines.now first line).order_key }
 {
     let key = lines[first].order_key();
     let mut end = first + 1;
@@ -42,7 +43,8 @@ fn end_of_order(lines: &[Line], first: usize) -> usize
 /// Has the spans cover each line at its own index.
 pub fn span_all(spans: &mut Spans, lines: &[Line]) -> Result<(), AllocError>
     requires { length lines.now < 2 ^ 32 }
-    ensures { OnOk result ((i : ℕ) (line : LineFields) → i < length lines.now → Covers (get nat_eq spans.new (slice_index_or lines.now i line).order_key) i) }
+    ensures { OnOk result ((i : ℕ) (line : LineFields) → i < length lines.now
+        → Covers (get nat_eq spans.new (slice_index_or lines.now i line).order_key) i) }
 {
     let mut at = 0;
     while at < lines.len() {

@@ -28,9 +28,12 @@ fn put_order(table: &mut Table, spans: &mut Spans, first: usize, key: u64, lines
     requires own { All (λ line. line.order ≡ key) lines.now }
     requires spanned { Spanned (get nat_eq spans.old) table.old.places }
     ensures spanned { Spanned (get nat_eq spans.new) table.new.places }
-    ensures counts { (dimensions : Dimensions) → counts_at dimensions table.new.places ≡ with_places dimensions (counts_at dimensions table.old.places) lines.now }
+    ensures counts { (dimensions : Dimensions)
+        → counts_at dimensions table.new.places
+        ≡ with_places dimensions (counts_at dimensions table.old.places) lines.now }
     ensures count { live_count table.new.places ≡ live_count table.old.places + length lines.now }
-    ensures inside { (dimensions : Dimensions) → All (IsWithin dimensions) lines.now → All (IsWithin dimensions) table.old.places → All (IsWithin dimensions) table.new.places }
+    ensures inside { (dimensions : Dimensions) → All (IsWithin dimensions) lines.now
+        → All (IsWithin dimensions) table.old.places → All (IsWithin dimensions) table.new.places }
     ensures len { length table.new.places ≤ length table.old.places + length lines.now }
     ensures room { table.old.room ≤ table.new.room + length lines.now }
     ensures spare { spare spans.old ≤ spare spans.new + 1 }
@@ -50,9 +53,12 @@ fn put_order(table: &mut Table, spans: &mut Spans, first: usize, key: u64, lines
 fn take_order(table: &mut Table, spans: &mut Spans, key: u64) -> (Span, usize)
     requires spanned { Spanned (get nat_eq spans.old) table.old.places }
     ensures spanned { Spanned (get nat_eq spans.new) table.new.places }
-    ensures counts { (dimensions : Dimensions) → counts_at dimensions table.new.places ≡ counts_after_action (counts_at dimensions table.old.places) (Withdraw key) }
+    ensures counts { (dimensions : Dimensions)
+        → counts_at dimensions table.new.places
+        ≡ counts_after_action (counts_at dimensions table.old.places) (Withdraw key) }
     ensures count { live_count table.old.places ≡ live_count table.new.places + result.1 }
-    ensures inside { (dimensions : Dimensions) → All (IsWithin dimensions) table.old.places → All (IsWithin dimensions) table.new.places }
+    ensures inside { (dimensions : Dimensions) → All (IsWithin dimensions) table.old.places
+        → All (IsWithin dimensions) table.new.places }
     ensures len { length table.new.places ≡ length table.old.places }
     ensures room { table.new.room ≡ table.old.room }
     ensures spare { spare spans.old ≤ spare spans.new }
@@ -83,9 +89,12 @@ fn add(table: &mut Table, spans: &mut Spans, hints: &mut Hints, key: u64, lines:
     requires own { All (λ line. line.order ≡ key) lines.now }
     requires spanned { Spanned (get nat_eq spans.old) table.old.places }
     ensures spanned { Spanned (get nat_eq spans.new) table.new.places }
-    ensures counts { (dimensions : Dimensions) → counts_at dimensions table.new.places ≡ with_places dimensions (counts_at dimensions table.old.places) lines.now }
+    ensures counts { (dimensions : Dimensions)
+        → counts_at dimensions table.new.places
+        ≡ with_places dimensions (counts_at dimensions table.old.places) lines.now }
     ensures count { live_count table.new.places ≡ live_count table.old.places + length lines.now }
-    ensures inside { (dimensions : Dimensions) → All (IsWithin dimensions) lines.now → All (IsWithin dimensions) table.old.places → All (IsWithin dimensions) table.new.places }
+    ensures inside { (dimensions : Dimensions) → All (IsWithin dimensions) lines.now
+        → All (IsWithin dimensions) table.old.places → All (IsWithin dimensions) table.new.places }
     ensures len { length table.new.places ≤ length table.old.places + length lines.now }
     ensures room { table.old.room ≤ table.new.room + length lines.now }
     ensures spare { spare spans.old ≤ spare spans.new + 1 }
@@ -98,9 +107,12 @@ fn add(table: &mut Table, spans: &mut Spans, hints: &mut Hints, key: u64, lines:
 fn withdraw(table: &mut Table, spans: &mut Spans, hints: &mut Hints, key: u64) -> usize
     requires spanned { Spanned (get nat_eq spans.old) table.old.places }
     ensures spanned { Spanned (get nat_eq spans.new) table.new.places }
-    ensures counts { (dimensions : Dimensions) → counts_at dimensions table.new.places ≡ counts_after_action (counts_at dimensions table.old.places) (Withdraw key) }
+    ensures counts { (dimensions : Dimensions)
+        → counts_at dimensions table.new.places
+        ≡ counts_after_action (counts_at dimensions table.old.places) (Withdraw key) }
     ensures count { live_count table.old.places ≡ live_count table.new.places + result }
-    ensures inside { (dimensions : Dimensions) → All (IsWithin dimensions) table.old.places → All (IsWithin dimensions) table.new.places }
+    ensures inside { (dimensions : Dimensions) → All (IsWithin dimensions) table.old.places
+        → All (IsWithin dimensions) table.new.places }
     ensures len { length table.new.places ≡ length table.old.places }
     ensures room { table.new.room ≡ table.old.room }
     ensures spare { spare spans.old ≤ spare spans.new }
@@ -125,9 +137,12 @@ fn act(
     requires alike { All (λ line. line.order_key ≡ key_of action.now) (added_by action.now) }
     requires spanned { Spanned (get nat_eq spans.old) table.old.places }
     ensures spanned { Spanned (get nat_eq spans.new) table.new.places }
-    ensures counts { (dimensions : Dimensions) → AreCodesOf dimensions (facts_of (added_by action.now)) lines.now → counts_at dimensions table.new.places ≡ counts_after_action (counts_at dimensions table.old.places) action.now }
+    ensures counts { (dimensions : Dimensions) → AreCodesOf dimensions (facts_of (added_by action.now)) lines.now
+        → counts_at dimensions table.new.places
+        ≡ counts_after_action (counts_at dimensions table.old.places) action.now }
     ensures count { live_count table.new.places + result ≡ live_count table.old.places + length lines.now }
-    ensures inside { (dimensions : Dimensions) → All (IsWithin dimensions) lines.now → All (IsWithin dimensions) table.old.places → All (IsWithin dimensions) table.new.places }
+    ensures inside { (dimensions : Dimensions) → All (IsWithin dimensions) lines.now
+        → All (IsWithin dimensions) table.old.places → All (IsWithin dimensions) table.new.places }
     ensures len { length table.new.places ≤ length table.old.places + length lines.now }
     ensures room { table.old.room ≤ table.new.room + length lines.now }
     ensures spare { spare spans.old ≤ spare spans.new + 1 }
@@ -157,12 +172,17 @@ pub fn act_all(
     requires room { length fresh.now ≤ table.old.room }
     requires small { length table.old.places + length fresh.now < 2 ^ 32 }
     requires spare { length actions.now ≤ spare spans.old }
-    requires coded { (dimensions : Dimensions) × AreCodesOf dimensions (facts_of (flat_map added_by actions.now)) fresh.now }
+    requires coded { (dimensions : Dimensions)
+        × AreCodesOf dimensions (facts_of (flat_map added_by actions.now)) fresh.now }
     requires spanned { Spanned (get nat_eq spans.old) table.old.places }
     ensures spanned { Spanned (get nat_eq spans.new) table.new.places }
-    ensures counts { (dimensions : Dimensions) → AreCodesOf dimensions (facts_of (flat_map added_by actions.now)) fresh.now → counts_at dimensions table.new.places ≡ fold counts_after_action (counts_at dimensions table.old.places) actions.now }
+    ensures counts { (dimensions : Dimensions)
+        → AreCodesOf dimensions (facts_of (flat_map added_by actions.now)) fresh.now
+        → counts_at dimensions table.new.places
+        ≡ fold counts_after_action (counts_at dimensions table.old.places) actions.now }
     ensures count { live_count table.new.places + result ≡ live_count table.old.places + length fresh.now }
-    ensures inside { (dimensions : Dimensions) → All (IsWithin dimensions) fresh.now → All (IsWithin dimensions) table.old.places → All (IsWithin dimensions) table.new.places }
+    ensures inside { (dimensions : Dimensions) → All (IsWithin dimensions) fresh.now
+        → All (IsWithin dimensions) table.old.places → All (IsWithin dimensions) table.new.places }
     ensures len { length table.new.places ≤ length table.old.places + length fresh.now }
 {
     let mut rest = fresh;

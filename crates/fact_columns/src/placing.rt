@@ -1,5 +1,6 @@
 //! Lines put into places, and taken out of them.
-ghost use Rattle.std.specs.Prelude.{◌≡◌, ◌≢◌, ◌+◌, ◌<◌, ◌≤◌, ◌^◌, ℕ, true, All, length, Some, None, slice_index_or, option_map};
+ghost use Rattle.std.specs.Prelude.{◌≡◌, ◌≢◌, ◌+◌, ◌<◌, ◌≤◌, ◌^◌, ℕ, true, All, length};
+ghost use Rattle.std.specs.Prelude.{Some, None, slice_index_or, option_map};
 ghost use Rattle.ssb_schema.specs.Base.{Dimensions};
 ghost use Rattle.row_store.specs.State.{with_fact};
 ghost use Rattle.fact_table.specs.declared.place.Place.{Place as PlainPlace};
@@ -51,10 +52,14 @@ fn put(table: &mut Table, place: usize, line: Place)
     requires live { is_live line ≡ true }
     ensures here { live_at table.new.places place ≡ Some line }
     ensures others { (other : ℕ) → other ≢ place → live_at table.new.places other ≡ live_at table.old.places other }
-    ensures counts { (dimensions : Dimensions) → counts_at dimensions table.new.places ≡ with_fact (counts_at dimensions table.old.places) (fact_at dimensions line) }
+    ensures counts { (dimensions : Dimensions)
+        → counts_at dimensions table.new.places
+        ≡ with_fact (counts_at dimensions table.old.places) (fact_at dimensions line) }
     ensures count { live_count table.new.places ≡ live_count table.old.places + 1 }
-    ensures inside { (dimensions : Dimensions) → IsWithin dimensions line → All (IsWithin dimensions) table.old.places → All (IsWithin dimensions) table.new.places }
-    ensures len { (length table.old.places ≤ length table.new.places) × (length table.new.places ≤ length table.old.places + 1) }
+    ensures inside { (dimensions : Dimensions) → IsWithin dimensions line → All (IsWithin dimensions) table.old.places
+        → All (IsWithin dimensions) table.new.places }
+    ensures len { (length table.old.places ≤ length table.new.places)
+        × (length table.new.places ≤ length table.old.places + 1) }
     ensures reach { place < length table.new.places }
     ensures room { table.old.room ≤ table.new.room + 1 }
 {
@@ -72,13 +77,19 @@ pub fn put_all(table: &mut Table, first: usize, lines: &[Place])
     requires free { AreFree table.old.places first (length lines.now) }
     requires room { length lines.now ≤ table.old.room }
     requires live { All (λ line. is_live line ≡ true) lines.now }
-    ensures mine { (i : ℕ) (other : PlainPlace) → i < length lines.now → live_at table.new.places (first + i) ≡ Some (slice_index_or lines.now i other) }
+    ensures mine { (i : ℕ) (other : PlainPlace) → i < length lines.now
+        → live_at table.new.places (first + i) ≡ Some (slice_index_or lines.now i other) }
     ensures below { (place : ℕ) → place < first → live_at table.new.places place ≡ live_at table.old.places place }
-    ensures above { (place : ℕ) → first + length lines.now ≤ place → live_at table.new.places place ≡ live_at table.old.places place }
-    ensures counts { (dimensions : Dimensions) → counts_at dimensions table.new.places ≡ with_places dimensions (counts_at dimensions table.old.places) lines.now }
+    ensures above { (place : ℕ) → first + length lines.now ≤ place
+        → live_at table.new.places place ≡ live_at table.old.places place }
+    ensures counts { (dimensions : Dimensions)
+        → counts_at dimensions table.new.places
+        ≡ with_places dimensions (counts_at dimensions table.old.places) lines.now }
     ensures count { live_count table.new.places ≡ live_count table.old.places + length lines.now }
-    ensures inside { (dimensions : Dimensions) → All (IsWithin dimensions) lines.now → All (IsWithin dimensions) table.old.places → All (IsWithin dimensions) table.new.places }
-    ensures len { (length table.old.places ≤ length table.new.places) × (length table.new.places ≤ length table.old.places + length lines.now) }
+    ensures inside { (dimensions : Dimensions) → All (IsWithin dimensions) lines.now
+        → All (IsWithin dimensions) table.old.places → All (IsWithin dimensions) table.new.places }
+    ensures len { (length table.old.places ≤ length table.new.places)
+        × (length table.new.places ≤ length table.old.places + length lines.now) }
     ensures room { table.old.room ≤ table.new.room + length lines.now }
 {
     for (i, line) in lines.iter().enumerate() {
@@ -92,7 +103,8 @@ fn free(table: &mut Table, place: usize)
     ensures here { live_at table.new.places place ≡ None }
     ensures others { (other : ℕ) → other ≢ place → live_at table.new.places other ≡ live_at table.old.places other }
     ensures count { live_count table.old.places ≡ live_count table.new.places + 1 }
-    ensures inside { (dimensions : Dimensions) → All (IsWithin dimensions) table.old.places → All (IsWithin dimensions) table.new.places }
+    ensures inside { (dimensions : Dimensions) → All (IsWithin dimensions) table.old.places
+        → All (IsWithin dimensions) table.new.places }
     ensures len { length table.new.places ≡ length table.old.places }
     ensures room { table.new.room ≡ table.old.room }
 {
@@ -101,10 +113,13 @@ fn free(table: &mut Table, place: usize)
 
 /// Frees the places of a span that hold live lines of an order, and answers how many they were.
 pub fn free_order(table: &mut Table, key: u64, span: Span) -> usize
-    requires { (place : ℕ) (line : PlainPlace) → live_at table.old.places place ≡ Some line → line.order ≡ key → (span.first ≤ place) × (place < span.end) }
-    ensures gone { (place : ℕ) → live_at table.new.places place ≡ kept (is_of_other key) (live_at table.old.places place) }
+    requires { (place : ℕ) (line : PlainPlace) → live_at table.old.places place ≡ Some line → line.order ≡ key
+        → (span.first ≤ place) × (place < span.end) }
+    ensures gone { (place : ℕ)
+        → live_at table.new.places place ≡ kept (is_of_other key) (live_at table.old.places place) }
     ensures count { live_count table.old.places ≡ live_count table.new.places + result }
-    ensures inside { (dimensions : Dimensions) → All (IsWithin dimensions) table.old.places → All (IsWithin dimensions) table.new.places }
+    ensures inside { (dimensions : Dimensions) → All (IsWithin dimensions) table.old.places
+        → All (IsWithin dimensions) table.new.places }
     ensures len { length table.new.places ≡ length table.old.places }
     ensures room { table.new.room ≡ table.old.room }
 {
