@@ -1,6 +1,5 @@
 //! A column of a dimension in codes.
-ghost use Rattle.std.specs.Prelude.{◌≡◌, ℕ, ◌+◌, ◌<◌, ◌^◌, List, [], map, length, slice_get, slice_index, IfOk, OnOk, Some};
-ghost use Rattle.ssb_plans.specs.Queries.{number_of, text_of};
+ghost use Rattle.std.specs.Prelude.{◌≡◌, ◌<◌, ◌^◌, [], map, length, IfOk, OnOk};
 ghost use Rattle.ssb_plans.specs.Cond.{holds};
 ghost use Rattle.dim_index.specs.Codes.{distinct, codes_of};
 ghost use Rattle.dim_index.specs.Bitmaps.{narrowed};

@@ -1,9 +1,6 @@
 //! The distinct values of a column, each with its code.
-ghost use Rattle.std.specs.Prelude.{◌≡◌, ◌+◌, ◌<◌, ◌≤◌, ◌^◌, List, [], map, length, slice_get, slice_index_or, IfOk, OnOk, OnErr, Some};
-ghost use Rattle.std.specs.Hash as fed;
+ghost use Rattle.std.specs.Prelude.{◌≡◌, ◌<◌, ◌^◌, [], map, length, slice_get, IfOk, OnOk, OnErr, Some};
 ghost use Rattle.indexmap.specs.IndexSet.{insert_key};
-ghost use Rattle.ssb_plans.specs.declared.value.Value.{Value as PlainValue};
-ghost use Rattle.ssb_plans.specs.declared.value.Value.TheVariants as plain;
 ghost use Rattle.ssb_plans.specs.Cond.{column_value, holds};
 ghost use Rattle.ssb_plans.specs.Queries.{number_of, text_of};
 ghost use Rattle.dim_index.specs.Codes.{is_same, hash_input_of};
