@@ -84,16 +84,20 @@ constants_from place (kind ∷ kinds) fields =
 abbrev pub taken_by : Named → List Value → Option (List Value)
 taken_by query constants = if is_none (constants_fault query constants) then Some constants else None
 
--- the constants of a query: those that it has where none are given, or one in each field after its name
-unfoldable pub constants_of : Named → List (List ℕ) → Option (List Value)
-constants_of query fields =
-    if has_columns 2 fields then Some (standard_constants query)
-    else if has_columns (2 + length (constant_kinds query)) fields then option_and_then (taken_by query) (constants_from 2 (constant_kinds query) fields)
+-- the constants of a query behind so many fields: those that it has where none are given, or one in each field from there on
+unfoldable pub constants_at : ℕ → Named → List (List ℕ) → Option (List Value)
+constants_at place query fields =
+    if has_columns place fields then Some (standard_constants query)
+    else if has_columns (place + length (constant_kinds query)) fields then option_and_then (taken_by query) (constants_from place (constant_kinds query) fields)
     else None
 
--- the query that a record names, with its constants
+-- the query that a record names at one place, with its constants from another on
+abbrev pub question_at : ℕ → ℕ → List (List ℕ) → Option (Named × List Value)
+question_at name place fields = option_and_then (λ query. option_map (λ constants. (query, constants)) (constants_at place query fields)) (query_named (field fields name))
+
+-- the question that a `query` record asks
 abbrev pub question_of : List (List ℕ) → Option (Named × List Value)
-question_of fields = option_and_then (λ query. option_map (λ constants. (query, constants)) (constants_of query fields)) (query_named (field fields 1))
+question_of fields = question_at 1 2 fields
 
 -- the number, or the text, that stands in a place of a row's values
 abbrev pub number_value : columns.Value → ℕ

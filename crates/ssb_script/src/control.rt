@@ -8,7 +8,7 @@ ghost use Rattle.ssb_script.specs.Steps.{line_of_control};
 ghost use Rattle.ssb_script.specs.Requests.{action_of};
 
 use crate::fields::trimmed_at;
-use crate::question::question_of;
+use crate::question::question_at;
 use crate::word::Word;
 use csv::ByteRecord;
 use ssb_load::{has_columns, number};
@@ -80,7 +80,7 @@ impl Control {
             return Ok(None);
         };
         Ok(match word {
-            Word::Query => question_of(alloc, fields)?.map(Control::Query),
+            Word::Query => question_at(alloc, 1, 2, fields)?.map(Control::Query),
             Word::Begin => alone(Control::Begin, fields),
             Word::Add => alone(Control::Open(Opening::Add), fields),
             Word::Amend => alone(Control::Open(Opening::Amend), fields),

@@ -11,7 +11,7 @@ use ssb_load::{field_at, trimmed};
 use std::alloc::{AllocError, Global};
 
 /// The field at a place, counted from 0, without the spaces at its end.
-pub(crate) fn trimmed_at(fields: &ByteRecord, place: usize) -> &[u8]
+pub fn trimmed_at(fields: &ByteRecord, place: usize) -> &[u8]
     ensures { result.now ≡ field (fields_of fields.now) place }
 {
     trimmed(field_at(fields, place))

@@ -27,5 +27,7 @@ mod word;
 
 pub use block::{Block, Script};
 pub use error::ScriptError;
+pub use fields::trimmed_at;
 pub use laws::one_reading;
+pub use question::{constants_from, question_at};
 pub use script::read_script;

@@ -1,6 +1,6 @@
 //! The `query` records of a script: a query's name, alone or with all its constants.
 
-ghost use Rattle.std.specs.Prelude.{◌≡◌, ◌<◌, length, option_map, IfOk};
+ghost use Rattle.std.specs.Prelude.{◌≡◌, ◌+◌, ◌<◌, ◌≤◌, length, option_map, IfOk};
 ghost use Rattle.csv.specs.Records.{fields_of};
 ghost use Rattle.ssb_script.specs.Lines as spec;
 ghost use Rattle.ssb_script.specs.Lines.{constant_spelled};
@@ -38,19 +38,20 @@ fn constant_of(alloc: Global, kind: ConstantKind, bytes: &[u8]) -> Result<Option
     }
 }
 
-// The constants of these kinds, one in each field after the query's name.
+/// The constants of these kinds that the fields from a place on, counted from 0, spell one by one, if each does.
 #[tactic(auto, unfolding(crate::specs::Lines::constants_from))]
-fn constants_from(
+pub fn constants_from(
     alloc: Global,
+    place: usize,
     kinds: &[ConstantKind],
     fields: &ByteRecord,
 ) -> Result<Option<Vec<Value>>, AllocError>
-    requires { length kinds.now < 98 }
-    ensures { IfOk result (λ found. option_map (λ constants. constants.items) found ≡ spec.constants_from 2 kinds.now (fields_of fields.now)) }
+    requires { place + length kinds.now < 100 }
+    ensures { IfOk result (λ found. option_map (λ constants. constants.items) found ≡ spec.constants_from place kinds.now (fields_of fields.now)) }
 {
     let mut constants = Vec::new(alloc);
     for (i, kind) in kinds.iter().enumerate() {
-        let Some(constant) = constant_of(alloc, *kind, trimmed_at(fields, 2 + i))? else {
+        let Some(constant) = constant_of(alloc, *kind, trimmed_at(fields, place + i))? else {
             return Ok(None);
         };
         constants.push(constant)?;
@@ -58,23 +59,25 @@ fn constants_from(
     Ok(Some(constants))
 }
 
-// The question of a query with the constants that its record gives.
-#[tactic(auto, unfolding(crate::specs::Lines::constants_of))]
+// The question of a query with the constants that its record gives from a place on.
+#[tactic(auto, unfolding(crate::specs::Lines::constants_at))]
 fn question_over(
     alloc: Global,
     query: Query,
+    place: usize,
     fields: &ByteRecord,
 ) -> Result<Option<Question>, AllocError>
-    ensures { IfOk result (λ question. question ≡ option_map (λ constants. (query, constants)) (spec.constants_of query (fields_of fields.now))) }
+    requires { place ≤ 10 }
+    ensures { IfOk result (λ question. question ≡ option_map (λ constants. (query, constants)) (spec.constants_at place query (fields_of fields.now))) }
 {
-    if has_columns(fields, 2) {
+    if has_columns(fields, place) {
         return Ok(Some(Question::standard(alloc, query)?));
     }
     let kinds = query.constant_kinds();
-    if !has_columns(fields, 2 + kinds.len()) {
+    if !has_columns(fields, place + kinds.len()) {
         return Ok(None);
     }
-    let Some(constants) = constants_from(alloc, kinds, fields)? else {
+    let Some(constants) = constants_from(alloc, place, kinds, fields)? else {
         return Ok(None);
     };
     match Question::with(alloc, query, constants) {
@@ -84,15 +87,19 @@ fn question_over(
     }
 }
 
-/// The question that a `query` record asks, if it asks one.
-pub(crate) fn question_of(
+/// The question whose query's name stands at one place of a record, and whose constants from another on, both counted
+/// from 0, if the record asks one.
+pub fn question_at(
     alloc: Global,
+    name: usize,
+    place: usize,
     fields: &ByteRecord,
 ) -> Result<Option<Question>, AllocError>
-    ensures { IfOk result (λ question. question ≡ spec.question_of (fields_of fields.now)) }
+    requires { place ≤ 10 }
+    ensures { IfOk result (λ question. question ≡ spec.question_at name place (fields_of fields.now)) }
 {
-    match query_named(trimmed_at(fields, 1)) {
-        Some(query) => question_over(alloc, query, fields),
+    match query_named(trimmed_at(fields, name)) {
+        Some(query) => question_over(alloc, query, place, fields),
         None => Ok(None),
     }
 }

@@ -19,6 +19,8 @@
 
 mod answers;
 mod commits;
+#[cfg(test)]
+mod tests;
 mod writing;
 
 pub use ssb_audit::{AuditFault, Told, Trace, audit};
