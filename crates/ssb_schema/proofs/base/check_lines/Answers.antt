@@ -1,4 +1,4 @@
-use Rattle.std.proofs.Common.{◌≡◌, ◌∙◌, true, false, Some, length, take, sym, refl, arith}
+use Rattle.std.proofs.Common.{◌≡◌, ◌∙◌, false, Some, length, take, sym, refl, arith}
 use Rattle.std.specs.List.{slice_get, list_any}
 use Rattle.std.proofs.lemmas.Option.{slice_get_read}
 use Rattle.ssb_schema.specs.Base.{line_fault}
