@@ -1,14 +1,14 @@
 -- How the rows of a dimension are found by key.
-use Rattle.std.specs.Prelude.{◌≡◌, ℕ, List, Option, is_some, nat_eq, slice_get}
-use Rattle.std.specs.HashMap as map
+use Rattle.std.specs.Prelude.{◌≡◌, ℕ, List, Option, is_some, slice_get}
 use Rattle.std.specs.Option.{option_and_then}
 use Rattle.ssb_schema.specs.Base.{Dimensions, has_key, row_with, customer_key, supplier_key, part_key, date_key}
+use Rattle.ssb_schema.specs.Places.{place_in}
 use Rattle.ssb_schema.specs.declared.index.Index.{Index}
 use Rattle.ssb_schema.specs.declared.index.Indexes.{Indexes}
 
 -- the place that the index has for a key
 abbrev pub place_of : Index → ℕ → Option ℕ
-place_of index k = map.get nat_eq index.places k
+place_of index k = place_in index.places k
 
 -- the index has the keys of the first rows, each with the place of its row
 pub record IsIndexOf {R : Type 0} (key : R → ℕ) (first rows : List R) (places : ℕ → Option ℕ) : Type 0 where

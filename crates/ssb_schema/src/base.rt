@@ -1,10 +1,11 @@
 //! The base: the loaded tables, which the whole warehouse shares.
 
-ghost use Rattle.std.specs.Prelude.{◌≡◌, IfOk, IfErr, is_some, slice_get};
+ghost use Rattle.std.specs.Prelude.{◌≡◌, ◌<◌, ◌+◌, ◌*◌, true, [], IfOk, IfErr, is_some, slice_get};
 ghost use Rattle.std.specs.Option.{option_and_then, option_copied};
 ghost use Rattle.ssb_schema.specs.Base.{Dimensions, base_fault, line_fault, table_fault, unknown_of, is_same_line};
 ghost use Rattle.ssb_schema.specs.Base.{IsSound, has_key, row_with, customer_key, supplier_key, part_key, date_key};
 ghost use Rattle.ssb_schema.specs.Checked.{Finds};
+ghost use Rattle.ssb_schema.specs.FirstFault.{rows_fault};
 ghost use Rattle.ssb_schema.specs.Indexed.{AreIndexesOf};
 ghost use Rattle.ssb_schema.specs.declared.table.Table.TheVariants as table;
 
@@ -84,14 +85,12 @@ fn unknown(indexes: &Indexes, line: &Line) -> Option<Table>
     }
 }
 
-// Checks that each line is the first of its order key and line number, and names a row of each dimension.
-fn check_lines(alloc: Global, limit: usize, indexes: &Indexes, lines: &[Line]) -> Result<(), Stop>
+// Checks that each line is the first of its order key and line number, and names a row of each dimension, by a set of all
+// keys.
+fn check_any_lines(alloc: Global, indexes: &Indexes, lines: &[Line]) -> Result<(), Stop>
     ensures { (dimensions : Dimensions) → AreIndexesOf indexes.now dimensions
-        → Finds result (table_fault limit table.Lineorder (line_fault dimensions) lines.now) }
+        → Finds result (rows_fault (line_fault dimensions) [] lines.now) }
 {
-    if lines.len() > limit {
-        return Err(Stop::Fault(SchemaFault::TooManyRows(Table::Lineorder)));
-    }
     let mut seen: HashSet<(u64, u8)> = HashSet::new(alloc);
     for (i, line) in lines.iter().enumerate() {
         match seen.insert((line.order_key(), line.line_number())) {
@@ -104,6 +103,38 @@ fn check_lines(alloc: Global, limit: usize, indexes: &Indexes, lines: &[Line]) -
         if let Some(table) = unknown(indexes, line) {
             return Err(Stop::Fault(SchemaFault::UnknownKey(i + 1, table)));
         }
+    }
+    Ok(())
+}
+
+// Whether the line's order key and line number come after these.
+fn is_after(line: &Line, order_key: u64, line_number: u8) -> bool
+    ensures { result ≡ true → order_key * 256 + line_number < line.now.order_key * 256 + line.now.line_number }
+{
+    line.order_key() > order_key
+        || (line.order_key() == order_key && line.line_number() > line_number)
+}
+
+// Checks the same, and that there are no more lines than the limit. Files have lines in the order of their keys: while they
+// ascend none is there twice, and no set is needed.
+fn check_lines(alloc: Global, limit: usize, indexes: &Indexes, lines: &[Line]) -> Result<(), Stop>
+    ensures { (dimensions : Dimensions) → AreIndexesOf indexes.now dimensions
+        → Finds result (table_fault limit table.Lineorder (line_fault dimensions) lines.now) }
+{
+    if lines.len() > limit {
+        return Err(Stop::Fault(SchemaFault::TooManyRows(Table::Lineorder)));
+    }
+    let mut order_key = 0;
+    let mut line_number = 0;
+    for (i, line) in lines.iter().enumerate() {
+        if !is_after(line, order_key, line_number) {
+            return check_any_lines(alloc, indexes, lines);
+        }
+        if let Some(table) = unknown(indexes, line) {
+            return Err(Stop::Fault(SchemaFault::UnknownKey(i + 1, table)));
+        }
+        order_key = line.order_key();
+        line_number = line.line_number();
     }
     Ok(())
 }

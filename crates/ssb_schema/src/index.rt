@@ -4,22 +4,31 @@ ghost use Rattle.std.specs.Prelude.{◌≡◌, ℕ, [], IfOk, is_some};
 ghost use Rattle.std.specs.Option.{option_copied};
 ghost use Rattle.ssb_schema.specs.Base.{dimension_fault, row_with, customer_key, supplier_key, part_key, date_key};
 ghost use Rattle.ssb_schema.specs.Checked.{Finds};
+ghost use Rattle.ssb_schema.specs.declared.index.Stop.TheVariants.{OutOfMemory};
 
 use crate::customer::Customer;
 use crate::date::DateRow;
 use crate::fault::SchemaFault;
 use crate::limits::Limits;
 use crate::part::Part;
+use crate::places::Places;
 use crate::supplier::Supplier;
 use crate::table::Table;
-use std::alloc::Global;
-use std::collections::HashMap;
+use std::alloc::{AllocError, Global};
 
 /// Why a check of rows stopped.
 #[derive(Debug, Drop)]
 pub enum Stop {
     Fault(SchemaFault),
     OutOfMemory,
+}
+
+impl From<AllocError> for Stop {
+    ghost from_gives = { λ _ e. e ≡ OutOfMemory };
+
+    fn from(_error: AllocError) -> Stop {
+        Stop::OutOfMemory
+    }
 }
 
 /// A row of a dimension.
@@ -66,7 +75,7 @@ impl Keyed for DateRow {
 /// The place of each key of a dimension among its rows.
 #[derive(Drop)]
 pub struct Index {
-    places: HashMap<u64, usize>,
+    places: Places,
 }
 
 /// The indexes of the four dimensions.
@@ -76,6 +85,23 @@ pub struct Indexes {
     pub suppliers: Index,
     pub parts: Index,
     pub dates: Index,
+}
+
+// The first of the keys, and how many an array takes from there on: as many as there are up to the last one, or none where
+// that is many times the number of rows.
+fn window<T: Keyed>(rows: &[T]) -> (u64, usize) {
+    let mut first = u64::MAX;
+    let mut last = 0;
+    for row in rows {
+        let key = row.row_key();
+        first = first.min(key);
+        last = last.max(key);
+    }
+    let most = (rows.len() as u64).saturating_mul(32);
+    match last.checked_sub(first) {
+        Some(behind) if behind < most => (first, behind as usize + 1),
+        _ => (0, 0),
+    }
 }
 
 impl Index {
@@ -94,11 +120,12 @@ impl Index {
         if rows.len() > limits.dimension_rows {
             return Err(Stop::Fault(SchemaFault::TooManyRows(table)));
         }
-        let mut places = HashMap::new(alloc);
+        let (first, count) = window(rows);
+        let mut places = Places::new(alloc, first, count)?;
         for (i, row) in rows.iter().enumerate() {
             match places.insert(row.row_key(), i) {
-                Ok(None) => {}
-                Ok(Some(_)) => return Err(Stop::Fault(SchemaFault::KeyRepeated(table, i + 1))),
+                Ok(true) => {}
+                Ok(false) => return Err(Stop::Fault(SchemaFault::KeyRepeated(table, i + 1))),
                 Err(_) => return Err(Stop::OutOfMemory),
             }
         }
@@ -109,14 +136,14 @@ impl Index {
     pub fn contains(&self, key: u64) -> bool
         ensures { result ≡ is_some (place_of self.now key) }
     {
-        self.places.contains_key(&key)
+        self.places.get(key).is_some()
     }
 
     /// The place of the row that has the key, if there is one.
     pub fn position(&self, key: u64) -> Option<usize>
         ensures { result ≡ place_of self.now key }
     {
-        self.places.get(&key).copied()
+        self.places.get(key)
     }
 
     /// The row that has the key, if there is one.
@@ -124,8 +151,8 @@ impl Index {
         requires { IsIndexOf T.key_of rows.now rows.now (place_of self.now) }
         ensures { option_copied result ≡ row_with T.key_of rows.now key }
     {
-        match self.places.get(&key) {
-            Some(place) => rows.get(*place),
+        match self.places.get(key) {
+            Some(place) => rows.get(place),
             None => None,
         }
     }

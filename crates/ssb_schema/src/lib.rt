@@ -26,6 +26,7 @@ mod limits;
 mod line;
 mod order;
 mod part;
+mod places;
 mod refresh;
 mod supplier;
 mod table;

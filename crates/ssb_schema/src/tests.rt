@@ -369,6 +369,33 @@ fn an_unknown_customer_comes_before_an_unknown_supplier(rt: HostRuntime) -> Resu
 }
 
 #[test]
+fn lines_come_in_any_order_and_each_once(rt: HostRuntime) -> Result<(), Fail> {
+    let alloc = rt.alloc();
+    for (line_keys, want) in [
+        (
+            &[(1, 1), (1, 2), (2, 1), (2, 1)][..],
+            "7 KeyRepeated lineorder 4",
+        ),
+        (
+            &[(2, 1), (1, 2), (1, 1), (1, 2)][..],
+            "7 KeyRepeated lineorder 4",
+        ),
+        (
+            &[(1, 2), (2, 1), (1, 2), (2, 1)][..],
+            "7 KeyRepeated lineorder 3",
+        ),
+        (&[(2, 1), (1, 2), (1, 1), (2, 2)][..], ""),
+    ] {
+        let lines = lines(alloc, line_keys)?;
+        let parts = part_rows(alloc, &[1])?;
+        let parts = base_parts(alloc, customers(alloc, &[1])?, parts, lines)?;
+        let told = base_fault(alloc, Limits::standard(), parts)?;
+        assert_eq!(rt; told.as_str(), want);
+    }
+    Ok(())
+}
+
+#[test]
 fn one_row_past_a_limit_is_too_many(rt: HostRuntime) -> Result<(), Fail> {
     let alloc = rt.alloc();
     let one = Limits::new(1, 1, 1).ok_or("no limits")?;

@@ -1,25 +1,15 @@
-use Rattle.std.proofs.Common.{◌≡◌, ◌∙◌, true, false, Some, length, take, sym, refl}
+use Rattle.std.proofs.Common.{◌≡◌, ◌∙◌, false, Some, length, take, sym, refl, arith}
 use Rattle.std.specs.List.{slice_get, list_any}
 use Rattle.std.proofs.lemmas.Option.{slice_get_read}
 use Rattle.ssb_schema.specs.Base.{line_fault}
-use Rattle.ssb_schema.proofs.BaseLaws.{few_rows, line_repeated, line_unknown, line_good}
-use Rattle.ssb_schema.proofs.FirstFaultLaws.{not_is, rows_fault_next, rows_fault_ends, or_else_found, or_else_absent}
-use Rattle.ssb_schema.proofs.FirstFaultLaws.{seen_next}
-use Rattle.ssb_schema.proofs.PairLaws.{same_pair, line_key}
+use Rattle.ssb_schema.proofs.BaseLaws.{few_rows, line_unknown, line_good}
+use Rattle.ssb_schema.proofs.FirstFaultLaws.{rows_fault_next, rows_fault_ends, or_else_found, or_else_absent}
+use Rattle.ssb_schema.proofs.PairLaws.{same_pair, line_key, new_next}
 use Rattle.ssb_schema.proofs.base.check_lines.Goals as goal
 
-pub returns-in-Ok-false : goal.returns-in-Ok-false
-returns-in-Ok-false c = λ dimensions indexed.
-    let lines = c.args.lines.now in
-    let line = c.index-lines-i.result in
-    let at : slice_get lines c.loop-i.i ≡ Some line
-    = slice_get_read lines (length lines) c.loop-i.i line refl c.loop-i-test.true c.index-lines-i.is in
-    let added = rw (c.order_key.ensures, c.line_number.ensures) at c.in-Ok-false.ensures.added in
-    let found : list_any (λ e. same_pair (line_key e) (line_key line)) (take c.loop-i.i lines) ≡ true
-    = sym (c.loop-i.invariant.seen (line_key line)) ∙ not_is _ _ (sym c.in-Ok-false.field-0-test ∙ added) in
-    few_rows _ _ _ lines c.if-lines-limit.false ∙ sym (c.loop-i.invariant.rest dimensions indexed)
-    ∙ rows_fault_next (line_fault dimensions) lines c.loop-i.i line at
-    ∙ or_else_found _ _ _ (line_repeated dimensions lines c.loop-i.i line at found)
+pub returns-then-not-is_after : goal.returns-then-not-is_after
+returns-then-not-is_after c = λ dimensions indexed.
+    rw (few_rows _ _ _ c.args.lines.now c.if-lines-limit.false) (c.check_any_lines.ensures dimensions indexed)
 
 pub returns-in-Some : goal.returns-in-Some
 returns-in-Some c = λ dimensions indexed.
@@ -27,9 +17,8 @@ returns-in-Some c = λ dimensions indexed.
     let line = c.index-lines-i.result in
     let at : slice_get lines c.loop-i.i ≡ Some line
     = slice_get_read lines (length lines) c.loop-i.i line refl c.loop-i-test.true c.index-lines-i.is in
-    let added = rw (c.order_key.ensures, c.line_number.ensures) at c.in-Ok-true.ensures.added in
     let absent : list_any (λ e. same_pair (line_key e) (line_key line)) (take c.loop-i.i lines) ≡ false
-    = sym (c.loop-i.invariant.seen (line_key line)) ∙ not_is _ _ (sym c.in-Ok-true.field-0-test ∙ added) in
+    = c.loop-i.invariant.new (line_key line) (c.is_after.ensures c.if-not-is_after.false) in
     few_rows _ _ _ lines c.if-lines-limit.false ∙ sym (c.loop-i.invariant.rest dimensions indexed)
     ∙ rows_fault_next (line_fault dimensions) lines c.loop-i.i line at
     ∙ or_else_found _ _ _
@@ -42,17 +31,15 @@ loop-i-preserved c =
     let line = c.index-lines-i.result in
     let at : slice_get lines c.loop-i.i ≡ Some line
     = slice_get_read lines (length lines) c.loop-i.i line refl c.loop-i-test.true c.index-lines-i.is in
-    let added = rw (c.order_key.ensures, c.line_number.ensures) at c.in-Ok-true.ensures.added in
+    let later = c.is_after.ensures c.if-not-is_after.false in
     let absent : list_any (λ e. same_pair (line_key e) (line_key line)) (take c.loop-i.i lines) ≡ false
-    = sym (c.loop-i.invariant.seen (line_key line)) ∙ not_is _ _ (sym c.in-Ok-true.field-0-test ∙ added) in
+    = c.loop-i.invariant.new (line_key line) later in
     record {
       rest = λ dimensions indexed. sym (rows_fault_next (line_fault dimensions) lines c.loop-i.i line at
           ∙ or_else_absent _ _
           (line_good dimensions (take c.loop-i.i lines) line absent (sym (c.unknown.ensures dimensions indexed)
           ∙ c.in_default.is))) ∙ c.loop-i.invariant.rest dimensions indexed;
-      seen = λ q. seen_next same_pair line_key lines c.loop-i.i line q _ _ at
-          (rw (c.order_key.ensures, c.line_number.ensures) at (c.in-Ok-true.ensures.updates.0 q))
-          (c.loop-i.invariant.seen q);
+      new = λ q above. new_next lines c.loop-i.i line q at (omega (arith, above)) (c.loop-i.invariant.new q (omega (arith, above, later)));
     }
 
 pub returns : goal.returns

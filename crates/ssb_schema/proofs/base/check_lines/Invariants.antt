@@ -1,6 +1,5 @@
-use Rattle.std.proofs.Common.{◌≡◌, ℕ, [], drop, take}
+use Rattle.std.proofs.Common.{◌≡◌, ◌<◌, ◌+◌, ◌*◌, ℕ, false, [], drop, take}
 use Rattle.std.specs.List.{list_any}
-use Rattle.std.specs.HashSet as set
 use Rattle.ssb_schema.specs.Base.{Dimensions, line_fault}
 use Rattle.ssb_schema.specs.FirstFault.{rows_fault}
 use Rattle.ssb_schema.specs.Indexed.{AreIndexesOf}
@@ -13,6 +12,6 @@ invariant-loop-i l =
       rest : (dimensions : Dimensions) → AreIndexesOf l.indexes dimensions
           → rows_fault (line_fault dimensions) (take l.i l.lines) (drop l.i l.lines)
           ≡ rows_fault (line_fault dimensions) [] l.lines;
-      seen : (q : ℕ × ℕ)
-          → set.contains same_pair l.seen q ≡ list_any (λ e. same_pair (line_key e) q) (take l.i l.lines);
+      new : (q : ℕ × ℕ) → l.order_key * 256 + l.line_number < q.0 * 256 + q.1
+          → list_any (λ e. same_pair (line_key e) q) (take l.i l.lines) ≡ false;
     }

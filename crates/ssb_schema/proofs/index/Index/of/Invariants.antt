@@ -1,5 +1,5 @@
-use Rattle.std.proofs.Common.{◌≡◌, [], drop, take, nat_eq}
-use Rattle.std.specs.HashMap as map
+use Rattle.std.proofs.Common.{◌≡◌, [], drop, take}
+use Rattle.ssb_schema.specs.Places.{place_in}
 use Rattle.ssb_schema.specs.Base.{repeated_fault, has_key_of}
 use Rattle.ssb_schema.specs.FirstFault.{rows_fault}
 use Rattle.ssb_schema.specs.Indexed.{IsIndexOf}
@@ -10,5 +10,5 @@ invariant-loop-i g l =
     let fault_after = repeated_fault l.table (has_key_of g.T.Keyed.key_of) in
     record {
       rest : rows_fault fault_after (take l.i l.rows) (drop l.i l.rows) ≡ rows_fault fault_after [] l.rows;
-      index : IsIndexOf g.T.Keyed.key_of (take l.i l.rows) l.rows (map.get nat_eq l.places);
+      index : IsIndexOf g.T.Keyed.key_of (take l.i l.rows) l.rows (place_in l.places);
     }
