@@ -1,6 +1,6 @@
 //! What the records of a script have begun and not ended, and what one more record does to it.
 
-ghost use Rattle.std.specs.Prelude.{◌≡◌, ◌+◌, ◌-◌, ◌<◌, ◌^◌, ◌++◌, ◌∷◌, [], IfOk, IfErr, None, Ok, length, nat_lt};
+ghost use Rattle.std.specs.Prelude.{◌≡◌, ◌+◌, ◌-◌, ◌<◌, ◌^◌, ◌++◌, ◌∷◌, [], IfOk, IfErr, None, Ok, length, nat_lt, option_map};
 ghost use Rattle.csv.specs.Records.{fields_of};
 ghost use Rattle.ssb_schema.specs.Orders.{order_fault};
 ghost use Rattle.ssb_script.specs.Lines as spec;
@@ -23,18 +23,18 @@ use std::sync::Arc;
 
 /// An order whose lines are being read.
 #[derive(Drop)]
-pub(crate) struct BegunOrder {
+pub struct BegunOrder {
     /// The actions before it in its refresh.
-    pub(crate) actions: Items<Action>,
-    pub(crate) opening: Opening,
+    pub actions: Items<Action>,
+    pub opening: Opening,
     /// The number of the record that began it.
-    pub(crate) number: u64,
-    pub(crate) lines: Items<Line>,
+    pub number: u64,
+    pub lines: Items<Line>,
 }
 
 /// What is begun and not ended: nothing, a refresh, or an order in a refresh.
 #[derive(Drop)]
-pub(crate) enum Begun {
+pub enum Begun {
     Nothing,
     Refresh(Items<Action>),
     Order(BegunOrder),
@@ -42,9 +42,9 @@ pub(crate) enum Begun {
 
 /// What comes of one record: the block that it ends, if it ends one, and what is begun after it.
 #[derive(Drop)]
-pub(crate) struct Step {
-    pub(crate) block: Option<Block>,
-    pub(crate) begun: Begun,
+pub struct Step {
+    pub block: Option<Block>,
+    pub begun: Begun,
 }
 
 // The items with one more.
@@ -209,8 +209,8 @@ impl Begun {
         }
     }
 
-    // One more record, a `line` of this number.
-    fn with_row(self, number: u64, row: OrderLine) -> Result<Step, ScriptError>
+    /// What comes of one more record, a `line` of this number.
+    pub fn with_row(self, number: u64, row: OrderLine) -> Result<Step, ScriptError>
         requires before { 0 < number }
         requires room { HasRoom (number - 1) (begun_in self) }
         ensures step { IfOk result (λ step. (line : ScriptLine) × (line_of_row row ≡ Ok line) × Follows number (begun_in self) line step) }
@@ -226,6 +226,28 @@ impl Begun {
         }
     }
 
+    /// What comes of one more record that is no `line`, after so many: of what it says, if it says anything. The order that
+    /// is being read ends before it.
+    pub fn with_control(
+        self,
+        alloc: Global,
+        before: u64,
+        control: Option<Control>,
+    ) -> Result<Step, ScriptError>
+        requires counted { before < 2 ^ 64 - 1 }
+        requires room { HasRoom before (begun_in self) }
+        ensures step { IfOk result (λ step. (line : ScriptLine) × (spec.line_or_bad (option_map line_of_control control) ≡ Ok line) × Follows (before + 1) (begun_in self) line step) }
+        ensures fault { IfErr result (IsFoundBy (refusal_at_end (begun_in self) ∷ checks_in (before + 1) (begun_in self) (spec.line_or_bad (option_map line_of_control control)))) }
+    {
+        let number = before + 1;
+        let actions = self.ended()?;
+        match (control, actions) {
+            (None, _) => Err(ScriptError::BadLine(number)),
+            (Some(control), None) => outside(alloc, number, control),
+            (Some(control), Some(actions)) => inside(alloc, number, actions, control),
+        }
+    }
+
     /// What comes of one more record, after so many.
     pub(crate) fn after(
         self,
@@ -238,16 +260,12 @@ impl Begun {
         ensures step { IfOk result (λ step. (line : ScriptLine) × (spec.line_of (fields_of fields.now) ≡ Ok line) × Follows (before + 1) (begun_in self) line step) }
         ensures fault { IfErr result (IsFoundBy (order_refused (begun_in self) (spec.word_of (fields_of fields.now)) ∷ checks_in (before + 1) (begun_in self) (spec.line_of (fields_of fields.now)))) }
     {
-        let number = before + 1;
         let word = word_of(fields);
         if is_line(word) {
+            let number = before + 1;
             return self.with_row(number, OrderLine::of(alloc, fields)?);
         }
-        let actions = self.ended()?;
-        match (Control::of(alloc, word, fields)?, actions) {
-            (None, _) => Err(ScriptError::BadLine(number)),
-            (Some(control), None) => outside(alloc, number, control),
-            (Some(control), Some(actions)) => inside(alloc, number, actions, control),
-        }
+        let control = Control::of(alloc, word, fields)?;
+        self.with_control(alloc, before, control)
     }
 }

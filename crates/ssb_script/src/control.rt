@@ -18,14 +18,14 @@ use std::alloc::{AllocError, Global};
 
 /// How an order begins: as one that is absent, or one that is present.
 #[derive(Clone, Copy, Debug, PartialEq, Eq)]
-pub(crate) enum Opening {
+pub enum Opening {
     Add,
     Amend,
 }
 
 /// What a record that is no `line` says.
 #[derive(Drop)]
-pub(crate) enum Control {
+pub enum Control {
     Query(Question),
     Begin,
     Open(Opening),

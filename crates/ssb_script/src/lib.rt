@@ -25,9 +25,12 @@ mod script;
 mod tests;
 mod word;
 
+pub use begun::{Begun, BegunOrder, Step};
 pub use block::{Block, Script};
+pub use control::{Control, Opening};
 pub use error::ScriptError;
 pub use fields::trimmed_at;
 pub use laws::one_reading;
+pub use order_line::OrderLine;
 pub use question::{constants_from, question_at};
 pub use script::read_script;

@@ -14,7 +14,7 @@ use std::alloc::{AllocError, Global};
 
 /// What a `line` record says: a line, one that the schema refuses, or nothing.
 #[derive(Drop)]
-pub(crate) enum OrderLine {
+pub enum OrderLine {
     Read(Line),
     Refused(SchemaFault),
     Bad,
@@ -22,7 +22,7 @@ pub(crate) enum OrderLine {
 
 impl OrderLine {
     /// What a `line` record says in the fields after its word.
-    pub(crate) fn of(alloc: Global, fields: &ByteRecord) -> Result<OrderLine, AllocError>
+    pub fn of(alloc: Global, fields: &ByteRecord) -> Result<OrderLine, AllocError>
         ensures { IfOk result (λ row. line_after (Some words.Line) (fields_of fields.now) ≡ line_of_row row) }
     {
         let columns = columns(alloc, fields)?;

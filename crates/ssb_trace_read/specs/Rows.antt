@@ -13,7 +13,6 @@ use Rattle.ssb_plans.specs.Query.{sum_first}
 use Rattle.ssb_plans.specs.declared.kind.ConstantKind.{ConstantKind}
 use Rattle.ssb_plans.specs.declared.kind.ConstantKind.TheVariants.{Text, Number}
 use Rattle.ssb_plans.specs.declared.query.Query.{Query}
-use Rattle.ssb_plans.specs.declared.value.Value.{Value}
 use Rattle.ssb_queries.specs.declared.answer.ResultRow.{ResultRow}
 use Rattle.ssb_script.specs.Lines.{field, constants_from}
 

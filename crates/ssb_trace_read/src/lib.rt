@@ -10,6 +10,8 @@
 mod heads;
 mod rows;
 mod sums;
+#[cfg(test)]
+mod tests;
 
 pub use heads::{AnswerHead, client_of_commit, head_of};
 pub use rows::row_of;
