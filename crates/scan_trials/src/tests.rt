@@ -1,0 +1,4 @@
+//! The scan beside the plain evaluator.
+mod data;
+mod rows;
+mod small_data;
