@@ -2,7 +2,7 @@
 use Rattle.std.proofs.Common.{◌≡◌, ℕ, ◌+◌, cond, List, [], ◌∷◌, ◌++◌, length, take, Some, refl, ap, sym, subst, ◌∙◌, arith, append_assoc}
 use Rattle.std.proofs.lemmas.Bool.{eq-eqb}
 use Rattle.std.proofs.lemmas.List.{take_all, append-nil, length_push, map_push}
-use Rattle.lower.specs.Scans.{answers_after}
+use Rattle.ssb_server.specs.Turns.{answers_after}
 use Rattle.std.proofs.lemmas.List.Elements.{All-nil, All-push}
 use Rattle.row_store.specs.History.{CommitRecord}
 use Rattle.ssb_schema.specs.Base.{Tables}

@@ -1,5 +1,5 @@
 -- What the steps of a turn do to a dispatcher's token.
-use Rattle.std.specs.Prelude.{◌≡◌, ℕ, ◌≤◌, All, false, List, [], ◌∷◌, ◌++◌, length, Some, Result, MatchResult}
+use Rattle.std.specs.Prelude.{◌≡◌, ℕ, ◌≤◌, All, false, List, [], ◌∷◌, ◌++◌, length, map, Some, Result, MatchResult}
 use Rattle.std.specs.declared.alloc.AllocError.{AllocError}
 use Rattle.row_store.specs.History.{CommitRecord, IsPrefix, lines_after}
 use Rattle.row_store.specs.State.{StandsFor}
@@ -12,7 +12,7 @@ use Rattle.history.specs.Words.{IsFresh, IsCause}
 use Rattle.twin_cell.specs.Twin.{Writing, Known, Entered}
 use Rattle.ssb_queries.specs.declared.answer.Unserved.{Unserved}
 use Rattle.history.specs.declared.request.Grabbed.{Grabbed}
-use Rattle.lower.specs.Columns.{Stored, columns_state}
+use Rattle.plain_scan.specs.Lines.{Lines as Stored, lines_state as columns_state}
 use Rattle.history_core.specs.World.{rows_after}
 use Rattle.ssb_queries.specs.declared.answer.Rows.{Rows}
 use Rattle.ssb_plans.specs.declared.query.Query.{Query}
@@ -105,6 +105,10 @@ pub record HasInHand (grabbed : List Grabbed) (client : ℕ) (question : Query �
   pub grabbed_is : grabbed ≡ newest ∷ others
   pub client_is : newest.client ≡ client
   pub question_is : newest.request.query ≡ question
+
+-- each question with its rows after a history
+abbrev pub answers_after : Tables → List CommitRecord → List (Query × List Value) → List Rows
+answers_after base history questions = map (λ question. record { query = question; list = rows_after base question history }) questions
 
 -- the rows answer the question after this history
 abbrev pub Answered : Tables → List CommitRecord → Rows → Type 0

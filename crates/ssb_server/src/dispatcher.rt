@@ -12,7 +12,7 @@ use crate::batch::Batch;
 use crate::server::{Pass, Server};
 use crate::turn::{ScanGate, Turn, take_turn};
 use history_core::Who;
-use lower::columns::Columns;
+use crate::secondary::Columns;
 use std::marker::Model;
 use std::sync::Wait;
 use std::thread::Threads;

@@ -35,9 +35,12 @@ mod closing;
 mod dispatcher;
 mod grabbing;
 mod opening;
+mod secondary;
 mod server;
 mod snapshot;
 mod tickets;
+#[cfg(test)]
+mod tests;
 mod turn;
 
 pub use client::Client;

@@ -1,7 +1,7 @@
 //! How a server is opened.
 ghost use Rattle.std.specs.Prelude.{◌≡◌, ◌≤◌, [], All, length, IfOk, OnOk, IfErr};
 ghost use Rattle.row_store.specs.State.{state_of};
-ghost use Rattle.lower.specs.Columns.{columns_state};
+ghost use Rattle.plain_scan.specs.Lines.{lines_state as columns_state};
 ghost use Rattle.history.specs.Tokens.{new_clients, new_dispatchers};
 ghost use Rattle.ssb_server.specs.Opening.{AreCounts, IsOpenFault, IsNewReader, AreSeats};
 
@@ -12,7 +12,7 @@ use crate::dispatcher::Dispatcher;
 use crate::server::{Hall, Pass, Server};
 use crate::tickets::clients_of;
 use history::Shared;
-use lower::columns::{Columns, DimIndex};
+use crate::secondary::{Columns, DimIndex};
 use row_store::RowStore;
 use ssb_schema::Base;
 use std::alloc::{AllocError, Global};
@@ -79,7 +79,7 @@ fn dispatchers_of<W: Wait + Drop>(
 fn index_of(alloc: Global, base: &Arc<Base>) -> Result<Arc<DimIndex>, AllocError>
     ensures { IfOk result (λ index. index.value ≡ base.now.value) }
 {
-    let index = DimIndex::new(alloc, Arc::try_clone(base)?)?;
+    let index = DimIndex::new(Arc::try_clone(base)?);
     Ok(Arc::new(alloc, index).map_err(AllocError::from)?)
 }
 

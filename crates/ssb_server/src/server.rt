@@ -2,7 +2,7 @@
 ghost use Rattle.std.specs.Prelude.{◌≡◌};
 
 use crate::bells::Bells;
-use lower::columns::{Columns, DimIndex};
+use crate::secondary::{Columns, DimIndex};
 use std::alloc::Global;
 use std::marker::Model;
 use std::sync::{Arc, Wait};

@@ -7,7 +7,7 @@ ghost use Rattle.history.specs.Words.{IsCause};
 ghost use Rattle.ssb_server.specs.Turns.{IsDispatcher, HoldsNothing, HasFetched, Knows, StandsAt, Fetches, HasBeside, HasTaken, Appends, Follows, Misses};
 
 use crate::server::{Hall, Pass};
-use lower::columns::Columns;
+use crate::secondary::Columns;
 use row_store::{Commit, Follower, Replica};
 use ssb_queries::Unserved;
 use std::alloc::{AllocError, Global};

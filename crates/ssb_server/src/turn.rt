@@ -1,6 +1,6 @@
 //! A turn, over the parts of a dispatcher.
 ghost use Rattle.std.specs.Prelude.{◌≡◌, ◌<◌, ◌≤◌, [], length, Some, IfOk};
-ghost use Rattle.lower.specs.Scans.{answers_after};
+ghost use Rattle.ssb_server.specs.Turns.{answers_after};
 ghost use Rattle.history.specs.Tokens.{IsSound};
 ghost use Rattle.ssb_server.specs.Hand.{Keeps, no_hand};
 ghost use Rattle.ssb_server.specs.Turns.{IsDispatcher, HoldsNothing, Knows, HasFetched};
@@ -11,7 +11,7 @@ use crate::batch::Batch;
 use crate::grabbing::grab_all;
 use crate::server::{Pass, Server};
 use crate::snapshot::snapshot;
-use lower::columns::Columns;
+use crate::secondary::Columns;
 use ssb_queries::{Rows, Unserved};
 use std::alloc::AllocError;
 use std::sync::Wait;

@@ -1,7 +1,7 @@
 use Rattle.std.proofs.Common.{arith, ◌≡◌, ◌+◌, length, subst, sym, ap, ◌∙◌}
 use Rattle.std.proofs.lemmas.List.{length_push}
 use Rattle.history.specs.Tokens.{Token}
-use Rattle.lower.specs.Scans.{answers_after}
+use Rattle.ssb_server.specs.Turns.{answers_after}
 use Rattle.history.specs.declared.request.Outcome.TheVariants.{Served}
 use Rattle.ssb_server.specs.Hand.{Hand, Keeps}
 use Rattle.ssb_server.specs.Turns.{Answered}

@@ -1,7 +1,7 @@
 use Rattle.std.proofs.Common.{◌≡◌, ◌∙◌, ◌≤◌, sym, subst, ap, Some, arith}
 use Rattle.std.specs.Prelude.{IfOk}
 use Rattle.history.specs.Tokens.{Hall}
-use Rattle.lower.specs.Scans.{answers_after}
+use Rattle.ssb_server.specs.Turns.{answers_after}
 use Rattle.ssb_server.specs.Turns.{Knows}
 use Rattle.ssb_server.proofs.Turning.{is_copy, copy_stands, copy_base, left, dispatcher_later, nothing_later, keeps_later, version_later, sound_finished, seen_finished}
 use Rattle.ssb_server.proofs.turn.serve.Goals as goal
