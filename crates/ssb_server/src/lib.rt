@@ -39,6 +39,8 @@ mod room;
 mod secondary;
 mod server;
 mod snapshot;
+#[cfg(test)]
+mod tests;
 mod tickets;
 mod turn;
 
