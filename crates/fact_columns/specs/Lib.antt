@@ -1,0 +1,5 @@
+pub mod Stored
+pub mod Spans
+pub mod Coded
+pub mod Kept
+pub mod Laws

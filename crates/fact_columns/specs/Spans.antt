@@ -1,0 +1,43 @@
+-- Where the live lines of an order lie.
+use Rattle.std.specs.Prelude.{◌≡◌, ℕ, ◌+◌, ◌<◌, ◌≤◌, Bool, not, nat_eq, cond, List, length, filter, slice_get, Option, Some, None}
+use Rattle.fact_table.specs.declared.place.Place.{Place}
+use Rattle.fact_table.specs.Places.{is_live}
+use Rattle.fact_columns.specs.declared.span.Span.{Span}
+
+-- what a place shows: its line where it is live
+abbrev pub if_live : Place → Option Place
+if_live place = cond (is_live place) (Some place) None
+
+abbrev pub live_in : Option Place → Option Place
+live_in None = None
+live_in (Some place) = if_live place
+
+-- the live line at an index; None where the place is free, or where there is none
+abbrev pub live_at : List Place → ℕ → Option Place
+live_at places i = live_in (slice_get places i)
+
+-- how many places are live
+abbrev pub live_count : List Place → ℕ
+live_count places = length (filter is_live places)
+
+-- what stays of a live line
+abbrev pub kept : (Place → Bool) → Option Place → Option Place
+kept test None = None
+kept test (Some place) = cond (test place) (Some place) None
+
+-- the line is of another order
+abbrev pub is_of_other : ℕ → Place → Bool
+is_of_other key place = not (nat_eq place.order key)
+
+-- the span has the index
+abbrev pub Covers : Option Span → ℕ → Type 0
+Covers None i = ⊥
+Covers (Some span) i = (span.first ≤ i) × (i < span.end)
+
+-- each live line lies in the span of its order
+abbrev pub Spanned : (ℕ → Option Span) → List Place → Type 0
+Spanned spans places = (i : ℕ) (place : Place) → live_at places i ≡ Some place → Covers (spans place.order) i
+
+-- nothing live stands at the indices from the first on, so many
+abbrev pub AreFree : List Place → ℕ → ℕ → Type 0
+AreFree places first count = (i : ℕ) → first ≤ i → i < first + count → live_at places i ≡ None

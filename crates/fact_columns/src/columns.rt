@@ -1,0 +1,163 @@
+//! The columns as a replica.
+ghost use Rattle.std.specs.Prelude.{◌≡◌, ◌<◌, [], List, length, slice_index_or, IfOk, MatchResult, OnErr};
+ghost use Rattle.row_store.specs.History.{CommitRecord, lines_after};
+ghost use Rattle.row_store.specs.State.{StandsFor, state_of, state_after};
+ghost use Rattle.fact_table.specs.declared.place.Place.{Place as PlainPlace};
+ghost use Rattle.fact_table.specs.Columns.{AreColumnsOf};
+ghost use Rattle.fact_columns.specs.Stored.{Stored, IsRead, columns_state};
+
+use crate::coding::coded_actions;
+use crate::hints::Hints;
+use crate::loading::{count_orders, span_all, table_of};
+use crate::orders::act_all;
+use crate::span::Spans;
+use dim_index::DimIndex;
+use fact_table::{Place, Slices, Table};
+use row_store::{Commit, Replica};
+use std::alloc::{AllocError, Global};
+use std::collections::HashMap;
+use std::hash::RandomState;
+use std::marker::Model;
+use std::sync::Arc;
+
+/// The live lines in coded columns over an index of the dimensions. Contracts see the base, the number of commits, the
+/// places, and the facts of the live ones.
+#[derive(Drop)]
+pub struct Columns {
+    index: Arc<DimIndex>,
+    table: Table,
+    spans: Spans,
+    // Where free places may be. It is never relied on: each place is looked at before a line is written there.
+    hints: Hints,
+    rows: usize,
+    commits: u64,
+    alloc: Global,
+}
+
+impl Model for Columns {
+    ghost use Rattle.fact_columns.specs.Stored.{Stored};
+    ghost use Rattle.fact_columns.specs.Kept.{AreKept, stored};
+
+    ghost Value = { Stored };
+
+    ghost view = { stored };
+
+    ghost invariant = { AreKept };
+}
+
+impl Columns {
+    /// The loaded lines of the index's base, and no commits. Orders are found by their hashed keys: with a random
+    /// `hashing`, as `RandomState::new(&rt)?`, no client can pick keys that collide.
+    pub fn new(
+        alloc: Global,
+        index: Arc<DimIndex>,
+        hashing: RandomState,
+    ) -> Result<Columns, AllocError>
+        ensures { IfOk result (λ columns. columns_state columns ≡ state_of index.value []) }
+    {
+        let base = index.base();
+        base.soundness();
+        let lines = base.lines();
+        let table = table_of(alloc, &index, lines)?;
+        let mut spans = HashMap::with_hasher(alloc, hashing);
+        spans.reserve(count_orders(lines))?;
+        span_all(&mut spans, lines)?;
+        let rows = lines.len();
+        Ok(Columns {
+            table,
+            spans,
+            hints: Hints::new(alloc),
+            rows,
+            commits: 0,
+            alloc,
+            index,
+        })
+    }
+
+    /// How many places there are, live or free.
+    pub fn places(&self) -> usize
+        ensures { result ≡ length self.now.places }
+    {
+        self.table.len()
+    }
+
+    /// How many lines are live.
+    pub fn rows(&self) -> usize
+        ensures rows { result ≡ length self.now.facts }
+        ensures lines { (history : List CommitRecord) → StandsFor (columns_state self.now) history → result ≡ length (lines_after self.now.base history) }
+    {
+        self.rows
+    }
+
+    /// What stands at a place.
+    pub fn at(&self, place: usize) -> Place
+        requires { place < length self.now.places }
+        ensures { (other : PlainPlace) → result ≡ slice_index_or self.now.places place other }
+    {
+        self.table.at(place)
+    }
+
+    /// The columns that queries read.
+    pub fn slices(&self) -> Slices<'_>
+        ensures columns { AreColumnsOf self.now.places result }
+        ensures read { IsRead self.now }
+    {
+        self.table.slices()
+    }
+
+    /// The index of the dimensions.
+    pub fn index(&self) -> &DimIndex
+        ensures { result.now ≡ self.now.base }
+    {
+        &self.index
+    }
+}
+
+impl Replica for Columns {
+    ghost state = { columns_state };
+
+    fn absorb(&mut self, commit: &Commit) -> Result<(), AllocError>
+        ensures state { MatchResult result
+            (λ _. columns_state self.new ≡ state_after (columns_state self.old) commit.now)
+            (λ _. columns_state self.new ≡ columns_state self.old) }
+        ensures unchanged { OnErr result (self.new ≡ self.old) }
+    {
+        let Some(commits) = self.commits.checked_add(1) else {
+            return Err(AllocError);
+        };
+        let actions = commit.refresh.actions();
+        let fresh = coded_actions(self.alloc, &self.index, actions)?;
+        if fresh.len() > u32::MAX as usize - self.table.len() {
+            return Err(AllocError);
+        }
+        self.table.reserve(fresh.len())?;
+        self.spans.reserve(actions.len())?;
+        self.hints.reserve(actions.len())?;
+        let freed = act_all(
+            &mut self.table,
+            &mut self.spans,
+            &mut self.hints,
+            actions,
+            fresh.as_slice(),
+        );
+        self.rows = self.rows + fresh.len() - freed;
+        self.commits = commits;
+        Ok(())
+    }
+
+    fn commits(&self) -> u64 {
+        self.commits
+    }
+
+    fn copy(&self) -> Result<Columns, AllocError> {
+        Ok(Columns {
+            index: Arc::try_clone(&self.index)?,
+            table: self.table.copy()?,
+            spans: self.spans.clone()?,
+            hints: self.hints.copy(self.alloc)?,
+            rows: self.rows,
+            commits: self.commits,
+            alloc: self.alloc,
+        })
+    }
+}

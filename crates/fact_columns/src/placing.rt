@@ -1,0 +1,119 @@
+//! Lines put into places, and taken out of them.
+ghost use Rattle.std.specs.Prelude.{◌≡◌, ◌≢◌, ◌+◌, ◌<◌, ◌≤◌, ◌^◌, ℕ, true, All, length, Some, None, slice_index_or, option_map};
+ghost use Rattle.ssb_schema.specs.Base.{Dimensions};
+ghost use Rattle.row_store.specs.State.{with_fact};
+ghost use Rattle.fact_table.specs.declared.place.Place.{Place as PlainPlace};
+ghost use Rattle.fact_table.specs.Places.{is_live, fact_at, IsWithin};
+ghost use Rattle.fact_columns.specs.Spans.{live_at, live_count, kept, is_of_other, AreFree};
+ghost use Rattle.fact_columns.specs.Coded.{counts_at, with_places};
+
+use crate::span::Span;
+use fact_table::{Place, Table};
+
+// The order key of the live line at a place; None where the place is free, or there is none.
+fn live_order(table: &Table, place: usize) -> Option<u64>
+    ensures { result ≡ option_map (λ (line : PlainPlace). line.order) (live_at table.now.places place) }
+{
+    if place >= table.len() {
+        return None;
+    }
+    let line = table.at(place);
+    if line.is_live() {
+        Some(line.order)
+    } else {
+        None
+    }
+}
+
+/// Whether so many places from the first on are free or new, without a gap behind the last place.
+pub fn are_free(table: &Table, first: usize, count: usize) -> bool
+    requires { first + count < 2 ^ 63 }
+    ensures within { result ≡ true → first ≤ length table.now.places }
+    ensures free { result ≡ true → AreFree table.now.places first count }
+{
+    if first > table.len() {
+        return false;
+    }
+    for place in first..first + count {
+        if live_order(table, place).is_some() {
+            return false;
+        }
+    }
+    true
+}
+
+// Puts a line into a free place, or into a new one at the end.
+#[tactic(auto, using(crate::proofs::PlaceLaws::pushed, crate::proofs::PlaceLaws::written, crate::proofs::PlaceLaws::count_pushed, crate::proofs::PlaceLaws::count_written, crate::proofs::PlaceLaws::live_at_end, crate::proofs::PlaceLaws::live_at_pushed_other, crate::proofs::PlaceLaws::live_at_written, crate::proofs::PlaceLaws::live_at_set_other))]
+fn put(table: &mut Table, place: usize, line: Place)
+    requires within { place ≤ length table.old.places }
+    requires free { live_at table.old.places place ≡ None }
+    requires room { 0 < table.old.room }
+    requires live { is_live line ≡ true }
+    ensures here { live_at table.new.places place ≡ Some line }
+    ensures others { (other : ℕ) → other ≢ place → live_at table.new.places other ≡ live_at table.old.places other }
+    ensures counts { (dimensions : Dimensions) → counts_at dimensions table.new.places ≡ with_fact (counts_at dimensions table.old.places) (fact_at dimensions line) }
+    ensures count { live_count table.new.places ≡ live_count table.old.places + 1 }
+    ensures inside { (dimensions : Dimensions) → IsWithin dimensions line → All (IsWithin dimensions) table.old.places → All (IsWithin dimensions) table.new.places }
+    ensures len { (length table.old.places ≤ length table.new.places) × (length table.new.places ≤ length table.old.places + 1) }
+    ensures reach { place < length table.new.places }
+    ensures room { table.old.room ≤ table.new.room + 1 }
+{
+    if place < table.len() {
+        table.write(place, line);
+    } else {
+        table.push(line);
+    }
+}
+
+/// Puts lines into free or new places, from the first on.
+pub fn put_all(table: &mut Table, first: usize, lines: &[Place])
+    requires within { first ≤ length table.old.places }
+    requires small { first + length lines.now < 2 ^ 63 }
+    requires free { AreFree table.old.places first (length lines.now) }
+    requires room { length lines.now ≤ table.old.room }
+    requires live { All (λ line. is_live line ≡ true) lines.now }
+    ensures mine { (i : ℕ) (other : PlainPlace) → i < length lines.now → live_at table.new.places (first + i) ≡ Some (slice_index_or lines.now i other) }
+    ensures below { (place : ℕ) → place < first → live_at table.new.places place ≡ live_at table.old.places place }
+    ensures above { (place : ℕ) → first + length lines.now ≤ place → live_at table.new.places place ≡ live_at table.old.places place }
+    ensures counts { (dimensions : Dimensions) → counts_at dimensions table.new.places ≡ with_places dimensions (counts_at dimensions table.old.places) lines.now }
+    ensures count { live_count table.new.places ≡ live_count table.old.places + length lines.now }
+    ensures inside { (dimensions : Dimensions) → All (IsWithin dimensions) lines.now → All (IsWithin dimensions) table.old.places → All (IsWithin dimensions) table.new.places }
+    ensures len { (length table.old.places ≤ length table.new.places) × (length table.new.places ≤ length table.old.places + length lines.now) }
+    ensures room { table.old.room ≤ table.new.room + length lines.now }
+{
+    for (i, line) in lines.iter().enumerate() {
+        put(table, first + i, *line);
+    }
+}
+
+// Frees a place that holds a live line.
+fn free(table: &mut Table, place: usize)
+    requires live { (line : PlainPlace) × (live_at table.old.places place ≡ Some line) }
+    ensures here { live_at table.new.places place ≡ None }
+    ensures others { (other : ℕ) → other ≢ place → live_at table.new.places other ≡ live_at table.old.places other }
+    ensures count { live_count table.old.places ≡ live_count table.new.places + 1 }
+    ensures inside { (dimensions : Dimensions) → All (IsWithin dimensions) table.old.places → All (IsWithin dimensions) table.new.places }
+    ensures len { length table.new.places ≡ length table.old.places }
+    ensures room { table.new.room ≡ table.old.room }
+{
+    table.free(place);
+}
+
+/// Frees the places of a span that hold live lines of an order, and answers how many they were.
+pub fn free_order(table: &mut Table, key: u64, span: Span) -> usize
+    requires { (place : ℕ) (line : PlainPlace) → live_at table.old.places place ≡ Some line → line.order ≡ key → (span.first ≤ place) × (place < span.end) }
+    ensures gone { (place : ℕ) → live_at table.new.places place ≡ kept (is_of_other key) (live_at table.old.places place) }
+    ensures count { live_count table.old.places ≡ live_count table.new.places + result }
+    ensures inside { (dimensions : Dimensions) → All (IsWithin dimensions) table.old.places → All (IsWithin dimensions) table.new.places }
+    ensures len { length table.new.places ≡ length table.old.places }
+    ensures room { table.new.room ≡ table.old.room }
+{
+    let mut freed = 0;
+    for place in span.first as usize..span.end as usize {
+        if live_order(table, place) == Some(key) {
+            free(table, place);
+            freed += 1;
+        }
+    }
+    freed
+}

@@ -1,0 +1,79 @@
+-- Masks as their bits are set one after another.
+use Rattle.std.proofs.Common.{ℕ, ◌≡◌, ◌+◌, ◌*◌, ◌%◌, ◌^◌, ◌<◌, ◌≤◌, Bool, true, false, cond, List, [], ◌∷◌, ◌++◌, length, length-append, get_or, Some, sym, refl, ap, ◌∙◌, subst, arith, bit_or}
+use Rattle.std.specs.Prelude.{slice_get, nat_eq}
+use Rattle.std.specs.Cmp.{unsigned_Decides}
+use Rattle.std.specs.Int.{bit_at, w16}
+use Rattle.std.proofs.lemmas.Nat.Bits.{bit_at_set_same, bit_at_set_other, bit_at-zero}
+use Rattle.std.proofs.lemmas.Option.{slice_get_within}
+use Rattle.std.proofs.Math.ListN.{get_or-append}
+use Rattle.std.proofs.Math.Seq.{get_or-append_seam}
+use Rattle.ssb_plans.specs.declared.plan.Plan.{Plan}
+use Rattle.scan_answers.specs.Masks.{IsMask}
+use Rattle.shared_scan.specs.Masking.{AreRowMasks}
+
+-- the bits of the first plans are set, and no others
+pub record IsMaskUpTo (passes : Plan → Bool) (plans : List Plan) (number mask : ℕ) : Type 0 where
+  pub bits : (k : ℕ) (plan : Plan) → k < number → slice_get plans k ≡ Some plan → bit_at mask k ≡ cond (passes plan) 1 0
+  pub above : (k : ℕ) → number ≤ k → bit_at mask k ≡ 0
+
+pub mask_starts : (passes : Plan → Bool) (plans : List Plan) → IsMaskUpTo passes plans 0 0
+mask_starts passes plans = record { bits = λ k plan below at. absurd (omega (arith, below)); above = λ k from. bit_at-zero k }
+
+pub mask_ends : (passes : Plan → Bool) (plans : List Plan) (mask : ℕ) → IsMaskUpTo passes plans (length plans) mask → IsMask passes plans mask
+mask_ends passes plans mask h = λ k plan at. h.bits k plan (slice_get_within plans k plan at) at
+
+module _ (passes : Plan → Bool) (plans : List Plan) (number mask : ℕ) (this : Plan) (at_number : slice_get plans number ≡ Some this) (h : IsMaskUpTo passes plans number mask) where
+  same_plan : (plan : Plan) → slice_get plans number ≡ Some plan → plan ≡ this
+  same_plan plan e = let both : Some plan ≡ Some this = sym e ∙ at_number in cc
+
+  -- what holds of the new place and of those before it holds of all up to it
+  split : (P : ℕ → Type 0) (k : ℕ) → (k ≡ number → P k) → ((k ≡ number → ⊥) → P k) → P k
+  split P k same other =
+      elim (nat_eq k number) as (λ b. nat_eq k number ≡ b → P k) [
+        | true ↦ λ t. same ((unsigned_Decides k number).0 t)
+        | false ↦ λ f. other (λ e. let t : nat_eq k number ≡ true = (unsigned_Decides k number).1 e in cc)
+      ] refl
+
+  -- a bit of the new mask, where the new bit is right and the others stay
+  next : (new : ℕ) → bit_at new number ≡ cond (passes this) 1 0 → ((k : ℕ) → (k ≡ number → ⊥) → bit_at new k ≡ bit_at mask k) → IsMaskUpTo passes plans (number + 1) new
+  next new here others = record {
+    bits = λ k plan below at. split (λ j. bit_at new j ≡ cond (passes plan) 1 0) k
+        (λ same. ap (bit_at new) same ∙ here ∙ ap (λ (p : Plan). cond (passes p) 1 0) (sym (same_plan plan (sym (ap (slice_get plans) same) ∙ at))))
+        (λ other. others k other ∙ h.bits k plan (omega (arith, below, other)) at);
+    above = λ k from. others k (λ e. omega (arith, from, e)) ∙ h.above k (omega (arith, from));
+  }
+
+  pub mask_sets : number < 16 → passes this ≡ true → IsMaskUpTo passes plans (number + 1) (bit_or mask (1 * 2 ^ number % 2 ^ 16))
+  mask_sets within pass = next _ (bit_at_set_same w16 mask number within ∙ ap (λ (b : Bool). cond b 1 0) (sym pass)) (λ k other. bit_at_set_other w16 mask number within k other)
+
+  pub mask_stays : passes this ≡ false → IsMaskUpTo passes plans (number + 1) mask
+  mask_stays pass = next mask (h.above number (omega arith) ∙ ap (λ (b : Bool). cond b 1 0) (sym pass)) (λ k other. refl)
+
+-- the first rows have their masks
+pub record AreMasksUpTo {Row : Type 0} (passes : Plan → Row → Bool) (plans : List Plan) (rows : List Row) (count : ℕ) (masks : List ℕ) : Type 0 where
+  pub len : length masks ≡ count
+  pub each : (at : ℕ) (row : Row) → at < count → slice_get rows at ≡ Some row → IsMask (λ plan. passes plan row) plans (get_or masks at 0)
+
+module _ {Row : Type 0} (passes : Plan → Row → Bool) (plans : List Plan) (rows : List Row) where
+  pub masks_start : AreMasksUpTo passes plans rows 0 []
+  masks_start = record { len = refl; each = λ at row below e. absurd (omega (arith, below)) }
+
+  pub masks_end : (masks : List ℕ) → AreMasksUpTo passes plans rows (length rows) masks → AreRowMasks passes plans rows masks
+  masks_end masks h = record { len = h.len; each = λ at row e. h.each at row (slice_get_within rows at row e) e }
+
+  pub masks_push : (count : ℕ) (masks : List ℕ) (this : Row) (mask : ℕ) → slice_get rows count ≡ Some this → AreMasksUpTo passes plans rows count masks → IsMask (λ plan. passes plan this) plans mask
+      → AreMasksUpTo passes plans rows (count + 1) (masks ++ mask ∷ [])
+  masks_push count masks this mask at_count h is = record {
+    len = length-append masks (mask ∷ []) ∙ ap (λ (n : ℕ). n + 1) h.len;
+    each = λ at row below e.
+        elim (nat_eq at count) as (λ b. nat_eq at count ≡ b → IsMask (λ plan. passes plan row) plans (get_or (masks ++ mask ∷ []) at 0)) [
+          | true ↦ λ t. let same : at ≡ length masks = (unsigned_Decides at count).0 t ∙ sym h.len in
+              let both : Some row ≡ Some this = sym e ∙ ap (slice_get rows) ((unsigned_Decides at count).0 t) ∙ at_count in
+              let one : row ≡ this = cc in
+              let last : get_or (masks ++ mask ∷ []) at 0 ≡ mask = ap (λ (n : ℕ). get_or (masks ++ mask ∷ []) n 0) same ∙ get_or-append_seam masks mask [] 0 in
+              subst (λ (r : Row). IsMask (λ plan. passes plan r) plans (get_or (masks ++ mask ∷ []) at 0)) (sym one) (subst (IsMask (λ plan. passes plan this) plans) (sym last) is)
+          | false ↦ λ f. let other : (at ≡ count → ⊥) = λ same. let t : nat_eq at count ≡ true = (unsigned_Decides at count).1 same in cc in
+              let within : at < count = omega (arith, below, other) in
+              subst (IsMask (λ plan. passes plan row) plans) (sym (get_or-append masks (mask ∷ []) 0 at (omega (arith, within, h.len)))) (h.each at row within e)
+        ] refl;
+  }

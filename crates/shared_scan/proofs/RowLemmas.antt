@@ -1,0 +1,48 @@
+-- A line's rows by position are those that it names.
+use Rattle.std.proofs.Common.{◌||◌, ℕ, zero, suc, ◌≡◌, ◌<◌, List, [], ◌∷◌, Bool, true, false, cond, Option, Some, length, refl, sym, ap, ◌∙◌, arith}
+use Rattle.std.specs.Prelude.{nat_eq, slice_get, unwrap_or}
+use Rattle.std.specs.Option.{option_map_or}
+use Rattle.std.specs.Cmp.{unsigned_Decides}
+use Rattle.ssb_schema.specs.Base.{row_with, has_key, has_key_of}
+use Rattle.ssb_schema.specs.FirstFault.{AreDistinct}
+use Rattle.fact_table.specs.Places.{key_at}
+
+module _ {R : Type 0} (key : R → ℕ) where
+  -- the first row with a row's key is that row
+  pub own_row : (rows : List R) (p : ℕ) (row : R) → AreDistinct (has_key_of key) rows → slice_get rows p ≡ Some row → row_with key rows (key row) ≡ Some row
+  own_row [] p row distinct at = cc
+  own_row (r ∷ rows) zero row distinct at =
+      let same : r ≡ row = cc in
+      let t : nat_eq (key r) (key row) ≡ true = (unsigned_Decides (key r) (key row)).1 (ap key same) in
+      ap (λ (b : Bool). cond b (Some r) (row_with key rows (key row))) t ∙ at
+  own_row (r ∷ rows) (suc p) row distinct at =
+      ap (λ (b : Bool). cond b (Some r) (row_with key rows (key row))) (distinct 0 (suc p) r row (omega arith) refl at)
+      ∙ own_row rows p row (λ i j earlier later below at_i at_j. distinct (suc i) (suc j) earlier later (omega (arith, below)) at_i at_j) at
+
+  pub own_key : (rows : List R) (p : ℕ) (row : R) → slice_get rows p ≡ Some row → has_key key rows (key row) ≡ true
+  own_key [] p row at = cc
+  own_key (r ∷ rows) zero row at =
+      let same : r ≡ row = cc in
+      let t : nat_eq (key r) (key row) ≡ true = (unsigned_Decides (key r) (key row)).1 (ap key same) in
+      ap (λ (b : Bool). b || has_key key rows (key row)) t
+  own_key (r ∷ rows) (suc p) row at =
+      let rest = own_key rows p row at in
+      elim (nat_eq (key r) (key row)) as (λ b. (b || has_key key rows (key row)) ≡ true) [ true ↦ refl | false ↦ rest ]
+
+  pub row_there : (rows : List R) (p : ℕ) → p < length rows → (row : R) × (slice_get rows p ≡ Some row)
+  row_there [] p below = absurd (omega (arith, below))
+  row_there (r ∷ rows) zero below = (r, refl)
+  row_there (r ∷ rows) (suc p) below = row_there rows p (omega (arith, below))
+
+  -- the row at a position is the one whose key is read back there
+  pub named_row : (rows : List R) (p : ℕ) (row blank : R) → AreDistinct (has_key_of key) rows → slice_get rows p ≡ Some row → slice_get rows p ≡ Some (unwrap_or (row_with key rows (key_at key rows p)) blank)
+  named_row rows p row blank distinct at =
+      let k : key_at key rows p ≡ key row = ap (λ (o : Option R). option_map_or key o 0) at in
+      let found : row_with key rows (key_at key rows p) ≡ Some row = ap (row_with key rows) k ∙ own_row rows p row distinct at in
+      at ∙ sym (ap (λ (o : Option R). Some (unwrap_or o blank)) found)
+
+  pub known_key : (rows : List R) (p : ℕ) → p < length rows → has_key key rows (key_at key rows p) ≡ true
+  known_key rows p below =
+      let there = row_there rows p below in
+      let k : key_at key rows p ≡ key there.0 = ap (λ (o : Option R). option_map_or key o 0) there.1 in
+      ap (has_key key rows) k ∙ own_key rows p there.0 there.1

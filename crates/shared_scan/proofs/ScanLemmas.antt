@@ -1,0 +1,197 @@
+-- From the totals of a batch over all places to its answers.
+use Rattle.std.proofs.Common.{ℕ, ◌≡◌, ◌*◌, ◌<◌, ◌≤◌, List, [], ◌∷◌, length, map, get_or, Some, Result, Ok, Err, IfOk, refl, sym, ap, ◌∙◌, subst, arith}
+use Rattle.std.specs.Prelude.{slice_get, vec_len, IsPermutation}
+use Rattle.std.specs.List.{All, range_with_len}
+use Rattle.std.proofs.lemmas.List.{length-map, get_or-map, ext_get_or, length-replicate}
+use Rattle.std.proofs.lemmas.Option.{slice_get-get_or}
+use Rattle.ssb_schema.specs.Base.{Tables, Dimensions, IsSound}
+use Rattle.ssb_schema.specs.declared.fact.Fact.{Fact}
+use Rattle.ssb_schema.specs.Facts.{facts_of}
+use Rattle.row_store.specs.History.{CommitRecord, lines_after}
+use Rattle.row_store.specs.State.{StandsFor}
+use Rattle.ssb_schema.specs.declared.column.Column.{Column}
+use Rattle.ssb_plans.specs.declared.plan.Plan.{Plan}
+use Rattle.ssb_plans.specs.declared.query.Query.{Query}
+use Rattle.ssb_plans.specs.declared.query.Query.TheVariants.{Q1_1}
+use Rattle.ssb_plans.specs.declared.value.Value.{Value}
+use Rattle.ssb_plans.specs.Queries.{plan_over}
+use Rattle.ssb_queries.specs.Answer.{answer_of}
+use Rattle.ssb_queries.specs.declared.answer.Rows.{Rows}
+use Rattle.ssb_queries.proofs.RearrangementLemmas.{questions_ignore_order}
+use Rattle.fact_table.specs.declared.place.Place.{Place}
+use Rattle.fact_table.specs.declared.slices.Slices.{Slices}
+use Rattle.fact_table.specs.Columns.{AreColumnsOf}
+use Rattle.fact_table.specs.Places.{IsWithin, live_facts}
+use Rattle.fact_columns.specs.Stored.{Stored, IsRead, columns_state}
+use Rattle.fact_columns.proofs.ColumnLaws.{live_facts_are_the_lines}
+use Rattle.scan_kernel.specs.declared.columns.LineColumns.{LineColumns}
+use Rattle.scan_kernel.specs.declared.columns.Grouping.{Grouping}
+use Rattle.scan_kernel.specs.declared.masks.Masks.{Masks}
+use Rattle.scan_kernel.specs.declared.totals.Totals.{Totals}
+use Rattle.scan_kernel.specs.Totals.{CanSumAll, AreBatchTotals}
+use Rattle.shared_scan.specs.Answers.{answers_over, answers_after}
+use Rattle.shared_scan.specs.Prepared.{AreMasksOf, IsGroupingOf}
+use Rattle.shared_scan.specs.Laws.{AreLinesOf}
+use Rattle.shared_scan.specs.Lines.{HaveOneLength, AreOfBase}
+use Rattle.shared_scan.specs.Grouped.{ArePrepared}
+use Rattle.shared_scan.specs.Batch.{IsReady, AreReady, plans_of, questions_of}
+use Rattle.shared_scan.specs.Groupings.{AreReadyGroupings}
+use Rattle.shared_scan.specs.TotalRows.{FitAllGroups, AreBatchRows}
+use Rattle.shared_scan.specs.declared.ready.Ready.{Ready}
+use Rattle.shared_scan.proofs.EachLemmas.{item_of}
+use Rattle.shared_scan.proofs.GroupLemmas.{dimensions_alone}
+use Rattle.shared_scan.proofs.ReadyLemmas.{is_grouping, can_sum}
+use Rattle.shared_scan.proofs.TotalsLemmas.{gains_small, losses_small, totals_answer}
+
+pub if_ok_then : {T E : Type 0} (r : Result T E) (P Q : T → Type 0) → IfOk r P → ((v : T) → P v → Q v) → IfOk r Q
+if_ok_then (Ok v) P Q h f = f v h
+if_ok_then (Err e) P Q h f = tt
+
+-- there is a place for each customer of the lines
+pub line_count : (places : List Place) (lines : LineColumns) → AreLinesOf places lines → length lines.customer.now ≡ length places
+line_count places lines are = ap length are.customers_are ∙ length-map places (λ place. place.customer)
+
+-- the columns of places are of one length
+pub one_length : (places : List Place) (slices : Slices) → AreColumnsOf places slices → HaveOneLength slices
+one_length places slices are =
+    let customers : length slices.customer.now ≡ length places = ap length are.customers ∙ length-map places (λ place. place.customer) in
+    record {
+      suppliers = ap length are.suppliers ∙ length-map places (λ place. place.supplier) ∙ sym customers;
+      parts = ap length are.parts ∙ length-map places (λ place. place.part) ∙ sym customers;
+      dates = ap length are.dates ∙ length-map places (λ place. place.date) ∙ sym customers;
+      terms = ap length are.terms ∙ length-map places (λ place. place.terms) ∙ sym customers;
+      prices = ap length are.prices ∙ length-map places (λ place. place.price) ∙ sym customers;
+      revenues = ap length are.revenues ∙ length-map places (λ place. place.revenue) ∙ sym customers;
+      costs = ap length are.costs ∙ length-map places (λ place. place.cost) ∙ sym customers;
+    }
+
+-- as many group columns are made ready as there are
+pub prepared_lengths : (base : Tables) (masks : Masks) (k : ℕ) (groups : List Column) (columns : List (List Value)) (step : ℕ) (parts : List (List ℕ)) → ArePrepared base masks k groups columns step parts
+    → (length columns ≡ length groups) × (length parts ≡ length groups)
+prepared_lengths base masks k [] [] step [] h = (refl, refl)
+prepared_lengths base masks k [] [] step (p ∷ parts) h = absurd h
+prepared_lengths base masks k [] (v ∷ columns) step parts h = absurd h
+prepared_lengths base masks k (g ∷ groups) [] step parts h = absurd h
+prepared_lengths base masks k (g ∷ groups) (v ∷ columns) step [] h = absurd h
+prepared_lengths base masks k (g ∷ groups) (v ∷ columns) step (p ∷ parts) h =
+    let rest = prepared_lengths base masks k groups columns (step * length v) parts h.1 in
+    (omega (arith, rest.0), omega (arith, rest.1))
+
+module _ (base : Tables) (masks : Masks) (all : List Ready) (ready : AreReady base masks (questions_of all) all) where
+  pub question_at : (k : ℕ) (r : Ready) → k < length all → slice_get (questions_of all) k ≡ Some (get_or all k r).question
+  question_at k r below =
+      let there : k < length (questions_of all) = omega (arith, below, length-map all (λ s. s.question)) in
+      slice_get-get_or (questions_of all) k r.question there ∙ ap Some (get_or-map (λ (s : Ready). s.question) all k r r.question below)
+
+  pub plan_at : (k : ℕ) (r : Ready) → k < length all → slice_get (plans_of (questions_of all)) k ≡ Some (plan_over (get_or all k r).question.0 (get_or all k r).question.1)
+  plan_at k r below =
+      let plan_of : Query × List Value → Plan = λ question. plan_over question.0 question.1 in
+      let asked : k < length (questions_of all) = omega (arith, below, length-map all (λ s. s.question)) in
+      let there : k < length (plans_of (questions_of all)) = omega (arith, asked, length-map (questions_of all) plan_of) in
+      slice_get-get_or (plans_of (questions_of all)) k (plan_of r.question) there
+      ∙ ap Some (get_or-map plan_of (questions_of all) k r.question (plan_of r.question) asked ∙ ap plan_of (get_or-map (λ (s : Ready). s.question) all k r r.question below))
+
+  pub ready_at : (k : ℕ) (r : Ready) → k < length all → IsReady base masks k (get_or all k r).question (get_or all k r)
+  ready_at k r below = ready k (get_or all k r).question r (question_at k r below)
+
+  -- each question has as many parts as group columns
+  pub parts_all : All (λ ready. vec_len ready.groups.parts ≡ length ready.plan.groups) all
+  parts_all k r below =
+      let one = ready_at k r below in
+      let this = get_or all k r in
+      omega (arith, (prepared_lengths base masks k this.plan.groups this.groups.columns.items 1 this.groups.parts.items one.prepared).1, this.groups.parts.ok)
+
+module _ (base : Tables) (places : List Place) (lines : LineColumns) (masks : Masks) (all : List Ready) (groupings : List Grouping)
+    (sound : IsSound base) (within : All (IsWithin base.dimensions) places) (are : AreLinesOf places lines)
+    (tell : AreMasksOf (plans_of (questions_of all)) base.dimensions masks) (ready : AreReady base masks (questions_of all) all)
+    (grouped : AreReadyGroupings base lines all groupings) where
+  pub can_sum_all : CanSumAll lines masks groupings
+  can_sum_all k g below =
+      let inside : k < length all = omega (arith, below, grouped.len) in
+      let r : Ready = item_of all k inside in
+      let this = get_or all k r in
+      let one = grouped.each k r g inside in
+      can_sum base masks k places lines (plans_of (questions_of all)) this.question this (get_or groupings k g) sound within are (plan_at base masks all ready k r inside) tell (ready_at base masks all ready k r inside)
+      one.columns_are one.measure_is one.size_is one.few
+
+  module _ (totals : List Totals) (summed : AreBatchTotals lines masks groupings (range_with_len 0 (length places)) totals) (few : length (live_facts base.dimensions places) ≤ 33554432) where
+    grouping_at : (k : ℕ) (r : Ready) (g : Grouping) → k < length all → IsGroupingOf base masks k lines (plan_over (get_or all k r).question.0 (get_or all k r).question.1) (get_or all k r).groups.columns.items (get_or groupings k g)
+    grouping_at k r g below =
+        let this = get_or all k r in
+        let one = grouped.each k r g below in
+        is_grouping base masks k lines this.question this (get_or groupings k g) (ready_at base masks all ready k r below) one.columns_are one.measure_is one.size_is
+
+    pub fit_all : FitAllGroups all totals
+    fit_all k r t below =
+        let this = get_or all k r in
+        let one = ready_at base masks all ready k r below in
+        let of_groupings : k < length groupings = omega (arith, below, grouped.len) in
+        let g : Grouping = item_of groupings k of_groupings in
+        let sums = summed.each k g t of_groupings in
+        let own = grouping_at k r g below in
+        let at_k = plan_at base masks all ready k r below in
+        let dims = dimensions_alone this.question.0 this.question.1 in
+        let lengths = prepared_lengths base masks k this.plan.groups this.groups.columns.items 1 this.groups.parts.items one.prepared in
+        let long : length this.groups.columns.items ≡ length (plan_over this.question.0 this.question.1).groups = lengths.0 ∙ ap (λ (plan : Plan). length plan.groups) one.plan_is in
+        record {
+          columns = long;
+          counts = omega (arith, sums.counts_are.len, length-replicate {A = ℕ} (get_or groupings k g).size 0, own.size_is, (get_or totals k t).counts.ok);
+          small = λ fits. record {
+            gains = gains_small base this.question (plans_of (questions_of all)) k places lines masks this.groups.columns.items (get_or groupings k g) sound within are at_k tell own dims
+                (get_or totals k t) few sums fits.counts fits.gains fits.losses;
+            losses = losses_small base this.question (plans_of (questions_of all)) k places lines masks this.groups.columns.items (get_or groupings k g) sound within are at_k tell own dims
+                (get_or totals k t) few sums fits.counts fits.gains fits.losses;
+          };
+        }
+
+    module _ (list : List Rows) (right : AreBatchRows all totals list) where
+      rows_at : (k : ℕ) (r : Ready) (t : Totals) (rows : Rows) → k < length all
+          → get_or list k rows ≡ record { query = (get_or all k r).question; list = answer_of (get_or all k r).question base.dimensions (live_facts base.dimensions places) }
+      rows_at k r t rows below =
+          let this = get_or all k r in
+          let of_groupings : k < length groupings = omega (arith, below, grouped.len) in
+          let g : Grouping = item_of groupings k of_groupings in
+          let sums = summed.each k g t of_groupings in
+          let one = right.each k r t rows below in
+          let fits = one.fits in
+          let answer = totals_answer base this.question (plans_of (questions_of all)) k places lines masks this.groups.columns.items (get_or groupings k g) sound within are (plan_at base masks all ready k r below) tell
+          (grouping_at k r g below) (dimensions_alone this.question.0 this.question.1) (get_or totals k t) few sums fits.counts fits.gains fits.losses (get_or list k rows).list one.right in
+          λ j. record { query = one.query_is j; list = answer j }
+
+      -- the rows answer the batch over the live facts
+      pub rows_answer : list ≡ answers_over base.dimensions (live_facts base.dimensions places) (questions_of all)
+      rows_answer =
+          let answered : Query × List Value → Rows = λ question. record { query = question; list = answer_of question base.dimensions (live_facts base.dimensions places) } in
+          ext_get_or no_rows list (map answered (questions_of all)) (right.len ∙ sym (length-map (questions_of all) answered ∙ length-map all (λ r. r.question))) (λ i below.
+          let inside : i < length all = omega (arith, below, right.len) in
+          let of_groupings : i < length groupings = omega (arith, inside, grouped.len) in
+          let of_totals : i < length totals = omega (arith, of_groupings, summed.all) in
+          let r : Ready = item_of all i inside in
+          let t : Totals = item_of totals i of_totals in
+          let asked : i < length (questions_of all) = omega (arith, inside, length-map all (λ r. r.question)) in
+          rows_at i r t no_rows inside
+          ∙ sym (get_or-map answered (questions_of all) i r.question no_rows asked ∙ ap answered (get_or-map (λ (s : Ready). s.question) all i r r.question inside)))
+        where
+          no_rows : Rows
+          no_rows = record { query = (Q1_1, []); list = [] }
+
+-- a rearrangement of the lines has the same answers
+pub answers_ignore_order : (dimensions : Dimensions) (facts other : List Fact) (questions : List (Query × List Value)) → IsPermutation facts other → answers_over dimensions facts questions ≡ answers_over dimensions other questions
+answers_ignore_order dimensions facts other [] moved = refl
+answers_ignore_order dimensions facts other (question ∷ questions) moved =
+    λ j. record { query = question; list = questions_ignore_order question dimensions facts other moved j } ∷ answers_ignore_order dimensions facts other questions moved j
+
+-- the places of the columns are of their base
+pub of_base : (columns : Stored) → IsRead columns → length columns.facts ≤ 33554432 → AreOfBase columns.base columns.places
+of_base columns read few = record {
+  within = read.within;
+  few = read.few;
+  few_live = subst (λ (facts : List Fact). length facts ≤ 33554432) read.facts_are few;
+}
+
+-- the answers over the live facts of columns are those after any history that the columns stand for
+pub answers_of_history : (columns : Stored) (history : List CommitRecord) (questions : List (Query × List Value)) → IsRead columns → StandsFor (columns_state columns) history
+    → answers_over columns.base.dimensions (live_facts columns.base.dimensions columns.places) questions ≡ answers_after columns.base history questions
+answers_of_history columns history questions read stands =
+    ap (λ (facts : List Fact). answers_over columns.base.dimensions facts questions) (sym read.facts_are)
+    ∙ answers_ignore_order columns.base.dimensions columns.facts (facts_of (lines_after columns.base history)) questions (live_facts_are_the_lines columns history stands)

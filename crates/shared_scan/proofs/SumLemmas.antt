@@ -1,0 +1,74 @@
+-- Totals over places are the sums over the live lines.
+use Rattle.std.proofs.Common.{ℕ, suc, ◌≡◌, ◌+◌, ◌*◌, ◌%◌, ◌^◌, ◌<◌, ◌≤◌, List, [], ◌∷◌, length, map, get_or, replicate, refl, sym, ap, ◌∙◌, arith, zero-add}
+use Rattle.std.specs.Prelude.{pos, ◌-ℤ◌}
+use Rattle.std.specs.List.{range_with_len, sum_by}
+use Rattle.std.proofs.Math.Nat.{mod-eq_of_lt, mul-le-mul_right}
+use Rattle.std.proofs.lemmas.Int.{ints}
+use Rattle.std.proofs.lemmas.List.{length-replicate, get_or-replicate}
+use Rattle.std.proofs.lemmas.List.Elements.{All-from_get_or}
+use Rattle.std.proofs.lemmas.List.Sums.{sum_by-cons, sum_by-le}
+use Rattle.ssb_schema.specs.declared.fact.Fact.{Fact}
+use Rattle.ssb_plans.specs.declared.plan.Measure.{Measure}
+use Rattle.ssb_plans.specs.declared.plan.Measure.TheVariants.{PriceTimesDiscount, Revenue, Profit}
+use Rattle.scan_kernel.specs.Sums.{sum_in, Adds}
+use Rattle.scan_answers.specs.Lines.{price_times_discount, revenue, cost}
+use Rattle.scan_answers.specs.Scan.{line_sum}
+
+-- a list is what it has at each index
+pub at_each : {A : Type 0} (xs : List A) (d : A) (a : ℕ) (ys : List A) → ((i : ℕ) → i < length xs → get_or ys (a + i) d ≡ get_or xs i d) → map (λ i. get_or ys i d) (range_with_len a (length xs)) ≡ xs
+at_each [] d a ys h = refl
+at_each (x ∷ xs) d a ys h =
+    let first : get_or ys a d ≡ x = ap (λ (n : ℕ). get_or ys n d) (omega arith) ∙ h 0 (omega arith) in
+    let rest : map (λ i. get_or ys i d) (range_with_len (a + 1) (length xs)) ≡ xs =
+    at_each xs d (a + 1) ys (λ i below. ap (λ (n : ℕ). get_or ys n d) (omega arith) ∙ h (suc i) (omega (arith, below))) in
+    λ j. first j ∷ rest j
+
+pub list_at : {A : Type 0} (xs : List A) (d : A) → map (λ i. get_or xs i d) (range_with_len 0 (length xs)) ≡ xs
+list_at xs d = at_each xs d 0 xs (λ i below. ap (λ (n : ℕ). get_or xs n d) (zero-add i))
+
+pub map_twice : {A B C : Type 0} (f : B → C) (g : A → B) (xs : List A) → map f (map g xs) ≡ map (λ x. f (g x)) xs
+map_twice f g [] = refl
+map_twice f g (x ∷ xs) = ap (λ ys. f (g x) ∷ ys) (map_twice f g xs)
+
+pub sum_mapped : {A : Type 0} (f : A → ℕ) (g : ℕ → A) (h : ℕ → ℕ) → ((i : ℕ) → h i ≡ f (g i)) → (xs : List ℕ) → sum_by f (map g xs) ≡ sum_by h xs
+sum_mapped f g h same [] = refl
+sum_mapped f g h same (x ∷ xs) = sum_by-cons f (g x) (map g xs) ∙ (λ j. sym (same x) j + sum_mapped f g h same xs j) ∙ sym (sum_by-cons h x xs)
+
+pub count_ones : (xs : List ℕ) → sum_by (λ (i : ℕ). 1) xs ≡ length xs
+count_ones [] = refl
+count_ones (x ∷ xs) = sum_by-cons (λ (i : ℕ). 1) x xs ∙ ap (λ (n : ℕ). 1 + n) (count_ones xs) ∙ omega arith
+
+-- what a fact adds to the measure, and takes away
+abbrev pub gain_of : Measure → Fact → ℕ
+gain_of PriceTimesDiscount = price_times_discount
+gain_of Revenue = revenue
+gain_of Profit = revenue
+
+abbrev pub loss_of : Measure → Fact → ℕ
+loss_of PriceTimesDiscount fact = 0
+loss_of Revenue fact = 0
+loss_of Profit fact = cost fact
+
+no_loss : (facts : List Fact) → sum_by (λ (fact : Fact). 0) facts ≡ 0
+no_loss [] = refl
+no_loss (fact ∷ facts) = no_loss facts
+
+minus_none : (n m : ℕ) → m ≡ 0 → pos n -ℤ pos m ≡ pos n
+minus_none n m e = omega (arith, ints, e)
+
+pub line_sum_is : (measure : Measure) (facts : List Fact) → pos (sum_by (gain_of measure) facts) -ℤ pos (sum_by (loss_of measure) facts) ≡ line_sum measure facts
+line_sum_is PriceTimesDiscount facts = minus_none _ _ (no_loss facts)
+line_sum_is Revenue facts = minus_none _ _ (no_loss facts)
+line_sum_is Profit facts = refl
+
+-- below 2^64 the sums are exact
+pub exact : (amount group : ℕ → ℕ) (xs new : List ℕ) (size g : ℕ) → Adds amount group xs (replicate size 0) new → g < size → get_or new g 0 < 2 ^ 64 → sum_in amount group g xs < 2 ^ 64 → get_or new g 0 ≡ sum_in amount group g xs
+exact amount group xs new size g h below fits few =
+    let there : g < length (replicate size 0) = omega (arith, length-replicate {A = ℕ} size 0) in
+    let zero_is : get_or (replicate size 0) g 0 ≡ 0 = get_or-replicate size g 0 0 below in
+    let total = sum_in amount group g xs in
+    sym (mod-eq_of_lt fits) ∙ h.each g there ∙ ap (λ (v : ℕ). (v + total) % 2 ^ 64) zero_is ∙ ap (λ (v : ℕ). v % 2 ^ 64) (zero-add total) ∙ mod-eq_of_lt few
+
+pub bounded : (amount : ℕ → ℕ) (most count limit : ℕ) (xs : List ℕ) → ((i : ℕ) → amount i ≤ most) → length xs ≤ count → count * most < limit → sum_by amount xs < limit
+bounded amount most count limit xs small few fits =
+    omega (arith, sum_by-le amount most xs (All-from_get_or (λ (i : ℕ). amount i ≤ most) xs 0 (λ j _. small (get_or xs j 0))), mul-le-mul_right most few, fits)

@@ -1,0 +1,5 @@
+use Rattle.shared_scan.proofs.CanScanLemmas.{can_search}
+use Rattle.shared_scan.proofs.laws.places_can_be_searched.Goals as goal
+
+pub returns : goal.returns
+returns c = can_search

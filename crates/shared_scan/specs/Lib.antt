@@ -1,0 +1,13 @@
+pub mod Prepared
+pub mod Laws
+pub mod Numbering
+pub mod Masking
+pub mod Grouped
+pub mod GroupColumns
+pub mod Batch
+pub mod Answers
+pub mod PreparedBatch
+pub mod CanScan
+pub mod Groupings
+pub mod TotalRows
+pub mod Lines

@@ -1,0 +1,43 @@
+-- The rows of the questions of a batch from their totals.
+use Rattle.std.specs.Prelude.{ℕ, pos, ◌≡◌, ◌<◌, ◌^◌, ◌-ℤ◌, List, length, slice_index, slice_index_or, vec_len}
+use Rattle.ssb_plans.specs.Queries.{plan_over}
+use Rattle.ssb_queries.specs.declared.answer.Rows.{Rows}
+use Rattle.scan_kernel.specs.declared.totals.Totals.{Totals}
+use Rattle.scan_answers.specs.Groups.{counts_of, size_of}
+use Rattle.scan_answers.specs.Scan.{AnswersLines}
+use Rattle.shared_scan.specs.declared.ready.Ready.{Ready}
+
+-- every number of the totals is one of 64 bits
+pub record Fit64 (totals : Totals) : Type 0 where
+  pub counts : (g : ℕ) → slice_index totals.counts.items g < 2 ^ 64
+  pub gains : (g : ℕ) → slice_index totals.gains.items g < 2 ^ 64
+  pub losses : (g : ℕ) → slice_index totals.losses.items g < 2 ^ 64
+
+-- what was added up and taken away is small, so that differences fit 64 bits
+pub record AreSmall (totals : Totals) : Type 0 where
+  pub gains : (g : ℕ) → slice_index totals.gains.items g < 2 ^ 62
+  pub losses : (g : ℕ) → slice_index totals.losses.items g < 2 ^ 62
+
+-- a question's totals have a number for each of its groups, and are small if they are numbers of 64 bits
+pub record FitGroups (ready : Ready) (totals : Totals) : Type 0 where
+  pub columns : length ready.groups.columns.items ≡ length (plan_over ready.question.0 ready.question.1).groups
+  pub counts : vec_len totals.counts ≡ size_of (counts_of ready.groups.columns.items)
+  pub small : Fit64 totals → AreSmall totals
+
+-- the rows are the question's over any lines that have these totals
+pub record AreRowsOf (ready : Ready) (totals : Totals) (rows : Rows) : Type 0 where
+  pub query_is : rows.query ≡ ready.question
+  pub fits : Fit64 totals
+  pub right : AnswersLines ready.question ready.groups.columns.items (λ g. slice_index totals.counts.items g)
+      (λ g. pos (slice_index totals.gains.items g) -ℤ pos (slice_index totals.losses.items g)) rows.list
+
+-- so for each question of a batch
+abbrev pub FitAllGroups : List Ready → List Totals → Type 0
+FitAllGroups all totals =
+    (k : ℕ) (ready : Ready) (t : Totals) → k < length all
+    → FitGroups (slice_index_or all k ready) (slice_index_or totals k t)
+
+pub record AreBatchRows (all : List Ready) (totals : List Totals) (list : List Rows) : Type 0 where
+  pub len : length list ≡ length all
+  pub each : (k : ℕ) (ready : Ready) (t : Totals) (rows : Rows) → k < length all
+      → AreRowsOf (slice_index_or all k ready) (slice_index_or totals k t) (slice_index_or list k rows)

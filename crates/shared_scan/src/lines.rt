@@ -1,0 +1,26 @@
+//! The columns of the fact table, as the loops read them.
+ghost use Rattle.std.specs.Prelude.{List};
+ghost use Rattle.fact_table.specs.declared.place.Place.{Place};
+ghost use Rattle.fact_table.specs.Columns.{AreColumnsOf};
+ghost use Rattle.shared_scan.specs.Laws.{AreLinesOf};
+ghost use Rattle.shared_scan.specs.Lines.{HaveOneLength};
+
+use fact_table::Slices;
+use scan_kernel::LineColumns;
+
+/// The same columns, of one length.
+pub fn lines_of(slices: Slices<'_>) -> LineColumns<'_>
+    requires { HaveOneLength slices }
+    ensures { (places : List Place) → AreColumnsOf places slices.entry → AreLinesOf places result }
+{
+    LineColumns {
+        customer: slices.customer,
+        supplier: slices.supplier,
+        part: slices.part,
+        date: slices.date,
+        terms: slices.terms,
+        price: slices.price,
+        revenue: slices.revenue,
+        cost: slices.cost,
+    }
+}

@@ -1,0 +1,90 @@
+//! Dense numbers for the codes of a group column.
+ghost use Rattle.std.specs.Prelude.{◌≡◌, ◌≢◌, ℕ, ◌<◌, ◌≤◌, ◌+◌, ◌^◌, ◌*◌, All, IfOk, OnOk, length, slice_index, vec_len, nat_eq, [], OnSome};
+ghost use Rattle.std.specs.Int.{bit_at};
+ghost use Rattle.scan_kernel.specs.Places.{mask_in};
+ghost use Rattle.shared_scan.specs.Numbering.{HasMasks};
+ghost use Rattle.shared_scan.specs.Numbering.{AreNumbered};
+
+use ssb_schema::Items;
+use std::alloc::{AllocError, Global};
+
+/// The codes that have a number, by number, and the number of each code; a code without has `NONE`.
+#[derive(Drop)]
+pub struct Numbering {
+    pub kept: Vec<u32>,
+    pub numbers: Vec<u32>,
+}
+
+/// Stands for no number.
+pub const NONE: u32 = u32::MAX;
+
+fn no_numbers(alloc: Global, count: usize) -> Result<Vec<u32>, AllocError>
+    ensures len { IfOk result (λ v. vec_len v ≡ count) }
+    ensures none { IfOk result (λ v. (code : ℕ) → code < count → slice_index v.items code ≡ 4294967295) }
+{
+    vec![in alloc; NONE; count]
+}
+
+/// Gives the code a number if it has none.
+fn number_code(numbering: &mut Numbering, code: u32) -> Result<(), AllocError>
+    requires code { code < vec_len numbering.old.numbers }
+    requires room { vec_len numbering.old.kept < 4294967295 }
+    requires was { AreNumbered numbering.old.numbers.items numbering.old.kept.items }
+    ensures is { OnOk result (AreNumbered numbering.new.numbers.items numbering.new.kept.items) }
+    ensures grows { vec_len numbering.new.kept ≤ vec_len numbering.old.kept + 1 }
+    ensures len { vec_len numbering.new.numbers ≡ vec_len numbering.old.numbers }
+    ensures has { OnOk result (slice_index numbering.new.numbers.items code ≢ 4294967295) }
+    ensures keeps { OnOk result ((other : ℕ) → slice_index numbering.old.numbers.items other ≢ 4294967295 → slice_index numbering.new.numbers.items other ≢ 4294967295) }
+{
+    if numbering.numbers[code as usize] == NONE {
+        let number = numbering.kept.len() as u32;
+        numbering.kept.push(code)?;
+        numbering.numbers[code as usize] = number;
+    }
+    Ok(())
+}
+
+/// Whether a question takes the row at a position.
+fn takes(masks: &Option<Items<u16>>, position: usize, question: usize) -> bool
+    requires question { question < 16 }
+    requires masks { HasMasks masks.now position }
+    ensures { result ≡ nat_eq (bit_at (mask_in masks.now position) question) 1 }
+{
+    match masks {
+        Some(masks) => {
+            let masks = masks.as_slice();
+            (masks[position] >> question) & 1 == 1
+        }
+        None => true,
+    }
+}
+
+/// Numbers the codes of the rows that a question takes, in the order of first sight.
+pub fn number_codes(
+    alloc: Global,
+    codes: &[u32],
+    count: usize,
+    masks: &Option<Items<u16>>,
+    question: usize,
+) -> Result<Numbering, AllocError>
+    requires question { question < 16 }
+    requires few { length codes.now < 4294967295 }
+    requires within { All (λ code. code < count) codes.now }
+    requires masks { (p : ℕ) → p < length codes.now → HasMasks masks.now p }
+    ensures len { IfOk result (λ numbering. vec_len numbering.numbers ≡ count) }
+    ensures few { IfOk result (λ numbering. vec_len numbering.kept ≤ length codes.now) }
+    ensures numbered { IfOk result (λ numbering. AreNumbered numbering.numbers.items numbering.kept.items) }
+    ensures each { IfOk result (λ numbering. (p : ℕ) → p < length codes.now → bit_at (mask_in masks.now p) question ≡ 1 → slice_index numbering.numbers.items (slice_index codes.now p) ≢ 4294967295) }
+{
+    let numbers = no_numbers(alloc, count)?;
+    let mut numbering = Numbering {
+        kept: Vec::new(alloc),
+        numbers,
+    };
+    for position in 0..codes.len() {
+        if takes(masks, position, question) {
+            number_code(&mut numbering, codes[position])?;
+        }
+    }
+    Ok(numbering)
+}

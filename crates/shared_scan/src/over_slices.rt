@@ -1,0 +1,54 @@
+//! The pass over the columns of a list of places.
+ghost use Rattle.std.specs.Prelude.{◌≡◌, List, IfOk};
+ghost use Rattle.fact_table.specs.declared.place.Place.{Place};
+ghost use Rattle.fact_table.specs.Columns.{AreColumnsOf};
+ghost use Rattle.fact_table.specs.Places.{live_facts};
+ghost use Rattle.shared_scan.specs.Answers.{answers_over};
+ghost use Rattle.shared_scan.specs.Lines.{AreOfBase, HavePlaces};
+
+use crate::grouping::groupings;
+use crate::lines::lines_of;
+use crate::prepared::PreparedBatch;
+use crate::sums::batch_rows;
+use dim_index::DimIndex;
+use fact_table::Slices;
+use scan_kernel::{parallel_totals, range_totals};
+use ssb_queries::Rows;
+use std::alloc::{AllocError, Global};
+use std::thread::Threads;
+
+/// The answers over columns, by one thread.
+pub fn scan_slices(
+    alloc: Global,
+    slices: Slices<'_>,
+    batch: &PreparedBatch,
+) -> Result<Vec<Rows>, AllocError>
+    requires { HavePlaces batch.now.base slices }
+    ensures { (places : List Place) → AreColumnsOf places slices.entry → AreOfBase batch.now.base places → IfOk result (λ rows. rows.items ≡ answers_over batch.now.base.dimensions (live_facts batch.now.base.dimensions places) batch.now.questions) }
+{
+    let index: &DimIndex = &batch.index;
+    index.base().soundness();
+    let lines = lines_of(slices);
+    let groupings = groupings(alloc, index, &lines, &batch.questions)?;
+    let count = lines.customer.len();
+    let totals = range_totals(alloc, &lines, &batch.masks, &groupings, 0, count)?;
+    batch_rows(alloc, &batch.questions, &totals)
+}
+
+/// The answers over columns, by as many threads as there are processors.
+pub fn scan_slices_parallel<R: Threads + Sync>(
+    rt: &R,
+    alloc: Global,
+    slices: Slices<'_>,
+    batch: &PreparedBatch,
+) -> Result<Vec<Rows>, AllocError>
+    requires { HavePlaces batch.now.base slices }
+    ensures { (places : List Place) → AreColumnsOf places slices.entry → AreOfBase batch.now.base places → IfOk result (λ rows. rows.items ≡ answers_over batch.now.base.dimensions (live_facts batch.now.base.dimensions places) batch.now.questions) }
+{
+    let index: &DimIndex = &batch.index;
+    index.base().soundness();
+    let lines = lines_of(slices);
+    let groupings = groupings(alloc, index, &lines, &batch.questions)?;
+    let totals = parallel_totals(rt, alloc, &lines, &batch.masks, &groupings)?;
+    batch_rows(alloc, &batch.questions, &totals)
+}

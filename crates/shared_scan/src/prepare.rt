@@ -1,0 +1,51 @@
+//! Questions are made ready.
+ghost use Rattle.std.specs.Prelude.{◌≡◌, ℕ, ◌<◌, IfOk, length};
+ghost use Rattle.dim_index.specs.Values.{values_of};
+ghost use Rattle.ssb_schema.specs.declared.column.Column.{Column as GroupedBy};
+ghost use Rattle.ssb_plans.specs.Queries.{plan_over};
+ghost use Rattle.shared_scan.specs.Grouped.{HaveMasks};
+ghost use Rattle.shared_scan.specs.Batch.{plans_of, IsReady};
+
+use crate::groups::prepare_groups;
+use crate::ready::Ready;
+use dim_index::DimIndex;
+use scan_kernel::Masks;
+use ssb_queries::question::plan;
+use ssb_queries::{Plan, Question};
+use std::alloc::{AllocError, Global};
+
+/// The questions' plans.
+pub fn plans_of(alloc: Global, questions: &[Question]) -> Result<Vec<Plan>, AllocError>
+    ensures { IfOk result (λ plans. plans.items ≡ plans_of questions.now) }
+{
+    let mut plans = Vec::with_capacity(alloc, questions.len())?;
+    for question in questions {
+        plans.push(plan(alloc, question)?)?;
+    }
+    Ok(plans)
+}
+
+/// One question made ready. Where its groups would be more than numbers of 32 bits, no table could hold them, and that is
+/// want of memory.
+pub fn prepare_question(
+    alloc: Global,
+    index: &DimIndex,
+    masks: &Masks,
+    question: &Question,
+    number: usize,
+) -> Result<Ready, AllocError>
+    requires number { number < 16 }
+    requires few { (column : GroupedBy) → length (values_of index.now column) < 4294967295 }
+    requires masks { HaveMasks index.now masks.now }
+    ensures { IfOk result (IsReady index.now masks.now number question.now) }
+{
+    let plan = plan(alloc, question)?;
+    let Some(groups) = prepare_groups(alloc, index, masks, plan.groups.as_slice(), number)? else {
+        return Err(AllocError);
+    };
+    Ok(Ready {
+        question: question.share()?,
+        plan,
+        groups,
+    })
+}

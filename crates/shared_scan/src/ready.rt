@@ -1,0 +1,11 @@
+//! A question made ready.
+use crate::groups::Groups;
+use ssb_queries::{Plan, Question};
+
+/// A question with its plan, and its groups.
+#[derive(Drop)]
+pub struct Ready {
+    pub question: Question,
+    pub plan: Plan,
+    pub groups: Groups,
+}
