@@ -4,7 +4,7 @@ use Rattle.row_store.specs.History.{CommitRecord, IsPrefix, lines_after}
 use Rattle.row_store.specs.State.{State, StandsFor}
 use Rattle.ssb_schema.specs.Base.{Tables}
 use Rattle.twin_cell.specs.Twin.{Known, Entered}
-use Rattle.plain_scan.specs.Lines.{Lines as Stored, lines_state as columns_state}
+use Rattle.fact_columns.specs.Stored.{Stored, columns_state}
 use Rattle.history.specs.declared.request.Outcome.{Outcome}
 use Rattle.history.specs.declared.request.Outcome.TheVariants.{Served, GivenUp}
 use Rattle.history.specs.Tokens.{Hall, Token, IsSound, IsFree}

@@ -12,7 +12,7 @@ use Rattle.history.specs.Words.{IsFresh, IsCause}
 use Rattle.twin_cell.specs.Twin.{Writing, Known, Entered}
 use Rattle.ssb_queries.specs.declared.answer.Unserved.{Unserved}
 use Rattle.history.specs.declared.request.Grabbed.{Grabbed}
-use Rattle.plain_scan.specs.Lines.{Lines as Stored, lines_state as columns_state}
+use Rattle.fact_columns.specs.Stored.{Stored, columns_state}
 use Rattle.history_core.specs.World.{rows_after}
 use Rattle.ssb_queries.specs.declared.answer.Rows.{Rows}
 use Rattle.ssb_plans.specs.declared.query.Query.{Query}

@@ -9,9 +9,9 @@ ghost use Rattle.ssb_server.specs.Opening.{IsNewDispatcher};
 ghost use Rattle.ssb_server.specs.Tickets.{IsLeft};
 
 use crate::batch::Batch;
-use crate::secondary::Columns;
 use crate::server::{Pass, Server};
 use crate::turn::{ScanGate, Turn, take_turn};
+use fact_columns::Columns;
 use history_core::Who;
 use std::marker::Model;
 use std::sync::Wait;

@@ -36,11 +36,8 @@ mod dispatcher;
 mod grabbing;
 mod opening;
 mod room;
-mod secondary;
 mod server;
 mod snapshot;
-#[cfg(test)]
-mod tests;
 mod tickets;
 mod turn;
 

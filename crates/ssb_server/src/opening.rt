@@ -1,7 +1,7 @@
 //! How a server is opened.
 ghost use Rattle.std.specs.Prelude.{◌≡◌, ◌≤◌, [], All, length, IfOk, OnOk, IfErr};
 ghost use Rattle.row_store.specs.State.{state_of};
-ghost use Rattle.plain_scan.specs.Lines.{lines_state as columns_state};
+ghost use Rattle.fact_columns.specs.Stored.{columns_state};
 ghost use Rattle.history.specs.Tokens.{new_clients, new_dispatchers};
 ghost use Rattle.ssb_server.specs.Opening.{AreCounts, IsOpenFault, IsNewReader, AreSeats};
 
@@ -10,9 +10,10 @@ use crate::bells::Bells;
 use crate::client::Client;
 use crate::dispatcher::Dispatcher;
 use crate::room::Room;
-use crate::secondary::{Columns, DimIndex};
 use crate::server::{Hall, Pass, Server};
 use crate::tickets::clients_of;
+use dim_index::DimIndex;
+use fact_columns::Columns;
 use history::Shared;
 use row_store::RowStore;
 use ssb_schema::Base;
@@ -80,7 +81,7 @@ fn dispatchers_of<W: Wait + Drop>(
 fn index_of(alloc: Global, base: &Arc<Base>) -> Result<Arc<DimIndex>, AllocError>
     ensures { IfOk result (λ index. index.value ≡ base.now.value) }
 {
-    let index = DimIndex::new(Arc::try_clone(base)?);
+    let index = DimIndex::new(alloc, Arc::try_clone(base)?)?;
     Ok(Arc::new(alloc, index).map_err(AllocError::from)?)
 }
 
@@ -156,7 +157,7 @@ fn parts_of(alloc: Global, hashing: RandomState, base: &Arc<Base>) -> Result<Par
 {
     let index = index_of(alloc, base)?;
     let rows = RowStore::new(alloc, Arc::try_clone(base)?, hashing)?;
-    let columns = Columns::new(alloc, Arc::try_clone(&index)?)?;
+    let columns = Columns::new(alloc, Arc::try_clone(&index)?, hashing)?;
     Ok(Parts {
         rows,
         index,

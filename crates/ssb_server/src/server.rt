@@ -3,7 +3,8 @@ ghost use Rattle.std.specs.Prelude.{◌≡◌};
 
 use crate::bells::Bells;
 use crate::room::Room;
-use crate::secondary::{Columns, DimIndex};
+use dim_index::DimIndex;
+use fact_columns::Columns;
 use std::alloc::Global;
 use std::marker::Model;
 use std::sync::{Arc, Mutex, Wait};
