@@ -17,6 +17,8 @@ mod answering;
 mod batch;
 mod secondary;
 mod source;
+#[cfg(test)]
+mod tests;
 
 pub use answering::scan;
 pub use batch::PlainBatch;

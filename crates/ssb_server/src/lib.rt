@@ -38,6 +38,8 @@ mod opening;
 mod room;
 mod server;
 mod snapshot;
+#[cfg(test)]
+mod tests;
 mod tickets;
 mod turn;
 
