@@ -49,18 +49,3 @@ module _ (hall : Hall) where
   pub new_dispatchers_are_of_it : (tokens : List Token) → tokens ≡ new_dispatchers hall → All (IsOf hall) tokens
   new_dispatchers_are_of_it tokens is = subst (All (IsOf hall)) (sym is)
       (All-map (IsOf hall) (λ number. new_token hall (Dispatcher number)) (range_with_len 1 hall.dispatchers) (λ k d low. refl))
-
-  pub three_quiet : (a b c : Token) (items : List Token) → items ≡ a ∷ b ∷ c ∷ [] → IsQuiet hall a → IsQuiet hall b → IsQuiet hall c → All (IsQuiet hall) items
-  three_quiet a b c items are x y z = subst (All (IsQuiet hall)) (sym are)
-      (All-cons (IsQuiet hall) a (b ∷ c ∷ []) x (All-cons (IsQuiet hall) b (c ∷ []) y (All-cons (IsQuiet hall) c [] z (All-nil (IsQuiet hall)))))
-
-  pub two_of_it : (a b : Token) (items : List Token) → items ≡ a ∷ b ∷ [] → IsOf hall a → IsOf hall b → All (IsOf hall) items
-  two_of_it a b items are x y = subst (All (IsOf hall)) (sym are) (All-cons (IsOf hall) a (b ∷ []) x (All-cons (IsOf hall) b [] y (All-nil (IsOf hall))))
-
--- those that a server which was not closed hands back are its own, and so is one more
-pub quiet_again : (hall other : Hall) (tokens again more : List Token) (t : Token) → other ≡ hall → again ≡ tokens → more ≡ again ++ t ∷ [] → All (IsQuiet hall) tokens → IsQuiet hall t → All (IsQuiet other) more
-quiet_again hall other tokens again more t same back are quiet last = subst (λ (h : Hall). All (IsQuiet h) more) (sym same)
-    (subst (All (IsQuiet hall)) (sym (are ∙ ap (λ ts. ts ++ t ∷ []) back)) (All-push (IsQuiet hall) tokens t quiet last))
-
-pub of_it_again : (hall other : Hall) (tokens again : List Token) → other ≡ hall → again ≡ tokens → All (IsOf hall) tokens → All (IsOf other) again
-of_it_again hall other tokens again same back here = subst (λ (h : Hall). All (IsOf h) again) (sym same) (subst (All (IsOf hall)) (sym back) here)
