@@ -1,0 +1,23 @@
+-- What a batch answers.
+use Rattle.std.specs.Prelude.{List, map}
+use Rattle.ssb_schema.specs.Base.{Tables}
+use Rattle.ssb_schema.specs.declared.fact.Fact.{Fact}
+use Rattle.ssb_schema.specs.Facts.{facts_of}
+use Rattle.row_store.specs.History.{CommitRecord, lines_after}
+use Rattle.ssb_plans.specs.declared.query.Query.{Query}
+use Rattle.ssb_plans.specs.declared.value.Value.{Value}
+use Rattle.ssb_queries.specs.declared.answer.Rows.{Rows}
+use Rattle.ssb_queries.specs.Answer.{answer_of}
+
+-- the questions of a batch, and the base that it is over
+pub record Asked : Type 0 where
+  pub base : Tables
+  pub questions : List (Query × List Value)
+
+-- each question with its rows over these facts
+abbrev pub answers_over : Tables → List Fact → List (Query × List Value) → List Rows
+answers_over base facts questions = map (λ question. record { query = question; list = answer_of question base.dimensions facts }) questions
+
+-- each question with its rows after a history
+abbrev pub answers_after : Tables → List CommitRecord → List (Query × List Value) → List Rows
+answers_after base history questions = answers_over base (facts_of (lines_after base history)) questions

@@ -1,0 +1,16 @@
+use Rattle.std.proofs.Common.{◌≡◌, ◌+◌, ℕ, length}
+use Rattle.history.specs.declared.request.Outcome.TheVariants.{GivenUp}
+use Rattle.ssb_server.specs.Hand.{Keeps}
+use Rattle.ssb_server.specs.Turns.{Gave}
+use Rattle.ssb_server.proofs.answers.give_up_all.Given as goal
+
+abbrev pub invariant-loop-client : goal.invariant-loop-client
+invariant-loop-client g l = record {
+  given : ℕ;
+  total : given + length l.batch.clients ≡ length l.initial.batch.clients;
+  gave : Gave l.initial.pass given (GivenUp l.cause) l.pass;
+  keeps : Keeps l.batch l.pass.grabbed;
+}
+
+abbrev pub decreases-loop-client : goal.decreases-loop-client
+decreases-loop-client g l = length l.batch.clients

@@ -1,0 +1,17 @@
+use Rattle.std.proofs.Common.{◌≡◌, ◌+◌, ℕ, length}
+use Rattle.history.specs.declared.request.Outcome.TheVariants.{Served}
+use Rattle.ssb_server.specs.Hand.{Keeps}
+use Rattle.ssb_server.specs.Turns.{answers_after, Gave}
+use Rattle.ssb_server.proofs.answers.serve_all.Given as goal
+
+abbrev pub invariant-loop-client : goal.invariant-loop-client
+invariant-loop-client g l = record {
+  given : ℕ;
+  total : given + length l.batch.clients ≡ length l.initial.batch.clients;
+  gave : Gave l.initial.pass given (Served l.at) l.pass;
+  keeps : Keeps l.batch l.pass.grabbed;
+  rows : l.rows.items ≡ answers_after l.initial.pass.hall.base l.initial.pass.seen l.batch.questions;
+}
+
+abbrev pub decreases-loop-client : goal.decreases-loop-client
+decreases-loop-client g l = length l.batch.clients

@@ -1,0 +1,44 @@
+-- What a server is opened with, and why none is.
+use Rattle.std.specs.Prelude.{◌≡◌, ℕ, ◌≤◌, All, List, [], length}
+use Rattle.ssb_schema.specs.Base.{Tables}
+use Rattle.history_core.specs.declared.event.Who.TheVariants.{Dispatcher}
+use Rattle.history.specs.Tokens.{Token, IsSound, IsFree}
+use Rattle.twin_cell.specs.Twin.{Known}
+use Rattle.ssb_server.specs.declared.opening.OpenFault.{OpenFault}
+use Rattle.ssb_server.specs.declared.opening.OpenFault.TheVariants.{ClientCount, DispatcherCount, NoReader, OutOfMemory}
+
+abbrev pub IsClientCount : ℕ → Type 0
+IsClientCount clients = (1 ≤ clients) × (clients ≤ 16)
+
+abbrev pub IsDispatcherCount : ℕ → Type 0
+IsDispatcherCount dispatchers = (1 ≤ dispatchers) × (dispatchers ≤ 4)
+
+-- as many clients and dispatchers as a server may have
+abbrev pub AreCounts : ℕ → ℕ → Type 0
+AreCounts clients dispatchers = IsClientCount clients × IsDispatcherCount dispatchers
+
+-- the counts are looked at in this order; the other faults come where both are right
+abbrev pub IsOpenFault : ℕ → ℕ → OpenFault → Type 0
+IsOpenFault clients dispatchers ClientCount = ¬ IsClientCount clients
+IsOpenFault clients dispatchers DispatcherCount = IsClientCount clients × (¬ IsDispatcherCount dispatchers)
+IsOpenFault clients dispatchers NoReader = AreCounts clients dispatchers
+IsOpenFault clients dispatchers OutOfMemory = AreCounts clients dispatchers
+
+-- a dispatcher's token over this base that has done nothing yet
+pub record IsNewDispatcher (base : Tables) (t : Token) : Type 0 where
+  pub base_is : t.hall.base ≡ base
+  pub number : ℕ
+  pub who_is : t.who ≡ Dispatcher number
+  pub free : IsFree t
+  pub sound : IsSound t
+
+-- a reader over this base that was told nothing
+abbrev pub IsNewReader : Tables → Known → Type 0
+IsNewReader base reader = reader ≡ record { base = base; told = [] }
+
+-- passes of new dispatchers, and as many new readers, all over one base
+pub record AreSeats (passes : List Token) (readers : List Known) : Type 0 where
+  pub base : Tables
+  pub passes_are : All (IsNewDispatcher base) passes
+  pub readers_are : All (IsNewReader base) readers
+  pub count : length readers ≡ length passes

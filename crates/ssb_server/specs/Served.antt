@@ -1,0 +1,12 @@
+-- What a server keeps beside its table.
+use Rattle.std.specs.Prelude.{◌≡◌, ℕ, ◌≤◌}
+use Rattle.ssb_schema.specs.Base.{Tables}
+use Rattle.history.specs.Tokens.{Hall}
+
+-- the index is over the table's base, and the numbers of clients and dispatchers are the table's
+pub record IsServed (hall : Hall) (index : Tables) (clients dispatchers : ℕ) : Type 0 where
+  pub index_is : index ≡ hall.base
+  pub clients_is : clients ≡ hall.clients
+  pub dispatchers_is : dispatchers ≡ hall.dispatchers
+  pub few_clients : clients ≤ 16
+  pub few_dispatchers : dispatchers ≤ 4

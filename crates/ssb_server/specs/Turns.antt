@@ -1,0 +1,133 @@
+-- What the steps of a turn do to a dispatcher's token.
+use Rattle.std.specs.Prelude.{◌≡◌, ℕ, ◌≤◌, All, false, List, [], ◌∷◌, ◌++◌, length, map, Some, Result, MatchResult}
+use Rattle.std.specs.declared.alloc.AllocError.{AllocError}
+use Rattle.row_store.specs.History.{CommitRecord, IsPrefix, lines_after}
+use Rattle.row_store.specs.State.{StandsFor}
+use Rattle.ssb_schema.specs.Base.{Tables}
+use Rattle.history_core.specs.declared.event.Who.TheVariants.{Dispatcher}
+use Rattle.history.specs.declared.request.Given.{Given}
+use Rattle.history.specs.declared.request.Outcome.{Outcome}
+use Rattle.history.specs.Tokens.{Hall, Token}
+use Rattle.history.specs.Words.{IsFresh, IsCause}
+use Rattle.twin_cell.specs.Twin.{Writing, Known, Entered}
+use Rattle.ssb_queries.specs.declared.answer.Unserved.{Unserved}
+use Rattle.history.specs.declared.request.Grabbed.{Grabbed}
+use Rattle.fact_columns.specs.Stored.{Stored, columns_state}
+use Rattle.history_core.specs.World.{rows_after}
+use Rattle.ssb_queries.specs.declared.answer.Rows.{Rows}
+use Rattle.ssb_plans.specs.declared.query.Query.{Query}
+use Rattle.ssb_plans.specs.declared.value.Value.{Value}
+use Rattle.ssb_schema.specs.declared.limits.TheConstants.{MOST_LINES}
+use Rattle.ssb_server.specs.Hand.{Hand, Keeps}
+
+-- the pass is a dispatcher's at this table
+pub record IsDispatcher (hall : Hall) (t : Token) : Type 0 where
+  pub hall_is : t.hall ≡ hall
+  pub number : ℕ
+  pub who_is : t.who ≡ Dispatcher number
+
+-- it holds neither part
+pub record HoldsNothing (t : Token) : Type 0 where
+  pub rows : t.has_rows ≡ false
+  pub writer : t.has_writer ≡ false
+
+-- the token has the requests of the hand, and where there is none it is as before
+pub record HasGrabbed (before : Token) (hand : Hand) (after : Token) : Type 0 where
+  pub now : after ≡ record before { mark = after.mark; version = after.version; grabbed = after.grabbed; did = after.did }
+  pub hand_is : Keeps hand after.grabbed
+  pub none : hand.clients ≡ [] → after ≡ before
+
+-- the token has given both parts back, with the length of what it sees as mark and version
+pub record HasFetched (before after : Token) : Type 0 where
+  pub begins : IsPrefix before.seen after.seen
+  pub now : after ≡ record before { seen = after.seen; beside = []; mark = Some (length after.seen); version = Some (length after.seen); did = after.did }
+
+-- a reader over this base was told a beginning of the history
+pub record Knows (base : Tables) (history : List CommitRecord) (reader : Known) : Type 0 where
+  pub base_is : reader.base ≡ base
+  pub told : IsPrefix reader.told history
+
+-- the entered copy stands for the whole history over this base, and its reader was told no more
+pub record StandsAt (base : Tables) (history : List CommitRecord) (guard : Entered) : Type 0 where
+  pub base_is : guard.state.base ≡ base
+  pub stands : StandsFor guard.state history
+  pub told : IsPrefix guard.told history
+
+-- the token has looked at the rows and given them back: its mark is the length of what it sees, which begins with what it had beside
+pub record Fetches (before after : Token) : Type 0 where
+  pub begins : IsPrefix before.seen after.seen
+  pub beside : All (λ list. IsPrefix list after.seen) before.beside
+  pub now : after ≡ record before { seen = after.seen; beside = []; mark = Some (length after.seen); did = after.did }
+
+-- beside what the token has seen lies a list of so many commits
+pub record HasBeside (t : Token) (count : ℕ) : Type 0 where
+  pub list : List CommitRecord
+  pub more : List (List CommitRecord)
+  pub beside_is : t.beside ≡ list ∷ more
+  pub count_is : count ≡ length list
+
+-- the writer has the first of these commits pending too
+pub record AppendsFirst (before : Writing) (commits : List CommitRecord) (after : Writing) : Type 0 where
+  pub kept : List CommitRecord
+  pub first : IsPrefix kept commits
+  pub now : after ≡ record before { pending = before.pending ++ kept }
+
+-- the writer has these commits pending too, or, where memory was wanting, the first of them
+abbrev pub Appends : Writing → List CommitRecord → Result (Unit {0}) AllocError → Writing → Type 0
+Appends before commits result after = MatchResult result (λ _. after ≡ record before { pending = before.pending ++ commits }) (λ _. AppendsFirst before commits after)
+
+-- the writer is over this base, and has taken a beginning of the history
+pub record Follows (base : Tables) (history : List CommitRecord) (writer : Writing) : Type 0 where
+  pub base_is : writer.base ≡ base
+  pub taken : IsPrefix (writer.published ++ writer.pending) history
+
+-- no copy was entered: the reader, and a cause
+pub record Misses (base : Tables) (history : List CommitRecord) (missed : Known × Unserved) : Type 0 where
+  pub reader : Knows base history missed.0
+  pub cause : IsCause missed.1
+
+-- the token has this writer, over the table's base, and what it has taken lies beside what the token has seen
+pub record HasTaken (t : Token) (writer : Writing) : Type 0 where
+  pub more : List (List CommitRecord)
+  pub beside_is : t.beside ≡ (writer.published ++ writer.pending) ∷ more
+  pub base_is : writer.base ≡ t.hall.base
+
+-- the columns stand for a history that leaves no more lines than can be summed
+pub record IsCopy (columns : Stored) : Type 0 where
+  pub history : List CommitRecord
+  pub stands : StandsFor (columns_state columns) history
+  pub few : length (lines_after columns.base history) ≤ MOST_LINES
+
+-- the newest request in hand is this client's
+pub record HasInHand (grabbed : List Grabbed) (client : ℕ) (question : Query × List Value) : Type 0 where
+  pub newest : Grabbed
+  pub others : List Grabbed
+  pub grabbed_is : grabbed ≡ newest ∷ others
+  pub client_is : newest.client ≡ client
+  pub question_is : newest.request.query ≡ question
+
+-- each question with its rows after a history
+abbrev pub answers_after : Tables → List CommitRecord → List (Query × List Value) → List Rows
+answers_after base history questions = map (λ question. record { query = question; list = rows_after base question history }) questions
+
+-- the rows answer the question after this history
+abbrev pub Answered : Tables → List CommitRecord → Rows → Type 0
+Answered base history found = found.list ≡ rows_after base found.query history
+
+-- the newest request has left the hand, and one answer more was given
+pub record GaveOne (before : Token) (outcome : Outcome) (after : Token) : Type 0 where
+  pub newest : Grabbed
+  pub others : List Grabbed
+  pub grabbed_is : before.grabbed ≡ newest ∷ others
+  pub given : Given
+  pub outcome_is : given.outcome ≡ outcome
+  pub fresh : IsFresh given
+  pub now : after ≡ record before { grabbed = others; given = before.given ++ given ∷ []; did = after.did }
+
+-- so many answers more were given, all with this outcome
+pub record Gave (before : Token) (count : ℕ) (outcome : Outcome) (after : Token) : Type 0 where
+  pub more : List Given
+  pub count_is : length more ≡ count
+  pub outcomes : All (λ (given : Given). given.outcome ≡ outcome) more
+  pub fresh : All IsFresh more
+  pub now : after ≡ record before { grabbed = after.grabbed; given = before.given ++ more; did = after.did }

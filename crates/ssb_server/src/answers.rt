@@ -1,0 +1,134 @@
+//! The end of a turn: the batch is scanned, and each request in hand is answered.
+ghost use Rattle.std.specs.Prelude.{◌≡◌, ◌≤◌, List, length, Some, IfOk};
+ghost use Rattle.row_store.specs.History.{CommitRecord};
+ghost use Rattle.row_store.specs.State.{StandsFor};
+ghost use Rattle.history.specs.declared.request.Outcome.TheVariants.{Served, GivenUp};
+ghost use Rattle.fact_columns.specs.Stored.{columns_state};
+ghost use Rattle.history.specs.Words.{IsCause};
+ghost use Rattle.ssb_server.specs.Hand.{Keeps, no_hand};
+ghost use Rattle.ssb_server.specs.Turns.{answers_after, IsDispatcher, HoldsNothing, IsCopy, HasInHand, Answered, GaveOne, Gave};
+
+use crate::batch::Batch;
+use crate::server::{Pass, Server};
+use dim_index::DimIndex;
+use fact_columns::Columns;
+use shared_scan::{PreparedBatch, scan_parallel};
+use ssb_plans::Question;
+use ssb_queries::{Answer, Rows, Unserved};
+use std::alloc::{AllocError, Global};
+use std::sync::{Arc, Wait};
+use std::thread::Threads;
+
+/// The rows of each question, in one pass over the copy.
+pub(crate) fn scan_batch<R: Threads + Sync>(
+    rt: &R,
+    alloc: Global,
+    index: &Arc<DimIndex>,
+    columns: &Columns,
+    questions: &[Question],
+) -> Result<Vec<Rows>, AllocError>
+    requires few { length questions.now ≤ 16 }
+    requires base { index.now.value ≡ columns.now.base }
+    requires copy { IsCopy columns.now }
+    ensures { (history : List CommitRecord) → StandsFor (columns_state columns.now) history → IfOk result (λ rows. rows.items ≡ answers_after columns.now.base history questions.now) }
+{
+    let _ = columns.rows();
+    let index = Arc::try_clone(index)?;
+    let batch = PreparedBatch::new(alloc, index, questions)?;
+    scan_parallel(rt, alloc, columns, &batch)
+}
+
+// Answers the request that was grabbed last by its rows.
+fn serve_one<W: Wait + Drop>(
+    server: &Server<W>,
+    pass: &mut Pass<W>,
+    client: u32,
+    at: u64,
+    found: Rows,
+)
+    requires dispatcher { IsDispatcher server.now pass.old }
+    requires free { HoldsNothing pass.old }
+    requires hand { HasInHand pass.old.grabbed client found.query }
+    requires at { (at ≡ length pass.old.seen) × (pass.old.version ≡ Some at) }
+    requires rows { Answered pass.old.hall.base pass.old.seen found }
+    ensures { GaveOne pass.old (Served at) pass.new }
+{
+    let answer = Answer::Rows {
+        query: found.query,
+        at,
+        rows: found.list,
+    };
+    server.hall.answer(pass, client, answer);
+    server.bells.ring_client(client);
+}
+
+// Gives up the request that was grabbed last.
+fn give_up_one<W: Wait + Drop>(
+    server: &Server<W>,
+    pass: &mut Pass<W>,
+    client: u32,
+    query: Question,
+    cause: Unserved,
+)
+    requires dispatcher { IsDispatcher server.now pass.old }
+    requires free { HoldsNothing pass.old }
+    requires hand { HasInHand pass.old.grabbed client query }
+    requires cause { IsCause cause }
+    ensures { GaveOne pass.old (GivenUp cause) pass.new }
+{
+    server
+        .hall
+        .answer(pass, client, Answer::Unserved { query, cause });
+    server.bells.ring_client(client);
+}
+
+/// Answers every request in hand by its rows. It tells how many there were.
+pub(crate) fn serve_all<W: Wait + Drop>(
+    server: &Server<W>,
+    pass: &mut Pass<W>,
+    batch: &mut Batch,
+    at: u64,
+    mut rows: Vec<Rows>,
+) -> usize
+    requires dispatcher { IsDispatcher server.now pass.old }
+    requires free { HoldsNothing pass.old }
+    requires hand { Keeps batch.old pass.old.grabbed }
+    requires at { (at ≡ length pass.old.seen) × (pass.old.version ≡ Some at) }
+    requires rows { rows.items ≡ answers_after pass.old.hall.base pass.old.seen batch.old.questions }
+    ensures gave { Gave pass.old result (Served at) pass.new }
+    ensures count { result ≡ length batch.old.clients }
+    ensures empty { batch.new ≡ no_hand }
+    ensures hand { Keeps no_hand pass.new.grabbed }
+{
+    let count = batch.len();
+    while let Some((client, _)) = batch.pop() {
+        let Some(found) = rows.pop() else {
+            unreachable!()
+        };
+        serve_one(server, pass, client, at, found);
+    }
+    count
+}
+
+/// Gives up every request in hand, with the cause. It tells how many there were.
+pub(crate) fn give_up_all<W: Wait + Drop>(
+    server: &Server<W>,
+    pass: &mut Pass<W>,
+    batch: &mut Batch,
+    cause: Unserved,
+) -> usize
+    requires dispatcher { IsDispatcher server.now pass.old }
+    requires free { HoldsNothing pass.old }
+    requires hand { Keeps batch.old pass.old.grabbed }
+    requires cause { IsCause cause }
+    ensures gave { Gave pass.old result (GivenUp cause) pass.new }
+    ensures count { result ≡ length batch.old.clients }
+    ensures empty { batch.new ≡ no_hand }
+    ensures hand { Keeps no_hand pass.new.grabbed }
+{
+    let count = batch.len();
+    while let Some((client, question)) = batch.pop() {
+        give_up_one(server, pass, client, question, cause);
+    }
+    count
+}

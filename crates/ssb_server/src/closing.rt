@@ -1,0 +1,90 @@
+//! How a server is closed.
+ghost use Rattle.std.specs.Prelude.{◌≡◌, All, IfOk, OnOk, OnErr, IfErr};
+ghost use Rattle.row_store.specs.History.{IsPrefix};
+ghost use Rattle.row_store.specs.Legal.{IsLegal};
+ghost use Rattle.history.specs.Closing.{IsLogOf};
+ghost use Rattle.history_core.specs.OwnCommits.{IsOfClients};
+ghost use Rattle.history.specs.Words.{Owns};
+ghost use Rattle.ssb_server.specs.Tickets.{IsOf, IsQuiet, AreAllThere};
+
+use crate::client::Client;
+use crate::dispatcher::Dispatcher;
+use crate::room::Room;
+use crate::server::Server;
+use crate::tickets::{
+    are_clients_numbered, are_dispatchers_numbered, gather_clients, gather_dispatchers,
+};
+use row_store::Commit;
+use ssb_schema::Base;
+use std::fmt;
+use std::fmt::{Display, Formatter};
+use std::sync::{Arc, Wait};
+
+/// What a closed server leaves: the base that it was opened over, and every commit.
+#[derive(Drop)]
+pub struct Closed {
+    pub base: Arc<Base>,
+    pub log: Vec<Commit>,
+}
+
+/// A client or a dispatcher is missing, or there twice. All is handed back.
+#[derive(Drop)]
+pub struct CloseError<W: Wait + Drop> {
+    pub server: Server<W>,
+    pub clients: Vec<Client<W>>,
+    pub dispatchers: Vec<Dispatcher<W>>,
+}
+
+impl<W: Wait + Drop> Display for CloseError<W> {
+    fn fmt<O: fmt::Write>(&self, f: &mut Formatter<O>) -> fmt::Result {
+        f.write_str("63 TokenMissing")
+    }
+}
+
+impl<W: Wait + Drop> Server<W> {
+    /// Ends the server. Its clients and dispatchers are handed in, each once and in any order, and no client is asking.
+    pub fn close(
+        self,
+        clients: Vec<Client<W>>,
+        dispatchers: Vec<Dispatcher<W>>,
+    ) -> Result<Closed, CloseError<W>>
+        requires clients { All (IsQuiet self) clients.items }
+        requires dispatchers { All (IsOf self) dispatchers.items }
+        ensures whole { OnOk result (AreAllThere self clients.items dispatchers.items) }
+        ensures missing { OnErr result (¬ AreAllThere self clients.items dispatchers.items) }
+        ensures back { IfErr result (λ error. (error.server ≡ self) × (error.clients ≡ clients) × (error.dispatchers ≡ dispatchers)) }
+        ensures base { IfOk result (λ closed. closed.base.value ≡ self.base) }
+        ensures legal { IfOk result (λ closed. IsLegal self.base closed.log.items) }
+        ensures named { IfOk result (λ closed. IsOfClients self.clients closed.log.items) }
+        ensures seen { IfOk result (λ closed. All (λ t. IsPrefix t.seen closed.log.items) clients.items × All (λ t. IsPrefix t.seen closed.log.items) dispatchers.items) }
+        ensures true_log { IfOk result (λ closed. IsLogOf self clients.items dispatchers.items closed.log.items) }
+        ensures owns { IfOk result (λ closed. All (λ t. Owns t.who t.mine closed.log.items) clients.items) }
+    {
+        let there = are_clients_numbered(clients.as_slice(), self.clients)
+            && are_dispatchers_numbered(dispatchers.as_slice(), self.dispatchers);
+        if !there {
+            return Err(CloseError {
+                server: self,
+                clients,
+                dispatchers,
+            });
+        }
+        let Server {
+            hall,
+            index: _,
+            clients: _,
+            dispatchers: _,
+            bells: _,
+            alloc: _,
+            room,
+        } = self;
+        let Room {
+            clients: mut client_passes,
+            dispatchers: mut dispatcher_passes,
+        } = room.into_inner();
+        gather_clients(&mut client_passes, clients);
+        gather_dispatchers(&mut dispatcher_passes, dispatchers);
+        let (base, log) = hall.close(client_passes, dispatcher_passes).into_parts();
+        Ok(Closed { base, log })
+    }
+}

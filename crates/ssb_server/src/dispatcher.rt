@@ -1,0 +1,108 @@
+//! Dispatchers, which answer what clients ask.
+ghost use Rattle.std.specs.Prelude.{◌≡◌, []};
+ghost use Rattle.history_core.specs.declared.event.Who.TheVariants.{Dispatcher as IsNumbered};
+ghost use Rattle.history.specs.Tokens.{IsSound, IsFree};
+ghost use Rattle.history.specs.World.{number_of};
+ghost use Rattle.ssb_server.specs.Ends.{Turned};
+ghost use Rattle.ssb_server.specs.Hand.{no_hand};
+ghost use Rattle.ssb_server.specs.Opening.{IsNewDispatcher};
+ghost use Rattle.ssb_server.specs.Tickets.{IsLeft};
+
+use crate::batch::Batch;
+use crate::server::{Pass, Server};
+use crate::turn::{ScanGate, Turn, take_turn};
+use fact_columns::Columns;
+use history_core::Who;
+use std::marker::Model;
+use std::sync::Wait;
+use std::thread::Threads;
+use twin_cell::TwinReader;
+
+/// A dispatcher's token, with its reader of the columns and room for a batch. Contracts see the token; between two turns
+/// it holds nothing.
+#[derive(Drop)]
+pub struct Dispatcher<W: Wait + Drop> {
+    pass: Pass<W>,
+    reader: Option<TwinReader<Columns>>,
+    batch: Batch,
+    number: u32,
+}
+
+impl<W: Wait + Drop> Model for Dispatcher<W> {
+    ghost use Rattle.history.specs.Tokens.{Token};
+
+    ghost Value = { Token };
+
+    ghost use Rattle.ssb_server.specs.Ready.{IsReady};
+
+    ghost view = { λ d. d.pass };
+
+    ghost invariant = { λ d. IsReady d.number d.pass d.reader d.batch };
+}
+
+impl<W: Wait + Drop> Dispatcher<W> {
+    /// A dispatcher of a pass that was just dealt, with a reader over its base that was told nothing.
+    pub(crate) fn new(pass: Pass<W>, reader: TwinReader<Columns>, batch: Batch) -> Dispatcher<W>
+        requires pass { IsNewDispatcher reader.base pass }
+        requires reader { reader.told ≡ [] }
+        requires batch { batch ≡ no_hand }
+        ensures { result ≡ pass }
+    {
+        let Who::Dispatcher(number) = pass.who() else {
+            unreachable!()
+        };
+        Dispatcher {
+            pass,
+            reader: Some(reader),
+            batch,
+            number,
+        }
+    }
+
+    /// The dispatcher's token.
+    pub(crate) fn into_pass(self) -> Pass<W>
+        ensures pass { result ≡ self }
+        ensures left { IsLeft self }
+    {
+        let Dispatcher {
+            pass,
+            reader: _,
+            batch: _,
+            number: _,
+        } = self;
+        pass
+    }
+
+    /// Sleeps until something was posted since the last turn began, or until `Server::ring`. It may return for no reason.
+    pub fn rest<R: Wait>(&self, rt: &R, server: &Server<W>) {
+        server.bells.await_dispatcher(rt, self.number);
+    }
+
+    /// The dispatcher's number, counted from 1.
+    pub fn number(&self) -> u32
+        ensures who { self.now.who ≡ IsNumbered result }
+        ensures value { result ≡ number_of self.now.who }
+    {
+        self.number
+    }
+
+    /// One turn: grabs what is asked, fetches and publishes the commits so far, and answers the batch from one copy.
+    pub fn turn<R: Wait + Threads + Sync, G: ScanGate>(
+        &mut self,
+        rt: &R,
+        server: &Server<W>,
+        gate: &G,
+    ) -> Turn
+        requires { self.old.hall ≡ server.now }
+        ensures turned { Turned self.old result self.new }
+        ensures free { IsFree self.new }
+        ensures sound { IsSound self.new }
+    {
+        let Some(reader) = self.reader.take() else {
+            unreachable!()
+        };
+        let (reader, turn) = take_turn(rt, server, gate, &mut self.pass, &mut self.batch, reader);
+        self.reader = Some(reader);
+        turn
+    }
+}

@@ -1,0 +1,243 @@
+//! How a server is opened.
+ghost use Rattle.std.specs.Prelude.{◌≡◌, ◌≤◌, [], All, length, IfOk, OnOk, IfErr};
+ghost use Rattle.row_store.specs.State.{state_of};
+ghost use Rattle.fact_columns.specs.Stored.{columns_state};
+ghost use Rattle.history.specs.Tokens.{new_clients, new_dispatchers};
+ghost use Rattle.ssb_server.specs.Opening.{AreCounts, IsOpenFault, IsNewReader, AreSeats};
+
+use crate::batch::{Batch, MOST_CLIENTS};
+use crate::bells::Bells;
+use crate::client::Client;
+use crate::dispatcher::Dispatcher;
+use crate::room::Room;
+use crate::server::{Hall, Pass, Server};
+use crate::tickets::clients_of;
+use dim_index::DimIndex;
+use fact_columns::Columns;
+use history::Shared;
+use row_store::RowStore;
+use ssb_schema::Base;
+use std::alloc::{AllocError, Global};
+use std::hash::RandomState;
+use std::sync::{Arc, Mutex, Wait};
+use thiserror::Error;
+use twin_cell::{TwinError, TwinReader, twin};
+
+/// The greatest number of dispatchers.
+pub const MOST_DISPATCHERS: u32 = 4;
+
+/// Why no server was opened.
+#[derive(Clone, Copy, Debug, PartialEq, Eq, Error)]
+pub enum OpenFault {
+    /// There are to be 1 to 16 clients.
+    #[error("60 ClientCount")]
+    ClientCount,
+    /// There are to be 1 to 4 dispatchers.
+    #[error("61 DispatcherCount")]
+    DispatcherCount,
+    /// No place is free for a reader of the columns.
+    #[error("62 NoReader")]
+    NoReader,
+    #[error("out of memory")]
+    OutOfMemory,
+}
+
+/// Why no server was opened, and the base that was handed in.
+#[derive(Drop)]
+pub struct OpenError {
+    pub fault: OpenFault,
+    pub back: Arc<Base>,
+}
+
+/// A new server, with its clients and its dispatchers, each by number from 1.
+#[derive(Drop)]
+pub struct Opened<W: Wait + Drop> {
+    pub server: Server<W>,
+    pub clients: Vec<Client<W>>,
+    pub dispatchers: Vec<Dispatcher<W>>,
+}
+
+// A dispatcher of each pass, with a reader and room for a batch.
+fn dispatchers_of<W: Wait + Drop>(
+    alloc: Global,
+    passes: Vec<Pass<W>>,
+    mut readers: Vec<TwinReader<Columns>>,
+) -> Result<Vec<Dispatcher<W>>, AllocError>
+    requires { AreSeats passes.items readers.items }
+    ensures { IfOk result (λ dispatchers. dispatchers.items ≡ passes.items) }
+{
+    let mut dispatchers = Vec::new(alloc);
+    for pass in passes {
+        let Some(reader) = readers.pop() else {
+            unreachable!()
+        };
+        let batch = Batch::new(alloc)?;
+        dispatchers.push(Dispatcher::new(pass, reader, batch))?;
+    }
+    Ok(dispatchers)
+}
+
+// The index of a base, for many owners.
+fn index_of(alloc: Global, base: &Arc<Base>) -> Result<Arc<DimIndex>, AllocError>
+    ensures { IfOk result (λ index. index.value ≡ base.now.value) }
+{
+    let index = DimIndex::new(alloc, Arc::try_clone(base)?)?;
+    Ok(Arc::new(alloc, index).map_err(AllocError::from)?)
+}
+
+// The server over a table that was just made.
+fn server_over<W: Wait + Drop>(
+    alloc: Global,
+    hall: Hall<W>,
+    index: Arc<DimIndex>,
+    clients: u32,
+    dispatchers: u32,
+) -> Result<Server<W>, AllocError>
+    requires index { index.value ≡ hall.base }
+    requires counts { (clients ≡ hall.clients) × (dispatchers ≡ hall.dispatchers) }
+    requires few { (clients ≤ 16) × (dispatchers ≤ 4) }
+    ensures { IfOk result (λ server. server ≡ hall) }
+{
+    Ok(Server {
+        hall,
+        index,
+        clients,
+        dispatchers,
+        bells: Bells::new(alloc, clients, dispatchers)?,
+        alloc,
+        room: Mutex::new(Room::new(alloc)?),
+    })
+}
+
+// The clients and dispatchers of a table that was just made, with the server over it.
+fn seat_all<W: Wait + Drop>(
+    alloc: Global,
+    opened: history::Opened<twin_cell::TwinWriter<Columns, W>>,
+    index: Arc<DimIndex>,
+    readers: Vec<TwinReader<Columns>>,
+    counts: (u32, u32),
+) -> Result<Opened<W>, AllocError>
+    requires index { index.value ≡ opened.shared.base }
+    requires counts { (counts.0 ≡ opened.shared.clients) × (counts.1 ≡ opened.shared.dispatchers) }
+    requires few { (counts.0 ≤ 16) × (counts.1 ≤ 4) }
+    requires clients { opened.clients.items ≡ new_clients opened.shared }
+    requires dispatchers { opened.dispatchers.items ≡ new_dispatchers opened.shared }
+    requires readers { All (IsNewReader opened.shared.base) readers.items }
+    requires each { length readers.items ≡ counts.1 }
+    ensures server { IfOk result (λ made. made.server ≡ opened.shared) }
+    ensures clients { IfOk result (λ made. made.clients.items ≡ new_clients made.server) }
+    ensures dispatchers { IfOk result (λ made. made.dispatchers.items ≡ new_dispatchers made.server) }
+{
+    let history::Opened {
+        shared,
+        clients,
+        dispatchers,
+    } = opened;
+    let clients = clients_of(alloc, clients)?;
+    let dispatchers = dispatchers_of(alloc, dispatchers, readers)?;
+    Ok(Opened {
+        server: server_over(alloc, shared, index, counts.0, counts.1)?,
+        clients,
+        dispatchers,
+    })
+}
+
+// What a server is made of, but for the two copies.
+struct Parts {
+    rows: RowStore,
+    index: Arc<DimIndex>,
+    columns: Columns,
+}
+
+// The parts over a base.
+fn parts_of(alloc: Global, hashing: RandomState, base: &Arc<Base>) -> Result<Parts, AllocError>
+    ensures rows { IfOk result (λ parts. parts.rows ≡ record { base = base.now.value; log = [] }) }
+    ensures index { IfOk result (λ parts. parts.index.value ≡ base.now.value) }
+    ensures columns { IfOk result (λ parts. columns_state parts.columns ≡ state_of base.now.value []) }
+{
+    let index = index_of(alloc, base)?;
+    let rows = RowStore::new(alloc, Arc::try_clone(base)?, hashing)?;
+    let columns = Columns::new(alloc, Arc::try_clone(&index)?, hashing)?;
+    Ok(Parts {
+        rows,
+        index,
+        columns,
+    })
+}
+
+// Builds all parts over a base, for counts in their ranges.
+fn build<W: Wait + Drop>(
+    alloc: Global,
+    rt: W,
+    hashing: RandomState,
+    base: &Arc<Base>,
+    clients: u32,
+    dispatchers: u32,
+) -> Result<Opened<W>, TwinError>
+    requires counts { AreCounts clients dispatchers }
+    ensures base { IfOk result (λ made. made.server.base ≡ base.now.value) }
+    ensures counts { IfOk result (λ made. (made.server.clients ≡ clients) × (made.server.dispatchers ≡ dispatchers)) }
+    ensures clients { IfOk result (λ made. made.clients.items ≡ new_clients made.server) }
+    ensures dispatchers { IfOk result (λ made. made.dispatchers.items ≡ new_dispatchers made.server) }
+{
+    let Ok(parts) = parts_of(alloc, hashing, base) else {
+        return Err(TwinError::OutOfMemory);
+    };
+    let Parts {
+        rows,
+        index,
+        columns,
+    } = parts;
+    let (writer, readers) = twin(alloc, rt, columns, dispatchers as usize)?;
+    let Ok(opened) = Shared::new(alloc, rows, writer, clients, dispatchers) else {
+        return Err(TwinError::OutOfMemory);
+    };
+    let Ok(made) = seat_all(alloc, opened, index, readers, (clients, dispatchers)) else {
+        return Err(TwinError::OutOfMemory);
+    };
+    Ok(made)
+}
+
+/// Opens a server over a base, for 1 to 16 clients and 1 to 4 dispatchers. `rt` is the handle by which the writer of the
+/// columns waits, and `hashing` keys the map of orders. The client count is looked at first, then the dispatcher count; any
+/// fault hands the base back.
+pub fn open<W: Wait + Drop>(
+    alloc: Global,
+    rt: W,
+    hashing: RandomState,
+    base: Arc<Base>,
+    clients: u32,
+    dispatchers: u32,
+) -> Result<Opened<W>, OpenError>
+    ensures range { OnOk result (AreCounts clients dispatchers) }
+    ensures base { IfOk result (λ made. made.server.base ≡ base.value) }
+    ensures counts { IfOk result (λ made. (made.server.clients ≡ clients) × (made.server.dispatchers ≡ dispatchers)) }
+    ensures clients { IfOk result (λ made. made.clients.items ≡ new_clients made.server) }
+    ensures dispatchers { IfOk result (λ made. made.dispatchers.items ≡ new_dispatchers made.server) }
+    ensures fault { IfErr result (λ error. IsOpenFault clients dispatchers error.fault) }
+    ensures back { IfErr result (λ error. error.back ≡ base) }
+{
+    if clients == 0 || clients as usize > MOST_CLIENTS {
+        return Err(OpenError {
+            fault: OpenFault::ClientCount,
+            back: base,
+        });
+    }
+    if dispatchers == 0 || dispatchers > MOST_DISPATCHERS {
+        return Err(OpenError {
+            fault: OpenFault::DispatcherCount,
+            back: base,
+        });
+    }
+    match build(alloc, rt, hashing, &base, clients, dispatchers) {
+        Ok(opened) => Ok(opened),
+        Err(TwinError::NoReader) => Err(OpenError {
+            fault: OpenFault::NoReader,
+            back: base,
+        }),
+        Err(TwinError::OutOfMemory) => Err(OpenError {
+            fault: OpenFault::OutOfMemory,
+            back: base,
+        }),
+    }
+}

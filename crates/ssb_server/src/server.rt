@@ -1,0 +1,50 @@
+//! What clients and dispatchers share.
+ghost use Rattle.std.specs.Prelude.{◌≡◌};
+
+use crate::bells::Bells;
+use crate::room::Room;
+use dim_index::DimIndex;
+use fact_columns::Columns;
+use std::alloc::Global;
+use std::marker::Model;
+use std::sync::{Arc, Mutex, Wait};
+use twin_cell::TwinWriter;
+
+/// The table of a server: its two parts are the row store, and the writer of the columns.
+pub(crate) type Hall<W> = history::Shared<TwinWriter<Columns, W>>;
+
+/// The pass of a client or dispatcher to that table.
+pub(crate) type Pass<W> = history::Pass<TwinWriter<Columns, W>>;
+
+/// What clients and dispatchers share: the table, the index that the columns are coded by, and the places where they sleep.
+/// Contracts see the table: its name, the base, and how many clients and dispatchers there are. `W` is the handle by which
+/// the writer of the columns waits.
+#[derive(Drop)]
+pub struct Server<W: Wait + Drop> {
+    pub(crate) hall: Hall<W>,
+    pub(crate) index: Arc<DimIndex>,
+    pub(crate) clients: u32,
+    pub(crate) dispatchers: u32,
+    pub(crate) bells: Bells,
+    pub(crate) alloc: Global,
+    // For `close`. Passes may not be shared between threads, and behind a lock they are not; nobody takes it.
+    pub(crate) room: Mutex<Room<W>>,
+}
+
+impl<W: Wait + Drop> Model for Server<W> {
+    ghost use Rattle.history.specs.Tokens.{Hall as Table};
+    ghost use Rattle.ssb_server.specs.Served.{IsServed};
+
+    ghost Value = { Table };
+
+    ghost view = { λ s. s.hall };
+
+    ghost invariant = { λ s. IsServed s.hall s.index.value s.clients s.dispatchers };
+}
+
+impl<W: Wait + Drop> Server<W> {
+    /// Wakes every dispatcher that rests, as when a run ends: the flag that they are to look at is set before.
+    pub fn ring(&self) {
+        self.bells.ring_dispatchers();
+    }
+}

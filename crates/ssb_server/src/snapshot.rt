@@ -1,0 +1,183 @@
+//! From the grabbed requests to the entered copy: the latest commits are fetched, published and told.
+ghost use Rattle.std.specs.Prelude.{◌≡◌, ◌≤◌, true, false, [], ◌∷◌, ◌++◌, length, drop, Some, IfOk, MatchResult};
+ghost use Rattle.row_store.specs.History.{IsPrefix, lines_after};
+ghost use Rattle.row_store.specs.State.{StandsFor};
+ghost use Rattle.history.specs.Tokens.{IsSound};
+ghost use Rattle.history.specs.Words.{IsCause};
+ghost use Rattle.ssb_server.specs.Turns.{IsDispatcher, HoldsNothing, HasFetched, Knows, StandsAt, Fetches, HasBeside, HasTaken, Appends, Follows, Misses};
+
+use crate::server::{Hall, Pass};
+use fact_columns::Columns;
+use row_store::{Commit, Follower, Replica};
+use ssb_queries::Unserved;
+use std::alloc::{AllocError, Global};
+use std::sync::Wait;
+use twin_cell::{Guard, TwinReader, TwinWriter};
+
+/// Why no copy was entered, with the reader.
+pub(crate) type Missed = (TwinReader<Columns>, Unserved);
+
+fn copy_of(alloc: Global, commits: &[Commit]) -> Result<Vec<Commit>, AllocError>
+    ensures { IfOk result (λ copies. copies.items ≡ commits.now) }
+{
+    let mut copies = Vec::with_capacity(alloc, commits.len())?;
+    for commit in commits {
+        copies.push(commit.clone()?)?;
+    }
+    Ok(copies)
+}
+
+// Takes the rows, copies the commits that the writer lacks, and gives the rows back as they were.
+fn fetch<W: Wait + Drop, R: Wait>(
+    rt: &R,
+    alloc: Global,
+    hall: &Hall<W>,
+    pass: &mut Pass<W>,
+    taken: u64,
+) -> Result<Vec<Commit>, AllocError>
+    requires dispatcher { IsDispatcher hall.now pass.old }
+    requires free { pass.old.has_rows ≡ false }
+    requires taken { HasBeside pass.old taken }
+    ensures fetched { Fetches pass.old pass.new }
+    ensures commits { IfOk result (λ commits. commits.items ≡ drop taken pass.new.seen) }
+    ensures sound { IsSound pass.new }
+    ensures few { length (lines_after pass.new.hall.base pass.new.seen) ≤ pass.new.hall.base.limits.lines }
+{
+    let rows = hall.take_rows(rt, pass);
+    let commits = copy_of(alloc, rows.log_from(taken as usize));
+    let _ = rows.line_count();
+    hall.put_rows(pass, rows);
+    commits
+}
+
+// The commits are pending from now on; where memory is wanting, the first of them are.
+fn append_all<W: Wait + Drop>(
+    writer: &mut TwinWriter<Columns, W>,
+    commits: Vec<Commit>,
+) -> Result<(), AllocError>
+    ensures { Appends writer.old commits.items result writer.new }
+{
+    for commit in commits {
+        match writer.append(commit) {
+            Ok(()) => {}
+            Err(error) => return Err(error),
+        }
+    }
+    Ok(())
+}
+
+// Publishes where something is pending.
+fn publish_pending<W: Wait + Drop>(
+    writer: TwinWriter<Columns, W>,
+) -> (TwinWriter<Columns, W>, Result<(), AllocError>)
+    ensures { MatchResult result.1 (λ _. result.0 ≡ record { base = writer.base; published = writer.published ++ writer.pending; pending = [] }) (λ _. result.0 ≡ writer) }
+{
+    if writer.pending() == 0 {
+        return (writer, Ok(()));
+    }
+    writer.publish()
+}
+
+// Tells the reader what is published, and enters. The copy holds just as many commits as were told.
+fn enter<W: Wait + Drop, R: Wait>(
+    rt: &R,
+    writer: &mut TwinWriter<Columns, W>,
+    mut reader: TwinReader<Columns>,
+) -> Result<Guard<Columns>, Missed>
+    requires { Knows writer.old.base writer.old.published reader }
+    ensures kept { writer.new ≡ writer.old }
+    ensures entered { MatchResult result (StandsAt writer.old.base writer.old.published) (Misses writer.old.base writer.old.published) }
+{
+    let told = writer.told();
+    let Ok(note) = writer.tell() else {
+        return Err((reader, Unserved::OutOfMemory));
+    };
+    reader.learn(note);
+    let guard = reader.enter(rt);
+    let found = guard.replica().commits();
+    if found != told {
+        return Err((guard.leave(), Unserved::Twin { told, found }));
+    }
+    Ok(guard)
+}
+
+// Appends the commits that the writer lacks, and publishes all.
+fn renew<W: Wait + Drop>(
+    mut writer: TwinWriter<Columns, W>,
+    commits: Vec<Commit>,
+) -> (TwinWriter<Columns, W>, Result<(), AllocError>)
+    ensures { let all = writer.published ++ writer.pending ++ commits.items in
+        MatchResult result.1 (λ _. result.0 ≡ record { base = writer.base; published = all; pending = [] }) (λ _. Follows writer.base all result.0) }
+{
+    match append_all(&mut writer, commits) {
+        Ok(()) => publish_pending(writer),
+        Err(error) => (writer, Err(error)),
+    }
+}
+
+// Appends the commits that the writer lacks, publishes, and enters the copy.
+fn catch_up<W: Wait + Drop, R: Wait>(
+    rt: &R,
+    writer: TwinWriter<Columns, W>,
+    commits: Vec<Commit>,
+    reader: TwinReader<Columns>,
+) -> (TwinWriter<Columns, W>, Result<Guard<Columns>, Missed>)
+    requires { Knows writer.base (writer.published ++ writer.pending ++ commits.items) reader }
+    ensures writer { Follows writer.base (writer.published ++ writer.pending ++ commits.items) result.0 }
+    ensures entered { let all = writer.published ++ writer.pending ++ commits.items in MatchResult result.1 (StandsAt writer.base all) (Misses writer.base all) }
+{
+    let (mut writer, renewed) = renew(writer, commits);
+    if renewed.is_err() {
+        return (writer, Err((reader, Unserved::OutOfMemory)));
+    }
+    let entered = enter(rt, &mut writer, reader);
+    (writer, entered)
+}
+
+// Fetches the commits that the writer lacks, and enters the copy that holds all of them.
+fn bring_up<W: Wait + Drop, R: Wait>(
+    rt: &R,
+    alloc: Global,
+    hall: &Hall<W>,
+    pass: &mut Pass<W>,
+    writer: TwinWriter<Columns, W>,
+    reader: TwinReader<Columns>,
+) -> (TwinWriter<Columns, W>, Result<Guard<Columns>, Missed>)
+    requires dispatcher { IsDispatcher hall.now pass.old }
+    requires free { pass.old.has_rows ≡ false }
+    requires writer { HasTaken pass.old writer }
+    requires reader { Knows pass.old.hall.base pass.old.seen reader }
+    ensures fetched { Fetches pass.old pass.new }
+    ensures sound { IsSound pass.new }
+    ensures few { length (lines_after pass.new.hall.base pass.new.seen) ≤ pass.new.hall.base.limits.lines }
+    ensures writer { Follows pass.new.hall.base pass.new.seen result.0 }
+    ensures entered { MatchResult result.1 (StandsAt pass.new.hall.base pass.new.seen) (Misses pass.new.hall.base pass.new.seen) }
+{
+    let taken = writer.taken();
+    match fetch(rt, alloc, hall, pass, taken) {
+        Ok(commits) => catch_up(rt, writer, commits, reader),
+        Err(_) => (writer, Err((reader, Unserved::OutOfMemory))),
+    }
+}
+
+/// Fetches, publishes and enters. Both parts are home afterwards.
+pub(crate) fn snapshot<W: Wait + Drop, R: Wait>(
+    rt: &R,
+    alloc: Global,
+    hall: &Hall<W>,
+    pass: &mut Pass<W>,
+    reader: TwinReader<Columns>,
+) -> Result<Guard<Columns>, Missed>
+    requires dispatcher { IsDispatcher hall.now pass.old }
+    requires free { HoldsNothing pass.old }
+    requires reader { Knows pass.old.hall.base pass.old.seen reader }
+    ensures fetched { HasFetched pass.old pass.new }
+    ensures sound { IsSound pass.new }
+    ensures few { length (lines_after pass.new.hall.base pass.new.seen) ≤ pass.new.hall.base.limits.lines }
+    ensures entered { MatchResult result (StandsAt pass.new.hall.base pass.new.seen) (Misses pass.new.hall.base pass.new.seen) }
+{
+    let writer = hall.take_writer(rt, pass);
+    let (writer, entered) = bring_up(rt, alloc, hall, pass, writer, reader);
+    hall.put_writer(pass, writer);
+    entered
+}

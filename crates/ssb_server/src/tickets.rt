@@ -1,0 +1,110 @@
+//! The tokens that a server is opened with, and that it is closed with.
+ghost use Rattle.std.specs.Prelude.{◌≡◌, ◌+◌, ◌≤◌, ◌++◌, ◌↔◌, ◌==◌, IsTrue, All, IfOk, count_by, vec_len, vec_capacity};
+ghost use Rattle.history.specs.Tokens.{Token};
+ghost use Rattle.ssb_server.specs.Tickets.{IsNewClient, IsResting, IsLeft};
+ghost use Rattle.history.specs.World.{number_of};
+ghost use Rattle.history.specs.Closing.{AreNumbered};
+
+use crate::client::{Client, new_client};
+use crate::dispatcher::Dispatcher;
+use crate::server::Pass;
+use std::alloc::{AllocError, Global};
+use std::sync::Wait;
+
+/// A client of each pass.
+pub(crate) fn clients_of<W: Wait + Drop>(
+    alloc: Global,
+    passes: Vec<Pass<W>>,
+) -> Result<Vec<Client<W>>, AllocError>
+    requires { All IsNewClient passes.items }
+    ensures { IfOk result (λ clients. clients.items ≡ passes.items) }
+{
+    let mut clients = Vec::new(alloc);
+    for pass in passes {
+        let client = new_client(pass);
+        clients.push(client)?;
+    }
+    Ok(clients)
+}
+
+// Whether just one client has the number.
+fn has_once<W: Wait + Drop>(clients: &[Client<W>], number: u32) -> bool
+    ensures { result ≡ (count_by (λ (t : Token). number_of t.who == number) clients.now == 1) }
+{
+    clients
+        .iter()
+        .filter(|client| client.number() == number)
+        .count()
+        == 1
+}
+
+/// Whether these are so many clients, with each number once.
+pub(crate) fn are_clients_numbered<W: Wait + Drop>(clients: &[Client<W>], count: u32) -> bool
+    ensures { IsTrue result ↔ AreNumbered count clients.now }
+{
+    if clients.len() != count as usize {
+        return false;
+    }
+    for before in 0..count {
+        if !has_once(clients, before + 1) {
+            return false;
+        }
+    }
+    true
+}
+
+/// The tokens of the clients, in room that is there.
+pub(crate) fn gather_clients<W: Wait + Drop>(passes: &mut Vec<Pass<W>>, clients: Vec<Client<W>>)
+    requires { vec_len passes.old + vec_len clients ≤ vec_capacity passes.old }
+    ensures items { passes.new.items ≡ passes.old.items ++ clients.items }
+    ensures len { vec_len passes.new ≡ vec_len passes.old + vec_len clients }
+    ensures capacity { vec_capacity passes.new ≡ vec_capacity passes.old }
+    ensures rest { All IsResting clients.items }
+{
+    for client in clients {
+        passes.push_reserved(client.into_pass());
+    }
+}
+
+// Whether just one dispatcher has the number.
+fn has_dispatcher_once<W: Wait + Drop>(dispatchers: &[Dispatcher<W>], number: u32) -> bool
+    ensures { result ≡ (count_by (λ (t : Token). number_of t.who == number) dispatchers.now == 1) }
+{
+    dispatchers
+        .iter()
+        .filter(|dispatcher| dispatcher.number() == number)
+        .count()
+        == 1
+}
+
+/// Whether these are so many dispatchers, with each number once.
+pub(crate) fn are_dispatchers_numbered<W: Wait + Drop>(
+    dispatchers: &[Dispatcher<W>],
+    count: u32,
+) -> bool
+    ensures { IsTrue result ↔ AreNumbered count dispatchers.now }
+{
+    if dispatchers.len() != count as usize {
+        return false;
+    }
+    for before in 0..count {
+        if !has_dispatcher_once(dispatchers, before + 1) {
+            return false;
+        }
+    }
+    true
+}
+
+/// The tokens of the dispatchers, in room that is there.
+pub(crate) fn gather_dispatchers<W: Wait + Drop>(
+    passes: &mut Vec<Pass<W>>,
+    dispatchers: Vec<Dispatcher<W>>,
+)
+    requires { vec_len passes.old + vec_len dispatchers ≤ vec_capacity passes.old }
+    ensures items { passes.new.items ≡ passes.old.items ++ dispatchers.items }
+    ensures left { All IsLeft dispatchers.items }
+{
+    for dispatcher in dispatchers {
+        passes.push_reserved(dispatcher.into_pass());
+    }
+}
