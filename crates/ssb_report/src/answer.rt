@@ -31,8 +31,8 @@ fn write_before_sum<W: Write>(writer: &mut W, groups: &[Value]) -> Result<(), Wr
     Ok(())
 }
 
-// The values, each with a `|` before it.
-fn write_after_sum<W: Write>(writer: &mut W, groups: &[Value]) -> Result<(), WriteFault>
+/// Writes values, each with a `|` before it. It takes no memory.
+pub fn write_barred<W: Write>(writer: &mut W, groups: &[Value]) -> Result<(), WriteFault>
     ensures { Writes (W.contents writer.old) (W.contents writer.new) result (flat_map after_bar groups.now) }
 {
     for value in groups {
@@ -41,14 +41,14 @@ fn write_after_sum<W: Write>(writer: &mut W, groups: &[Value]) -> Result<(), Wri
     Ok(())
 }
 
-// A row of an answer to the query.
-fn write_row<W: Write>(writer: &mut W, query: Query, row: &ResultRow) -> Result<(), WriteFault>
+/// Writes the line of a row of an answer to the query. It takes no memory.
+pub fn write_row<W: Write>(writer: &mut W, query: Query, row: &ResultRow) -> Result<(), WriteFault>
     ensures { Writes (W.contents writer.old) (W.contents writer.new) result (row_text query row.now) }
 {
     let groups = row.groups.as_slice();
     if query.sum_stands_first() {
         write_pieces(writer, &[Piece::Sum(row.sum)])?;
-        write_after_sum(writer, groups)?;
+        write_barred(writer, groups)?;
         write_pieces(writer, &[Piece::Text("\n")])
     } else {
         write_before_sum(writer, groups)?;

@@ -27,8 +27,9 @@ mod serve;
 #[cfg(test)]
 mod tests;
 
-pub use answer::write_answer;
+pub use answer::{write_answer, write_barred, write_row};
 pub use fault::{RunError, WriteFault};
+pub use piece::{Piece, write_pieces};
 pub use refresh::{write_receipt, write_refusal};
 pub use run::{MOST_RECORDS, run_store};
 pub use serve::{CLIENT, serve_script, write_reply};

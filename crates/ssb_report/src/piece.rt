@@ -9,7 +9,7 @@ use std::io::Write;
 
 /// A piece of a line.
 #[derive(Clone, Copy)]
-pub(crate) enum Piece<'a> {
+pub enum Piece<'a> {
     Text(&'a str),
     /// In decimal, without leading zeros.
     Number(u64),
@@ -43,8 +43,8 @@ fn write_piece<W: Write>(writer: &mut W, piece: Piece<'_>) -> Result<(), WriteFa
     }
 }
 
-/// Writes the pieces, one after another.
-pub(crate) fn write_pieces<W: Write>(writer: &mut W, pieces: &[Piece<'_>]) -> Result<(), WriteFault>
+/// Writes the pieces, one after another. It takes no memory.
+pub fn write_pieces<W: Write>(writer: &mut W, pieces: &[Piece<'_>]) -> Result<(), WriteFault>
     ensures { Writes (W.contents writer.old) (W.contents writer.new) result (flat_map piece_text pieces.now) }
 {
     for piece in pieces {

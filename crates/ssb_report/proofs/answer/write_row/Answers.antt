@@ -16,18 +16,18 @@ returns-in_err-write_pieces g c =
     (rw (row_sum_first c.args.query c.args.row.now (sym c.sum_stands_first.ensures ∙ c.if-sum_stands_first.true))
     (part_longer a b (sum ++ groups) (line_feed ++ []) (part_longer a b sum groups c.in_err-write_pieces.ensures)))
 
-pub returns-in_err-write_after_sum : goal.returns-in_err-write_after_sum
-returns-in_err-write_after_sum g c =
+pub returns-in_err-write_barred : goal.returns-in_err-write_barred
+returns-in_err-write_barred g c =
     let contents = g.W.Write.contents in
     let a = contents c.args.writer.now in
     let b = contents c.write_pieces.new.writer in
-    let d = contents c.write_after_sum.new.writer in
+    let d = contents c.write_barred.new.writer in
     let sum = sum_text c.args.row.now.sum ++ [] in
     let groups = flat_map after_bar c.args.row.now.groups in
-    writes_stopped _ c.from_residual-in_err-write_after_sum.result a d _ c.from_residual-in_err-write_after_sum.ensures.1
+    writes_stopped _ c.from_residual-in_err-write_barred.result a d _ c.from_residual-in_err-write_barred.ensures.1
     (rw (row_sum_first c.args.query c.args.row.now (sym c.sum_stands_first.ensures ∙ c.if-sum_stands_first.true))
     (part_longer a d (sum ++ groups) (line_feed ++ [])
-    (appends_part a b d sum groups c.in_ok-write_pieces.ensures (rw c.as_slice-groups.ensures at c.in_err-write_after_sum.ensures))))
+    (appends_part a b d sum groups c.in_ok-write_pieces.ensures (rw c.as_slice-groups.ensures at c.in_err-write_barred.ensures))))
 
 pub returns-in_err-write_before_sum : goal.returns-in_err-write_before_sum
 returns-in_err-write_before_sum g c =
@@ -39,17 +39,17 @@ returns-in_err-write_before_sum g c =
     (rw (row_sum_last c.args.query c.args.row.now (sym c.sum_stands_first.ensures ∙ c.if-sum_stands_first.false))
     (part_longer a b groups (sum_text c.args.row.now.sum ++ (line_feed ++ [])) (rw c.as_slice-groups.ensures at c.in_err-write_before_sum.ensures)))
 
-pub returns-in_ok-write_after_sum : goal.returns-in_ok-write_after_sum
-returns-in_ok-write_after_sum g c =
+pub returns-in_ok-write_barred : goal.returns-in_ok-write_barred
+returns-in_ok-write_barred g c =
     let contents = g.W.Write.contents in
     let a = contents c.args.writer.now in
     let b = contents c.write_pieces.new.writer in
-    let d = contents c.write_after_sum.new.writer in
+    let d = contents c.write_barred.new.writer in
     let sum = sum_text c.args.row.now.sum ++ [] in
     let groups = flat_map after_bar c.args.row.now.groups in
     rw (row_sum_first c.args.query c.args.row.now (sym c.sum_stands_first.ensures ∙ c.if-sum_stands_first.true))
     (writes_next a d _ (sum ++ groups) (line_feed ++ []) c.write_pieces-then-sum_stands_first.result
-    (appends_both a b d sum groups c.in_ok-write_pieces.ensures (rw c.as_slice-groups.ensures at c.in_ok-write_after_sum.ensures))
+    (appends_both a b d sum groups c.in_ok-write_pieces.ensures (rw c.as_slice-groups.ensures at c.in_ok-write_barred.ensures))
     c.write_pieces-then-sum_stands_first.ensures)
 
 pub returns-in_ok-write_before_sum : goal.returns-in_ok-write_before_sum

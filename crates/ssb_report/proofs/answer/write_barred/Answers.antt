@@ -2,7 +2,7 @@ use Rattle.std.proofs.Common.{rules, [], ◌∷◌, ◌++◌, ap, subst, ◌∙�
 use Rattle.ssb_report.specs.Written.{StopsShort}
 use Rattle.ssb_report.specs.AnswerText.{after_bar, value_text}
 use Rattle.ssb_report.proofs.WrittenLaws.{writes_stopped, part_item}
-use Rattle.ssb_report.proofs.answer.write_after_sum.Goals as goal
+use Rattle.ssb_report.proofs.answer.write_barred.Goals as goal
 
 pub returns-in_err-write_pieces : goal.returns-in_err-write_pieces
 returns-in_err-write_pieces g c =

@@ -1,7 +1,7 @@
 use Rattle.std.proofs.Common.{take, flat_map}
 use Rattle.std.specs.Io.KnownBytes.{Appends}
 use Rattle.ssb_report.specs.AnswerText.{after_bar}
-use Rattle.ssb_report.proofs.answer.write_after_sum.Given as goal
+use Rattle.ssb_report.proofs.answer.write_barred.Given as goal
 
 abbrev pub invariant-loop-value : goal.invariant-loop-value
 invariant-loop-value g l =

@@ -1,0 +1,218 @@
+use super::*;
+use row_store::Commit;
+use ssb_load::{Tables, line_of, load};
+use ssb_plans::{Query, Question, Value};
+use ssb_queries::ResultRow;
+use ssb_schema::{Action, Base, Items, Limits, Order, Refresh, Text};
+use std::alloc::Global;
+use std::hash::RandomState;
+use std::process::Abort;
+use std::sync::Arc;
+use std::test::Fail;
+
+// The small data set: three customers, suppliers, four parts and dates, and four lines of three orders.
+const CUSTOMERS: &str = "1|C1|a|UNITED KI1|UNITED KINGDOM|EUROPE|p|m|
+2|C2|a|CHINA    0|CHINA|ASIA|p|m|
+3|C3|a|UNITED ST4|UNITED STATES|AMERICA|p|m|
+";
+
+const SUPPLIERS: &str = "1|S1|a|UNITED KI5|UNITED KINGDOM|EUROPE|p|
+2|S2|a|JAPAN    3|JAPAN|ASIA|p|
+3|S3|a|UNITED ST7|UNITED STATES|AMERICA|p|
+";
+
+const PARTS: &str = "1|P1|MFGR#1|MFGR#12|MFGR#121|c|t|1|b|
+2|P2|MFGR#2|MFGR#22|MFGR#2221|c|t|1|b|
+3|P3|MFGR#2|MFGR#22|MFGR#222|c|t|1|b|
+4|P4|MFGR#1|MFGR#14|MFGR#1440|c|t|1|b|
+";
+
+const DATES: &str = "19930101|d|w|m|1993|199301|Jan1993|1|1|1|1|1|s|0|0|0|1|
+19940105|d|w|m|1994|199401|Jan1994|1|1|1|1|1|s|0|0|0|1|
+19940208|d|w|m|1994|199402|Feb1994|1|1|1|1|6|s|0|0|0|1|
+19971215|d|w|m|1997|199712|Dec1997|1|1|1|1|50|s|0|0|0|1|
+";
+
+const LINES: &str = "1|1|2|2|2|19930101|o|0|24|1000|3000|3|970|600|0|19930101|AIR
+1|2|2|3|2|19930101|o|0|25|2000|3000|1|1980|1200|0|19930101|AIR
+2|1|1|1|1|19971215|o|0|10|500|500|0|500|700|0|19971215|AIR
+3|1|3|4|3|19971215|o|0|30|800|800|5|760|100|0|19971215|AIR
+";
+
+fn small_base(alloc: Global) -> Result<Arc<Base>, Fail> {
+    let tables = Tables {
+        customer: CUSTOMERS.as_bytes(),
+        supplier: SUPPLIERS.as_bytes(),
+        part: PARTS.as_bytes(),
+        date: DATES.as_bytes(),
+        lineorder: LINES.as_bytes(),
+    };
+    Ok(Arc::new(alloc, load(alloc, Limits::standard(), tables)?)?)
+}
+
+// A client's commit that adds the one order of the worked examples, under a key.
+fn commit_of(alloc: Global, client: u32, key: &str) -> Result<Commit, Fail> {
+    let fields: [&[u8]; 17] = [
+        key.as_bytes(),
+        b"1",
+        b"3",
+        b"4",
+        b"3",
+        b"19971215",
+        b"o",
+        b"0",
+        b"1",
+        b"10",
+        b"10",
+        b"0",
+        b"10",
+        b"2000",
+        b"0",
+        b"19971215",
+        b"AIR",
+    ];
+    let mut lines = Vec::new(alloc);
+    lines.push(line_of(alloc, fields.as_slice())?)?;
+    let Ok(order) = Order::new(lines) else {
+        return Err(Fail::new("the schema refuses it"));
+    };
+    let mut actions = Vec::new(alloc);
+    actions.push(Action::Add(order))?;
+    let Ok(refresh) = Refresh::new(actions) else {
+        return Err(Fail::new("the schema refuses it"));
+    };
+    Ok(Commit {
+        client,
+        refresh: Arc::new(alloc, refresh)?,
+    })
+}
+
+// An answer to Q4.1 of one row, that of 1997 and the United States.
+fn told_sum(alloc: Global, client: u32, at: u64, sum: i64) -> Result<Told, Fail> {
+    let mut groups = Vec::new(alloc);
+    groups.push(Value::Number(1997))?;
+    groups.push(Value::Text(Text::from_str(alloc, "UNITED STATES")?))?;
+    let mut rows = Vec::new(alloc);
+    rows.push(ResultRow {
+        groups: Items::from_vec(groups),
+        sum: Some(sum),
+    })?;
+    Ok(Told {
+        client,
+        at,
+        question: Question::standard(alloc, Query::Q4_1)?,
+        rows: Items::from_vec(rows),
+    })
+}
+
+// An answer of no rows.
+fn told_nothing(alloc: Global, at: u64, query: Query) -> Result<Told, Fail> {
+    Ok(Told {
+        client: 1,
+        at,
+        question: Question::standard(alloc, query)?,
+        rows: Items::from_vec(Vec::new(alloc)),
+    })
+}
+
+fn items<T: Drop, const N: usize>(alloc: Global, items: [T; N]) -> Result<Items<T>, Fail> {
+    Ok(Items::from_vec(Vec::from_array(alloc, items)?))
+}
+
+// The audit of commits and answers over the small data set.
+fn audited<const C: usize, const A: usize>(
+    rt: &HostRuntime,
+    commits: [Commit; C],
+    answers: [Told; A],
+) -> Result<Result<(), AuditFault>, Fail> {
+    let alloc = rt.alloc();
+    let trace = Trace {
+        commits: items(alloc, commits)?,
+        answers: items(alloc, answers)?,
+    };
+    Ok(audit(alloc, small_base(alloc)?, RandomState::new(rt)?, &trace))
+}
+
+#[test]
+fn a_true_run_is_legal(rt: HostRuntime) -> Result<(), Fail> {
+    let alloc = rt.alloc();
+    let commit = commit_of(alloc, 1, "9")?;
+    let answers = [
+        told_sum(alloc, 1, 0, 660)?,
+        told_sum(alloc, 1, 0, 660)?,
+        told_sum(alloc, 1, 1, -1330)?,
+        told_sum(alloc, 2, 0, 660)?,
+        told_nothing(alloc, 1, Query::Q2_1)?,
+    ];
+    assert!(rt; audited(&rt, [commit], answers)? == Ok(()));
+    assert!(rt; audited(&rt, [], [])? == Ok(()));
+    Ok(())
+}
+
+#[test]
+fn a_sum_that_is_off_by_one(rt: HostRuntime) -> Result<(), Fail> {
+    let alloc = rt.alloc();
+    let commit = commit_of(alloc, 1, "9")?;
+    let answers = [told_sum(alloc, 1, 0, 660)?, told_sum(alloc, 1, 1, -1331)?];
+    assert!(rt; audited(&rt, [commit], answers)? == Err(AuditFault::WrongRows(1, 2)));
+    Ok(())
+}
+
+#[test]
+fn an_answer_after_more_commits_than_there_are(rt: HostRuntime) -> Result<(), Fail> {
+    let alloc = rt.alloc();
+    let commit = commit_of(alloc, 1, "9")?;
+    let answers = [told_sum(alloc, 1, 2, -1330)?];
+    assert!(rt; audited(&rt, [commit], answers)? == Err(AuditFault::AtTooLarge(1, 1)));
+    let answers = [told_sum(alloc, 16, u64::MAX, 660)?];
+    assert!(rt; audited(&rt, [], answers)? == Err(AuditFault::AtTooLarge(16, 1)));
+    Ok(())
+}
+
+#[test]
+fn a_second_answer_at_an_earlier_place(rt: HostRuntime) -> Result<(), Fail> {
+    let alloc = rt.alloc();
+    let commit = commit_of(alloc, 1, "9")?;
+    let answers = [
+        told_sum(alloc, 2, 0, 660)?,
+        told_sum(alloc, 1, 1, -1330)?,
+        told_sum(alloc, 2, 1, -1330)?,
+        told_sum(alloc, 1, 0, 660)?,
+    ];
+    assert!(rt; audited(&rt, [commit], answers)? == Err(AuditFault::WentBack(1, 2)));
+    Ok(())
+}
+
+#[test]
+fn an_order_that_is_there_already(rt: HostRuntime) -> Result<(), Fail> {
+    let alloc = rt.alloc();
+    let commits = [commit_of(alloc, 1, "1")?];
+    let answers = [told_sum(alloc, 1, 1, -1330)?];
+    assert!(rt; audited(&rt, commits, answers)? == Err(AuditFault::CommitRefused(1)));
+    let commits = [commit_of(alloc, 1, "9")?, commit_of(alloc, 2, "9")?];
+    let answers = [told_sum(alloc, 1, 7, 0)?];
+    assert!(rt; audited(&rt, commits, answers)? == Err(AuditFault::CommitRefused(2)));
+    Ok(())
+}
+
+#[test]
+fn a_total_without_its_row(rt: HostRuntime) -> Result<(), Fail> {
+    let answers = [told_nothing(rt.alloc(), 0, Query::Q1_1)?];
+    assert!(rt; audited(&rt, [], answers)? == Err(AuditFault::WrongRows(1, 1)));
+    Ok(())
+}
+
+#[test]
+fn faults_are_told_by_number_and_name(rt: HostRuntime) -> Result<(), Fail> {
+    let alloc = rt.alloc();
+    for (fault, text) in [
+        (AuditFault::CommitRefused(1), "80 CommitRefused 1"),
+        (AuditFault::WrongRows(1, 2), "81 WrongRows 1 2"),
+        (AuditFault::WentBack(16, 2), "82 WentBack 16 2"),
+        (AuditFault::AtTooLarge(1, 1), "83 AtTooLarge 1 1"),
+        (AuditFault::OutOfMemory, "out of memory"),
+    ] {
+        assert!(rt; format!(in alloc; "{fault}")?.as_str() == text, "{text}");
+    }
+    Ok(())
+}
