@@ -17,7 +17,7 @@ use Rattle.ssb_report.proofs.WrittenLaws.{appends_none, appends_both}
 use Rattle.ssb_server.specs.Clients as client
 use Rattle.ssb_session.specs.Served.{IsServed, AreServed, Serves, StopsAfter, told_of}
 use Rattle.ssb_session.specs.Steps.{ServesOne, ServesInPart, AreAlike}
-use Rattle.ssb_session.specs.declared.told.Told.{Told}
+use Rattle.ssb_audit.specs.declared.trace.Told.{Told}
 
 -- nothing is asked where no question is outstanding
 pub asks_nothing : {X : Type 0} (asked : Option X) → is_some asked ≡ false → asked ≡ None

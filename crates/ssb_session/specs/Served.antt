@@ -11,7 +11,7 @@ use Rattle.ssb_report.specs.Replies.{Reply, Refreshed, Answered, reply_text}
 use Rattle.ssb_report.specs.Report.{report_of, committed}
 use Rattle.ssb_server.specs.Clients as client
 use Rattle.ssb_server.specs.Clients.{Asks, Polls}
-use Rattle.ssb_session.specs.declared.told.Told.{Told}
+use Rattle.ssb_audit.specs.declared.trace.Told.{Told}
 use Rattle.ssb_session.specs.declared.fault.BlocksError.{BlocksError}
 use Rattle.ssb_session.specs.declared.fault.BlocksError.TheVariants.{Write, OutOfMemory}
 

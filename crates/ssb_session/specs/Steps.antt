@@ -6,7 +6,7 @@ use Rattle.ssb_script.specs.Requests.{Request}
 use Rattle.ssb_report.specs.Replies.{Reply, reply_text}
 use Rattle.ssb_report.specs.Written.{StopsShort}
 use Rattle.ssb_session.specs.Served.{IsServed, told_of}
-use Rattle.ssb_session.specs.declared.told.Told.{Told}
+use Rattle.ssb_audit.specs.declared.trace.Told.{Told}
 use Rattle.ssb_session.specs.declared.fault.Stop.{Stop}
 use Rattle.ssb_session.specs.declared.fault.Stop.TheVariants.{Write, OutOfMemory}
 

@@ -8,10 +8,10 @@ ghost use Rattle.ssb_script.specs.Requests as request;
 ghost use Rattle.ssb_report.specs.Replies.{Answered};
 ghost use Rattle.ssb_session.specs.Served.{Serves, Ends, told_of};
 ghost use Rattle.ssb_session.specs.Steps.{AreAlike, ServesOne, ServesInPart, StopsIn};
-ghost use Rattle.ssb_session.specs.declared.told.Told.{Told as PlainTold};
+ghost use Rattle.ssb_audit.specs.declared.trace.Told.{Told as PlainTold};
 
 use crate::fault::{BlocksError, Stop};
-use crate::told::Told;
+use ssb_audit::Told;
 use ssb_plans::Question;
 use ssb_queries::Answer;
 use ssb_report::{WriteFault, write_answer, write_reply};

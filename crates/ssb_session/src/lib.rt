@@ -17,8 +17,8 @@
 
 mod blocks;
 mod fault;
-mod told;
+pub mod laws;
 
 pub use blocks::run_blocks;
 pub use fault::BlocksError;
-pub use told::Told;
+pub use ssb_audit::Told;
