@@ -2,7 +2,6 @@
 use Rattle.std.proofs.Common.{◌≡◌, ℕ, ◌+◌, cond, List, [], ◌∷◌, ◌++◌, length, take, Some, refl, ap, sym, subst, ◌∙◌, arith, append_assoc}
 use Rattle.std.proofs.lemmas.Bool.{eq-eqb}
 use Rattle.std.proofs.lemmas.List.{take_all, append-nil, length_push, map_push}
-use Rattle.ssb_server.specs.Turns.{answers_after}
 use Rattle.std.proofs.lemmas.List.Elements.{All-nil, All-push}
 use Rattle.row_store.specs.History.{CommitRecord}
 use Rattle.ssb_schema.specs.Base.{Tables}
@@ -20,7 +19,7 @@ use Rattle.history.specs.declared.request.Outcome.{Outcome}
 use Rattle.history.specs.Tokens.{Token, MayAnswer, Answers, request_of, without}
 use Rattle.history.specs.Words.{IsCause, IsFresh, given_to, outcome_of}
 use Rattle.ssb_server.specs.Hand.{Hand, no_hand, clients_of, questions_of, Keeps}
-use Rattle.ssb_server.specs.Turns.{HasInHand, Answered, GaveOne, Gave}
+use Rattle.ssb_server.specs.Turns.{answers_after, HasInHand, Answered, GaveOne, Gave}
 use Rattle.ssb_server.proofs.Deeds.{done}
 use Rattle.ssb_server.proofs.Hands.{with_one, not_empty}
 

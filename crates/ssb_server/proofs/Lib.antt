@@ -6,3 +6,4 @@ pub mod Givings
 pub mod Turning
 pub mod Refreshing
 pub mod Polling
+pub mod Staying

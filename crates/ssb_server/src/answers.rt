@@ -4,15 +4,13 @@ ghost use Rattle.row_store.specs.History.{CommitRecord};
 ghost use Rattle.row_store.specs.State.{StandsFor};
 ghost use Rattle.history.specs.declared.request.Outcome.TheVariants.{Served, GivenUp};
 ghost use Rattle.plain_scan.specs.Lines.{lines_state as columns_state};
-ghost use Rattle.ssb_server.specs.Turns.{answers_after};
 ghost use Rattle.history.specs.Words.{IsCause};
 ghost use Rattle.ssb_server.specs.Hand.{Keeps, no_hand};
-ghost use Rattle.ssb_server.specs.Turns.{IsDispatcher, HoldsNothing, IsCopy, HasInHand, Answered, GaveOne, Gave};
+ghost use Rattle.ssb_server.specs.Turns.{answers_after, IsDispatcher, HoldsNothing, IsCopy, HasInHand, Answered, GaveOne, Gave};
 
 use crate::batch::Batch;
+use crate::secondary::{Columns, DimIndex, PreparedBatch, scan};
 use crate::server::{Pass, Server};
-use crate::secondary::{Columns, DimIndex};
-use crate::secondary::{PreparedBatch, scan};
 use ssb_plans::Question;
 use ssb_queries::{Answer, Rows, Unserved};
 use std::alloc::{AllocError, Global};
@@ -32,7 +30,8 @@ pub(crate) fn scan_batch<R: Threads + Sync>(
     requires copy { IsCopy columns.now }
     ensures { (history : List CommitRecord) → StandsFor (columns_state columns.now) history → IfOk result (λ rows. rows.items ≡ answers_after columns.now.base history questions.now) }
 {
-    let _ = (rt, columns.rows());
+    let _ = rt;
+    let _ = columns.rows();
     let index = Arc::try_clone(index)?;
     let batch = PreparedBatch::new(alloc, index, questions)?;
     scan(alloc, columns, &batch)

@@ -9,6 +9,7 @@ ghost use Rattle.ssb_server.specs.Tickets.{IsOf, IsQuiet, AreAllThere};
 
 use crate::client::Client;
 use crate::dispatcher::Dispatcher;
+use crate::room::Room;
 use crate::server::Server;
 use crate::tickets::{
     are_clients_numbered, are_dispatchers_numbered, gather_clients, gather_dispatchers,
@@ -75,12 +76,15 @@ impl<W: Wait + Drop> Server<W> {
             dispatchers: _,
             bells: _,
             alloc: _,
-            mut client_room,
-            mut dispatcher_room,
+            room,
         } = self;
-        gather_clients(&mut client_room, clients);
-        gather_dispatchers(&mut dispatcher_room, dispatchers);
-        let (base, log) = hall.close(client_room, dispatcher_room).into_parts();
+        let Room {
+            clients: mut client_passes,
+            dispatchers: mut dispatcher_passes,
+        } = room.into_inner();
+        gather_clients(&mut client_passes, clients);
+        gather_dispatchers(&mut dispatcher_passes, dispatchers);
+        let (base, log) = hall.close(client_passes, dispatcher_passes).into_parts();
         Ok(Closed { base, log })
     }
 }

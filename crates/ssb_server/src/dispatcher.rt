@@ -9,10 +9,10 @@ ghost use Rattle.ssb_server.specs.Opening.{IsNewDispatcher};
 ghost use Rattle.ssb_server.specs.Tickets.{IsLeft};
 
 use crate::batch::Batch;
+use crate::secondary::Columns;
 use crate::server::{Pass, Server};
 use crate::turn::{ScanGate, Turn, take_turn};
 use history_core::Who;
-use crate::secondary::Columns;
 use std::marker::Model;
 use std::sync::Wait;
 use std::thread::Threads;

@@ -35,12 +35,11 @@ mod closing;
 mod dispatcher;
 mod grabbing;
 mod opening;
+mod room;
 mod secondary;
 mod server;
 mod snapshot;
 mod tickets;
-#[cfg(test)]
-mod tests;
 mod turn;
 
 pub use client::Client;

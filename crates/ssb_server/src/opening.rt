@@ -9,15 +9,16 @@ use crate::batch::{Batch, MOST_CLIENTS};
 use crate::bells::Bells;
 use crate::client::Client;
 use crate::dispatcher::Dispatcher;
+use crate::room::Room;
+use crate::secondary::{Columns, DimIndex};
 use crate::server::{Hall, Pass, Server};
 use crate::tickets::clients_of;
 use history::Shared;
-use crate::secondary::{Columns, DimIndex};
 use row_store::RowStore;
 use ssb_schema::Base;
 use std::alloc::{AllocError, Global};
 use std::hash::RandomState;
-use std::sync::{Arc, Wait};
+use std::sync::{Arc, Mutex, Wait};
 use thiserror::Error;
 use twin_cell::{TwinError, TwinReader, twin};
 
@@ -103,8 +104,7 @@ fn server_over<W: Wait + Drop>(
         dispatchers,
         bells: Bells::new(alloc, clients, dispatchers)?,
         alloc,
-        client_room: Vec::with_capacity(alloc, clients as usize)?,
-        dispatcher_room: Vec::with_capacity(alloc, dispatchers as usize)?,
+        room: Mutex::new(Room::new(alloc)?),
     })
 }
 

@@ -2,10 +2,11 @@
 ghost use Rattle.std.specs.Prelude.{◌≡◌};
 
 use crate::bells::Bells;
+use crate::room::Room;
 use crate::secondary::{Columns, DimIndex};
 use std::alloc::Global;
 use std::marker::Model;
-use std::sync::{Arc, Wait};
+use std::sync::{Arc, Mutex, Wait};
 use twin_cell::TwinWriter;
 
 /// The table of a server: its two parts are the row store, and the writer of the columns.
@@ -25,21 +26,19 @@ pub struct Server<W: Wait + Drop> {
     pub(crate) dispatchers: u32,
     pub(crate) bells: Bells,
     pub(crate) alloc: Global,
-    // Room for all passes, for `close`.
-    pub(crate) client_room: Vec<Pass<W>>,
-    pub(crate) dispatcher_room: Vec<Pass<W>>,
+    // For `close`. Passes may not be shared between threads, and behind a lock they are not; nobody takes it.
+    pub(crate) room: Mutex<Room<W>>,
 }
 
 impl<W: Wait + Drop> Model for Server<W> {
-    ghost use Rattle.std.specs.Prelude.{[], vec_capacity};
     ghost use Rattle.history.specs.Tokens.{Hall as Table};
-    ghost use Rattle.ssb_server.specs.Served.{IsServed, HasRoom};
+    ghost use Rattle.ssb_server.specs.Served.{IsServed};
 
     ghost Value = { Table };
 
     ghost view = { λ s. s.hall };
 
-    ghost invariant = { λ s. IsServed s.hall s.index.value s.clients s.dispatchers × HasRoom s.hall s.client_room.items (vec_capacity s.client_room) s.dispatcher_room.items (vec_capacity s.dispatcher_room) };
+    ghost invariant = { λ s. IsServed s.hall s.index.value s.clients s.dispatchers };
 }
 
 impl<W: Wait + Drop> Server<W> {

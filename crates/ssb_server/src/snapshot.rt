@@ -6,8 +6,8 @@ ghost use Rattle.history.specs.Tokens.{IsSound};
 ghost use Rattle.history.specs.Words.{IsCause};
 ghost use Rattle.ssb_server.specs.Turns.{IsDispatcher, HoldsNothing, HasFetched, Knows, StandsAt, Fetches, HasBeside, HasTaken, Appends, Follows, Misses};
 
-use crate::server::{Hall, Pass};
 use crate::secondary::Columns;
+use crate::server::{Hall, Pass};
 use row_store::{Commit, Follower, Replica};
 use ssb_queries::Unserved;
 use std::alloc::{AllocError, Global};

@@ -1,17 +1,16 @@
 //! A turn, over the parts of a dispatcher.
 ghost use Rattle.std.specs.Prelude.{◌≡◌, ◌<◌, ◌≤◌, [], length, Some, IfOk};
-ghost use Rattle.ssb_server.specs.Turns.{answers_after};
 ghost use Rattle.history.specs.Tokens.{IsSound};
 ghost use Rattle.ssb_server.specs.Hand.{Keeps, no_hand};
-ghost use Rattle.ssb_server.specs.Turns.{IsDispatcher, HoldsNothing, Knows, HasFetched};
+ghost use Rattle.ssb_server.specs.Turns.{answers_after, IsDispatcher, HoldsNothing, Knows, HasFetched};
 ghost use Rattle.ssb_server.specs.Ends.{Finishes, Ends, Turned};
 
 use crate::answers::{give_up_all, scan_batch, serve_all};
 use crate::batch::Batch;
 use crate::grabbing::grab_all;
+use crate::secondary::Columns;
 use crate::server::{Pass, Server};
 use crate::snapshot::snapshot;
-use crate::secondary::Columns;
 use ssb_queries::{Rows, Unserved};
 use std::alloc::AllocError;
 use std::sync::Wait;

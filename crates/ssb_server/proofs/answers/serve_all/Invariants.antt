@@ -1,8 +1,7 @@
 use Rattle.std.proofs.Common.{◌≡◌, ◌+◌, ℕ, length}
 use Rattle.history.specs.declared.request.Outcome.TheVariants.{Served}
-use Rattle.ssb_server.specs.Turns.{answers_after}
 use Rattle.ssb_server.specs.Hand.{Keeps}
-use Rattle.ssb_server.specs.Turns.{Gave}
+use Rattle.ssb_server.specs.Turns.{answers_after, Gave}
 use Rattle.ssb_server.proofs.answers.serve_all.Given as goal
 
 abbrev pub invariant-loop-client : goal.invariant-loop-client

@@ -1,15 +1,14 @@
 use Rattle.std.proofs.Common.{◌≡◌, ◌∙◌, ◌≤◌, sym, subst, ap, Some, arith}
 use Rattle.std.specs.Prelude.{IfOk}
 use Rattle.history.specs.Tokens.{Hall}
-use Rattle.ssb_server.specs.Turns.{answers_after}
-use Rattle.ssb_server.specs.Turns.{Knows}
+use Rattle.ssb_server.specs.Turns.{answers_after, Knows}
 use Rattle.ssb_server.proofs.Turning.{is_copy, copy_stands, copy_base, left, dispatcher_later, nothing_later, keeps_later, version_later, sound_finished, seen_finished}
 use Rattle.ssb_server.proofs.turn.serve.Goals as goal
 
 pub scan_batch-scanned-requires-clause-base : goal.scan_batch-scanned-requires-clause-base
 scan_batch-scanned-requires-clause-base g c = λ κs outlives.
     let is = dispatcher_later c.args.server.now c.args.pass.now c.snapshot.new.pass c.in-Ok.ensures.fetched c.requires.dispatcher in
-    (c.server.invariant.0.index_is ∙ ap (λ (h : Hall). h.base) c.server.view_is) ∙ (ap (λ (h : Hall). h.base) (sym is.hall_is) ∙ sym (copy_base c.snapshot.new.pass c.in-Ok.guard c.replica.result.now c.in-Ok.ensures.entered c.replica.ensures.state))
+    (c.server.invariant.index_is ∙ ap (λ (h : Hall). h.base) c.server.view_is) ∙ (ap (λ (h : Hall). h.base) (sym is.hall_is) ∙ sym (copy_base c.snapshot.new.pass c.in-Ok.guard c.replica.result.now c.in-Ok.ensures.entered c.replica.ensures.state))
 
 pub scan_batch-scanned-requires-clause-copy : goal.scan_batch-scanned-requires-clause-copy
 scan_batch-scanned-requires-clause-copy g c = λ κs outlives. is_copy c.snapshot.new.pass c.in-Ok.guard c.replica.result.now c.in-Ok.ensures.entered c.replica.ensures.state c.in-Ok.ensures.few

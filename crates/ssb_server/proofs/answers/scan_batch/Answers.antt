@@ -1,0 +1,8 @@
+use Rattle.std.proofs.Common.{◌≡◌, ap, subst}
+use Rattle.std.specs.Prelude.{IfOk}
+use Rattle.plain_scan.specs.Scans.{Asked}
+use Rattle.ssb_server.specs.Turns.{answers_after}
+use Rattle.ssb_server.proofs.answers.scan_batch.Goals as goal
+
+pub returns : goal.returns
+returns g c history stands = subst (λ questions. IfOk c.scan.result (λ rows. rows.items ≡ answers_after c.args.columns.now.base history questions)) (ap (λ (b : Asked). b.questions) c.in_ok-batch.ensures) (c.scan.ensures history stands)

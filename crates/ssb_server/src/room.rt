@@ -1,0 +1,26 @@
+//! Room for the passes that `close` gathers.
+ghost use Rattle.std.specs.Prelude.{◌≡◌, ◌≤◌, [], vec_capacity};
+
+use crate::server::Pass;
+use std::alloc::{AllocError, Global};
+use std::sync::Wait;
+
+/// Room for the passes of 16 clients and 4 dispatchers, and nothing in it.
+#[derive(Drop)]
+pub(crate) struct Room<W: Wait + Drop> {
+    pub(crate) clients: Vec<Pass<W>>,
+    pub(crate) dispatchers: Vec<Pass<W>>,
+    ghost no_clients: { clients.items ≡ [] },
+    ghost no_dispatchers: { dispatchers.items ≡ [] },
+    ghost client_room: { 16 ≤ vec_capacity clients },
+    ghost dispatcher_room: { 4 ≤ vec_capacity dispatchers },
+}
+
+impl<W: Wait + Drop> Room<W> {
+    pub(crate) fn new(alloc: Global) -> Result<Room<W>, AllocError> {
+        Ok(Room {
+            clients: Vec::with_capacity(alloc, 16)?,
+            dispatchers: Vec::with_capacity(alloc, 4)?,
+        })
+    }
+}
