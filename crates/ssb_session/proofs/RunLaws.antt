@@ -1,5 +1,5 @@
 -- What clients were told is a legal trace.
-use Rattle.std.proofs.Common.{◌≡◌, ◌≢◌, ℕ, ◌+◌, ◌<◌, ◌≤◌, zero, suc, List, [], ◌∷◌, ◌++◌, length, take, flat_map, Option, Some, None, refl, sym, ◌∙◌, ap, subst, append-nil, length-append, arith}
+use Rattle.std.proofs.Common.{◌≡◌, ◌≢◌, ℕ, ◌+◌, ◌<◌, ◌≤◌, zero, suc, List, [], ◌∷◌, ◌++◌, length, take, flat_map, Option, Some, None, Result, Ok, Err, refl, sym, ◌∙◌, ap, subst, append-nil, length-append, arith}
 use Rattle.std.specs.Prelude.{slice_get}
 use Rattle.std.specs.List.{AllByRecursion}
 use Rattle.std.proofs.lemmas.List.{take-append-le}
@@ -61,7 +61,7 @@ refreshed_goes before number actions (Ok receipt) after refreshed = record {
   hall = ap (λ (t : Token). t.hall) refreshed.now;
   begins = subst (IsPrefix before.seen) (sym (ap (λ (t : Token). t.seen) refreshed.now)) (prefix_longer before.seen refreshed.history _ refreshed.begins);
 }
-refreshed_goes before number actions (Err (refusal.Refused at action cause)) after refreshed = record { hall = ap (λ (t : Token). t.hall) refreshed.1.1.now; begins = refreshed.1.1.begins }
+refreshed_goes before number actions (Err (refusal.Refused at action cause)) after refreshed = record { hall = ap (λ (t : Token). t.hall) refreshed.2.now; begins = refreshed.2.begins }
 refreshed_goes before number actions (Err refusal.OutOfMemory) after refreshed = record { hall = ap (λ (t : Token). t.hall) refreshed.1.now; begins = refreshed.1.begins }
 
 answered_goes : (before : Token) (question : Query × List Value) (answer : Answer) (after : Token) → IsAnswered before question answer after → Goes before after
@@ -81,10 +81,10 @@ rows_between base number before question asked_for at rows after over answered =
     let over_asking : asking.hall.base ≡ base = ap (λ (t : Token). t.hall.base) answered.asked.now ∙ over in
     record {
       client = refl;
-      since = omega (arith, right.1.0, floor, longer_length before.seen asking.seen answered.asked.begins);
+      since = omega (arith, right.1, floor, longer_length before.seen asking.seen answered.asked.begins);
       is_true = record {
-        within = right.1.1.0;
-        rows = subst (λ b. rows ≡ rows_after b (take at after.seen) (record { client = number; at = at; question = asked_for; rows = rows })) over_asking right.1.1.1;
+        within = right.2;
+        rows = subst (λ b. rows ≡ rows_after b (take at after.seen) (record { client = number; at = at; question = asked_for; rows = rows })) over_asking right.3;
       };
     }
   where
@@ -170,9 +170,9 @@ are_between base number before after [] (reply ∷ replies) over served = absurd
 are_between base number before after (request ∷ requests) [] over served = absurd served
 are_between base number before after (request ∷ requests) (reply ∷ replies) over served =
     let between = served.0 in
-    let first = one_goes number before request reply between served.1.0 in
-    let head = one_told base number before request reply between over served.1.0 in
-    let rest = are_between base number between after requests replies (ap (λ h. h.base) first.hall ∙ over) served.1.1 in
+    let first = one_goes number before request reply between served.1 in
+    let head = one_told base number before request reply between over served.1 in
+    let rest = are_between base number between after requests replies (ap (λ h. h.base) first.hall ∙ over) served.2 in
     let earlier = longer_length before.seen between.seen first.begins in
     record {
       goes = goes_on before between after first rest.goes;

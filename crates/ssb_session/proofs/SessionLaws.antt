@@ -1,9 +1,9 @@
 -- Serving one request after another.
-use Rattle.std.proofs.Common.{◌≡◌, ℕ, ◌+◌, ◌<◌, suc, Bool, true, false, List, [], ◌∷◌, ◌++◌, length, take, flat_map, Option, Some, None, Result, Ok, Err, OnOk, OnErr, refl, sym, ◌∙◌, ap, subst, append_assoc, append-nil, length-append, arith}
-use Rattle.std.proofs.Math.Seq.{take-append-add}
+use Rattle.std.proofs.Common.{◌≡◌, ℕ, ◌+◌, ◌<◌, suc, Bool, true, false, List, [], ◌∷◌, ◌++◌, length, take, flat_map, Option, Some, None, Result, Ok, Err, refl, sym, ◌∙◌, ap, subst, append_assoc, append-nil, length-append, arith}
+use Rattle.std.proofs.Math.Seq.{take-append-add, take-append_seam}
 use Rattle.std.proofs.lemmas.List.Concat.{flat_map-append}
 use Rattle.std.specs.Option.{is_some}
-use Rattle.std.specs.Io.KnownBytes.{Appends}
+use Rattle.std.specs.Io.KnownBytes.{Appends, Keeps}
 use Rattle.ssb_schema.specs.declared.refresh.Action.{Action}
 use Rattle.row_store.specs.declared.commit.Receipt.{Receipt}
 use Rattle.row_store.specs.declared.refusal.RefreshError.{RefreshError}
@@ -15,8 +15,13 @@ use Rattle.ssb_report.specs.Replies.{Reply, reply_text}
 use Rattle.ssb_report.specs.Report.{report_of}
 use Rattle.ssb_report.proofs.WrittenLaws.{appends_none, appends_both}
 use Rattle.ssb_server.specs.Clients as client
-use Rattle.ssb_session.specs.Served.{IsServed, AreServed, Serves, StopsAfter, told_of}
-use Rattle.ssb_session.specs.Steps.{ServesOne, ServesInPart, AreAlike}
+use Rattle.ssb_plans.specs.declared.query.Query.{Query as Named}
+use Rattle.ssb_plans.specs.declared.value.Value.{Value}
+use Rattle.ssb_queries.specs.declared.answer.Answer.{Answer}
+use Rattle.ssb_session.specs.Served.{IsAnswered, IsServed, AreServed, Serves, StopsAfter, Ends, told_of}
+use Rattle.ssb_session.specs.Steps.{ServesOne, ServesInPart, StopsIn, AreAlike, error_after}
+use Rattle.ssb_session.specs.declared.fault.Stop.{Stop}
+use Rattle.ssb_session.specs.declared.fault.Stop.TheVariants.{Write, OutOfMemory}
 use Rattle.ssb_audit.specs.declared.trace.Told.{Told}
 
 -- nothing is asked where no question is outstanding
@@ -33,9 +38,9 @@ refreshed_alike before number actions (Ok receipt) after refreshed quiet = recor
   quiet = ap (λ (t : Token). t.asked) refreshed.now ∙ asks_nothing before.asked quiet;
 }
 refreshed_alike before number actions (Err (refusal.Refused at action cause)) after refreshed quiet = record {
-  hall = ap (λ (t : Token). t.hall) refreshed.1.1.now;
-  who = ap (λ (t : Token). t.who) refreshed.1.1.now;
-  quiet = ap (λ (t : Token). t.asked) refreshed.1.1.now ∙ asks_nothing before.asked quiet;
+  hall = ap (λ (t : Token). t.hall) refreshed.2.now;
+  who = ap (λ (t : Token). t.who) refreshed.2.now;
+  quiet = ap (λ (t : Token). t.asked) refreshed.2.now ∙ asks_nothing before.asked quiet;
 }
 refreshed_alike before number actions (Err refusal.OutOfMemory) after refreshed quiet = record {
   hall = ap (λ (t : Token). t.hall) refreshed.1.now;
@@ -43,25 +48,42 @@ refreshed_alike before number actions (Err refusal.OutOfMemory) after refreshed 
   quiet = ap (λ (t : Token). t.asked) refreshed.1.now ∙ asks_nothing before.asked quiet;
 }
 
--- a request whose report was written, or a part of it
-pub serves_ok : {X E : Type 0} (r : Result X E) (number : ℕ) (old new : Token) (request : Request) (reply : Reply) (told_old told_new : List Told) (a b : Option (List ℕ))
-    → IsServed number old request reply new → told_new ≡ told_old ++ told_of number reply
-    → OnOk r (Appends a b (reply_text reply)) → OnOk r (ServesOne number old new request told_old told_new a b)
-serves_ok (Ok v) number old new request reply told_old told_new a b served kept written = record { reply = reply; served = served; kept = kept; written = written }
-serves_ok (Err e) number old new request reply told_old told_new a b served kept written = tt
+-- what is as it was
+keeps_same : (a : Option (List ℕ)) → Keeps a a
+keeps_same None = tt
+keeps_same (Some xs) = refl
 
-pub serves_part : {X E : Type 0} (r : Result X E) (number : ℕ) (old new : Token) (request : Request) (reply : Reply) (told_old told_new : List Told) (a b : Option (List ℕ))
-    → IsServed number old request reply new → told_new ≡ told_old ++ told_of number reply
-    → OnErr r (StopsShort a b (reply_text reply)) → OnErr r (ServesInPart number old new request told_old told_new a b)
-serves_part (Ok v) number old new request reply told_old told_new a b served kept written = tt
-serves_part (Err e) number old new request reply told_old told_new a b served kept written = record { reply = reply; served = served; kept = kept; written = written }
+pub stops_before : (number : ℕ) (old : Token) (request : Request) (told : List Told) (a : Option (List ℕ)) → StopsIn OutOfMemory number old old request told told a a
+stops_before number old request told a = (refl, refl, keeps_same a)
+
+pub alike_itself : (old : Token) → is_some old.asked ≡ false → AreAlike old old
+alike_itself old quiet = record { hall = refl; who = refl; quiet = asks_nothing old.asked quiet }
+
+-- one client after another call
+pub alike_both : (a b c : Token) → AreAlike a b → AreAlike b c → AreAlike a c
+alike_both a b c first second = record { hall = second.hall ∙ first.hall; who = second.who ∙ first.who; quiet = second.quiet }
+
+pub asked_nothing : {X : Type 0} (asked : Option X) → asked ≡ None → is_some asked ≡ false
+asked_nothing asked none = ap is_some none
+
+-- a question, and its answer
+pub answered : (before asking after : Token) (question : Named × List Value) (answer : Answer) → client.Asks before question asking → client.Polls asking answer after
+    → IsAnswered before question answer after
+answered before asking after question answer asked polled = record { asking = asking; asked = asked; polled = polled }
+
+pub answered_alike : (before asking after : Token) (question : Named × List Value) (answer : Answer) → client.Asks before question asking → client.Polls asking answer after → AreAlike before after
+answered_alike before asking after question answer asked polled = record {
+  hall = ap (λ (t : Token). t.hall) polled.now ∙ ap (λ (t : Token). t.hall) asked.now;
+  who = ap (λ (t : Token). t.who) polled.now ∙ ap (λ (t : Token). t.who) asked.now;
+  quiet = ap (λ (t : Token). t.asked) polled.now;
+}
 
 -- as many replies as requests
 same_count : (number : ℕ) (old new : Token) (requests : List Request) (replies : List Reply) → AreServed number old requests replies new → length replies ≡ length requests
 same_count number old new [] [] are = refl
 same_count number old new [] (reply ∷ replies) are = absurd are
 same_count number old new (request ∷ requests) [] are = absurd are
-same_count number old new (request ∷ requests) (reply ∷ replies) are = ap suc (same_count number are.0 new requests replies are.1.1)
+same_count number old new (request ∷ requests) (reply ∷ replies) are = ap suc (same_count number are.0 new requests replies are.2)
 
 -- one request more
 served_more : (number : ℕ) (old mid new : Token) (requests : List Request) (replies : List Reply) (request : Request) (reply : Reply)
@@ -71,7 +93,7 @@ served_more number old mid new [] [] request reply are next = (new, subst (λ t.
 served_more number old mid new [] (other ∷ replies) request reply are next = absurd are
 served_more number old mid new (other ∷ requests) [] request reply are next = absurd are
 served_more number old mid new (first ∷ requests) (answer ∷ replies) request reply are next =
-    (are.0, are.1.0, served_more number are.0 mid new requests replies request reply are.1.1 next)
+    (are.0, are.1, served_more number are.0 mid new requests replies request reply are.2 next)
 
 -- what is kept of one reply more
 kept_more : (number : ℕ) (replies : List Reply) (reply : Reply) (told_old told_mid told_new : List Told)
@@ -103,7 +125,7 @@ serves_more number old mid new requests request told_old told_mid told_new a b c
 take_next : (front rest : List Request) (request : Request) → take (length front + 1) (front ++ request ∷ rest) ≡ front ++ request ∷ []
 take_next front rest request = take-append-add front (request ∷ rest) 1
 
-pub stops_there : (number : ℕ) (old mid new : Token) (front rest : List Request) (request : Request) (told_old told_mid told_new : List Told) (a b c : Option (List ℕ))
+stops_there : (number : ℕ) (old mid new : Token) (front rest : List Request) (request : Request) (told_old told_mid told_new : List Told) (a b c : Option (List ℕ))
     → Serves number old mid front told_old told_mid a b → ServesInPart number mid new request told_mid told_new b c
     → StopsAfter (length front) number old new (front ++ request ∷ rest) told_old told_new a c
 stops_there number old mid new front rest request told_old told_mid told_new a b c served next =
@@ -121,3 +143,32 @@ stops_there number old mid new front rest request told_old told_mid told_new a b
       left = next.written.left;
       written = appends_both a b c (report_of replies) next.written.part served.written next.written.appends;
     }
+
+-- serving stops before a request
+stops_short : (number : ℕ) (old mid new : Token) (front rest : List Request) (request : Request) (told_old told_mid told_new : List Told) (a b c : Option (List ℕ))
+    → Serves number old mid front told_old told_mid a b → StopsIn OutOfMemory number mid new request told_mid told_new b c
+    → (length front < length (front ++ request ∷ rest)) × Serves number old new (take (length front) (front ++ request ∷ rest)) told_old told_new a c
+stops_short number old mid new front rest request told_old told_mid told_new a b c served stopped = (
+  omega (arith, length-append front (request ∷ rest)),
+  rw (take-append_seam front (request ∷ rest)) (record {
+    replies = served.replies;
+    served = subst (AreServed number old front served.replies) (sym stopped.0) served.served;
+    kept = stopped.1 ∙ served.kept;
+    written = kept_written a b c (report_of served.replies) served.written stopped.2;
+  }),
+)
+  where
+    kept_written : (a b c : Option (List ℕ)) (x : List ℕ) → Appends a b x → Keeps b c → Appends a c x
+    kept_written None b c x first same = tt
+    kept_written (Some xs) None c x first same = absurd first
+    kept_written (Some xs) (Some ys) None x first same = absurd same
+    kept_written (Some xs) (Some ys) (Some zs) x first same = same ∙ first
+
+-- how a run ends at a request
+pub ends_there : (stop : Stop) (number : ℕ) (old mid new : Token) (front rest : List Request) (request : Request) (told_old told_mid told_new : List Told) (a b c : Option (List ℕ))
+    → Serves number old mid front told_old told_mid a b → StopsIn stop number mid new request told_mid told_new b c
+    → Ends (error_after stop (length front)) number old new (front ++ request ∷ rest) told_old told_new a c
+ends_there Write number old mid new front rest request told_old told_mid told_new a b c served stopped =
+    stops_there number old mid new front rest request told_old told_mid told_new a b c served stopped
+ends_there OutOfMemory number old mid new front rest request told_old told_mid told_new a b c served stopped =
+    stops_short number old mid new front rest request told_old told_mid told_new a b c served stopped

@@ -7,6 +7,8 @@ use Rattle.ssb_report.specs.Replies.{Reply, reply_text}
 use Rattle.ssb_report.specs.Written.{StopsShort}
 use Rattle.ssb_session.specs.Served.{IsServed, told_of}
 use Rattle.ssb_audit.specs.declared.trace.Told.{Told}
+use Rattle.ssb_session.specs.declared.fault.BlocksError.{BlocksError}
+use Rattle.ssb_session.specs.declared.fault.BlocksError.TheVariants as error
 use Rattle.ssb_session.specs.declared.fault.Stop.{Stop}
 use Rattle.ssb_session.specs.declared.fault.Stop.TheVariants.{Write, OutOfMemory}
 
@@ -32,6 +34,11 @@ StopsIn Write number old new request told_old told_new before after =
     ServesInPart number old new request told_old told_new before after
 StopsIn OutOfMemory number old new request told_old told_new before after =
     (new ≡ old) × (told_new ≡ told_old) × Keeps before after
+
+-- why the run ends then, so many requests having been served and reported before
+abbrev pub error_after : Stop → ℕ → BlocksError
+error_after Write done = error.Write done
+error_after OutOfMemory done = error.OutOfMemory done
 
 -- it is the same client of the same table, and asks nothing
 pub record AreAlike (old new : Token) : Type 0 where

@@ -1,5 +1,5 @@
 //! The blocks of a script, served one after another.
-ghost use Rattle.std.specs.Prelude.{◌≡◌, ◌<◌, ◌++◌, ℕ, List, length, false, OnOk, OnErr, IfErr, vec_len, vec_capacity};
+ghost use Rattle.std.specs.Prelude.{◌≡◌, ◌<◌, ◌++◌, List, false, OnOk, IfErr, vec_len, vec_capacity};
 ghost use Rattle.std.specs.Option.{is_some};
 ghost use Rattle.history.specs.Tokens.{IsSound};
 ghost use Rattle.history.specs.World.{number_of};
@@ -7,14 +7,14 @@ ghost use Rattle.history_core.specs.declared.event.Who.TheVariants.{Client as Is
 ghost use Rattle.ssb_script.specs.Requests as request;
 ghost use Rattle.ssb_report.specs.Replies.{Answered};
 ghost use Rattle.ssb_session.specs.Served.{Serves, Ends, told_of};
-ghost use Rattle.ssb_session.specs.Steps.{AreAlike, ServesOne, ServesInPart, StopsIn};
+ghost use Rattle.ssb_session.specs.Steps.{AreAlike, ServesOne, StopsIn};
 ghost use Rattle.ssb_audit.specs.declared.trace.Told.{Told as PlainTold};
 
 use crate::fault::{BlocksError, Stop};
 use ssb_audit::Told;
 use ssb_plans::Question;
 use ssb_queries::Answer;
-use ssb_report::{WriteFault, write_answer, write_reply};
+use ssb_report::{write_answer, write_reply};
 use ssb_schema::Refresh;
 use ssb_script::{Block, Script};
 use ssb_server::{Client, Server};
@@ -44,19 +44,22 @@ fn serve_refresh<W: Wait + Drop, R: Wait, O: Write>(
     number: u32,
     refresh: Arc<Refresh>,
     writer: &mut O,
-) -> Result<(), WriteFault>
+) -> Result<(), Stop>
     requires hall { client.old.hall ≡ server.now }
     requires who { client.old.who ≡ IsNumbered number }
     requires quiet { is_some client.old.asked ≡ false }
-    ensures reply { (told : List PlainTold) → OnOk result (ServesOne number client.old client.new (request.Refresh refresh.value) told told (O.contents writer.old) (O.contents writer.new)) }
-    ensures fault { (told : List PlainTold) → OnErr result (ServesInPart number client.old client.new (request.Refresh refresh.value) told told (O.contents writer.old) (O.contents writer.new)) }
+    ensures served { (told : List PlainTold) → OnOk result (ServesOne number client.old client.new (request.Refresh refresh.value) told told (O.contents writer.old) (O.contents writer.new)) }
+    ensures stopped { (told : List PlainTold) → IfErr result (λ stop. StopsIn stop number client.old client.new (request.Refresh refresh.value) told told (O.contents writer.old) (O.contents writer.new)) }
     ensures same { AreAlike client.old client.new }
     ensures sound { IsSound client.new }
 {
-    write_reply(writer, &client.refresh(rt, server, refresh))
+    match write_reply(writer, &client.refresh(rt, server, refresh)) {
+        Ok(()) => Ok(()),
+        Err(_) => Err(Stop::Write),
+    }
 }
 
-// Asks a question, and reports the answer, which is kept.
+// Asks a question, and reports the answer, which is kept in room that is made before.
 fn serve_question<W: Wait + Drop, R: Wait, O: Write>(
     rt: &R,
     server: &Server<W>,
@@ -65,21 +68,26 @@ fn serve_question<W: Wait + Drop, R: Wait, O: Write>(
     question: Question,
     writer: &mut O,
     told: &mut Vec<Told>,
-) -> Result<(), WriteFault>
+) -> Result<(), Stop>
     requires hall { client.old.hall ≡ server.now }
     requires who { client.old.who ≡ IsNumbered number }
     requires quiet { is_some client.old.asked ≡ false }
-    requires room { vec_len told.old < vec_capacity told.old }
-    ensures reply { OnOk result (ServesOne number client.old client.new (request.Ask question) told.old.items told.new.items (O.contents writer.old) (O.contents writer.new)) }
-    ensures fault { OnErr result (ServesInPart number client.old client.new (request.Ask question) told.old.items told.new.items (O.contents writer.old) (O.contents writer.new)) }
+    ensures served { OnOk result (ServesOne number client.old client.new (request.Ask question) told.old.items told.new.items (O.contents writer.old) (O.contents writer.new)) }
+    ensures stopped { IfErr result (λ stop. StopsIn stop number client.old client.new (request.Ask question) told.old.items told.new.items (O.contents writer.old) (O.contents writer.new)) }
     ensures same { AreAlike client.old client.new }
-    ensures sound { IsSound client.new }
+    ensures sound { IsSound client.old → IsSound client.new }
 {
+    if told.reserve(1).is_err() {
+        return Err(Stop::OutOfMemory);
+    }
     client.ask(server, question);
     let answer = client.await_answer(rt, server);
     let written = write_answer(writer, &answer);
     keep(told, number, answer);
-    written
+    match written {
+        Ok(()) => Ok(()),
+        Err(_) => Err(Stop::Write),
+    }
 }
 
 // Serves a block.
@@ -98,18 +106,12 @@ fn serve_block<W: Wait + Drop, R: Wait, O: Write>(
     ensures served { OnOk result (ServesOne number client.old client.new (request.request_of block) told.old.items told.new.items (O.contents writer.old) (O.contents writer.new)) }
     ensures stopped { IfErr result (λ stop. StopsIn stop number client.old client.new (request.request_of block) told.old.items told.new.items (O.contents writer.old) (O.contents writer.new)) }
     ensures same { AreAlike client.old client.new }
-    ensures sound { IsSound client.new }
+    ensures sound { IsSound client.old → IsSound client.new }
 {
-    let written = match block {
+    match block {
         Block::Refresh(refresh) => serve_refresh(rt, server, client, number, refresh, writer),
-        Block::Ask(question) => {
-            if told.reserve(1).is_err() {
-                return Err(Stop::OutOfMemory);
-            }
-            serve_question(rt, server, client, number, question, writer, told)
-        }
-    };
-    written.map_err(|_| Stop::Write)
+        Block::Ask(question) => serve_question(rt, server, client, number, question, writer, told),
+    }
 }
 
 /// Serves the blocks of a client's script in order, and writes their report. The answers with rows are kept behind what was
@@ -130,7 +132,7 @@ pub fn run_blocks<W: Wait + Drop, R: Wait, O: Write>(
     ensures served { OnOk result (Serves (number_of client.old.who) client.old client.new (request.requests_of script) told.old.items told.new.items (O.contents writer.old) (O.contents writer.new)) }
     ensures ended { IfErr result (λ error. Ends error (number_of client.old.who) client.old client.new (request.requests_of script) told.old.items told.new.items (O.contents writer.old) (O.contents writer.new)) }
     ensures same { AreAlike client.old client.new }
-    ensures sound { IsSound client.new }
+    ensures sound { IsSound client.old → IsSound client.new }
 {
     let number = client.number();
     let mut blocks = script.blocks.into_iter();
@@ -138,8 +140,7 @@ pub fn run_blocks<W: Wait + Drop, R: Wait, O: Write>(
     while let Some(block) = blocks.next() {
         match serve_block(rt, server, client, number, block, writer, told) {
             Ok(()) => done += 1,
-            Err(Stop::Write) => return Err(BlocksError::Write(done)),
-            Err(Stop::OutOfMemory) => return Err(BlocksError::OutOfMemory(done)),
+            Err(stop) => return Err(stop.after(done)),
         }
     }
     Ok(())

@@ -1,4 +1,7 @@
 //! Why a script is not served to its end.
+ghost use Rattle.std.specs.Prelude.{◌≡◌};
+ghost use Rattle.ssb_session.specs.Steps.{error_after};
+
 use thiserror::Error;
 
 /// Why a script was not served to its end. So many blocks were served and reported before.
@@ -17,4 +20,16 @@ pub enum BlocksError {
 pub(crate) enum Stop {
     Write,
     OutOfMemory,
+}
+
+impl Stop {
+    /// The error where so many blocks were served and reported before.
+    pub(crate) fn after(self, done: u64) -> BlocksError
+        ensures { result ≡ error_after self done }
+    {
+        match self {
+            Stop::Write => BlocksError::Write(done),
+            Stop::OutOfMemory => BlocksError::OutOfMemory(done),
+        }
+    }
 }

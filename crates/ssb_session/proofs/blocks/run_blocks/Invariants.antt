@@ -14,7 +14,7 @@ invariant-loop-block g l =
     × (length front ≡ l.done)
     × Serves l.number l.fn.client l.client front l.fn.told.items l.told.items (g.O.Write.contents l.fn.writer) (g.O.Write.contents l.writer)
     × AreAlike l.fn.client l.client
-    × IsSound l.client
+    × (IsSound l.fn.client → IsSound l.client)
 
 abbrev pub decreases-loop-block : goal.decreases-loop-block
 decreases-loop-block g l = length (into_iter_items l.blocks)
