@@ -32,5 +32,5 @@ pub use fault::{RunError, WriteFault};
 pub use piece::{Piece, write_pieces};
 pub use refresh::{write_receipt, write_refusal};
 pub use run::{MOST_RECORDS, run_store};
-pub use serve::{CLIENT, serve_script};
+pub use serve::{CLIENT, serve_script, write_reply};
 pub use ssb_script::{Block, Script, ScriptError, read_script};

@@ -76,8 +76,8 @@ fn ask(alloc: Global, store: &RowStore, lines: &mut PlainLines, question: Questi
     }
 }
 
-// The report of a refresh's reply.
-fn write_reply<W: Write>(
+/// Writes the report of the reply to a refresh.
+pub fn write_reply<W: Write>(
     writer: &mut W,
     reply: &Result<Receipt, RefreshError>,
 ) -> Result<(), WriteFault>

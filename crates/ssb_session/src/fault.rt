@@ -1,0 +1,35 @@
+//! Why a script is not served to its end.
+ghost use Rattle.std.specs.Prelude.{◌≡◌};
+ghost use Rattle.ssb_session.specs.Steps.{error_after};
+
+use thiserror::Error;
+
+/// Why a script was not served to its end. So many blocks were served and reported before.
+#[derive(Clone, Copy, Debug, PartialEq, Eq, Error)]
+pub enum BlocksError {
+    /// The next block was served too, but its report could not be written whole.
+    #[error("write failed")]
+    Write(u64),
+    /// There was no memory to keep the next block's answer, and it was not asked.
+    #[error("out of memory")]
+    OutOfMemory(u64),
+}
+
+// Why a block was not served, or not reported.
+#[derive(Clone, Copy, Debug, PartialEq, Eq)]
+pub(crate) enum Stop {
+    Write,
+    OutOfMemory,
+}
+
+impl Stop {
+    /// The error where so many blocks were served and reported before.
+    pub(crate) fn after(self, done: u64) -> BlocksError
+        ensures { result ≡ error_after self done }
+    {
+        match self {
+            Stop::Write => BlocksError::Write(done),
+            Stop::OutOfMemory => BlocksError::OutOfMemory(done),
+        }
+    }
+}
