@@ -1,5 +1,5 @@
 -- What clients were told is a legal trace.
-use Rattle.std.proofs.Common.{◌≡◌, ◌≢◌, ℕ, ◌+◌, ◌<◌, ◌≤◌, zero, suc, List, [], ◌∷◌, ◌++◌, length, take, flat_map, Option, Some, None, Result, Ok, Err, refl, sym, ◌∙◌, ap, subst, append-nil, length-append, arith}
+use Rattle.std.proofs.Common.{◌≡◌, ◌≢◌, ℕ, ◌≤◌, zero, suc, List, [], ◌∷◌, ◌++◌, length, take, flat_map, Some, None, Result, Ok, Err, refl, sym, ◌∙◌, ap, subst, append-nil, length-append, arith}
 use Rattle.std.specs.Prelude.{slice_get}
 use Rattle.std.specs.List.{AllByRecursion}
 use Rattle.std.proofs.lemmas.List.{take-append-le}
@@ -13,7 +13,6 @@ use Rattle.row_store.specs.declared.commit.Receipt.{Receipt}
 use Rattle.row_store.specs.declared.refusal.RefreshError.{RefreshError}
 use Rattle.row_store.specs.declared.refusal.RefreshError.TheVariants as refusal
 use Rattle.row_store.specs.History.{CommitRecord, IsPrefix}
-use Rattle.row_store.specs.Legal.{IsLegal}
 use Rattle.row_store.proofs.Prefixes.{prefix_longer}
 use Rattle.history.specs.Tokens.{Token}
 use Rattle.history.specs.Words.{request}
@@ -23,7 +22,7 @@ use Rattle.ssb_script.specs.Requests.{Request, Refresh, Ask}
 use Rattle.ssb_report.specs.Replies.{Reply, Refreshed, Answered}
 use Rattle.ssb_audit.specs.declared.trace.Told.{Told}
 use Rattle.ssb_audit.specs.Traces.{rows_after}
-use Rattle.ssb_audit.specs.Legal.{IsTrueOf, NeverGoBack, IsLegalTrace}
+use Rattle.ssb_audit.specs.Legal.{IsTrueOf, NeverGoBack}
 use Rattle.ssb_server.specs.Clients as client
 use Rattle.ssb_session.specs.Served.{IsAnswered, IsServed, AreServed, told_of}
 use Rattle.ssb_session.specs.Runs.{IsTold, AreTold, RunsAreLegal}

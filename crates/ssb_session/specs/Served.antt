@@ -8,7 +8,7 @@ use Rattle.ssb_queries.specs.declared.answer.Answer.TheVariants.{Rows}
 use Rattle.history.specs.Tokens.{Token}
 use Rattle.ssb_script.specs.Requests.{Request, Refresh, Ask}
 use Rattle.ssb_report.specs.Replies.{Reply, Refreshed, Answered, reply_text}
-use Rattle.ssb_report.specs.Report.{report_of, committed}
+use Rattle.ssb_report.specs.Report.{report_of}
 use Rattle.ssb_server.specs.Clients as client
 use Rattle.ssb_server.specs.Clients.{Asks, Polls}
 use Rattle.ssb_audit.specs.declared.trace.Told.{Told}
