@@ -38,8 +38,6 @@ mod opening;
 mod room;
 mod server;
 mod snapshot;
-#[cfg(test)]
-mod tests;
 mod tickets;
 mod turn;
 
