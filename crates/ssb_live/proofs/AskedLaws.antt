@@ -1,6 +1,6 @@
 -- The constants that words stand for.
-use Rattle.std.proofs.Common.{◌≡◌, ℕ, List, [], ◌∷◌, false, length, map, nat_eq, refl}
-use Rattle.ssb_live.specs.Asked.{constants_asked, values_spelled}
+use Rattle.std.proofs.Common.{◌≡◌, ◌≤◌, ℕ, List, [], ◌∷◌, false, length, map, nat_eq, refl, lit≤}
+use Rattle.ssb_live.specs.Asked.{constants_asked, standard_questions, values_spelled}
 use Rattle.ssb_plans.specs.Kind.{constant_kinds}
 use Rattle.ssb_plans.specs.declared.query.Query.{Query}
 
@@ -9,3 +9,7 @@ pub given_asked : {A : Type 0} (query : Query) (f : A → List ℕ) (words : Lis
     → values_spelled (constant_kinds query) (map f words) ≡ constants_asked query (map f words)
 given_asked query f [] some = absurd cc
 given_asked query f (word ∷ words) some = refl
+
+-- the benchmark is one batch
+pub few_standard : length standard_questions ≤ 16
+few_standard = lit≤ tt

@@ -1,4 +1,6 @@
 pub mod AskedLaws
 pub mod Flushed
+pub mod OpeningLaws
+pub mod ReportLaws
 pub mod Results
 pub mod ServedLaws

@@ -1,5 +1,5 @@
 -- The question that the words of a command line ask.
-use Rattle.std.specs.Prelude.{◌≡◌, ◌⊎◌, ℕ, ◌^◌, List, [], ◌∷◌, Option, Some, None, nat_lt, if◌then◌else◌}
+use Rattle.std.specs.Prelude.{◌≡◌, ◌⊎◌, ℕ, ◌^◌, List, [], ◌∷◌, map, Option, Some, None, nat_lt, if◌then◌else◌}
 use Rattle.ssb_load.specs.Spelling.{number_of}
 use Rattle.ssb_plans.specs.Kind.{constant_kinds}
 use Rattle.ssb_plans.specs.Queries.{standard_constants}
@@ -8,6 +8,7 @@ use Rattle.ssb_plans.specs.Question.{constants_fault}
 use Rattle.ssb_plans.specs.declared.kind.ConstantKind.{ConstantKind}
 use Rattle.ssb_plans.specs.declared.kind.ConstantKind.TheVariants as kind
 use Rattle.ssb_plans.specs.declared.query.Query.{Query}
+use Rattle.ssb_plans.specs.declared.query.Query.TheVariants.{Q1_1, Q1_2, Q1_3, Q2_1, Q2_2, Q2_3, Q3_1, Q3_2, Q3_3, Q3_4, Q4_1, Q4_2, Q4_3}
 use Rattle.ssb_plans.specs.declared.question.ConstantsFault.{ConstantsFault}
 use Rattle.ssb_plans.specs.declared.value.Value.{Value}
 use Rattle.ssb_plans.specs.declared.value.Value.TheVariants.{Text, Number}
@@ -50,3 +51,15 @@ pub record AreRefused (name : List ℕ) (words : List (List ℕ)) : Type 0 where
 -- a name and words ask no question: no query has the name, or the constants are refused
 abbrev pub AskNothing : List ℕ → List (List ℕ) → Type 0
 AskNothing name words = ((query : Query) → name_of query ≡ name → ⊥) ⊎ AreRefused name words
+
+-- the thirteen queries, flight by flight
+abbrev pub queries_in_order : List Query
+queries_in_order = Q1_1 ∷ Q1_2 ∷ Q1_3 ∷ Q2_1 ∷ Q2_2 ∷ Q2_3 ∷ Q3_1 ∷ Q3_2 ∷ Q3_3 ∷ Q3_4 ∷ Q4_1 ∷ Q4_2 ∷ Q4_3 ∷ []
+
+-- a query with the benchmark's constants
+abbrev pub standard_question : Query → Query × List Value
+standard_question query = (query, standard_constants query)
+
+-- the benchmark: each query once, in order, with the benchmark's constants
+abbrev pub standard_questions : List (Query × List Value)
+standard_questions = map standard_question queries_in_order

@@ -12,7 +12,8 @@ const VERSION: &str = "0.1.0";
 
 const QUERY_HELP: &str = "\
 Loads the five table files of a folder and prints the report of one question: a line with the query's name, the number of
-commits (0) and the number of rows, and then the rows.
+commits (0) and the number of rows, and then the rows. With --all it prints those of the thirteen queries with the
+benchmark's constants, in order, answered in one pass over the lines.
 
 The queries are Q1.1, Q1.2, Q1.3, Q2.1, Q2.2, Q2.3, Q3.1, Q3.2, Q3.3, Q3.4, Q4.1, Q4.2 and Q4.3. Without constants a query
 has those of the benchmark; else all of its constants are given, in this order:
@@ -33,7 +34,8 @@ has those of the benchmark; else all of its constants are given, in this order:
 
 Examples:
   ssb_live query --data tables Q4.1
-  ssb_live query --data tables Q2.1 'MFGR#12' EUROPE";
+  ssb_live query --data tables Q2.1 'MFGR#12' EUROPE
+  ssb_live query --data tables --all --times";
 
 // The words of `query`.
 fn query_command<'a>(alloc: Global) -> Result<Command<'a>, AllocError> {
@@ -43,10 +45,19 @@ fn query_command<'a>(alloc: Global) -> Result<Command<'a>, AllocError> {
         .help("The folder of customer.tbl, supplier.tbl, part.tbl, date.tbl and lineorder.tbl")
         .required(true)
         .action(ArgAction::Set);
+    let all = Arg::new(alloc, "all")
+        .long("all")
+        .help("All thirteen queries with the benchmark's constants, in place of one")
+        .action(ArgAction::SetTrue);
+    let times = Arg::new(alloc, "times")
+        .long("times")
+        .help("Tells on standard error how many seconds each step took")
+        .action(ArgAction::SetTrue);
     let name = Arg::new(alloc, "name")
         .value_name("NAME")
         .help("The query, as Q4.1")
-        .required(true)
+        .required_unless_present("all")?
+        .conflicts_with("all")?
         .action(ArgAction::Set);
     let constants = Arg::new(alloc, "constants")
         .value_name("CONSTANT")
@@ -54,9 +65,11 @@ fn query_command<'a>(alloc: Global) -> Result<Command<'a>, AllocError> {
         .num_args(0..)
         .action(ArgAction::Append);
     Command::new(alloc, "query")
-        .about("Prints the report of one question over table files")
+        .about("Prints the report of one question, or of all, over table files")
         .long_about(QUERY_HELP)
         .arg(data)?
+        .arg(all)?
+        .arg(times)?
         .arg(name)?
         .arg(constants)
 }

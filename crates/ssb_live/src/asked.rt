@@ -2,12 +2,12 @@
 
 ghost use Rattle.std.specs.Prelude.{◌≡◌, ◌≢◌, IfOk, IfErr, map};
 ghost use Rattle.std.specs.Option.{option_copied};
-ghost use Rattle.ssb_live.specs.Asked.{AskNothing, IsAsked, values_spelled, value_spelled};
+ghost use Rattle.ssb_live.specs.Asked.{AskNothing, IsAsked, standard_questions, values_spelled, value_spelled};
 ghost use Rattle.ssb_live.specs.Status.{status_of};
 
 use crate::fault::Fault;
 use ssb_load::number;
-use ssb_plans::{ConstantKind, Query, Question, QuestionError, Value};
+use ssb_plans::{ConstantKind, QUERIES, Query, Question, QuestionError, Value};
 use ssb_schema::Text;
 use std::alloc::{AllocError, Global};
 
@@ -52,4 +52,15 @@ pub fn ask(alloc: Global, name: &str, constants: &[&str]) -> Result<Question, Fa
         Err(QuestionError::Refused(fault, _)) => Err(Fault::Constants(fault)),
         Err(QuestionError::OutOfMemory(_)) => Err(Fault::OutOfMemory),
     }
+}
+
+/// The thirteen queries with the benchmark's constants, in the order of their names.
+pub fn standard_questions(alloc: Global) -> Result<Vec<Question>, AllocError>
+    ensures { IfOk result (λ questions. questions.items ≡ standard_questions) }
+{
+    let mut questions = Vec::with_capacity(alloc, QUERIES.len())?;
+    for query in &QUERIES {
+        questions.push(Question::standard(alloc, *query)?)?;
+    }
+    Ok(questions)
 }

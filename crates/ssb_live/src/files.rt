@@ -3,9 +3,10 @@
 use crate::fault::Fault;
 use ssb_load::Tables;
 use std::fs::File;
+use std::rt::Files;
 
 // The file of a table, or the fault that names its path.
-fn open_table(rt: &HostRuntime, folder: &str, name: &str) -> Result<File, Fault> {
+fn open_table<R: Files + AllocGlobal>(rt: &R, folder: &str, name: &str) -> Result<R::File, Fault> {
     let path = format!(in rt.alloc(); "{folder}/{name}.tbl")?;
     match File::open(rt, path.as_str()) {
         Ok(file) => Ok(file),
@@ -14,7 +15,7 @@ fn open_table(rt: &HostRuntime, folder: &str, name: &str) -> Result<File, Fault>
 }
 
 /// The files of a folder, or the first that cannot be opened, in the order in which they are loaded.
-pub fn open(rt: &HostRuntime, folder: &str) -> Result<Tables<File>, Fault> {
+pub fn open<R: Files + AllocGlobal>(rt: &R, folder: &str) -> Result<Tables<R::File>, Fault> {
     Ok(Tables {
         customer: open_table(rt, folder, "customer")?,
         supplier: open_table(rt, folder, "supplier")?,

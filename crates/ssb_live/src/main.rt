@@ -2,8 +2,9 @@
 //!
 //! Without words it serves the script on standard input over the small built-in data set, as the one client of a one-thread
 //! warehouse, and prints the report. `ssb_live query --data DIR NAME [CONSTANT..]` loads five table files and prints the
-//! report of one question. The work is done by `demo::demo` and `query::run_query`, whose contracts name the bytes that they
-//! write; `command::run` finds what the words ask, and this file ends with a status.
+//! report of one question, `ssb_live query --data DIR --all` those of the thirteen queries, answered in one pass. The work is
+//! done by `demo::demo`, `query::run_query` and `query::run_all`, whose contracts name the bytes that they write;
+//! `command::run` finds what the words ask, and this file ends with a status.
 #![tactic(auto)]
 
 mod arguments;
@@ -12,8 +13,10 @@ mod command;
 mod demo;
 mod fault;
 mod files;
+mod opening;
 mod query;
 mod small_data;
+mod stopwatch;
 #[cfg(test)]
 mod tests;
 

@@ -1,46 +1,77 @@
-//! `query`: the report of one question over five table files.
+//! `query`: the reports of one question or of all thirteen queries over five table files.
 
-ghost use Rattle.std.specs.Prelude.{◌≡◌, ◌≢◌, ◌⊎◌, ℕ, List, IfOk, IfErr, OnOk, OnErr, MatchResult, map};
+ghost use Rattle.std.specs.Prelude.{◌≡◌, ◌≢◌, ◌⊎◌, ◌≤◌, ℕ, List, false, IfOk, IfErr, OnOk, OnErr, MatchResult, flat_map, length, map};
 ghost use Rattle.ssb_live.specs.Asked.{AskNothing};
-ghost use Rattle.ssb_live.specs.Reported.{AreRefused, HasReport, Reports, ReportsPart, opening_answer};
+ghost use Rattle.ssb_live.specs.Reported.{AreRefused, HaveAnswers, HaveReport, Reports, ReportsPart, ReportsAll, ReportsAllPart};
 ghost use Rattle.ssb_live.specs.Status.{status_of};
-ghost use Rattle.ssb_live.specs.declared.fault.Fault.TheVariants.{OutOfMemory, WriteFailed};
 ghost use Rattle.ssb_load.specs.Load.{AreTexts};
 ghost use Rattle.ssb_report.specs.AnswerText.{answer_text};
-ghost use Rattle.ssb_report.specs.Written.{AppendsPart};
+ghost use Rattle.ssb_report.specs.Written.{AppendsPart, Writes};
 ghost use Rattle.ssb_schema.specs.declared.table.Table.{Table};
 ghost use Rattle.std.specs.Io.KnownBytes.{Appends};
 
-use crate::asked::ask;
+use crate::asked::{ask, standard_questions};
 use crate::fault::Fault;
+use crate::opening::opening_answers;
+use crate::stopwatch::{Step, Stopwatch};
 use ssb_load::{Tables, load};
 use ssb_plans::Question;
-use ssb_queries::{Answer, plain};
-use ssb_report::write_answer;
-use ssb_schema::{Base, Limits};
-use std::alloc::Global;
+use ssb_queries::Answer;
+use ssb_report::{WriteFault, write_answer};
+use ssb_schema::Limits;
+use std::hash::RandomState;
 use std::io::{Read, Write};
+use std::thread::Threads;
+use std::time::Clock;
 
-// The answer over the loaded lines of a base.
-fn answer(alloc: Global, base: &Base, question: &Question) -> Result<Answer, Fault>
-    ensures answer { IfOk result (λ answer. answer ≡ opening_answer base.now question.now) }
-    ensures memory { IfErr result (λ fault. fault ≡ OutOfMemory) }
-{
-    let rows = plain(alloc, base, base.lines(), question)?;
-    Ok(Answer::Rows {
-        query: rows.query,
-        at: 0,
-        rows: rows.list,
-    })
+/// How questions are answered, whichever they are.
+#[derive(Drop)]
+pub struct Settings {
+    /// Hashes the keys of the loaded orders; at random, so that no data can make them collide.
+    pub hashing: RandomState,
+    /// Whether the times of the steps are told on standard error.
+    pub times: bool,
 }
 
-// Writes an answer, and has the writer hand on what it holds.
-fn write<W: Write>(out: &mut W, answer: &Answer) -> Result<(), Fault>
-    ensures written { MatchResult result (λ _. Appends (W.contents out.old) (W.contents out.new) (answer_text answer.now))
-        (λ _. AppendsPart (W.contents out.old) (W.contents out.new) (answer_text answer.now)) }
-    ensures fault { IfErr result (λ fault. fault ≡ WriteFailed) }
+// The answers to the questions over the base that the tables spell.
+fn answers<R: Threads + Sync + Clock + AllocGlobal, I: Read + Drop>(
+    rt: &R,
+    hashing: RandomState,
+    tables: Tables<I>,
+    questions: &[Question],
+    watch: &mut Stopwatch,
+) -> Result<Vec<Answer>, Fault>
+    requires { length questions.now ≤ 16 }
+    ensures answers { IfOk result (λ answers. (texts : Table → List ℕ) → AreTexts I.remaining tables texts → HaveAnswers texts questions.now answers.items) }
+    ensures data { IfErr result (λ fault. status_of fault ≡ 1 → (texts : Table → List ℕ) → AreTexts I.remaining tables texts → AreRefused texts) }
+    ensures later { IfErr result (λ fault. status_of fault ≢ 2) }
 {
-    if write_answer(out, answer).is_err() {
+    let base = match load(rt.alloc(), Limits::standard(), tables) {
+        Ok(base) => base,
+        Err(fault) => return Err(Fault::Data(fault)),
+    };
+    watch.lap(rt, Step::Load);
+    let answers = opening_answers(rt, rt.alloc(), hashing, base, questions, watch)?;
+    Ok(answers)
+}
+
+// Writes the reports of answers, one after another.
+fn write_answers<W: Write>(out: &mut W, answers: &[Answer]) -> Result<(), WriteFault>
+    ensures { Writes (W.contents out.old) (W.contents out.new) result (flat_map answer_text answers.now) }
+{
+    for answer in answers {
+        write_answer(out, answer)?;
+    }
+    Ok(())
+}
+
+// Writes the reports of answers, and has the writer hand on what it holds.
+fn write<W: Write>(out: &mut W, answers: &[Answer]) -> Result<(), Fault>
+    ensures written { MatchResult result (λ _. Appends (W.contents out.old) (W.contents out.new) (flat_map answer_text answers.now))
+        (λ _. AppendsPart (W.contents out.old) (W.contents out.new) (flat_map answer_text answers.now)) }
+    ensures fault { IfErr result (λ fault. status_of fault ≡ 4) }
+{
+    if write_answers(out, answers).is_err() {
         return Err(Fault::WriteFailed);
     }
     match out.flush() {
@@ -49,55 +80,117 @@ fn write<W: Write>(out: &mut W, answer: &Answer) -> Result<(), Fault>
     }
 }
 
-// Writes the report of a question over the tables.
-fn report<R: Read + Drop, W: Write>(
-    alloc: Global,
-    tables: Tables<R>,
-    question: &Question,
+// Writes the reports of the questions over the tables.
+fn report<R: Threads + Sync + Clock + AllocGlobal, I: Read + Drop, W: Write>(
+    rt: &R,
+    hashing: RandomState,
+    tables: Tables<I>,
+    questions: &[Question],
+    watch: &mut Stopwatch,
     out: &mut W,
 ) -> Result<(), Fault>
-    ensures report { OnOk result ((texts : Table → List ℕ) → AreTexts R.remaining tables texts
-        → (report : List ℕ) × HasReport texts question.now report × Appends (W.contents out.old) (W.contents out.new) report) }
+    requires { length questions.now ≤ 16 }
+    ensures report { OnOk result ((texts : Table → List ℕ) → AreTexts I.remaining tables texts
+        → (report : List ℕ) × HaveReport texts questions.now report × Appends (W.contents out.old) (W.contents out.new) report) }
     ensures fault { OnErr result ((W.contents out.new ≡ W.contents out.old)
-        ⊎ ((texts : Table → List ℕ) → AreTexts R.remaining tables texts
-        → (report : List ℕ) × HasReport texts question.now report × AppendsPart (W.contents out.old) (W.contents out.new) report)) }
-    ensures data { IfErr result (λ fault. status_of fault ≡ 1 → (texts : Table → List ℕ) → AreTexts R.remaining tables texts → AreRefused texts) }
+        ⊎ ((texts : Table → List ℕ) → AreTexts I.remaining tables texts
+        → (report : List ℕ) × HaveReport texts questions.now report × AppendsPart (W.contents out.old) (W.contents out.new) report)) }
+    ensures data { IfErr result (λ fault. status_of fault ≡ 1 → (texts : Table → List ℕ) → AreTexts I.remaining tables texts → AreRefused texts) }
     ensures later { IfErr result (λ fault. status_of fault ≢ 2) }
 {
-    let base = match load(alloc, Limits::standard(), tables) {
-        Ok(base) => base,
-        Err(fault) => return Err(Fault::Data(fault)),
-    };
-    let answer = answer(alloc, &base, question)?;
-    write(out, &answer)
+    let answers = answers(rt, hashing, tables, questions, watch)?;
+    write(out, answers.as_slice())
+}
+
+// Tells the times where they are asked for.
+fn tell_times<E: Write>(watch: &Stopwatch, times: bool, err: &mut E)
+    ensures { times ≡ false → err.new ≡ err.old }
+{
+    if !times {
+        return;
+    }
+    watch.tell(err);
+}
+
+// Writes the reports of the questions over the tables, and tells the times or a fault. The result is the exit status.
+fn run<R: Threads + Sync + Clock + AllocGlobal, I: Read + Drop, W: Write, E: Write>(
+    rt: &R,
+    settings: Settings,
+    tables: Tables<I>,
+    questions: &[Question],
+    out: &mut W,
+    err: &mut E,
+) -> u8
+    requires { length questions.now ≤ 16 }
+    ensures report { result ≡ 0 → (texts : Table → List ℕ) → AreTexts I.remaining tables texts
+        → (report : List ℕ) × HaveReport texts questions.now report × Appends (W.contents out.old) (W.contents out.new) report }
+    ensures fault { result ≢ 0 → (W.contents out.new ≡ W.contents out.old)
+        ⊎ ((texts : Table → List ℕ) → AreTexts I.remaining tables texts
+        → (report : List ℕ) × HaveReport texts questions.now report × AppendsPart (W.contents out.old) (W.contents out.new) report) }
+    ensures quiet { result ≡ 0 → settings.times ≡ false → err.new ≡ err.old }
+    ensures data { result ≡ 1 → (texts : Table → List ℕ) → AreTexts I.remaining tables texts → AreRefused texts }
+    ensures words { result ≢ 2 }
+{
+    let times = settings.times;
+    let mut watch = Stopwatch::start(rt, times);
+    match report(rt, settings.hashing, tables, questions, &mut watch, out) {
+        Ok(()) => {
+            tell_times(&watch, times, err);
+            0
+        }
+        Err(fault) => fault.tell(err),
+    }
 }
 
 /// Writes the report of the question of this name and these constants (without constants, the benchmark's) over the base
 /// that the tables spell; or a fault line to `err`. The question is looked at first. The result is the exit status: 0 with
-/// nothing written to `err`, 1 where the data is refused, 2 where the question is, and else 4.
-pub fn run_query<R: Read + Drop, W: Write, E: Write>(
-    alloc: Global,
-    tables: Tables<R>,
+/// nothing written to `err` but the times, where they are asked for; 1 where the data is refused, 2 where the question is,
+/// and else 4.
+pub fn run_query<R: Threads + Sync + Clock + AllocGlobal, I: Read + Drop, W: Write, E: Write>(
+    rt: &R,
+    settings: Settings,
+    tables: Tables<I>,
     name: &str,
     constants: &[&str],
     out: &mut W,
     err: &mut E,
 ) -> u8
-    ensures report { result ≡ 0 → (texts : Table → List ℕ) → AreTexts R.remaining tables texts
+    ensures report { result ≡ 0 → (texts : Table → List ℕ) → AreTexts I.remaining tables texts
         → Reports texts name.now (map (λ word. word.now) constants.now) (W.contents out.old) (W.contents out.new) }
     ensures fault { result ≢ 0 → (W.contents out.new ≡ W.contents out.old)
-        ⊎ ((texts : Table → List ℕ) → AreTexts R.remaining tables texts
+        ⊎ ((texts : Table → List ℕ) → AreTexts I.remaining tables texts
         → ReportsPart texts name.now (map (λ word. word.now) constants.now) (W.contents out.old) (W.contents out.new)) }
-    ensures quiet { result ≡ 0 → err.new ≡ err.old }
-    ensures data { result ≡ 1 → (texts : Table → List ℕ) → AreTexts R.remaining tables texts → AreRefused texts }
+    ensures quiet { result ≡ 0 → settings.times ≡ false → err.new ≡ err.old }
+    ensures data { result ≡ 1 → (texts : Table → List ℕ) → AreTexts I.remaining tables texts → AreRefused texts }
     ensures words { result ≡ 2 → AskNothing name.now (map (λ word. word.now) constants.now) }
 {
-    let question = match ask(alloc, name, constants) {
+    let question = match ask(rt.alloc(), name, constants) {
         Ok(question) => question,
         Err(fault) => return fault.tell(err),
     };
-    match report(alloc, tables, &question, out) {
-        Ok(()) => 0,
-        Err(fault) => fault.tell(err),
-    }
+    run(rt, settings, tables, &[question], out, err)
+}
+
+/// Writes the reports of the thirteen queries with the benchmark's constants, in order, over the base that the tables
+/// spell, from one pass over its lines; or a fault line to `err`. The result is the exit status, as of `run_query`, and
+/// never 2.
+pub fn run_all<R: Threads + Sync + Clock + AllocGlobal, I: Read + Drop, W: Write, E: Write>(
+    rt: &R,
+    settings: Settings,
+    tables: Tables<I>,
+    out: &mut W,
+    err: &mut E,
+) -> u8
+    ensures report { result ≡ 0 → (texts : Table → List ℕ) → AreTexts I.remaining tables texts → ReportsAll texts (W.contents out.old) (W.contents out.new) }
+    ensures fault { result ≢ 0 → (W.contents out.new ≡ W.contents out.old)
+        ⊎ ((texts : Table → List ℕ) → AreTexts I.remaining tables texts → ReportsAllPart texts (W.contents out.old) (W.contents out.new)) }
+    ensures quiet { result ≡ 0 → settings.times ≡ false → err.new ≡ err.old }
+    ensures data { result ≡ 1 → (texts : Table → List ℕ) → AreTexts I.remaining tables texts → AreRefused texts }
+    ensures words { result ≢ 2 }
+{
+    let questions = match standard_questions(rt.alloc()) {
+        Ok(questions) => questions,
+        Err(_) => return Fault::OutOfMemory.tell(err),
+    };
+    run(rt, settings, tables, questions.as_slice(), out, err)
 }

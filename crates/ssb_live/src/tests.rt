@@ -5,14 +5,18 @@ mod faults;
 
 use crate::demo::demo;
 use crate::files;
-use crate::query::run_query;
+use crate::query::{Settings, run_all, run_query};
 use crate::small_data::{LINEORDER, tables};
+use crate::stopwatch::{Step, Stopwatch};
 use ssb_load::Tables;
-use std::alloc::Global;
+use std::cell::Cell;
 use std::hash::RandomState;
 use std::io;
 use std::io::{Read, Write};
+use std::random::RandomSource;
 use std::test::Fail;
+use std::thread::Threads;
+use std::time::{Clock, Duration};
 
 // What a run of `query` gave: its status, and what it wrote.
 #[derive(Drop)]
@@ -22,20 +26,32 @@ struct Told {
     err: Vec<u8>,
 }
 
-fn run_over<R: Read + Drop>(
-    alloc: Global,
-    tables: Tables<R>,
+// Settings without times.
+fn quiet(rt: &impl RandomSource) -> Result<Settings, Fail> {
+    let hashing = RandomState::new(rt)?;
+    Ok(Settings {
+        hashing,
+        times: false,
+    })
+}
+
+fn run_over<R, I: Read + Drop>(
+    rt: &R,
+    tables: Tables<I>,
     name: &str,
     constants: &[&str],
-) -> Told {
-    let mut out = Vec::new(alloc);
-    let mut err = Vec::new(alloc);
-    let status = run_query(alloc, tables, name, constants, &mut out, &mut err);
-    Told { status, out, err }
+) -> Result<Told, Fail>
+where
+    R: Threads + Sync + Clock + RandomSource + AllocGlobal,
+{
+    let mut out = Vec::new(rt.alloc());
+    let mut err = Vec::new(rt.alloc());
+    let status = run_query(rt, quiet(rt)?, tables, name, constants, &mut out, &mut err);
+    Ok(Told { status, out, err })
 }
 
 #[test]
-fn reports_go_out_with_status_0(rt: HostRuntime) {
+fn reports_go_out_with_status_0(rt: HostRuntime) -> Result<(), Fail> {
     for (name, report) in [
         ("Q1.1", "Q1.1 at 0 rows 1\n3000\n"),
         ("Q1.2", "Q1.2 at 0 rows 1\nNULL\n"),
@@ -43,31 +59,166 @@ fn reports_go_out_with_status_0(rt: HostRuntime) {
         ("Q2.2", "Q2.2 at 0 rows 1\n970|1993|MFGR#2221\n"),
         ("Q4.1", "Q4.1 at 0 rows 1\n1997|UNITED STATES|660\n"),
     ] {
-        let told = run_over(rt.alloc(), tables(), name, &[]);
+        let told = run_over(&rt, tables(), name, &[])?;
         assert_eq!(rt; told.status, 0);
         assert_eq!(rt; told.out.as_slice(), report.as_bytes());
         assert!(rt; told.err.is_empty());
     }
+    Ok(())
+}
+
+// The thirteen reports over the small data set.
+const ALL: &str = "\
+Q1.1 at 0 rows 1
+3000
+Q1.2 at 0 rows 1
+NULL
+Q1.3 at 0 rows 1
+NULL
+Q2.1 at 0 rows 0
+Q2.2 at 0 rows 1
+970|1993|MFGR#2221
+Q2.3 at 0 rows 0
+Q3.1 at 0 rows 1
+CHINA|JAPAN|1993|2950
+Q3.2 at 0 rows 1
+UNITED ST4|UNITED ST7|1997|760
+Q3.3 at 0 rows 1
+UNITED KI1|UNITED KI5|1997|500
+Q3.4 at 0 rows 1
+UNITED KI1|UNITED KI5|1997|500
+Q4.1 at 0 rows 1
+1997|UNITED STATES|660
+Q4.2 at 0 rows 1
+1997|UNITED STATES|MFGR#14|660
+Q4.3 at 0 rows 1
+1997|UNITED ST7|MFGR#1440|660
+";
+
+#[test]
+fn the_thirteen_reports_go_out_in_order(rt: HostRuntime) -> Result<(), Fail> {
+    let mut out = Vec::new(rt.alloc());
+    let mut err = Vec::new(rt.alloc());
+    let status = run_all(&rt, quiet(&rt)?, tables(), &mut out, &mut err);
+    assert_eq!(rt; status, 0);
+    assert_eq!(rt; out.as_slice(), ALL.as_bytes());
+    assert!(rt; err.is_empty());
+    Ok(())
 }
 
 #[test]
-fn given_constants_stand_in_place_of_the_benchmarks(rt: HostRuntime) {
-    let told = run_over(rt.alloc(), tables(), "Q2.1", &["MFGR#12", "EUROPE"]);
+fn each_of_the_thirteen_alone_has_the_report_that_it_has_among_them(
+    rt: HostRuntime,
+) -> Result<(), Fail> {
+    let mut reports = Vec::new(rt.alloc());
+    for name in [
+        "Q1.1", "Q1.2", "Q1.3", "Q2.1", "Q2.2", "Q2.3", "Q3.1", "Q3.2", "Q3.3", "Q3.4", "Q4.1",
+        "Q4.2", "Q4.3",
+    ] {
+        let told = run_over(&rt, tables(), name, &[])?;
+        assert_eq!(rt; told.status, 0);
+        reports.extend_from_slice(told.out.as_slice())?;
+    }
+    assert_eq!(rt; reports.as_slice(), ALL.as_bytes());
+    Ok(())
+}
+
+// A clock that goes on by a second and a quarter at each look.
+#[derive(Drop)]
+struct Ticking(Cell<u64>);
+
+impl Clock for Ticking {
+    fn monotonic(&self) -> io::Result<Duration> {
+        let millis = self.0.get();
+        self.0.set(millis.saturating_add(1250));
+        Ok(Duration::from_millis(millis))
+    }
+
+    fn since_1970(&self) -> io::Result<Duration> {
+        Err(io::Error::from(io::ErrorKind::Other))
+    }
+}
+
+// A clock that tells nothing.
+#[derive(Drop)]
+struct Broken;
+
+impl Clock for Broken {
+    fn monotonic(&self) -> io::Result<Duration> {
+        Err(io::Error::from(io::ErrorKind::Other))
+    }
+
+    fn since_1970(&self) -> io::Result<Duration> {
+        Err(io::Error::from(io::ErrorKind::Other))
+    }
+}
+
+#[test]
+fn each_step_has_its_seconds(rt: HostRuntime) -> Result<(), Fail> {
+    let clock = Ticking(Cell::new(7000));
+    let mut watch = Stopwatch::start(&clock, true);
+    watch.lap(&clock, Step::Load);
+    let _skipped = clock.monotonic()?;
+    watch.lap(&clock, Step::Scan);
+    let mut told = Vec::new(rt.alloc());
+    watch.tell(&mut told);
+    let seconds = "\
+ssb_live: load 1.250000 s
+ssb_live: scan 2.500000 s
+";
+    assert_eq!(rt; told.as_slice(), seconds.as_bytes());
+    Ok(())
+}
+
+#[test]
+fn without_a_time_a_step_has_no_line(rt: HostRuntime) {
+    let mut still = Stopwatch::start(&Ticking(Cell::new(7000)), false);
+    still.lap(&Ticking(Cell::new(7000)), Step::Load);
+    let mut blind = Stopwatch::start(&Broken, true);
+    blind.lap(&Broken, Step::Load);
+    let mut told = Vec::new(rt.alloc());
+    still.tell(&mut told);
+    blind.tell(&mut told);
+    assert!(rt; told.is_empty());
+}
+
+#[test]
+fn the_times_are_told_after_the_reports(rt: HostRuntime) -> Result<(), Fail> {
+    let mut out = Vec::new(rt.alloc());
+    let mut err = Vec::new(rt.alloc());
+    let mut settings = quiet(&rt)?;
+    settings.times = true;
+    assert_eq!(rt; run_all(&rt, settings, tables(), &mut out, &mut err), 0);
+    assert_eq!(rt; out.as_slice(), ALL.as_bytes());
+    let told = std::str::from_utf8(err.as_slice())?;
+    assert_eq!(rt; told.lines().count(), 5);
+    for (line, step) in told
+        .lines()
+        .zip(["load", "index", "columns", "preparation", "scan"])
+    {
+        let mut words = line.split(' ');
+        assert_eq!(rt; words.next(), Some("ssb_live:"));
+        assert_eq!(rt; words.next(), Some(step));
+        assert!(rt; words.next().unwrap_or("").contains("."));
+        assert_eq!(rt; words.next(), Some("s"));
+    }
+    Ok(())
+}
+
+#[test]
+fn given_constants_stand_in_place_of_the_benchmarks(rt: HostRuntime) -> Result<(), Fail> {
+    let told = run_over(&rt, tables(), "Q2.1", &["MFGR#12", "EUROPE"])?;
     assert_eq!(rt;
         told.out.as_slice(),
         "Q2.1 at 0 rows 1\n500|1997|MFGR#121\n".as_bytes()
     );
-    let told = run_over(
-        rt.alloc(),
-        tables(),
-        "Q1.1",
-        &["01993", "1", "3", "0", "24"],
-    );
+    let told = run_over(&rt, tables(), "Q1.1", &["01993", "1", "3", "0", "24"])?;
     assert_eq!(rt; told.out.as_slice(), "Q1.1 at 0 rows 1\n3000\n".as_bytes());
+    Ok(())
 }
 
 #[test]
-fn a_wrong_question_is_told_before_the_data_is_read(rt: HostRuntime) {
+fn a_wrong_question_is_told_before_the_data_is_read(rt: HostRuntime) -> Result<(), Fail> {
     for (name, constants, fault) in [
         ("Q9.9", &[][..], "ssb_live: query: 30 NoSuchQuery\n"),
         ("", &["x"], "ssb_live: query: 30 NoSuchQuery\n"),
@@ -95,27 +246,29 @@ fn a_wrong_question_is_told_before_the_data_is_read(rt: HostRuntime) {
     ] {
         let mut bad = tables();
         bad.customer = b"bad";
-        let told = run_over(rt.alloc(), bad, name, constants);
+        let told = run_over(&rt, bad, name, constants)?;
         assert_eq!(rt; told.status, 2);
         assert!(rt; told.out.is_empty());
         assert_eq!(rt; told.err.as_slice(), fault.as_bytes());
     }
+    Ok(())
 }
 
 #[test]
-fn a_fault_of_the_data_is_told(rt: HostRuntime) {
+fn a_fault_of_the_data_is_told(rt: HostRuntime) -> Result<(), Fail> {
     let mut cut = tables();
     cut.lineorder = LINEORDER
         .get(..LINEORDER.len() - 6)
         .unwrap_or("")
         .as_bytes();
-    let told = run_over(rt.alloc(), cut, "Q1.1", &[]);
+    let told = run_over(&rt, cut, "Q1.1", &[])?;
     assert_eq!(rt; told.status, 1);
     assert!(rt; told.out.is_empty());
     assert_eq!(rt;
         told.err.as_slice(),
         "ssb_live: data: 21 FieldCount lineorder 4\n".as_bytes()
     );
+    Ok(())
 }
 
 // A reader that fails.
@@ -129,7 +282,7 @@ impl Read for Failing {
 }
 
 #[test]
-fn a_failed_read_is_told(rt: HostRuntime) {
+fn a_failed_read_is_told(rt: HostRuntime) -> Result<(), Fail> {
     let failing = Tables {
         customer: Failing,
         supplier: Failing,
@@ -137,12 +290,13 @@ fn a_failed_read_is_told(rt: HostRuntime) {
         date: Failing,
         lineorder: Failing,
     };
-    let told = run_over(rt.alloc(), failing, "Q1.1", &[]);
+    let told = run_over(&rt, failing, "Q1.1", &[])?;
     assert_eq!(rt; told.status, 4);
     assert_eq!(rt;
         told.err.as_slice(),
         "ssb_live: data: 20 Read customer\n".as_bytes()
     );
+    Ok(())
 }
 
 #[test]
@@ -181,11 +335,12 @@ impl Write for Full {
 }
 
 #[test]
-fn a_failed_write_is_told(rt: HostRuntime) {
+fn a_failed_write_is_told(rt: HostRuntime) -> Result<(), Fail> {
     let mut err = Vec::new(rt.alloc());
-    let status = run_query(rt.alloc(), tables(), "Q1.1", &[], &mut Full, &mut err);
+    let status = run_query(&rt, quiet(&rt)?, tables(), "Q1.1", &[], &mut Full, &mut err);
     assert_eq!(rt; status, 4);
     assert_eq!(rt; err.as_slice(), "ssb_live: write failed\n".as_bytes());
+    Ok(())
 }
 
 // A writer that takes all and hands nothing on.
@@ -205,7 +360,15 @@ impl Write for Holding {
 #[test]
 fn a_report_that_is_not_handed_on_is_told(rt: HostRuntime) -> Result<(), Fail> {
     let mut err = Vec::new(rt.alloc());
-    let status = run_query(rt.alloc(), tables(), "Q1.1", &[], &mut Holding, &mut err);
+    let status = run_query(
+        &rt,
+        quiet(&rt)?,
+        tables(),
+        "Q1.1",
+        &[],
+        &mut Holding,
+        &mut err,
+    );
     assert_eq!(rt; status, 4);
     assert_eq!(rt; err.as_slice(), "ssb_live: write failed\n".as_bytes());
     let mut err = Vec::new(rt.alloc());

@@ -3,12 +3,16 @@
 use crate::arguments;
 use crate::command::run;
 use crate::small_data::{CUSTOMER, DATE, LINEORDER, PART, SUPPLIER};
-use crate::tests::{Full, Holding, Told};
+use crate::tests::{ALL, Full, Holding, Told};
 use std::alloc::Global;
 use std::env::{Env, FillError};
 use std::fs;
 use std::io::Write;
+use std::random::RandomSource;
+use std::rt::Files;
 use std::test::Fail;
+use std::thread::Threads;
+use std::time::Clock;
 
 // These words as the system gives them.
 fn listed(alloc: Global, words: &[&str]) -> Result<Vec<String>, Fail> {
@@ -20,7 +24,10 @@ fn listed(alloc: Global, words: &[&str]) -> Result<Vec<String>, Fail> {
 }
 
 // A run of these words, with this script on standard input.
-fn run_with(rt: &HostRuntime, words: &[&str], script: &str) -> Result<Told, Fail> {
+fn run_with<R>(rt: &R, words: &[&str], script: &str) -> Result<Told, Fail>
+where
+    R: Files + Clock + RandomSource + Threads + Sync + AllocGlobal,
+{
     let words = listed(rt.alloc(), words)?;
     let mut out = Vec::new(rt.alloc());
     let mut err = Vec::new(rt.alloc());
@@ -48,6 +55,8 @@ fn each_word_after_query_has_its_place(rt: HostRuntime) -> Result<(), Fail> {
             query.get_strs("constants"),
             Some(&["MFGR#12", "EUROPE"][..])
         );
+        assert!(rt; !query.get_flag("all"));
+        assert!(rt; !query.get_flag("times"));
     }
     Ok(())
 }
@@ -85,6 +94,10 @@ fn a_question_is_answered_over_the_files_of_a_folder(rt: HostRuntime) -> Result<
     ];
     let told = run_with(&rt, &query, "")?;
     let standard = run_with(&rt, &query[..5], "")?;
+    let mut words = ["ssb_live", "query", "--data", folder.as_str(), "--all"];
+    let all = run_with(&rt, &words, "")?;
+    words[4] = "--times";
+    let neither = run_with(&rt, &words, "")?;
     let missing = run_with(&rt, &["ssb_live", "query", "--data", "no/such", "Q9.9"], "")?;
     fs::remove_dir_all(&rt, folder.as_str())?;
     assert_eq!(rt; told.status, 0);
@@ -94,6 +107,11 @@ fn a_question_is_answered_over_the_files_of_a_folder(rt: HostRuntime) -> Result<
     );
     assert!(rt; told.err.is_empty());
     assert_eq!(rt; standard.out.as_slice(), b"Q2.1 at 0 rows 0\n".as_slice());
+    assert_eq!(rt; all.status, 0);
+    assert_eq!(rt; all.out.as_slice(), ALL.as_bytes());
+    assert!(rt; all.err.is_empty());
+    assert_eq!(rt; neither.status, 2);
+    assert!(rt; neither.out.is_empty());
     assert_eq!(rt; missing.status, 4);
     assert_eq!(rt;
         missing.err.as_slice(),
@@ -155,6 +173,14 @@ fn wrong_words_end_with_status_2_whether_or_not_they_are_told(rt: HostRuntime) -
         &["ssb_live", "bad"][..],
         &["ssb_live", "query"],
         &["ssb_live", "query", "Q1.1"],
+        &["ssb_live", "query", "--data", "t"],
+        &["ssb_live", "query", "--data", "t", "--times"],
+        &["ssb_live", "query", "--data", "t", "--all", "Q1.1"],
+        &["ssb_live", "query", "--data", "t", "Q1.1", "--all"],
+        &[
+            "ssb_live", "query", "--data", "t", "--all", "Q2.1", "MFGR#12", "ASIA",
+        ],
+        &["ssb_live", "query", "--all"],
         &["ssb_live", "--data", "t"],
     ] {
         let told = run_with(&rt, words, "")?;
