@@ -107,7 +107,9 @@ impl PlainLines {
     pub fn new(alloc: Global, base: Arc<Base>) -> Result<PlainLines, AllocError>
         ensures { IfOk result (λ plain. plain ≡ record { base = base.value; log = [] }) }
     {
-        let lines = base.lines().to_vec(alloc)?;
+        let loaded = base.lines();
+        let mut lines = Vec::with_capacity(alloc, loaded.len())?;
+        clone_lines(&mut lines, loaded)?;
         Ok(PlainLines {
             base,
             lines,
