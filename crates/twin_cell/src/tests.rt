@@ -2,15 +2,19 @@
 ghost use Rattle.std.specs.Prelude.{◌≡◌, [], ◌∷◌, ◌++◌, IfOk, OnOk};
 ghost use Rattle.row_store.specs.History.{IsPrefix};
 ghost use Rattle.row_store.specs.State.{StandsFor, state_of};
+ghost use Rattle.fact_columns.specs.Stored.{columns_state};
 
 mod small_data;
 
 use crate::{Guard, TwinError, TwinReader, TwinWriter, twin};
+use dim_index::DimIndex;
+use fact_columns::Columns;
 use row_store::{Commit, Follower, PlainLines, Replica};
 use small_data::{adds, base};
 use std::alloc::{AllocError, Global};
-use std::sync::Wait;
+use std::hash::RandomState;
 use std::sync::atomic::{AtomicBool, Ordering};
+use std::sync::{Arc, Wait};
 use std::test::Fail;
 use std::thread::{Threads, join, map_vec};
 
@@ -103,6 +107,55 @@ fn published_commits_are_seen(rt: HostRuntime) -> Result<(), Fail> {
     tell(&mut writer, &mut reader)?;
     let guard = reader.enter(&rt);
     assert_eq!(rt; shown(&guard), (1, 5));
+    Ok(())
+}
+
+// The columns over the small data set.
+fn columns(alloc: Global, hashing: RandomState) -> Result<Columns, Fail>
+    ensures { IfOk result (λ made. StandsFor (columns_state made) []) }
+{
+    let index = DimIndex::new(alloc, base(alloc)?)?;
+    let index = Arc::new(alloc, index).map_err(AllocError::from)?;
+    Ok(Columns::new(alloc, index, hashing)?)
+}
+
+// A cell with two readers, which were told nothing.
+fn cell_for_two<R: Replica + Drop, W: Wait + Drop>(
+    alloc: Global,
+    rt: W,
+    first: R,
+) -> Result<(TwinWriter<R, W>, (TwinReader<R>, TwinReader<R>)), Fail>
+    requires { StandsFor (R.state first) [] }
+    ensures base { IfOk result (λ made. (made.1.0.base ≡ made.0.base) × (made.1.1.base ≡ made.0.base)) }
+    ensures told { IfOk result (λ made. (made.1.0.told ≡ []) × (made.1.1.told ≡ [])) }
+{
+    let (writer, mut readers) = twin(alloc, rt, first, 2)?;
+    let one = readers.pop().ok_or("no reader")?;
+    let other = readers.pop().ok_or("no other reader")?;
+    Ok((writer, (one, other)))
+}
+
+// How many commits and live rows the reader sees that enters.
+fn rows_shown<W: Wait>(rt: &W, reader: TwinReader<Columns>) -> (u64, usize) {
+    let guard = reader.enter(rt);
+    let columns = guard.replica();
+    (columns.commits(), columns.rows())
+}
+
+#[test]
+fn two_readers_over_columns_see_an_order(rt: HostRuntime) -> Result<(), Fail> {
+    let alloc = rt.alloc();
+    let first = columns(alloc, RandomState::new(&rt)?)?;
+    assert_eq!(rt; (first.commits(), first.rows()), (0, 4));
+    let (mut writer, (mut one, mut other)) = cell_for_two(alloc, &rt, first)?;
+    append(&mut writer, adds(alloc, 9)?)?;
+    let (mut writer, published) = writer.publish();
+    published?;
+    assert_eq!(rt; (writer.pending(), writer.told()), (0, 1));
+    tell(&mut writer, &mut one)?;
+    tell(&mut writer, &mut other)?;
+    assert_eq!(rt; rows_shown(&rt, one), (1, 5));
+    assert_eq!(rt; rows_shown(&rt, other), (1, 5));
     Ok(())
 }
 
