@@ -192,15 +192,9 @@ fn the_times_are_told_after_the_reports(rt: HostRuntime) -> Result<(), Fail> {
     assert_eq!(rt; out.as_slice(), ALL.as_bytes());
     let told = std::str::from_utf8(err.as_slice())?;
     assert_eq!(rt; told.lines().count(), 5);
-    for (line, step) in told
-        .lines()
-        .zip(["load", "index", "columns", "preparation", "scan"])
-    {
-        let mut words = line.split(' ');
-        assert_eq!(rt; words.next(), Some("ssb_live:"));
-        assert_eq!(rt; words.next(), Some(step));
-        assert!(rt; words.next().unwrap_or("").contains("."));
-        assert_eq!(rt; words.next(), Some("s"));
+    for step in ["load", "index", "columns", "preparation", "scan"] {
+        let begin = format!(in rt.alloc(); "ssb_live: {step} ")?;
+        assert!(rt; told.contains(begin.as_str()));
     }
     Ok(())
 }
