@@ -1,7 +1,11 @@
 /*
- * ssbgen: the tables of the Star Schema Benchmark, revision 3.
+ * ssbgen: the tables of the Star Schema Benchmark, revision 3, and refreshes of them.
  *
- *   ssbgen tables --scale S [--seed N] --out DIR     writes the five .tbl files into DIR
+ *   ssbgen tables  --scale S [--seed N] --out DIR     writes the five .tbl files into DIR
+ *   ssbgen scripts --scale S [--seed N] --out PREFIX --scripts C --refreshes N
+ *                                                    writes PREFIX-1.script to PREFIX-C.script, each of N refreshes
+ *                                                    that in turn add one new order and withdraw one of the tables';
+ *                                                    all of the scripts' orders are different
  *
  * Every value depends only on the seed, the scale and the row's number, so the same words always give the
  * same bytes.
@@ -25,8 +29,8 @@ static uint64_t scramble(uint64_t x) {
     return x ^ (x >> 31);
 }
 
-/* The numbers decide the values. 5 is left for the orders that refreshes will add. */
-enum kind { CUSTOMER = 1, SUPPLIER, PART, ORDER, CUSTOMER_DECK = 6, SUPPLIER_DECK, PART_DECK };
+/* The numbers decide the values. */
+enum kind { CUSTOMER = 1, SUPPLIER, PART, ORDER, NEW_ORDER, CUSTOMER_DECK, SUPPLIER_DECK, PART_DECK };
 
 typedef struct { uint64_t state; } Random;
 
@@ -236,9 +240,9 @@ static void write_dimensions(const char *dir) {
 
 /* ---- orders ---- */
 
-/* Orders use the first 8 of every 32 keys, as TPC-H's do. */
-static uint64_t order_key(uint64_t row) {
-    return (row >> 3 << 5) + (row & 7);
+/* The tables' orders use the first 8 of every 32 keys, as TPC-H's do, and new ones the next 8. */
+static uint64_t order_key(enum kind kind, uint64_t row) {
+    return (row >> 3 << 5) + (kind == NEW_ORDER ? 8 : 0) + (row & 7);
 }
 
 typedef struct {
@@ -247,10 +251,10 @@ typedef struct {
     const char *mode;
 } Item;
 
-/* Writes the lines of one order, and says how many. */
-static uint64_t write_order(FILE *f, uint64_t row) {
-    Random r = random_for(ORDER, row);
-    uint64_t key = order_key(row), customer = pick(&r, 1, customers);
+/* Writes the lines of one order, each after the given text, and says how many. */
+static uint64_t write_order(FILE *f, const char *before, enum kind kind, uint64_t row) {
+    Random r = random_for(kind, row);
+    uint64_t key = order_key(kind, row), customer = pick(&r, 1, customers);
     uint64_t date = pick(&r, 0, ORDER_DATES - 1), total = 0, count = pick(&r, 1, 7);
     const char *priority = priorities[pick(&r, 0, 4)];
     Item items[7];
@@ -272,6 +276,7 @@ static uint64_t write_order(FILE *f, uint64_t row) {
     for (uint64_t n = 0; n < count; n++) {
         char line[512], *p = line;
         const Item *item = &items[n];
+        for (const char *b = before; *b; b++) *p++ = *b;
         p = put_number(p, key);
         p = put_number(p, n + 1);
         p = put_number(p, customer);
@@ -298,7 +303,7 @@ static uint64_t write_order(FILE *f, uint64_t row) {
 static void write_lineorder(const char *dir) {
     uint64_t lines = 0;
     FILE *f = open_out(dir, "/lineorder.tbl");
-    for (uint64_t i = 1; i <= orders; i++) lines += write_order(f, i);
+    for (uint64_t i = 1; i <= orders; i++) lines += write_order(f, "", ORDER, i);
     close_out(f);
     fprintf(stderr, "ssbgen: scale %g seed %llu: %llu customers, %llu suppliers, %llu parts, %d dates, "
             "%llu orders, %llu lines\n", scale, (unsigned long long)seed, (unsigned long long)customers,
@@ -306,26 +311,72 @@ static void write_lineorder(const char *dir) {
             (unsigned long long)lines);
 }
 
+/* ---- scripts ---- */
+
+static uint64_t greatest_common_divisor(uint64_t a, uint64_t b) {
+    while (b) { uint64_t t = a % b; a = b; b = t; }
+    return a;
+}
+
+/* The order withdrawn as number n (from 0): a rearrangement of all orders of the tables. */
+static uint64_t withdrawn(uint64_t n) {
+    static uint64_t step = 0;
+    if (!step) {
+        step = (uint64_t)(orders * 0.6180339887) | 1;
+        while (greatest_common_divisor(step, orders) != 1) step += 2;
+    }
+    return 1 + (uint64_t)(((unsigned __int128)step * n + scramble(seed) % orders) % orders);
+}
+
+static void write_scripts(const char *prefix, uint64_t scripts, uint64_t refreshes) {
+    if ((refreshes + 1) / 2 * scripts > orders) {
+        fputs("ssbgen: the scripts would withdraw more orders than there are\n", stderr);
+        exit(2);
+    }
+    for (uint64_t s = 0; s < scripts; s++) {
+        char name[32];
+        snprintf(name, sizeof name, "-%llu.script", (unsigned long long)(s + 1));
+        FILE *f = open_out(prefix, name);
+        for (uint64_t i = 0; i < refreshes; i++) {
+            uint64_t order = i / 2 * scripts + s;
+            fputs("begin\n", f);
+            if (i % 2 == 0) {
+                fputs("add\n", f);
+                write_order(f, "line|", NEW_ORDER, order + 1);
+            } else fprintf(f, "withdraw|%llu\n", (unsigned long long)order_key(ORDER, withdrawn(order)));
+            fputs("commit\n", f);
+        }
+        close_out(f);
+    }
+}
+
 static void usage(void) {
-    fputs("usage: ssbgen tables --scale S [--seed N] --out DIR\n", stderr);
+    fputs("usage: ssbgen tables  --scale S [--seed N] --out DIR\n"
+          "       ssbgen scripts --scale S [--seed N] --out PREFIX --scripts C --refreshes N\n", stderr);
     exit(2);
 }
 
 int main(int argc, char **argv) {
     const char *out = NULL;
-    if (argc < 2 || strcmp(argv[1], "tables")) usage();
+    uint64_t scripts = 1, refreshes = 0;
+    if (argc < 2) usage();
     for (int i = 2; i < argc; i += 2) {
         if (i + 1 == argc) usage();
         if (!strcmp(argv[i], "--scale")) scale = atof(argv[i + 1]);
         else if (!strcmp(argv[i], "--seed")) seed = strtoull(argv[i + 1], NULL, 10);
+        else if (!strcmp(argv[i], "--scripts")) scripts = strtoull(argv[i + 1], NULL, 10);
+        else if (!strcmp(argv[i], "--refreshes")) refreshes = strtoull(argv[i + 1], NULL, 10);
         else if (!strcmp(argv[i], "--out")) out = argv[i + 1];
         else usage();
     }
     if (!out || !(scale > 0)) usage();
     set_sizes();
     set_calendar();
-    mkdir(out, 0777);
-    write_dimensions(out);
-    write_lineorder(out);
+    if (!strcmp(argv[1], "tables")) {
+        mkdir(out, 0777);
+        write_dimensions(out);
+        write_lineorder(out);
+    } else if (!strcmp(argv[1], "scripts")) write_scripts(out, scripts, refreshes);
+    else usage();
     return 0;
 }
