@@ -12,7 +12,7 @@ use Rattle.ssb_queries.specs.declared.answer.Unserved.{Unserved as Cause}
 use Rattle.row_store.specs.History.{with_commit}
 use Rattle.row_store.specs.declared.commit.Receipt.{Receipt}
 use Rattle.row_store.specs.declared.refusal.RefreshError.{RefreshError}
-use Rattle.ssb_report.specs.Replies.{Reply, Refreshed, IsReply, memory_alone, reply_text, committed_by, with_commits}
+use Rattle.ssb_report.specs.Replies.{Reply, Refreshed, IsReply, reply_text, committed_by, with_commits}
 use Rattle.ssb_report.specs.Report.{AreReplies, committed, report_of, Serves, StopsAfter, IsBehind}
 use Rattle.ssb_report.specs.Serving.{TakesPart, Answers, AnswersInPart}
 use Rattle.ssb_report.proofs.WrittenLaws.{appends_none, appends_both}
@@ -89,33 +89,33 @@ refreshed_store client old new actions (Ok receipt) grown same = grown
 refreshed_store client old new actions (Err error) grown same = same ∙ sym (with_none old)
 
 -- a request whose reply was written, or a part of it
-pub answers_ok : {X E : Type 0} (r : Result X E) (client : ℕ) (old new : Warehouse) (request : Request) (reply : Reply) (a b : Option (List ℕ))
-    → IsReply memory_alone old request reply → new ≡ with_commits old (committed_by client request reply)
-    → OnOk r (Appends a b (reply_text reply)) → OnOk r (Answers client old new request a b)
-answers_ok (Ok v) client old new request reply a b answered grown written = record { reply = reply; answered = answered; grown = grown; written = written }
-answers_ok (Err e) client old new request reply a b answered grown written = tt
+pub answers_ok : {X E : Type 0} (r : Result X E) (causes : Cause → Bool) (client : ℕ) (old new : Warehouse) (request : Request) (reply : Reply) (a b : Option (List ℕ))
+    → IsReply causes old request reply → new ≡ with_commits old (committed_by client request reply)
+    → OnOk r (Appends a b (reply_text reply)) → OnOk r (Answers causes client old new request a b)
+answers_ok (Ok v) causes client old new request reply a b answered grown written = record { reply = reply; answered = answered; grown = grown; written = written }
+answers_ok (Err e) causes client old new request reply a b answered grown written = tt
 
-pub answers_part : {X E : Type 0} (r : Result X E) (client : ℕ) (old new : Warehouse) (request : Request) (reply : Reply) (a b : Option (List ℕ))
-    → IsReply memory_alone old request reply → new ≡ with_commits old (committed_by client request reply)
-    → OnErr r (StopsShort a b (reply_text reply)) → OnErr r (AnswersInPart client old new request a b)
-answers_part (Ok v) client old new request reply a b answered grown written = tt
-answers_part (Err e) client old new request reply a b answered grown written = record { reply = reply; answered = answered; grown = grown; written = written }
+pub answers_part : {X E : Type 0} (r : Result X E) (causes : Cause → Bool) (client : ℕ) (old new : Warehouse) (request : Request) (reply : Reply) (a b : Option (List ℕ))
+    → IsReply causes old request reply → new ≡ with_commits old (committed_by client request reply)
+    → OnErr r (StopsShort a b (reply_text reply)) → OnErr r (AnswersInPart causes client old new request a b)
+answers_part (Ok v) causes client old new request reply a b answered grown written = tt
+answers_part (Err e) causes client old new request reply a b answered grown written = record { reply = reply; answered = answered; grown = grown; written = written }
 
 -- no request
-pub serves_none : (client : ℕ) (old : Warehouse) (before : Option (List ℕ)) → Serves memory_alone client old old [] before before
-serves_none client old before = record { replies = []; answered = tt; grown = sym (with_none old); written = appends_none before }
+pub serves_none : (causes : Cause → Bool) (client : ℕ) (old : Warehouse) (before : Option (List ℕ)) → Serves causes client old old [] before before
+serves_none causes client old before = record { replies = []; answered = tt; grown = sym (with_none old); written = appends_none before }
 
 -- one request more
-pub serves_more : (client : ℕ) (old mid new : Warehouse) (requests : List Request) (request : Request) (a b c : Option (List ℕ))
-    → Serves memory_alone client old mid requests a b → Answers client mid new request b c → Serves memory_alone client old new (requests ++ request ∷ []) a c
-serves_more client old mid new requests request a b c served next =
+pub serves_more : (causes : Cause → Bool) (client : ℕ) (old mid new : Warehouse) (requests : List Request) (request : Request) (a b c : Option (List ℕ))
+    → Serves causes client old mid requests a b → Answers causes client mid new request b c → Serves causes client old new (requests ++ request ∷ []) a c
+serves_more causes client old mid new requests request a b c served next =
     let replies = served.replies in
     record {
       replies = replies ++ next.reply ∷ [];
-      answered = replies_more memory_alone client old requests replies request next.reply served.answered (subst (λ w. IsReply memory_alone w request next.reply) served.grown next.answered);
+      answered = replies_more causes client old requests replies request next.reply served.answered (subst (λ w. IsReply causes w request next.reply) served.grown next.answered);
       grown = next.grown ∙ ap (λ w. with_commits w (committed_by client request next.reply)) served.grown
           ∙ with_both old (committed client requests replies) (committed_by client request next.reply)
-          ∙ ap (λ commits. with_commits old commits) (sym (committed_more memory_alone client old requests replies request next.reply served.answered));
+          ∙ ap (λ commits. with_commits old commits) (sym (committed_more causes client old requests replies request next.reply served.answered));
       written = subst (Appends a c) (sym (flat_map-append reply_text replies (next.reply ∷ []) ∙ ap (λ t. report_of replies ++ t) (append-nil (reply_text next.reply))))
           (appends_both a b c (report_of replies) (reply_text next.reply) served.written next.written);
     }
@@ -124,19 +124,19 @@ serves_more client old mid new requests request a b c served next =
 take_next : (front rest : List Request) (request : Request) → take (length front + 1) (front ++ request ∷ rest) ≡ front ++ request ∷ []
 take_next front rest request = take-append-add front (request ∷ rest) 1
 
-pub stops_there : (client : ℕ) (old mid new : Warehouse) (front rest : List Request) (request : Request) (a b c : Option (List ℕ))
-    → Serves memory_alone client old mid front a b → AnswersInPart client mid new request b c → StopsAfter memory_alone (length front) client old new (front ++ request ∷ rest) a c
-stops_there client old mid new front rest request a b c served next =
+pub stops_there : (causes : Cause → Bool) (client : ℕ) (old mid new : Warehouse) (front rest : List Request) (request : Request) (a b c : Option (List ℕ))
+    → Serves causes client old mid front a b → AnswersInPart causes client mid new request b c → StopsAfter causes (length front) client old new (front ++ request ∷ rest) a c
+stops_there causes client old mid new front rest request a b c served next =
     let replies = served.replies in
     let first = take_next front rest request in
     record {
       replies = replies;
       last = next.reply;
-      count = same_count memory_alone client old front replies served.answered;
-      answered = rw first (replies_more memory_alone client old front replies request next.reply served.answered (subst (λ w. IsReply memory_alone w request next.reply) served.grown next.answered));
+      count = same_count causes client old front replies served.answered;
+      answered = rw first (replies_more causes client old front replies request next.reply served.answered (subst (λ w. IsReply causes w request next.reply) served.grown next.answered));
       grown = rw first (next.grown ∙ ap (λ w. with_commits w (committed_by client request next.reply)) served.grown
           ∙ with_both old (committed client front replies) (committed_by client request next.reply)
-          ∙ ap (λ commits. with_commits old commits) (sym (committed_more memory_alone client old front replies request next.reply served.answered)));
+          ∙ ap (λ commits. with_commits old commits) (sym (committed_more causes client old front replies request next.reply served.answered)));
       part = next.written.part;
       rest = next.written.rest;
       begins = next.written.begins;

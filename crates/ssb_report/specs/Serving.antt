@@ -1,7 +1,8 @@
--- Steps of serving a script.
-use Rattle.std.specs.Prelude.{◌≡◌, ℕ, List, ◌++◌, Option}
+-- Steps of serving a script. For which causes a question may be left unanswered is given.
+use Rattle.std.specs.Prelude.{◌≡◌, ℕ, Bool, List, ◌++◌, Option}
 use Rattle.std.specs.Io.KnownBytes.{Appends}
 use Rattle.row_store.specs.History.{CommitRecord, Warehouse}
+use Rattle.ssb_queries.specs.declared.answer.Unserved.{Unserved as Cause}
 use Rattle.ssb_script.specs.Requests.{Request}
 use Rattle.ssb_report.specs.declared.fault.RunError.{RunError}
 use Rattle.ssb_report.specs.declared.fault.RunError.TheVariants.{Script, Write}
@@ -17,16 +18,16 @@ pub record TakesPart (old new : Warehouse) (commits : List CommitRecord) : Type 
   pub grown : new ≡ with_commits old taken
 
 -- a request was answered: what was written is the report of the reply, and the log is longer by what it calls committed
-pub record Answers (client : ℕ) (old new : Warehouse) (request : Request) (before after : Option (List ℕ)) : Type 0 where
+pub record Answers (causes : Cause → Bool) (client : ℕ) (old new : Warehouse) (request : Request) (before after : Option (List ℕ)) : Type 0 where
   pub reply : Reply
-  pub answered : IsReply memory_alone old request reply
+  pub answered : IsReply causes old request reply
   pub grown : new ≡ with_commits old (committed_by client request reply)
   pub written : Appends before after (reply_text reply)
 
 -- a request was answered, but a part of the report alone was written
-pub record AnswersInPart (client : ℕ) (old new : Warehouse) (request : Request) (before after : Option (List ℕ)) : Type 0 where
+pub record AnswersInPart (causes : Cause → Bool) (client : ℕ) (old new : Warehouse) (request : Request) (before after : Option (List ℕ)) : Type 0 where
   pub reply : Reply
-  pub answered : IsReply memory_alone old request reply
+  pub answered : IsReply causes old request reply
   pub grown : new ≡ with_commits old (committed_by client request reply)
   pub written : StopsShort before after (reply_text reply)
 

@@ -99,8 +99,8 @@ fn serve_block<W: Write>(
     writer: &mut W,
 ) -> Result<(), WriteFault>
     requires { IsBehind lines.old store.old }
-    ensures reply { OnOk result (Answers 1 store.old store.new (request.request_of block) (W.contents writer.old) (W.contents writer.new)) }
-    ensures fault { OnErr result (AnswersInPart 1 store.old store.new (request.request_of block) (W.contents writer.old) (W.contents writer.new)) }
+    ensures reply { OnOk result (Answers memory_alone 1 store.old store.new (request.request_of block) (W.contents writer.old) (W.contents writer.new)) }
+    ensures fault { OnErr result (AnswersInPart memory_alone 1 store.old store.new (request.request_of block) (W.contents writer.old) (W.contents writer.new)) }
     ensures behind { IsBehind lines.new store.new }
 {
     match block {
