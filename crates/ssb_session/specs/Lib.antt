@@ -1,3 +1,4 @@
 pub mod Served
 pub mod Steps
 pub mod Runs
+pub mod Alone

@@ -15,10 +15,12 @@
 //! ```
 #![tactic(auto)]
 
+mod alone;
 mod blocks;
 mod fault;
 pub mod laws;
 
+pub use alone::run_script;
 pub use blocks::run_blocks;
 pub use fault::BlocksError;
 pub use ssb_audit::Told;
