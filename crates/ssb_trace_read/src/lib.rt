@@ -21,6 +21,8 @@ mod sums;
 #[cfg(test)]
 mod tests;
 mod trace;
+#[cfg(test)]
+mod trace_tests;
 mod unfinished;
 mod word;
 

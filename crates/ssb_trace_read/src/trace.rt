@@ -1,4 +1,10 @@
 //! A trace from any reader.
+ghost use Rattle.std.specs.Prelude.{◌≡◌, ℕ, ◌++◌, List, Some, IfOk, IfErr};
+ghost use Rattle.std.specs.Option.{option_to_list};
+ghost use Rattle.ssb_script.specs.declared.error.ScriptError.TheVariants as error;
+ghost use Rattle.ssb_trace_read.specs.Blocks.{answers_in, commits_in};
+ghost use Rattle.ssb_trace_read.specs.Traces.{IsBegun, IsTraceFault, SpellsTrace};
+ghost use Rattle.ssb_trace_read.specs.declared.unfinished.Unfinished.TheVariants as unfinished;
 
 use crate::block::Block;
 use crate::unfinished::{Step, Unfinished};
@@ -16,7 +22,10 @@ fn keep(
     commits: &mut Vec<Commit>,
     answers: &mut Vec<Told>,
     block: Option<Block>,
-) -> Result<(), AllocError> {
+) -> Result<(), AllocError>
+    ensures commits { IfOk result (λ _. commits.new.items ≡ commits.old.items ++ commits_in (option_to_list block)) }
+    ensures answers { IfOk result (λ _. answers.new.items ≡ answers.old.items ++ answers_in (option_to_list block)) }
+{
     match block {
         Some(Block::Commit(commit)) => commits.push(commit)?,
         Some(Block::Answer(told)) => answers.push(told)?,
@@ -26,7 +35,14 @@ fn keep(
 }
 
 // The trace of these commits and answers, where nothing more is begun.
-fn trace_of(commits: Vec<Commit>, answers: Vec<Told>, begun: Unfinished) -> Result<Trace, ScriptError> {
+fn trace_of(
+    commits: Vec<Commit>,
+    answers: Vec<Told>,
+    begun: Unfinished,
+) -> Result<Trace, ScriptError>
+    ensures trace { IfOk result (λ trace. (begun ≡ unfinished.Nothing) × (trace ≡ record { commits = commits.items; answers = answers.items })) }
+    ensures fault { IfErr result (λ e. (e ≡ error.NoCommit) × IsBegun begun) }
+{
     match begun {
         Unfinished::Nothing => Ok(Trace {
             commits: Items::from_vec(commits),
@@ -48,7 +64,10 @@ pub fn read_trace<R: Read + Drop>(
     alloc: Global,
     source: R,
     max_records: u64,
-) -> Result<Trace, ScriptError> {
+) -> Result<Trace, ScriptError>
+    ensures trace { IfOk result (λ trace. (text : List ℕ) → R.remaining source ≡ Some text → SpellsTrace max_records text trace) }
+    ensures fault { IfErr result (λ e. (text : List ℕ) → R.remaining source ≡ Some text → IsTraceFault max_records text e) }
+{
     let mut reader = record_reader(alloc, source);
     let mut fields = ByteRecord::new(alloc);
     let mut commits = Vec::new(alloc);

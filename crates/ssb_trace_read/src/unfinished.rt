@@ -1,13 +1,16 @@
 //! What the records of a trace have begun and not ended, and what one more record does to it.
-ghost use Rattle.std.specs.Prelude.{◌≡◌, ◌+◌, ◌-◌, ◌<◌, ◌≤◌, ◌^◌, ◌×◌, ◌∷◌, [], false, length, option_map, IfOk, IfErr};
+ghost use Rattle.std.specs.Prelude.{◌≡◌, ℕ, ◌+◌, ◌-◌, ◌<◌, ◌≤◌, ◌^◌, ◌++◌, ◌∷◌, [], Some, false, length, IfOk, IfErr};
 ghost use Rattle.csv.specs.Records.{fields_of};
-ghost use Rattle.ssb_script.specs.Steps.{Follows as FollowsInScript, IsFoundBy, begun_in};
+ghost use Rattle.ssb_script.specs.Scripts.{HasRoom, is_outside};
+ghost use Rattle.ssb_script.specs.Steps.{IsFoundBy, begun_in};
 ghost use Rattle.ssb_trace_read.specs.Blocks.{IsUnfinished, lines_of_unfinished};
 ghost use Rattle.ssb_trace_read.specs.Lines as spec;
-ghost use Rattle.ssb_trace_read.specs.Lines.{TraceLine, SaysAfter};
-ghost use Rattle.ssb_trace_read.specs.Steps.{Follows};
+ghost use Rattle.ssb_trace_read.specs.Lines.{row_after};
+ghost use Rattle.ssb_trace_read.specs.Steps.{CommitStep, Follows, Takes, TakesRecord};
 ghost use Rattle.ssb_trace_read.specs.Traces.{checks_after};
-ghost use Rattle.ssb_trace_read.specs.declared.unfinished.Unfinished.TheVariants as state;
+ghost use Rattle.ssb_trace_read.specs.declared.unfinished.Unfinished.TheVariants as unfinished;
+ghost use Rattle.ssb_trace_read.specs.declared.word.Word.TheVariants as words;
+ghost use Rattle.ssb_script.specs.declared.error.ScriptError.TheVariants.{OutOfMemory};
 
 use crate::block::Block;
 use crate::control::control_of;
@@ -55,7 +58,10 @@ pub(crate) struct Step {
 }
 
 // The record of a number begins a commit.
-fn begin_commit(alloc: Global, number: u64, fields: &ByteRecord) -> Result<Step, ScriptError> {
+fn begin_commit(alloc: Global, number: u64, fields: &ByteRecord) -> Result<Step, ScriptError>
+    ensures step { IfOk result (TakesRecord number unfinished.Nothing (Some words.Commit) (fields_of fields.now)) }
+    ensures fault { IfErr result (IsFoundBy (checks_after number unfinished.Nothing (Some words.Commit) (fields_of fields.now))) }
+{
     match client_of_commit(fields) {
         Some(client) => Ok(Step {
             block: None,
@@ -69,7 +75,10 @@ fn begin_commit(alloc: Global, number: u64, fields: &ByteRecord) -> Result<Step,
 }
 
 // The record of a number begins an answer.
-fn begin_answer(alloc: Global, number: u64, fields: &ByteRecord) -> Result<Step, ScriptError> {
+fn begin_answer(alloc: Global, number: u64, fields: &ByteRecord) -> Result<Step, ScriptError>
+    ensures step { IfOk result (TakesRecord number unfinished.Nothing (Some words.Answer) (fields_of fields.now)) }
+    ensures fault { IfErr result (IsFoundBy (checks_after number unfinished.Nothing (Some words.Answer) (fields_of fields.now))) }
+{
     match head_of(alloc, fields)? {
         Some(head) => {
             let rows = Items::from_vec(Vec::new(alloc));
@@ -85,7 +94,10 @@ fn outside(
     number: u64,
     word: Option<Word>,
     fields: &ByteRecord,
-) -> Result<Step, ScriptError> {
+) -> Result<Step, ScriptError>
+    ensures step { IfOk result (TakesRecord number unfinished.Nothing word (fields_of fields.now)) }
+    ensures fault { IfErr result (IsFoundBy (checks_after number unfinished.Nothing word (fields_of fields.now))) }
+{
     match word {
         Some(Word::Commit) => begin_commit(alloc, number, fields),
         Some(Word::Answer) => begin_answer(alloc, number, fields),
@@ -94,7 +106,9 @@ fn outside(
 }
 
 // What comes of a record of a commit.
-fn step_of_commit(client: u32, step: ssb_script::Step) -> Step {
+fn step_of_commit(client: u32, step: ssb_script::Step) -> Step
+    ensures { CommitStep client step result }
+{
     match step.block {
         Some(ssb_script::Block::Refresh(refresh)) => Step {
             block: Some(Block::Commit(Commit { client, refresh })),
@@ -116,7 +130,9 @@ fn row_in(
     query: Query,
     word: Option<Word>,
     fields: &ByteRecord,
-) -> Result<Option<ResultRow>, AllocError> {
+) -> Result<Option<ResultRow>, AllocError>
+    ensures { IfOk result (λ row. row ≡ row_after query word (fields_of fields.now)) }
+{
     match word {
         Some(Word::Row) => row_of(alloc, query, fields),
         _ => Ok(None),
@@ -131,7 +147,13 @@ impl UnfinishedCommit {
         before: u64,
         word: Option<Word>,
         fields: &ByteRecord,
-    ) -> Result<Step, ScriptError> {
+    ) -> Result<Step, ScriptError>
+        requires counted { before < 2 ^ 64 - 1 }
+        requires inside { is_outside (begun_in self.begun) ≡ false }
+        requires room { HasRoom before (begun_in self.begun) }
+        ensures step { IfOk result (TakesRecord (before + 1) (unfinished.Commit self) word (fields_of fields.now)) }
+        ensures fault { IfErr result (IsFoundBy (checks_after (before + 1) (unfinished.Commit self) word (fields_of fields.now))) }
+    {
         let step = if begins_line(word) {
             let row = OrderLine::of(alloc, fields)?;
             self.begun.with_row(before + 1, row)?
@@ -145,7 +167,10 @@ impl UnfinishedCommit {
 
 impl UnfinishedAnswer {
     // The answer, once it has all its rows.
-    fn step(self) -> Step {
+    fn step(self) -> Step
+        requires { length self.rows ≤ self.head.count }
+        ensures { (number : ℕ) → Takes number (lines_of_unfinished (unfinished.Answer self)) result }
+    {
         if self.rows.len() as u64 == self.head.count {
             Step {
                 block: Some(Block::Answer(Told {
@@ -165,7 +190,11 @@ impl UnfinishedAnswer {
     }
 
     // One more row.
-    fn with(self, row: ResultRow) -> Result<Step, ScriptError> {
+    fn with(self, row: ResultRow) -> Result<Step, ScriptError>
+        requires { length self.rows < self.head.count }
+        ensures step { IfOk result (λ step. (number : ℕ) → Follows number (unfinished.Answer self) (spec.Row self.head.question.0 row) step) }
+        ensures fault { IfErr result (λ e. e ≡ OutOfMemory) }
+    {
         let mut rows = self.rows.into_vec();
         rows.push(row)?;
         let rows = Items::from_vec(rows);
@@ -183,7 +212,11 @@ impl UnfinishedAnswer {
         number: u64,
         word: Option<Word>,
         fields: &ByteRecord,
-    ) -> Result<Step, ScriptError> {
+    ) -> Result<Step, ScriptError>
+        requires { length self.rows < self.head.count }
+        ensures step { IfOk result (TakesRecord number (unfinished.Answer self) word (fields_of fields.now)) }
+        ensures fault { IfErr result (IsFoundBy (checks_after number (unfinished.Answer self) word (fields_of fields.now))) }
+    {
         match row_in(alloc, self.head.question.query(), word, fields)? {
             Some(row) => self.with(row),
             None => Err(ScriptError::BadLine(number)),
@@ -198,7 +231,12 @@ impl Unfinished {
         alloc: Global,
         before: u64,
         fields: &ByteRecord,
-    ) -> Result<Step, ScriptError> {
+    ) -> Result<Step, ScriptError>
+        requires counted { before < 2 ^ 64 - 1 }
+        requires unfinished { IsUnfinished before self }
+        ensures step { IfOk result (TakesRecord (before + 1) self (spec.word_of (fields_of fields.now)) (fields_of fields.now)) }
+        ensures fault { IfErr result (IsFoundBy (checks_after (before + 1) self (spec.word_of (fields_of fields.now)) (fields_of fields.now))) }
+    {
         let word = Word::of(fields);
         match self {
             Unfinished::Nothing => outside(alloc, before + 1, word, fields),
