@@ -1,7 +1,7 @@
 -- Of the lines of a commit, which are those of a refresh: no refresh begins inside another.
 use Rattle.std.proofs.Common.{◌≡◌, ℕ, ◌+◌, true, false, List, [], ◌∷◌, ◌++◌, Option, Some, None, Result, Ok, Err, map, refl, sym, ap, ◌∙◌, subst, arith, Bool}
 use Rattle.std.specs.List.{All, flat_map}
-use Rattle.std.specs.Option.{option_map, option_to_list}
+use Rattle.std.specs.Option.{option_map}
 use Rattle.std.specs.Bool.{if◌then◌else◌}
 use Rattle.std.proofs.lemmas.List.{append-nil, map-append}
 use Rattle.std.proofs.lemmas.List.Elements.{All-head, All-nil, All-push}
@@ -16,7 +16,7 @@ use Rattle.ssb_script.specs.Begun.{Begun}
 use Rattle.ssb_script.specs.Begun as begun
 use Rattle.ssb_script.specs.Lines.{ScriptLine, alone, line_or_bad, line_or_refusal}
 use Rattle.ssb_script.specs.Lines as script
-use Rattle.ssb_script.specs.Requests.{Request, Refresh, Ask, IsWholeAction, IsWholeRequest, lines_of_action, lines_of_request, lines_of_requests}
+use Rattle.ssb_script.specs.Requests.{Refresh, Ask, IsWholeAction, IsWholeRequest, lines_of_action, lines_of_request}
 use Rattle.ssb_script.specs.Scripts.{is_outside, lines_of_begun}
 use Rattle.ssb_script.specs.Steps.{Follows as FollowsInScript, asked, begun_in}
 use Rattle.ssb_script.specs.declared.begun.Step.{Step as ScriptStep}

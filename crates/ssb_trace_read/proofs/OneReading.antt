@@ -23,7 +23,7 @@ use Rattle.ssb_script.specs.Lines.{ScriptLine, RecordFault}
 use Rattle.ssb_script.specs.Lines as script
 use Rattle.ssb_script.specs.Requests.{Refresh, action_of, lines_of_action, lines_of_request}
 use Rattle.ssb_script.specs.declared.control.Opening.TheVariants.{Add, Amend}
-use Rattle.ssb_trace_read.specs.Blocks.{answers_in, commits_in, head_of_told, in_commit, lines_of_block, lines_of_blocks, lines_of_commit}
+use Rattle.ssb_trace_read.specs.Blocks.{answers_in, commits_in, in_commit, lines_of_blocks}
 use Rattle.ssb_trace_read.specs.Laws.{HasOneReading}
 use Rattle.ssb_trace_read.specs.Lines.{TraceLine, Begin, Inside, Answer, Row, AreLines, SaysAfter, block_begun, line_inside, row_after, word_of}
 use Rattle.ssb_trace_read.specs.declared.block.Block.{Block}

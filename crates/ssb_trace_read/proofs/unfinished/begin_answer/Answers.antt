@@ -1,4 +1,4 @@
-use Rattle.std.proofs.Common.{◌≡◌, ◌∷◌, map, ap, sym, subst, ◌∙◌}
+use Rattle.std.proofs.Common.{◌∷◌, map, ap, sym, subst, ◌∙◌}
 use Rattle.std.specs.Option.{option_map}
 use Rattle.ssb_trace_read.specs.Lines.{Answer, Row}
 use Rattle.ssb_trace_read.specs.Steps.{Takes}

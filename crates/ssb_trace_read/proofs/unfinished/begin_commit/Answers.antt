@@ -1,4 +1,4 @@
-use Rattle.std.proofs.Common.{◌≡◌, ap, sym, ◌∙◌}
+use Rattle.std.proofs.Common.{ap, sym, ◌∙◌}
 use Rattle.std.specs.Option.{option_map}
 use Rattle.ssb_trace_read.specs.Lines.{Begin}
 use Rattle.ssb_trace_read.proofs.CommitLaws.{takes_first}
