@@ -138,6 +138,15 @@ impl Dictionary {
         &word.value
     }
 
+    /// The value of a code, as a row has it.
+    pub fn column_value(&self, code: usize) -> ColumnValue<'_>
+        requires { code < length self.now }
+        ensures { Some (column_value result) ≡ slice_get self.now code }
+    {
+        let word = &self.words.as_slice()[code];
+        lent(&word.value)
+    }
+
     /// The text of a code; empty where it is the code of a number, or of nothing.
     pub fn text(&self, code: u32) -> &str
         ensures { result.now ≡ text_of (slice_get self.now code) }

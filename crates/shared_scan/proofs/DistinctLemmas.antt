@@ -1,9 +1,9 @@
 -- A value's code is its place in a list that has no value twice.
-use Rattle.std.proofs.Common.{ℕ, zero, suc, ◌≡◌, ◌<◌, List, [], ◌∷◌, length, get_or, Bool, true, false, cond, not, Option, Some, None, unwrap_or, refl, sym, ap, ◌∙◌, arith, inl, inr}
+use Rattle.std.proofs.Common.{ℕ, zero, suc, ◌≡◌, ◌<◌, ◌≤◌, List, [], ◌∷◌, length, get_or, Bool, true, false, cond, not, Option, Some, None, unwrap_or, refl, sym, ap, ◌∙◌, arith, inl, inr}
 use Rattle.std.specs.Prelude.{slice_get, nat_lt}
 use Rattle.std.specs.List.{filter, position, position_or_len, AllByRecursion}
 use Rattle.std.proofs.lemmas.Bool.{lt-ltb}
-use Rattle.std.proofs.lemmas.List.Sums.{position_or_len_is}
+use Rattle.std.proofs.lemmas.List.Sums.{position_or_len_is, length-filter, count_by-le-length}
 use Rattle.std.proofs.lemmas.Option.{get_or_from_slice_get, slice_get-get_or, slice_get_within}
 use Rattle.ssb_plans.specs.Members.{Has}
 use Rattle.ssb_plans.specs.declared.value.Value.{Value}
@@ -121,3 +121,10 @@ codes_within rows k d below =
     let read = code_reads rows k value (slice_get-get_or rows k (Number 0) inside) in
     let is : get_or (codes_of rows) k d ≡ code_in (distinct rows) value = get_or-map (code_in (distinct rows)) rows k (Number 0) d inside in
     omega (arith, is, slice_get_within (distinct rows) (code_in (distinct rows) value) value read)
+
+pub distinct_few : (vals : List Value) → length (distinct vals) ≤ length vals
+unfolding distinct
+distinct_few [] = omega arith
+distinct_few (v ∷ vals) =
+    let differs : Value → Bool = λ other. not (is_same v other) in
+    omega (arith, length-filter differs (distinct vals), count_by-le-length differs (distinct vals), distinct_few vals)

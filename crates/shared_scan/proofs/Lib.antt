@@ -5,7 +5,9 @@ pub mod SumLemmas
 pub mod TotalsLemmas
 pub mod GroupLemmas
 pub mod NumberingLemmas
+pub mod TestLemmas
 pub mod MaskingLemmas
+pub mod RowMaskLemmas
 pub mod DistinctLemmas
 pub mod PartLemmas
 pub mod GroupedLemmas

@@ -1,15 +1,14 @@
 -- Masks as their bits are set one after another.
-use Rattle.std.proofs.Common.{ℕ, ◌≡◌, ◌+◌, ◌*◌, ◌%◌, ◌^◌, ◌<◌, ◌≤◌, Bool, true, false, cond, List, [], ◌∷◌, ◌++◌, length, length-append, get_or, Some, sym, refl, ap, ◌∙◌, subst, arith, bit_or}
+use Rattle.std.proofs.Common.{ℕ, ◌≡◌, ◌+◌, ◌*◌, ◌-◌, ◌%◌, ◌^◌, ◌<◌, ◌≤◌, Bool, true, false, cond, List, [], ◌∷◌, ◌++◌, length, length-append, get_or, Some, sym, refl, ap, ◌∙◌, subst, arith, bit_or}
 use Rattle.std.specs.Prelude.{slice_get, nat_eq}
 use Rattle.std.specs.Cmp.{unsigned_Decides}
 use Rattle.std.specs.Int.{bit_at, w16}
-use Rattle.std.proofs.lemmas.Nat.Bits.{bit_at_set_same, bit_at_set_other, bit_at-zero}
+use Rattle.std.proofs.lemmas.Nat.Bits.{bit_at_set_same, bit_at_set_other, bit_at-zero, bit_at_ones}
 use Rattle.std.proofs.lemmas.Option.{slice_get_within}
 use Rattle.std.proofs.Math.ListN.{get_or-append}
 use Rattle.std.proofs.Math.Seq.{get_or-append_seam}
 use Rattle.ssb_plans.specs.declared.plan.Plan.{Plan}
 use Rattle.scan_answers.specs.Masks.{IsMask}
-use Rattle.shared_scan.specs.Masking.{AreRowMasks}
 
 -- the bits of the first plans are set, and no others
 pub record IsMaskUpTo (passes : Plan → Bool) (plans : List Plan) (number mask : ℕ) : Type 0 where
@@ -49,7 +48,7 @@ module _ (passes : Plan → Bool) (plans : List Plan) (number mask : ℕ) (this 
   pub mask_stays : passes this ≡ false → IsMaskUpTo passes plans (number + 1) mask
   mask_stays pass = next mask (h.above number (omega arith) ∙ ap (λ (b : Bool). cond b 1 0) (sym pass)) (λ k other. refl)
 
--- the first rows have their masks
+-- the first of some rows, or values, have their masks
 pub record AreMasksUpTo {Row : Type 0} (passes : Plan → Row → Bool) (plans : List Plan) (rows : List Row) (count : ℕ) (masks : List ℕ) : Type 0 where
   pub len : length masks ≡ count
   pub each : (at : ℕ) (row : Row) → at < count → slice_get rows at ≡ Some row → IsMask (λ plan. passes plan row) plans (get_or masks at 0)
@@ -57,9 +56,6 @@ pub record AreMasksUpTo {Row : Type 0} (passes : Plan → Row → Bool) (plans :
 module _ {Row : Type 0} (passes : Plan → Row → Bool) (plans : List Plan) (rows : List Row) where
   pub masks_start : AreMasksUpTo passes plans rows 0 []
   masks_start = record { len = refl; each = λ at row below e. absurd (omega (arith, below)) }
-
-  pub masks_end : (masks : List ℕ) → AreMasksUpTo passes plans rows (length rows) masks → AreRowMasks passes plans rows masks
-  masks_end masks h = record { len = h.len; each = λ at row e. h.each at row (slice_get_within rows at row e) e }
 
   pub masks_push : (count : ℕ) (masks : List ℕ) (this : Row) (mask : ℕ) → slice_get rows count ≡ Some this → AreMasksUpTo passes plans rows count masks → IsMask (λ plan. passes plan this) plans mask
       → AreMasksUpTo passes plans rows (count + 1) (masks ++ mask ∷ [])
@@ -77,3 +73,13 @@ module _ {Row : Type 0} (passes : Plan → Row → Bool) (plans : List Plan) (ro
               subst (IsMask (λ plan. passes plan row) plans) (sym (get_or-append masks (mask ∷ []) 0 at (omega (arith, within, h.len)))) (h.each at row within e)
         ] refl;
   }
+
+-- a mask by one test is the mask by another that says the same of the plans
+pub mask_same : (passes tells : Plan → Bool) (plans : List Plan) (mask : ℕ) → ((k : ℕ) (plan : Plan) → slice_get plans k ≡ Some plan → passes plan ≡ tells plan) → IsMask passes plans mask → IsMask tells plans mask
+mask_same passes tells plans mask same h = λ k plan at. h k plan at ∙ ap (λ (b : Bool). cond b 1 0) (same k plan at)
+
+-- where every bit is set, all plans pass
+pub mask_full : (passes : Plan → Bool) (plans : List Plan) → length plans ≤ 16 → ((k : ℕ) (plan : Plan) → slice_get plans k ≡ Some plan → passes plan ≡ true) → IsMask passes plans (2 ^ 16 - 1)
+mask_full passes plans few all = λ k plan at.
+    let below : k < 16 = omega (arith, slice_get_within plans k plan at, few) in
+    bit_at_ones 16 k below ∙ ap (λ (b : Bool). cond b 1 0) (sym (all k plan at))

@@ -1,5 +1,7 @@
--- One code more has a number.
-use Rattle.std.proofs.Common.{ℕ, ◌≡◌, ◌≢◌, ◌+◌, ◌<◌, List, [], ◌∷◌, ◌++◌, length, get_or, set, eqb, true, false, sym, ap, ◌∙◌, arith, ◌⊎◌, inl, inr}
+-- One code more has a number, or is marked.
+use Rattle.std.proofs.Common.{ℕ, ◌≡◌, ◌≢◌, ◌+◌, ◌<◌, List, [], ◌∷◌, ◌++◌, length, get_or, set, eqb, eqb-true, eq-eqb, true, false, bit_or, refl, sym, ap, ◌∙◌, arith, ◌⊎◌, inl, inr}
+use Rattle.std.specs.Int.{bit_at}
+use Rattle.std.proofs.lemmas.Nat.Bits.{bit_at_or, bit_at-lt}
 use Rattle.std.proofs.lemmas.Bool.Decides.{eqb_tells}
 use Rattle.std.proofs.lemmas.List.{get_or-set_same, get_or-set_other, length-set, length-append}
 use Rattle.std.proofs.Math.ListN.{get_or-append}
@@ -50,3 +52,31 @@ module _ (numbers kept : List ℕ) (code : ℕ) (below : code < length numbers) 
     there = λ c inside some. there_now c (omega (arith, inside, length-set numbers code (length kept))) some (eqb_tells c code);
     back = λ n inside. let r = back_now n inside (eqb_tells n (length kept)) in (omega (arith, r.0, length-set numbers code (length kept)), r.1);
   }
+
+-- a row's code is marked with the bits of the row's mask, and keeps those that it had
+pub mark_more : (seen codes masks : List ℕ) (row : ℕ) → get_or codes row 0 < length seen
+    → ((p k : ℕ) → p < row → bit_at (get_or masks p 0) k ≡ 1 → bit_at (get_or seen (get_or codes p 0) 0) k ≡ 1)
+    → (p k : ℕ) → p < row + 1 → bit_at (get_or masks p 0) k ≡ 1
+    → bit_at (get_or (set seen (get_or codes row 0) (bit_or (get_or seen (get_or codes row 0) 0) (get_or masks row 0))) (get_or codes p 0) 0) k ≡ 1
+mark_more seen codes masks row within before p k below bit =
+    let code = get_or codes row 0 in
+    let mark = bit_or (get_or seen code 0) (get_or masks row 0) in
+    let new = set seen code mark in
+    let here : get_or new code 0 ≡ mark = get_or-set_same seen code mark 0 within in
+    let keeps : (c : ℕ) → bit_at (get_or seen c 0) k ≡ 1 → bit_at (get_or new c 0) k ≡ 1 =
+    λ c had. elim (eqb c code) as (λ b. eqb c code ≡ b → bit_at (get_or new c 0) k ≡ 1) [
+      | true ↦ λ t.
+          let same : c ≡ code = eqb-true c code t in
+          ap (λ (n : ℕ). bit_at (get_or new n 0) k) same ∙ ap (λ (m : ℕ). bit_at m k) here
+          ∙ omega (arith, bit_at_or (get_or seen code 0) (get_or masks row 0) k, bit_at-lt (get_or masks row 0) k, sym (ap (λ (n : ℕ). bit_at (get_or seen n 0) k) same) ∙ had)
+      | false ↦ λ f. ap (λ (m : ℕ). bit_at m k) (get_or-set_other seen code c mark 0 (λ e. let t : eqb c code ≡ true = eq-eqb c code e in cc)) ∙ had
+    ] refl in
+    elim (eqb p row) as (λ b. eqb p row ≡ b → bit_at (get_or new (get_or codes p 0) 0) k ≡ 1) [
+      | true ↦ λ t.
+          let same : p ≡ row = eqb-true p row t in
+          ap (λ (n : ℕ). bit_at (get_or new (get_or codes n 0) 0) k) same ∙ ap (λ (m : ℕ). bit_at m k) here
+          ∙ omega (arith, bit_at_or (get_or seen code 0) (get_or masks row 0) k, bit_at-lt (get_or seen code 0) k, sym (ap (λ (n : ℕ). bit_at (get_or masks n 0) k) same) ∙ bit)
+      | false ↦ λ f.
+          let other : (p ≡ row → ⊥) = λ e. let t : eqb p row ≡ true = eq-eqb p row e in cc in
+          keeps (get_or codes p 0) (before p k (omega (arith, below, other)) bit)
+    ] refl

@@ -1,6 +1,7 @@
 pub mod Prepared
 pub mod Laws
 pub mod Numbering
+pub mod Tests
 pub mod Masking
 pub mod Grouped
 pub mod GroupColumns

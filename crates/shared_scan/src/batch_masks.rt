@@ -4,21 +4,22 @@ ghost use Rattle.shared_scan.specs.Prepared.{AreMasksOf};
 ghost use Rattle.shared_scan.specs.Masking.{CoverRows};
 
 use crate::masking::{dimension_masks, terms_masks};
+use dim_index::DimIndex;
 use scan_kernel::Masks;
 use ssb_queries::Plan;
-use ssb_schema::{Base, Items};
+use ssb_schema::{Items, Table};
 use std::alloc::{AllocError, Global};
 
 /// The masks of the rows of all dimensions, and of all codes of quantity and discount.
-pub fn batch_masks(alloc: Global, base: &Base, plans: &[Plan]) -> Result<Masks, AllocError>
+pub fn batch_masks(alloc: Global, index: &DimIndex, plans: &[Plan]) -> Result<Masks, AllocError>
     requires few { length plans.now ≤ 16 }
-    ensures tell { IfOk result (AreMasksOf plans.now base.now.dimensions) }
-    ensures cover { IfOk result (CoverRows base.now.dimensions) }
+    ensures tell { IfOk result (AreMasksOf plans.now index.now.dimensions) }
+    ensures cover { IfOk result (CoverRows index.now.dimensions) }
 {
-    let customers = dimension_masks(alloc, plans, base.customers())?;
-    let suppliers = dimension_masks(alloc, plans, base.suppliers())?;
-    let parts = dimension_masks(alloc, plans, base.parts())?;
-    let dates = dimension_masks(alloc, plans, base.dates())?;
+    let customers = dimension_masks(alloc, index, plans, Table::Customer)?;
+    let suppliers = dimension_masks(alloc, index, plans, Table::Supplier)?;
+    let parts = dimension_masks(alloc, index, plans, Table::Part)?;
+    let dates = dimension_masks(alloc, index, plans, Table::Date)?;
     let terms = terms_masks(alloc, plans)?;
     Ok(Masks {
         customers,

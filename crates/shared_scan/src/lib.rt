@@ -11,6 +11,7 @@ mod lines;
 mod masking;
 mod numbering;
 mod over_slices;
+mod plan_tests;
 mod prepare;
 mod prepared;
 mod ready;

@@ -1,69 +1,108 @@
 //! The masks of a batch: which plans take each row, as a bit for each plan.
-ghost use Rattle.std.specs.Prelude.{◌≡◌, ℕ, ◌≤◌, ◌<◌, ◌/◌, ◌%◌, ◌&&◌, length, IfOk, slice_get, slice_index, Some, true, false};
+//!
+//! Each distinct value of a tested column is looked at once for each plan, and has a mask of its own: a plan that does not
+//! test the column takes every value. A row's mask is then the `&` of those of its values.
+ghost use Rattle.std.specs.Prelude.{◌≡◌, ℕ, ◌≤◌, ◌<◌, ◌/◌, ◌%◌, ◌&&◌, All, length, IfOk, bit_and, slice_index};
 ghost use Rattle.scan_answers.specs.Masks.{IsMask};
 ghost use Rattle.ssb_queries.specs.RowValues.{is_within};
-ghost use Rattle.shared_scan.specs.Masking.{AreRowMasks, TellRows, TellTerms};
-ghost use Rattle.ssb_plans.specs.declared.plan.Plan.{Plan as Planned};
+ghost use Rattle.dim_index.specs.Keys.{keys_of};
+ghost use Rattle.shared_scan.specs.Masking.{AreCodeMasks, AreRowMasks, TellDimension, TellTerms};
 
-use crate::tested::{Terms, Tested};
+use crate::plan_tests::tested_places;
+use crate::tested::{Cell, Terms, Tested};
+use dim_index::{Dictionary, DimIndex};
 use ssb_queries::Plan;
-use ssb_schema::Items;
+use ssb_schema::{Column, Items, Table};
 use std::alloc::{AllocError, Global};
 
-/// Bit k is set where plan k takes the row.
-fn row_mask<T: Tested>(plans: &[Plan], row: &T) -> u16
+/// Bit k is set where plan k takes it.
+fn mask_of<T: Tested>(plans: &[Plan], item: &T) -> u16
     requires few { length plans.now ≤ 16 }
-    ensures { IsMask (λ plan. T.takes plan row.now) plans.now result }
+    ensures { IsMask (λ plan. T.takes plan item.now) plans.now result }
 {
     let mut mask = 0u16;
     for number in 0..plans.len() {
-        if row.is_taken(&plans[number]) {
+        if item.is_taken(&plans[number]) {
             mask |= 1 << number;
         }
     }
     mask
 }
 
-/// The masks of rows, by position.
-fn row_masks<T: Tested>(alloc: Global, plans: &[Plan], rows: &[T]) -> Result<Vec<u16>, AllocError>
+/// The masks of a column's distinct values, by code.
+fn code_masks(
+    alloc: Global,
+    plans: &[Plan],
+    column: Column,
+    dictionary: &Dictionary,
+) -> Result<Vec<u16>, AllocError>
     requires few { length plans.now ≤ 16 }
-    ensures { IfOk result (λ masks. AreRowMasks T.takes plans.now rows.now masks.items) }
+    ensures { IfOk result (λ masks. AreCodeMasks column plans.now dictionary.now masks.items) }
 {
-    let mut masks = Vec::with_capacity(alloc, rows.len())?;
-    for row in rows {
-        masks.push(row_mask(plans, row))?;
+    let mut masks = Vec::with_capacity(alloc, dictionary.len())?;
+    for code in 0..dictionary.len() {
+        let cell = Cell {
+            table: column.table,
+            place: column.place,
+            value: dictionary.column_value(code),
+        };
+        masks.push(mask_of(plans, &cell))?;
     }
     Ok(masks)
 }
 
-/// Whether some plan tests such rows; if not, each plan takes every one.
-fn any_tested<T: Tested>(plans: &[Plan]) -> bool
-    ensures { (k : ℕ) (plan : Planned) (row : T) → result ≡ false → slice_get plans.now k ≡ Some plan → T.takes plan row ≡ true }
+/// Leaves of each row's mask the bits that the mask of its code has.
+fn narrow(masks: &mut [u16], codes: &[u32], of_codes: &[u16])
+    requires len { length codes.now ≡ length masks.old }
+    requires within { All (λ code. code < length of_codes.now) codes.now }
+    ensures len { length masks.new ≡ length masks.old }
+    ensures each { (p : ℕ) → p < length masks.old
+        → slice_index masks.new p ≡ bit_and (slice_index masks.old p) (slice_index of_codes.now (slice_index codes.now p)) }
 {
-    let mut any = false;
-    for number in 0..plans.len() {
-        if T::is_tested(&plans[number]) {
-            any = true;
-        }
+    for row in 0..masks.len() {
+        masks[row] &= of_codes[codes[row] as usize];
     }
-    any
+}
+
+/// The masks of a dimension's rows, by position, from the columns at these places.
+fn row_masks(
+    alloc: Global,
+    index: &DimIndex,
+    plans: &[Plan],
+    table: Table,
+    places: &[usize],
+) -> Result<Vec<u16>, AllocError>
+    requires few { length plans.now ≤ 16 }
+    ensures { IfOk result (λ masks. AreRowMasks index.now table plans.now places.now masks.items) }
+{
+    let mut masks = vec![in alloc; u16::MAX; index.positions(table)]?;
+    for place in places {
+        let column = Column {
+            table,
+            place: *place,
+        };
+        let of_codes = code_masks(alloc, plans, column, index.dictionary(column))?;
+        narrow(&mut masks, index.codes_of(column), &of_codes);
+    }
+    Ok(masks)
 }
 
 /// The masks of a dimension's rows, by position; none where no plan tests them.
-pub fn dimension_masks<T: Tested>(
+pub fn dimension_masks(
     alloc: Global,
+    index: &DimIndex,
     plans: &[Plan],
-    rows: &[T],
+    table: Table,
 ) -> Result<Option<Items<u16>>, AllocError>
     requires few { length plans.now ≤ 16 }
-    ensures { IfOk result (λ masks. TellRows T.takes plans.now rows.now masks) }
+    ensures { IfOk result (λ masks. TellDimension index.now table plans.now masks) }
 {
-    if any_tested::<T>(plans) {
-        let masks = row_masks(alloc, plans, rows)?;
-        Ok(Some(Items::from_vec(masks)))
-    } else {
-        Ok(None)
+    let places = tested_places(alloc, plans, table)?;
+    if places.is_empty() {
+        return Ok(None);
     }
+    let masks = row_masks(alloc, index, plans, table, &places)?;
+    Ok(Some(Items::from_vec(masks)))
 }
 
 /// The mask of a code of quantity and discount; a quantity of 0 is that of a free place, which no plan takes.
@@ -80,7 +119,7 @@ fn terms_mask(plans: &[Plan], code: u16) -> u16
         quantity: (code / 16) as u8,
         discount: (code % 16) as u8,
     };
-    row_mask(plans, &terms)
+    mask_of(plans, &terms)
 }
 
 /// The masks of all codes of quantity and discount.

@@ -44,22 +44,74 @@ fn number_code(numbering: &mut Numbering, code: u32) -> Result<(), AllocError>
     Ok(())
 }
 
-/// Whether a question takes the row at a position.
-fn takes(masks: &Option<Items<u16>>, position: usize, question: usize) -> bool
-    requires question { question < 16 }
-    requires masks { HasMasks masks.now position }
-    ensures { result ≡ nat_eq (bit_at (mask_in masks.now position) question) 1 }
+/// Whether a mask has the bit of a question.
+fn has_bit(mask: u16, question: usize) -> bool
+    requires { question < 16 }
+    ensures { result ≡ nat_eq (bit_at mask question) 1 }
 {
-    match masks {
-        Some(masks) => {
-            let masks = masks.as_slice();
-            (masks[position] >> question) & 1 == 1
-        }
-        None => true,
+    (mask >> question) & 1 == 1
+}
+
+/// Sets in the mask of each row's code the bits of the row's mask.
+fn mark(seen: &mut [u16], codes: &[u32], masks: &[u16])
+    requires within { All (λ code. code < length seen.old) codes.now }
+    requires masks { length codes.now ≤ length masks.now }
+    ensures len { length seen.new ≡ length seen.old }
+    ensures each { (p k : ℕ) → p < length codes.now → bit_at (slice_index masks.now p) k ≡ 1
+        → bit_at (slice_index seen.new (slice_index codes.now p)) k ≡ 1 }
+{
+    for row in 0..codes.len() {
+        seen[codes[row] as usize] |= masks[row];
     }
 }
 
-/// Numbers the codes of the rows that a question takes, in the order of first sight.
+/// Of each code, which questions take a row that has it, as a bit for each question.
+fn seen_by(
+    alloc: Global,
+    codes: &[u32],
+    count: usize,
+    masks: &Option<Items<u16>>,
+) -> Result<Vec<u16>, AllocError>
+    requires within { All (λ code. code < count) codes.now }
+    requires masks { (p : ℕ) → p < length codes.now → HasMasks masks.now p }
+    ensures len { IfOk result (λ seen. length seen.items ≡ count) }
+    ensures each { IfOk result (λ seen. (p k : ℕ) → p < length codes.now → k < 16 → bit_at (mask_in masks.now p) k ≡ 1
+        → bit_at (slice_index seen.items (slice_index codes.now p)) k ≡ 1) }
+{
+    match masks {
+        Some(masks) => {
+            let mut seen = vec![in alloc; 0; count]?;
+            mark(&mut seen, codes, masks.as_slice());
+            Ok(seen)
+        }
+        None => vec![in alloc; u16::MAX; count],
+    }
+}
+
+/// Numbers the codes that a question sees, in their order.
+fn number_seen(alloc: Global, seen: &[u16], question: usize) -> Result<Numbering, AllocError>
+    requires question { question < 16 }
+    requires few { length seen.now < 4294967295 }
+    ensures len { IfOk result (λ numbering. vec_len numbering.numbers ≡ length seen.now) }
+    ensures few { IfOk result (λ numbering. vec_len numbering.kept ≤ length seen.now) }
+    ensures numbered { IfOk result (λ numbering. AreNumbered numbering.numbers.items numbering.kept.items) }
+    ensures each { IfOk result (λ numbering. (code : ℕ) → code < length seen.now → bit_at (slice_index seen.now code) question ≡ 1
+        → slice_index numbering.numbers.items code ≢ 4294967295) }
+{
+    let numbers = no_numbers(alloc, seen.len())?;
+    let mut numbering = Numbering {
+        kept: Vec::new(alloc),
+        numbers,
+    };
+    for code in 0..seen.len() {
+        if has_bit(seen[code], question) {
+            number_code(&mut numbering, code as u32)?;
+        }
+    }
+    Ok(numbering)
+}
+
+/// Numbers the codes of the rows that a question takes, in the order of the codes.
 pub fn number_codes(
     alloc: Global,
     codes: &[u32],
@@ -68,23 +120,14 @@ pub fn number_codes(
     question: usize,
 ) -> Result<Numbering, AllocError>
     requires question { question < 16 }
-    requires few { length codes.now < 4294967295 }
+    requires few { count < 4294967295 }
     requires within { All (λ code. code < count) codes.now }
     requires masks { (p : ℕ) → p < length codes.now → HasMasks masks.now p }
     ensures len { IfOk result (λ numbering. vec_len numbering.numbers ≡ count) }
-    ensures few { IfOk result (λ numbering. vec_len numbering.kept ≤ length codes.now) }
+    ensures few { IfOk result (λ numbering. vec_len numbering.kept ≤ count) }
     ensures numbered { IfOk result (λ numbering. AreNumbered numbering.numbers.items numbering.kept.items) }
     ensures each { IfOk result (λ numbering. (p : ℕ) → p < length codes.now → bit_at (mask_in masks.now p) question ≡ 1 → slice_index numbering.numbers.items (slice_index codes.now p) ≢ 4294967295) }
 {
-    let numbers = no_numbers(alloc, count)?;
-    let mut numbering = Numbering {
-        kept: Vec::new(alloc),
-        numbers,
-    };
-    for position in 0..codes.len() {
-        if takes(masks, position, question) {
-            number_code(&mut numbering, codes[position])?;
-        }
-    }
-    Ok(numbering)
+    let seen = seen_by(alloc, codes, count, masks)?;
+    number_seen(alloc, &seen, question)
 }

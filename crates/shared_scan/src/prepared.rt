@@ -43,7 +43,7 @@ impl PreparedBatch {
     {
         index.base().soundness();
         let plans = plans_of(alloc, questions)?;
-        let masks = batch_masks(alloc, index.base(), &plans)?;
+        let masks = batch_masks(alloc, &index, &plans)?;
         let mut all = Vec::with_capacity(alloc, questions.len())?;
         for number in 0..questions.len() {
             all.push(prepare_question(alloc, &index, &masks, &questions[number], number)?)?;

@@ -1,11 +1,13 @@
 //! What the tests of plans look at.
-ghost use Rattle.std.specs.Prelude.{◌≡◌, ◌&&◌, true, false};
-ghost use Rattle.ssb_queries.specs.RowValues.{is_within};
+ghost use Rattle.std.specs.Prelude.{◌≡◌};
+ghost use Rattle.ssb_plans.specs.Cond.{column_value};
+ghost use Rattle.shared_scan.specs.Tests.{passes_at};
 
-use ssb_queries::{Plan, customer_passes, date_passes, is_within, part_passes, supplier_passes};
-use ssb_schema::{Customer, DateRow, Part, Supplier};
+use crate::plan_tests::tests_of;
+use ssb_queries::{ColumnValue, Plan, Test, is_within};
+use ssb_schema::Table;
 
-/// A row of a dimension, or a line's quantity and discount: a plan takes it or not.
+/// What a plan takes or not.
 pub trait Tested {
     ghost use Rattle.std.specs.Prelude.{Bool};
     ghost use Rattle.ssb_plans.specs.declared.plan.Plan.{Plan as Planned};
@@ -15,65 +17,31 @@ pub trait Tested {
     /// Whether it passes the plan's tests.
     fn is_taken(&self, plan: &Plan) -> bool
         ensures { result ≡ takes plan.now self.now };
-
-    /// Whether the plan tests it; if not, the plan takes every one.
-    fn is_tested(plan: &Plan) -> bool
-        ensures { (row : Self) → result ≡ false → takes plan.now row ≡ true };
 }
 
-impl Tested for Customer {
-    ghost use Rattle.ssb_queries.specs.RowValues.{customer_value, pass};
-
-    ghost takes = { λ plan row. pass plan.customers (λ place. customer_value place row) };
-
-    fn is_taken(&self, plan: &Plan) -> bool {
-        customer_passes(plan.customers.as_slice(), self)
-    }
-
-    fn is_tested(plan: &Plan) -> bool {
-        plan.customers.len() > 0
-    }
+// Whether a value passes all tests of the column at a place.
+fn passes_at(tests: &[Test], place: usize, value: ColumnValue<'_>) -> bool
+    ensures { result ≡ passes_at tests.now place (column_value value.entry) }
+{
+    tests.iter().all(|test| test.column.place != place || test.cond.holds(value))
 }
 
-impl Tested for Supplier {
-    ghost use Rattle.ssb_queries.specs.RowValues.{supplier_value, pass};
-
-    ghost takes = { λ plan row. pass plan.suppliers (λ place. supplier_value place row) };
-
-    fn is_taken(&self, plan: &Plan) -> bool {
-        supplier_passes(plan.suppliers.as_slice(), self)
-    }
-
-    fn is_tested(plan: &Plan) -> bool {
-        plan.suppliers.len() > 0
-    }
+/// A value in a column of a dimension, which is given by its place.
+#[derive(Clone, Copy)]
+pub struct Cell<'a> {
+    pub table: Table,
+    pub place: usize,
+    pub value: ColumnValue<'a>,
 }
 
-impl Tested for Part {
-    ghost use Rattle.ssb_queries.specs.RowValues.{part_value, pass};
+impl Tested for Cell<'_> {
+    ghost use Rattle.ssb_plans.specs.Cond.{column_value};
+    ghost use Rattle.shared_scan.specs.Tests.{passes_at, tests_of};
 
-    ghost takes = { λ plan row. pass plan.parts (λ place. part_value place row) };
-
-    fn is_taken(&self, plan: &Plan) -> bool {
-        part_passes(plan.parts.as_slice(), self)
-    }
-
-    fn is_tested(plan: &Plan) -> bool {
-        plan.parts.len() > 0
-    }
-}
-
-impl Tested for DateRow {
-    ghost use Rattle.ssb_queries.specs.RowValues.{date_value, pass};
-
-    ghost takes = { λ plan row. pass plan.dates (λ place. date_value place row) };
+    ghost takes = { λ plan cell. passes_at (tests_of cell.table plan) cell.place (column_value cell.value) };
 
     fn is_taken(&self, plan: &Plan) -> bool {
-        date_passes(plan.dates.as_slice(), self)
-    }
-
-    fn is_tested(plan: &Plan) -> bool {
-        plan.dates.len() > 0
+        passes_at(tests_of(plan, self.table), self.place, self.value)
     }
 }
 
@@ -93,9 +61,5 @@ impl Tested for Terms {
     fn is_taken(&self, plan: &Plan) -> bool {
         is_within(plan.quantity, u32::from(self.quantity))
             && is_within(plan.discount, u32::from(self.discount))
-    }
-
-    fn is_tested(_plan: &Plan) -> bool {
-        true
     }
 }

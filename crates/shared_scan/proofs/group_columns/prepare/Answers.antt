@@ -1,6 +1,6 @@
 use Rattle.std.proofs.Common.{ℕ, ◌≡◌, ◌≢◌, ◌*◌, ◌<◌, List, length, map, get_or, sym, ap, ◌∙◌, arith, subst}
 use Rattle.std.specs.Int.{bit_at}
-use Rattle.std.proofs.lemmas.List.{length-map, with_items_is}
+use Rattle.std.proofs.lemmas.List.{get_or_default, length-map, with_items_is}
 use Rattle.ssb_plans.specs.declared.value.Value.{Value}
 use Rattle.ssb_plans.specs.declared.value.Value.TheVariants.{Number}
 use Rattle.scan_kernel.specs.Places.{mask_in}
@@ -9,13 +9,35 @@ use Rattle.shared_scan.specs.Numbering.{IsPreparedColumn}
 use Rattle.shared_scan.proofs.PartLemmas.{is_prepared}
 use Rattle.dim_index.specs.Values.{values_of}
 use Rattle.dim_index.specs.Codes.{distinct, codes_of}
-use Rattle.shared_scan.proofs.DistinctLemmas.{codes_within}
+use Rattle.shared_scan.proofs.DistinctLemmas.{codes_within, distinct_few}
 use Rattle.shared_scan.proofs.group_columns.prepare.Goals as goal
 
 pub number_codes-requires-clause-within : goal.number_codes-requires-clause-within
 number_codes-requires-clause-within c = λ k d below.
     let rows = values_of c.args.index.now c.args.column in
     rw (c.codes_of-codes.ensures, c.codes.ensures) (codes_within rows k d (rw c.codes_of-codes.ensures at below))
+
+pub number_codes-requires-clause-few : goal.number_codes-requires-clause-few
+number_codes-requires-clause-few c = omega (arith, c.codes.ensures, distinct_few (values_of c.args.index.now c.args.column), c.requires.few)
+
+pub overflow_cast-count : goal.overflow_cast-count
+overflow_cast-count c =
+    omega (arith, c.len-count.ensures, c.in_ok-numbering.ensures.few, c.codes.ensures, distinct_few (values_of c.args.index.now c.args.column), c.requires.few)
+
+pub values_at-requires : goal.values_at-requires
+values_at-requires c = λ k d below.
+    let kept = c.in_ok-numbering.numbering.kept.items in
+    let inside : k < length kept = omega (arith, below, ap length c.deref.ensures.value) in
+    let back = c.in_ok-numbering.ensures.numbered.back k inside in
+    let is : get_or c.deref.result.now k d ≡ get_or kept k 0 = ap (λ (codes : List ℕ). get_or codes k d) c.deref.ensures.value ∙ get_or_default kept k d 0 inside in
+    omega (arith, is, back.0, c.in_ok-numbering.ensures.len, c.in_ok-numbering.numbering.numbers.ok, c.codes.ensures, ap length c.dictionary.ensures)
+
+pub returns-clause-few : goal.returns-clause-few
+returns-clause-few c =
+    let value : ℕ → Value = λ code. get_or c.dictionary.result.now code (Number 0) in
+    let count : length c.in_ok-values.values ≡ length c.in_ok-numbering.numbering.kept.items =
+    ap length c.in_ok-values.ensures ∙ length-map c.deref.result.now value ∙ ap length c.deref.ensures.value in
+    omega (arith, count, c.in_ok-numbering.numbering.kept.ok, c.in_ok-numbering.ensures.few, c.codes.ensures, distinct_few (values_of c.args.index.now c.args.column), c.requires.few)
 
 pub returns-clause-prepared : goal.returns-clause-prepared
 returns-clause-prepared c =

@@ -1,5 +1,6 @@
-use Rattle.shared_scan.proofs.MaskingLemmas.{AreMasksUpTo}
+use Rattle.std.proofs.Common.{take}
+use Rattle.shared_scan.specs.Masking.{AreRowMasks}
 use Rattle.shared_scan.proofs.masking.row_masks.Given as goal
 
-abbrev pub invariant-loop-row : goal.invariant-loop-row
-invariant-loop-row g l = AreMasksUpTo g.T.Tested.takes l.plans l.rows l.row-index l.masks.items
+abbrev pub invariant-loop-place : goal.invariant-loop-place
+invariant-loop-place l = AreRowMasks l.index l.table l.plans (take l.place-index l.places) l.masks.items

@@ -36,8 +36,8 @@ invariant_of-result c =
     let count : c.loop-number.number ≡ length questions = omega (arith, c.loop-number-test.false, c.loop-number.auto) in
     let ready : AreReady base masks questions all = λ k question r at. c.loop-number.invariant.ready k question r (omega (arith, slice_get_within questions k question at, count)) at in
     let same : questions_of all ≡ questions = questions_are base masks questions all (c.loop-number.invariant.len ∙ count) ready in
-    let tell = rw (c.deref-3.ensures.value, c.in_ok-plans.ensures, c.base-2.ensures, c.deref-2.ensures) at c.in_ok-masks.ensures.tell in
-    let cover = rw (c.base-2.ensures, c.deref-2.ensures) at c.in_ok-masks.ensures.cover in
+    let tell = rw (c.deref-3.ensures.value, c.in_ok-plans.ensures, c.deref-2.ensures) at c.in_ok-masks.ensures.tell in
+    let cover = rw (c.deref-2.ensures) at c.in_ok-masks.ensures.cover in
     let P : List (Query × List Value) → Type 0 = λ qs. AreMasksOf (plans_of qs) base.dimensions masks in
     let R : List (Query × List Value) → Type 0 = λ qs. AreReady base masks qs all in
     record {

@@ -3,8 +3,8 @@ use Rattle.std.specs.Prelude.{slice_get}
 use Rattle.std.proofs.lemmas.Option.{slice_get-get_or}
 use Rattle.ssb_plans.specs.declared.plan.Plan.{Plan}
 use Rattle.shared_scan.proofs.MaskingLemmas.{IsMaskUpTo, mask_ends, mask_sets, mask_stays}
-use Rattle.shared_scan.proofs.masking.row_mask.Goals as goal
-use Rattle.shared_scan.proofs.masking.row_mask.Goals.{then-is_taken, else-is_taken}
+use Rattle.shared_scan.proofs.masking.mask_of.Goals as goal
+use Rattle.shared_scan.proofs.masking.mask_of.Goals.{then-is_taken, else-is_taken}
 
 pub loop-number-preserved : goal.loop-number-preserved
 loop-number-preserved g c =
@@ -19,5 +19,5 @@ loop-number-preserved g c =
 pub returns : goal.returns
 returns g c =
     let end : c.loop-number.number ≡ length c.args.plans.now = omega (arith, c.loop-number-test.false, c.loop-number.auto) in
-    let passes : Plan → Bool = λ plan. g.T.Tested.takes plan c.args.row.now in
+    let passes : Plan → Bool = λ plan. g.T.Tested.takes plan c.args.item.now in
     mask_ends passes c.args.plans.now c.loop-number.mask (subst (λ n. IsMaskUpTo passes c.args.plans.now n c.loop-number.mask) end c.loop-number.invariant)
