@@ -43,6 +43,15 @@ fn take(columns: &mut Columns, commit: &Commit) -> Result<(), Fail> {
     Ok(columns.absorb(commit)?)
 }
 
+// A commit of each of these lists of actions.
+fn all(alloc: Global, script: &[&[Step<'_>]]) -> Result<Vec<Commit>, Fail> {
+    let mut commits = Vec::new(alloc);
+    for steps in script {
+        commits.push(commit(alloc, steps)?)?;
+    }
+    Ok(commits)
+}
+
 // Takes in a commit of each of these lists of actions.
 fn take_all(alloc: Global, columns: &mut Columns, script: &[&[Step<'_>]]) -> Result<(), Fail> {
     for steps in script {
@@ -169,42 +178,65 @@ fn count(facts: &[Fact], fact: Fact) -> usize {
     facts.iter().filter(|other| **other == fact).count()
 }
 
+// Whether the facts of a copy of the columns are those of the plain lines.
+fn has_the_lines(alloc: Global, columns: &Columns, plain: &PlainLines) -> Result<bool, Fail> {
+    let facts = facts(alloc, &columns.copy()?)?;
+    let wanted: Vec<Fact> = plain.lines().iter().map(|line| line.fact()).collect(alloc)?;
+    for fact in &facts {
+        if count(&facts, *fact) != count(&wanted, *fact) {
+            return Ok(false);
+        }
+    }
+    Ok(facts.len() == wanted.len() && columns.rows() == wanted.len())
+}
+
+// A hundred commits and two, in rounds of six.
 #[test]
 fn the_rows_are_the_lines_of_a_plain_list(rt: HostRuntime) -> Result<(), Fail> {
     let alloc = rt.alloc();
     let mut columns = columns(&rt, alloc)?;
     let mut plain = PlainLines::new(alloc, base(alloc, lines(alloc)?)?)?;
-    for (i, steps) in MIXED.iter().enumerate() {
-        let commit = commit(alloc, steps)?;
-        take(&mut columns, &commit)?;
-        plain.absorb(&commit)?;
-        assert_eq!(rt; columns.rows(), plain.lines().len(), "after {i}");
-        let copy = columns.copy()?;
-        let facts = facts(alloc, &copy)?;
-        let wanted: Vec<Fact> = plain.lines().iter().map(|line| line.fact()).collect(alloc)?;
-        for fact in &facts {
-            assert_eq!(rt; count(&facts, *fact), count(&wanted, *fact), "after {i}");
+    let commits = all(alloc, MIXED)?;
+    for round in 0..17 {
+        for commit in &commits {
+            take(&mut columns, commit)?;
+            plain.absorb(commit)?;
+            assert!(rt; has_the_lines(alloc, &columns, &plain)?, "in round {round}");
         }
     }
-    // Three lines of order 1, the loaded one of order 3 and four more, three of order 88 and one of order 9.
-    assert_eq!(rt; columns.rows(), 12);
+    // Three lines of order 1, three of order 88 and one of order 9; of order 3 the loaded one, and four of each round.
+    assert_eq!(rt; columns.rows(), 76);
     Ok(())
 }
+
+const ADD_BOTH: &[Step<'static>] = &[Step::Add(7, THREE), Step::Add(9, &[NINE])];
+
+// The same orders with other numbers of lines.
+const ADD_OTHERS: &[Step<'static>] = &[Step::Add(7, &[NINE]), Step::Add(9, THREE)];
+
+const WITHDRAW_NINE: &[Step<'static>] = &[Step::Withdraw(9)];
+
+const WITHDRAW_SEVEN: &[Step<'static>] = &[Step::Withdraw(7)];
 
 #[test]
 fn places_do_not_grow_with_turnover(rt: HostRuntime) -> Result<(), Fail> {
     let alloc = rt.alloc();
     let mut columns = columns(&rt, alloc)?;
-    for _ in 0..100 {
-        take_all(
-            alloc,
-            &mut columns,
-            &[
-                &[Step::Add(7, THREE), Step::Add(9, &[NINE])],
-                &[Step::Withdraw(9)],
-                &[Step::Withdraw(7)],
-            ],
-        )?;
+    let commits = all(
+        alloc,
+        &[
+            ADD_BOTH,
+            WITHDRAW_NINE,
+            WITHDRAW_SEVEN,
+            ADD_OTHERS,
+            WITHDRAW_NINE,
+            WITHDRAW_SEVEN,
+        ],
+    )?;
+    for _ in 0..10_000 {
+        for commit in &commits {
+            take(&mut columns, commit)?;
+        }
     }
     assert_eq!(rt; (columns.rows(), columns.places()), (4, 8));
     Ok(())
