@@ -24,8 +24,9 @@ pub record AreCodeMasks (column : Column) (plans : List Plan) (values : List Val
 pub record AreRowMasks (base : Tables) (t : Table) (plans : List Plan) (places : List ℕ) (masks : List ℕ) : Type 0 where
   pub len : length masks ≡ length (keys_of base t)
   pub each : (p : ℕ) → p < length (keys_of base t)
-      → IsMask (λ plan. list_all (λ place. passes_at (tests_of t plan) place (value_of_row base t p place)) places) plans
-      (slice_index masks p)
+      → IsMask
+      (λ plan. list_all (λ place. passes_at (tests_of t plan) place (value_of_row base t p place)) places)
+      plans (slice_index masks p)
 
 -- the masks of a dimension, if it has any, tell which plans take each row
 pub record TellDimension (base : Tables) (t : Table) (plans : List Plan) (masks : Option (List ℕ)) : Type 0 where

@@ -1,7 +1,7 @@
 //! The masks of a batch: which plans take each row, as a bit for each plan.
 //!
-//! Each distinct value of a tested column is looked at once for each plan, and has a mask of its own: a plan that does not
-//! test the column takes every value. A row's mask is then the `&` of those of its values.
+//! Each distinct value of a tested column is looked at once for each plan, and has a mask of its own: a plan that does
+//! not test the column takes every value. A row's mask is then the `&` of those of its values.
 ghost use Rattle.std.specs.Prelude.{◌≡◌, ℕ, ◌≤◌, ◌<◌, ◌/◌, ◌%◌, ◌&&◌, All, length, IfOk, bit_and, slice_index};
 ghost use Rattle.scan_answers.specs.Masks.{IsMask};
 ghost use Rattle.ssb_queries.specs.RowValues.{is_within};
@@ -57,7 +57,8 @@ fn narrow(masks: &mut [u16], codes: &[u32], of_codes: &[u16])
     requires within { All (λ code. code < length of_codes.now) codes.now }
     ensures len { length masks.new ≡ length masks.old }
     ensures each { (p : ℕ) → p < length masks.old
-        → slice_index masks.new p ≡ bit_and (slice_index masks.old p) (slice_index of_codes.now (slice_index codes.now p)) }
+        → slice_index masks.new p
+        ≡ bit_and (slice_index masks.old p) (slice_index of_codes.now (slice_index codes.now p)) }
 {
     for row in 0..masks.len() {
         masks[row] &= of_codes[codes[row] as usize];

@@ -1,5 +1,5 @@
 //! Dense numbers for the codes of a group column.
-ghost use Rattle.std.specs.Prelude.{◌≡◌, ◌≢◌, ℕ, ◌<◌, ◌≤◌, ◌+◌, ◌^◌, ◌*◌, All, IfOk, OnOk, length, slice_index, vec_len, nat_eq, [], OnSome};
+ghost use Rattle.std.specs.Prelude.{◌≡◌, ◌≢◌, ℕ, ◌<◌, ◌≤◌, ◌+◌, All, IfOk, OnOk, length, slice_index, vec_len, nat_eq};
 ghost use Rattle.std.specs.Int.{bit_at};
 ghost use Rattle.scan_kernel.specs.Places.{mask_in};
 ghost use Rattle.shared_scan.specs.Numbering.{HasMasks};
@@ -95,8 +95,8 @@ fn number_seen(alloc: Global, seen: &[u16], question: usize) -> Result<Numbering
     ensures len { IfOk result (λ numbering. vec_len numbering.numbers ≡ length seen.now) }
     ensures few { IfOk result (λ numbering. vec_len numbering.kept ≤ length seen.now) }
     ensures numbered { IfOk result (λ numbering. AreNumbered numbering.numbers.items numbering.kept.items) }
-    ensures each { IfOk result (λ numbering. (code : ℕ) → code < length seen.now → bit_at (slice_index seen.now code) question ≡ 1
-        → slice_index numbering.numbers.items code ≢ 4294967295) }
+    ensures each { IfOk result (λ numbering. (code : ℕ) → code < length seen.now
+        → bit_at (slice_index seen.now code) question ≡ 1 → slice_index numbering.numbers.items code ≢ 4294967295) }
 {
     let numbers = no_numbers(alloc, seen.len())?;
     let mut numbering = Numbering {
@@ -126,7 +126,9 @@ pub fn number_codes(
     ensures len { IfOk result (λ numbering. vec_len numbering.numbers ≡ count) }
     ensures few { IfOk result (λ numbering. vec_len numbering.kept ≤ count) }
     ensures numbered { IfOk result (λ numbering. AreNumbered numbering.numbers.items numbering.kept.items) }
-    ensures each { IfOk result (λ numbering. (p : ℕ) → p < length codes.now → bit_at (mask_in masks.now p) question ≡ 1 → slice_index numbering.numbers.items (slice_index codes.now p) ≢ 4294967295) }
+    ensures each { IfOk result (λ numbering. (p : ℕ) → p < length codes.now
+        → bit_at (mask_in masks.now p) question ≡ 1
+        → slice_index numbering.numbers.items (slice_index codes.now p) ≢ 4294967295) }
 {
     let seen = seen_by(alloc, codes, count, masks)?;
     number_seen(alloc, &seen, question)
