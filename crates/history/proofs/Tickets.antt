@@ -21,7 +21,7 @@ use Rattle.history.specs.Words.{store, request}
 use Rattle.std.proofs.lemmas.Bool.Decides.{nat_tests}
 use Rattle.history.specs.World.{number_of}
 use Rattle.history.specs.Tokens.{Hall, Token, new_token, new_clients, new_dispatchers, Took, MayPut, Put, gave_back, committed}
-use Rattle.history.specs.Tokens.{request_of, without, Grabs, MayAnswer, Answers, Collected}
+use Rattle.history.specs.Tokens.{request_of, without, Grabs, MayAnswer, Collected}
 use Rattle.history.specs.Closing.{IsClientOf, IsDispatcherOf, AreClients, AreDispatchers}
 
 pub fresh_clients : (hall : Hall) → All (IsClientOf hall) (new_clients hall)
@@ -104,18 +104,19 @@ may_give_up before t client question grabs = let asked : Request = request quest
   serves = (refl, tt);
 }
 
--- of two requests in hand the older may be given up first, and then the newer
-module _ (t0 t1 t2 : Token) (older newer : Question) (first : Grabs t0 3 older t1) (second : Grabs t1 2 newer t2) where
-  both_held : t2.grabbed ≡ record { client = 2; request = request newer second.floor } ∷ record { client = 3; request = request older first.floor } ∷ t0.grabbed
-  both_held = ap (λ (x : Token). x.grabbed) second.now ∙ ap (λ (x : Token). record { client = 2; request = request newer second.floor } ∷ x.grabbed) first.now
+-- of the requests of three clients in one hand the second's may be given up first, then the first's, and then the third's
+module _ (t : Token) (one two three : Question) (floors : ℕ × ℕ × ℕ)
+    (hand : t.grabbed ≡ record { client = 3; request = request three floors.2 } ∷ record { client = 2; request = request two floors.1 } ∷ record { client = 1; request = request one floors.0 } ∷ []) where
+  pub second_may_go : MayAnswer t 2 (Unserved two OutOfMemory)
+  second_may_go = record { asked = request two floors.1; held = ap (request_of 2) hand; serves = (refl, tt) }
 
-  pub may_give_up_older : MayAnswer t2 3 (Unserved older OutOfMemory)
-  may_give_up_older = record { asked = request older first.floor; held = ap (request_of 3) both_held; serves = (refl, tt) }
+  pub first_may_go : (u : Token) → u.grabbed ≡ without 2 t.grabbed → MayAnswer u 1 (Unserved one OutOfMemory)
+  first_may_go u now = record { asked = request one floors.0; held = ap (request_of 1) now ∙ ap (λ l. request_of 1 (without 2 l)) hand; serves = (refl, tt) }
 
-  pub may_give_up_newer : (t3 : Token) (reply : Answer) → Answers t2 3 reply t3 → MayAnswer t3 2 (Unserved newer OutOfMemory)
-  may_give_up_newer t3 reply answers = record {
-    asked = request newer second.floor;
-    held = ap (λ (x : Token). request_of 2 x.grabbed) answers.now ∙ ap (λ l. request_of 2 (without 3 l)) both_held;
+  pub third_may_go : (u v : Token) → u.grabbed ≡ without 2 t.grabbed → v.grabbed ≡ without 1 u.grabbed → MayAnswer v 3 (Unserved three OutOfMemory)
+  third_may_go u v before now = record {
+    asked = request three floors.2;
+    held = ap (request_of 3) now ∙ ap (λ l. request_of 3 (without 1 l)) before ∙ ap (λ l. request_of 3 (without 1 (without 2 l))) hand;
     serves = (refl, tt);
   }
 

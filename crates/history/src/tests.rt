@@ -1,6 +1,10 @@
 //! Three clients and two dispatchers at one table, each in a thread of its own, until the table is closed.
-ghost use Rattle.std.specs.Prelude.{◌≡◌, ◌≤◌, false, IfOk, IfSome, All};
+ghost use Rattle.std.specs.Prelude.{◌≡◌, ◌≤◌, ℕ, false, [], ◌∷◌, Some, IfOk, IfSome, MatchOption, All};
+ghost use Rattle.ssb_queries.specs.declared.answer.Answer.TheVariants.{Unserved as GivenUp};
+ghost use Rattle.ssb_queries.specs.declared.answer.Unserved.TheVariants.{OutOfMemory};
 ghost use Rattle.history_core.specs.declared.event.Who.TheVariants.{Client, Dispatcher};
+ghost use Rattle.history.specs.Words.{request};
+ghost use Rattle.history.specs.Tokens.{IsDispatcher, MayAnswer, without};
 ghost use Rattle.history.specs.Closing.{IsClientOf, IsDispatcherOf};
 
 mod data;
@@ -199,6 +203,63 @@ fn meet(shared: &Table, pass: &mut Ticket, other: &mut Ticket) -> u64
     shared.meet(pass, other)
 }
 
+// A client asks a question. The number is its floor.
+fn ask(shared: &Table, pass: &mut Ticket, client: u32, question: Question) -> u64
+    requires { IsClientOf shared.now pass.old × (pass.old.who ≡ Client client) }
+    ensures hall { pass.new.hall ≡ shared.now }
+    ensures client { (pass.new.who ≡ Client client) × (pass.new.has_rows ≡ false) }
+    ensures asked { pass.new.asked ≡ Some (request question result) }
+{
+    let floor = pass.seen_len();
+    shared.post(pass, question);
+    floor
+}
+
+// What a client collects, if there is something.
+fn collect(shared: &Table, pass: &mut Ticket, client: u32) -> Option<Answer>
+    requires hall { pass.old.hall ≡ shared.now }
+    requires client { (pass.old.who ≡ Client client) × (pass.old.has_rows ≡ false) }
+    ensures hall { pass.new.hall ≡ shared.now }
+    ensures client { (pass.new.who ≡ Client client) × (pass.new.has_rows ≡ false) }
+{
+    shared.collect(pass)
+}
+
+// The requests of three clients in one hand, the third's grabbed last.
+fn grab_three(shared: &Table, pass: &mut Ticket) -> Option<(Question, Question, Question)>
+    requires dispatcher { IsDispatcherOf shared.now pass.old }
+    requires clients { 3 ≤ shared.now.clients }
+    ensures hall { pass.new.hall ≡ shared.now }
+    ensures who { pass.new.who ≡ pass.old.who }
+    ensures free { (pass.new.has_rows ≡ false) × (pass.new.has_writer ≡ false) }
+    ensures hand { IfSome result (λ asked. (floors : ℕ × ℕ × ℕ) × (pass.new.grabbed ≡ record { client = 3; request = request asked.2 floors.2 } ∷ record { client = 2; request = request asked.1 floors.1 } ∷ record { client = 1; request = request asked.0 floors.0 } ∷ [])) }
+{
+    let first = shared.grab(pass, 1)?;
+    let second = shared.grab(pass, 2)?;
+    let third = shared.grab(pass, 3)?;
+    Some((first, second, third))
+}
+
+// Gives up a request in hand.
+fn give_up(shared: &Table, pass: &mut Ticket, client: u32, query: Question)
+    requires hall { pass.old.hall ≡ shared.now }
+    requires dispatcher { IsDispatcher pass.old }
+    requires free { (pass.old.has_rows ≡ false) × (pass.old.has_writer ≡ false) }
+    requires request { MayAnswer pass.old client (GivenUp query OutOfMemory) }
+    ensures now { pass.new ≡ record pass.old { grabbed = without client pass.old.grabbed; given = pass.new.given; did = pass.new.did } }
+    ensures dispatcher { IsDispatcher pass.new }
+{
+    let cause = Unserved::OutOfMemory;
+    shared.answer(pass, client, Answer::Unserved { query, cause });
+}
+
+// What a client gets whose question was given up.
+fn given_up(alloc: Global, query: Query) -> Result<Option<Answer>, AllocError> {
+    let query = Question::standard(alloc, query)?;
+    let cause = Unserved::OutOfMemory;
+    Ok(Some(Answer::Unserved { query, cause }))
+}
+
 #[test]
 fn three_clients_commit_ten_refreshes_each_and_then_meet(rt: HostRuntime) -> Result<(), Fail> {
     let alloc = rt.alloc();
@@ -296,5 +357,67 @@ fn two_dispatchers_answer_a_thousand_questions_of_a_client(rt: HostRuntime) -> R
     assert_eq!(rt; answered.load(Ordering::SeqCst), QUESTIONS);
     let store = closed(alloc, table, (first, second, third), (one, other))?;
     assert_eq!(rt; store.len(), 0);
+    Ok(())
+}
+
+#[test]
+fn a_request_in_hand_waits_while_another_clients_is_answered(rt: HostRuntime) -> Result<(), Fail> {
+    let alloc = rt.alloc();
+    let Opened {
+        shared,
+        mut clients,
+        mut dispatchers,
+    } = opened(alloc, RandomState::new(&rt)?)?;
+    let mut third = next_client(&shared, &mut clients, 3).ok_or(AllocError)?;
+    let mut second = next_client(&shared, &mut clients, 2).ok_or(AllocError)?;
+    let first = next_client(&shared, &mut clients, 1).ok_or(AllocError)?;
+    let other = next_dispatcher(&shared, &mut dispatchers, 2).ok_or(AllocError)?;
+    let mut one = next_dispatcher(&shared, &mut dispatchers, 1).ok_or(AllocError)?;
+    let mut first = commit_all(&rt, &shared, first, 1, refreshes(alloc, 100)?);
+    assert_eq!(rt;
+        ask(
+            &shared,
+            &mut first,
+            1,
+            Question::standard(alloc, Query::Q1_1)?
+        ),
+        REFRESHES
+    );
+    assert_eq!(rt;
+        ask(
+            &shared,
+            &mut second,
+            2,
+            Question::standard(alloc, Query::Q2_1)?
+        ),
+        0
+    );
+    assert_eq!(rt;
+        ask(
+            &shared,
+            &mut third,
+            3,
+            Question::standard(alloc, Query::Q3_1)?
+        ),
+        0
+    );
+    let (a, b, c) = grab_three(&shared, &mut one).ok_or("nothing asked")?;
+    give_up(&shared, &mut one, 2, b);
+    assert_eq!(rt; collect(&shared, &mut first, 1), None);
+    assert_eq!(rt;
+        collect(&shared, &mut second, 2),
+        given_up(alloc, Query::Q2_1)?
+    );
+    give_up(&shared, &mut one, 1, a);
+    assert_eq!(rt; collect(&shared, &mut third, 3), None);
+    assert_eq!(rt;
+        collect(&shared, &mut first, 1),
+        given_up(alloc, Query::Q1_1)?
+    );
+    give_up(&shared, &mut one, 3, c);
+    assert_eq!(rt;
+        collect(&shared, &mut third, 3),
+        given_up(alloc, Query::Q3_1)?
+    );
     Ok(())
 }
