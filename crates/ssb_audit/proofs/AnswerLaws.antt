@@ -1,6 +1,6 @@
 -- The first fault of the answers: of their order, or of their rows.
-use Rattle.std.proofs.Common.{◌≡◌, ℕ, ◌+◌, ◌<◌, ◌≤◌, Bool, true, false, List, length, take, drop, get_or, refl, ap, sym, ◌∙◌, arith}
-use Rattle.std.specs.Prelude.{Option, Some, None, slice_get, slice_index_or, if◌then◌else◌, All}
+use Rattle.std.proofs.Common.{◌≡◌, ℕ, ◌<◌, ◌≤◌, Bool, true, false, List, length, take, get_or, refl, ap, sym, ◌∙◌, arith}
+use Rattle.std.specs.Prelude.{Option, Some, None, slice_get, if◌then◌else◌, All}
 use Rattle.std.specs.Option.{option_or}
 use Rattle.std.proofs.lemmas.List.{length-take}
 use Rattle.std.proofs.lemmas.Option.{slice_get_within, slice_get-get_or, get_or_from_slice_get, slice_get_read}
@@ -13,7 +13,7 @@ use Rattle.ssb_audit.specs.declared.fault.AuditFault.{AuditFault}
 use Rattle.ssb_audit.specs.declared.fault.AuditFault.TheVariants.{WrongRows}
 use Rattle.ssb_audit.specs.declared.trace.Told.{Told}
 use Rattle.ssb_audit.proofs.FirstLaws.{first_clear, first_stops, first_ends}
-use Rattle.ssb_audit.proofs.LegalLaws.{none_both, order_clear}
+use Rattle.ssb_audit.proofs.LegalLaws.{order_clear}
 use Rattle.ssb_audit.proofs.WalkLaws.{take_at}
 
 -- answers in order are after no more commits than there are

@@ -28,7 +28,8 @@ pub(crate) fn index_of(alloc: Global, base: &Arc<Base>) -> Result<Arc<DimIndex>,
 
 // Takes these commits, one after another.
 fn absorb_all(columns: &mut Columns, commits: &[Commit]) -> Result<(), AllocError>
-    ensures { (history : List CommitRecord) → StandsFor (columns_state columns.old) history → OnOk result (columns_state columns.new ≡ state_of columns.old.base (history ++ commits.now)) }
+    ensures { (history : List CommitRecord) → StandsFor (columns_state columns.old) history
+        → OnOk result (columns_state columns.new ≡ state_of columns.old.base (history ++ commits.now)) }
 {
     for commit in commits {
         columns.absorb(commit)?;
@@ -62,7 +63,8 @@ pub(crate) fn rows_over<R: Threads + Sync>(
     requires few { length questions.now ≤ 16 }
     requires base { index.now.value ≡ columns.now.base }
     requires snapshot { AreSnapshot columns.now }
-    ensures { (history : List CommitRecord) → StandsFor (columns_state columns.now) history → IfOk result (λ rows. rows.items ≡ answers_after columns.now.base history questions.now) }
+    ensures { (history : List CommitRecord) → StandsFor (columns_state columns.now) history
+        → IfOk result (λ rows. rows.items ≡ answers_after columns.now.base history questions.now) }
 {
     let _lines = columns.rows();
     let batch = PreparedBatch::new(alloc, Arc::try_clone(index)?, questions)?;

@@ -8,6 +8,9 @@ ghost use Rattle.ssb_audit.specs.Visits as spec;
 use crate::trace::Told;
 use std::alloc::{AllocError, Global};
 
+// The most questions of one pass.
+const MOST_QUESTIONS: usize = 16;
+
 /// A visit to an answer: after how many commits, and the answer's place in the trace, counted from 0.
 #[derive(Clone, Copy)]
 pub(crate) struct Visit {
@@ -34,7 +37,8 @@ pub(crate) fn batch_end(visits: &[Visit], begin: usize) -> usize
     ensures some { begin < result }
     ensures most { result ≤ begin + 16 }
     ensures within { result ≤ length visits.now }
-    ensures same { (first : Visit) → AllWithin (λ visit. visit.at ≡ (slice_index_or visits.now begin first).at) visits.now begin result }
+    ensures same { (first : Visit)
+        → AllWithin (λ visit. visit.at ≡ (slice_index_or visits.now begin first).at) visits.now begin result }
 {
     let at = visits[begin].at;
     let most = begin + (visits.len() - begin).min(MOST_QUESTIONS);
@@ -45,6 +49,3 @@ pub(crate) fn batch_end(visits: &[Visit], begin: usize) -> usize
     }
     most
 }
-
-// The most questions of one pass.
-const MOST_QUESTIONS: usize = 16;

@@ -78,7 +78,8 @@ fn check_batch<R: Threads + Sync>(
     requires answers { All (IsIn answers.now) visits.now }
     requires base { index.now.value ≡ columns.now.base }
     requires snapshot { AreSnapshot columns.now }
-    ensures { (history : List CommitRecord) → StandsFor (columns_state columns.now) history → IfOk result (λ place. IsFirstWrongOf columns.now.base history answers.now visits.now limit place) }
+    ensures { (history : List CommitRecord) → StandsFor (columns_state columns.now) history
+        → IfOk result (λ place. IsFirstWrongOf columns.now.base history answers.now visits.now limit place) }
 {
     let questions = questions_of(alloc, answers, visits)?;
     let found = rows_over(rt, alloc, index, columns, questions.as_slice())?;

@@ -1,4 +1,4 @@
-use Rattle.std.proofs.Common.{◌≡◌, ℕ, ◌-◌, ◌≤◌, List, [], length, take, drop, get_or, ap, sym, subst, ◌∙◌, arith}
+use Rattle.std.proofs.Common.{◌≡◌, ℕ, ◌-◌, ◌≤◌, List, length, take, drop, get_or, ap, sym, subst, ◌∙◌, arith}
 use Rattle.std.proofs.lemmas.List.{length-take}
 use Rattle.std.proofs.lemmas.List.Elements.{All-take, All-drop}
 use Rattle.row_store.specs.History.{CommitRecord}
@@ -44,7 +44,7 @@ check_batch-requires-clause-snapshot g c = λ κs outlives.
     let base = c.args.index.now.value in
     let commits = c.args.commits.now in
     let at = (get_or c.args.visits.now c.loop-begin.begin (record { at = 0; place = 0 })).at in
-    let same : c.loop-begin.columns.base ≡ base = ap (λ (s : State). s.base) c.loop-begin.invariant.state in
+    let same : c.loop-begin.columns.base ≡ base = ap (λ (s : State). s.base) {y = state_of base (take c.loop-begin.columns.commits commits)} c.loop-begin.invariant.state in
     snapshot_of c.advance.new.columns base commits at (rw (c.base.ensures, c.deref.ensures) at c.soundness.ensures) c.requires.legal
     (c.in_ok-advance.ensures ∙ ap (λ b. state_of b (take at commits)) same)
 
