@@ -54,7 +54,7 @@ all_clear judge n (y ∷ ys) each =
     (all_clear judge (n + 1) ys (λ i x is. let next : (n + 1) + i ≡ n + suc i = omega arith in ap (λ m. judge m x) next ∙ each (suc i) x is))
 
 -- the same of a list judged from its beginning
-clear_at : {X : Type 0} (judge : ℕ → X → Option AuditFault) (xs : List X) → first_from judge 0 xs ≡ None → (i : ℕ) (x : X) → slice_get xs i ≡ Some x → judge i x ≡ None
+pub clear_at : {X : Type 0} (judge : ℕ → X → Option AuditFault) (xs : List X) → first_from judge 0 xs ≡ None → (i : ℕ) (x : X) → slice_get xs i ≡ Some x → judge i x ≡ None
 clear_at judge xs none i x is = let place : i ≡ 0 + i = omega arith in ap (λ m. judge m x) place ∙ each_clear judge 0 xs none i x is
 
 all_clear_at : {X : Type 0} (judge : ℕ → X → Option AuditFault) (xs : List X) → ((i : ℕ) (x : X) → slice_get xs i ≡ Some x → judge i x ≡ None) → first_from judge 0 xs ≡ None
@@ -198,7 +198,7 @@ none_back answers never i told is = cases (last_of told.client (take i answers))
         ap (λ o. option_map_or (λ (l : Told). nat_lt told.at l.at) o false) found ∙ le-ltb told.at last.at (never m i last told lt there is his)
 
 -- an answer without a fault of order
-order_clear : (count : ℕ) (earlier : List Told) (told : Told) → order_fault count earlier told ≡ None → (told.at ≤ count) × (went_back earlier told ≡ false)
+pub order_clear : (count : ℕ) (earlier : List Told) (told : Told) → order_fault count earlier told ≡ None → (told.at ≤ count) × (went_back earlier told ≡ false)
 order_clear count earlier told none = cases (nat_lt count told.at) (went_back earlier told) refl refl
   where
     cases : (large back : Bool) → nat_lt count told.at ≡ large → went_back earlier told ≡ back → (told.at ≤ count) × (went_back earlier told ≡ false)
@@ -212,7 +212,7 @@ order_clear count earlier told none = cases (nat_lt count told.at) (went_back ea
     cases false false is_large is_back = (ltb-false count told.at is_large, is_back)
 
 -- and one without a fault of its rows
-rows_clear : (base : Tables) (history : List CommitRecord) (earlier : List Told) (told : Told) → rows_fault base history earlier told ≡ None → told.rows ≡ rows_after base history told
+pub rows_clear : (base : Tables) (history : List CommitRecord) (earlier : List Told) (told : Told) → rows_fault base history earlier told ≡ None → told.rows ≡ rows_after base history told
 rows_clear base history earlier told none = cases (pointwise row_eq told.rows (rows_after base history told)) refl
   where
     cases : (b : Bool) → pointwise row_eq told.rows (rows_after base history told) ≡ b → told.rows ≡ rows_after base history told

@@ -1,2 +1,5 @@
 pub mod Traces
 pub mod Legal
+pub mod InOrder
+pub mod Snapshots
+pub mod Visits

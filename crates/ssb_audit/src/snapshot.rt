@@ -1,67 +1,72 @@
-//! The warehouse after some commits of a trace, and the rows of a question over it.
+//! The warehouse after some commits of a trace, in columns, and the rows of questions over it.
 
-ghost use Rattle.std.specs.Prelude.{◌≡◌, ◌++◌, ◌≤◌, length, take, IfOk};
-ghost use Rattle.ssb_schema.specs.Facts.{facts_of};
-ghost use Rattle.ssb_queries.specs.Answer.{answer_of};
-ghost use Rattle.row_store.specs.History.{IsPrefix, lines_after};
-ghost use Rattle.row_store.specs.Legal.{IsLegal};
+ghost use Rattle.std.specs.Prelude.{◌≡◌, ◌≤◌, ◌++◌, List, length, take, IfOk, OnOk};
+ghost use Rattle.row_store.specs.History.{CommitRecord};
+ghost use Rattle.row_store.specs.State.{StandsFor, state_of};
+ghost use Rattle.fact_columns.specs.Stored.{columns_state};
+ghost use Rattle.shared_scan.specs.Answers.{answers_after};
+ghost use Rattle.ssb_audit.specs.Snapshots.{AreSnapshot};
 
-use row_store::{Commit, PlainLines, Replica};
+use dim_index::DimIndex;
+use fact_columns::Columns;
+use row_store::{Commit, Replica};
+use shared_scan::{PreparedBatch, scan_parallel};
 use ssb_plans::Question;
-use ssb_queries::{ResultRow, Rows, plain};
-use ssb_schema::{Base, Items};
+use ssb_queries::Rows;
+use ssb_schema::Base;
 use std::alloc::{AllocError, Global};
 use std::sync::Arc;
+use std::thread::Threads;
 
-// The lines after some more commits.
-fn advanced(lines: PlainLines, commits: &[Commit]) -> Result<PlainLines, AllocError>
-    ensures { IfOk result (λ more. more ≡ record { base = lines.base; log = lines.log ++ commits.now }) }
+/// The index of a base, to be shared.
+pub(crate) fn index_of(alloc: Global, base: &Arc<Base>) -> Result<Arc<DimIndex>, AllocError>
+    ensures { IfOk result (λ index. index.value ≡ base.now.value) }
 {
-    let mut lines = lines;
-    for commit in commits {
-        lines.absorb(commit)?;
-    }
-    Ok(lines)
+    let index = DimIndex::new(alloc, Arc::try_clone(base)?)?;
+    Ok(Arc::new(alloc, index)?)
 }
 
-/// The lines after the first `at` commits. They are brought there from an earlier place; from a later one they begin
-/// again at the loaded lines.
-pub(crate) fn lines_at(
-    alloc: Global,
-    base: &Arc<Base>,
-    lines: PlainLines,
+// Takes these commits, one after another.
+fn absorb_all(columns: &mut Columns, commits: &[Commit]) -> Result<(), AllocError>
+    ensures { (history : List CommitRecord) → StandsFor (columns_state columns.old) history
+        → OnOk result (columns_state columns.new ≡ state_of columns.old.base (history ++ commits.now)) }
+{
+    for commit in commits {
+        columns.absorb(commit)?;
+    }
+    Ok(())
+}
+
+/// Takes the commits that the columns want of the first `at`.
+pub(crate) fn advance(
+    columns: &mut Columns,
     commits: &[Commit],
     at: usize,
-) -> Result<PlainLines, AllocError>
-    requires over { lines.base ≡ base.now.value }
-    requires begins { IsPrefix lines.log commits.now }
+) -> Result<(), AllocError>
+    requires stands { StandsFor (columns_state columns.old) (take columns.old.commits commits.now) }
+    requires ahead { columns.old.commits ≤ at }
     requires within { at ≤ length commits.now }
-    ensures { IfOk result (λ lines. lines ≡ record { base = base.now.value; log = take at commits.now }) }
+    ensures { OnOk result (columns_state columns.new ≡ state_of columns.old.base (take at commits.now)) }
 {
-    let taken = lines.commits() as usize;
-    if taken <= at {
-        return advanced(lines, &commits[taken..at]);
-    }
-    advanced(
-        PlainLines::new(alloc, Arc::try_clone(base)?)?,
-        &commits[..at],
-    )
+    let taken = columns.commits() as usize;
+    absorb_all(columns, &commits[taken..at])
 }
 
-/// The rows of a question over the lines, after a legal history. All that the audit knows of questions it knows by this
-/// function.
-pub(crate) fn rows_over(
+/// The rows of at most 16 questions over the columns, in one pass.
+pub(crate) fn rows_over<R: Threads + Sync>(
+    rt: &R,
     alloc: Global,
-    base: &Base,
-    lines: &PlainLines,
-    question: &Question,
-) -> Result<Items<ResultRow>, AllocError>
-    requires over { lines.now.base ≡ base.now }
-    requires legal { IsLegal base.now lines.now.log }
-    ensures { IfOk result (λ rows. rows ≡ answer_of question.now base.now.dimensions (facts_of (lines_after base.now lines.now.log))) }
+    index: &Arc<DimIndex>,
+    columns: &Columns,
+    questions: &[Question],
+) -> Result<Vec<Rows>, AllocError>
+    requires few { length questions.now ≤ 16 }
+    requires base { index.now.value ≡ columns.now.base }
+    requires snapshot { AreSnapshot columns.now }
+    ensures { (history : List CommitRecord) → StandsFor (columns_state columns.now) history
+        → IfOk result (λ rows. rows.items ≡ answers_after columns.now.base history questions.now) }
 {
-    base.soundness();
-    let _limits = base.limits();
-    let Rows { query: _, list } = plain(alloc, base, lines.lines(), question)?;
-    Ok(list)
+    let _lines = columns.rows();
+    let batch = PreparedBatch::new(alloc, Arc::try_clone(index)?, questions)?;
+    scan_parallel(rt, alloc, columns, &batch)
 }

@@ -12,13 +12,17 @@ use ssb_schema::Base;
 use std::alloc::Global;
 use std::hash::RandomState;
 use std::sync::Arc;
+use std::thread::Threads;
 
 /// Whether a trace is legal over a base: its commits one after another, and then its answers in the trace's order.
 ///
 /// The fault is the first in this order: a commit that is refused after those before it; then, answer by answer, one that
 /// is after more commits than there are, one that is after fewer than its client's answer before, and one whose rows are
 /// not those of its question over the warehouse after its number of commits. Only want of memory may come before it.
-pub fn audit(
+///
+/// Rows are looked at by as many threads as there are processors; `hashing` is for the keys of orders.
+pub fn audit<R: Threads + Sync>(
+    rt: &R,
     alloc: Global,
     base: Arc<Base>,
     hashing: RandomState,
@@ -29,5 +33,5 @@ pub fn audit(
 {
     let commits = trace.commits.as_slice();
     check_commits(alloc, Arc::try_clone(&base)?, hashing, commits)?;
-    check_answers(alloc, &base, commits, trace.answers.as_slice())
+    check_answers(rt, alloc, &base, hashing, commits, trace.answers.as_slice())
 }

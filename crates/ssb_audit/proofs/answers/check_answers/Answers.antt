@@ -1,28 +1,28 @@
-use Rattle.std.proofs.Common.{rules, refl, sym, ap, ◌∙◌, ◌++◌}
-use Rattle.ssb_audit.specs.Traces.{answer_fault}
-use Rattle.ssb_audit.proofs.FirstLaws.{first_passes, tells_stop}
+use Rattle.std.proofs.Common.{inr, length, ap, sym, subst, ◌∙◌}
+use Rattle.std.specs.Prelude.{Some}
+use Rattle.ssb_audit.specs.InOrder.{AreInOrder}
+use Rattle.ssb_audit.specs.declared.fault.AuditFault.TheVariants.{WrongRows}
+use Rattle.ssb_audit.proofs.AnswerLaws.{within_commits, wrong_is_first, disorder_is_first, no_fault_at_all}
 use Rattle.ssb_audit.proofs.answers.check_answers.Goals as goal
 
-pub loop-place-init : goal.loop-place-init
-loop-place-init c = record {
-  over = ap (λ w. w.base) c.in_ok-lines.ensures ∙ c.in_ok-try_clone.ensures;
-  begins = record { rest = c.args.commits.now; whole = ap (λ w. w.log ++ c.args.commits.now) (sym c.in_ok-lines.ensures) };
-  first = refl;
-}
+pub first_wrong-requires-clause-within : goal.first_wrong-requires-clause-within
+first_wrong-requires-clause-within g c = λ κs outlives.
+    within_commits (length c.args.commits.now) c.args.answers.now c.in_order_of-count.result.count c.in_order_of-count.result.fault c.in_order_of-count.ensures
 
-pub returns-in_err-lines-2 : goal.returns-in_err-lines-2
-returns-in_err-lines-2 c =
-    let answers = c.args.answers.now in
-    let judge = answer_fault c.args.base.now.value c.args.commits.now answers in
-    let told = tells_stop judge answers c.loop-place.place c.index-answers-place.result c.in_err-lines-2.field-0.0 c.loop-place-test.true c.index-answers-place.is c.loop-place.invariant.first c.in_err-lines-2.ensures.fault in
-    search (rules, told)
+pub returns-then-wrong-count : goal.returns-then-wrong-count
+returns-then-wrong-count g c =
+    let told = c.index-answers-wrong.result in
+    inr (wrong_is_first c.args.base.now.value c.args.commits.now c.args.answers.now c.in_order_of-count.result.count c.in_ok-wrong.wrong c.in_order_of-count.result.fault told
+    c.in_order_of-count.ensures c.in_ok-wrong.ensures c.if-wrong-count.true c.index-answers-wrong.is ∙ ap (λ n. Some (WrongRows told.client n)) (sym c.turn_of-turn.ensures))
 
-pub loop-place-preserved : goal.loop-place-preserved
-loop-place-preserved c =
-    let answers = c.args.answers.now in
-    let judge = answer_fault c.args.base.now.value c.args.commits.now answers in
-    record {
-      over = c.in_ok-lines-2.ensures.over;
-      begins = c.in_ok-lines-2.ensures.begins;
-      first = c.loop-place.invariant.first ∙ first_passes judge answers c.loop-place.place c.index-answers-place.result c.loop-place-test.true c.index-answers-place.is c.in_ok-lines-2.ensures.fault;
-    }
+pub returns-in-Some : goal.returns-in-Some
+returns-in-Some g c =
+    let count = c.in_order_of-count.result.count in
+    let are = subst (AreInOrder (length c.args.commits.now) c.args.answers.now count) c.in-Some.is c.in_order_of-count.ensures in
+    inr (disorder_is_first c.args.base.now.value c.args.commits.now c.args.answers.now count c.in_ok-wrong.wrong c.in-Some.fault are c.in_ok-wrong.ensures c.if-wrong-count.false)
+
+pub returns-in-None : goal.returns-in-None
+returns-in-None g c =
+    let count = c.in_order_of-count.result.count in
+    let are = subst (AreInOrder (length c.args.commits.now) c.args.answers.now count) c.in-None.is c.in_order_of-count.ensures in
+    no_fault_at_all c.args.base.now.value c.args.commits.now c.args.answers.now count c.in_ok-wrong.wrong are c.in_ok-wrong.ensures c.if-wrong-count.false

@@ -10,7 +10,7 @@ where_none (Ok done) fault P tells follows = follows tells
 where_none (Err e) fault P tells follows = tt
 
 pub returns-clause-legal : goal.returns-clause-legal
-returns-clause-legal c =
+returns-clause-legal g c =
     let base = c.args.base.value in
     let trace = c.args.trace.now in
     let of_commits : first_from (commit_fault base trace.commits) 0 trace.commits ≡ None =
