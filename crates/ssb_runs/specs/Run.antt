@@ -1,7 +1,8 @@
 -- What a run of scripts leaves.
-use Rattle.std.specs.Prelude.{◌≡◌, ◌≢◌, ℕ, ◌+◌, List, [], length, map, flat_map, Some, slice_get}
+use Rattle.std.specs.Prelude.{◌≡◌, ◌≢◌, ℕ, ◌+◌, All, List, [], length, map, flat_map, Some, slice_get}
 use Rattle.history.specs.Closing.{IsLogOf}
 use Rattle.history.specs.Tokens.{Hall, Token, new_token}
+use Rattle.history.specs.Words.{Owns}
 use Rattle.history_core.specs.OwnCommits.{IsOfClients, commits_of}
 use Rattle.history_core.specs.declared.event.Who.TheVariants.{Client}
 use Rattle.row_store.specs.History.{CommitRecord, IsPrefix}
@@ -12,7 +13,7 @@ use Rattle.ssb_script.specs.declared.block.Script.{Script}
 use Rattle.ssb_script.specs.Requests.{requests_of}
 use Rattle.ssb_server.specs.Opening.{AreCounts, IsOpenFault}
 use Rattle.ssb_server.specs.declared.opening.OpenFault.{OpenFault}
-use Rattle.ssb_server.specs.declared.opening.OpenFault.TheVariants as open
+use Rattle.ssb_server.specs.declared.opening.OpenFault.TheVariants as opening
 use Rattle.ssb_session.specs.Served.{Serves}
 use Rattle.ssb_runs.specs.Sessions.{Session}
 use Rattle.ssb_runs.specs.declared.fault.RunFault.{RunFault}
@@ -43,14 +44,24 @@ pub record IsRun (base : Tables) (scripts : List Script) (dispatchers : ℕ) (re
   pub legal : IsLegal base trace.commits
   pub named : IsOfClients (length scripts) trace.commits
 
+-- what a closed server and the sessions of its clients leave
+pub record Leaves (hall : Hall) (sessions : List Session) (ended : List Token) (reports : List (List ℕ)) (trace : Trace) : Type 0 where
+  pub reports_are : reports ≡ map (λ (session : Session). session.report) sessions
+  pub answers_are : trace.answers ≡ flat_map (λ (session : Session). session.told) sessions
+  pub true_log : IsLogOf hall (map (λ (session : Session). session.client) sessions) ended trace.commits
+  pub legal : IsLegal hall.base trace.commits
+  pub named : IsOfClients hall.clients trace.commits
+  pub begin : All (λ (session : Session). IsPrefix session.client.seen trace.commits) sessions
+  pub own : All (λ (session : Session). Owns session.client.who session.client.mine trace.commits) sessions
+
 -- how a fault of the opening is told: want of memory is one fault, wherever it is met
 abbrev pub fault_of : OpenFault → RunFault
-fault_of open.OutOfMemory = OutOfMemory
-fault_of open.ClientCount = Open open.ClientCount
-fault_of open.DispatcherCount = Open open.DispatcherCount
-fault_of open.NoReader = Open open.NoReader
+fault_of opening.OutOfMemory = OutOfMemory
+fault_of opening.ClientCount = Open opening.ClientCount
+fault_of opening.DispatcherCount = Open opening.DispatcherCount
+fault_of opening.NoReader = Open opening.NoReader
 
 -- a count is refused where it is out of its range, that of the clients first; the other faults come where both are right
 abbrev pub IsRunFault : ℕ → ℕ → RunFault → Type 0
-IsRunFault clients dispatchers (Open fault) = (fault ≢ open.OutOfMemory) × IsOpenFault clients dispatchers fault
+IsRunFault clients dispatchers (Open fault) = (fault ≢ opening.OutOfMemory) × IsOpenFault clients dispatchers fault
 IsRunFault clients dispatchers OutOfMemory = AreCounts clients dispatchers

@@ -1,10 +1,11 @@
 -- What the threads of a run do.
-use Rattle.std.specs.Prelude.{◌≡◌, ℕ, List, [], ◌∷◌, Some, None}
+use Rattle.std.specs.Prelude.{◌≡◌, ℕ, All, List, [], ◌∷◌, Some, None}
 use Rattle.history.specs.Tokens.{Hall, Token}
 use Rattle.history.specs.World.{number_of}
 use Rattle.ssb_audit.specs.declared.trace.Told.{Told}
 use Rattle.ssb_script.specs.declared.block.Script.{Script}
 use Rattle.ssb_script.specs.Requests.{requests_of}
+use Rattle.ssb_server.specs.Tickets.{IsQuiet, IsOf, AreAllThere}
 use Rattle.ssb_session.specs.Served.{Serves}
 
 -- a client, and the script that it is to be served
@@ -48,3 +49,9 @@ AreStill [] [] = Unit {0}
 AreStill (before ∷ befores) (after ∷ afters) = IsStill before after × AreStill befores afters
 AreStill [] (after ∷ afters) = ⊥
 AreStill (before ∷ befores) [] = ⊥
+
+-- the server can be closed with these: each client asks nothing, and each client and dispatcher is there once
+pub record IsReady (hall : Hall) (clients dispatchers : List Token) : Type 0 where
+  pub quiet : All (IsQuiet hall) clients
+  pub left : All (IsOf hall) dispatchers
+  pub there : AreAllThere hall clients dispatchers

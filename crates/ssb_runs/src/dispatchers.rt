@@ -80,6 +80,7 @@ pub(crate) fn start_dispatchers<'s, E, W: Wait + Drop + Send, R: Wait + Threads 
 ) -> Result<(), AllocError>
     requires dispatchers { All (IsOf server.now) dispatchers.items }
     requires room { vec_len dispatching.old + vec_len dispatchers ≤ vec_capacity dispatching.old }
+    ensures room { (vec_len dispatching.new ≤ vec_len dispatching.old + vec_len dispatchers) × (vec_capacity dispatching.new ≡ vec_capacity dispatching.old) }
     ensures started { OnOk result (map (λ h. h.promise.dispatcher.value) dispatching.new.items ≡ map (λ h. h.promise.dispatcher.value) dispatching.old.items ++ dispatchers.items) }
 {
     for dispatcher in dispatchers {

@@ -1,8 +1,9 @@
 //! A run of scripts over the live server.
-ghost use Rattle.std.specs.Prelude.{◌≡◌, IfOk, IfErr, OnOk, map, vec_len};
-ghost use Rattle.row_store.specs.Legal.{IsLegal};
+ghost use Rattle.std.specs.Prelude.{◌≡◌, IfOk, IfErr, OnOk, map, flat_map, vec_len};
+ghost use Rattle.history.specs.Tokens.{new_clients, new_dispatchers};
 ghost use Rattle.ssb_audit.specs.Legal.{IsLegalTrace};
-ghost use Rattle.ssb_runs.specs.Run.{IsRun, IsRunFault};
+ghost use Rattle.ssb_runs.specs.Run.{IsRun, IsRunFault, Leaves};
+ghost use Rattle.ssb_runs.specs.Sessions.{IsReady};
 ghost use Rattle.ssb_server.specs.Opening.{AreCounts};
 
 use crate::batches::Batches;
@@ -41,7 +42,11 @@ fn jobs_of<W: Wait + Drop>(
     alloc: Global,
     clients: Vec<Client<W>>,
     scripts: Vec<Script>,
-) -> Result<Vec<Job<W>>, AllocError> {
+) -> Result<Vec<Job<W>>, AllocError>
+    requires { vec_len clients ≡ vec_len scripts }
+    ensures clients { IfOk result (λ jobs. map (λ job. job.client) jobs.items ≡ clients.items) }
+    ensures scripts { IfOk result (λ jobs. map (λ job. job.script) jobs.items ≡ scripts.items) }
+{
     let mut jobs = Vec::new(alloc);
     let mut scripts = scripts.into_iter();
     for client in clients {
@@ -57,7 +62,11 @@ fn jobs_of<W: Wait + Drop>(
 fn gather<W: Wait + Drop>(
     alloc: Global,
     sessions: Vec<Session<W>>,
-) -> Result<Gathered<W>, AllocError> {
+) -> Result<Gathered<W>, AllocError>
+    ensures clients { IfOk result (λ left. left.clients.items ≡ map (λ session. session.client) sessions.items) }
+    ensures reports { IfOk result (λ left. map (λ report. report.items) left.reports.items ≡ map (λ session. session.report) sessions.items) }
+    ensures told { IfOk result (λ left. left.told.items ≡ flat_map (λ session. session.told) sessions.items) }
+{
     let mut clients = Vec::new(alloc);
     let mut reports = Vec::new(alloc);
     let mut told = Vec::new(alloc);
@@ -83,7 +92,10 @@ fn close<W: Wait + Drop>(
     alloc: Global,
     server: Server<W>,
     ended: Ended<W>,
-) -> Result<Run, AllocError> {
+) -> Result<Run, AllocError>
+    requires { IsReady server (map (λ session. session.client) ended.sessions.items) ended.dispatchers.items }
+    ensures { IfOk result (λ run. Leaves server ended.sessions.items ended.dispatchers.items (map (λ report. report.items) run.reports.items) run.trace) }
+{
     let Ended {
         sessions,
         dispatchers,
@@ -107,6 +119,28 @@ fn close<W: Wait + Drop>(
     })
 }
 
+// Serves each script by the client of its place.
+fn serve<W: Wait + Drop + Send, R: Wait + Threads + Sync>(
+    rt: &R,
+    alloc: Global,
+    opened: Opened<W>,
+    scripts: Vec<Script>,
+) -> Result<Run, AllocError>
+    requires clients { opened.clients.items ≡ new_clients opened.server }
+    requires dispatchers { opened.dispatchers.items ≡ new_dispatchers opened.server }
+    requires scripts { opened.server.clients ≡ vec_len scripts }
+    ensures { IfOk result (λ run. IsRun opened.server.base scripts.items opened.server.dispatchers (map (λ report. report.items) run.reports.items) run.trace) }
+{
+    let Opened {
+        server,
+        clients,
+        dispatchers,
+    } = opened;
+    let jobs = jobs_of(alloc, clients, scripts)?;
+    let ended = run_threads(rt, alloc, &server, jobs, dispatchers)?;
+    close(alloc, server, ended)
+}
+
 /// Serves 1 to 16 scripts by 1 to 4 dispatchers over a base, each client and each dispatcher in a thread of its own; `hashing`
 /// keys the map of orders. It waits until all of them have ended.
 ///
@@ -127,16 +161,8 @@ pub fn serve_scripts<R: Wait + Threads + Sync>(
     ensures fault { IfErr result (λ fault. IsRunFault (vec_len scripts) dispatchers fault) }
 {
     let count = u32::try_from(scripts.len()).unwrap_or(u32::MAX);
-    let opened = match open(alloc, rt, hashing, base, count, dispatchers) {
-        Ok(opened) => opened,
-        Err(error) => return Err(RunFault::from(error.fault)),
-    };
-    let Opened {
-        server,
-        clients,
-        dispatchers,
-    } = opened;
-    let jobs = jobs_of(alloc, clients, scripts)?;
-    let ended = run_threads(rt, alloc, &server, jobs, dispatchers)?;
-    Ok(close(alloc, server, ended)?)
+    match open(alloc, rt, hashing, base, count, dispatchers) {
+        Ok(opened) => Ok(serve(rt, alloc, opened, scripts)?),
+        Err(error) => Err(RunFault::from(error.fault)),
+    }
 }

@@ -30,43 +30,37 @@ struct Crew<W: Wait + Drop> {
     dispatchers: Vec<Dispatcher<W>>,
 }
 
-// Room for their threads and for what these leave, made before the first one starts: a started thread can then be joined
-// without memory.
+// Room for the threads and for what they leave, made before the first one starts: a started thread can then be joined without
+// memory.
 #[derive(Drop)]
 struct Room<W: Wait + Drop> {
     serving: Vec<Serving<W>>,
     dispatching: Vec<Dispatching<W>>,
     sessions: Vec<Session<W>>,
-    dispatchers: Vec<Dispatcher<W>>,
+    left: Vec<Dispatcher<W>>,
 }
 
-fn room_for<W: Wait + Drop>(alloc: Global, crew: &Crew<W>) -> Result<Room<W>, AllocError> {
-    let clients = crew.jobs.len();
-    let dispatchers = crew.dispatchers.len();
+// Room for so many clients and dispatchers.
+fn room_for<W: Wait + Drop>(
+    alloc: Global,
+    clients: usize,
+    dispatchers: usize,
+) -> Result<Room<W>, AllocError>
+    ensures clients { IfOk result (λ room. (room.serving.items ≡ []) × (room.sessions.items ≡ [])) }
+    ensures dispatchers { IfOk result (λ room. (room.dispatching.items ≡ []) × (room.left.items ≡ [])) }
+    ensures client_room { IfOk result (λ room. (clients ≤ vec_capacity room.serving) × (clients ≤ vec_capacity room.sessions)) }
+    ensures dispatcher_room { IfOk result (λ room. (dispatchers ≤ vec_capacity room.dispatching) × (dispatchers ≤ vec_capacity room.left)) }
+{
     Ok(Room {
         serving: Vec::with_capacity(alloc, clients)?,
         dispatching: Vec::with_capacity(alloc, dispatchers)?,
         sessions: Vec::with_capacity(alloc, clients)?,
-        dispatchers: Vec::with_capacity(alloc, dispatchers)?,
+        left: Vec::with_capacity(alloc, dispatchers)?,
     })
 }
 
-// Starts the dispatchers, and then the clients, whom nobody would answer without them.
-fn start_all<'s, E, W: Wait + Drop + Send, R: Wait + Threads + Sync>(
-    scope: &Scope<'s, E>,
-    rt: &'s R,
-    alloc: Global,
-    server: &'s Server<W>,
-    stop: &'s AtomicBool,
-    crew: Crew<W>,
-    room: &mut Room<W>,
-) -> Result<(), AllocError> {
-    let Crew { jobs, dispatchers } = crew;
-    start_dispatchers(scope, rt, server, stop, dispatchers, &mut room.dispatching)?;
-    start_clients(scope, rt, alloc, server, jobs, &mut room.serving)
-}
-
-// Starts all threads, and joins those that were started: the clients first, which the dispatchers serve until then.
+// Starts the dispatchers, then the clients, whom nobody would answer without them, and joins all that were started: the clients
+// first, which the dispatchers answer until then.
 fn serve_all<'s, E, W: Wait + Drop + Send, R: Wait + Threads + Sync>(
     scope: &Scope<'s, E>,
     rt: &'s R,
@@ -74,25 +68,39 @@ fn serve_all<'s, E, W: Wait + Drop + Send, R: Wait + Threads + Sync>(
     server: &'s Server<W>,
     stop: &'s AtomicBool,
     crew: Crew<W>,
-    mut room: Room<W>,
-) -> Result<Ended<W>, AllocError> {
-    let started = start_all(scope, rt, alloc, server, stop, crew, &mut room);
+    room: Room<W>,
+) -> Result<Ended<W>, AllocError>
+    requires jobs { All (IsTaskAt server.now) crew.jobs.items }
+    requires dispatchers { All (IsOf server.now) crew.dispatchers.items }
+    requires no_clients { (room.serving.items ≡ []) × (room.sessions.items ≡ []) }
+    requires no_dispatchers { (room.dispatching.items ≡ []) × (room.left.items ≡ []) }
+    requires client_room { (vec_len crew.jobs ≤ vec_capacity room.serving) × (vec_len crew.jobs ≤ vec_capacity room.sessions) }
+    requires dispatcher_room { (vec_len crew.dispatchers ≤ vec_capacity room.dispatching) × (vec_len crew.dispatchers ≤ vec_capacity room.left) }
+    ensures sessions { IfOk result (λ ended. AreSessionsOf crew.jobs.items ended.sessions.items) }
+    ensures dispatchers { IfOk result (λ ended. AreStill crew.dispatchers.items ended.dispatchers.items) }
+{
+    let Crew { jobs, dispatchers } = crew;
     let Room {
-        serving,
-        dispatching,
+        mut serving,
+        mut dispatching,
         mut sessions,
-        mut dispatchers,
+        mut left,
     } = room;
-    let mut batches = Batches::default();
+    let dispatched = start_dispatchers(scope, rt, server, stop, dispatchers, &mut dispatching);
+    let started = match dispatched {
+        Ok(()) => start_clients(scope, rt, alloc, server, jobs, &mut serving),
+        Err(refused) => Err(refused),
+    };
     let served = join_clients(rt, serving, &mut sessions);
     stop.store(true, Ordering::SeqCst);
     server.ring();
-    join_dispatchers(rt, dispatching, &mut dispatchers, &mut batches);
+    let mut batches = Batches::default();
+    join_dispatchers(rt, dispatching, &mut left, &mut batches);
     started?;
     served?;
     Ok(Ended {
         sessions,
-        dispatchers,
+        dispatchers: left,
         batches,
     })
 }
@@ -110,15 +118,22 @@ pub(crate) fn run_threads<W: Wait + Drop + Send, R: Wait + Threads + Sync>(
     ensures sessions { IfOk result (λ ended. AreSessionsOf jobs.items ended.sessions.items) }
     ensures dispatchers { IfOk result (λ ended. AreStill dispatchers.items ended.dispatchers.items) }
 {
+    let room = room_for(alloc, jobs.len(), dispatchers.len())?;
     let crew = Crew { jobs, dispatchers };
-    let room = room_for(alloc, &crew)?;
     let flag = AtomicBool::new(false);
     let stop = &flag;
     thread::scope(
         thread::scope_env(),
         rt,
-        |scope| -> Result<Ended<W>, AllocError> {
-            serve_all(scope, rt, alloc, server, stop, crew, room)
-        },
+        |scope| -> Result<Ended<W>, AllocError>
+            requires { All (IsTaskAt server.now) crew.jobs.items
+                × All (IsOf server.now) crew.dispatchers.items
+                × ((room.serving.items ≡ []) × (room.sessions.items ≡ []))
+                × ((room.dispatching.items ≡ []) × (room.left.items ≡ []))
+                × ((vec_len crew.jobs ≤ vec_capacity room.serving) × (vec_len crew.jobs ≤ vec_capacity room.sessions))
+                × ((vec_len crew.dispatchers ≤ vec_capacity room.dispatching) × (vec_len crew.dispatchers ≤ vec_capacity room.left)) }
+            ensures sessions { IfOk result (λ ended. AreSessionsOf crew.jobs.items ended.sessions.items) }
+            ensures dispatchers { IfOk result (λ ended. AreStill crew.dispatchers.items ended.dispatchers.items) }
+        { serve_all(scope, rt, alloc, server, stop, crew, room) },
     )
 }
