@@ -43,7 +43,7 @@ map_at f (y ∷ ys) (suc i) x here = map_at f ys i x here
 -- at a place of a row stands what is made of its number
 row_at : {X : Type 0} (make : ℕ → X) (first n i : ℕ) (x : X) → slice_get (map make (range_with_len first n)) i ≡ Some x → x ≡ make (first + i)
 row_at make first zero i x here = absurd (none_is here)
-row_at make first (suc n) zero x here = sym (some_is here)
+row_at make first (suc n) zero x here = sym (some_is here) ∙ ap make (omega arith)
 row_at make first (suc n) (suc i) x here = row_at make (first + 1) n i x here ∙ ap make (omega arith)
 
 all_at : {X : Type 0} (P : X → Type 0) (xs : List X) (i : ℕ) (x : X) → All P xs → slice_get xs i ≡ Some x → P x
@@ -98,14 +98,14 @@ is_run hall base dispatchers scripts tasks sessions ended reports trace of_base 
 }
 
 -- what clients were told, with their numbers from this one on
-told_from : ℕ → List Session → List (ℕ × List Told)
+abbrev told_from : ℕ → List Session → List (ℕ × List Told)
 told_from number [] = []
 told_from number (session ∷ sessions) = (number, session.told) ∷ told_from (number + 1) sessions
 
 told_at : (number : ℕ) (sessions : List Session) (i : ℕ) (c : ℕ × List Told) → slice_get (told_from number sessions) i ≡ Some c
     → (session : Session) × (slice_get sessions i ≡ Some session) × (c ≡ (number + i, session.told))
 told_at number [] i c here = absurd (none_is here)
-told_at number (s ∷ ss) zero c here = (s, refl, sym (some_is here))
+told_at number (s ∷ ss) zero c here = (s, refl, sym (some_is here) ∙ ap (λ k. (k, s.told)) (omega arith))
 told_at number (s ∷ ss) (suc i) c here =
     let found = told_at (number + 1) ss i c here in
     (found.0, found.1, found.2 ∙ ap (λ k. (k, found.0.told)) (omega arith))

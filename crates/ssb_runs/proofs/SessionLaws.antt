@@ -8,6 +8,7 @@ use Rattle.std.proofs.Math.Dec.{eqb}
 use Rattle.std.proofs.lemmas.List.{length-map}
 use Rattle.std.proofs.lemmas.List.Elements.{All-nil, All-cons, All-head, All-tail, All-map}
 use Rattle.std.proofs.lemmas.List.FromFn.{length-range_with_len}
+use Rattle.row_store.proofs.FactCounts.{count_cons}
 use Rattle.history_core.specs.declared.event.Who.TheVariants.{Client, Dispatcher}
 use Rattle.history.specs.Closing.{AreNumbered}
 use Rattle.history.specs.Tokens.{Hall, Token, new_token, new_clients, new_dispatchers}
@@ -90,28 +91,30 @@ still_numbers (b ∷ befores) (a ∷ afters) are = ap (λ w. number_of w ∷ map
 -- a number is once in a row that it is in, and not in one that begins later
 count_map : {X Y : Type 0} (p : Y → Bool) (f : X → Y) (xs : List X) → count_by (λ x. p (f x)) xs ≡ count_by p (map f xs)
 count_map p f [] = refl
-count_map p f (x ∷ xs) = ap (λ k. cond (p (f x)) 1 0 + k) (count_map p f xs)
+count_map p f (x ∷ xs) = count_cons (λ y. p (f y)) x xs ∙ (ap (λ k. cond (p (f x)) 1 0 + k) (count_map p f xs) ∙ sym (count_cons p (f x) (map f xs)))
 
 not_in_row : (first n number : ℕ) → number < first → count_by (λ x. x == number) (range_with_len first n) ≡ 0
 not_in_row first zero number low = refl
 not_in_row first (suc n) number low =
-    ap (λ b. cond b 1 0 + count_by (λ x. x == number) (range_with_len (first + 1) n)) (ne_eqb first number (λ e. omega (arith, e, low)))
-    ∙ not_in_row (first + 1) n number (omega (arith, low))
+    let here = ap (λ (b : Bool). cond b 1 0) (ne_eqb first number (λ e. omega (arith, e, low))) in
+    let later = not_in_row (first + 1) n number (omega (arith, low)) in
+    omega (arith, count_cons (λ x. x == number) first (range_with_len (first + 1) n), here, later)
+
+-- the first of a row is it, or a later one
+once_first : (first n number : ℕ) → ((eqb first number ≡ true) × (first ≡ number)) ⊎ ((eqb first number ≡ false) × (first ≢ number)) → first ≤ number
+    → (first + 1 ≤ number → count_by (λ x. x == number) (range_with_len (first + 1) n) ≡ 1) → count_by (λ x. x == number) (range_with_len first (suc n)) ≡ 1
+once_first first n number (inl is) low later =
+    let here = ap (λ (b : Bool). cond b 1 0) is.0 in
+    let none = not_in_row (first + 1) n number (omega (arith, is.1)) in
+    omega (arith, count_cons (λ x. x == number) first (range_with_len (first + 1) n), here, none)
+once_first first n number (inr other) low later =
+    let here = ap (λ (b : Bool). cond b 1 0) other.0 in
+    let one = later (omega (arith, other.1, low)) in
+    omega (arith, count_cons (λ x. x == number) first (range_with_len (first + 1) n), here, one)
 
 once_in_row : (first n number : ℕ) → first ≤ number → number < first + n → count_by (λ x. x == number) (range_with_len first n) ≡ 1
 once_in_row first zero number low high = absurd (omega (arith, low, high))
-once_in_row first (suc n) number low high = by_head (eqb_tells first number)
-  where
-    by_head : ((eqb first number ≡ true) × (first ≡ number)) ⊎ ((eqb first number ≡ false) × (first ≢ number)) → count_by (λ x. x == number) (range_with_len first (suc n)) ≡ 1
-    by_head (inl here) =
-        ap (λ b. cond b 1 0 + count_by (λ x. x == number) (range_with_len (first + 1) n)) here.0
-        ∙ ap suc (not_in_row (first + 1) n number (omega (arith, here.1)))
-    by_head (inr other) =
-        ap (λ b. cond b 1 0 + count_by (λ x. x == number) (range_with_len (first + 1) n)) other.0
-        ∙ once_in_row (first + 1) n number (neq_low other.1) (omega (arith, high))
-
-    neq_low : first ≢ number → first + 1 ≤ number
-    neq_low ne = omega (arith, ne, low)
+once_in_row first (suc n) number low high = once_first first n number (eqb_tells first number) low (λ later. once_in_row (first + 1) n number later (omega (arith, high)))
 
 -- tokens whose numbers are a row from 1 are numbered
 pub row_numbered : (n : ℕ) (tokens : List Token) → map number_in tokens ≡ range_with_len 1 n → AreNumbered n tokens

@@ -1,5 +1,5 @@
 //! The threads of the clients.
-ghost use Rattle.std.specs.Prelude.{◌≡◌, ◌+◌, ◌≤◌, [], ◌++◌, All, OnOk, map, length, vec_len, vec_capacity};
+ghost use Rattle.std.specs.Prelude.{◌≡◌, ◌+◌, ◌≤◌, [], ◌++◌, All, IfOk, OnOk, map, length, vec_len, vec_capacity};
 ghost use Rattle.ssb_runs.specs.Sessions.{IsSessionOf, AreSessionsOf, IsTaskAt};
 
 use crate::job::Job;

@@ -1,5 +1,6 @@
 //! The threads of the dispatchers.
 ghost use Rattle.std.specs.Prelude.{◌≡◌, ◌+◌, ◌≤◌, [], ◌++◌, All, OnOk, map, length, vec_len, vec_capacity};
+ghost use Rattle.std.specs.Thread.{IsSync};
 ghost use Rattle.ssb_runs.specs.Sessions.{IsStill, AreStill};
 ghost use Rattle.ssb_server.specs.Tickets.{IsOf};
 
@@ -87,7 +88,13 @@ pub(crate) fn start_dispatchers<'s, E, W: Wait + Drop + Send, R: Wait + Threads 
         let promise = DispatchedBy {
             dispatcher: Snapshot::of(&dispatcher),
         };
-        let thread = scope.spawn_with(promise, move || dispatch(rt, server, stop, dispatcher))?;
+        let thread = scope.spawn_with(
+            promise,
+            move || -> Dispatched<W>
+                requires { IsSync R.row × IsOf server.now dispatcher }
+                ensures { IsStill dispatcher result }
+            { dispatch(rt, server, stop, dispatcher) },
+        )?;
         dispatching.push_reserved(thread);
     }
     Ok(())
