@@ -1,5 +1,5 @@
 -- Lists that grow by one place after another.
-use Rattle.std.proofs.Common.{◌≡◌, List, [], ◌∷◌, ◌++◌, map, flat_map, sym, ◌∙◌, ap, append_assoc, append-nil}
+use Rattle.std.proofs.Common.{◌≡◌, List, [], ◌∷◌, ◌++◌, length, map, flat_map, sym, ◌∙◌, ap, append_assoc, append-nil, arith}
 use Rattle.std.proofs.lemmas.Grind.{flat_map-append}
 use Rattle.std.proofs.lemmas.List.{map-append}
 
@@ -30,3 +30,8 @@ push_flat make done now after last ys was grown is =
 
 pub to_the_end : {Y : Type 0} (whole before done all : List Y) → whole ≡ before ++ done → done ≡ all → whole ≡ before ++ all
 to_the_end whole before done all was is = was ∙ ap (λ ys. before ++ ys) is
+
+-- where nothing is left behind it, a beginning is all
+pub none_left : {Y : Type 0} (front rest all : List Y) → front ++ rest ≡ all → length rest ≡ 0 → front ≡ all
+none_left front [] all whole none = sym (append-nil front) ∙ whole
+none_left front (y ∷ rest) all whole none = absurd (omega (arith, none))

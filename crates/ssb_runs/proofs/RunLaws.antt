@@ -1,8 +1,9 @@
 -- What a run leaves is as its definition says, and its trace is legal.
-use Rattle.std.proofs.Common.{◌≡◌, ◌≢◌, ℕ, zero, suc, ◌+◌, ◌<◌, List, [], ◌∷◌, ◌++◌, length, map, flat_map, Option, Some, None, refl, sym, ◌∙◌, ap, subst, arith}
-use Rattle.std.specs.Prelude.{All, slice_get}
+use Rattle.std.proofs.Common.{◌≡◌, ◌≢◌, ℕ, zero, suc, ◌+◌, ◌<◌, List, [], ◌∷◌, ◌++◌, length, map, flat_map, Option, Some, None, Result, Ok, Err, refl, sym, ◌∙◌, ap, subst, arith}
+use Rattle.std.specs.Prelude.{All, IfOk, slice_get}
 use Rattle.std.specs.List.{range_with_len}
 use Rattle.std.proofs.lemmas.List.{length-map}
+use Rattle.std.proofs.lemmas.List.Elements.{All-nil, All-cons, All-head, All-tail}
 use Rattle.std.proofs.lemmas.Option.{slice_get_within, get_or_from_slice_get}
 use Rattle.history.specs.Closing.{IsLogOf}
 use Rattle.history.specs.Tokens.{Hall, Token, new_token, new_clients}
@@ -48,6 +49,10 @@ row_at make first (suc n) (suc i) x here = row_at make (first + 1) n i x here �
 
 all_at : {X : Type 0} (P : X → Type 0) (xs : List X) (i : ℕ) (x : X) → All P xs → slice_get xs i ≡ Some x → P x
 all_at P xs i x all here = subst P (get_or_from_slice_get xs i x x here) (all i x (slice_get_within xs i x here))
+
+all_of : (P : Token → Type 0) (sessions : List Session) → All P (map client_of_session sessions) → All (λ (s : Session). P s.client) sessions
+all_of P [] all = All-nil (λ (s : Session). P s.client)
+all_of P (s ∷ ss) all = All-cons (λ (s : Session). P s.client) s ss (All-head P s.client (map client_of_session ss) all) (all_of P ss (All-tail P s.client (map client_of_session ss) all))
 
 -- the task at a script's place is the new client of that number with that script
 record IsTaskOf (hall : Hall) (tasks : List Task) (i : ℕ) (script : Script) : Type 0 where
@@ -96,6 +101,29 @@ is_run hall base dispatchers scripts tasks sessions ended reports trace of_base 
   legal = subst (λ b. IsLegal b trace.commits) of_base leaves.legal;
   named = subst (λ n. IsOfClients n trace.commits) clients_are leaves.named;
 }
+
+-- the server was closed with these clients and dispatchers, and their sessions left these reports and answers
+pub closed_leaves : (hall : Hall) (sessions : List Session) (clients ended : List Token) (log : List CommitRecord) (reports : List (List ℕ)) (told : List Told) (trace : Trace)
+    → clients ≡ map client_of_session sessions → reports ≡ map (λ (s : Session). s.report) sessions → told ≡ flat_map (λ (s : Session). s.told) sessions
+    → trace.commits ≡ log → trace.answers ≡ told → IsLogOf hall clients ended log → IsLegal hall.base log → IsOfClients hall.clients log
+    → All (λ (t : Token). IsPrefix t.seen log) clients → All (λ (t : Token). Owns t.who t.mine log) clients → Leaves hall sessions ended reports trace
+closed_leaves hall sessions clients ended log reports told trace of_clients of_reports of_told commits answers true_log legal named seen own = record {
+  reports_are = of_reports;
+  answers_are = answers ∙ of_told;
+  true_log = subst (λ ts. IsLogOf hall ts ended trace.commits) of_clients (subst (IsLogOf hall clients ended) (sym commits) true_log);
+  legal = subst (IsLegal hall.base) (sym commits) legal;
+  named = subst (IsOfClients hall.clients) (sym commits) named;
+  begin = all_of (λ (t : Token). IsPrefix t.seen trace.commits) sessions (subst (λ l. All (λ (t : Token). IsPrefix t.seen l) (map client_of_session sessions)) (sym commits) (subst (All (λ (t : Token). IsPrefix t.seen log)) of_clients seen));
+  own = all_of (λ (t : Token). Owns t.who t.mine trace.commits) sessions (subst (λ l. All (λ (t : Token). Owns t.who t.mine l) (map client_of_session sessions)) (sym commits) (subst (All (λ (t : Token). Owns t.who t.mine log)) of_clients own));
+}
+
+-- what is left, where anything is, is a run
+pub run_where : {X E : Type 0} (result : Result X E) (reports_of : X → List (List ℕ)) (trace_of : X → Trace) (hall : Hall) (scripts : List Script) (tasks : List Task) (sessions : List Session) (ended : List Token)
+    → hall.clients ≡ length scripts → map client_of_task tasks ≡ new_clients hall → map script_of tasks ≡ scripts → AreSessionsOf tasks sessions
+    → IfOk result (λ x. Leaves hall sessions ended (reports_of x) (trace_of x)) → IfOk result (λ x. IsRun hall.base scripts hall.dispatchers (reports_of x) (trace_of x))
+run_where (Ok x) reports_of trace_of hall scripts tasks sessions ended count clients of_scripts are leaves =
+    is_run hall hall.base hall.dispatchers scripts tasks sessions ended (reports_of x) (trace_of x) refl count refl clients of_scripts are leaves
+run_where (Err e) reports_of trace_of hall scripts tasks sessions ended count clients of_scripts are leaves = leaves
 
 -- what clients were told, with their numbers from this one on
 abbrev told_from : ℕ → List Session → List (ℕ × List Told)

@@ -93,10 +93,13 @@ count_map : {X Y : Type 0} (p : Y → Bool) (f : X → Y) (xs : List X) → coun
 count_map p f [] = refl
 count_map p f (x ∷ xs) = count_cons (λ y. p (f y)) x xs ∙ (ap (λ k. cond (p (f x)) 1 0 + k) (count_map p f xs) ∙ sym (count_cons p (f x) (map f xs)))
 
+abbrev one_if : Bool → ℕ
+one_if test = cond test 1 0
+
 not_in_row : (first n number : ℕ) → number < first → count_by (λ x. x == number) (range_with_len first n) ≡ 0
 not_in_row first zero number low = refl
 not_in_row first (suc n) number low =
-    let here = ap (λ (b : Bool). cond b 1 0) (ne_eqb first number (λ e. omega (arith, e, low))) in
+    let here : one_if (eqb first number) ≡ 0 = ap one_if (ne_eqb first number (λ e. omega (arith, e, low))) in
     let later = not_in_row (first + 1) n number (omega (arith, low)) in
     omega (arith, count_cons (λ x. x == number) first (range_with_len (first + 1) n), here, later)
 
@@ -104,11 +107,11 @@ not_in_row first (suc n) number low =
 once_first : (first n number : ℕ) → ((eqb first number ≡ true) × (first ≡ number)) ⊎ ((eqb first number ≡ false) × (first ≢ number)) → first ≤ number
     → (first + 1 ≤ number → count_by (λ x. x == number) (range_with_len (first + 1) n) ≡ 1) → count_by (λ x. x == number) (range_with_len first (suc n)) ≡ 1
 once_first first n number (inl is) low later =
-    let here = ap (λ (b : Bool). cond b 1 0) is.0 in
+    let here : one_if (eqb first number) ≡ 1 = ap one_if is.0 in
     let none = not_in_row (first + 1) n number (omega (arith, is.1)) in
     omega (arith, count_cons (λ x. x == number) first (range_with_len (first + 1) n), here, none)
 once_first first n number (inr other) low later =
-    let here = ap (λ (b : Bool). cond b 1 0) other.0 in
+    let here : one_if (eqb first number) ≡ 0 = ap one_if other.0 in
     let one = later (omega (arith, other.1, low)) in
     omega (arith, count_cons (λ x. x == number) first (range_with_len (first + 1) n), here, one)
 

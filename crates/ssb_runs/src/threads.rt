@@ -105,6 +105,41 @@ fn serve_all<'s, E, W: Wait + Drop + Send, R: Wait + Threads + Sync>(
     })
 }
 
+// Runs all of it in a scope, which ends when every thread has.
+fn serve_in_scope<W: Wait + Drop + Send, R: Wait + Threads + Sync>(
+    rt: &R,
+    alloc: Global,
+    server: &Server<W>,
+    crew: Crew<W>,
+    room: Room<W>,
+) -> Result<Ended<W>, AllocError>
+    requires jobs { All (IsTaskAt server.now) crew.jobs.items }
+    requires dispatchers { All (IsOf server.now) crew.dispatchers.items }
+    requires no_clients { (room.serving.items ≡ []) × (room.sessions.items ≡ []) }
+    requires no_dispatchers { (room.dispatching.items ≡ []) × (room.left.items ≡ []) }
+    requires client_room { (vec_len crew.jobs ≤ vec_capacity room.serving) × (vec_len crew.jobs ≤ vec_capacity room.sessions) }
+    requires dispatcher_room { (vec_len crew.dispatchers ≤ vec_capacity room.dispatching) × (vec_len crew.dispatchers ≤ vec_capacity room.left) }
+    ensures sessions { IfOk result (λ ended. AreSessionsOf crew.jobs.items ended.sessions.items) }
+    ensures dispatchers { IfOk result (λ ended. AreStill crew.dispatchers.items ended.dispatchers.items) }
+{
+    let flag = AtomicBool::new(false);
+    let stop = &flag;
+    thread::scope(
+        thread::scope_env(),
+        rt,
+        |scope| -> Result<Ended<W>, AllocError>
+            requires jobs { All (IsTaskAt server.now) crew.jobs.items }
+            requires dispatchers { All (IsOf server.now) crew.dispatchers.items }
+            requires no_clients { (room.serving.items ≡ []) × (room.sessions.items ≡ []) }
+            requires no_dispatchers { (room.dispatching.items ≡ []) × (room.left.items ≡ []) }
+            requires client_room { (vec_len crew.jobs ≤ vec_capacity room.serving) × (vec_len crew.jobs ≤ vec_capacity room.sessions) }
+            requires dispatcher_room { (vec_len crew.dispatchers ≤ vec_capacity room.dispatching) × (vec_len crew.dispatchers ≤ vec_capacity room.left) }
+            ensures sessions { IfOk result (λ ended. AreSessionsOf crew.jobs.items ended.sessions.items) }
+            ensures dispatchers { IfOk result (λ ended. AreStill crew.dispatchers.items ended.dispatchers.items) }
+        { serve_all(scope, rt, alloc, server, stop, crew, room) },
+    )
+}
+
 /// Serves the jobs, each in a thread of its own, by these dispatchers, each in a thread of its own.
 pub(crate) fn run_threads<W: Wait + Drop + Send, R: Wait + Threads + Sync>(
     rt: &R,
@@ -119,21 +154,5 @@ pub(crate) fn run_threads<W: Wait + Drop + Send, R: Wait + Threads + Sync>(
     ensures dispatchers { IfOk result (λ ended. AreStill dispatchers.items ended.dispatchers.items) }
 {
     let room = room_for(alloc, jobs.len(), dispatchers.len())?;
-    let crew = Crew { jobs, dispatchers };
-    let flag = AtomicBool::new(false);
-    let stop = &flag;
-    thread::scope(
-        thread::scope_env(),
-        rt,
-        |scope| -> Result<Ended<W>, AllocError>
-            requires { All (IsTaskAt server.now) crew.jobs.items
-                × All (IsOf server.now) crew.dispatchers.items
-                × ((room.serving.items ≡ []) × (room.sessions.items ≡ []))
-                × ((room.dispatching.items ≡ []) × (room.left.items ≡ []))
-                × ((vec_len crew.jobs ≤ vec_capacity room.serving) × (vec_len crew.jobs ≤ vec_capacity room.sessions))
-                × ((vec_len crew.dispatchers ≤ vec_capacity room.dispatching) × (vec_len crew.dispatchers ≤ vec_capacity room.left)) }
-            ensures sessions { IfOk result (λ ended. AreSessionsOf crew.jobs.items ended.sessions.items) }
-            ensures dispatchers { IfOk result (λ ended. AreStill crew.dispatchers.items ended.dispatchers.items) }
-        { serve_all(scope, rt, alloc, server, stop, crew, room) },
-    )
+    serve_in_scope(rt, alloc, server, Crew { jobs, dispatchers }, room)
 }
