@@ -1,0 +1,3 @@
+mod ListLaws
+mod SessionLaws
+mod RunLaws

@@ -1,0 +1,5 @@
+use Rattle.ssb_runs.specs.Sessions.{IsStill}
+use Rattle.ssb_runs.proofs.dispatchers.dispatch.Given as goal
+
+abbrev pub invariant-loop : goal.invariant-loop
+invariant-loop g l = IsStill l.fn.dispatcher l.dispatcher

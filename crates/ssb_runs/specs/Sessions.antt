@@ -1,0 +1,57 @@
+-- What the threads of a run do.
+use Rattle.std.specs.Prelude.{◌≡◌, ℕ, All, List, [], ◌∷◌, Some, None}
+use Rattle.history.specs.Tokens.{Hall, Token}
+use Rattle.history.specs.World.{number_of}
+use Rattle.ssb_audit.specs.declared.trace.Told.{Told}
+use Rattle.ssb_script.specs.declared.block.Script.{Script}
+use Rattle.ssb_script.specs.Requests.{requests_of}
+use Rattle.ssb_server.specs.Tickets.{IsQuiet, IsOf, AreAllThere}
+use Rattle.ssb_session.specs.Served.{Serves}
+
+-- a client, and the script that it is to be served
+pub record Task : Type 0 where
+  pub client : Token
+  pub script : Script
+
+-- what a script that was served leaves: the client, what was reported to it, and what it was told
+pub record Session : Type 0 where
+  pub client : Token
+  pub report : List ℕ
+  pub told : List Told
+
+-- a client of this table that asks nothing
+pub record IsTaskAt (hall : Hall) (task : Task) : Type 0 where
+  pub hall_is : task.client.hall ≡ hall
+  pub quiet : task.client.asked ≡ None
+
+-- the task's client was served its script whole, with nothing reported and told before, and asks nothing at the end
+pub record IsSessionOf (task : Task) (session : Session) : Type 0 where
+  pub hall : session.client.hall ≡ task.client.hall
+  pub who : session.client.who ≡ task.client.who
+  pub quiet : session.client.asked ≡ None
+  pub served : Serves (number_of task.client.who) task.client session.client (requests_of task.script) [] session.told (Some []) (Some session.report)
+
+-- a session of each task, in order
+abbrev pub AreSessionsOf : List Task → List Session → Type 0
+AreSessionsOf [] [] = Unit {0}
+AreSessionsOf (task ∷ tasks) (session ∷ sessions) = IsSessionOf task session × AreSessionsOf tasks sessions
+AreSessionsOf [] (session ∷ sessions) = ⊥
+AreSessionsOf (task ∷ tasks) [] = ⊥
+
+-- the same member of the same table
+pub record IsStill (before after : Token) : Type 0 where
+  pub hall : after.hall ≡ before.hall
+  pub who : after.who ≡ before.who
+
+-- the same members, in order
+abbrev pub AreStill : List Token → List Token → Type 0
+AreStill [] [] = Unit {0}
+AreStill (before ∷ befores) (after ∷ afters) = IsStill before after × AreStill befores afters
+AreStill [] (after ∷ afters) = ⊥
+AreStill (before ∷ befores) [] = ⊥
+
+-- the server can be closed with these: each client asks nothing, and each client and dispatcher is there once
+pub record IsReady (hall : Hall) (clients dispatchers : List Token) : Type 0 where
+  pub quiet : All (IsQuiet hall) clients
+  pub left : All (IsOf hall) dispatchers
+  pub there : AreAllThere hall clients dispatchers

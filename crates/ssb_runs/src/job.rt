@@ -1,0 +1,21 @@
+//! A client with the script that it is to be served.
+
+use ssb_script::Script;
+use ssb_server::Client;
+use std::marker::Model;
+use std::sync::Wait;
+
+/// A client, and its script.
+#[derive(Drop)]
+pub(crate) struct Job<W: Wait + Drop> {
+    pub(crate) client: Client<W>,
+    pub(crate) script: Script,
+}
+
+impl<W: Wait + Drop> Model for Job<W> {
+    ghost use Rattle.ssb_runs.specs.Sessions.{Task};
+
+    ghost Value = { Task };
+
+    ghost view = { λ j. record { client = j.client; script = j.script } };
+}

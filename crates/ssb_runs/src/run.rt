@@ -1,0 +1,168 @@
+//! A run of scripts over the live server.
+ghost use Rattle.std.specs.Prelude.{◌≡◌, IfOk, IfErr, OnOk, map, flat_map, vec_len};
+ghost use Rattle.history.specs.Tokens.{new_clients, new_dispatchers};
+ghost use Rattle.ssb_audit.specs.Legal.{IsLegalTrace};
+ghost use Rattle.ssb_runs.specs.Run.{IsRun, IsRunFault, Leaves};
+ghost use Rattle.ssb_runs.specs.Sessions.{IsReady};
+ghost use Rattle.ssb_server.specs.Opening.{AreCounts};
+
+use crate::batches::Batches;
+use crate::fault::RunFault;
+use crate::job::Job;
+use crate::session::Session;
+use crate::threads::{Ended, run_threads};
+use ssb_audit::{Told, Trace};
+use ssb_schema::{Base, Items};
+use ssb_script::Script;
+use ssb_server::{Client, Closed, Dispatcher, Opened, Server, open};
+use std::alloc::{AllocError, Global};
+use std::hash::RandomState;
+use std::sync::{Arc, Wait};
+use std::thread::Threads;
+
+/// What a run leaves: the report of each script, in the order of the scripts, and the trace, which has the log and what each
+/// client was told, one client after another.
+#[derive(Drop)]
+pub struct Run {
+    pub reports: Vec<Vec<u8>>,
+    pub trace: Trace,
+    pub batches: Batches,
+}
+
+// What the clients leave, each by its place.
+#[derive(Drop)]
+struct Gathered<W: Wait + Drop> {
+    clients: Vec<Client<W>>,
+    reports: Vec<Vec<u8>>,
+    told: Vec<Told>,
+}
+
+// Each client with its script.
+fn jobs_of<W: Wait + Drop>(
+    alloc: Global,
+    clients: Vec<Client<W>>,
+    scripts: Vec<Script>,
+) -> Result<Vec<Job<W>>, AllocError>
+    requires { vec_len clients ≡ vec_len scripts }
+    ensures clients { IfOk result (λ jobs. map (λ job. job.client) jobs.items ≡ clients.items) }
+    ensures scripts { IfOk result (λ jobs. map (λ job. job.script) jobs.items ≡ scripts.items) }
+{
+    let mut jobs = Vec::new(alloc);
+    let mut scripts = scripts.into_iter();
+    for client in clients {
+        let Some(script) = scripts.next() else {
+            unreachable!()
+        };
+        jobs.push(Job { client, script })?;
+    }
+    Ok(jobs)
+}
+
+// What the sessions leave, in their order.
+fn gather<W: Wait + Drop>(
+    alloc: Global,
+    sessions: Vec<Session<W>>,
+) -> Result<Gathered<W>, AllocError>
+    ensures clients { IfOk result (λ left. left.clients.items ≡ map (λ session. session.client) sessions.items) }
+    ensures reports { IfOk result (λ left. map (λ report. report.items) left.reports.items ≡ map (λ session. session.report) sessions.items) }
+    ensures told { IfOk result (λ left. left.told.items ≡ flat_map (λ session. session.told) sessions.items) }
+{
+    let mut clients = Vec::new(alloc);
+    let mut reports = Vec::new(alloc);
+    let mut told = Vec::new(alloc);
+    for session in sessions {
+        let Session {
+            client,
+            report,
+            told: mut own,
+        } = session;
+        clients.push(client)?;
+        reports.push(report)?;
+        told.append(&mut own)?;
+    }
+    Ok(Gathered {
+        clients,
+        reports,
+        told,
+    })
+}
+
+// Closes the server with all who took part.
+fn close<W: Wait + Drop>(
+    alloc: Global,
+    server: Server<W>,
+    ended: Ended<W>,
+) -> Result<Run, AllocError>
+    requires { IsReady server (map (λ session. session.client) ended.sessions.items) ended.dispatchers.items }
+    ensures { IfOk result (λ run. Leaves server ended.sessions.items ended.dispatchers.items (map (λ report. report.items) run.reports.items) run.trace) }
+{
+    let Ended {
+        sessions,
+        dispatchers,
+        batches,
+    } = ended;
+    let Gathered {
+        clients,
+        reports,
+        told,
+    } = gather(alloc, sessions)?;
+    let Ok(Closed { base: _, log }) = server.close(clients, dispatchers) else {
+        unreachable!()
+    };
+    Ok(Run {
+        reports,
+        trace: Trace {
+            commits: Items::from_vec(log),
+            answers: Items::from_vec(told),
+        },
+        batches,
+    })
+}
+
+// Serves each script by the client of its place.
+fn serve<W: Wait + Drop + Send, R: Wait + Threads + Sync>(
+    rt: &R,
+    alloc: Global,
+    opened: Opened<W>,
+    scripts: Vec<Script>,
+) -> Result<Run, AllocError>
+    requires clients { opened.clients.items ≡ new_clients opened.server }
+    requires dispatchers { opened.dispatchers.items ≡ new_dispatchers opened.server }
+    requires scripts { opened.server.clients ≡ vec_len scripts }
+    ensures { IfOk result (λ run. IsRun opened.server.base scripts.items opened.server.dispatchers (map (λ report. report.items) run.reports.items) run.trace) }
+{
+    let Opened {
+        server,
+        clients,
+        dispatchers,
+    } = opened;
+    let jobs = jobs_of(alloc, clients, scripts)?;
+    let ended = run_threads(rt, alloc, &server, jobs, dispatchers)?;
+    close(alloc, server, ended)
+}
+
+/// Serves 1 to 16 scripts by 1 to 4 dispatchers over a base, each client and each dispatcher in a thread of its own; `hashing`
+/// keys the map of orders. It waits until all of them have ended.
+///
+/// The dispatchers' threads start first, then the clients' in the order of the scripts, and where one can't be started, no
+/// later one is. That, and a refused growth wherever it is met, is `OutOfMemory`; each thread that was started has ended
+/// then, too.
+pub fn serve_scripts<R: Wait + Threads + Sync>(
+    rt: &R,
+    alloc: Global,
+    hashing: RandomState,
+    base: Arc<Base>,
+    scripts: Vec<Script>,
+    dispatchers: u32,
+) -> Result<Run, RunFault>
+    ensures counts { OnOk result (AreCounts (vec_len scripts) dispatchers) }
+    ensures served { IfOk result (λ run. IsRun base.value scripts.items dispatchers (map (λ report. report.items) run.reports.items) run.trace) }
+    ensures legal { IfOk result (λ run. IsLegalTrace base.value run.trace) }
+    ensures fault { IfErr result (λ fault. IsRunFault (vec_len scripts) dispatchers fault) }
+{
+    let count = u32::try_from(scripts.len()).unwrap_or(u32::MAX);
+    match open(alloc, rt, hashing, base, count, dispatchers) {
+        Ok(opened) => Ok(serve(rt, alloc, opened, scripts)?),
+        Err(error) => Err(RunFault::from(error.fault)),
+    }
+}

@@ -1,0 +1,158 @@
+//! The threads of a run: dispatchers and clients beside one another, from the first start to the last end.
+ghost use Rattle.std.specs.Prelude.{◌≡◌, ◌≤◌, [], All, IfOk, OnOk, map, length, vec_len, vec_capacity};
+ghost use Rattle.ssb_runs.specs.Sessions.{AreSessionsOf, IsTaskAt, AreStill};
+ghost use Rattle.ssb_server.specs.Tickets.{IsOf};
+
+use crate::batches::Batches;
+use crate::clients::{Serving, join_clients, start_clients};
+use crate::dispatchers::{Dispatching, join_dispatchers, start_dispatchers};
+use crate::job::Job;
+use crate::session::Session;
+use ssb_server::{Dispatcher, Server};
+use std::alloc::{AllocError, Global};
+use std::sync::Wait;
+use std::sync::atomic::{AtomicBool, Ordering};
+use std::thread;
+use std::thread::{Scope, Threads};
+
+/// All who took part, after their threads ended.
+#[derive(Drop)]
+pub(crate) struct Ended<W: Wait + Drop> {
+    pub(crate) sessions: Vec<Session<W>>,
+    pub(crate) dispatchers: Vec<Dispatcher<W>>,
+    pub(crate) batches: Batches,
+}
+
+// All who are to take part.
+#[derive(Drop)]
+struct Crew<W: Wait + Drop> {
+    jobs: Vec<Job<W>>,
+    dispatchers: Vec<Dispatcher<W>>,
+}
+
+// Room for the threads and for what they leave, made before the first one starts: a started thread can then be joined without
+// memory.
+#[derive(Drop)]
+struct Room<W: Wait + Drop> {
+    serving: Vec<Serving<W>>,
+    dispatching: Vec<Dispatching<W>>,
+    sessions: Vec<Session<W>>,
+    left: Vec<Dispatcher<W>>,
+}
+
+// Room for so many clients and dispatchers.
+fn room_for<W: Wait + Drop>(
+    alloc: Global,
+    clients: usize,
+    dispatchers: usize,
+) -> Result<Room<W>, AllocError>
+    ensures clients { IfOk result (λ room. (room.serving.items ≡ []) × (room.sessions.items ≡ [])) }
+    ensures dispatchers { IfOk result (λ room. (room.dispatching.items ≡ []) × (room.left.items ≡ [])) }
+    ensures client_room { IfOk result (λ room. (clients ≤ vec_capacity room.serving) × (clients ≤ vec_capacity room.sessions)) }
+    ensures dispatcher_room { IfOk result (λ room. (dispatchers ≤ vec_capacity room.dispatching) × (dispatchers ≤ vec_capacity room.left)) }
+{
+    Ok(Room {
+        serving: Vec::with_capacity(alloc, clients)?,
+        dispatching: Vec::with_capacity(alloc, dispatchers)?,
+        sessions: Vec::with_capacity(alloc, clients)?,
+        left: Vec::with_capacity(alloc, dispatchers)?,
+    })
+}
+
+// Starts the dispatchers, then the clients, whom nobody would answer without them, and joins all that were started: the clients
+// first, which the dispatchers answer until then.
+fn serve_all<'s, E, W: Wait + Drop + Send, R: Wait + Threads + Sync>(
+    scope: &Scope<'s, E>,
+    rt: &'s R,
+    alloc: Global,
+    server: &'s Server<W>,
+    stop: &'s AtomicBool,
+    crew: Crew<W>,
+    room: Room<W>,
+) -> Result<Ended<W>, AllocError>
+    requires jobs { All (IsTaskAt server.now) crew.jobs.items }
+    requires dispatchers { All (IsOf server.now) crew.dispatchers.items }
+    requires no_clients { (room.serving.items ≡ []) × (room.sessions.items ≡ []) }
+    requires no_dispatchers { (room.dispatching.items ≡ []) × (room.left.items ≡ []) }
+    requires client_room { (vec_len crew.jobs ≤ vec_capacity room.serving) × (vec_len crew.jobs ≤ vec_capacity room.sessions) }
+    requires dispatcher_room { (vec_len crew.dispatchers ≤ vec_capacity room.dispatching) × (vec_len crew.dispatchers ≤ vec_capacity room.left) }
+    ensures sessions { IfOk result (λ ended. AreSessionsOf crew.jobs.items ended.sessions.items) }
+    ensures dispatchers { IfOk result (λ ended. AreStill crew.dispatchers.items ended.dispatchers.items) }
+{
+    let Crew { jobs, dispatchers } = crew;
+    let Room {
+        mut serving,
+        mut dispatching,
+        mut sessions,
+        mut left,
+    } = room;
+    let dispatched = start_dispatchers(scope, rt, server, stop, dispatchers, &mut dispatching);
+    let started = match dispatched {
+        Ok(()) => start_clients(scope, rt, alloc, server, jobs, &mut serving),
+        Err(refused) => Err(refused),
+    };
+    let served = join_clients(rt, serving, &mut sessions);
+    stop.store(true, Ordering::SeqCst);
+    server.ring();
+    let mut batches = Batches::default();
+    join_dispatchers(rt, dispatching, &mut left, &mut batches);
+    started?;
+    served?;
+    Ok(Ended {
+        sessions,
+        dispatchers: left,
+        batches,
+    })
+}
+
+// Runs all of it in a scope, which ends when every thread has.
+fn serve_in_scope<W: Wait + Drop + Send, R: Wait + Threads + Sync>(
+    rt: &R,
+    alloc: Global,
+    server: &Server<W>,
+    crew: Crew<W>,
+    room: Room<W>,
+) -> Result<Ended<W>, AllocError>
+    requires jobs { All (IsTaskAt server.now) crew.jobs.items }
+    requires dispatchers { All (IsOf server.now) crew.dispatchers.items }
+    requires no_clients { (room.serving.items ≡ []) × (room.sessions.items ≡ []) }
+    requires no_dispatchers { (room.dispatching.items ≡ []) × (room.left.items ≡ []) }
+    requires client_room { (vec_len crew.jobs ≤ vec_capacity room.serving) × (vec_len crew.jobs ≤ vec_capacity room.sessions) }
+    requires dispatcher_room { (vec_len crew.dispatchers ≤ vec_capacity room.dispatching) × (vec_len crew.dispatchers ≤ vec_capacity room.left) }
+    ensures sessions { IfOk result (λ ended. AreSessionsOf crew.jobs.items ended.sessions.items) }
+    ensures dispatchers { IfOk result (λ ended. AreStill crew.dispatchers.items ended.dispatchers.items) }
+{
+    let flag = AtomicBool::new(false);
+    let stop = &flag;
+    thread::scope(
+        thread::scope_env(),
+        rt,
+        |scope| -> Result<Ended<W>, AllocError>
+            requires jobs { All (IsTaskAt server.now) crew.jobs.items }
+            requires dispatchers { All (IsOf server.now) crew.dispatchers.items }
+            requires no_clients { (room.serving.items ≡ []) × (room.sessions.items ≡ []) }
+            requires no_dispatchers { (room.dispatching.items ≡ []) × (room.left.items ≡ []) }
+            requires client_room { (vec_len crew.jobs ≤ vec_capacity room.serving) × (vec_len crew.jobs ≤ vec_capacity room.sessions) }
+            requires dispatcher_room { (vec_len crew.dispatchers ≤ vec_capacity room.dispatching) × (vec_len crew.dispatchers ≤ vec_capacity room.left) }
+            ensures sessions { IfOk result (λ ended. AreSessionsOf crew.jobs.items ended.sessions.items) }
+            ensures dispatchers { IfOk result (λ ended. AreStill crew.dispatchers.items ended.dispatchers.items) }
+        { serve_all(scope, rt, alloc, server, stop, crew, room) },
+    )
+}
+
+/// Serves the jobs, each in a thread of its own, by these dispatchers, each in a thread of its own.
+pub(crate) fn run_threads<W: Wait + Drop + Send, R: Wait + Threads + Sync>(
+    rt: &R,
+    alloc: Global,
+    server: &Server<W>,
+    jobs: Vec<Job<W>>,
+    dispatchers: Vec<Dispatcher<W>>,
+) -> Result<Ended<W>, AllocError>
+    requires jobs { All (IsTaskAt server.now) jobs.items }
+    requires dispatchers { All (IsOf server.now) dispatchers.items }
+    ensures sessions { IfOk result (λ ended. AreSessionsOf jobs.items ended.sessions.items) }
+    ensures dispatchers { IfOk result (λ ended. AreStill dispatchers.items ended.dispatchers.items) }
+{
+    let room = room_for(alloc, jobs.len(), dispatchers.len())?;
+    serve_in_scope(rt, alloc, server, Crew { jobs, dispatchers }, room)
+}
