@@ -72,7 +72,7 @@ fn each_fault_of_a_script_has_its_number_and_text(rt: HostRuntime) -> Result<(),
         (ScriptError::Read, 4, "script 1: 75 Read"),
         (ScriptError::OutOfMemory, 4, "out of memory"),
     ] {
-        let fault = Fault::Script(fault);
+        let fault = Fault::Script(1, fault);
         assert_eq!(rt; fault.to_string(rt.alloc())?.as_str(), text);
         assert_eq!(rt; fault.status(), status);
     }
