@@ -1,2 +1,6 @@
-pub mod Rows
 pub mod Heads
+pub mod Lines
+pub mod Blocks
+pub mod Rows
+pub mod Steps
+pub mod Traces

@@ -1,17 +1,31 @@
-//! Reading the records of a trace: what a `commit`, an `answer` and a `row` record say.
+//! A trace, read back: what a run left, from the text that `ssb_trace` writes of it.
 //!
-//! A trace's commits are written in a script's own words, which `ssb_script` reads; here are the records that a script has
-//! not. Each reader's contract: it gives what the record spells, as `specs/Heads.antt` and `specs/Rows.antt` define it, and
-//! nothing where it spells nothing; only want of memory keeps it from an answer.
+//! A trace is text, one record a line, fields parted by `|`: `commit|CLIENT` .. `end` is a commit, whose actions stand
+//! between as in a script's refresh; `answer|CLIENT|AT|NAME|COUNT` is an answer, and COUNT `row` records follow it.
 //!
-//! `row_of(alloc, Query::Q4_1, &fields)?` is the row of the record `row|1997|UNITED STATES|-1330`.
+//! The one contract, of [`read_trace`]: it gives exactly the trace that the text's records spell, and an error is the first
+//! fault that they have, record by record and check by check; only a failed read and want of memory may come before it.
+//! What is said inside a commit are the lines of a script's refresh, by `ssb_script`'s own definitions and reading.
+//!
+//! The definitions stand in `specs/`: `Heads` and `Rows` (what a `commit`, an `answer` and a `row` record say), `Lines`
+//! (what one record says), `Traces` (what a text spells, and its first fault).
+//!
+//! `read_trace(alloc, "answer|1|0|Q1.2|1\nrow|NULL\n".as_bytes(), 1_000_000)?.answers` is one answer.
 #![tactic(auto)]
 
+mod block;
+mod control;
 mod heads;
 mod rows;
 mod sums;
 #[cfg(test)]
 mod tests;
+mod trace;
+#[cfg(test)]
+mod trace_tests;
+mod unfinished;
+mod word;
 
 pub use heads::{AnswerHead, client_of_commit, head_of};
 pub use rows::row_of;
+pub use trace::read_trace;

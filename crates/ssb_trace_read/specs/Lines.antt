@@ -1,0 +1,84 @@
+-- What one record of a trace spells.
+use Rattle.std.specs.Prelude.{◌≡◌, ℕ, List, [], ◌∷◌, find, codes, Option, Some, None, option_map, Ok, nat_eq}
+use Rattle.std.specs.Cmp.Lexicographic.{pointwise}
+use Rattle.ssb_plans.specs.declared.query.Query.{Query}
+use Rattle.ssb_queries.specs.declared.answer.ResultRow.{ResultRow}
+use Rattle.ssb_script.specs.Lines.{ScriptLine, field, line_after}
+use Rattle.ssb_script.specs.declared.word.Word.{Word as ScriptWord}
+use Rattle.ssb_script.specs.declared.word.Word.TheVariants as script
+use Rattle.ssb_trace_read.specs.Heads.{commit_of, head_of}
+use Rattle.ssb_trace_read.specs.Rows.{row_of}
+use Rattle.ssb_trace_read.specs.declared.heads.AnswerHead.{AnswerHead}
+use Rattle.ssb_trace_read.specs.declared.word.Word.{Word}
+use Rattle.ssb_trace_read.specs.declared.word.Word.TheVariants as word
+
+-- what a record may say
+pub data TraceLine : Type 0 where
+  -- it begins a commit of this client
+  Begin : ℕ → TraceLine
+  -- it stands in a commit, and says what it does in a script's refresh, whose `commit` is `end` here
+  Inside : ScriptLine → TraceLine
+  -- it begins an answer
+  Answer : AnswerHead → TraceLine
+  -- it is a row of an answer to this query
+  Row : Query → ResultRow → TraceLine
+
+-- the words that a record may begin with
+abbrev pub spelling_of : Word → List ℕ
+spelling_of word.Commit = codes "commit"
+spelling_of word.Add = codes "add"
+spelling_of word.Amend = codes "amend"
+spelling_of word.Line = codes "line"
+spelling_of word.Withdraw = codes "withdraw"
+spelling_of word.End = codes "end"
+spelling_of word.Answer = codes "answer"
+spelling_of word.Row = codes "row"
+
+abbrev pub words : List Word
+words = word.Commit ∷ word.Add ∷ word.Amend ∷ word.Line ∷ word.Withdraw ∷ word.End ∷ word.Answer ∷ word.Row ∷ []
+
+-- the word that bytes spell, letter for letter
+abbrev pub word_spelled : List ℕ → Option Word
+word_spelled bytes = find (λ word. pointwise nat_eq (spelling_of word) bytes) words
+
+-- the word of a record, if its first field is one
+unfoldable pub word_of : List (List ℕ) → Option Word
+word_of fields = word_spelled (field fields 0)
+
+-- the word that a script has for it, where it stands in a refresh
+abbrev pub script_word : Option Word → Option ScriptWord
+script_word (Some word.Add) = Some script.Add
+script_word (Some word.Amend) = Some script.Amend
+script_word (Some word.Line) = Some script.Line
+script_word (Some word.Withdraw) = Some script.Withdraw
+script_word (Some word.End) = Some script.Commit
+script_word _ = None
+
+-- the commit, or the answer, that a record of this word begins
+abbrev pub block_begun : Option Word → List (List ℕ) → Option TraceLine
+block_begun (Some word.Commit) fields = option_map Begin (commit_of fields)
+block_begun (Some word.Answer) fields = option_map Answer (head_of fields)
+block_begun _ _ = None
+
+-- the row of an answer to the query that a record of this word spells
+abbrev pub row_after : Query → Option Word → List (List ℕ) → Option ResultRow
+row_after query (Some word.Row) fields = row_of query fields
+row_after _ _ _ = None
+
+-- a record of this word spells this
+abbrev pub SaysAfter : Option Word → List (List ℕ) → TraceLine → Type 0
+SaysAfter word fields (Begin client) = block_begun word fields ≡ Some (Begin client)
+SaysAfter word fields (Inside line) = line_after (script_word word) fields ≡ Ok line
+SaysAfter word fields (Answer head) = block_begun word fields ≡ Some (Answer head)
+SaysAfter word fields (Row query row) = row_after query word fields ≡ Some row
+
+-- a record spells this
+abbrev pub Says : List (List ℕ) → TraceLine → Type 0
+Says fields line = SaysAfter (word_of fields) fields line
+
+-- records spell these lines, one by one
+abbrev pub AreLines : List (List (List ℕ)) → List TraceLine → Type 0
+AreLines [] [] = Unit {0}
+AreLines (fields ∷ records) (line ∷ lines) = Says fields line × AreLines records lines
+AreLines [] (line ∷ lines) = ⊥
+AreLines (fields ∷ records) [] = ⊥
