@@ -1,13 +1,12 @@
 -- What the audit of a trace over table files tells.
-use Rattle.std.specs.Prelude.{◌≡◌, ◌⊎◌, ℕ, List, ◌++◌, length, codes, decimal, Option, Some}
+use Rattle.std.specs.Prelude.{◌≡◌, ℕ, List, ◌++◌, length, codes, decimal, Option, Some}
 use Rattle.std.specs.Io.KnownBytes.{Appends}
 use Rattle.ssb_audit.specs.Legal.{IsLegalTrace}
 use Rattle.ssb_audit.specs.Traces.{trace_fault}
 use Rattle.ssb_audit.specs.declared.fault.AuditFault.{AuditFault}
 use Rattle.ssb_audit.specs.declared.trace.Trace.{Trace}
-use Rattle.ssb_live.specs.Reported.{AreRefused, IsLoaded}
-use Rattle.ssb_live.specs.Status.{script_status, status_of}
-use Rattle.ssb_live.specs.declared.fault.Fault.{Fault}
+use Rattle.ssb_live.specs.Reported.{IsLoaded}
+use Rattle.ssb_live.specs.Status.{script_status}
 use Rattle.ssb_report.specs.Numbers.{line_feed}
 use Rattle.ssb_report.specs.Run.{most_records}
 use Rattle.ssb_report.specs.Written.{AppendsPart}
@@ -49,16 +48,14 @@ pub record IsRefusedTrace (bytes : List ℕ) : Type 0 where
   pub first : IsTraceFault most_records bytes fault
   pub of_trace : script_status fault ≡ 1
 
+-- something speaks against a trace over a base
+pub record HasFault (base : Tables) (trace : Trace) : Type 0 where
+  pub fault : AuditFault
+  pub first : trace_fault base trace ≡ Some fault
+
 -- the bytes spell a trace that something speaks against, over the base that the five texts spell
 pub record SpeaksAgainst (texts : Table → List ℕ) (bytes : List ℕ) : Type 0 where
   pub base : Tables
   pub trace : Trace
   pub read : IsRead texts bytes base trace
-  pub fault : AuditFault
-  pub first : trace_fault base trace ≡ Some fault
-
--- what the status of a fault tells of the texts and the bytes: 1, that they are refused; 3, that something speaks against the
--- trace
-pub record Tells (fault : Fault) (texts : Table → List ℕ) (bytes : List ℕ) : Type 0 where
-  pub refused : status_of fault ≡ 1 → AreRefused texts ⊎ IsRefusedTrace bytes
-  pub against : status_of fault ≡ 3 → SpeaksAgainst texts bytes
+  pub faulty : HasFault base trace

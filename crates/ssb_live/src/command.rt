@@ -45,7 +45,7 @@ where
 
 // The files of a run, opened, and how its scripts are served.
 #[derive(Drop)]
-struct OpenedRun<F: Drop> {
+struct OpenedRun<F: Write + Drop> {
     settings: RunSettings,
     tables: Tables<F>,
     scripts: Vec<F>,

@@ -25,7 +25,6 @@ mod reading;
 mod scripts;
 mod small_data;
 mod stopwatch;
-mod stub;
 #[cfg(test)]
 mod tests;
 

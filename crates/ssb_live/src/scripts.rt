@@ -1,13 +1,15 @@
 //! `run`: scripts served at once over five table files.
 
-ghost use Rattle.std.specs.Prelude.{◌≡◌, ◌≢◌, ◌⊎◌, ◌×◌, ◌↔◌, ◌<◌, ◌≤◌, ℕ, List, false, IfOk, IfErr, OnOk, OnErr, MatchResult, map, vec_len};
+ghost use Rattle.std.specs.Prelude.{◌≡◌, ◌≢◌, ◌⊎◌, ◌↔◌, ◌<◌, ◌≤◌, ℕ, List, false, IfOk, IfErr, OnOk, OnErr, MatchResult, map, vec_len};
 ghost use Rattle.std.specs.Io.KnownBytes.{Appends};
 ghost use Rattle.std.specs.Option.{option_and_then};
 ghost use Rattle.ssb_live.specs.Reported.{AreRefused};
-ghost use Rattle.ssb_live.specs.Served.{HasRefused, IsServed, Serves, ServesPart, run_text};
+ghost use Rattle.ssb_audit.specs.Legal.{IsLegalTrace};
+ghost use Rattle.ssb_live.specs.Served.{AreTold, AreToldInPart, HasRefused, IsServed, Serves, ServesPart, run_text};
 ghost use Rattle.ssb_live.specs.Status.{status_of};
 ghost use Rattle.ssb_load.specs.Load.{AreTexts};
 ghost use Rattle.ssb_report.specs.Written.{AppendsPart};
+ghost use Rattle.ssb_runs.specs.Run.{IsRun};
 ghost use Rattle.ssb_schema.specs.declared.table.Table.{Table};
 ghost use Rattle.ssb_trace.specs.TraceText.{trace_text};
 
@@ -131,7 +133,11 @@ fn tell_run<W: Write, T: Write>(
     out: &mut W,
     file: &mut Option<T>,
     run: &Run,
-) -> Result<(), Fault> {
+) -> Result<(), Fault>
+    ensures told { OnOk result (AreTold (W.contents out.old) (W.contents out.new) (option_and_then T.contents file.old) (option_and_then T.contents file.new) (map (λ report. report.items) run.now.reports.items) run.now.trace) }
+    ensures part { OnErr result (AreToldInPart (W.contents out.old) (W.contents out.new) (option_and_then T.contents file.old) (option_and_then T.contents file.new) (map (λ report. report.items) run.now.reports.items) run.now.trace) }
+    ensures fault { IfErr result (λ fault. status_of fault ≡ 4) }
+{
     print(out, run)?;
     keep(file, run)
 }
@@ -145,7 +151,17 @@ fn report<R: Threads + Sync + Wait + Clock + AllocGlobal, I: Read + Drop, W: Wri
     out: &mut W,
     file: &mut Option<T>,
     pace: &mut Pace,
-) -> Result<(), Fault> {
+) -> Result<(), Fault>
+    ensures served { OnOk result ((texts : Table → List ℕ) → AreTexts I.remaining tables texts
+        → Serves texts (map I.remaining sources.items) settings.dispatchers (W.contents out.old) (W.contents out.new) (option_and_then T.contents file.old) (option_and_then T.contents file.new)) }
+    ensures part { OnErr result (((W.contents out.new ≡ W.contents out.old) × (file.new ≡ file.old))
+        ⊎ ((texts : Table → List ℕ) → AreTexts I.remaining tables texts
+        → ServesPart texts (map I.remaining sources.items) settings.dispatchers (W.contents out.old) (W.contents out.new) (option_and_then T.contents file.old) (option_and_then T.contents file.new))) }
+    ensures refused { IfErr result (λ fault. status_of fault ≡ 1 → (texts : Table → List ℕ) → AreTexts I.remaining tables texts
+        → AreRefused texts ⊎ HasRefused (map I.remaining sources.items)) }
+    ensures words { IfErr result (λ fault. status_of fault ≢ 2) }
+    ensures trace { IfErr result (λ fault. status_of fault ≢ 3) }
+{
     let run = run_of(rt, settings, tables, sources, pace)?;
     tell_run(out, file, &run)
 }
@@ -177,6 +193,16 @@ pub fn run_scripts<R: Threads + Sync + Wait + Clock + AllocGlobal, I: Read + Dro
     file: &mut Option<T>,
     err: &mut E,
 ) -> u8
+    ensures served { result ≡ 0 → (texts : Table → List ℕ) → AreTexts I.remaining tables texts
+        → Serves texts (map I.remaining sources.items) settings.dispatchers (W.contents out.old) (W.contents out.new) (option_and_then T.contents file.old) (option_and_then T.contents file.new) }
+    ensures part { result ≢ 0 → ((W.contents out.new ≡ W.contents out.old) × (file.new ≡ file.old))
+        ⊎ ((texts : Table → List ℕ) → AreTexts I.remaining tables texts
+        → ServesPart texts (map I.remaining sources.items) settings.dispatchers (W.contents out.old) (W.contents out.new) (option_and_then T.contents file.old) (option_and_then T.contents file.new)) }
+    ensures quiet { result ≡ 0 → settings.times ≡ false → err.new ≡ err.old }
+    ensures refused { result ≡ 1 → (texts : Table → List ℕ) → AreTexts I.remaining tables texts
+        → AreRefused texts ⊎ HasRefused (map I.remaining sources.items) }
+    ensures many { (result ≡ 2) ↔ (16 < vec_len sources) }
+    ensures trace { result ≢ 3 }
 {
     if sources.len() > MOST_SCRIPTS {
         return Fault::TooManyScripts.tell(err);

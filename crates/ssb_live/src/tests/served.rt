@@ -1,13 +1,15 @@
 //! Command lines of `run` and `audit`, over files that the tests make.
 
-use crate::audit::run_audit;
-use crate::scripts::{RunSettings, run_scripts};
-use crate::small_data::tables;
+use crate::tests::Told;
 use crate::tests::command::{run_with, write_small};
-use crate::tests::{Full, Told};
 use std::fs;
-use std::hash::RandomState;
+use std::process::Abort;
+use std::random::RandomSource;
+use std::rt::Files;
+use std::sync::Wait;
 use std::test::Fail;
+use std::thread::Threads;
+use std::time::Clock;
 
 // A folder of one test, with the small data set in it.
 fn folder_of(rt: &HostRuntime, name: &str) -> Result<String, Fail> {
@@ -68,7 +70,10 @@ row|1997|UNITED STATES|-1330
 ";
 
 // A run of the words `run --data DIR` and these others.
-fn serve(rt: &HostRuntime, folder: &str, words: &[&str]) -> Result<Told, Fail> {
+fn serve<R>(rt: &R, folder: &str, words: &[&str]) -> Result<Told, Fail>
+where
+    R: Files + Clock + RandomSource + Threads + Sync + Wait + AllocGlobal,
+{
     let mut line = Vec::new(rt.alloc());
     line.extend_from_slice(&["ssb_live", "run", "--data", folder])?;
     line.extend_from_slice(words)?;
@@ -76,12 +81,18 @@ fn serve(rt: &HostRuntime, folder: &str, words: &[&str]) -> Result<Told, Fail> {
 }
 
 // A run of the words `audit --data DIR TRACE`.
-fn audited(rt: &HostRuntime, folder: &str, trace: &str) -> Result<Told, Fail> {
+fn audited<R>(rt: &R, folder: &str, trace: &str) -> Result<Told, Fail>
+where
+    R: Files + Clock + RandomSource + Threads + Sync + Wait + AllocGlobal,
+{
     run_with(rt, &["ssb_live", "audit", "--data", folder, trace], "")
 }
 
 // That a run ended with a fault, which stands alone in standard error, and wrote nothing.
-fn check_fault(rt: &HostRuntime, told: &Told, status: u8, fault: &str) -> Result<(), Fail> {
+fn check_fault<R>(rt: &R, told: &Told, status: u8, fault: &str) -> Result<(), Fail>
+where
+    R: Abort + AllocGlobal,
+{
     let line = format!(in rt.alloc(); "ssb_live: {fault}\n")?;
     assert_eq!(rt; std::str::from_utf8(told.err.as_slice())?, line.as_str());
     assert_eq!(rt; told.status, status);
@@ -98,7 +109,7 @@ fn the_stored_run_is_served_traced_and_audited(rt: HostRuntime) -> Result<(), Fa
     let told = serve(&rt, folder.as_str(), &words)?;
     let kept = fs::read_to_string(&rt, trace.as_str())?;
     let verdict = audited(&rt, folder.as_str(), trace.as_str())?;
-    let short = put(&rt, folder.as_str(), "short", &STORED_TRACE[..93])?;
+    let short = put(&rt, folder.as_str(), "short", STORED_TRACE.get(..95).unwrap_or(""))?;
     let cut = audited(&rt, folder.as_str(), short.as_str())?;
     fs::remove_dir_all(&rt, folder.as_str())?;
     assert_eq!(rt; std::str::from_utf8(told.out.as_slice())?, STORED_RUN);
@@ -109,4 +120,169 @@ fn the_stored_run_is_served_traced_and_audited(rt: HostRuntime) -> Result<(), Fa
     assert_eq!(rt; verdict.status, 0);
     assert!(rt; verdict.err.is_empty());
     check_fault(&rt, &cut, 1, "trace: 71 NoCommit")
+}
+
+// Ten refreshes, the kth of which adds an order of key `100 * client + k`, and then a question.
+fn refreshes(rt: &HostRuntime, client: u32) -> Result<String, Fail> {
+    let mut script = String::new(rt.alloc());
+    for k in 1..11u32 {
+        let line = format!(in rt.alloc();
+            "begin\nadd\nline|{client}{k:02}|1|3|4|3|19971215|o|0|1|10|10|0|10|2000|0|19971215|AIR\ncommit\n"
+        )?;
+        script.push_str(line.as_str())?;
+    }
+    script.push_str("query|Q4.1\n")?;
+    Ok(script)
+}
+
+// A client's report of ten receipts and one answer: the numbers of its commits rise, and the answer has at least these.
+fn check_report<R>(rt: &R, report: &[&str], counted: &mut [u8; 31]) -> Result<(), Fail>
+where
+    R: Abort + AllocGlobal,
+{
+    let mut last = 0;
+    for line in &report[..10] {
+        let number = line.strip_prefix("committed ").ok_or("no receipt")?;
+        let number: usize = number.parse().map_err(|_| "no number")?;
+        assert!(rt; last < number && number <= 30);
+        counted[number] += 1;
+        last = number;
+    }
+    let answer = report[10].strip_prefix("Q4.1 at ").ok_or("no answer")?;
+    let at = answer.strip_suffix(" rows 1").ok_or("no row")?;
+    let at: usize = at.parse().map_err(|_| "no number")?;
+    assert!(rt; last <= at && at <= 30);
+    let row = format!(in rt.alloc(); "1997|UNITED STATES|{}", 660 - 1990 * at as i64)?;
+    assert_eq!(rt; report[11], row.as_str());
+    Ok(())
+}
+
+#[test]
+fn thirty_refreshes_of_three_clients_are_thirty_commits(rt: HostRuntime) -> Result<(), Fail> {
+    let folder = folder_of(&rt, "thirty")?;
+    let first = put(&rt, folder.as_str(), "first", refreshes(&rt, 1)?.as_str())?;
+    let second = put(&rt, folder.as_str(), "second", refreshes(&rt, 2)?.as_str())?;
+    let third = put(&rt, folder.as_str(), "third", refreshes(&rt, 3)?.as_str())?;
+    let trace = format!(in rt.alloc(); "{folder}/trace")?;
+    let told = serve(
+        &rt,
+        folder.as_str(),
+        &[
+            "--dispatchers",
+            "2",
+            "--trace",
+            trace.as_str(),
+            first.as_str(),
+            second.as_str(),
+            third.as_str(),
+        ],
+    )?;
+    let verdict = audited(&rt, folder.as_str(), trace.as_str())?;
+    fs::remove_dir_all(&rt, folder.as_str())?;
+    assert_eq!(rt; told.status, 0);
+    assert!(rt; told.err.is_empty());
+    let mut lines = Vec::new(rt.alloc());
+    for line in std::str::from_utf8(told.out.as_slice())?.lines() {
+        lines.push(line)?;
+    }
+    assert_eq!(rt; lines.len(), 40);
+    let mut counted = [0u8; 31];
+    for (place, heading) in ["client 1", "client 2", "client 3"].iter().enumerate() {
+        assert_eq!(rt; lines[13 * place], *heading);
+        check_report(&rt, &lines[13 * place + 1..13 * place + 13], &mut counted)?;
+    }
+    assert_eq!(rt; lines[39], "commits 30");
+    assert!(rt; counted[1..].iter().all(|times| *times == 1));
+    assert_eq!(rt; verdict.out.as_slice(), b"ok 30 3\n".as_slice());
+    assert_eq!(rt; verdict.status, 0);
+    Ok(())
+}
+
+#[test]
+fn what_speaks_against_a_trace_is_told(rt: HostRuntime) -> Result<(), Fail> {
+    let folder = folder_of(&rt, "against")?;
+    for (trace, status, fault) in [
+        (
+            "answer|1|0|Q4.1|1\nrow|1997|UNITED STATES|661\n",
+            3,
+            "audit: 81 WrongRows 1 1",
+        ),
+        (
+            "answer|16|1|Q1.1|1\nrow|3000\n",
+            3,
+            "audit: 83 AtTooLarge 16 1",
+        ),
+        ("commit|1\nwithdraw|77\nend\n", 3, "audit: 80 CommitRefused 1"),
+        (
+            "commit|1\nwithdraw|3\nend\nanswer|1|1|Q4.1|0\nanswer|1|0|Q1.1|1\nrow|3000\n",
+            3,
+            "audit: 82 WentBack 1 2",
+        ),
+        ("answer|1|0|Q4.1|1\n", 1, "trace: 71 NoCommit"),
+        ("query|Q4.1\n", 1, "trace: 70 BadLine 1"),
+        ("commit|2\nend\n", 1, "trace: 72 EmptyBlock 2"),
+    ] {
+        let path = put(&rt, folder.as_str(), "trace", trace)?;
+        let told = audited(&rt, folder.as_str(), path.as_str())?;
+        check_fault(&rt, &told, status, fault)?;
+    }
+    let missing = audited(&rt, folder.as_str(), "no/trace")?;
+    check_fault(&rt, &missing, 4, "cannot read no/trace")?;
+    let above = audited(&rt, folder.as_str(), folder.as_str())?;
+    check_fault(&rt, &above, 4, "trace: 75 Read")?;
+    put(&rt, folder.as_str(), "part.tbl", "x")?;
+    let data = audited(&rt, folder.as_str(), folder.as_str())?;
+    check_fault(&rt, &data, 1, "data: 21 FieldCount part 1")?;
+    fs::remove_dir_all(&rt, folder.as_str())?;
+    Ok(())
+}
+
+#[test]
+fn the_faults_of_a_run_are_told_in_their_order(rt: HostRuntime) -> Result<(), Fail> {
+    let folder = folder_of(&rt, "faults")?;
+    let good = put(&rt, folder.as_str(), "good", "query|Q1.1\n")?;
+    let bad = put(&rt, folder.as_str(), "bad", "hello\n")?;
+    let worse = put(&rt, folder.as_str(), "worse", "begin\n")?;
+    let trace = put(&rt, folder.as_str(), "trace", "an older trace")?;
+    let (good, bad, worse) = (good.as_str(), bad.as_str(), worse.as_str());
+    let many = [good; 17];
+    let told = serve(&rt, folder.as_str(), &[good, bad, worse])?;
+    check_fault(&rt, &told, 1, "script 2: 70 BadLine 1")?;
+    let told = serve(&rt, folder.as_str(), &[good, folder.as_str()])?;
+    check_fault(&rt, &told, 4, "script 2: 75 Read")?;
+    put(&rt, folder.as_str(), "date.tbl", "x|")?;
+    let told = serve(&rt, folder.as_str(), &["--trace", trace.as_str(), bad, good])?;
+    check_fault(&rt, &told, 1, "data: 21 FieldCount date 1")?;
+    let emptied = fs::read_to_string(&rt, trace.as_str())?;
+    assert!(rt; emptied.is_empty());
+    let told = serve(&rt, folder.as_str(), &many)?;
+    check_fault(&rt, &told, 2, "too many scripts")?;
+    let told = serve(&rt, folder.as_str(), &["--trace", folder.as_str(), bad])?;
+    check_fault(&rt, &told, 4, "write failed")?;
+    let told = serve(&rt, folder.as_str(), &["--trace", folder.as_str(), good, "no/1", "no/2"])?;
+    check_fault(&rt, &told, 4, "cannot read no/1")?;
+    let told = serve(&rt, "no", &["--trace", folder.as_str(), good, "no/1"])?;
+    check_fault(&rt, &told, 4, "cannot read no/customer.tbl")?;
+    fs::remove_dir_all(&rt, folder.as_str())?;
+    Ok(())
+}
+
+#[test]
+fn wrong_words_of_run_and_audit_end_with_status_2(rt: HostRuntime) -> Result<(), Fail> {
+    for words in [
+        &["ssb_live", "run", "--data", "t"][..],
+        &["ssb_live", "run", "s"],
+        &["ssb_live", "run", "--data", "t", "--dispatchers", "0", "s"],
+        &["ssb_live", "run", "--data", "t", "--dispatchers", "5", "s"],
+        &["ssb_live", "run", "--data", "t", "--dispatchers", "two", "s"],
+        &["ssb_live", "audit", "--data", "t"],
+        &["ssb_live", "audit", "s"],
+        &["ssb_live", "audit", "--data", "t", "s", "s"],
+    ] {
+        let told = run_with(&rt, words, "")?;
+        assert_eq!(rt; told.status, 2);
+        assert!(rt; told.out.is_empty());
+        assert!(rt; told.err.as_slice().starts_with(b"error: "));
+    }
+    Ok(())
 }
