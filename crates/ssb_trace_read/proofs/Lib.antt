@@ -1,0 +1,3 @@
+pub mod CommitLaws
+pub mod OneReading
+pub mod Reading

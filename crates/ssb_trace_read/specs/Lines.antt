@@ -1,11 +1,12 @@
 -- What one record of a trace spells.
-use Rattle.std.specs.Prelude.{◌≡◌, ℕ, List, [], ◌∷◌, find, codes, Option, Some, None, option_map, Ok, nat_eq}
+use Rattle.std.specs.Prelude.{◌≡◌, ℕ, Bool, true, false, List, [], ◌∷◌, drop, find, codes, Option, Some, None, option_map, Result, Ok, Err, nat_eq}
 use Rattle.std.specs.Cmp.Lexicographic.{pointwise}
 use Rattle.ssb_plans.specs.declared.query.Query.{Query}
 use Rattle.ssb_queries.specs.declared.answer.ResultRow.{ResultRow}
-use Rattle.ssb_script.specs.Lines.{ScriptLine, field, line_after}
-use Rattle.ssb_script.specs.declared.word.Word.{Word as ScriptWord}
-use Rattle.ssb_script.specs.declared.word.Word.TheVariants as script
+use Rattle.ssb_load.specs.Row as row
+use Rattle.ssb_schema.specs.declared.table.Table.TheVariants as table
+use Rattle.ssb_script.specs.Lines.{ScriptLine, RecordFault, Open, Withdraw, Commit, Bad, alone, field, key_of, line_or_bad, line_or_refusal}
+use Rattle.ssb_script.specs.declared.control.Opening.TheVariants.{Add, Amend}
 use Rattle.ssb_trace_read.specs.Heads.{commit_of, head_of}
 use Rattle.ssb_trace_read.specs.Rows.{row_of}
 use Rattle.ssb_trace_read.specs.declared.heads.AnswerHead.{AnswerHead}
@@ -16,7 +17,7 @@ use Rattle.ssb_trace_read.specs.declared.word.Word.TheVariants as word
 pub data TraceLine : Type 0 where
   -- it begins a commit of this client
   Begin : ℕ → TraceLine
-  -- it stands in a commit, and says what it does in a script's refresh, whose `commit` is `end` here
+  -- it stands in a commit, and says what this line says in a script's refresh
   Inside : ScriptLine → TraceLine
   -- it begins an answer
   Answer : AnswerHead → TraceLine
@@ -45,14 +46,19 @@ word_spelled bytes = find (λ word. pointwise nat_eq (spelling_of word) bytes) w
 unfoldable pub word_of : List (List ℕ) → Option Word
 word_of fields = word_spelled (field fields 0)
 
--- the word that a script has for it, where it stands in a refresh
-abbrev pub script_word : Option Word → Option ScriptWord
-script_word (Some word.Add) = Some script.Add
-script_word (Some word.Amend) = Some script.Amend
-script_word (Some word.Line) = Some script.Line
-script_word (Some word.Withdraw) = Some script.Withdraw
-script_word (Some word.End) = Some script.Commit
-script_word _ = None
+-- whether a record is a `line`, which goes by its word alone
+abbrev pub is_line : Option Word → Bool
+is_line (Some word.Line) = true
+is_line _ = false
+
+-- what a record of this word says in a commit, as a line of a script's refresh: `end` is a script's `commit`
+abbrev pub line_inside : Option Word → List (List ℕ) → Result ScriptLine RecordFault
+line_inside (Some word.Add) fields = line_or_bad (alone (Open Add) fields)
+line_inside (Some word.Amend) fields = line_or_bad (alone (Open Amend) fields)
+line_inside (Some word.Line) fields = line_or_refusal (row.row_of table.Lineorder (drop 1 fields))
+line_inside (Some word.Withdraw) fields = line_or_bad (option_map Withdraw (key_of fields))
+line_inside (Some word.End) fields = line_or_bad (alone Commit fields)
+line_inside _ _ = Err Bad
 
 -- the commit, or the answer, that a record of this word begins
 abbrev pub block_begun : Option Word → List (List ℕ) → Option TraceLine
@@ -68,7 +74,7 @@ row_after _ _ _ = None
 -- a record of this word spells this
 abbrev pub SaysAfter : Option Word → List (List ℕ) → TraceLine → Type 0
 SaysAfter word fields (Begin client) = block_begun word fields ≡ Some (Begin client)
-SaysAfter word fields (Inside line) = line_after (script_word word) fields ≡ Ok line
+SaysAfter word fields (Inside line) = line_inside word fields ≡ Ok line
 SaysAfter word fields (Answer head) = block_begun word fields ≡ Some (Answer head)
 SaysAfter word fields (Row query row) = row_after query word fields ≡ Some row
 

@@ -1,14 +1,14 @@
 -- What the text of a trace spells, and its first fault.
-use Rattle.std.specs.Prelude.{◌≡◌, ℕ, ◌+◌, ◌≤◌, ◌⊎◌, ◌++◌, List, [], ◌∷◌, length, All, Option, Some, None}
+use Rattle.std.specs.Prelude.{◌≡◌, ℕ, ◌+◌, ◌≤◌, ◌⊎◌, ◌++◌, List, [], ◌∷◌, length, All, Option, Some, None, if◌then◌else◌}
 use Rattle.ssb_audit.specs.declared.trace.Trace.{Trace}
 use Rattle.ssb_load.specs.Records.{BeginsWith, HasRecords}
-use Rattle.ssb_script.specs.Lines.{line_after}
-use Rattle.ssb_script.specs.Scripts.{checks_in, first_of, order_refused, too_long}
+use Rattle.ssb_script.specs.Begun.{Begun}
+use Rattle.ssb_script.specs.Scripts.{checks_in, first_of, refusal_at_end, too_long}
 use Rattle.ssb_script.specs.Steps.{begun_in}
 use Rattle.ssb_script.specs.declared.error.ScriptError.{ScriptError}
 use Rattle.ssb_script.specs.declared.error.ScriptError.TheVariants as error
 use Rattle.ssb_trace_read.specs.Blocks.{IsUnfinished, IsWholeBlock, answers_in, commits_in, lines_of_blocks, lines_of_unfinished}
-use Rattle.ssb_trace_read.specs.Lines.{AreLines, block_begun, row_after, script_word, word_of}
+use Rattle.ssb_trace_read.specs.Lines.{AreLines, block_begun, is_line, line_inside, row_after, word_of}
 use Rattle.ssb_trace_read.specs.declared.block.Block.{Block}
 use Rattle.ssb_trace_read.specs.declared.unfinished.Unfinished.{Unfinished}
 use Rattle.ssb_trace_read.specs.declared.unfinished.Unfinished.TheVariants as unfinished
@@ -37,12 +37,15 @@ abbrev pub bad_unless : {A : Type 0} → ℕ → Option A → Option ScriptError
 bad_unless number (Some said) = None
 bad_unless number None = Some (error.BadLine number)
 
+-- a record that is no `line` ends the order that is being read, which then may be refused
+abbrev pub order_refused : Begun → Option Word → Option ScriptError
+order_refused begun word = if is_line word then None else refusal_at_end begun
+
 -- the checks of the record of a number, whose word this is: in a commit those of a script's refresh
 abbrev pub checks_after : ℕ → Unfinished → Option Word → List (List ℕ) → List (Option ScriptError)
 checks_after number unfinished.Nothing word fields = bad_unless number (block_begun word fields) ∷ []
 checks_after number (unfinished.Commit commit) word fields =
-    order_refused (begun_in commit.begun) (script_word word)
-    ∷ checks_in number (begun_in commit.begun) (line_after (script_word word) fields)
+    order_refused (begun_in commit.begun) word ∷ checks_in number (begun_in commit.begun) (line_inside word fields)
 checks_after number (unfinished.Answer answer) word fields = bad_unless number (row_after answer.head.question.0 word fields) ∷ []
 
 -- first of all, a record is not past the bound

@@ -2,9 +2,9 @@
 ghost use Rattle.std.specs.Prelude.{◌≡◌, false, option_map};
 ghost use Rattle.csv.specs.Records.{fields_of};
 ghost use Rattle.ssb_script.specs.Lines as script;
-ghost use Rattle.ssb_script.specs.Lines.{is_line, line_after, line_or_bad};
+ghost use Rattle.ssb_script.specs.Lines.{line_or_bad};
 ghost use Rattle.ssb_script.specs.Steps.{line_of_control};
-ghost use Rattle.ssb_trace_read.specs.Lines.{script_word};
+ghost use Rattle.ssb_trace_read.specs.Lines.{is_line, line_inside};
 
 use crate::word::Word;
 use csv::ByteRecord;
@@ -34,8 +34,8 @@ fn key_of(fields: &ByteRecord) -> Option<u64>
 
 /// What a record of this word says in a commit, in a script's terms, if it says anything: `end` is a script's `commit`.
 pub(crate) fn control_of(word: Option<Word>, fields: &ByteRecord) -> Option<Control>
-    requires { is_line (script_word word) ≡ false }
-    ensures { line_after (script_word word) (fields_of fields.now) ≡ line_or_bad (option_map line_of_control result) }
+    requires { is_line word ≡ false }
+    ensures { line_inside word (fields_of fields.now) ≡ line_or_bad (option_map line_of_control result) }
 {
     match word {
         Some(Word::Add) => alone(Control::Open(Opening::Add), fields),

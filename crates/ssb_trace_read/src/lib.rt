@@ -16,6 +16,7 @@
 mod block;
 mod control;
 mod heads;
+mod laws;
 mod rows;
 mod sums;
 #[cfg(test)]
@@ -27,5 +28,6 @@ mod unfinished;
 mod word;
 
 pub use heads::{AnswerHead, client_of_commit, head_of};
+pub use laws::one_reading;
 pub use rows::row_of;
 pub use trace::read_trace;

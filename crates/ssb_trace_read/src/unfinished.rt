@@ -1,13 +1,14 @@
 //! What the records of a trace have begun and not ended, and what one more record does to it.
-ghost use Rattle.std.specs.Prelude.{◌≡◌, ℕ, ◌+◌, ◌-◌, ◌<◌, ◌≤◌, ◌^◌, ◌++◌, ◌∷◌, [], Some, false, length, IfOk, IfErr};
+ghost use Rattle.std.specs.Prelude.{◌≡◌, ℕ, ◌+◌, ◌-◌, ◌<◌, ◌≤◌, ◌^◌, ◌++◌, ◌∷◌, [], Ok, Some, false, length, IfOk, IfErr};
 ghost use Rattle.csv.specs.Records.{fields_of};
-ghost use Rattle.ssb_script.specs.Scripts.{HasRoom, is_outside};
-ghost use Rattle.ssb_script.specs.Steps.{IsFoundBy, begun_in};
+ghost use Rattle.ssb_script.specs.Lines.{ScriptLine};
+ghost use Rattle.ssb_script.specs.Scripts.{HasRoom, checks_in, is_outside};
+ghost use Rattle.ssb_script.specs.Steps.{Follows as FollowsInScript, IsFoundBy, begun_in};
 ghost use Rattle.ssb_trace_read.specs.Blocks.{IsUnfinished, lines_of_unfinished};
 ghost use Rattle.ssb_trace_read.specs.Lines as spec;
-ghost use Rattle.ssb_trace_read.specs.Lines.{row_after};
+ghost use Rattle.ssb_trace_read.specs.Lines.{line_inside, row_after};
 ghost use Rattle.ssb_trace_read.specs.Steps.{CommitStep, Follows, Takes, TakesRecord};
-ghost use Rattle.ssb_trace_read.specs.Traces.{checks_after};
+ghost use Rattle.ssb_trace_read.specs.Traces.{checks_after, order_refused};
 ghost use Rattle.ssb_trace_read.specs.declared.unfinished.Unfinished.TheVariants as unfinished;
 ghost use Rattle.ssb_trace_read.specs.declared.word.Word.TheVariants as words;
 ghost use Rattle.ssb_script.specs.declared.error.ScriptError.TheVariants.{OutOfMemory};
@@ -16,7 +17,7 @@ use crate::block::Block;
 use crate::control::control_of;
 use crate::heads::{AnswerHead, client_of_commit, head_of};
 use crate::rows::row_of;
-use crate::word::{Word, begins_line};
+use crate::word::{Word, is_line};
 use csv::ByteRecord;
 use row_store::Commit;
 use ssb_audit::Told;
@@ -105,21 +106,39 @@ fn outside(
     }
 }
 
-// What comes of a record of a commit.
+// What comes of a record of a commit in a script's refresh, after so many.
+fn after_in_refresh(
+    begun: Begun,
+    alloc: Global,
+    before: u64,
+    word: Option<Word>,
+    fields: &ByteRecord,
+) -> Result<ssb_script::Step, ScriptError>
+    requires counted { before < 2 ^ 64 - 1 }
+    requires room { HasRoom before (begun_in begun) }
+    ensures step { IfOk result (λ step. (line : ScriptLine) × (line_inside word (fields_of fields.now) ≡ Ok line) × FollowsInScript (before + 1) (begun_in begun) line step) }
+    ensures fault { IfErr result (IsFoundBy (order_refused (begun_in begun) word ∷ checks_in (before + 1) (begun_in begun) (line_inside word (fields_of fields.now)))) }
+{
+    if is_line(word) {
+        let row = OrderLine::of(alloc, fields)?;
+        return begun.with_row(before + 1, row);
+    }
+    begun.with_control(alloc, before, control_of(word, fields))
+}
+
+// What comes of that in a commit of the client.
 fn step_of_commit(client: u32, step: ssb_script::Step) -> Step
     ensures { CommitStep client step result }
 {
-    match step.block {
+    let ssb_script::Step { block, begun } = step;
+    match block {
         Some(ssb_script::Block::Refresh(refresh)) => Step {
             block: Some(Block::Commit(Commit { client, refresh })),
             unfinished: Unfinished::Nothing,
         },
         _ => Step {
             block: None,
-            unfinished: Unfinished::Commit(UnfinishedCommit {
-                client,
-                begun: step.begun,
-            }),
+            unfinished: Unfinished::Commit(UnfinishedCommit { client, begun }),
         },
     }
 }
@@ -154,13 +173,7 @@ impl UnfinishedCommit {
         ensures step { IfOk result (TakesRecord (before + 1) (unfinished.Commit self) word (fields_of fields.now)) }
         ensures fault { IfErr result (IsFoundBy (checks_after (before + 1) (unfinished.Commit self) word (fields_of fields.now))) }
     {
-        let step = if begins_line(word) {
-            let row = OrderLine::of(alloc, fields)?;
-            self.begun.with_row(before + 1, row)?
-        } else {
-            self.begun
-                .with_control(alloc, before, control_of(word, fields))?
-        };
+        let step = after_in_refresh(self.begun, alloc, before, word, fields)?;
         Ok(step_of_commit(self.client, step))
     }
 }

@@ -1,9 +1,8 @@
 //! The words that the records of a trace begin with.
 ghost use Rattle.std.specs.Prelude.{◌≡◌};
 ghost use Rattle.csv.specs.Records.{fields_of};
-ghost use Rattle.ssb_script.specs.Lines.{is_line};
 ghost use Rattle.ssb_trace_read.specs.Lines as spec;
-ghost use Rattle.ssb_trace_read.specs.Lines.{spelling_of, word_spelled, script_word};
+ghost use Rattle.ssb_trace_read.specs.Lines.{spelling_of, word_spelled};
 
 use csv::ByteRecord;
 use ssb_script::trimmed_at;
@@ -65,8 +64,8 @@ impl Word {
 }
 
 /// Whether a record of this word is a `line`.
-pub(crate) fn begins_line(word: Option<Word>) -> bool
-    ensures { result ≡ is_line (script_word word) }
+pub(crate) fn is_line(word: Option<Word>) -> bool
+    ensures { result ≡ spec.is_line word }
 {
     matches!(word, Some(Word::Line))
 }
