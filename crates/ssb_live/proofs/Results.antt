@@ -48,8 +48,3 @@ from_ok (Err e) P of ok = absurd cc
 pub from_err : {X E : Type 0} (r : Result X E) (P : Type 0) → OnErr r P → is_err r ≡ true → P
 from_err (Ok x) P of failed = absurd cc
 from_err (Err e) P of failed = of
-
--- a failure of reading, writing or memory speaks against no trace
-pub is_no_verdict : {X : Type 0} (r : Result X Fault) → IfErr r (λ fault. status_of fault ≡ 4) → IfErr r (λ fault. status_of fault ≢ 3)
-is_no_verdict (Ok x) is = tt
-is_no_verdict (Err fault) is = λ status. let none : 4 ≡ 3 = sym is ∙ status in absurd cc

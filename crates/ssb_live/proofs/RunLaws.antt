@@ -33,9 +33,9 @@ clients_more f xs i x d within is =
     ∙ ap (clients_text 1) (map-append f (take i xs) (get_or xs i d ∷ []))
     ∙ clients_append 1 (map f (take i xs)) (f (get_or xs i d) ∷ [])
     ∙ ap (λ t. clients_text 1 (map f (take i xs)) ++ t)
-        (append-nil (client_text (1 + length (map f (take i xs))) (f (get_or xs i d)))
-        ∙ ap (λ n. client_text n (f (get_or xs i d))) (omega (arith, count))
-        ∙ ap (λ y. client_text (i + 1) (f y)) (sym is))
+    (append-nil (client_text (1 + length (map f (take i xs))) (f (get_or xs i d)))
+    ∙ ap (λ n. client_text n (f (get_or xs i d))) (omega (arith, count))
+    ∙ ap (λ y. client_text (i + 1) (f y)) (sym is))
 
 pub appends_client : {X : Type 0} (f : X → List ℕ) (xs : List X) (i : ℕ) (x d : X) (a b c : Option (List ℕ)) → i < length xs → x ≡ get_or xs i d
     → Appends a b (clients_text 1 (map f (take i xs))) → Appends b c (client_text (i + 1) (f x)) → Appends a c (clients_text 1 (map f (take (i + 1) xs)))

@@ -27,8 +27,10 @@ use std::thread::Threads;
 
 // The trace that the bytes spell.
 fn trace_of<I: Read + Drop>(alloc: Global, source: I) -> Result<Trace, Fault>
-    ensures trace { IfOk result (λ trace. (bytes : List ℕ) → I.remaining source ≡ Some bytes → SpellsTrace most_records bytes trace) }
-    ensures refused { IfErr result (λ fault. status_of fault ≡ 1 → (bytes : List ℕ) → I.remaining source ≡ Some bytes → IsRefusedTrace bytes) }
+    ensures trace { IfOk result (λ trace. (bytes : List ℕ) → I.remaining source ≡ Some bytes
+        → SpellsTrace most_records bytes trace) }
+    ensures refused { IfErr result (λ fault. status_of fault ≡ 1 → (bytes : List ℕ) → I.remaining source ≡ Some bytes
+        → IsRefusedTrace bytes) }
     ensures words { IfErr result (λ fault. status_of fault ≢ 2) }
     ensures early { IfErr result (λ fault. status_of fault ≢ 3) }
 {
@@ -64,9 +66,13 @@ fn legal_trace<R: Threads + Sync + AllocGlobal, I: Read + Drop>(
     tables: Tables<I>,
     source: I,
 ) -> Result<Trace, Fault>
-    ensures legal { IfOk result (λ trace. (texts : Table → List ℕ) (bytes : List ℕ) → AreTexts I.remaining tables texts → I.remaining source ≡ Some bytes → IsLegalOver texts bytes trace) }
-    ensures refused { IfErr result (λ fault. status_of fault ≡ 1 → (texts : Table → List ℕ) (bytes : List ℕ) → AreTexts I.remaining tables texts → I.remaining source ≡ Some bytes → AreRefused texts ⊎ IsRefusedTrace bytes) }
-    ensures against { IfErr result (λ fault. status_of fault ≡ 3 → (texts : Table → List ℕ) (bytes : List ℕ) → AreTexts I.remaining tables texts → I.remaining source ≡ Some bytes → SpeaksAgainst texts bytes) }
+    ensures legal { IfOk result (λ trace. (texts : Table → List ℕ) (bytes : List ℕ)
+        → AreTexts I.remaining tables texts → I.remaining source ≡ Some bytes → IsLegalOver texts bytes trace) }
+    ensures refused { IfErr result (λ fault. status_of fault ≡ 1 → (texts : Table → List ℕ) (bytes : List ℕ)
+        → AreTexts I.remaining tables texts → I.remaining source ≡ Some bytes
+        → AreRefused texts ⊎ IsRefusedTrace bytes) }
+    ensures against { IfErr result (λ fault. status_of fault ≡ 3 → (texts : Table → List ℕ) (bytes : List ℕ)
+        → AreTexts I.remaining tables texts → I.remaining source ≡ Some bytes → SpeaksAgainst texts bytes) }
     ensures words { IfErr result (λ fault. status_of fault ≢ 2) }
 {
     let base = base_of(rt.alloc(), tables)?;
@@ -105,13 +111,17 @@ fn report<R: Threads + Sync + AllocGlobal, I: Read + Drop, W: Write>(
     source: I,
     out: &mut W,
 ) -> Result<(), Fault>
-    ensures legal { OnOk result ((texts : Table → List ℕ) (bytes : List ℕ) → AreTexts I.remaining tables texts → I.remaining source ≡ Some bytes
+    ensures legal { OnOk result ((texts : Table → List ℕ) (bytes : List ℕ)
+        → AreTexts I.remaining tables texts → I.remaining source ≡ Some bytes
         → Audits texts bytes (W.contents out.old) (W.contents out.new)) }
     ensures part { OnErr result ((W.contents out.new ≡ W.contents out.old)
         ⊎ ((texts : Table → List ℕ) (bytes : List ℕ) → AreTexts I.remaining tables texts → I.remaining source ≡ Some bytes
         → AuditsPart texts bytes (W.contents out.old) (W.contents out.new))) }
-    ensures refused { IfErr result (λ fault. status_of fault ≡ 1 → (texts : Table → List ℕ) (bytes : List ℕ) → AreTexts I.remaining tables texts → I.remaining source ≡ Some bytes → AreRefused texts ⊎ IsRefusedTrace bytes) }
-    ensures against { IfErr result (λ fault. status_of fault ≡ 3 → (texts : Table → List ℕ) (bytes : List ℕ) → AreTexts I.remaining tables texts → I.remaining source ≡ Some bytes → SpeaksAgainst texts bytes) }
+    ensures refused { IfErr result (λ fault. status_of fault ≡ 1 → (texts : Table → List ℕ) (bytes : List ℕ)
+        → AreTexts I.remaining tables texts → I.remaining source ≡ Some bytes
+        → AreRefused texts ⊎ IsRefusedTrace bytes) }
+    ensures against { IfErr result (λ fault. status_of fault ≡ 3 → (texts : Table → List ℕ) (bytes : List ℕ)
+        → AreTexts I.remaining tables texts → I.remaining source ≡ Some bytes → SpeaksAgainst texts bytes) }
     ensures words { IfErr result (λ fault. status_of fault ≢ 2) }
 {
     let trace = legal_trace(rt, hashing, tables, source)?;
@@ -130,15 +140,18 @@ pub fn run_audit<R: Threads + Sync + AllocGlobal, I: Read + Drop, W: Write, E: W
     out: &mut W,
     err: &mut E,
 ) -> u8
-    ensures legal { result ≡ 0 → (texts : Table → List ℕ) (bytes : List ℕ) → AreTexts I.remaining tables texts → I.remaining source ≡ Some bytes
+    ensures legal { result ≡ 0 → (texts : Table → List ℕ) (bytes : List ℕ)
+        → AreTexts I.remaining tables texts → I.remaining source ≡ Some bytes
         → Audits texts bytes (W.contents out.old) (W.contents out.new) }
     ensures part { result ≢ 0 → (W.contents out.new ≡ W.contents out.old)
         ⊎ ((texts : Table → List ℕ) (bytes : List ℕ) → AreTexts I.remaining tables texts → I.remaining source ≡ Some bytes
         → AuditsPart texts bytes (W.contents out.old) (W.contents out.new)) }
     ensures quiet { result ≡ 0 → err.new ≡ err.old }
-    ensures refused { result ≡ 1 → (texts : Table → List ℕ) (bytes : List ℕ) → AreTexts I.remaining tables texts → I.remaining source ≡ Some bytes
+    ensures refused { result ≡ 1 → (texts : Table → List ℕ) (bytes : List ℕ)
+        → AreTexts I.remaining tables texts → I.remaining source ≡ Some bytes
         → AreRefused texts ⊎ IsRefusedTrace bytes }
-    ensures against { result ≡ 3 → (texts : Table → List ℕ) (bytes : List ℕ) → AreTexts I.remaining tables texts → I.remaining source ≡ Some bytes
+    ensures against { result ≡ 3 → (texts : Table → List ℕ) (bytes : List ℕ)
+        → AreTexts I.remaining tables texts → I.remaining source ≡ Some bytes
         → SpeaksAgainst texts bytes }
     ensures words { result ≢ 2 }
 {

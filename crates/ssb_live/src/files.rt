@@ -32,10 +32,7 @@ pub fn open_file<R: Files + AllocGlobal>(rt: &R, path: &str) -> Result<R::File, 
 }
 
 /// The files of these paths, or the first that cannot be opened.
-pub fn open_files<R: Files + AllocGlobal>(
-    rt: &R,
-    paths: &[&str],
-) -> Result<Vec<R::File>, Fault> {
+pub fn open_files<R: Files + AllocGlobal>(rt: &R, paths: &[&str]) -> Result<Vec<R::File>, Fault> {
     let mut files = Vec::new(rt.alloc());
     for path in paths {
         files.push(open_file(rt, path)?)?;

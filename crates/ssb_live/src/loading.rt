@@ -14,8 +14,10 @@ use std::io::Read;
 
 /// The base that the tables spell, within the greatest limits.
 pub fn base_of<I: Read + Drop>(alloc: Global, tables: Tables<I>) -> Result<Base, Fault>
-    ensures base { IfOk result (λ base. (texts : Table → List ℕ) → AreTexts I.remaining tables texts → IsLoaded texts base) }
-    ensures data { IfErr result (λ fault. status_of fault ≡ 1 → (texts : Table → List ℕ) → AreTexts I.remaining tables texts → AreRefused texts) }
+    ensures base { IfOk result (λ base. (texts : Table → List ℕ)
+        → AreTexts I.remaining tables texts → IsLoaded texts base) }
+    ensures data { IfErr result (λ fault. status_of fault ≡ 1 → (texts : Table → List ℕ)
+        → AreTexts I.remaining tables texts → AreRefused texts) }
     ensures later { IfErr result (λ fault. status_of fault ≢ 2) }
     ensures earlier { IfErr result (λ fault. status_of fault ≢ 3) }
 {

@@ -83,7 +83,10 @@ impl Pace {
         if let Some(hundredths) = hundredths {
             let whole = hundredths / 100;
             let rest = hundredths % 100;
-            let _ = writeln!(err, "ssb_live: batches {count}, {whole}.{rest:02} questions each");
+            let _ = writeln!(
+                err,
+                "ssb_live: batches {count}, {whole}.{rest:02} questions each"
+            );
         }
     }
 }

@@ -73,7 +73,8 @@ fn run_of<R: Threads + Sync + Wait + Clock + AllocGlobal, I: Read + Drop>(
 ) -> Result<Run, Fault>
     ensures run { IfOk result (λ run. (texts : Table → List ℕ) → AreTexts I.remaining tables texts
         → IsServed texts (map I.remaining sources.items) settings.dispatchers (map (λ report. report.items) run.reports.items) run.trace) }
-    ensures refused { IfErr result (λ fault. status_of fault ≡ 1 → (texts : Table → List ℕ) → AreTexts I.remaining tables texts
+    ensures refused { IfErr result (λ fault. status_of fault ≡ 1 → (texts : Table → List ℕ)
+        → AreTexts I.remaining tables texts
         → AreRefused texts ⊎ HasRefused (map I.remaining sources.items)) }
     ensures words { IfErr result (λ fault. status_of fault ≢ 2) }
     ensures trace { IfErr result (λ fault. status_of fault ≢ 3) }
@@ -129,11 +130,7 @@ fn keep<T: Write>(file: &mut Option<T>, run: &Run) -> Result<(), Fault>
 }
 
 // Writes what a run prints, and then its trace.
-fn tell_run<W: Write, T: Write>(
-    out: &mut W,
-    file: &mut Option<T>,
-    run: &Run,
-) -> Result<(), Fault>
+fn tell_run<W: Write, T: Write>(out: &mut W, file: &mut Option<T>, run: &Run) -> Result<(), Fault>
     ensures told { OnOk result (AreTold (W.contents out.old) (W.contents out.new) (option_and_then T.contents file.old) (option_and_then T.contents file.new) (map (λ report. report.items) run.now.reports.items) run.now.trace) }
     ensures part { OnErr result (AreToldInPart (W.contents out.old) (W.contents out.new) (option_and_then T.contents file.old) (option_and_then T.contents file.new) (map (λ report. report.items) run.now.reports.items) run.now.trace) }
     ensures fault { IfErr result (λ fault. status_of fault ≡ 4) }
@@ -157,7 +154,8 @@ fn report<R: Threads + Sync + Wait + Clock + AllocGlobal, I: Read + Drop, W: Wri
     ensures part { OnErr result (((W.contents out.new ≡ W.contents out.old) × (file.new ≡ file.old))
         ⊎ ((texts : Table → List ℕ) → AreTexts I.remaining tables texts
         → ServesPart texts (map I.remaining sources.items) settings.dispatchers (W.contents out.old) (W.contents out.new) (option_and_then T.contents file.old) (option_and_then T.contents file.new))) }
-    ensures refused { IfErr result (λ fault. status_of fault ≡ 1 → (texts : Table → List ℕ) → AreTexts I.remaining tables texts
+    ensures refused { IfErr result (λ fault. status_of fault ≡ 1 → (texts : Table → List ℕ)
+        → AreTexts I.remaining tables texts
         → AreRefused texts ⊎ HasRefused (map I.remaining sources.items)) }
     ensures words { IfErr result (λ fault. status_of fault ≢ 2) }
     ensures trace { IfErr result (λ fault. status_of fault ≢ 3) }
@@ -184,7 +182,13 @@ fn tell_times<E: Write>(pace: &Pace, times: bool, err: &mut E)
 /// The tables are read first, then the scripts in order, and then the server is opened. The result is the exit status: 0 with
 /// nothing written to `err` but the times, where they are asked for; 1 where the data or a script is refused, 2 where there
 /// are more than 16 scripts, and else 4. Where `out` or the file fails, what was written before stands.
-pub fn run_scripts<R: Threads + Sync + Wait + Clock + AllocGlobal, I: Read + Drop, W: Write, T: Write, E: Write>(
+pub fn run_scripts<
+    R: Threads + Sync + Wait + Clock + AllocGlobal,
+    I: Read + Drop,
+    W: Write,
+    T: Write,
+    E: Write,
+>(
     rt: &R,
     settings: RunSettings,
     tables: Tables<I>,

@@ -1,8 +1,12 @@
 //! Command lines of `run` and `audit`, over files that the tests make.
 
-use crate::tests::Told;
+use crate::audit::run_audit;
+use crate::scripts::{RunSettings, run_scripts};
+use crate::small_data::tables;
 use crate::tests::command::{run_with, write_small};
+use crate::tests::{Full, Told};
 use std::fs;
+use std::hash::RandomState;
 use std::process::Abort;
 use std::random::RandomSource;
 use std::rt::Files;
@@ -109,7 +113,12 @@ fn the_stored_run_is_served_traced_and_audited(rt: HostRuntime) -> Result<(), Fa
     let told = serve(&rt, folder.as_str(), &words)?;
     let kept = fs::read_to_string(&rt, trace.as_str())?;
     let verdict = audited(&rt, folder.as_str(), trace.as_str())?;
-    let short = put(&rt, folder.as_str(), "short", STORED_TRACE.get(..95).unwrap_or(""))?;
+    let short = put(
+        &rt,
+        folder.as_str(),
+        "short",
+        STORED_TRACE.get(..95).unwrap_or(""),
+    )?;
     let cut = audited(&rt, folder.as_str(), short.as_str())?;
     fs::remove_dir_all(&rt, folder.as_str())?;
     assert_eq!(rt; std::str::from_utf8(told.out.as_slice())?, STORED_RUN);
@@ -212,7 +221,11 @@ fn what_speaks_against_a_trace_is_told(rt: HostRuntime) -> Result<(), Fail> {
             3,
             "audit: 83 AtTooLarge 16 1",
         ),
-        ("commit|1\nwithdraw|77\nend\n", 3, "audit: 80 CommitRefused 1"),
+        (
+            "commit|1\nwithdraw|77\nend\n",
+            3,
+            "audit: 80 CommitRefused 1",
+        ),
         (
             "commit|1\nwithdraw|3\nend\nanswer|1|1|Q4.1|0\nanswer|1|0|Q1.1|1\nrow|3000\n",
             3,
@@ -251,7 +264,11 @@ fn the_faults_of_a_run_are_told_in_their_order(rt: HostRuntime) -> Result<(), Fa
     let told = serve(&rt, folder.as_str(), &[good, folder.as_str()])?;
     check_fault(&rt, &told, 4, "script 2: 75 Read")?;
     put(&rt, folder.as_str(), "date.tbl", "x|")?;
-    let told = serve(&rt, folder.as_str(), &["--trace", trace.as_str(), bad, good])?;
+    let told = serve(
+        &rt,
+        folder.as_str(),
+        &["--trace", trace.as_str(), bad, good],
+    )?;
     check_fault(&rt, &told, 1, "data: 21 FieldCount date 1")?;
     let emptied = fs::read_to_string(&rt, trace.as_str())?;
     assert!(rt; emptied.is_empty());
@@ -259,7 +276,11 @@ fn the_faults_of_a_run_are_told_in_their_order(rt: HostRuntime) -> Result<(), Fa
     check_fault(&rt, &told, 2, "too many scripts")?;
     let told = serve(&rt, folder.as_str(), &["--trace", folder.as_str(), bad])?;
     check_fault(&rt, &told, 4, "write failed")?;
-    let told = serve(&rt, folder.as_str(), &["--trace", folder.as_str(), good, "no/1", "no/2"])?;
+    let told = serve(
+        &rt,
+        folder.as_str(),
+        &["--trace", folder.as_str(), good, "no/1", "no/2"],
+    )?;
     check_fault(&rt, &told, 4, "cannot read no/1")?;
     let told = serve(&rt, "no", &["--trace", folder.as_str(), good, "no/1"])?;
     check_fault(&rt, &told, 4, "cannot read no/customer.tbl")?;
@@ -274,7 +295,15 @@ fn wrong_words_of_run_and_audit_end_with_status_2(rt: HostRuntime) -> Result<(),
         &["ssb_live", "run", "s"],
         &["ssb_live", "run", "--data", "t", "--dispatchers", "0", "s"],
         &["ssb_live", "run", "--data", "t", "--dispatchers", "5", "s"],
-        &["ssb_live", "run", "--data", "t", "--dispatchers", "two", "s"],
+        &[
+            "ssb_live",
+            "run",
+            "--data",
+            "t",
+            "--dispatchers",
+            "two",
+            "s",
+        ],
         &["ssb_live", "audit", "--data", "t"],
         &["ssb_live", "audit", "s"],
         &["ssb_live", "audit", "--data", "t", "s", "s"],
@@ -284,5 +313,92 @@ fn wrong_words_of_run_and_audit_end_with_status_2(rt: HostRuntime) -> Result<(),
         assert!(rt; told.out.is_empty());
         assert!(rt; told.err.as_slice().starts_with(b"error: "));
     }
+    Ok(())
+}
+
+// The stored run over the small data set, with this file for its trace.
+fn stored_run<R>(rt: &R, times: bool, file: Option<Full>) -> Result<Told, Fail>
+where
+    R: Clock + RandomSource + Threads + Sync + Wait + AllocGlobal,
+{
+    let settings = RunSettings {
+        hashing: RandomState::new(rt)?,
+        dispatchers: 1,
+        times,
+    };
+    let mut sources = Vec::new(rt.alloc());
+    sources.push(STORED_SCRIPT.as_bytes())?;
+    let mut file = file;
+    let mut out = Vec::new(rt.alloc());
+    let mut err = Vec::new(rt.alloc());
+    let status = run_scripts(
+        rt,
+        settings,
+        tables(),
+        sources,
+        &mut out,
+        &mut file,
+        &mut err,
+    );
+    Ok(Told { status, out, err })
+}
+
+#[test]
+fn where_the_traces_file_fails_the_output_stands_whole(rt: HostRuntime) -> Result<(), Fail> {
+    let told = stored_run(&rt, false, Some(Full))?;
+    assert_eq!(rt; told.status, 4);
+    assert_eq!(rt; std::str::from_utf8(told.out.as_slice())?, STORED_RUN);
+    assert_eq!(rt; told.err.as_slice(), b"ssb_live: write failed\n".as_slice());
+    Ok(())
+}
+
+#[test]
+fn the_pace_of_a_run_is_told_after_it(rt: HostRuntime) -> Result<(), Fail> {
+    let told = stored_run(&rt, true, None)?;
+    assert_eq!(rt; told.status, 0);
+    assert_eq!(rt; std::str::from_utf8(told.out.as_slice())?, STORED_RUN);
+    let pace = std::str::from_utf8(told.err.as_slice())?;
+    for begin in [
+        "ssb_live: load ",
+        "ssb_live: serving ",
+        "ssb_live: commits 1, ",
+        "ssb_live: answers 3, ",
+        "ssb_live: batches 3, 1.00 questions each\n",
+    ] {
+        assert!(rt; pace.contains(begin));
+    }
+    Ok(())
+}
+
+#[test]
+fn a_failed_write_of_a_run_or_a_verdict_is_told(rt: HostRuntime) -> Result<(), Fail> {
+    let settings = RunSettings {
+        hashing: RandomState::new(&rt)?,
+        dispatchers: 1,
+        times: false,
+    };
+    let mut sources = Vec::new(rt.alloc());
+    sources.push("query|Q1.1\n".as_bytes())?;
+    let mut none = None::<Full>;
+    let mut err = Vec::new(rt.alloc());
+    let status = run_scripts(
+        &rt,
+        settings,
+        tables(),
+        sources,
+        &mut Full,
+        &mut none,
+        &mut err,
+    );
+    assert_eq!(rt; status, 4);
+    assert_eq!(rt; err.as_slice(), b"ssb_live: write failed\n".as_slice());
+    let hashing = RandomState::new(&rt)?;
+    let mut err = Vec::new(rt.alloc());
+    let trace = STORED_TRACE.as_bytes();
+    assert_eq!(rt;
+        run_audit(&rt, hashing, tables(), trace, &mut Full, &mut err),
+        4
+    );
+    assert_eq!(rt; err.as_slice(), b"ssb_live: write failed\n".as_slice());
     Ok(())
 }

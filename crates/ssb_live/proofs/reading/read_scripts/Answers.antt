@@ -12,7 +12,7 @@ loop-source-preserved g c =
     let before = map remaining c.loop-source.yielded in
     let rest = map remaining c.next.new.self.rest.items in
     let inv = c.loop-source.invariant in
-    rw c.in_ok-push.ensures.items (rw (map-append remaining c.loop-source.yielded (c.in-Some.source ∷ [])) (record {
+    rw c.in_ok-push-in-Ok.ensures.items (rw (map-append remaining c.loop-source.yielded (c.in-Some.source ∷ [])) (record {
       parted = inv.parted ∙ ap (λ xs. before ++ map remaining xs) c.in-Some.ensures.steps.0 ∙ sym (append_assoc before (remaining c.in-Some.source ∷ []) rest);
       are = more_scripts before c.loop-source.scripts.items (remaining c.in-Some.source) c.in-Ok.script inv.are c.in-Ok.ensures.script;
     }))

@@ -10,8 +10,8 @@ returns-in_err-run-clause-refused g c =
 pub returns-clause-served : goal.returns-clause-served
 returns-clause-served g c =
     ok_then c.tell_run.result _ _ c.tell_run.ensures.told (λ told texts are. record {
-      reports = map (λ report. report.items) c.in_ok-run.run.reports.items;
-      trace = c.in_ok-run.run.trace;
+      reports = map (λ report. report.items) c.in_ok-run.run'.reports.items;
+      trace = c.in_ok-run.run'.trace;
       served = c.in_ok-run.ensures.run texts are;
       told = told;
     })
@@ -19,8 +19,8 @@ returns-clause-served g c =
 pub returns-clause-part : goal.returns-clause-part
 returns-clause-part g c =
     err_then c.tell_run.result _ _ c.tell_run.ensures.part (λ told. inr (λ texts are. record {
-      reports = map (λ report. report.items) c.in_ok-run.run.reports.items;
-      trace = c.in_ok-run.run.trace;
+      reports = map (λ report. report.items) c.in_ok-run.run'.reports.items;
+      trace = c.in_ok-run.run'.trace;
       served = c.in_ok-run.ensures.run texts are;
       told = told;
     }))
