@@ -251,38 +251,50 @@ fn what_speaks_against_a_trace_is_told(rt: HostRuntime) -> Result<(), Fail> {
 }
 
 #[test]
-fn the_faults_of_a_run_are_told_in_their_order(rt: HostRuntime) -> Result<(), Fail> {
-    let folder = folder_of(&rt, "faults")?;
+fn the_first_bad_script_is_told_by_its_number(rt: HostRuntime) -> Result<(), Fail> {
+    let folder = folder_of(&rt, "scripts")?;
     let good = put(&rt, folder.as_str(), "good", "query|Q1.1\n")?;
     let bad = put(&rt, folder.as_str(), "bad", "hello\n")?;
     let worse = put(&rt, folder.as_str(), "worse", "begin\n")?;
-    let trace = put(&rt, folder.as_str(), "trace", "an older trace")?;
-    let (good, bad, worse) = (good.as_str(), bad.as_str(), worse.as_str());
-    let many = [good; 17];
-    let told = serve(&rt, folder.as_str(), &[good, bad, worse])?;
+    let words = [good.as_str(), bad.as_str(), worse.as_str()];
+    let told = serve(&rt, folder.as_str(), &words)?;
     check_fault(&rt, &told, 1, "script 2: 70 BadLine 1")?;
-    let told = serve(&rt, folder.as_str(), &[good, folder.as_str()])?;
+    let told = serve(&rt, folder.as_str(), &[good.as_str(), folder.as_str()])?;
     check_fault(&rt, &told, 4, "script 2: 75 Read")?;
+    fs::remove_dir_all(&rt, folder.as_str())?;
+    Ok(())
+}
+
+#[test]
+fn too_many_scripts_come_before_bad_data_and_bad_data_before_bad_scripts(
+    rt: HostRuntime,
+) -> Result<(), Fail> {
+    let folder = folder_of(&rt, "order")?;
+    let bad = put(&rt, folder.as_str(), "bad", "hello\n")?;
+    let trace = put(&rt, folder.as_str(), "trace", "an older trace")?;
     put(&rt, folder.as_str(), "date.tbl", "x|")?;
-    let told = serve(
-        &rt,
-        folder.as_str(),
-        &["--trace", trace.as_str(), bad, good],
-    )?;
+    let told = serve(&rt, folder.as_str(), &[bad.as_str(); 17])?;
+    check_fault(&rt, &told, 2, "too many scripts")?;
+    let words = ["--trace", trace.as_str(), bad.as_str()];
+    let told = serve(&rt, folder.as_str(), &words)?;
     check_fault(&rt, &told, 1, "data: 21 FieldCount date 1")?;
     let emptied = fs::read_to_string(&rt, trace.as_str())?;
     assert!(rt; emptied.is_empty());
-    let told = serve(&rt, folder.as_str(), &many)?;
-    check_fault(&rt, &told, 2, "too many scripts")?;
-    let told = serve(&rt, folder.as_str(), &["--trace", folder.as_str(), bad])?;
+    fs::remove_dir_all(&rt, folder.as_str())?;
+    Ok(())
+}
+
+#[test]
+fn files_are_opened_in_their_order_and_the_trace_is_made_last(rt: HostRuntime) -> Result<(), Fail> {
+    let folder = folder_of(&rt, "files")?;
+    let bad = put(&rt, folder.as_str(), "bad", "hello\n")?;
+    let words = ["--trace", folder.as_str(), bad.as_str()];
+    let told = serve(&rt, folder.as_str(), &words)?;
     check_fault(&rt, &told, 4, "write failed")?;
-    let told = serve(
-        &rt,
-        folder.as_str(),
-        &["--trace", folder.as_str(), good, "no/1", "no/2"],
-    )?;
+    let words = ["--trace", folder.as_str(), bad.as_str(), "no/1", "no/2"];
+    let told = serve(&rt, folder.as_str(), &words)?;
     check_fault(&rt, &told, 4, "cannot read no/1")?;
-    let told = serve(&rt, "no", &["--trace", folder.as_str(), good, "no/1"])?;
+    let told = serve(&rt, "no", &["--trace", folder.as_str(), "no/1"])?;
     check_fault(&rt, &told, 4, "cannot read no/customer.tbl")?;
     fs::remove_dir_all(&rt, folder.as_str())?;
     Ok(())
