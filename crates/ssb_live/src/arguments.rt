@@ -51,9 +51,9 @@ Examples:
   ssb_live run --data tables --dispatchers 2 --trace run.trace orders.txt questions.txt";
 
 const AUDIT_HELP: &str = "\
-Reads a trace that 'ssb_live run --trace' wrote, and checks it with one thread over the five table files of a folder: each
-commit is accepted after those before it, each answer has the rows of its question after its number of commits, and no client
-is taken back. It prints 'ok C A', the numbers of commits and of answers, or tells what speaks against the trace (status 3).
+Reads a trace that 'ssb_live run --trace' wrote, and checks it over the five table files of a folder: each commit is accepted
+after those before it, each answer has the rows of its question after its number of commits, and no client is taken back. It
+prints 'ok C A', the numbers of commits and of answers, or tells what speaks against the trace (status 3).
 
 Example:
   ssb_live audit --data tables run.trace";
