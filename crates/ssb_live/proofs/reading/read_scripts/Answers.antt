@@ -1,8 +1,5 @@
-use Rattle.std.proofs.Common.{◌≡◌, ◌∙◌, [], ◌∷◌, ◌++◌, append_assoc, map, ap, sym, subst, arith}
-use Rattle.std.proofs.lemmas.Iterator.Adapters.{YieldsList-from_vec}
-use Rattle.std.proofs.lemmas.Iterator.Consumers.{YieldsList-end}
-use Rattle.std.proofs.lemmas.List.{map-append, map-id}
-use Rattle.ssb_live.specs.Served.{AreScripts}
+use Rattle.std.proofs.Common.{◌∙◌, [], ◌∷◌, ◌++◌, append_assoc, map, ap, sym}
+use Rattle.std.proofs.lemmas.List.{map-append}
 use Rattle.ssb_live.proofs.RunLaws.{more_scripts}
 use Rattle.ssb_live.proofs.reading.read_scripts.Goals as goal
 
