@@ -32,3 +32,19 @@ is_ok_of (Err e) P Q of ok = absurd cc
 pub is_err_of : {X E : Type 0} (r : Result X E) (P Q : Type 0) → MatchResult r (λ _. P) (λ _. Q) → is_err r ≡ true → Q
 is_err_of (Ok x) P Q of failed = absurd cc
 is_err_of (Err e) P Q of failed = of
+
+pub ok_then : {X E : Type 0} (r : Result X E) (A P : Type 0) → OnOk r A → (A → P) → OnOk r P
+ok_then (Ok x) A P of f = f of
+ok_then (Err e) A P of f = tt
+
+pub err_then : {X E : Type 0} (r : Result X E) (A P : Type 0) → OnErr r A → (A → P) → OnErr r P
+err_then (Ok x) A P of f = tt
+err_then (Err e) A P of f = f of
+
+pub from_ok : {X E : Type 0} (r : Result X E) (P : Type 0) → OnOk r P → is_err r ≡ false → P
+from_ok (Ok x) P of ok = of
+from_ok (Err e) P of ok = absurd cc
+
+pub from_err : {X E : Type 0} (r : Result X E) (P : Type 0) → OnErr r P → is_err r ≡ true → P
+from_err (Ok x) P of failed = absurd cc
+from_err (Err e) P of failed = of

@@ -27,6 +27,11 @@ opening_answer base question = answer.Rows question 0 (answer_of question base.d
 abbrev pub opened : Rows → Answer
 opened rows = answer.Rows rows.query 0 rows.list
 
+-- the five texts spell this base, within the greatest limits
+pub record IsLoaded (texts : Table → List ℕ) (base : Tables) : Type 0 where
+  pub limited : limits_of base.limits ≡ (1048576, 33554432, 1000000)
+  pub spelled : SpellsBase texts base
+
 -- the five texts spell a base, within the greatest limits, whose answer to the question has this report
 pub record HasReport (texts : Table → List ℕ) (question : Query × List Value) (report : List ℕ) : Type 0 where
   pub base : Tables

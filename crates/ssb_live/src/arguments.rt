@@ -2,7 +2,7 @@
 
 use crate::fault::Fault;
 use clap::error::ErrorKind;
-use clap::{Arg, ArgAction, ArgMatches, Command, Error};
+use clap::{Arg, ArgAction, ArgMatches, Command, Error, value_parser};
 use std::alloc::{AllocError, Global};
 use std::env::Env;
 use std::io;
@@ -37,22 +37,55 @@ Examples:
   ssb_live query --data tables Q2.1 'MFGR#12' EUROPE
   ssb_live query --data tables --all --times";
 
-// The words of `query`.
-fn query_command<'a>(alloc: Global) -> Result<Command<'a>, AllocError> {
-    let data = Arg::new(alloc, "data")
+const RUN_HELP: &str = "\
+Serves 1 to 16 scripts at once over the five table files of a folder: each script is a client of the live server in a thread
+of its own, and the dispatchers answer the clients' questions in batches. When all have ended it prints for each script, in
+the order given, the line 'client K' and the report of its records, and at the end the line 'commits C'. With --trace it then
+writes the commits and the answers into FILE, which 'ssb_live audit' checks.
+
+A script has one record a line: 'query|NAME' or 'query|NAME|CONSTANT..' asks; 'begin', then 'add' or 'amend' with 'line|..'
+records and 'withdraw|KEY', then 'commit' is one refresh, which is taken whole or refused whole.
+
+Examples:
+  ssb_live run --data tables morning.txt
+  ssb_live run --data tables --dispatchers 2 --trace run.trace orders.txt questions.txt";
+
+const AUDIT_HELP: &str = "\
+Reads a trace that 'ssb_live run --trace' wrote, and checks it over the five table files of a folder: each commit is accepted
+after those before it, each answer has the rows of its question after its number of commits, and no client is taken back. It
+prints 'ok C A', the numbers of commits and of answers, or tells what speaks against the trace (status 3).
+
+Example:
+  ssb_live audit --data tables run.trace";
+
+// The folder of the five table files.
+fn data_argument<'a>(alloc: Global) -> Arg<'a> {
+    Arg::new(alloc, "data")
         .long("data")
         .value_name("DIR")
         .help("The folder of customer.tbl, supplier.tbl, part.tbl, date.tbl and lineorder.tbl")
         .required(true)
-        .action(ArgAction::Set);
+        .action(ArgAction::Set)
+}
+
+// Whether times are told.
+fn times_argument<'a>(alloc: Global, help: &'a str) -> Arg<'a> {
+    Arg::new(alloc, "times")
+        .long("times")
+        .help(help)
+        .action(ArgAction::SetTrue)
+}
+
+// The words of `query`.
+fn query_command<'a>(alloc: Global) -> Result<Command<'a>, AllocError> {
     let all = Arg::new(alloc, "all")
         .long("all")
         .help("All thirteen queries with the benchmark's constants, in place of one")
         .action(ArgAction::SetTrue);
-    let times = Arg::new(alloc, "times")
-        .long("times")
-        .help("Tells on standard error how many seconds each step took")
-        .action(ArgAction::SetTrue);
+    let times = times_argument(
+        alloc,
+        "Tells on standard error how many seconds each step took",
+    );
     let name = Arg::new(alloc, "name")
         .value_name("NAME")
         .help("The query, as Q4.1")
@@ -67,11 +100,59 @@ fn query_command<'a>(alloc: Global) -> Result<Command<'a>, AllocError> {
     Command::new(alloc, "query")
         .about("Prints the report of one question, or of all, over table files")
         .long_about(QUERY_HELP)
-        .arg(data)?
+        .arg(data_argument(alloc))?
         .arg(all)?
         .arg(times)?
         .arg(name)?
         .arg(constants)
+}
+
+// The words of `run`.
+fn run_command<'a>(alloc: Global) -> Result<Command<'a>, AllocError> {
+    let dispatchers = Arg::new(alloc, "dispatchers")
+        .long("dispatchers")
+        .value_name("N")
+        .help("How many dispatchers answer the questions, each in a thread of its own: 1 to 4")
+        .value_parser(value_parser!(u32).range(1..5))
+        .default_value("1")
+        .action(ArgAction::Set);
+    let trace = Arg::new(alloc, "trace")
+        .long("trace")
+        .value_name("FILE")
+        .help("Where the commits and the answers are written; the file is made anew")
+        .action(ArgAction::Set);
+    let times = times_argument(
+        alloc,
+        "Tells on standard error how many seconds loading and serving took, and how much was served a second",
+    );
+    let scripts = Arg::new(alloc, "scripts")
+        .value_name("SCRIPT")
+        .help("The scripts, 1 to 16: client K serves the Kth")
+        .num_args(1..)
+        .required(true)
+        .action(ArgAction::Append);
+    Command::new(alloc, "run")
+        .about("Serves scripts at once, a client each, and prints their reports")
+        .long_about(RUN_HELP)
+        .arg(data_argument(alloc))?
+        .arg(dispatchers)?
+        .arg(trace)?
+        .arg(times)?
+        .arg(scripts)
+}
+
+// The words of `audit`.
+fn audit_command<'a>(alloc: Global) -> Result<Command<'a>, AllocError> {
+    let trace = Arg::new(alloc, "trace")
+        .value_name("TRACE")
+        .help("The trace of a run over these tables")
+        .required(true)
+        .action(ArgAction::Set);
+    Command::new(alloc, "audit")
+        .about("Checks the trace of a run: its commits, and the rows of its answers")
+        .long_about(AUDIT_HELP)
+        .arg(data_argument(alloc))?
+        .arg(trace)
 }
 
 // All words of the program.
@@ -81,7 +162,9 @@ fn command<'a>(alloc: Global) -> Result<Command<'a>, AllocError> {
         .about(
             "A warehouse of the Star Schema Benchmark. Without words: serves the script on standard input over a small built-in data set, and prints the report",
         )
-        .subcommand(query_command(alloc)?)
+        .subcommand(query_command(alloc)?)?
+        .subcommand(run_command(alloc)?)?
+        .subcommand(audit_command(alloc)?)
 }
 
 /// The words of the command line, the program's name first.

@@ -1,14 +1,18 @@
 //! What the words of a command line do.
 
+use crate::audit::run_audit;
 use crate::demo::demo;
 use crate::fault::Fault;
 use crate::query::{Settings, run_all, run_query};
+use crate::scripts::{RunSettings, run_scripts};
 use crate::{arguments, files};
 use clap::ArgMatches;
+use ssb_load::Tables;
 use std::hash::RandomState;
-use std::io::{Read, Write};
+use std::io::{BufWriter, Read, Write};
 use std::random::RandomSource;
 use std::rt::Files;
+use std::sync::Wait;
 use std::thread::Threads;
 use std::time::Clock;
 
@@ -39,6 +43,88 @@ where
     run_query(rt, settings, tables, name, constants, out, err)
 }
 
+// The files of a run, opened, and how its scripts are served.
+#[derive(Drop)]
+struct OpenedRun<F: Write + Drop> {
+    settings: RunSettings,
+    tables: Tables<F>,
+    scripts: Vec<F>,
+    trace: Option<BufWriter<F>>,
+}
+
+// Opens the files of a run. The trace is made once the others could be opened.
+fn open_run<R>(rt: &R, matches: &ArgMatches<'_>) -> Result<OpenedRun<R::File>, Fault>
+where
+    R: Files + RandomSource + AllocGlobal,
+{
+    let tables = files::open(rt, matches.get_str("data").unwrap_or(""))?;
+    let scripts = files::open_files(rt, matches.get_strs("scripts").unwrap_or(&[]))?;
+    let trace = match matches.get_str("trace") {
+        Some(path) => Some(files::make(rt, path)?),
+        None => None,
+    };
+    let Ok(hashing) = RandomState::new(rt) else {
+        return Err(Fault::NoRandomness);
+    };
+    let settings = RunSettings {
+        hashing,
+        dispatchers: matches.get_one::<u32>("dispatchers").unwrap_or(1),
+        times: matches.get_flag("times"),
+    };
+    Ok(OpenedRun {
+        settings,
+        tables,
+        scripts,
+        trace,
+    })
+}
+
+// Serves scripts at once over the files of a folder.
+fn serve_scripts<R, W: Write, E: Write>(
+    rt: &R,
+    matches: &ArgMatches<'_>,
+    out: &mut W,
+    err: &mut E,
+) -> u8
+where
+    R: Files + Clock + RandomSource + Threads + Sync + Wait + AllocGlobal,
+{
+    let OpenedRun {
+        settings,
+        tables,
+        scripts,
+        mut trace,
+    } = match open_run(rt, matches) {
+        Ok(opened) => opened,
+        Err(fault) => return fault.tell(err),
+    };
+    run_scripts(rt, settings, tables, scripts, out, &mut trace, err)
+}
+
+// Checks a trace over the files of a folder.
+fn check_trace<R, W: Write, E: Write>(
+    rt: &R,
+    matches: &ArgMatches<'_>,
+    out: &mut W,
+    err: &mut E,
+) -> u8
+where
+    R: Files + RandomSource + Threads + Sync + AllocGlobal,
+{
+    let tables = match files::open(rt, matches.get_str("data").unwrap_or("")) {
+        Ok(tables) => tables,
+        Err(fault) => return fault.tell(err),
+    };
+    let trace = match files::open_file(rt, matches.get_str("trace").unwrap_or("")) {
+        Ok(trace) => trace,
+        Err(fault) => return fault.tell(err),
+    };
+    match RandomState::new(rt) {
+        Ok(hashing) => run_audit(rt, hashing, tables, trace, out, err),
+        Err(_) => Fault::NoRandomness.tell(err),
+    }
+}
+
 // Serves a script. The keys of its store are hashed at random, so that no client can choose some that collide.
 fn serve_script<R, I: Read + Drop, W: Write, E: Write>(
     rt: &R,
@@ -64,14 +150,16 @@ pub fn run<R, I: Read + Drop, W: Write, E: Write>(
     err: &mut E,
 ) -> u8
 where
-    R: Files + Clock + RandomSource + Threads + Sync + AllocGlobal,
+    R: Files + Clock + RandomSource + Threads + Sync + Wait + AllocGlobal,
 {
     let matches = match arguments::matches(rt.alloc(), words) {
         Ok(matches) => matches,
         Err(answer) => return arguments::tell(&answer, out, err),
     };
     match matches.subcommand() {
-        Some((_, query)) => answer_query(rt, query, out, err),
+        Some(("run", words)) => serve_scripts(rt, words, out, err),
+        Some(("audit", words)) => check_trace(rt, words, out, err),
+        Some((_, words)) => answer_query(rt, words, out, err),
         None => serve_script(rt, input, out, err),
     }
 }

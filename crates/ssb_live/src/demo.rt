@@ -55,7 +55,7 @@ fn serve<R: Read + Drop, W: Write>(
     let mut lines = PlainLines::new(alloc, base)?;
     match run_store(alloc, &mut store, &mut lines, input, out) {
         Ok(_) => {}
-        Err(RunError::Script(fault)) => return Err(Fault::Script(fault)),
+        Err(RunError::Script(fault)) => return Err(Fault::Script(1, fault)),
         Err(RunError::Write(_)) => return Err(Fault::WriteFailed),
     }
     match out.flush() {

@@ -1,13 +1,15 @@
 //! Why the program stops, and the status that it ends with.
 
 ghost use Rattle.std.specs.Prelude.{◌≡◌};
-ghost use Rattle.ssb_live.specs.Status.{status_of};
+ghost use Rattle.ssb_live.specs.Status.{status_of, script_status};
 ghost use Rattle.ssb_live.specs.declared.fault.Fault.TheVariants.{OutOfMemory};
 
+use ssb_audit::AuditFault;
 use ssb_load::LoadError;
 use ssb_plans::{ConstantsFault, NoSuchQuery};
+use ssb_runs::RunFault;
 use ssb_script::ScriptError;
-use std::alloc::AllocError;
+use std::alloc::{AllocError, AllocFailed};
 use std::fmt;
 use std::io::Write;
 
@@ -22,26 +24,46 @@ pub enum Fault {
     BadWord,
     NoSuchQuery(NoSuchQuery),
     Constants(ConstantsFault),
+    /// More scripts than a server has clients.
+    TooManyScripts,
     Data(LoadError),
-    /// A script that can't be read; it is the first.
-    Script(ScriptError),
+    /// The first script that can't be read, by its number from 1.
+    Script(u64, ScriptError),
+    /// A trace that can't be read.
+    Trace(ScriptError),
+    /// No server could be opened, or memory or threads were wanting.
+    Run(RunFault),
+    /// What speaks against a trace.
+    Audit(AuditFault),
     WriteFailed,
     OutOfMemory,
 }
 
+// The exit status of a fault of a script or a trace.
+fn script_status(fault: &ScriptError) -> u8
+    ensures { result ≡ script_status fault.now }
+{
+    match fault {
+        ScriptError::Read | ScriptError::OutOfMemory => 4,
+        _ => 1,
+    }
+}
+
 impl Fault {
-    /// The exit status: 1 where the data was refused, 2 for a wrong command line, 4 where reading, writing or memory
-    /// failed.
+    /// The exit status: 1 where data, a script or a trace was refused, 2 for a wrong command line, 3 where something speaks
+    /// against a trace, 4 where reading, writing or memory failed.
     pub fn status(&self) -> u8
         ensures { result ≡ status_of self.now }
     {
         match self {
             Fault::NoSuchQuery(_) | Fault::Constants(_) | Fault::BadWord => 2,
+            Fault::TooManyScripts => 2,
             Fault::Data(LoadError::Read(_)) | Fault::Data(LoadError::OutOfMemory) => 4,
             Fault::Data(_) => 1,
-            Fault::Script(ScriptError::Read) | Fault::Script(ScriptError::OutOfMemory) => 4,
-            Fault::Script(_) => 1,
-            Fault::CannotRead(_) | Fault::NoRandomness => 4,
+            Fault::Script(_, fault) | Fault::Trace(fault) => script_status(fault),
+            Fault::Audit(AuditFault::OutOfMemory) => 4,
+            Fault::Audit(_) => 3,
+            Fault::CannotRead(_) | Fault::NoRandomness | Fault::Run(_) => 4,
             Fault::WriteFailed | Fault::OutOfMemory => 4,
         }
     }
@@ -63,10 +85,16 @@ impl fmt::Display for Fault {
             Fault::BadWord => f.write_str("a word is no UTF-8"),
             Fault::NoSuchQuery(fault) => write!(f, "query: {fault}"),
             Fault::Constants(fault) => write!(f, "query: {fault}"),
-            Fault::Data(LoadError::OutOfMemory) => f.write_str("out of memory"),
+            Fault::TooManyScripts => f.write_str("too many scripts"),
+            Fault::Data(LoadError::OutOfMemory)
+            | Fault::Script(_, ScriptError::OutOfMemory)
+            | Fault::Trace(ScriptError::OutOfMemory)
+            | Fault::Audit(AuditFault::OutOfMemory) => f.write_str("out of memory"),
             Fault::Data(fault) => write!(f, "data: {fault}"),
-            Fault::Script(ScriptError::OutOfMemory) => f.write_str("out of memory"),
-            Fault::Script(fault) => write!(f, "script 1: {fault}"),
+            Fault::Script(number, fault) => write!(f, "script {number}: {fault}"),
+            Fault::Trace(fault) => write!(f, "trace: {fault}"),
+            Fault::Run(fault) => write!(f, "{fault}"),
+            Fault::Audit(fault) => write!(f, "audit: {fault}"),
             Fault::WriteFailed => f.write_str("write failed"),
             Fault::OutOfMemory => f.write_str("out of memory"),
         }
@@ -77,6 +105,14 @@ impl From<AllocError> for Fault {
     ghost from_gives = { λ _ e. e ≡ OutOfMemory };
 
     fn from(_error: AllocError) -> Fault {
+        Fault::OutOfMemory
+    }
+}
+
+impl<T: Drop> From<AllocFailed<T>> for Fault {
+    ghost from_gives = { λ _ e. e ≡ OutOfMemory };
+
+    fn from(_error: AllocFailed<T>) -> Fault {
         Fault::OutOfMemory
     }
 }

@@ -2,19 +2,27 @@
 //!
 //! Without words it serves the script on standard input over the small built-in data set, as the one client of a one-thread
 //! warehouse, and prints the report. `ssb_live query --data DIR NAME [CONSTANT..]` loads five table files and prints the
-//! report of one question, `ssb_live query --data DIR --all` those of the thirteen queries, answered in one pass. The work is
-//! done by `demo::demo`, `query::run_query` and `query::run_all`, whose contracts name the bytes that they write;
-//! `command::run` finds what the words ask, and this file ends with a status.
+//! report of one question, `ssb_live query --data DIR --all` those of the thirteen queries, answered in one pass.
+//! `ssb_live run --data DIR SCRIPT..` serves scripts at once, a client of the live server each, and `ssb_live audit --data DIR
+//! TRACE` checks the trace that such a run left. The work is done by `demo::demo`, `query::run_query`, `query::run_all`,
+//! `scripts::run_scripts` and `audit::run_audit`, whose contracts name the bytes that they write; `command::run` finds what the
+//! words ask, and this file ends with a status.
 #![tactic(auto)]
 
 mod arguments;
 mod asked;
+mod audit;
 mod command;
 mod demo;
 mod fault;
 mod files;
+mod loading;
 mod opening;
+mod pace;
+mod printing;
 mod query;
+mod reading;
+mod scripts;
 mod small_data;
 mod stopwatch;
 #[cfg(test)]

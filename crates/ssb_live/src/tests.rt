@@ -2,6 +2,7 @@
 
 mod command;
 mod faults;
+mod served;
 
 use crate::demo::demo;
 use crate::files;

@@ -61,7 +61,7 @@ fn three_clients_of_ten_refreshes_leave_thirty_commits(rt: HostRuntime) -> Resul
     }
     assert_eq!(rt; run.trace.answers.len(), 3);
     assert_eq!(rt; run.batches.questions, 3);
-    assert!(rt; audit(alloc, base(alloc)?, hashing, &run.trace).is_ok());
+    assert!(rt; audit(&rt, alloc, base(alloc)?, hashing, &run.trace).is_ok());
     Ok(())
 }
 
@@ -98,7 +98,7 @@ fn the_reports_stand_in_the_order_of_the_scripts(rt: HostRuntime) -> Result<(), 
             orders += 1;
         }
         assert_eq!(rt; orders as u64, clients);
-        assert!(rt; audit(alloc, base(alloc)?, RandomState::new(&rt)?, &run.trace).is_ok());
+        assert!(rt; audit(&rt, alloc, base(alloc)?, RandomState::new(&rt)?, &run.trace).is_ok());
     }
     Ok(())
 }

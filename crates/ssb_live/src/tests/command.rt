@@ -10,6 +10,7 @@ use std::fs;
 use std::io::Write;
 use std::random::RandomSource;
 use std::rt::Files;
+use std::sync::Wait;
 use std::test::Fail;
 use std::thread::Threads;
 use std::time::Clock;
@@ -24,9 +25,9 @@ fn listed(alloc: Global, words: &[&str]) -> Result<Vec<String>, Fail> {
 }
 
 // A run of these words, with this script on standard input.
-fn run_with<R>(rt: &R, words: &[&str], script: &str) -> Result<Told, Fail>
+pub(super) fn run_with<R>(rt: &R, words: &[&str], script: &str) -> Result<Told, Fail>
 where
-    R: Files + Clock + RandomSource + Threads + Sync + AllocGlobal,
+    R: Files + Clock + RandomSource + Threads + Sync + Wait + AllocGlobal,
 {
     let words = listed(rt.alloc(), words)?;
     let mut out = Vec::new(rt.alloc());
@@ -62,7 +63,7 @@ fn each_word_after_query_has_its_place(rt: HostRuntime) -> Result<(), Fail> {
 }
 
 // The small data set in files of this folder.
-fn write_small(rt: &HostRuntime, folder: &str) -> Result<(), Fail> {
+pub(super) fn write_small(rt: &HostRuntime, folder: &str) -> Result<(), Fail> {
     fs::create_dir_all(rt, folder)?;
     for (table, text) in [
         ("customer", CUSTOMER),

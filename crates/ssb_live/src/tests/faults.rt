@@ -2,8 +2,10 @@
 
 use crate::fault::Fault;
 use row_store::Cause;
+use ssb_audit::AuditFault;
 use ssb_load::LoadError;
 use ssb_plans::{ConstantsFault, NoSuchQuery, Query};
+use ssb_runs::RunFault;
 use ssb_schema::{Column, SchemaFault, Table};
 use ssb_script::ScriptError;
 use std::alloc::Global;
@@ -72,7 +74,7 @@ fn each_fault_of_a_script_has_its_number_and_text(rt: HostRuntime) -> Result<(),
         (ScriptError::Read, 4, "script 1: 75 Read"),
         (ScriptError::OutOfMemory, 4, "out of memory"),
     ] {
-        let fault = Fault::Script(fault);
+        let fault = Fault::Script(1, fault);
         assert_eq!(rt; fault.to_string(rt.alloc())?.as_str(), text);
         assert_eq!(rt; fault.status(), status);
     }
@@ -108,6 +110,36 @@ fn other_faults(alloc: Global) -> Result<[(Fault, u8, &'static str); 8], Fail> {
 #[test]
 fn each_other_fault_has_its_text(rt: HostRuntime) -> Result<(), Fail> {
     for (fault, status, text) in other_faults(rt.alloc())? {
+        assert_eq!(rt; fault.to_string(rt.alloc())?.as_str(), text);
+        assert_eq!(rt; fault.status(), status);
+    }
+    Ok(())
+}
+
+#[test]
+fn each_fault_of_a_run_or_an_audit_has_its_text(rt: HostRuntime) -> Result<(), Fail> {
+    for (fault, status, text) in [
+        (Fault::TooManyScripts, 2, "too many scripts"),
+        (
+            Fault::Script(16, ScriptError::NoCommit),
+            1,
+            "script 16: 71 NoCommit",
+        ),
+        (Fault::Run(RunFault::OutOfMemory), 4, "out of memory"),
+        (
+            Fault::Trace(ScriptError::EmptyBlock(2)),
+            1,
+            "trace: 72 EmptyBlock 2",
+        ),
+        (Fault::Trace(ScriptError::Read), 4, "trace: 75 Read"),
+        (Fault::Trace(ScriptError::OutOfMemory), 4, "out of memory"),
+        (
+            Fault::Audit(AuditFault::WrongRows(1, 2)),
+            3,
+            "audit: 81 WrongRows 1 2",
+        ),
+        (Fault::Audit(AuditFault::OutOfMemory), 4, "out of memory"),
+    ] {
         assert_eq!(rt; fault.to_string(rt.alloc())?.as_str(), text);
         assert_eq!(rt; fault.status(), status);
     }

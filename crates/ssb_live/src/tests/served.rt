@@ -1,0 +1,416 @@
+//! Command lines of `run` and `audit`, over files that the tests make.
+
+use crate::audit::run_audit;
+use crate::scripts::{RunSettings, run_scripts};
+use crate::small_data::tables;
+use crate::tests::command::{run_with, write_small};
+use crate::tests::{Full, Told};
+use std::fs;
+use std::hash::RandomState;
+use std::process::Abort;
+use std::random::RandomSource;
+use std::rt::Files;
+use std::sync::Wait;
+use std::test::Fail;
+use std::thread::Threads;
+use std::time::Clock;
+
+// A folder of one test, with the small data set in it.
+fn folder_of(rt: &HostRuntime, name: &str) -> Result<String, Fail> {
+    let above = std::env::temp_dir(rt)?;
+    let id = std::process::id(rt.process());
+    let folder = format!(in rt.alloc(); "{}/ssb_live_{name}_{id}", above.display())?;
+    write_small(rt, folder.as_str())?;
+    Ok(folder)
+}
+
+// A file of this text in a folder, by its path.
+fn put(rt: &HostRuntime, folder: &str, name: &str, text: &str) -> Result<String, Fail> {
+    let path = format!(in rt.alloc(); "{folder}/{name}")?;
+    fs::write(rt, path.as_str(), text)?;
+    Ok(path)
+}
+
+// The script and the report of the stored run.
+const STORED_SCRIPT: &str = "\
+query|Q4.1
+begin
+add
+line|9|1|3|4|3|19971215|o|0|1|10|10|0|10|2000|0|19971215|AIR
+withdraw|77
+commit
+query|Q4.1
+begin
+add
+line|9|1|3|4|3|19971215|o|0|1|10|10|0|10|2000|0|19971215|AIR
+commit
+query|Q4.1
+";
+
+const STORED_RUN: &str = "\
+client 1
+Q4.1 at 0 rows 1
+1997|UNITED STATES|660
+refused at 0 action 2: 47 Absent 77
+Q4.1 at 0 rows 1
+1997|UNITED STATES|660
+committed 1
+Q4.1 at 1 rows 1
+1997|UNITED STATES|-1330
+commits 1
+";
+
+const STORED_TRACE: &str = "\
+commit|1
+add
+line|9|1|3|4|3|19971215|o|0|1|10|10|0|10|2000|0|19971215|AIR
+end
+answer|1|0|Q4.1|1
+row|1997|UNITED STATES|660
+answer|1|0|Q4.1|1
+row|1997|UNITED STATES|660
+answer|1|1|Q4.1|1
+row|1997|UNITED STATES|-1330
+";
+
+// A run of the words `run --data DIR` and these others.
+fn serve<R>(rt: &R, folder: &str, words: &[&str]) -> Result<Told, Fail>
+where
+    R: Files + Clock + RandomSource + Threads + Sync + Wait + AllocGlobal,
+{
+    let mut line = Vec::new(rt.alloc());
+    line.extend_from_slice(&["ssb_live", "run", "--data", folder])?;
+    line.extend_from_slice(words)?;
+    run_with(rt, line.as_slice(), "")
+}
+
+// A run of the words `audit --data DIR TRACE`.
+fn audited<R>(rt: &R, folder: &str, trace: &str) -> Result<Told, Fail>
+where
+    R: Files + Clock + RandomSource + Threads + Sync + Wait + AllocGlobal,
+{
+    run_with(rt, &["ssb_live", "audit", "--data", folder, trace], "")
+}
+
+// That a run ended with a fault, which stands alone in standard error, and wrote nothing.
+fn check_fault<R>(rt: &R, told: &Told, status: u8, fault: &str) -> Result<(), Fail>
+where
+    R: Abort + AllocGlobal,
+{
+    let line = format!(in rt.alloc(); "ssb_live: {fault}\n")?;
+    assert_eq!(rt; std::str::from_utf8(told.err.as_slice())?, line.as_str());
+    assert_eq!(rt; told.status, status);
+    assert!(rt; told.out.is_empty());
+    Ok(())
+}
+
+#[test]
+fn the_stored_run_is_served_traced_and_audited(rt: HostRuntime) -> Result<(), Fail> {
+    let folder = folder_of(&rt, "stored")?;
+    let script = put(&rt, folder.as_str(), "script", STORED_SCRIPT)?;
+    let trace = put(&rt, folder.as_str(), "trace", "an older trace, which goes")?;
+    let words = ["--trace", trace.as_str(), script.as_str()];
+    let told = serve(&rt, folder.as_str(), &words)?;
+    let kept = fs::read_to_string(&rt, trace.as_str())?;
+    let verdict = audited(&rt, folder.as_str(), trace.as_str())?;
+    let short = put(
+        &rt,
+        folder.as_str(),
+        "short",
+        STORED_TRACE.get(..95).unwrap_or(""),
+    )?;
+    let cut = audited(&rt, folder.as_str(), short.as_str())?;
+    fs::remove_dir_all(&rt, folder.as_str())?;
+    assert_eq!(rt; std::str::from_utf8(told.out.as_slice())?, STORED_RUN);
+    assert_eq!(rt; told.status, 0);
+    assert!(rt; told.err.is_empty());
+    assert_eq!(rt; kept.as_str(), STORED_TRACE);
+    assert_eq!(rt; verdict.out.as_slice(), b"ok 1 3\n".as_slice());
+    assert_eq!(rt; verdict.status, 0);
+    assert!(rt; verdict.err.is_empty());
+    check_fault(&rt, &cut, 1, "trace: 71 NoCommit")
+}
+
+// Ten refreshes, the kth of which adds an order of key `100 * client + k`, and then a question.
+fn refreshes(rt: &HostRuntime, client: u32) -> Result<String, Fail> {
+    let mut script = String::new(rt.alloc());
+    for k in 1..11u32 {
+        let line = format!(in rt.alloc();
+            "begin\nadd\nline|{client}{k:02}|1|3|4|3|19971215|o|0|1|10|10|0|10|2000|0|19971215|AIR\ncommit\n"
+        )?;
+        script.push_str(line.as_str())?;
+    }
+    script.push_str("query|Q4.1\n")?;
+    Ok(script)
+}
+
+// A client's report of ten receipts and one answer: the numbers of its commits rise, and the answer has at least these.
+fn check_report<R>(rt: &R, report: &[&str], counted: &mut [u8; 31]) -> Result<(), Fail>
+where
+    R: Abort + AllocGlobal,
+{
+    let mut last = 0;
+    for line in &report[..10] {
+        let number = line.strip_prefix("committed ").ok_or("no receipt")?;
+        let number: usize = number.parse().map_err(|_| "no number")?;
+        assert!(rt; last < number && number <= 30);
+        counted[number] += 1;
+        last = number;
+    }
+    let answer = report[10].strip_prefix("Q4.1 at ").ok_or("no answer")?;
+    let at = answer.strip_suffix(" rows 1").ok_or("no row")?;
+    let at: usize = at.parse().map_err(|_| "no number")?;
+    assert!(rt; last <= at && at <= 30);
+    let row = format!(in rt.alloc(); "1997|UNITED STATES|{}", 660 - 1990 * at as i64)?;
+    assert_eq!(rt; report[11], row.as_str());
+    Ok(())
+}
+
+#[test]
+fn thirty_refreshes_of_three_clients_are_thirty_commits(rt: HostRuntime) -> Result<(), Fail> {
+    let folder = folder_of(&rt, "thirty")?;
+    let first = put(&rt, folder.as_str(), "first", refreshes(&rt, 1)?.as_str())?;
+    let second = put(&rt, folder.as_str(), "second", refreshes(&rt, 2)?.as_str())?;
+    let third = put(&rt, folder.as_str(), "third", refreshes(&rt, 3)?.as_str())?;
+    let trace = format!(in rt.alloc(); "{folder}/trace")?;
+    let told = serve(
+        &rt,
+        folder.as_str(),
+        &[
+            "--dispatchers",
+            "2",
+            "--trace",
+            trace.as_str(),
+            first.as_str(),
+            second.as_str(),
+            third.as_str(),
+        ],
+    )?;
+    let verdict = audited(&rt, folder.as_str(), trace.as_str())?;
+    fs::remove_dir_all(&rt, folder.as_str())?;
+    assert_eq!(rt; told.status, 0);
+    assert!(rt; told.err.is_empty());
+    let mut lines = Vec::new(rt.alloc());
+    for line in std::str::from_utf8(told.out.as_slice())?.lines() {
+        lines.push(line)?;
+    }
+    assert_eq!(rt; lines.len(), 40);
+    let mut counted = [0u8; 31];
+    for (place, heading) in ["client 1", "client 2", "client 3"].iter().enumerate() {
+        assert_eq!(rt; lines[13 * place], *heading);
+        check_report(&rt, &lines[13 * place + 1..13 * place + 13], &mut counted)?;
+    }
+    assert_eq!(rt; lines[39], "commits 30");
+    assert!(rt; counted[1..].iter().all(|times| *times == 1));
+    assert_eq!(rt; verdict.out.as_slice(), b"ok 30 3\n".as_slice());
+    assert_eq!(rt; verdict.status, 0);
+    Ok(())
+}
+
+#[test]
+fn what_speaks_against_a_trace_is_told(rt: HostRuntime) -> Result<(), Fail> {
+    let folder = folder_of(&rt, "against")?;
+    for (trace, status, fault) in [
+        (
+            "answer|1|0|Q4.1|1\nrow|1997|UNITED STATES|661\n",
+            3,
+            "audit: 81 WrongRows 1 1",
+        ),
+        (
+            "answer|16|1|Q1.1|1\nrow|3000\n",
+            3,
+            "audit: 83 AtTooLarge 16 1",
+        ),
+        (
+            "commit|1\nwithdraw|77\nend\n",
+            3,
+            "audit: 80 CommitRefused 1",
+        ),
+        (
+            "commit|1\nwithdraw|3\nend\nanswer|1|1|Q4.1|0\nanswer|1|0|Q1.1|1\nrow|3000\n",
+            3,
+            "audit: 82 WentBack 1 2",
+        ),
+        ("answer|1|0|Q4.1|1\n", 1, "trace: 71 NoCommit"),
+        ("query|Q4.1\n", 1, "trace: 70 BadLine 1"),
+        ("commit|2\nend\n", 1, "trace: 72 EmptyBlock 2"),
+    ] {
+        let path = put(&rt, folder.as_str(), "trace", trace)?;
+        let told = audited(&rt, folder.as_str(), path.as_str())?;
+        check_fault(&rt, &told, status, fault)?;
+    }
+    let missing = audited(&rt, folder.as_str(), "no/trace")?;
+    check_fault(&rt, &missing, 4, "cannot read no/trace")?;
+    let above = audited(&rt, folder.as_str(), folder.as_str())?;
+    check_fault(&rt, &above, 4, "trace: 75 Read")?;
+    put(&rt, folder.as_str(), "part.tbl", "x")?;
+    let data = audited(&rt, folder.as_str(), folder.as_str())?;
+    check_fault(&rt, &data, 1, "data: 21 FieldCount part 1")?;
+    fs::remove_dir_all(&rt, folder.as_str())?;
+    Ok(())
+}
+
+#[test]
+fn the_first_bad_script_is_told_by_its_number(rt: HostRuntime) -> Result<(), Fail> {
+    let folder = folder_of(&rt, "scripts")?;
+    let good = put(&rt, folder.as_str(), "good", "query|Q1.1\n")?;
+    let bad = put(&rt, folder.as_str(), "bad", "hello\n")?;
+    let worse = put(&rt, folder.as_str(), "worse", "begin\n")?;
+    let words = [good.as_str(), bad.as_str(), worse.as_str()];
+    let told = serve(&rt, folder.as_str(), &words)?;
+    check_fault(&rt, &told, 1, "script 2: 70 BadLine 1")?;
+    let told = serve(&rt, folder.as_str(), &[good.as_str(), folder.as_str()])?;
+    check_fault(&rt, &told, 4, "script 2: 75 Read")?;
+    fs::remove_dir_all(&rt, folder.as_str())?;
+    Ok(())
+}
+
+#[test]
+fn too_many_scripts_come_before_bad_data_and_bad_data_before_bad_scripts(
+    rt: HostRuntime,
+) -> Result<(), Fail> {
+    let folder = folder_of(&rt, "order")?;
+    let bad = put(&rt, folder.as_str(), "bad", "hello\n")?;
+    let trace = put(&rt, folder.as_str(), "trace", "an older trace")?;
+    put(&rt, folder.as_str(), "date.tbl", "x|")?;
+    let told = serve(&rt, folder.as_str(), &[bad.as_str(); 17])?;
+    check_fault(&rt, &told, 2, "too many scripts")?;
+    let words = ["--trace", trace.as_str(), bad.as_str()];
+    let told = serve(&rt, folder.as_str(), &words)?;
+    check_fault(&rt, &told, 1, "data: 21 FieldCount date 1")?;
+    let emptied = fs::read_to_string(&rt, trace.as_str())?;
+    assert!(rt; emptied.is_empty());
+    fs::remove_dir_all(&rt, folder.as_str())?;
+    Ok(())
+}
+
+#[test]
+fn files_are_opened_in_their_order_and_the_trace_is_made_last(rt: HostRuntime) -> Result<(), Fail> {
+    let folder = folder_of(&rt, "files")?;
+    let bad = put(&rt, folder.as_str(), "bad", "hello\n")?;
+    let words = ["--trace", folder.as_str(), bad.as_str()];
+    let told = serve(&rt, folder.as_str(), &words)?;
+    check_fault(&rt, &told, 4, "write failed")?;
+    let words = ["--trace", folder.as_str(), bad.as_str(), "no/1", "no/2"];
+    let told = serve(&rt, folder.as_str(), &words)?;
+    check_fault(&rt, &told, 4, "cannot read no/1")?;
+    let told = serve(&rt, "no", &["--trace", folder.as_str(), "no/1"])?;
+    check_fault(&rt, &told, 4, "cannot read no/customer.tbl")?;
+    fs::remove_dir_all(&rt, folder.as_str())?;
+    Ok(())
+}
+
+#[test]
+fn wrong_words_of_run_and_audit_end_with_status_2(rt: HostRuntime) -> Result<(), Fail> {
+    for words in [
+        &["ssb_live", "run", "--data", "t"][..],
+        &["ssb_live", "run", "s"],
+        &["ssb_live", "run", "--data", "t", "--dispatchers", "0", "s"],
+        &["ssb_live", "run", "--data", "t", "--dispatchers", "5", "s"],
+        &[
+            "ssb_live",
+            "run",
+            "--data",
+            "t",
+            "--dispatchers",
+            "two",
+            "s",
+        ],
+        &["ssb_live", "audit", "--data", "t"],
+        &["ssb_live", "audit", "s"],
+        &["ssb_live", "audit", "--data", "t", "s", "s"],
+    ] {
+        let told = run_with(&rt, words, "")?;
+        assert_eq!(rt; told.status, 2);
+        assert!(rt; told.out.is_empty());
+        assert!(rt; told.err.as_slice().starts_with(b"error: "));
+    }
+    Ok(())
+}
+
+// The stored run over the small data set, with this file for its trace.
+fn stored_run<R>(rt: &R, times: bool, file: Option<Full>) -> Result<Told, Fail>
+where
+    R: Clock + RandomSource + Threads + Sync + Wait + AllocGlobal,
+{
+    let settings = RunSettings {
+        hashing: RandomState::new(rt)?,
+        dispatchers: 1,
+        times,
+    };
+    let mut sources = Vec::new(rt.alloc());
+    sources.push(STORED_SCRIPT.as_bytes())?;
+    let mut file = file;
+    let mut out = Vec::new(rt.alloc());
+    let mut err = Vec::new(rt.alloc());
+    let status = run_scripts(
+        rt,
+        settings,
+        tables(),
+        sources,
+        &mut out,
+        &mut file,
+        &mut err,
+    );
+    Ok(Told { status, out, err })
+}
+
+#[test]
+fn where_the_traces_file_fails_the_output_stands_whole(rt: HostRuntime) -> Result<(), Fail> {
+    let told = stored_run(&rt, false, Some(Full))?;
+    assert_eq!(rt; told.status, 4);
+    assert_eq!(rt; std::str::from_utf8(told.out.as_slice())?, STORED_RUN);
+    assert_eq!(rt; told.err.as_slice(), b"ssb_live: write failed\n".as_slice());
+    Ok(())
+}
+
+#[test]
+fn the_pace_of_a_run_is_told_after_it(rt: HostRuntime) -> Result<(), Fail> {
+    let told = stored_run(&rt, true, None)?;
+    assert_eq!(rt; told.status, 0);
+    assert_eq!(rt; std::str::from_utf8(told.out.as_slice())?, STORED_RUN);
+    let pace = std::str::from_utf8(told.err.as_slice())?;
+    for begin in [
+        "ssb_live: load ",
+        "ssb_live: serving ",
+        "ssb_live: commits 1, ",
+        "ssb_live: answers 3, ",
+        "ssb_live: batches 3, 1.00 questions each\n",
+    ] {
+        assert!(rt; pace.contains(begin));
+    }
+    Ok(())
+}
+
+#[test]
+fn a_failed_write_of_a_run_or_a_verdict_is_told(rt: HostRuntime) -> Result<(), Fail> {
+    let settings = RunSettings {
+        hashing: RandomState::new(&rt)?,
+        dispatchers: 1,
+        times: false,
+    };
+    let mut sources = Vec::new(rt.alloc());
+    sources.push("query|Q1.1\n".as_bytes())?;
+    let mut none = None::<Full>;
+    let mut err = Vec::new(rt.alloc());
+    let status = run_scripts(
+        &rt,
+        settings,
+        tables(),
+        sources,
+        &mut Full,
+        &mut none,
+        &mut err,
+    );
+    assert_eq!(rt; status, 4);
+    assert_eq!(rt; err.as_slice(), b"ssb_live: write failed\n".as_slice());
+    let hashing = RandomState::new(&rt)?;
+    let mut err = Vec::new(rt.alloc());
+    let trace = STORED_TRACE.as_bytes();
+    assert_eq!(rt;
+        run_audit(&rt, hashing, tables(), trace, &mut Full, &mut err),
+        4
+    );
+    assert_eq!(rt; err.as_slice(), b"ssb_live: write failed\n".as_slice());
+    Ok(())
+}
