@@ -1,5 +1,5 @@
-//! Trials of the live server over the small data set: its clients and dispatchers in one thread and in several, their
-//! answers beside those that the benchmark's definition gives, worked out by hand.
+//! Trials of the live server over the small data set: calls of a client and a dispatcher, and their answers beside those that
+//! the benchmark's definition gives, worked out by hand.
 #![tactic(auto)]
 
 #[cfg(test)]
