@@ -1,0 +1,5 @@
+//! The server's calls, run and compared.
+mod data;
+mod one_thread;
+mod opening;
+mod steps;

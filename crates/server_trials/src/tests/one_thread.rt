@@ -1,0 +1,35 @@
+//! Clients and a dispatcher in one thread.
+
+use crate::tests::data::{ORDER_NINE, told};
+use crate::tests::opening::for_one_client;
+use crate::tests::steps::{adds, asks, polls, turns};
+use ssb_plans::Query;
+use ssb_server::{OpenGate, Turn};
+use std::hash::RandomState;
+use std::test::Fail;
+
+#[test]
+fn own_commit_is_in_the_next_answer(rt: HostRuntime) -> Result<(), Fail> {
+    let alloc = rt.alloc();
+    let (server, mut client, mut dispatcher) = for_one_client(alloc, &rt, RandomState::new(&rt)?)?;
+    assert_eq!(rt; adds(&rt, alloc, &server, &mut client, ORDER_NINE)?, 1);
+    asks(alloc, &server, &mut client, Query::Q4_1)?;
+    let turn = turns(&rt, &server, &mut dispatcher, &OpenGate);
+    assert_eq!(rt; turn, Turn::Answered { at: 1, count: 1 });
+    let answer = polls(&server, &mut client)?;
+    assert_eq!(rt;
+        told(alloc, &answer)?.as_str(),
+        "Q4.1 at 1: 1997|UNITED STATES|-1330"
+    );
+    assert!(rt; client.poll(&server).is_none());
+    Ok(())
+}
+
+#[test]
+fn turn_with_nothing_asked_is_idle(rt: HostRuntime) -> Result<(), Fail> {
+    let alloc = rt.alloc();
+    let (server, _, mut dispatcher) = for_one_client(alloc, &rt, RandomState::new(&rt)?)?;
+    let turn = turns(&rt, &server, &mut dispatcher, &OpenGate);
+    assert_eq!(rt; turn, Turn::Idle);
+    Ok(())
+}

@@ -1,0 +1,113 @@
+//! Servers that are opened, and those that are not.
+ghost use Rattle.std.specs.Prelude.{◌≡◌, All, IfOk, IfSome};
+ghost use Rattle.ssb_server.specs.Tickets.{IsOf, IsQuiet};
+
+use crate::tests::data::base;
+use ssb_server::{Client, Dispatcher, OpenFault, Opened, Server, open};
+use std::alloc::Global;
+use std::hash::RandomState;
+use std::sync::Wait;
+use std::test::Fail;
+
+// A server over the small data set.
+#[tactic(auto, using(ssb_server::proofs::Staying::new_clients_are_quiet, ssb_server::proofs::Staying::new_dispatchers_are_of_it))]
+fn opened<W: Wait + Drop>(
+    alloc: Global,
+    rt: W,
+    hashing: RandomState,
+    clients: u32,
+    dispatchers: u32,
+) -> Result<Opened<W>, Fail>
+    ensures clients { IfOk result (λ made. All (IsQuiet made.server) made.clients.items) }
+    ensures dispatchers { IfOk result (λ made. All (IsOf made.server) made.dispatchers.items) }
+{
+    match open(alloc, rt, hashing, base(alloc)?, clients, dispatchers) {
+        Ok(made) => Ok(made),
+        Err(error) => Err(error.fault)?,
+    }
+}
+
+// The last client.
+fn next_client<W: Wait + Drop>(
+    server: &Server<W>,
+    clients: &mut Vec<Client<W>>,
+) -> Option<Client<W>>
+    requires { All (IsQuiet server.now) clients.old.items }
+    ensures left { All (IsQuiet server.now) clients.new.items }
+    ensures next { IfSome result (IsQuiet server.now) }
+{
+    let _ = server;
+    clients.pop()
+}
+
+// The last dispatcher.
+fn next_dispatcher<W: Wait + Drop>(
+    server: &Server<W>,
+    dispatchers: &mut Vec<Dispatcher<W>>,
+) -> Option<Dispatcher<W>>
+    requires { All (IsOf server.now) dispatchers.old.items }
+    ensures left { All (IsOf server.now) dispatchers.new.items }
+    ensures next { IfSome result (IsOf server.now) }
+{
+    let _ = server;
+    dispatchers.pop()
+}
+
+/// A server with one client and one dispatcher.
+pub fn for_one_client<W: Wait + Drop>(
+    alloc: Global,
+    rt: W,
+    hashing: RandomState,
+) -> Result<(Server<W>, Client<W>, Dispatcher<W>), Fail>
+    ensures client { IfOk result (λ made. IsQuiet made.0 made.1) }
+    ensures dispatcher { IfOk result (λ made. IsOf made.0 made.2) }
+{
+    let mut made = opened(alloc, rt, hashing, 1, 1)?;
+    let server = made.server;
+    let client = next_client(&server, &mut made.clients).ok_or("no client")?;
+    let dispatcher = next_dispatcher(&server, &mut made.dispatchers).ok_or("no dispatcher")?;
+    Ok((server, client, dispatcher))
+}
+
+#[test]
+fn counts_out_of_range_open_nothing(rt: HostRuntime) -> Result<(), Fail> {
+    let alloc = rt.alloc();
+    let mut base = base(alloc)?;
+    for (clients, dispatchers, fault) in [
+        (0, 1, OpenFault::ClientCount),
+        (17, 1, OpenFault::ClientCount),
+        (1, 0, OpenFault::DispatcherCount),
+        (1, 5, OpenFault::DispatcherCount),
+        (0, 0, OpenFault::ClientCount),
+    ] {
+        let opened = open(
+            alloc,
+            &rt,
+            RandomState::new(&rt)?,
+            base,
+            clients,
+            dispatchers,
+        );
+        let error = opened.err().ok_or("opened")?;
+        assert_eq!(rt; error.fault, fault);
+        base = error.back;
+    }
+    assert_eq!(rt; base.lines().len(), 4);
+    Ok(())
+}
+
+#[test]
+fn faults_of_opening_have_their_texts(rt: HostRuntime) -> Result<(), Fail> {
+    let told = format!(in rt.alloc();
+        "{}, {}, {}, {}",
+        OpenFault::ClientCount,
+        OpenFault::DispatcherCount,
+        OpenFault::NoReader,
+        OpenFault::OutOfMemory
+    )?;
+    assert_eq!(rt;
+        told.as_str(),
+        "60 ClientCount, 61 DispatcherCount, 62 NoReader, out of memory"
+    );
+    Ok(())
+}
