@@ -35,3 +35,6 @@ to_the_end whole before done all was is = was ∙ ap (λ ys. before ++ ys) is
 pub none_left : {Y : Type 0} (front rest all : List Y) → front ++ rest ≡ all → length rest ≡ 0 → front ≡ all
 none_left front [] all whole none = sym (append-nil front) ∙ whole
 none_left front (y ∷ rest) all whole none = absurd (omega (arith, none))
+
+pub none_before : {X Y : Type 0} (read : X → Y) (before : List X) (rest all : List Y) → before ≡ [] → rest ≡ all → map read before ++ rest ≡ all
+none_before read before rest all none is = ap (λ xs. map read xs ++ rest) none ∙ is

@@ -23,39 +23,45 @@ pub(crate) struct Ended<W: Wait + Drop> {
     pub(crate) batches: Batches,
 }
 
-// All who are to take part.
+// All who are to take part, with room for their threads and for what these leave. The room is made before the first thread starts:
+// a started thread can then be joined without memory.
 #[derive(Drop)]
 struct Crew<W: Wait + Drop> {
     jobs: Vec<Job<W>>,
     dispatchers: Vec<Dispatcher<W>>,
-}
-
-// Room for the threads and for what they leave, made before the first one starts: a started thread can then be joined without
-// memory.
-#[derive(Drop)]
-struct Room<W: Wait + Drop> {
     serving: Vec<Serving<W>>,
-    dispatching: Vec<Dispatching<W>>,
     sessions: Vec<Session<W>>,
+    dispatching: Vec<Dispatching<W>>,
     left: Vec<Dispatcher<W>>,
+    ghost no_serving: { serving.items ≡ [] },
+    ghost no_sessions: { sessions.items ≡ [] },
+    ghost no_dispatching: { dispatching.items ≡ [] },
+    ghost no_left: { left.items ≡ [] },
+    ghost serving_room: { vec_len jobs ≤ vec_capacity serving },
+    ghost session_room: { vec_len jobs ≤ vec_capacity sessions },
+    ghost dispatching_room: { vec_len dispatchers ≤ vec_capacity dispatching },
+    ghost left_room: { vec_len dispatchers ≤ vec_capacity left },
 }
 
-// Room for so many clients and dispatchers.
-fn room_for<W: Wait + Drop>(
+fn crew_of<W: Wait + Drop>(
     alloc: Global,
-    clients: usize,
-    dispatchers: usize,
-) -> Result<Room<W>, AllocError>
-    ensures clients { IfOk result (λ room. (room.serving.items ≡ []) × (room.sessions.items ≡ [])) }
-    ensures dispatchers { IfOk result (λ room. (room.dispatching.items ≡ []) × (room.left.items ≡ [])) }
-    ensures client_room { IfOk result (λ room. (clients ≤ vec_capacity room.serving) × (clients ≤ vec_capacity room.sessions)) }
-    ensures dispatcher_room { IfOk result (λ room. (dispatchers ≤ vec_capacity room.dispatching) × (dispatchers ≤ vec_capacity room.left)) }
+    jobs: Vec<Job<W>>,
+    dispatchers: Vec<Dispatcher<W>>,
+) -> Result<Crew<W>, AllocError>
+    ensures jobs { IfOk result (λ crew. crew.jobs ≡ jobs) }
+    ensures dispatchers { IfOk result (λ crew. crew.dispatchers ≡ dispatchers) }
 {
-    Ok(Room {
-        serving: Vec::with_capacity(alloc, clients)?,
-        dispatching: Vec::with_capacity(alloc, dispatchers)?,
-        sessions: Vec::with_capacity(alloc, clients)?,
-        left: Vec::with_capacity(alloc, dispatchers)?,
+    let serving = Vec::with_capacity(alloc, jobs.len())?;
+    let sessions = Vec::with_capacity(alloc, jobs.len())?;
+    let dispatching = Vec::with_capacity(alloc, dispatchers.len())?;
+    let left = Vec::with_capacity(alloc, dispatchers.len())?;
+    Ok(Crew {
+        jobs,
+        dispatchers,
+        serving,
+        sessions,
+        dispatching,
+        left,
     })
 }
 
@@ -68,24 +74,20 @@ fn serve_all<'s, E, W: Wait + Drop + Send, R: Wait + Threads + Sync>(
     server: &'s Server<W>,
     stop: &'s AtomicBool,
     crew: Crew<W>,
-    room: Room<W>,
 ) -> Result<Ended<W>, AllocError>
     requires jobs { All (IsTaskAt server.now) crew.jobs.items }
     requires dispatchers { All (IsOf server.now) crew.dispatchers.items }
-    requires no_clients { (room.serving.items ≡ []) × (room.sessions.items ≡ []) }
-    requires no_dispatchers { (room.dispatching.items ≡ []) × (room.left.items ≡ []) }
-    requires client_room { (vec_len crew.jobs ≤ vec_capacity room.serving) × (vec_len crew.jobs ≤ vec_capacity room.sessions) }
-    requires dispatcher_room { (vec_len crew.dispatchers ≤ vec_capacity room.dispatching) × (vec_len crew.dispatchers ≤ vec_capacity room.left) }
     ensures sessions { IfOk result (λ ended. AreSessionsOf crew.jobs.items ended.sessions.items) }
     ensures dispatchers { IfOk result (λ ended. AreStill crew.dispatchers.items ended.dispatchers.items) }
 {
-    let Crew { jobs, dispatchers } = crew;
-    let Room {
+    let Crew {
+        jobs,
+        dispatchers,
         mut serving,
-        mut dispatching,
         mut sessions,
+        mut dispatching,
         mut left,
-    } = room;
+    } = crew;
     let dispatched = start_dispatchers(scope, rt, server, stop, dispatchers, &mut dispatching);
     let started = match dispatched {
         Ok(()) => start_clients(scope, rt, alloc, server, jobs, &mut serving),
@@ -111,14 +113,9 @@ fn serve_in_scope<W: Wait + Drop + Send, R: Wait + Threads + Sync>(
     alloc: Global,
     server: &Server<W>,
     crew: Crew<W>,
-    room: Room<W>,
 ) -> Result<Ended<W>, AllocError>
     requires jobs { All (IsTaskAt server.now) crew.jobs.items }
     requires dispatchers { All (IsOf server.now) crew.dispatchers.items }
-    requires no_clients { (room.serving.items ≡ []) × (room.sessions.items ≡ []) }
-    requires no_dispatchers { (room.dispatching.items ≡ []) × (room.left.items ≡ []) }
-    requires client_room { (vec_len crew.jobs ≤ vec_capacity room.serving) × (vec_len crew.jobs ≤ vec_capacity room.sessions) }
-    requires dispatcher_room { (vec_len crew.dispatchers ≤ vec_capacity room.dispatching) × (vec_len crew.dispatchers ≤ vec_capacity room.left) }
     ensures sessions { IfOk result (λ ended. AreSessionsOf crew.jobs.items ended.sessions.items) }
     ensures dispatchers { IfOk result (λ ended. AreStill crew.dispatchers.items ended.dispatchers.items) }
 {
@@ -128,15 +125,10 @@ fn serve_in_scope<W: Wait + Drop + Send, R: Wait + Threads + Sync>(
         thread::scope_env(),
         rt,
         |scope| -> Result<Ended<W>, AllocError>
-            requires jobs { All (IsTaskAt server.now) crew.jobs.items }
-            requires dispatchers { All (IsOf server.now) crew.dispatchers.items }
-            requires no_clients { (room.serving.items ≡ []) × (room.sessions.items ≡ []) }
-            requires no_dispatchers { (room.dispatching.items ≡ []) × (room.left.items ≡ []) }
-            requires client_room { (vec_len crew.jobs ≤ vec_capacity room.serving) × (vec_len crew.jobs ≤ vec_capacity room.sessions) }
-            requires dispatcher_room { (vec_len crew.dispatchers ≤ vec_capacity room.dispatching) × (vec_len crew.dispatchers ≤ vec_capacity room.left) }
+            requires { All (IsTaskAt server.now) crew.jobs.items × All (IsOf server.now) crew.dispatchers.items }
             ensures sessions { IfOk result (λ ended. AreSessionsOf crew.jobs.items ended.sessions.items) }
             ensures dispatchers { IfOk result (λ ended. AreStill crew.dispatchers.items ended.dispatchers.items) }
-        { serve_all(scope, rt, alloc, server, stop, crew, room) },
+        { serve_all(scope, rt, alloc, server, stop, crew) },
     )
 }
 
@@ -153,6 +145,6 @@ pub(crate) fn run_threads<W: Wait + Drop + Send, R: Wait + Threads + Sync>(
     ensures sessions { IfOk result (λ ended. AreSessionsOf jobs.items ended.sessions.items) }
     ensures dispatchers { IfOk result (λ ended. AreStill dispatchers.items ended.dispatchers.items) }
 {
-    let room = room_for(alloc, jobs.len(), dispatchers.len())?;
-    serve_in_scope(rt, alloc, server, Crew { jobs, dispatchers }, room)
+    let crew = crew_of(alloc, jobs, dispatchers)?;
+    serve_in_scope(rt, alloc, server, crew)
 }

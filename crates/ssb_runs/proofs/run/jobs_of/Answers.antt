@@ -1,12 +1,12 @@
 use Rattle.std.proofs.Common.{rules, ◌≡◌, ◌++◌, length, map, ap, sym, ◌∙◌}
 use Rattle.std.specs.Vec.Iter.{into_iter_items}
-use Rattle.ssb_runs.proofs.ListLaws.{none_left}
+use Rattle.ssb_runs.proofs.ListLaws.{none_before, none_left}
 use Rattle.ssb_runs.proofs.run.jobs_of.Goals as goal
 
 pub loop-client-init : goal.loop-client-init
 loop-client-init g c = record {
   clients = ap (map _) c.new-jobs.ensures.items;
-  scripts = ap (λ js. map _ js ++ into_iter_items c.into_iter-scripts.result) c.new-jobs.ensures.items ∙ c.into_iter-scripts.ensures.rest;
+  scripts = none_before _ _ _ _ c.new-jobs.ensures.items c.into_iter-scripts.ensures.rest;
   count = search rules;
 }
 

@@ -1,4 +1,4 @@
-use Rattle.std.proofs.Common.{◌≡◌, length, map, ap, sym, subst, ◌∙◌, Ok}
+use Rattle.std.proofs.Common.{◌≡◌, length, map, ap, sym, subst, ◌∙◌, arith}
 use Rattle.std.specs.Prelude.{All, IfOk}
 use Rattle.std.proofs.lemmas.List.FromFn.{length-map-range_with_len}
 use Rattle.ssb_server.specs.Tickets.{IsOf}
@@ -7,7 +7,10 @@ use Rattle.ssb_runs.proofs.SessionLaws.{new_tasks, new_dispatchers_of, ready}
 use Rattle.ssb_runs.proofs.run.serve.Goals as goal
 
 pub jobs_of-requires : goal.jobs_of-requires
-jobs_of-requires g c = ap length c.requires.clients ∙ (length-map-range_with_len _ 1 c.args.opened.server.clients ∙ c.requires.scripts)
+jobs_of-requires g c =
+    let clients = c.args.opened.clients in
+    let each : length clients.items ≡ c.args.opened.server.clients = ap length c.requires.clients ∙ length-map-range_with_len _ 1 c.args.opened.server.clients in
+    omega (arith, clients.ok.0, clients.ok.1, each, c.requires.scripts)
 
 pub run_threads-requires-clause-jobs : goal.run_threads-requires-clause-jobs
 run_threads-requires-clause-jobs g c κs within = new_tasks c.args.opened.server c.in_ok-jobs.jobs.items (c.in_ok-jobs.ensures.clients ∙ c.requires.clients)
@@ -23,4 +26,4 @@ close-requires g c =
 pub returns : goal.returns
 returns g c =
     run_where c.close.result (λ run. map (λ report. report.items) run.reports.items) (λ run. run.trace) c.args.opened.server c.args.scripts.items c.in_ok-jobs.jobs.items c.in_ok-ended.ended.sessions.items
-    c.in_ok-ended.ended.dispatchers.items c.requires.scripts (c.in_ok-jobs.ensures.clients ∙ c.requires.clients) c.in_ok-jobs.ensures.scripts c.in_ok-ended.ensures.sessions c.close.ensures
+    c.in_ok-ended.ended.dispatchers.items (omega (arith, c.requires.scripts, c.args.scripts.ok.0, c.args.scripts.ok.1)) (c.in_ok-jobs.ensures.clients ∙ c.requires.clients) c.in_ok-jobs.ensures.scripts c.in_ok-ended.ensures.sessions c.close.ensures
