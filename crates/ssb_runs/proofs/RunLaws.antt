@@ -1,5 +1,5 @@
 -- What a run leaves is as its definition says, and its trace is legal.
-use Rattle.std.proofs.Common.{◌≡◌, ◌≢◌, ℕ, zero, suc, ◌+◌, ◌<◌, List, [], ◌∷◌, ◌++◌, length, map, flat_map, Option, Some, None, Result, Ok, Err, refl, sym, ◌∙◌, ap, subst, arith}
+use Rattle.std.proofs.Common.{◌≡◌, ℕ, zero, suc, ◌+◌, ◌<◌, List, [], ◌∷◌, ◌++◌, length, map, flat_map, Some, Result, Ok, Err, refl, sym, ◌∙◌, ap, subst, arith}
 use Rattle.std.specs.Prelude.{All, IfOk, slice_get}
 use Rattle.std.specs.List.{range_with_len}
 use Rattle.std.proofs.lemmas.List.{length-map}
@@ -9,8 +9,7 @@ use Rattle.history.specs.Closing.{IsLogOf}
 use Rattle.history.specs.Tokens.{Hall, Token, new_token, new_clients}
 use Rattle.history.specs.Words.{Owns}
 use Rattle.history.specs.World.{number_of}
-use Rattle.history_core.specs.OwnCommits.{IsOfClients, commits_of}
-use Rattle.history_core.specs.declared.event.Who.{Who}
+use Rattle.history_core.specs.OwnCommits.{IsOfClients}
 use Rattle.history_core.specs.declared.event.Who.TheVariants.{Client}
 use Rattle.row_store.specs.History.{CommitRecord, IsPrefix}
 use Rattle.row_store.specs.Legal.{IsLegal}
@@ -21,7 +20,7 @@ use Rattle.ssb_schema.specs.Base.{Tables}
 use Rattle.ssb_script.specs.Requests.{requests_of}
 use Rattle.ssb_script.specs.declared.block.Script.{Script}
 use Rattle.ssb_session.proofs.RunLaws.{runs_are_legal}
-use Rattle.ssb_session.specs.Runs.{IsTold, AreTold}
+use Rattle.ssb_session.specs.Runs.{IsTold}
 use Rattle.ssb_session.specs.Served.{Serves}
 use Rattle.ssb_runs.proofs.SessionLaws.{session_at, as_many, none_is, some_is, client_of_task, client_of_session}
 use Rattle.ssb_runs.specs.Run.{IsServed, IsRun, Leaves}

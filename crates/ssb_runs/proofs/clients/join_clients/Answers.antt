@@ -1,4 +1,4 @@
-use Rattle.std.proofs.Common.{rules, ◌++◌, [], ◌∷◌, length, map, ap, arith}
+use Rattle.std.proofs.Common.{[], ◌∷◌, length, ap, arith}
 use Rattle.std.proofs.lemmas.List.{map-append}
 use Rattle.ssb_runs.proofs.SessionLaws.{served_push}
 use Rattle.ssb_runs.proofs.clients.join_clients.Goals as goal

@@ -1,4 +1,4 @@
-use Rattle.std.proofs.Common.{◌≡◌, ◌+◌, ◌≤◌, ◌++◌, map, length, vec_len, vec_capacity}
+use Rattle.std.proofs.Common.{◌+◌, ◌≤◌, map, length, vec_len, vec_capacity}
 use Rattle.std.specs.Prelude.{OnOk}
 use Rattle.ssb_runs.specs.Sessions.{AreSessionsOf}
 use Rattle.ssb_runs.proofs.clients.join_clients.Given as goal

@@ -1,4 +1,4 @@
-use Rattle.std.proofs.Common.{◌≡◌, ◌+◌, ◌≤◌, ◌++◌, map, length, vec_len, vec_capacity}
+use Rattle.std.proofs.Common.{◌≡◌, ◌+◌, ◌++◌, map, length, vec_len, vec_capacity}
 use Rattle.std.specs.Prelude.{All}
 use Rattle.ssb_runs.specs.Sessions.{IsTaskAt}
 use Rattle.ssb_runs.proofs.clients.start_clients.Given as goal

@@ -1,4 +1,4 @@
-use Rattle.std.proofs.Common.{rules, [], ◌∷◌, length, map, ap, subst, arith}
+use Rattle.std.proofs.Common.{rules, [], ◌∷◌, length, ap, arith}
 use Rattle.std.proofs.lemmas.List.{map-append}
 use Rattle.ssb_runs.proofs.SessionLaws.{still_longer}
 use Rattle.ssb_runs.proofs.dispatchers.join_dispatchers.Goals as goal

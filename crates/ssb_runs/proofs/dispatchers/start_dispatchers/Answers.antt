@@ -1,6 +1,6 @@
-use Rattle.std.proofs.Common.{rules, ◌++◌, [], ◌∷◌, length, map, ap, sym, subst, ◌∙◌, arith, append-nil}
+use Rattle.std.proofs.Common.{rules, length, ap, sym, subst, ◌∙◌, arith, append-nil}
 use Rattle.std.specs.Prelude.{All}
-use Rattle.std.proofs.lemmas.List.{length_push, map-id}
+use Rattle.std.proofs.lemmas.List.{map-id}
 use Rattle.std.proofs.lemmas.List.Elements.{All-tail}
 use Rattle.std.proofs.lemmas.Iterator.Adapters.{YieldsList-from_vec}
 use Rattle.std.proofs.lemmas.Iterator.Consumers.{YieldsList-end}

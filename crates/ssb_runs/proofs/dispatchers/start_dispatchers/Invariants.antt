@@ -1,4 +1,4 @@
-use Rattle.std.proofs.Common.{◌≡◌, ◌+◌, ◌≤◌, ◌++◌, map, length, vec_len, vec_capacity}
+use Rattle.std.proofs.Common.{◌≡◌, ◌+◌, ◌++◌, map, length, vec_len, vec_capacity}
 use Rattle.std.specs.Prelude.{All}
 use Rattle.ssb_server.specs.Tickets.{IsOf}
 use Rattle.ssb_runs.proofs.dispatchers.start_dispatchers.Given as goal

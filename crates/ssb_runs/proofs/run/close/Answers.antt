@@ -1,6 +1,3 @@
-use Rattle.std.proofs.Common.{subst, sym, ◌∙◌, List, flat_map}
-use Rattle.std.specs.Prelude.{All}
-use Rattle.history.specs.Tokens.{Token}
 use Rattle.ssb_runs.proofs.RunLaws.{closed_leaves}
 use Rattle.ssb_runs.proofs.run.close.Goals as goal
 

@@ -1,4 +1,4 @@
-use Rattle.std.proofs.Common.{ap, ◌∙◌, sym, rules}
+use Rattle.std.proofs.Common.{rules}
 use Rattle.ssb_runs.proofs.ListLaws.{push_made, push_read, push_flat}
 use Rattle.ssb_runs.proofs.run.gather.Goals as goal
 

@@ -1,5 +1,4 @@
-use Rattle.std.proofs.Common.{rules, ◌≡◌, ◌++◌, length, map, ap, sym, ◌∙◌}
-use Rattle.std.specs.Vec.Iter.{into_iter_items}
+use Rattle.std.proofs.Common.{rules, ◌≡◌, length, map, ap, sym, ◌∙◌}
 use Rattle.ssb_runs.proofs.ListLaws.{none_before, none_left}
 use Rattle.ssb_runs.proofs.run.jobs_of.Goals as goal
 

@@ -1,4 +1,4 @@
-use Rattle.std.proofs.Common.{◌≡◌, ap, sym, subst}
+use Rattle.std.proofs.Common.{subst}
 use Rattle.ssb_audit.specs.Legal.{IsLegalTrace}
 use Rattle.ssb_runs.proofs.RunLaws.{trace_is_legal}
 use Rattle.ssb_runs.proofs.run.serve_scripts.Goals as goal
