@@ -98,6 +98,12 @@ pub fn adding(alloc: Global, key: u64) -> Result<Arc<Refresh>, Fail> {
     refresh(alloc, vec![in alloc; adding_order(alloc, key)?]?)
 }
 
+/// Adds order 9, and withdraws order 77, which is not there.
+pub fn adding_and_withdrawing_another(alloc: Global) -> Result<Arc<Refresh>, Fail> {
+    let adding = adding_order(alloc, ORDER_NINE)?;
+    refresh(alloc, vec![in alloc; adding, Action::Withdraw(77)]?)
+}
+
 /// The query with the benchmark's constants.
 pub fn question(alloc: Global, query: Query) -> Result<Question, AllocError> {
     Question::standard(alloc, query)

@@ -1,8 +1,9 @@
 //! Clients and a dispatcher in one thread.
 
-use crate::tests::data::{ORDER_NINE, told};
+use crate::tests::data::{ORDER_NINE, adding_and_withdrawing_another, told};
 use crate::tests::opening::for_one_client;
-use crate::tests::steps::{adds, asks, polls, turns};
+use crate::tests::steps::{adds, asks, asks_and_is_answered, polls, refreshes, turns};
+use row_store::{Cause, RefreshError};
 use ssb_plans::Query;
 use ssb_server::{OpenGate, Turn};
 use std::hash::RandomState;
@@ -31,5 +32,31 @@ fn turn_with_nothing_asked_is_idle(rt: HostRuntime) -> Result<(), Fail> {
     let (server, _, mut dispatcher) = for_one_client(alloc, &rt, RandomState::new(&rt)?)?;
     let turn = turns(&rt, &server, &mut dispatcher, &OpenGate);
     assert_eq!(rt; turn, Turn::Idle);
+    Ok(())
+}
+
+#[test]
+fn absent_order_refuses_the_whole_refresh(rt: HostRuntime) -> Result<(), Fail> {
+    let alloc = rt.alloc();
+    let (server, mut client, mut dispatcher) = for_one_client(alloc, &rt, RandomState::new(&rt)?)?;
+    let refresh = adding_and_withdrawing_another(alloc)?;
+    let refused = RefreshError::Refused {
+        at: 0,
+        action: 2,
+        cause: Cause::Absent(77),
+    };
+    assert!(rt; refreshes(&rt, &server, &mut client, refresh) == Err(refused));
+    let answer = asks_and_is_answered(
+        &rt,
+        alloc,
+        &server,
+        &mut client,
+        &mut dispatcher,
+        Query::Q4_1,
+    )?;
+    assert_eq!(rt;
+        told(alloc, &answer)?.as_str(),
+        "Q4.1 at 0: 1997|UNITED STATES|660"
+    );
     Ok(())
 }

@@ -8,7 +8,7 @@ use row_store::{Receipt, RefreshError};
 use ssb_plans::Query;
 use ssb_queries::Answer;
 use ssb_schema::Refresh;
-use ssb_server::{Client, Dispatcher, ScanGate, Server, Turn};
+use ssb_server::{Client, Dispatcher, OpenGate, ScanGate, Server, Turn};
 use std::alloc::Global;
 use std::sync::{Arc, Wait};
 use std::test::Fail;
@@ -84,5 +84,26 @@ pub fn polls<W: Wait + Drop>(server: &Server<W>, client: &mut Client<W>) -> Resu
     match client.poll(server) {
         Some(answer) => Ok(answer),
         None => Err("no answer")?,
+    }
+}
+
+/// A client asks, a dispatcher takes a turn that answers it alone, and the client polls.
+pub fn asks_and_is_answered<W: Wait + Drop, R: Wait + Threads + Sync>(
+    rt: &R,
+    alloc: Global,
+    server: &Server<W>,
+    client: &mut Client<W>,
+    dispatcher: &mut Dispatcher<W>,
+    query: Query,
+) -> Result<Answer, Fail>
+    requires client { IsQuiet server.now client.old }
+    requires dispatcher { IsOf server.now dispatcher.old }
+    ensures client { OnOk result (IsQuiet server.now client.new) }
+    ensures dispatcher { IsOf server.now dispatcher.new }
+{
+    asks(alloc, server, client, query)?;
+    match turns(rt, server, dispatcher, &OpenGate) {
+        Turn::Answered { count: 1, .. } => polls(server, client),
+        _ => Err("another turn")?,
     }
 }
