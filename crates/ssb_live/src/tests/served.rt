@@ -150,7 +150,7 @@ where
     R: Abort + AllocGlobal,
 {
     let mut last = 0;
-    for line in &report[..10] {
+    for line in report.iter().take(10) {
         let number = line.strip_prefix("committed ").ok_or("no receipt")?;
         let number: usize = number.parse().map_err(|_| "no number")?;
         assert!(rt; last < number && number <= 30);
