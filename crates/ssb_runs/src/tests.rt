@@ -95,7 +95,7 @@ fn the_reports_stand_in_the_order_of_the_scripts(rt: HostRuntime) -> Result<(), 
         let mut orders = 0;
         for report in &run.reports {
             assert_eq!(rt; committed_lines(report.as_slice())?, orders);
-            orders += 1;
+            orders = orders.wrapping_add(1);
         }
         assert_eq!(rt; orders as u64, clients);
         assert!(rt; audit(&rt, alloc, base(alloc)?, RandomState::new(&rt)?, &run.trace).is_ok());
