@@ -154,7 +154,7 @@ where
         let number = line.strip_prefix("committed ").ok_or("no receipt")?;
         let number: usize = number.parse().map_err(|_| "no number")?;
         assert!(rt; last < number && number <= 30);
-        counted[number] += 1;
+        counted[number] = counted[number].wrapping_add(1);
         last = number;
     }
     let answer = report[10].strip_prefix("Q4.1 at ").ok_or("no answer")?;
