@@ -20,7 +20,8 @@ import subprocess
 import time
 import urllib.parse
 
-HERE = pathlib.Path(__file__).resolve().parent
+from common import HERE
+
 TABLES = {"customer": "customer", "supplier": "supplier", "part": "part", "date": "dwdate", "lineorder": "lineorder"}
 
 
