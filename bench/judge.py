@@ -88,8 +88,11 @@ def read_reports(text, scripts):
 
 # ---- the same warehouse again ----
 
+SQL_ORDER = {"Q4.2": [0, 1, 4, 5, 2, 3]}       # of a question's constants, where the SQL has them in another
+
+
 def question_sql():
-    """For each query its SQL, with a place for each constant."""
+    """For each query its SQL, with a place for each constant, and the benchmark's constants."""
     queries = read_queries(HERE / "queries.sql")
     queries["Q1.1"] = queries["Q1.1"].replace("lo_quantity < 25", "lo_quantity BETWEEN 0 AND 24")
     literal = re.compile(r"'([^']*)'|\b(\d+)\b")
@@ -154,6 +157,8 @@ class Warehouse:
         sql, constants = self.questions[question.name]
         kinds = CONSTANTS[question.name].split()
         given = [int(text) if kind in NUMBERS else text for kind, text in zip(kinds, question.constants)]
+        if given:
+            given = [given[place] for place in SQL_ORDER.get(question.name, range(len(given)))]
         rows = self.base.execute(sql, given or constants).fetchall()
         return ["|".join("NULL" if value is None else str(value) for value in row) for row in rows]
 
