@@ -1,9 +1,9 @@
 """Judges the reports of a run, for `soak`: by the scripts and the tables alone, without our program.
 
-`read_reports` asks that each request has one reply of its kind, in order, and that no client goes back. `replay` goes through
-the commits by their numbers in a warehouse of its own, SQLite in memory: each commit has to be acceptable after those before
-it, each refusal has to be the first cause at its number of commits, and the answers that are picked have to be SQLite's.
-"""
+`read_reports` asks that each request has one reply of its kind, in order, and that no client goes back. `replay` goes
+through the commits by their numbers in a warehouse of its own, SQLite in memory: each commit has to be acceptable after
+those before it, each refusal has to be the first cause at its number of commits, and the answers that are picked have
+to be SQLite's."""
 import re
 import sqlite3
 
@@ -115,7 +115,8 @@ class Warehouse:
         self.base.executescript((HERE / "schema_sqlite.sql").read_text())
         for table in ["customer", "supplier", "part", "date", "lineorder"]:
             with open(data / f"{table}.tbl") as lines:
-                self.insert("dwdate" if table == "date" else table, (line.rstrip("\n").split("|")[:-1] for line in lines))
+                rows = (line.rstrip("\n").split("|")[:-1] for line in lines)
+                self.insert("dwdate" if table == "date" else table, rows)
         self.base.execute("ANALYZE")
 
     def insert(self, table, rows):

@@ -1,8 +1,7 @@
 """Random requests for `soak`: scripts of refreshes and questions over the tables of a folder, from a seed.
 
-Clients share a few keys of orders, so that they get into each other's way: what one adds, another finds there. Some lines name
-a customer, supplier, part or date that is not there, and some constants no value that is there.
-"""
+Clients share a few keys of orders, so that they get into each other's way: what one adds, another finds there. Some
+lines name a customer, supplier, part or date that is not there, and some constants no value that is there."""
 
 GREATEST = 2**32 - 1            # amount, and number in a question
 GREATEST_KEY = 2**63 - 1        # that SQLite can keep too
@@ -15,8 +14,9 @@ CONSTANTS = {
     "Q1.1": "year discount discount quantity quantity", "Q1.2": "month discount discount quantity quantity",
     "Q1.3": "week year discount discount quantity quantity", "Q2.1": "category region", "Q2.2": "brand brand region",
     "Q2.3": "brand region", "Q3.1": "region region year year", "Q3.2": "nation nation year year",
-    "Q3.3": "city city city city year year", "Q3.4": "city city city city month_name", "Q4.1": "region region maker maker",
-    "Q4.2": "region region maker maker year year", "Q4.3": "region nation year year category"}
+    "Q3.3": "city city city city year year", "Q3.4": "city city city city month_name",
+    "Q4.1": "region region maker maker", "Q4.2": "region region maker maker year year",
+    "Q4.3": "region nation year year category"}
 NUMBERS = {"year", "month", "week", "discount", "quantity"}
 
 
@@ -47,7 +47,8 @@ class Tables:
 
 
 class Order:
-    """An order that is added or takes another's place; the fields of a line are numbers and texts in the order of the table."""
+    """An order that is added or takes another's place; the fields of a line are numbers and texts in the order of the
+    table."""
 
     def __init__(self, word, key, lines):
         self.word, self.key, self.lines = word, key, lines
