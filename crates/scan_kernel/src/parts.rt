@@ -73,7 +73,7 @@ fn part_numbers(alloc: Global, count: u32) -> Result<Vec<u32>, AllocError>
     Ok(numbers)
 }
 
-/// The totals of each part, in as many threads as there are processors.
+/// The totals of each part, in as many threads as there are processors. A part is much work: one is enough for a thread.
 fn parts_in_threads(
     rt: &(impl Threads + Sync),
     alloc: Global,
@@ -93,6 +93,7 @@ fn parts_in_threads(
 {
     parts
         .par_iter()
+        .with_min_len(1)
         .map(
             |part: &u32| -> Result<Vec<Totals>, AllocError>
                 requires part { part.now < 16 }
