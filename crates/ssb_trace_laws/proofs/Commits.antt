@@ -18,17 +18,10 @@ use Rattle.ssb_trace_read.specs.Blocks.{in_commit, lines_of_commit}
 use Rattle.ssb_trace_read.specs.Heads.{client_of}
 use Rattle.ssb_trace_read.specs.Lines.{TraceLine, Begin, Inside, Says, word_of}
 use Rattle.ssb_trace_laws.specs.Allowed.{IsAllowedAction, IsAllowedCommit, IsAllowedLine, IsClient}
+use Rattle.ssb_trace_laws.proofs.Clients.{client_read, client_small}
 use Rattle.ssb_trace_laws.proofs.Columns.{line_plain, line_read}
 use Rattle.ssb_trace_laws.proofs.Numbers.{number_kept, number_read}
 use Rattle.ssb_trace_laws.proofs.Written.{Written, written_as, written_both, written_each, written_map, written_one}
-
--- the number of a client
-pub client_small : (client : ℕ) → IsClient client → client < 2 ^ 64
-client_small client is = omega (arith, is.1)
-
-pub client_read : (client : ℕ) → IsClient client → client_of (decimal client) ≡ Some client
-client_read client is =
-    rw (number_read client (client_small client is), le-leb 1 client is.0, le-leb client 16 is.1) refl
 
 -- the records of a commit
 says-begin : (client : ℕ) → IsClient client → Says (codes "commit" ∷ decimal client ∷ []) (Begin client)

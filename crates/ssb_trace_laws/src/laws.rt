@@ -1,7 +1,9 @@
 //! What holds of every trace that is allowed: the law is the contract of a function that does nothing.
-ghost use Rattle.std.specs.Prelude.{ℕ};
+ghost use Rattle.ssb_trace_laws.specs.Laws.{TextSpellsItsTrace, TextSpellsNoOther};
 
-/// A stub.
+/// The text of a trace that is allowed spells that trace, where so many records may be read as it has lines, and no other
+/// trace, whatever the bound: so what `ssb_trace` writes of it, `ssb_trace_read` reads as that trace.
 pub fn text_is_read_back()
-    ensures { ℕ }
+    ensures spells { TextSpellsItsTrace }
+    ensures no_other { TextSpellsNoOther }
 {}
