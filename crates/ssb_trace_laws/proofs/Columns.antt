@@ -1,5 +1,5 @@
 -- The columns of a line are read back.
-use Rattle.std.proofs.Common.{ltb-false, ◌≡◌, ℕ, ◌+◌, ◌^◌, ◌<◌, ◌≤◌, Bool, true, false, ◌||◌, not, nat_lt, List, [], ◌∷◌, ◌++◌, length, map, drop, get_or, Option, Some, None, Result, Ok, Err, refl, sym, ap, ◌∙◌, append_assoc, length-append, arith, inl, inr}
+use Rattle.std.proofs.Common.{ltb-false, ◌≡◌, ℕ, ◌+◌, ◌^◌, ◌<◌, Bool, true, false, ◌||◌, nat_lt, List, [], ◌∷◌, ◌++◌, length, map, get_or, Option, Some, None, Ok, refl, sym, ap, ◌∙◌, append_assoc, length-append, arith, inl, inr}
 use Rattle.std.specs.List.{AllByRecursion, AllZip}
 use Rattle.std.specs.Str.{IsUtf8}
 use Rattle.std.proofs.Math.Seq.{get_or-append_seam}
@@ -7,8 +7,7 @@ use Rattle.std.proofs.lemmas.Bool.{cases_Bool}
 use Rattle.std.proofs.lemmas.Option.{none-some}
 use Rattle.ssb_load.specs.Row as row
 use Rattle.ssb_load.specs.Row.{number_at, text_at, value_at, values_from}
-use Rattle.ssb_load.specs.declared.error.LineFault.{LineFault}
-use Rattle.ssb_schema.specs.Columns.{Value, Number, Text, column_fault, first_fault, is_plain, kinds_of, or_else, row_fault}
+use Rattle.ssb_schema.specs.Columns.{Value, Number, Text, column_fault, first_fault, is_plain, kinds_of, or_else}
 use Rattle.ssb_schema.specs.Rows.{line_values}
 use Rattle.ssb_schema.specs.declared.column.Column.{Column}
 use Rattle.ssb_schema.specs.declared.fault.SchemaFault.{SchemaFault}
@@ -19,7 +18,7 @@ use Rattle.ssb_schema.specs.declared.table.Table.{Table}
 use Rattle.ssb_schema.specs.declared.table.Table.TheVariants as table
 use Rattle.ssb_trace.specs.TraceText.{column_text}
 use Rattle.ssb_trace_laws.specs.Allowed.{IsAllowedLine}
-use Rattle.ssb_trace_laws.proofs.Fields.{IsKept, text_kept, text_read}
+use Rattle.ssb_trace_laws.proofs.Fields.{text_kept, text_read}
 use Rattle.ssb_trace_laws.proofs.Numbers.{number_kept, number_read}
 use Rattle.ssb_trace_laws.proofs.Records.{IsPlainField}
 

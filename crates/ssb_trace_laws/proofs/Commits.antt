@@ -1,9 +1,8 @@
 -- The text of a commit spells its lines.
-use Rattle.std.proofs.Common.{◌≡◌, ℕ, ◌^◌, ◌<◌, ◌≤◌, Bool, true, false, ◌&&◌, nat_le, List, [], ◌∷◌, ◌++◌, map, Some, None, Ok, refl, sym, ap, ◌∙◌, le-leb, arith, decimal, codes}
+use Rattle.std.proofs.Common.{◌≡◌, ℕ, ◌^◌, ◌<◌, List, [], ◌∷◌, ◌++◌, map, refl, sym, ap, ◌∙◌, decimal, codes}
 use Rattle.std.specs.List.{AllByRecursion, flat_map}
 use Rattle.row_store.specs.History.{CommitRecord}
 use Rattle.ssb_load.specs.Spelling.{without_spaces}
-use Rattle.ssb_schema.specs.Columns.{Value, Number, Text}
 use Rattle.ssb_schema.specs.Rows.{line_values}
 use Rattle.ssb_schema.specs.declared.line.LineFields.{LineFields}
 use Rattle.ssb_schema.specs.declared.refresh.Action.{Action}
@@ -11,11 +10,9 @@ use Rattle.ssb_schema.specs.declared.refresh.Action.TheVariants as action
 use Rattle.ssb_script.specs.Lines.{ScriptLine, line_or_refusal}
 use Rattle.ssb_script.specs.Lines as script
 use Rattle.ssb_script.specs.Requests.{lines_of_action}
-use Rattle.ssb_script.specs.declared.control.Opening.{Opening}
 use Rattle.ssb_script.specs.declared.control.Opening.TheVariants as opening
 use Rattle.ssb_trace.specs.TraceText.{action_text, begun_text, column_text, commit_text, line_text, record_text}
 use Rattle.ssb_trace_read.specs.Blocks.{in_commit, lines_of_commit}
-use Rattle.ssb_trace_read.specs.Heads.{client_of}
 use Rattle.ssb_trace_read.specs.Lines.{TraceLine, Begin, Inside, Says, word_of}
 use Rattle.ssb_trace_laws.specs.Allowed.{IsAllowedAction, IsAllowedCommit, IsAllowedLine, IsClient}
 use Rattle.ssb_trace_laws.proofs.Clients.{client_read, client_small}

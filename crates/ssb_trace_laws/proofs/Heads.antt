@@ -1,5 +1,5 @@
 -- The text of an answer's first record spells the answer's head.
-use Rattle.std.proofs.Common.{eq-eqb, ne_eqb, ◌≡◌, ℕ, suc, ◌+◌, ◌^◌, ◌<◌, ◌≤◌, Bool, true, false, List, [], ◌∷◌, ◌++◌, length, map, decimal, codes, Option, Some, None, refl, sym, ap, ◌∙◌, append_assoc, arith, inl, inr}
+use Rattle.std.proofs.Common.{eq-eqb, ne_eqb, ◌≡◌, ℕ, ◌+◌, ◌≤◌, true, false, List, [], ◌∷◌, ◌++◌, length, map, decimal, codes, Some, refl, sym, ap, ◌∙◌, append_assoc, arith, inl, inr}
 use Rattle.std.specs.List.{AllByRecursion, AllZip, flat_map}
 use Rattle.std.proofs.lemmas.Bool.{cases_Bool}
 use Rattle.std.proofs.lemmas.List.{append-nil}
@@ -142,11 +142,17 @@ head_fields told =
 says-head : (told : Told) → IsAllowedTold told → Says (head_fields told) (Answer (head_of_told told))
 unfolding head_fields word_of without_spaces
 says-head told allowed =
-    rw ((number_kept told.client (client_small told.client allowed.client)).kept, client_read told.client allowed.client,
-    (number_kept told.at allowed.at).kept, number_read told.at allowed.at,
-    name-kept told.question.0, name-read told.question.0,
-    constants-read told.question (codes "answer") (decimal told.client) (decimal told.at) (name_of told.question.0) (decimal (length told.rows)) allowed.question,
-    (number_kept (length told.rows) allowed.count).kept, number_read (length told.rows) allowed.count) refl
+    rw (
+      (number_kept told.client (client_small told.client allowed.client)).kept,
+      client_read told.client allowed.client,
+      (number_kept told.at allowed.at).kept,
+      number_read told.at allowed.at,
+      name-kept told.question.0,
+      name-read told.question.0,
+      constants-read told.question (codes "answer") (decimal told.client) (decimal told.at) (name_of told.question.0) (decimal (length told.rows)) allowed.question,
+      (number_kept (length told.rows) allowed.count).kept,
+      number_read (length told.rows) allowed.count,
+    ) refl
 
 -- and their text
 bars : (values : List Value) → flat_map after_bar values ++ line_feed ≡ fields_text (map value_text values)
@@ -162,10 +168,21 @@ pub written_head : (told : Told) → IsAllowedTold told → Written (head_text t
 unfolding head_fields
 written_head told allowed =
     written_as (text_of_record (head_fields told)) (head_text told) (Answer (head_of_told told) ∷ []) (Answer (head_of_told told) ∷ []) (head-written told) refl
-    (written_one (head_fields told) (Answer (head_of_told told))
-    (refl, refl, ((number_kept told.client (client_small told.client allowed.client)).plain,
-    ((number_kept told.at allowed.at).plain,
-    (name-plain told.question.0,
-    ((number_kept (length told.rows) allowed.count).plain,
-    constants-plain told.question allowed.question)))))
+    (written_one (head_fields told) (Answer (head_of_told told)) (
+      refl,
+      refl,
+      (
+        (number_kept told.client (client_small told.client allowed.client)).plain,
+        (
+          (number_kept told.at allowed.at).plain,
+          (
+            name-plain told.question.0,
+            (
+              (number_kept (length told.rows) allowed.count).plain,
+              constants-plain told.question allowed.question,
+            ),
+          ),
+        ),
+      ),
+    )
     (says-head told allowed))

@@ -1,7 +1,6 @@
 -- The text of an answer's row spells the row, and that of an answer its lines.
-use Rattle.std.proofs.Common.{◌≡◌, ℕ, ℤ, suc, ◌+◌, ◌^◌, ◌<◌, ◌≤◌, Bool, true, false, nat_eq, List, [], ◌∷◌, ◌++◌, length, map, codes, Option, Some, None, option_map, refl, sym, ap, ◌∙◌, append_assoc, length-append, arith, inl, inr}
-use Rattle.std.specs.List.{AllByRecursion, AllZip, flat_map, join_with_byte}
-use Rattle.std.specs.Cmp.Lexicographic.{pointwise}
+use Rattle.std.proofs.Common.{◌≡◌, ℕ, ℤ, ◌+◌, true, false, List, [], ◌∷◌, ◌++◌, length, map, codes, Option, Some, None, refl, sym, ap, ◌∙◌, append_assoc, length-append, arith, inl, inr}
+use Rattle.std.specs.List.{AllByRecursion, flat_map, join_with_byte}
 use Rattle.std.proofs.lemmas.Bool.{cases_Bool}
 use Rattle.std.proofs.lemmas.List.{append-nil}
 use Rattle.ssb_audit.specs.declared.trace.Told.{Told}
@@ -9,16 +8,15 @@ use Rattle.ssb_load.specs.Records.{has_columns}
 use Rattle.ssb_load.specs.Spelling.{without_spaces}
 use Rattle.ssb_plans.specs.Query.{sum_first}
 use Rattle.ssb_plans.specs.declared.query.Query.{Query}
-use Rattle.ssb_plans.specs.declared.value.Value.{Value}
 use Rattle.ssb_queries.specs.declared.answer.ResultRow.{ResultRow}
 use Rattle.ssb_report.specs.AnswerText.{columns_of, row_text, value_text}
 use Rattle.ssb_report.specs.Numbers.{line_feed, sum_text}
 use Rattle.ssb_script.specs.Lines.{constants_from, field}
 use Rattle.ssb_trace.specs.TraceText.{fields_text, head_text, record_text, told_row_text, told_text}
 use Rattle.ssb_trace_read.specs.Blocks.{head_of_told, lines_of_told}
-use Rattle.ssb_trace_read.specs.Lines.{TraceLine, Answer, Row, Says, word_of}
-use Rattle.ssb_trace_read.specs.Rows.{group_kinds, has_no_groups, row_of, sum_of}
-use Rattle.ssb_trace_laws.specs.Allowed.{IsAllowedRow, IsAllowedSum, IsAllowedTold, IsGroup}
+use Rattle.ssb_trace_read.specs.Lines.{Answer, Row, Says, word_of}
+use Rattle.ssb_trace_read.specs.Rows.{group_kinds, row_of, sum_of}
+use Rattle.ssb_trace_laws.specs.Allowed.{IsAllowedRow, IsAllowedSum, IsAllowedTold}
 use Rattle.ssb_trace_laws.proofs.Fields.{IsKept, field_there}
 use Rattle.ssb_trace_laws.proofs.Heads.{columns_exact, written_head}
 use Rattle.ssb_trace_laws.proofs.Numbers.{sum_kept, sum_no_null, sum_read}

@@ -1,5 +1,5 @@
 -- The text of a trace spells it, and no other.
-use Rattle.std.proofs.Common.{◌≡◌, ℕ, ◌≤◌, List, [], ◌∷◌, ◌++◌, length, sym, subst, arith}
+use Rattle.std.proofs.Common.{◌≤◌, List, [], ◌∷◌, length, sym, subst, arith}
 use Rattle.std.specs.List.{AllByRecursion, flat_map}
 use Rattle.row_store.specs.History.{CommitRecord}
 use Rattle.ssb_audit.specs.declared.trace.Told.{Told}
@@ -8,7 +8,6 @@ use Rattle.ssb_load.specs.Records.{HasRecords}
 use Rattle.ssb_script.specs.Requests.{IsWholeRequest, Refresh}
 use Rattle.ssb_trace.specs.TraceText.{commit_text, told_text, trace_text}
 use Rattle.ssb_trace_read.specs.Blocks.{lines_of_commit, lines_of_told}
-use Rattle.ssb_trace_read.specs.Traces.{SpellsTrace}
 use Rattle.ssb_trace_read.proofs.InOrder.{spells_in_order}
 use Rattle.ssb_trace_read.proofs.OneReading.{one_reading}
 use Rattle.ssb_trace_laws.specs.Allowed.{IsAllowed, IsAllowedCommit, IsAllowedTold, lines_of_trace}

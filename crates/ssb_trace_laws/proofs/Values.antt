@@ -1,7 +1,6 @@
 -- The constants of a question and the group columns of a row are read back.
-use Rattle.std.proofs.Common.{suc, ltb-false, lt-ltb, eqb-true, ◌≡◌, ℕ, ◌+◌, ◌^◌, ◌<◌, ◌≤◌, Bool, true, false, not, cond, nat_eq, nat_lt, List, [], ◌∷◌, ◌++◌, length, map, zip, position, Option, Some, None, option_map, refl, sym, ap, ◌∙◌, append_assoc, length-append, arith, inl, inr}
+use Rattle.std.proofs.Common.{suc, ltb-false, lt-ltb, eqb-true, ◌≡◌, ℕ, ◌+◌, ◌^◌, ◌≤◌, Bool, true, false, not, nat_eq, nat_lt, List, [], ◌∷◌, ◌++◌, length, map, zip, position, Option, Some, None, option_map, refl, sym, ap, ◌∙◌, append_assoc, length-append, arith, inl, inr}
 use Rattle.std.specs.List.{AllByRecursion, AllZip, position_or_len}
-use Rattle.std.specs.Str.{IsUtf8}
 use Rattle.std.proofs.lemmas.Bool.{cases_Bool}
 use Rattle.std.proofs.lemmas.Option.{none-some}
 use Rattle.ssb_plans.specs.Kind.{constant_kinds, fits}
