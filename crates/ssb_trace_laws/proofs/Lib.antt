@@ -9,3 +9,4 @@ pub mod Values
 pub mod Heads
 pub mod Rows
 pub mod TraceLaws
+pub mod AnsweredRows

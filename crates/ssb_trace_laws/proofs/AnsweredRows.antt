@@ -1,0 +1,162 @@
+-- The rows of an answer over dimensions that the schema takes may stand in an allowed trace.
+use Rattle.std.proofs.Common.{◌≡◌, ℕ, ◌^◌, ◌<◌, ◌≤◌, Bool, true, false, cond, List, [], ◌∷◌, ◌++◌, map, filter, Option, Some, None, ℤ, IfSome, FitsSigned, refl, sym, ap, ◌∙◌, subst, arith, inl, inr, ◌⊎◌}
+use Rattle.std.specs.Int.{w64}
+use Rattle.std.specs.List.{AllByRecursion, AllZip, flat_map}
+use Rattle.std.specs.Ordering.{is_eq}
+use Rattle.std.specs.Prelude.{nat_eq}
+use Rattle.std.proofs.lemmas.Cmp.{tied_itself}
+use Rattle.std.proofs.lemmas.Option.{none-some}
+use Rattle.ssb_plans.specs.Members.{Has}
+use Rattle.ssb_plans.specs.Queries.{plan_of, plan_over}
+use Rattle.ssb_plans.specs.declared.plan.Plan.{Plan}
+use Rattle.ssb_plans.specs.declared.query.Query.{Query}
+use Rattle.ssb_plans.specs.declared.query.Query.TheVariants.{Q1_1, Q1_2, Q1_3, Q2_1, Q2_2, Q2_3, Q3_1, Q3_2, Q3_3, Q3_4}
+use Rattle.ssb_plans.specs.declared.query.Query.TheVariants.{Q4_1, Q4_2, Q4_3}
+use Rattle.ssb_plans.specs.declared.value.Value.{Value}
+use Rattle.ssb_queries.proofs.MemberLemmas.{all_at, has_filter, has_from_map}
+use Rattle.ssb_queries.proofs.OrderLemmas.{groups_cmp_total}
+use Rattle.ssb_queries.proofs.OrderedLemmas.{has_from_in_order}
+use Rattle.ssb_queries.proofs.RowLemmas.{some_sum}
+use Rattle.ssb_queries.specs.Answer.{group_of, groups_among, groups_cmp, in_group, row_cmp, row_of, rows_over, sum_over}
+use Rattle.ssb_queries.specs.Combination.{Combination, combinations, joined, joined_with, passes, value_at}
+use Rattle.ssb_queries.specs.declared.answer.ResultRow.{ResultRow}
+use Rattle.ssb_schema.specs.Base.{Dimensions}
+use Rattle.ssb_schema.specs.Columns.{column_kind, C_CITY, C_NATION, D_YEAR, P_BRAND1, P_CATEGORY, S_CITY, S_NATION}
+use Rattle.ssb_schema.specs.Rows.{customer_values, date_values, part_values, supplier_values}
+use Rattle.ssb_schema.specs.declared.column.Column.{Column}
+use Rattle.ssb_schema.specs.declared.customer.CustomerFields.{CustomerFields}
+use Rattle.ssb_schema.specs.declared.date.DateFields.{DateFields}
+use Rattle.ssb_schema.specs.declared.fact.Fact.{Fact}
+use Rattle.ssb_schema.specs.declared.part.PartFields.{PartFields}
+use Rattle.ssb_schema.specs.declared.supplier.SupplierFields.{SupplierFields}
+use Rattle.ssb_schema.specs.declared.table.Table.TheVariants as table
+use Rattle.ssb_trace_read.specs.Rows.{group_kinds, has_no_groups, kind_in}
+use Rattle.ssb_trace_laws.specs.Allowed.{AreTakenDimensions, IsAllowedRow, IsAllowedSum, IsGroup, IsTakenRow}
+use Rattle.ssb_trace_laws.specs.Laws.{AnswersHaveAllowedRows}
+use Rattle.ssb_trace_laws.proofs.Columns.{IsColumn, customer_fits, date_fits, part_fits, supplier_fits}
+
+-- a combination of rows that the schema takes
+record IsTaken (c : Combination) : Type 0 where
+  customer : IsTakenRow table.Customer (customer_values c.customer)
+  supplier : IsTakenRow table.Supplier (supplier_values c.supplier)
+  part : IsTakenRow table.Part (part_values c.part)
+  date : IsTakenRow table.Date (date_values c.date)
+
+all-filter : {X : Type 0} (P : X → Type 0) (p : X → Bool) (xs : List X) → AllByRecursion P xs → AllByRecursion P (filter p xs)
+all-filter P p [] all = tt
+all-filter P p (x ∷ xs) all =
+    elim (p x) as (λ b. AllByRecursion P (cond b (x ∷ filter p xs) (filter p xs))) [
+      | true ↦ (all.0, all-filter P p xs all.1)
+      | false ↦ all-filter P p xs all.1
+    ]
+
+all-append : {X : Type 0} (P : X → Type 0) (xs ys : List X) → AllByRecursion P xs → AllByRecursion P ys → AllByRecursion P (xs ++ ys)
+all-append P [] ys a b = b
+all-append P (x ∷ xs) ys a b = (a.0, all-append P xs ys a.1 b)
+
+all-flat : {X Y : Type 0} (Q : X → Type 0) (P : Y → Type 0) (f : X → List Y) (xs : List X) → AllByRecursion Q xs → ((x : X) → Q x → AllByRecursion P (f x))
+    → AllByRecursion P (flat_map f xs)
+all-flat Q P f [] all each = tt
+all-flat Q P f (x ∷ xs) all each = all-append P (f x) (flat_map f xs) (each x all.0) (all-flat Q P f xs all.1 each)
+
+all-map : {X Y : Type 0} (Q : X → Type 0) (P : Y → Type 0) (f : X → Y) (xs : List X) → AllByRecursion Q xs → ((x : X) → Q x → P (f x)) → AllByRecursion P (map f xs)
+all-map Q P f [] all each = tt
+all-map Q P f (x ∷ xs) all each = (each x all.0, all-map Q P f xs all.1 each)
+
+module _ (dimensions : Dimensions) (taken : AreTakenDimensions dimensions) where
+  joined-taken : (fact : Fact) → AllByRecursion IsTaken (joined_with dimensions fact)
+  joined-taken fact =
+      all-flat (λ row. IsTakenRow table.Customer (customer_values row)) IsTaken _ _ (all-filter _ (λ row. nat_eq row.key fact.customer) dimensions.customers taken.customers) (λ customer a.
+      all-flat (λ row. IsTakenRow table.Supplier (supplier_values row)) IsTaken _ _ (all-filter _ (λ row. nat_eq row.key fact.supplier) dimensions.suppliers taken.suppliers) (λ supplier b.
+      all-flat (λ row. IsTakenRow table.Part (part_values row)) IsTaken _ _ (all-filter _ (λ row. nat_eq row.key fact.part) dimensions.parts taken.parts) (λ part c.
+      all-map (λ row. IsTakenRow table.Date (date_values row)) IsTaken _ _ (all-filter _ (λ row. nat_eq row.key fact.date) dimensions.dates taken.dates) (λ date d.
+      record { customer = a; supplier = b; part = c; date = d }))))
+
+  all-facts : (facts : List Fact) → AllByRecursion (λ fact. Unit {0}) facts
+  all-facts [] = tt
+  all-facts (fact ∷ facts) = (tt, all-facts facts)
+
+  found-taken : (plan : Plan) (facts : List Fact) → AllByRecursion IsTaken (combinations plan dimensions facts)
+  found-taken plan facts =
+      all-filter IsTaken (passes plan) (joined dimensions facts)
+      (all-flat (λ fact. Unit {0}) IsTaken (joined_with dimensions) facts (all-facts facts) (λ fact any. joined-taken fact))
+
+-- what a combination has in a group column
+abbrev IsIn : Combination → Column → Type 0
+IsIn c column = IsGroup (kind_in column (column_kind column)) (value_at column c)
+
+in-customer-city : (c : Combination) → IsTaken c → IsIn c C_CITY
+in-customer-city c taken = (customer_fits c.customer taken.customer).1.1.1.0
+
+in-customer-nation : (c : Combination) → IsTaken c → IsIn c C_NATION
+in-customer-nation c taken = (customer_fits c.customer taken.customer).1.1.1.1.0
+
+in-supplier-city : (c : Combination) → IsTaken c → IsIn c S_CITY
+in-supplier-city c taken = (supplier_fits c.supplier taken.supplier).1.1.1.0
+
+in-supplier-nation : (c : Combination) → IsTaken c → IsIn c S_NATION
+in-supplier-nation c taken = (supplier_fits c.supplier taken.supplier).1.1.1.1.0
+
+in-category : (c : Combination) → IsTaken c → IsIn c P_CATEGORY
+in-category c taken = (part_fits c.part taken.part).1.1.1.0
+
+in-brand : (c : Combination) → IsTaken c → IsIn c P_BRAND1
+in-brand c taken = (part_fits c.part taken.part).1.1.1.1.0
+
+in-year : (c : Combination) → IsTaken c → IsIn c D_YEAR
+in-year c taken = let within = (date_fits c.date taken.date).1.1.1.1.0.0 in omega (arith, within)
+
+-- the group columns of a query do not depend on its constants, and a combination has what they hold
+groups-fit : (query : Query) (constants : List Value) (c : Combination) → IsTaken c → AllZip IsGroup (group_kinds query) (group_of (plan_over query constants) c)
+groups-fit Q1_1 constants c taken = tt
+groups-fit Q1_2 constants c taken = tt
+groups-fit Q1_3 constants c taken = tt
+groups-fit Q2_1 constants c taken = (in-year c taken, (in-brand c taken, tt))
+groups-fit Q2_2 constants c taken = (in-year c taken, (in-brand c taken, tt))
+groups-fit Q2_3 constants c taken = (in-year c taken, (in-brand c taken, tt))
+groups-fit Q3_1 constants c taken = (in-customer-nation c taken, (in-supplier-nation c taken, (in-year c taken, tt)))
+groups-fit Q3_2 constants c taken = (in-customer-city c taken, (in-supplier-city c taken, (in-year c taken, tt)))
+groups-fit Q3_3 constants c taken = (in-customer-city c taken, (in-supplier-city c taken, (in-year c taken, tt)))
+groups-fit Q3_4 constants c taken = (in-customer-city c taken, (in-supplier-city c taken, (in-year c taken, tt)))
+groups-fit Q4_1 constants c taken = (in-year c taken, (in-customer-nation c taken, tt))
+groups-fit Q4_2 constants c taken = (in-year c taken, (in-supplier-nation c taken, (in-category c taken, tt)))
+groups-fit Q4_3 constants c taken = (in-year c taken, (in-supplier-city c taken, (in-brand c taken, tt)))
+
+same-groups : (query : Query) (constants : List Value) → (plan_of query).groups ≡ (plan_over query constants).groups
+same-groups Q1_1 constants = refl
+same-groups Q1_2 constants = refl
+same-groups Q1_3 constants = refl
+same-groups Q2_1 constants = refl
+same-groups Q2_2 constants = refl
+same-groups Q2_3 constants = refl
+same-groups Q3_1 constants = refl
+same-groups Q3_2 constants = refl
+same-groups Q3_3 constants = refl
+same-groups Q3_4 constants = refl
+same-groups Q4_1 constants = refl
+same-groups Q4_2 constants = refl
+same-groups Q4_3 constants = refl
+
+-- a group is that of a combination, unless there are no group columns
+module _ (group : Combination → List Value) (found : List Combination) where
+  Comes : List Column → List Value → Type 0
+  Comes columns groups =
+      ((columns ≡ []) × (groups ≡ [])) ⊎ ((c : Combination) × Has found c × (groups ≡ group c))
+
+  group-comes : (columns : List Column) (groups : List Value) → Has (groups_among columns group found) groups → Comes columns groups
+  unfolding Comes
+  group-comes [] groups (inl e) = inl (refl, e)
+  group-comes [] groups (inr none) = absurd none
+  group-comes (column ∷ columns) groups has = inr (has_from_map group found groups has)
+
+-- the row of a group
+some-sum-allowed : (query : Query) (sum : Option ℤ) (z : ℤ) → sum ≡ Some z → IfSome sum (FitsSigned w64) → IsAllowedSum query sum
+some-sum-allowed query None z e fits = absurd (none-some z e)
+some-sum-allowed query (Some sum) z e fits = fits
+
+total-allowed : (query : Query) (sum : Option ℤ) → has_no_groups (group_kinds query) ≡ true → IfSome sum (FitsSigned w64) → IsAllowedSum query sum
+total-allowed query None none fits = none
+total-allowed query (Some sum) none fits = fits
+
+no-kinds : (query : Query) → (plan_of query).groups ≡ [] → group_kinds query ≡ []
+no-kinds query e = ap (map (λ column. kind_in column (column_kind column))) e
