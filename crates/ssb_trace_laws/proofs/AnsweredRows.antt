@@ -160,3 +160,38 @@ total-allowed query (Some sum) none fits = fits
 
 no-kinds : (query : Query) → (plan_of query).groups ≡ [] → group_kinds query ≡ []
 no-kinds query e = ap (map (λ column. kind_in column (column_kind column))) e
+
+module _ (question : Query × List Value) (dimensions : Dimensions) (facts : List Fact) (taken : AreTakenDimensions dimensions) where
+  plan : Plan
+  plan = plan_over question.0 question.1
+
+  found : List Combination
+  unfolding plan
+  found = combinations plan dimensions facts
+
+  row-allowed : (groups : List Value) → Comes (group_of plan) found plan.groups groups → IfSome (row_of plan found groups).sum (FitsSigned w64)
+      → IsAllowedRow question.0 (row_of plan found groups)
+  unfolding Comes found plan
+  row-allowed groups (inl (none, e)) fits =
+      let kinds : group_kinds question.0 ≡ [] = no-kinds question.0 (same-groups question.0 question.1 ∙ none) in
+      record { groups = rw (kinds, e) tt; sum = total-allowed question.0 (row_of plan found groups).sum (rw kinds refl) fits }
+  row-allowed groups (inr (c, has, e)) fits =
+      let fit : AllZip IsGroup (group_kinds question.0) (group_of plan c)
+      = groups-fit question.0 question.1 c (all_at IsTaken found c (found-taken dimensions taken plan facts) has) in
+      let same : is_eq (groups_cmp (group_of plan c) groups) ≡ true = rw e (ap is_eq (tied_itself groups_cmp_total (group_of plan c))) in
+      let sum = some_sum plan.measure (in_group plan groups found) c (has_filter (λ other. is_eq (groups_cmp (group_of plan other) groups)) found c same has) in
+      record {
+        groups = subst (AllZip IsGroup (group_kinds question.0)) (sym e) fit;
+        sum = some-sum-allowed question.0 (row_of plan found groups).sum sum.0 sum.1 fits;
+      }
+
+  answered : (row : ResultRow) → Has (rows_over plan found) row → IfSome row.sum (FitsSigned w64) → IsAllowedRow question.0 row
+  answered row has fits =
+      let target = has_from_map (row_of plan found) (groups_among plan.groups (group_of plan) found) row (has_from_in_order (row_cmp plan.order) _ row has) in
+      let comes : Comes (group_of plan) found plan.groups target.0 = group-comes (group_of plan) found plan.groups target.0 target.1 in
+      subst (IsAllowedRow question.0) (sym target.2)
+      (row-allowed target.0 comes (subst (λ (r : ResultRow). IfSome r.sum (FitsSigned w64)) target.2 fits))
+
+pub answers_have_allowed_rows : AnswersHaveAllowedRows
+unfolding found plan
+answers_have_allowed_rows question dimensions facts row taken has fits = answered question dimensions facts taken row has fits
