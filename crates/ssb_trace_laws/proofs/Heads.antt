@@ -21,7 +21,7 @@ use Rattle.ssb_script.specs.Lines.{constants_at, constants_from, query_named}
 use Rattle.ssb_trace.specs.TraceText.{fields_text, head_text, record_text, written_constants}
 use Rattle.ssb_trace_read.specs.Blocks.{head_of_told}
 use Rattle.ssb_trace_read.specs.Lines.{Answer, Says, word_of}
-use Rattle.ssb_trace_laws.specs.Allowed.{IsAllowedQuestion, IsAllowedTold, IsGroup}
+use Rattle.ssb_trace_laws.specs.Allowed.{HasAllowedHead, IsAllowedQuestion, IsGroup}
 use Rattle.ssb_trace_laws.proofs.Clients.{client_read, client_small}
 use Rattle.ssb_trace_laws.proofs.Numbers.{number_kept, number_read}
 use Rattle.ssb_trace_laws.proofs.Records.{IsPlainField, text_of_record}
@@ -139,7 +139,7 @@ head_fields : Told → List (List ℕ)
 head_fields told =
     codes "answer" ∷ decimal told.client ∷ decimal told.at ∷ name_of told.question.0 ∷ decimal (length told.rows) ∷ map value_text (written_constants told.question)
 
-says-head : (told : Told) → IsAllowedTold told → Says (head_fields told) (Answer (head_of_told told))
+says-head : (told : Told) → HasAllowedHead told → Says (head_fields told) (Answer (head_of_told told))
 unfolding head_fields word_of without_spaces
 says-head told allowed =
     rw (
@@ -164,7 +164,7 @@ bars (v ∷ values) =
 head-written : (told : Told) → record_text (codes "answer") (decimal told.client ∷ decimal told.at ∷ name_of told.question.0 ∷ decimal (length told.rows) ∷ map value_text (written_constants told.question)) ≡ head_text told
 head-written told = rw (← bars (written_constants told.question)) (simp append_assoc refl)
 
-pub written_head : (told : Told) → IsAllowedTold told → Written (head_text told) (Answer (head_of_told told) ∷ [])
+pub written_head : (told : Told) → HasAllowedHead told → Written (head_text told) (Answer (head_of_told told) ∷ [])
 unfolding head_fields
 written_head told allowed =
     written_as (text_of_record (head_fields told)) (head_text told) (Answer (head_of_told told) ∷ []) (Answer (head_of_told told) ∷ []) (head-written told) refl

@@ -10,3 +10,4 @@ pub mod Heads
 pub mod Rows
 pub mod TraceLaws
 pub mod AnsweredRows
+pub mod LegalTraces

@@ -124,5 +124,5 @@ pub written_told : (told : Told) → IsAllowedTold told → Written (told_text t
 written_told told allowed =
     let query = told.question.0 in
     written_both (head_text told) (flat_map (told_row_text query) told.rows) (Answer (head_of_told told) ∷ []) (map (Row query) told.rows)
-    (written_head told allowed)
+    (written_head told allowed.head)
     (written_map (told_row_text query) (Row query) told.rows (each-row query told.rows allowed.rows))

@@ -1,5 +1,5 @@
 -- The traces that can be written so that they are read back: those that a run of the server may leave.
-use Rattle.std.specs.Prelude.{◌≡◌, ℕ, ◌<◌, ◌≤◌, ◌^◌, ◌++◌, true, List, length, Option, Some, None, ℤ, FitsSigned, IsUtf8}
+use Rattle.std.specs.Prelude.{◌≡◌, ℕ, ◌<◌, ◌≤◌, ◌^◌, ◌++◌, true, List, length, Option, Some, None, ℤ, FitsSigned, IfSome, IsUtf8}
 use Rattle.std.specs.Int.{w64}
 use Rattle.std.specs.List.{AllByRecursion, AllZip, flat_map}
 use Rattle.row_store.specs.History.{CommitRecord}
@@ -82,12 +82,15 @@ pub record IsAllowedRow (query : Query) (row : ResultRow) : Type 0 where
   pub groups : AllZip IsGroup (group_kinds query) row.groups
   pub sum : IsAllowedSum query row.sum
 
--- an answer to a client, whose numbers have 64 bits
-pub record IsAllowedTold (told : Told) : Type 0 where
+-- an answer to a client, whose numbers have 64 bits, but for its rows
+pub record HasAllowedHead (told : Told) : Type 0 where
   pub client : IsClient told.client
   pub at : told.at < 2 ^ 64
   pub question : IsAllowedQuestion told.question
   pub count : length told.rows < 2 ^ 64
+
+pub record IsAllowedTold (told : Told) : Type 0 where
+  pub head : HasAllowedHead told
   pub rows : AllByRecursion (IsAllowedRow told.question.0) told.rows
 
 pub record IsAllowed (trace : Trace) : Type 0 where
@@ -104,3 +107,7 @@ pub record AreTakenDimensions (dimensions : Dimensions) : Type 0 where
   pub suppliers : AllByRecursion (λ row. IsTakenRow table.Supplier (supplier_values row)) dimensions.suppliers
   pub parts : AllByRecursion (λ row. IsTakenRow table.Part (part_values row)) dimensions.parts
   pub dates : AllByRecursion (λ row. IsTakenRow table.Date (date_values row)) dimensions.dates
+
+-- the sums of an answer have 64 bits
+abbrev pub HasSums : Told → Type 0
+HasSums told = AllByRecursion (λ row. IfSome row.sum (FitsSigned w64)) told.rows

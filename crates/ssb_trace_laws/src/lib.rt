@@ -12,4 +12,4 @@
 
 mod laws;
 
-pub use laws::text_is_read_back;
+pub use laws::{legal_traces_are_allowed, text_is_read_back};
