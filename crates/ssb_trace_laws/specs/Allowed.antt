@@ -1,5 +1,6 @@
--- The traces that can be written so that they are read back: those that a run of the server may leave.
-use Rattle.std.specs.Prelude.{◌≡◌, ℕ, ◌<◌, ◌≤◌, ◌^◌, ◌++◌, true, List, length, Option, Some, None, ℤ, FitsSigned, IfSome, IsUtf8}
+-- The traces whose text gives them back.
+use Rattle.std.specs.Prelude.{◌≡◌, ℕ, ℤ, ◌<◌, ◌≤◌, ◌^◌, ◌++◌, true, List, length, Option, Some, None}
+use Rattle.std.specs.Prelude.{FitsSigned, IfSome, IsUtf8}
 use Rattle.std.specs.Int.{w64}
 use Rattle.std.specs.List.{AllByRecursion, AllZip, flat_map}
 use Rattle.row_store.specs.History.{CommitRecord}

@@ -1,15 +1,18 @@
 //! Laws of a trace's text: what `ssb_trace` writes of a trace, `ssb_trace_read` reads as that trace.
 //!
-//! The one law, of [`text_is_read_back`]: the text of a trace that is allowed spells that trace and no other. So the file that
+//! [`text_is_read_back`]: the text of a trace that is allowed spells that trace and no other.
+//! [`legal_traces_are_allowed`]: a legal trace over a base is allowed, where its parts are. So the file that
 //! `run --trace` leaves holds the run's trace and nothing else, and an audit of the file is an audit of the run.
 //!
-//! The definitions stand in `specs/`: `Allowed` (which traces these are: clients 1 to 16, refreshes, questions and rows as the
-//! schema and the queries take them, texts of UTF-8) and `Laws` (the law). What a text is and what it spells are the
+//! The definitions stand in `specs/`: `Allowed` (which traces these are: clients 1 to 16, refreshes, questions and rows
+//! as the schema and the queries take them, texts of UTF-8) and `Laws`. What a text is and what it spells are the
 //! definitions of `ssb_trace` and `ssb_trace_read`.
 //!
 //! `write_trace(&mut bytes, &trace)?` and then `read_trace(alloc, bytes.as_slice(), 1_000_000)?` give an equal trace.
 #![tactic(auto)]
 
 mod laws;
+#[cfg(test)]
+mod tests;
 
 pub use laws::{legal_traces_are_allowed, text_is_read_back};
