@@ -11,3 +11,4 @@ pub mod Rows
 pub mod TraceLaws
 pub mod AnsweredRows
 pub mod LegalTraces
+pub mod HeldLaws

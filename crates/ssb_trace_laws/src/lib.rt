@@ -11,8 +11,10 @@
 //! `write_trace(&mut bytes, &trace)?` and then `read_trace(alloc, bytes.as_slice(), 1_000_000)?` give an equal trace.
 #![tactic(auto)]
 
+mod held;
 mod laws;
 #[cfg(test)]
 mod tests;
 
+pub use held::{allowed_line, question_is_allowed};
 pub use laws::{legal_traces_are_allowed, text_is_read_back};
