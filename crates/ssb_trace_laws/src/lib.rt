@@ -4,6 +4,8 @@
 //! [`legal_traces_are_allowed`]: a legal trace over a base is allowed, where its parts are. So the file that
 //! `run --trace` leaves holds the run's trace and nothing else, and an audit of the file is an audit of the run.
 //!
+//! What `Line::new` and `Question::with` give is allowed: [`allowed_line`], [`question_is_allowed`].
+//!
 //! The definitions stand in `specs/`: `Allowed` (which traces these are: clients 1 to 16, refreshes, questions and rows
 //! as the schema and the queries take them, texts of UTF-8) and `Laws`. What a text is and what it spells are the
 //! definitions of `ssb_trace` and `ssb_trace_read`.

@@ -1,4 +1,7 @@
-//! Texts that are read as a trace, which is written again.
+//! Texts that are read as a trace, which is written again, and a line that is made.
+use super::*;
+use ssb_plans::{Query, Question};
+use ssb_schema::{LineFields, Text};
 use ssb_trace::write_trace;
 use ssb_trace_read::read_trace;
 use std::alloc::Global;
@@ -63,5 +66,37 @@ fn a_trace_has_one_text(rt: HostRuntime) -> Result<(), Fail> {
 fn no_text_is_no_trace(rt: HostRuntime) -> Result<(), Fail> {
     assert!(rt; is_written_as(rt.alloc(), "", "")?);
     assert!(rt; !is_written_as(rt.alloc(), "", TIGHT)?);
+    Ok(())
+}
+
+// The fields of a line of order 9, with this number.
+fn fields(alloc: Global, line_number: u64) -> Result<LineFields, Fail> {
+    Ok(LineFields {
+        order_key: 9,
+        line_number,
+        customer_key: 3,
+        part_key: 4,
+        supplier_key: 3,
+        order_date: 19971215,
+        order_priority: Text::from_str(alloc, "1-URGENT")?,
+        ship_priority: Text::from_str(alloc, "0")?,
+        quantity: 1,
+        extended_price: 10,
+        order_total_price: 10,
+        discount: 0,
+        revenue: 10,
+        supply_cost: 2000,
+        tax: 0,
+        commit_date: 19971215,
+        ship_mode: Text::from_str(alloc, "AIR")?,
+    })
+}
+
+#[test]
+fn lines_of_one_to_seven_are_made(rt: HostRuntime) -> Result<(), Fail> {
+    let alloc = rt.alloc();
+    assert!(rt; allowed_line(fields(alloc, 7)?).is_ok());
+    assert!(rt; allowed_line(fields(alloc, 8)?).is_err());
+    question_is_allowed(&Question::standard(alloc, Query::Q4_1)?);
     Ok(())
 }
