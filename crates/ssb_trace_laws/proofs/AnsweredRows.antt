@@ -1,5 +1,5 @@
 -- The rows of an answer over dimensions that the schema takes may stand in an allowed trace.
-use Rattle.std.proofs.Common.{◌≡◌, ℕ, ◌^◌, ◌<◌, ◌≤◌, Bool, true, false, cond, List, [], ◌∷◌, ◌++◌, map, filter, Option, Some, None, ℤ, IfSome, FitsSigned, refl, sym, ap, ◌∙◌, subst, arith, inl, inr, ◌⊎◌}
+use Rattle.std.proofs.Common.{◌≡◌, Bool, true, false, cond, List, [], ◌∷◌, ◌++◌, map, filter, Option, Some, None, ℤ, IfSome, FitsSigned, refl, sym, ap, ◌∙◌, subst, arith, inl, inr, ◌⊎◌}
 use Rattle.std.specs.Int.{w64}
 use Rattle.std.specs.List.{AllByRecursion, AllZip, flat_map}
 use Rattle.std.specs.Ordering.{is_eq}
@@ -17,23 +17,19 @@ use Rattle.ssb_queries.proofs.MemberLemmas.{all_at, has_filter, has_from_map}
 use Rattle.ssb_queries.proofs.OrderLemmas.{groups_cmp_total}
 use Rattle.ssb_queries.proofs.OrderedLemmas.{has_from_in_order}
 use Rattle.ssb_queries.proofs.RowLemmas.{some_sum}
-use Rattle.ssb_queries.specs.Answer.{group_of, groups_among, groups_cmp, in_group, row_cmp, row_of, rows_over, sum_over}
+use Rattle.ssb_queries.specs.Answer.{group_of, groups_among, groups_cmp, in_group, row_cmp, row_of, rows_over}
 use Rattle.ssb_queries.specs.Combination.{Combination, combinations, joined, joined_with, passes, value_at}
 use Rattle.ssb_queries.specs.declared.answer.ResultRow.{ResultRow}
 use Rattle.ssb_schema.specs.Base.{Dimensions}
 use Rattle.ssb_schema.specs.Columns.{column_kind, C_CITY, C_NATION, D_YEAR, P_BRAND1, P_CATEGORY, S_CITY, S_NATION}
 use Rattle.ssb_schema.specs.Rows.{customer_values, date_values, part_values, supplier_values}
 use Rattle.ssb_schema.specs.declared.column.Column.{Column}
-use Rattle.ssb_schema.specs.declared.customer.CustomerFields.{CustomerFields}
-use Rattle.ssb_schema.specs.declared.date.DateFields.{DateFields}
 use Rattle.ssb_schema.specs.declared.fact.Fact.{Fact}
-use Rattle.ssb_schema.specs.declared.part.PartFields.{PartFields}
-use Rattle.ssb_schema.specs.declared.supplier.SupplierFields.{SupplierFields}
 use Rattle.ssb_schema.specs.declared.table.Table.TheVariants as table
 use Rattle.ssb_trace_read.specs.Rows.{group_kinds, has_no_groups, kind_in}
 use Rattle.ssb_trace_laws.specs.Allowed.{AreTakenDimensions, IsAllowedRow, IsAllowedSum, IsGroup, IsTakenRow}
 use Rattle.ssb_trace_laws.specs.Laws.{AnswersHaveAllowedRows}
-use Rattle.ssb_trace_laws.proofs.Columns.{IsColumn, customer_fits, date_fits, part_fits, supplier_fits}
+use Rattle.ssb_trace_laws.proofs.Columns.{customer_fits, date_fits, part_fits, supplier_fits}
 
 -- a combination of rows that the schema takes
 record IsTaken (c : Combination) : Type 0 where

@@ -3,11 +3,10 @@ use Rattle.std.proofs.Common.{◌≡◌, ℕ, List, [], ◌∷◌, Some, IfSome,
 use Rattle.std.specs.Int.{w64}
 use Rattle.std.specs.List.{AllByRecursion}
 use Rattle.row_store.specs.History.{CommitRecord, lines_after}
-use Rattle.ssb_audit.specs.Legal.{IsLegalTrace, IsTrueOf}
+use Rattle.ssb_audit.specs.Legal.{IsTrueOf}
 use Rattle.ssb_audit.specs.declared.trace.Told.{Told}
 use Rattle.ssb_plans.specs.Members.{Has}
 use Rattle.ssb_queries.proofs.MemberLemmas.{all_at}
-use Rattle.ssb_queries.specs.declared.answer.ResultRow.{ResultRow}
 use Rattle.ssb_schema.specs.Base.{Tables}
 use Rattle.ssb_schema.specs.Facts.{facts_of}
 use Rattle.ssb_trace_laws.specs.Allowed.{AreTakenDimensions, HasAllowedHead, HasSums, IsAllowedRow, IsAllowedTold}
