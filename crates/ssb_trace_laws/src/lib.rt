@@ -1,8 +1,8 @@
 //! Laws of a trace's text: what `ssb_trace` writes of a trace, `ssb_trace_read` reads as that trace.
 //!
 //! [`text_is_read_back`]: the text of a trace that is allowed spells that trace and no other.
-//! [`legal_traces_are_allowed`]: a legal trace over a base is allowed, where its parts are. So the file that
-//! `run --trace` leaves holds the run's trace and nothing else, and an audit of the file is an audit of the run.
+//! [`legal_traces_are_allowed`]: a legal trace over a base is allowed, where its parts are. So where a run's trace is
+//! allowed, what `ssb_trace` writes of it is read as that trace alone, and an audit of the text is an audit of the run.
 //!
 //! What `Line::new` and `Question::with` give is allowed: [`allowed_line`], [`question_is_allowed`].
 //!
