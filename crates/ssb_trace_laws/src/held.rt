@@ -1,12 +1,18 @@
 //! What the constructors of lines and questions give is allowed.
-ghost use Rattle.std.specs.Prelude.{IfOk};
+ghost use Rattle.std.specs.Prelude.{◌≡◌, IfOk};
+ghost use Rattle.ssb_schema.specs.Columns.{row_fault};
+ghost use Rattle.ssb_schema.specs.Refusals.{fault_of};
+ghost use Rattle.ssb_schema.specs.Rows.{line_values};
+ghost use Rattle.ssb_schema.specs.declared.table.Table.TheVariants as table;
 ghost use Rattle.ssb_trace_laws.specs.Allowed.{IsAllowedLine, IsAllowedQuestion, IsAllowedValue};
 
 use ssb_plans::{Question, Value};
 use ssb_schema::{Line, LineFields, Refused};
 
-/// `Line::new`: the line that it gives, if it gives one, may stand in an allowed trace.
+/// A line of these values, or what `Line::new` says where there is none: the line may stand in an allowed trace.
 pub fn allowed_line(fields: LineFields) -> Result<Line, Refused<LineFields>>
+    ensures fault { fault_of result ≡ row_fault table.Lineorder (line_values fields) }
+    ensures row { IfOk result (λ line. line ≡ fields) }
     ensures allowed { IfOk result IsAllowedLine }
 {
     let _priority = fields.order_priority.as_str();
