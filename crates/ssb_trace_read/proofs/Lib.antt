@@ -1,3 +1,4 @@
 pub mod CommitLaws
+pub mod InOrder
 pub mod OneReading
 pub mod Reading

@@ -1,0 +1,14 @@
+pub mod Records
+pub mod Fields
+pub mod Numbers
+pub mod Written
+pub mod Clients
+pub mod Columns
+pub mod Commits
+pub mod Values
+pub mod Heads
+pub mod Rows
+pub mod TraceLaws
+pub mod AnsweredRows
+pub mod LegalTraces
+pub mod HeldLaws
