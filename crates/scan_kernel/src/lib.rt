@@ -25,6 +25,7 @@ mod masks;
 mod parts;
 mod range;
 mod search;
+mod scattered;
 mod selecting;
 #[cfg(test)]
 mod tests;
@@ -34,4 +35,5 @@ pub use columns::{GroupColumn, Grouping, LineColumns};
 pub use masks::Masks;
 pub use parts::parallel_totals;
 pub use range::range_totals;
+pub use scattered::{GroupSums, ScatteredColumn, ScatteredTotals, scattered_totals};
 pub use totals::Totals;
