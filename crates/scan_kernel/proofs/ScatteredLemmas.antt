@@ -2,7 +2,7 @@
 use Rattle.std.proofs.Common.{◌≡◌, ℕ, ◌+◌, ◌%◌, ◌^◌, ◌<◌, ◌≢◌, Bool, true, false, cond, List, [], ◌∷◌, ◌++◌, length, map, eqb, refl, ap, sym, ◌∙◌, subst, ◌⊎◌, inl, inr, eq-eqb, add-zero, zero-add, Some, None, arith}
 use Rattle.std.specs.Prelude.{nat_eq, unwrap_or}
 use Rattle.std.specs.List.{filter, sum_by, range_with_len}
-use Rattle.std.proofs.Math.Nat.{mod-mod, mod-add-mod}
+use Rattle.std.proofs.Math.Nat.{mod-mod, mod-add-mod, mod-lt}
 use Rattle.std.proofs.lemmas.Bool.Decides.{eqb_tells}
 use Rattle.std.proofs.lemmas.List.{map-id, append-nil}
 use Rattle.std.proofs.lemmas.List.Elements.{filter-append}
@@ -18,7 +18,7 @@ use Rattle.scan_kernel.specs.declared.masks.Masks.{Masks}
 use Rattle.scan_kernel.specs.Places.{part_at, group_at, gain_at, loss_at, has_bit}
 use Rattle.scan_kernel.specs.Sums.{sum_in}
 use Rattle.scan_kernel.specs.Totals.{taken}
-use Rattle.scan_kernel.specs.Scattered.{as_group_column, as_group_columns, wide_part_at, nothing, sums_in, AddsLine, AreSumsOf, AreScatteredTotals}
+use Rattle.scan_kernel.specs.Scattered.{as_group_column, as_group_columns, wide_part_at, nothing, sums_in, AddsLine, AreSumsOf, Fit64, AreScatteredTotals}
 use Rattle.scan_kernel.proofs.AddsLemmas.{sum_in-append}
 
 -- the number of a group is the sum of its columns' parts
@@ -71,6 +71,7 @@ module _ {S : Type 0} (lines : LineColumns) (measure : Measure) (columns : List 
     gains_are = λ g. ap (λ (s : GroupSums). s.gain % 2 ^ 64) (empty g);
     losses_are = λ g. ap (λ (s : GroupSums). s.loss % 2 ^ 64) (empty g);
     below = λ g sums at. absurd (let no : None ≡ Some sums = sym (nowhere g) ∙ at in cc);
+    fits = λ g. subst Fit64 (sym (empty g)) (record { count = omega arith; gain = omega arith; loss = omega arith });
     unique = unique;
   } where
     nowhere : (g : ℕ) → get nat_eq totals g ≡ None
@@ -86,6 +87,7 @@ module _ {S : Type 0} (lines : LineColumns) (measure : Measure) (columns : List 
     gains_are = sums_more (gain_at lines measure) (group_at columns) places x (λ g. (sums_in old g).gain) (λ g. (sums_in new g).gain) are.gains_are (ap (λ (s : GroupSums). s.gain) here) (λ g e. ap (λ (s : GroupSums). s.gain) (same g e));
     losses_are = sums_more (loss_at lines measure) (group_at columns) places x (λ g. (sums_in old g).loss) (λ g. (sums_in new g).loss) are.losses_are (ap (λ (s : GroupSums). s.loss) here) (λ g e. ap (λ (s : GroupSums). s.loss) (same g e));
     below = λ g sums at. known g sums at (eqb_tells group g);
+    fits = λ g. fitting g (eqb_tells (group_at columns x) g);
     unique = adds.unique;
   } where
     here : sums_in new (group_at columns x) ≡ record {
@@ -97,6 +99,15 @@ module _ {S : Type 0} (lines : LineColumns) (measure : Measure) (columns : List 
 
     same : (g : ℕ) → nat_eq (group_at columns x) g ≡ false → sums_in new g ≡ sums_in old g
     same g e = ap (λ o. unwrap_or o nothing) (adds.others g (ap (λ (v : ℕ). nat_eq v g) group_is ∙ e))
+
+    fitting : (g : ℕ) → ((eqb (group_at columns x) g ≡ true) × (group_at columns x ≡ g)) ⊎ ((eqb (group_at columns x) g ≡ false) × (group_at columns x ≢ g)) → Fit64 (sums_in new g)
+    fitting g (inl (_, e)) =
+        subst (λ (v : ℕ). Fit64 (sums_in new v)) e (subst Fit64 (sym here) (record {
+          count = mod-lt ((sums_in old (group_at columns x)).count + 1) (omega arith);
+          gain = mod-lt ((sums_in old (group_at columns x)).gain + gain_at lines measure x) (omega arith);
+          loss = mod-lt ((sums_in old (group_at columns x)).loss + loss_at lines measure x) (omega arith);
+        }))
+    fitting g (inr (e, _)) = subst Fit64 (sym (same g e)) (are.fits g)
 
     known : (g : ℕ) (sums : GroupSums) → get nat_eq new g ≡ Some sums → ((eqb group g ≡ true) × (group ≡ g)) ⊎ ((eqb group g ≡ false) × (group ≢ g)) → g < size
     known g sums at (inl (_, e)) = subst (λ (v : ℕ). v < size) (sym group_is ∙ e) room

@@ -41,6 +41,12 @@ pub record AddsLine {S : Type 0} (old new : IndexMap ℕ GroupSums S) (group gai
 abbrev pub AreSumsOf : (ℕ → ℕ) → (ℕ → ℕ) → List ℕ → (ℕ → ℕ) → Type 0
 AreSumsOf amount group places sum = (g : ℕ) → sum g % 2 ^ 64 ≡ sum_in amount group g places % 2 ^ 64
 
+-- the sums are numbers of 64 bits
+pub record Fit64 (sums : GroupSums) : Type 0 where
+  pub count : sums.count < 2 ^ 64
+  pub gain : sums.gain < 2 ^ 64
+  pub loss : sums.loss < 2 ^ 64
+
 -- the sums are those of the groups of the places, each of which has a number below the size
 pub record AreScatteredTotals {S : Type 0} (lines : LineColumns) (measure : Measure) (columns : List GroupColumn)
     (places : List ℕ) (size : ℕ) (totals : IndexMap ℕ GroupSums S) : Type 0 where
@@ -48,4 +54,5 @@ pub record AreScatteredTotals {S : Type 0} (lines : LineColumns) (measure : Meas
   pub gains_are : AreSumsOf (gain_at lines measure) (group_at columns) places (λ g. (sums_in totals g).gain)
   pub losses_are : AreSumsOf (loss_at lines measure) (group_at columns) places (λ g. (sums_in totals g).loss)
   pub below : (g : ℕ) (sums : GroupSums) → get nat_eq totals g ≡ Some sums → g < size
+  pub fits : (g : ℕ) → Fit64 (sums_in totals g)
   pub unique : IsUnique nat_eq totals
