@@ -93,7 +93,7 @@ fn question_rows(
     requires few { number < 16 }
     requires covers { CanSearch scan.lines scan.masks.now }
     requires can { CanAnswer scan.index.now scan.lines scan.masks.now number ready.now totals.now }
-    ensures { IfOk result (AreRowsOf scan.index.now scan.lines scan.masks.now number ready.now totals.now) }
+    ensures { IfOk result (AreRowsOf scan.entry.index.now scan.entry.lines scan.entry.masks.now number ready.now totals.now) }
 {
     let list = match &ready.groups.parts {
         Parts::Narrow(_) => dense_rows(alloc, ready, totals)?,
@@ -124,7 +124,7 @@ pub fn batch_rows(
     requires few { length all.now ≤ 16 }
     requires covers { CanSearch scan.lines scan.masks.now }
     requires can { CanAnswerAll scan.index.now scan.lines scan.masks.now all.now totals.now }
-    ensures { IfOk result (λ rows. AreBatchRows scan.index.now scan.lines scan.masks.now all.now totals.now rows.items) }
+    ensures { IfOk result (λ rows. AreBatchRows scan.entry.index.now scan.entry.lines scan.entry.masks.now all.now totals.now rows.items) }
 {
     let mut rows = Vec::with_capacity(alloc, all.len())?;
     for number in 0..all.len() {
