@@ -16,9 +16,9 @@ use Rattle.ssb_queries.specs.Combination.{Combination}
 use Rattle.ssb_queries.specs.Answer.{row_cmp, rows_over}
 use Rattle.ssb_queries.specs.declared.answer.ResultRow.{ResultRow}
 use Rattle.ssb_queries.proofs.MemberLemmas.{has_filter}
-use Rattle.scan_answers.specs.Dense.{AreDenseTotals, live, dense_row}
+use Rattle.scan_answers.specs.Dense.{AreDenseTotals, dense_row}
 use Rattle.scan_answers.specs.Scattered.{beside, count_of, sum_of, scattered_rows}
-use Rattle.scan_answers.proofs.DenseLemmas.{Once, once_filter, has_range, range_has, has_from_filter, sorted_some_answer}
+use Rattle.scan_answers.proofs.DenseLemmas.{Once, once_filter, has_range, has_from_filter, sorted_some_answer}
 
 all_at : (P : ℕ → Type 0) (xs : List ℕ) (i : ℕ) → AllByRecursion P xs → i < length xs → P (get_or xs i 0)
 all_at P [] i h below = absurd (omega (arith, below))

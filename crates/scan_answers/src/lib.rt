@@ -15,6 +15,9 @@
 //! ```text
 //! let rows = answer_question(alloc, &question, &columns, &counts, &sums)?;
 //! ```
+//!
+//! `answer_scattered` makes the same of the counts and sums of some groups alone, each beside its group's number
+//! (`specs/Scattered.antt`).
 #![tactic(auto)]
 
 pub mod laws;

@@ -1,5 +1,5 @@
 //! Rows from the counts and sums of some groups alone, each beside its group's number.
-ghost use Rattle.std.specs.Prelude.{◌≡◌, ◌<◌, All, IfOk, length, nat_eq, slice_index, pos};
+ghost use Rattle.std.specs.Prelude.{◌≡◌, ◌<◌, All, IfOk, length, nat_eq};
 ghost use Rattle.std.specs.List.{IsDistinct};
 ghost use Rattle.ssb_plans.specs.Plan.{OrdersAllGroups};
 ghost use Rattle.ssb_plans.specs.Queries.{plan_over};

@@ -1,5 +1,5 @@
 -- The sums of the groups that lines have, one place more at a time.
-use Rattle.std.proofs.Common.{◌≡◌, ℕ, ◌+◌, ◌%◌, ◌^◌, ◌<◌, ◌≢◌, Bool, true, false, cond, List, [], ◌∷◌, ◌++◌, length, map, eqb, refl, ap, sym, ◌∙◌, subst, ◌⊎◌, inl, inr, eq-eqb, add-zero, zero-add, Some, None, arith}
+use Rattle.std.proofs.Common.{◌≡◌, ℕ, ◌+◌, ◌%◌, ◌^◌, ◌<◌, ◌≢◌, Bool, true, false, cond, List, [], ◌∷◌, ◌++◌, eqb, refl, ap, sym, ◌∙◌, subst, ◌⊎◌, inl, inr, add-zero, zero-add, Some, None, arith}
 use Rattle.std.specs.Prelude.{nat_eq, unwrap_or}
 use Rattle.std.specs.List.{filter, sum_by, range_with_len}
 use Rattle.std.proofs.Math.Nat.{mod-mod, mod-add-mod, mod-lt}

@@ -30,10 +30,10 @@ sums_in totals g = unwrap_or (get nat_eq totals g) nothing
 -- the sums of the group are those of one line more, and every other group's are as they were
 pub record AddsLine {S : Type 0} (old new : IndexMap ℕ GroupSums S) (group gain loss : ℕ) : Type 0 where
   pub grows : get nat_eq new group ≡ Some (record {
-        count = ((sums_in old group).count + 1) % 2 ^ 64;
-        gain = ((sums_in old group).gain + gain) % 2 ^ 64;
-        loss = ((sums_in old group).loss + loss) % 2 ^ 64;
-      })
+    count = ((sums_in old group).count + 1) % 2 ^ 64;
+    gain = ((sums_in old group).gain + gain) % 2 ^ 64;
+    loss = ((sums_in old group).loss + loss) % 2 ^ 64;
+  })
   pub others : (g : ℕ) → nat_eq group g ≡ false → get nat_eq new g ≡ get nat_eq old g
   pub unique : IsUnique nat_eq new
 

@@ -16,6 +16,9 @@
 //! ```text
 //! let totals = parallel_totals(rt, alloc, &lines, &masks, &groupings)?;
 //! ```
+//!
+//! Where a question has too many groups for a number each, `scattered_totals` walks over the places for it alone, and
+//! keeps the sums of the groups that lines have (`AreScatteredTotals` in `specs/Scattered.antt`).
 #![tactic(auto)]
 
 mod adding;
@@ -24,8 +27,8 @@ mod columns;
 mod masks;
 mod parts;
 mod range;
-mod search;
 mod scattered;
+mod search;
 mod selecting;
 #[cfg(test)]
 mod tests;

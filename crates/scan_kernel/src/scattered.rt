@@ -1,11 +1,9 @@
 //! The totals of one question whose groups are too many for a number each: of the groups that lines have alone.
-ghost use Rattle.std.specs.Prelude.{◌≡◌, ℕ, ◌<◌, ◌≤◌, ◌%◌, ◌^◌, All, IfOk, OnOk, length, map, nat_eq, slice_index, true, Some, None};
+ghost use Rattle.std.specs.Prelude.{◌≡◌, ℕ, ◌<◌, ◌%◌, ◌^◌, All, IfOk, OnOk, length, slice_index, true};
 ghost use Rattle.std.specs.List.{range_with_len, sum_by};
-ghost use Rattle.indexmap.specs.IndexMap.{get, Updates};
-ghost use Rattle.scan_kernel.specs.Places.{CanNumber, CanSearch, Covers, has_bit, mask_at, mask_in, gain_at, loss_at};
+ghost use Rattle.scan_kernel.specs.Places.{CanNumber, CanSearch, Covers, has_bit, mask_at, mask_in, group_at, gain_at, loss_at};
 ghost use Rattle.scan_kernel.specs.Scattered.{as_group_column, as_group_columns, wide_part_at, sums_in, AddsLine, AreScatteredTotals};
 ghost use Rattle.scan_kernel.specs.Totals.{taken};
-ghost use Rattle.scan_kernel.specs.Places.{group_at};
 
 use crate::columns::LineColumns;
 use crate::masks::Masks;

@@ -66,8 +66,7 @@ pub can_group : (base : Tables) (masks : Masks) (k : ℕ) (places : List Place) 
 can_group base masks k places lines plans question ready groups sound within are at_k tell is columns =
     let grouped = is_grouping base masks k lines question ready groups is columns in
     let dims = dimensions_alone question.0 question.1 in
-    let D : Plan → Type 0 = λ plan. AllByRecursion (λ column. column.table ≡ Lineorder → ⊥) plan.groups in
-    (
+    let D : Plan → Type 0 = λ plan. AllByRecursion (λ column. column.table ≡ Lineorder → ⊥) plan.groups in (
       can_number_all base places lines within are masks k ready.plan.groups ready.groups.columns.items 1 (parts_in ready.groups.parts) groups (subst D (sym is.plan_is) dims) is.prepared columns,
       λ i below bit.
           let inside : i < length places = omega (arith, below, ap length are.customers_are, length-map places (λ place. place.customer)) in

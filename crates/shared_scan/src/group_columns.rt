@@ -37,12 +37,7 @@ fn part(number: u32, step: u64) -> u64
 }
 
 /// Makes parts of numbers below a count: each times the step.
-fn parts_of(
-    alloc: Global,
-    numbers: &[u32],
-    count: u32,
-    step: u64,
-) -> Result<Vec<u64>, AllocError>
+fn parts_of(alloc: Global, numbers: &[u32], count: u32, step: u64) -> Result<Vec<u64>, AllocError>
     requires below { (code : ℕ) → code < length numbers.now → slice_index numbers.now code ≢ 4294967295 → slice_index numbers.now code < count }
     requires fits { count * step < 2 ^ 64 }
     ensures len { IfOk result (λ parts. length parts.items ≡ length numbers.now) }

@@ -5,8 +5,8 @@ ghost use Rattle.shared_scan.specs.Parts.{parts_in, IsFew};
 use ssb_schema::Items;
 use std::alloc::{AllocError, Global};
 
-/// How many groups a question may have and still be summed up with a number for each of them: a batch of sixteen such
-/// questions in sixteen parts then takes no more than 403 MB.
+/// How many groups a question may have and still be summed up with a number for each of them. The totals of a batch of
+/// sixteen such questions, in sixteen parts, then take 428 MB at most.
 const MOST_DENSE: u64 = 65_536;
 
 /// By group column, what each code adds to the number of a group: in 32 bits where a number is kept for each group, and

@@ -14,7 +14,9 @@ use crate::ready::Ready;
 use crate::sums::difference;
 use dim_index::DimIndex;
 use scan_answers::answer_scattered;
-use scan_kernel::{GroupSums, LineColumns, Masks, ScatteredColumn, ScatteredTotals, scattered_totals};
+use scan_kernel::{
+    GroupSums, LineColumns, Masks, ScatteredColumn, ScatteredTotals, scattered_totals,
+};
 use ssb_queries::ResultRow;
 use ssb_schema::{Column, Items};
 use std::alloc::{AllocError, Global};
@@ -103,7 +105,15 @@ pub fn scattered_rows(
 {
     let columns = scattered_columns(alloc, index, lines, ready.plan.groups.as_slice(), parts)?;
     let size = ready.groups.size;
-    let totals = scattered_totals(alloc, lines, masks, number, ready.plan.measure, &columns, size)?;
+    let totals = scattered_totals(
+        alloc,
+        lines,
+        masks,
+        number,
+        ready.plan.measure,
+        &columns,
+        size,
+    )?;
     let list = list_groups(alloc, &totals)?;
     answer_scattered(
         alloc,

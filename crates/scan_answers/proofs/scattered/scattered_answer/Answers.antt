@@ -1,5 +1,5 @@
 -- The rows of the groups with combinations, sorted, are the answer; without groups it is the one row.
-use Rattle.std.proofs.Common.{ℕ, zero, suc, true, false, ◌≡◌, ◌<◌, ◌∙◌, List, [], ◌∷◌, length, get_or, cond, Some, None, sym, ap, subst, arith, refl, rules}
+use Rattle.std.proofs.Common.{ℕ, zero, suc, false, ◌≡◌, ◌<◌, ◌∙◌, List, [], ◌∷◌, length, get_or, cond, Some, None, sym, ap, subst, arith, refl, rules}
 use Rattle.std.specs.Prelude.{ℤ, pos, FitsSigned, IsPermutation, nat_eq, nat_lt}
 use Rattle.std.specs.Cmp.{unsigned_Decides}
 use Rattle.std.specs.Int.{w64}

@@ -1,4 +1,4 @@
-use Rattle.std.proofs.Common.{ℕ, ◌≤◌, List, length, arith, ◌∙◌, ap}
+use Rattle.std.proofs.Common.{length, arith, ap}
 use Rattle.ssb_plans.specs.declared.plan.Plan.{Plan}
 use Rattle.shared_scan.proofs.GroupLemmas.{three_alone}
 use Rattle.shared_scan.proofs.prepare.prepare_question.Goals as goal

@@ -1,23 +1,19 @@
-use Rattle.std.proofs.Common.{ℕ, ◌≡◌, ◌<◌, ◌≤◌, ◌^◌, List, length, get_or, Some, refl, sym, ap, ◌∙◌, subst, arith}
-use Rattle.std.specs.Prelude.{ℤ, pos, ◌-ℤ◌, nat_eq, unwrap_or}
+use Rattle.std.proofs.Common.{ℕ, ◌≡◌, ◌<◌, ◌^◌, List, length, sym, ap, ◌∙◌, subst}
+use Rattle.std.specs.Prelude.{unwrap_or}
 use Rattle.std.specs.List.{All, range_with_len}
 use Rattle.std.specs.Cmp.{nat_eq_equiv}
-use Rattle.std.specs.Map.{keys_of, values_of}
 use Rattle.std.proofs.lemmas.Result.{IfOk-weaker}
-use Rattle.indexmap.specs.IndexMap.{get, keys, values}
+use Rattle.indexmap.specs.IndexMap.{keys}
 use Rattle.ssb_plans.specs.declared.plan.Plan.{Plan}
 use Rattle.ssb_plans.specs.declared.value.Value.{Value}
-use Rattle.scan_kernel.specs.declared.columns.GroupColumn.{GroupColumn}
 use Rattle.scan_kernel.specs.declared.scattered.GroupSums.{GroupSums}
-use Rattle.scan_kernel.specs.Places.{CanNumber, has_bit, group_at}
+use Rattle.scan_kernel.specs.Places.{CanNumber}
 use Rattle.scan_kernel.specs.Totals.{taken}
 use Rattle.scan_kernel.specs.Scattered.{as_group_columns, nothing, sums_in, AreScatteredTotals}
 use Rattle.scan_answers.specs.Groups.{size_of, counts_of}
-use Rattle.scan_answers.specs.Scattered.{count_of, sum_of}
-use Rattle.scan_answers.specs.Scan.{AnswersLines}
 use Rattle.shared_scan.specs.GroupColumns.{AreGroupColumns}
 use Rattle.shared_scan.specs.Scanned.{net}
-use Rattle.shared_scan.specs.Summed.{AreSummed, AreRowsOver}
+use Rattle.shared_scan.specs.Summed.{AreSummed}
 use Rattle.shared_scan.proofs.GroupLemmas.{dimensions_alone}
 use Rattle.shared_scan.proofs.ReadyLemmas.{is_grouping, can_group}
 use Rattle.shared_scan.proofs.ScanLemmas.{line_count, prepared_lengths}
