@@ -53,7 +53,7 @@ sum_over_some measure [] h = absurd (omega (arith, h))
 sum_over_some measure (c ∷ found) h = refl
 
 -- which numbers are in a range
-has_range : (n a g : ℕ) → a ≤ g → g < a + n → Has (range_with_len a n) g
+pub has_range : (n a g : ℕ) → a ≤ g → g < a + n → Has (range_with_len a n) g
 has_range zero a g from to = absurd (omega (arith, from, to))
 has_range (suc n) a g from to =
     elim (nat_eq g a) as (λ b. nat_eq g a ≡ b → Has (a ∷ range_with_len (a + 1) n) g) [
@@ -67,7 +67,7 @@ range_has (suc n) a g (inl e) = (omega (arith, e), omega (arith, e))
 range_has (suc n) a g (inr h) = let rest = range_has n (a + 1) g h in (omega (arith, rest), omega (arith, rest))
 
 -- no element is twice in the list
-abbrev Once : List ℕ → Type 0
+abbrev pub Once : List ℕ → Type 0
 Once [] = Unit {0}
 Once (x ∷ xs) = AllByRecursion (λ y. x ≢ y) xs × Once xs
 
@@ -83,7 +83,7 @@ all_filter : {X : Type 0} (P : X → Type 0) (p : X → Bool) (xs : List X) → 
 all_filter P p [] h = tt
 all_filter P p (x ∷ xs) h = elim (p x) as (λ b. AllByRecursion P (cond b (x ∷ filter p xs) (filter p xs))) [ true ↦ (h.0, all_filter P p xs h.1) | false ↦ all_filter P p xs h.1 ]
 
-once_filter : (p : ℕ → Bool) (xs : List ℕ) → Once xs → Once (filter p xs)
+pub once_filter : (p : ℕ → Bool) (xs : List ℕ) → Once xs → Once (filter p xs)
 once_filter p [] h = tt
 once_filter p (x ∷ xs) h = elim (p x) as (λ b. Once (cond b (x ∷ filter p xs) (filter p xs))) [ true ↦ (all_filter _ p xs h.0, once_filter p xs h.1) | false ↦ once_filter p xs h.1 ]
 
@@ -151,19 +151,24 @@ module _ (plan : Plan) (found : List Combination) (number : Combination → ℕ)
     no_ties [] among once = tt
     no_ties (g ∷ gs) among once = (apart_rows g (among g (inl refl)) gs (λ k i. among k (inr i)) once.0, no_ties gs (λ k i. among k (inr i)) once.1)
 
-    pub sorted_rows_answer : (rows : List ResultRow) → IsGrouped plan → IsPermutation (dense_rows size groups count sum) rows → IsSorted (row_cmp plan.order) rows → rows ≡ rows_over plan found
-    sorted_rows_answer rows grouped moved sorted =
-        let made = dense_rows size groups count sum in
+    -- the rows of the numbers that have combinations, in whatever order they were found
+    pub sorted_some_answer : (gs : List ℕ) (rows : List ResultRow) → IsGrouped plan → Once gs → ((g : ℕ) → Has gs g → Has (live size count) g) → ((g : ℕ) → Has (live size count) g → Has gs g)
+        → IsPermutation (map (dense_row groups sum) gs) rows → IsSorted (row_cmp plan.order) rows → rows ≡ rows_over plan found
+    sorted_some_answer gs rows grouped once among all moved sorted =
+        let made = map (dense_row groups sum) gs in
         let members = same_members_permutation made rows moved in
         no_other_rows plan found orders grouped rows (record {
           of_groups = λ row h.
-              let g = has_from_map (dense_row groups sum) (live size count) row (members.back row h) in
-              let member = live_has g.0 g.1 in
+              let g = has_from_map (dense_row groups sum) gs row (members.back row h) in
+              let member = live_has g.0 (among g.0 g.1) in
               (member.1, member.2, g.2 ∙ ap (dense_row groups sum) (sym member.3) ∙ row_is member.1 member.2);
           each_group = λ c h.
-              subst (Has rows) (row_is c h) (members.forth _ (has_map (dense_row groups sum) (live size count) (number c) (has_live c h)));
-          ordered = strict_from_sort (row_cmp_total plan.order) made rows (no_ties (live size count) (λ h i. i) (once_filter _ _ (once_range size 0))) moved sorted;
+              subst (Has rows) (row_is c h) (members.forth _ (has_map (dense_row groups sum) gs (number c) (all (number c) (has_live c h))));
+          ordered = strict_from_sort (row_cmp_total plan.order) made rows (no_ties gs among once) moved sorted;
         })
+
+    pub sorted_rows_answer : (rows : List ResultRow) → IsGrouped plan → IsPermutation (dense_rows size groups count sum) rows → IsSorted (row_cmp plan.order) rows → rows ≡ rows_over plan found
+    sorted_rows_answer rows grouped moved sorted = sorted_some_answer (live size count) rows grouped (once_filter _ _ (once_range size 0)) (λ g h. h) (λ g h. h) moved sorted
 
 pub one_row_answers : (plan : Plan) (found : List Combination) (count : ℕ) (sum : ℤ) → plan.groups ≡ [] → count ≡ length found → sum ≡ total plan.measure found
     → record { groups = []; sum = cond (nat_lt 0 count) (Some sum) None } ∷ [] ≡ rows_over plan found

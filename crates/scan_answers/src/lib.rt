@@ -15,11 +15,16 @@
 //! ```text
 //! let rows = answer_question(alloc, &question, &columns, &counts, &sums)?;
 //! ```
+//!
+//! `answer_scattered` makes the same of the counts and sums of some groups alone, each beside its group's number
+//! (`specs/Scattered.antt`).
 #![tactic(auto)]
 
 pub mod laws;
 mod rows;
+mod scattered;
 #[cfg(test)]
 mod tests;
 
 pub use rows::{answer_question, answer_rows};
+pub use scattered::answer_scattered;

@@ -12,7 +12,7 @@ use ssb_schema::Items;
 use std::alloc::{AllocError, Global};
 
 /// The values of the group of a number, where each column lists its values by code.
-fn group_of_number(
+pub fn group_of_number(
     alloc: Global,
     columns: &[Items<Value>],
     number: usize,
@@ -31,7 +31,7 @@ fn group_of_number(
 }
 
 /// The sum of a number.
-fn sum_at(sums: &[i64], number: usize) -> i64
+pub fn sum_at(sums: &[i64], number: usize) -> i64
     requires { number < length sums.now }
     ensures { result ≡ slice_index_or sums.now number (pos 0) }
 {
@@ -41,7 +41,8 @@ fn sum_at(sums: &[i64], number: usize) -> i64
     }
 }
 
-fn row(groups: Items<Value>, sum: i64) -> ResultRow
+/// The row of a group.
+pub fn row(groups: Items<Value>, sum: i64) -> ResultRow
     ensures { result ≡ record { groups = groups; sum = Some sum } }
 {
     ResultRow {
@@ -72,7 +73,7 @@ fn rows_by_number(
 }
 
 /// The one row of a plan without group columns.
-fn total_row(alloc: Global, count: u64, sum: i64) -> Result<Vec<ResultRow>, AllocError>
+pub fn total_row(alloc: Global, count: u64, sum: i64) -> Result<Vec<ResultRow>, AllocError>
     ensures { IfOk result (λ rows. rows.items ≡ record { groups = []; sum = if nat_lt 0 count then Some sum else None } ∷ []) }
 {
     let groups = Items::from_vec(Vec::new(alloc));

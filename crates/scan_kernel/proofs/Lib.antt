@@ -5,3 +5,4 @@ pub mod FoundLemmas
 pub mod Written
 pub mod BatchLemmas
 pub mod PartsLemmas
+pub mod ScatteredLemmas

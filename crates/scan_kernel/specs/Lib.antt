@@ -4,3 +4,4 @@ pub mod Totals
 pub mod Tables
 pub mod Room
 pub mod Parts
+pub mod Scattered

@@ -16,6 +16,9 @@
 //! ```text
 //! let totals = parallel_totals(rt, alloc, &lines, &masks, &groupings)?;
 //! ```
+//!
+//! Where a question has too many groups for a number each, `scattered_totals` walks over the places for it alone, and
+//! keeps the sums of the groups that lines have (`AreScatteredTotals` in `specs/Scattered.antt`).
 #![tactic(auto)]
 
 mod adding;
@@ -24,6 +27,7 @@ mod columns;
 mod masks;
 mod parts;
 mod range;
+mod scattered;
 mod search;
 mod selecting;
 #[cfg(test)]
@@ -34,4 +38,5 @@ pub use columns::{GroupColumn, Grouping, LineColumns};
 pub use masks::Masks;
 pub use parts::parallel_totals;
 pub use range::range_totals;
+pub use scattered::{GroupSums, ScatteredColumn, ScatteredTotals, scattered_totals};
 pub use totals::Totals;

@@ -8,4 +8,7 @@ mod tables;
 #[cfg(test)]
 mod tests;
 
-pub use tables::{CUSTOMER, DATE, PART, SUPPLIER, lineorder};
+pub use tables::{
+    CUSTOMER, DATE, PART, SUPPLIER, brands_of_parts, cities_of_customers, cities_of_suppliers,
+    lineorder,
+};

@@ -70,13 +70,45 @@ fn choice(place: u64, what: u64, count: u64) -> u64
     mixed(place.wrapping_mul(16).wrapping_add(what)) % count
 }
 
-// A line, four of which make an order.
-fn line(alloc: Global, place: u64) -> Result<String, AllocError> {
+/// So many customers, each of a city of its own in one region.
+pub fn cities_of_customers(alloc: Global, count: u64) -> Result<String, AllocError> {
+    let mut text = String::new(alloc);
+    for place in 0..count {
+        let key = place.wrapping_add(1);
+        text.push_str(&format!(in alloc; "{key}|C|a|CITY{key}|CHINA|ASIA|p|m|\n")?)?;
+    }
+    Ok(text)
+}
+
+/// So many suppliers, each of a city of its own in one region.
+pub fn cities_of_suppliers(alloc: Global, count: u64) -> Result<String, AllocError> {
+    let mut text = String::new(alloc);
+    for place in 0..count {
+        let key = place.wrapping_add(1);
+        text.push_str(&format!(in alloc; "{key}|S|a|TOWN{key}|CHINA|ASIA|p|\n")?)?;
+    }
+    Ok(text)
+}
+
+/// So many parts, each of a brand of its own in one category.
+pub fn brands_of_parts(alloc: Global, count: u64) -> Result<String, AllocError> {
+    let mut text = String::new(alloc);
+    for place in 0..count {
+        let key = place.wrapping_add(1);
+        text.push_str(&format!(in alloc; "{key}|P|MFGR#1|MFGR#14|BRAND{key}|c|t|1|b|\n")?)?;
+    }
+    Ok(text)
+}
+
+// A line, four of which make an order, that names one of the first rows of each dimension but the dates.
+fn line(alloc: Global, place: u64, rows: u64) -> Result<String, AllocError>
+    requires { 0 < rows }
+{
     let order = place / 4 + 1;
     let number = place % 4 + 1;
-    let customer = choice(place, 1, 8) + 1;
-    let part = choice(place, 2, 8) + 1;
-    let supplier = choice(place, 3, 8) + 1;
+    let customer = choice(place, 1, rows).wrapping_add(1);
+    let part = choice(place, 2, rows).wrapping_add(1);
+    let supplier = choice(place, 3, rows).wrapping_add(1);
     let date = DATES[choice(place, 4, 8) as usize];
     let quantity = choice(place, 5, 50) + 1;
     let price = choice(place, 6, 100_000) + 90_000;
@@ -89,11 +121,13 @@ fn line(alloc: Global, place: u64) -> Result<String, AllocError> {
     )
 }
 
-/// So many lines.
-pub fn lineorder(alloc: Global, count: u64) -> Result<String, AllocError> {
+/// So many lines, which name the first rows of the dimensions.
+pub fn lineorder(alloc: Global, count: u64, rows: u64) -> Result<String, AllocError>
+    requires { 0 < rows }
+{
     let mut text = String::new(alloc);
     for place in 0..count {
-        text.push_str(&line(alloc, place)?)?;
+        text.push_str(&line(alloc, place, rows)?)?;
     }
     Ok(text)
 }

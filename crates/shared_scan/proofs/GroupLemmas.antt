@@ -1,5 +1,5 @@
--- No query groups by a column of the fact table.
-use Rattle.std.proofs.Common.{◌≡◌, List}
+-- No query groups by a column of the fact table, nor by more than three columns.
+use Rattle.std.proofs.Common.{◌≡◌, ◌≤◌, List, length, arith}
 use Rattle.std.specs.List.{AllByRecursion}
 use Rattle.ssb_schema.specs.declared.table.Table.TheVariants.{Customer, Supplier, Part, Date, Lineorder}
 use Rattle.ssb_plans.specs.Queries.{plan_over}
@@ -33,3 +33,18 @@ dimensions_alone Q3_4 constants = (no_customer, (no_supplier, (no_date, tt)))
 dimensions_alone Q4_1 constants = (no_date, (no_customer, tt))
 dimensions_alone Q4_2 constants = (no_date, (no_supplier, (no_part, tt)))
 dimensions_alone Q4_3 constants = (no_date, (no_supplier, (no_part, tt)))
+
+pub three_alone : (query : Query) (constants : List Value) → length (plan_over query constants).groups ≤ 3
+three_alone Q1_1 constants = omega arith
+three_alone Q1_2 constants = omega arith
+three_alone Q1_3 constants = omega arith
+three_alone Q2_1 constants = omega arith
+three_alone Q2_2 constants = omega arith
+three_alone Q2_3 constants = omega arith
+three_alone Q3_1 constants = omega arith
+three_alone Q3_2 constants = omega arith
+three_alone Q3_3 constants = omega arith
+three_alone Q3_4 constants = omega arith
+three_alone Q4_1 constants = omega arith
+three_alone Q4_2 constants = omega arith
+three_alone Q4_3 constants = omega arith

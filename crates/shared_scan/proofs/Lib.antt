@@ -18,3 +18,4 @@ pub mod CanSumLemmas
 pub mod ReadyLemmas
 pub mod EachLemmas
 pub mod ScanLemmas
+pub mod ScatteredLemmas

@@ -1,16 +1,14 @@
 -- Totals over places are the sums over the live lines.
-use Rattle.std.proofs.Common.{ℕ, suc, ◌≡◌, ◌+◌, ◌*◌, ◌%◌, ◌^◌, ◌<◌, ◌≤◌, List, [], ◌∷◌, length, map, get_or, replicate, refl, sym, ap, ◌∙◌, arith, zero-add}
+use Rattle.std.proofs.Common.{ℕ, suc, ◌≡◌, ◌+◌, ◌*◌, ◌%◌, ◌^◌, ◌<◌, ◌≤◌, List, [], ◌∷◌, length, map, get_or, refl, sym, ap, ◌∙◌, arith, zero-add}
 use Rattle.std.specs.Prelude.{pos, ◌-ℤ◌}
 use Rattle.std.specs.List.{range_with_len, sum_by}
 use Rattle.std.proofs.Math.Nat.{mod-eq_of_lt, mul-le-mul_right}
 use Rattle.std.proofs.lemmas.Int.{ints}
-use Rattle.std.proofs.lemmas.List.{length-replicate, get_or-replicate}
 use Rattle.std.proofs.lemmas.List.Elements.{All-from_get_or}
 use Rattle.std.proofs.lemmas.List.Sums.{sum_by-cons, sum_by-le}
 use Rattle.ssb_schema.specs.declared.fact.Fact.{Fact}
 use Rattle.ssb_plans.specs.declared.plan.Measure.{Measure}
 use Rattle.ssb_plans.specs.declared.plan.Measure.TheVariants.{PriceTimesDiscount, Revenue, Profit}
-use Rattle.scan_kernel.specs.Sums.{sum_in, Adds}
 use Rattle.scan_answers.specs.Lines.{price_times_discount, revenue, cost}
 use Rattle.scan_answers.specs.Scan.{line_sum}
 
@@ -62,12 +60,8 @@ line_sum_is Revenue facts = minus_none _ _ (no_loss facts)
 line_sum_is Profit facts = refl
 
 -- below 2^64 the sums are exact
-pub exact : (amount group : ℕ → ℕ) (xs new : List ℕ) (size g : ℕ) → Adds amount group xs (replicate size 0) new → g < size → get_or new g 0 < 2 ^ 64 → sum_in amount group g xs < 2 ^ 64 → get_or new g 0 ≡ sum_in amount group g xs
-exact amount group xs new size g h below fits few =
-    let there : g < length (replicate size 0) = omega (arith, length-replicate {A = ℕ} size 0) in
-    let zero_is : get_or (replicate size 0) g 0 ≡ 0 = get_or-replicate size g 0 0 below in
-    let total = sum_in amount group g xs in
-    sym (mod-eq_of_lt fits) ∙ h.each g there ∙ ap (λ (v : ℕ). (v + total) % 2 ^ 64) zero_is ∙ ap (λ (v : ℕ). v % 2 ^ 64) (zero-add total) ∙ mod-eq_of_lt few
+pub exact : (sum total : ℕ) → sum % 2 ^ 64 ≡ total % 2 ^ 64 → sum < 2 ^ 64 → total < 2 ^ 64 → sum ≡ total
+exact sum total same fits few = sym (mod-eq_of_lt fits) ∙ same ∙ mod-eq_of_lt few
 
 pub bounded : (amount : ℕ → ℕ) (most count limit : ℕ) (xs : List ℕ) → ((i : ℕ) → amount i ≤ most) → length xs ≤ count → count * most < limit → sum_by amount xs < limit
 bounded amount most count limit xs small few fits =

@@ -1,12 +1,12 @@
 -- Rows that are right for the totals over all places are the answer over the live lines.
-use Rattle.std.proofs.Common.{ℕ, zero, suc, ◌≡◌, ◌*◌, ◌%◌, ◌^◌, ◌<◌, ◌≤◌, ◌&&◌, List, [], ◌∷◌, length, map, get_or, replicate, Bool, true, false, cond, not, Some, refl, sym, ap, ◌∙◌, arith, subst}
+use Rattle.std.proofs.Common.{ℕ, zero, suc, ◌≡◌, ◌*◌, ◌%◌, ◌^◌, ◌<◌, ◌≤◌, ◌&&◌, List, [], ◌∷◌, length, map, get_or, replicate, Bool, true, false, cond, not, Some, refl, sym, ap, ◌∙◌, arith, subst, zero-add, ◌+◌}
 use Rattle.std.specs.Prelude.{pos, ◌-ℤ◌, nat_eq, nat_lt, slice_get, filter}
 use Rattle.std.specs.List.{All, AllByRecursion, range_with_len, sum_by}
 use Rattle.std.specs.Int.{bit_at}
 use Rattle.std.specs.Cmp.{unsigned_Decides}
 use Rattle.std.proofs.Math.ListN.{get_or-map}
 use Rattle.std.proofs.lemmas.Bool.{ltb-true, ltb-false}
-use Rattle.std.proofs.lemmas.List.{length-map, get_or_past, length-replicate}
+use Rattle.std.proofs.lemmas.List.{length-map, get_or_past, length-replicate, get_or-replicate}
 use Rattle.std.proofs.lemmas.List.Elements.{All-filter, recursion_from_All}
 use Rattle.std.proofs.Math.Nat.{mul-le-mul}
 use Rattle.scan_kernel.proofs.FoundLemmas.{all_mapped}
@@ -32,11 +32,12 @@ use Rattle.fact_table.specs.Places.{IsWithin, is_live, fact_at, live_facts, quan
 use Rattle.fact_table.proofs.FilterLaws.{live_facts_that_pass}
 use Rattle.scan_kernel.specs.declared.columns.LineColumns.{LineColumns}
 use Rattle.scan_kernel.specs.declared.columns.Grouping.{Grouping}
+use Rattle.scan_kernel.specs.declared.columns.GroupColumn.{GroupColumn}
 use Rattle.scan_kernel.specs.declared.masks.Masks.{Masks}
 use Rattle.scan_kernel.specs.declared.totals.Totals.{Totals}
 use Rattle.scan_kernel.specs.Places.{has_bit, group_at, gain_at, loss_at}
-use Rattle.scan_kernel.specs.Sums.{Adds}
-use Rattle.scan_kernel.specs.Totals.{AreTotals}
+use Rattle.scan_kernel.specs.Sums.{Adds, sum_in}
+use Rattle.scan_kernel.specs.Totals.{AreTotals, taken}
 use Rattle.scan_answers.specs.Combined.{combine, passes_line}
 use Rattle.scan_answers.specs.Groups.{size_of, counts_of, group_number, ListValues}
 use Rattle.scan_answers.specs.Lines.{takes}
@@ -44,7 +45,8 @@ use Rattle.scan_answers.specs.Scan.{AnswersLines, line_sum}
 use Rattle.scan_answers.proofs.CombinedLemmas.{filter_mapped, combines_each_line}
 use Rattle.scan_answers.proofs.DenseLemmas.{has_from_filter, filter_agree_on, range_has}
 use Rattle.scan_answers.proofs.LineLemmas.{filter_both}
-use Rattle.shared_scan.specs.Prepared.{AreMasksOf, IsGroupingOf}
+use Rattle.shared_scan.specs.Prepared.{AreMasksOf, IsGroupingBy}
+use Rattle.shared_scan.specs.Summed.{IsSummed, AreSummed}
 use Rattle.shared_scan.specs.Laws.{AreLinesOf}
 use Rattle.shared_scan.proofs.RowLemmas.{known_key}
 use Rattle.shared_scan.proofs.LineLemmas.{nowhere, rows_stand, mask_is, live_mask, free_mask, place_mask}
@@ -153,10 +155,10 @@ and_assoc : (a b c : Bool) → (a && (b && c)) ≡ ((a && b) && c)
 and_assoc true b c = refl
 and_assoc false b c = refl
 
-module _ (base : Tables) (question : Query × List Value) (plans : List Plan) (k : ℕ) (places : List Place) (lines : LineColumns) (masks : Masks) (columns : List (List Value)) (grouping : Grouping)
+module _ (base : Tables) (question : Query × List Value) (plans : List Plan) (k : ℕ) (places : List Place) (lines : LineColumns) (masks : Masks) (columns : List (List Value)) (measure : Measure) (groups : List GroupColumn) (size : ℕ)
     (sound : IsSound base) (within : All (IsWithin base.dimensions) places) (are : AreLinesOf places lines)
     (at_k : slice_get plans k ≡ Some (plan_over question.0 question.1)) (tell : AreMasksOf plans base.dimensions masks)
-    (grouped : IsGroupingOf base masks k lines (plan_over question.0 question.1) columns grouping)
+    (grouped : IsGroupingBy base masks k lines (plan_over question.0 question.1) columns measure groups size)
     (dims : AllByRecursion (λ column. column.table ≡ table.Lineorder → ⊥) (plan_over question.0 question.1).groups) where
   abbrev pub plan : Plan
   plan = plan_over question.0 question.1
@@ -200,9 +202,9 @@ module _ (base : Tables) (question : Query × List Value) (plans : List Plan) (k
   bit_set : (i : ℕ) → bit i ≡ true → bit_at (place_mask masks (at i)) k ≡ 1
   bit_set i e = (unsigned_Decides (bit_at (place_mask masks (at i)) k) 1).0 (ap (λ (m : ℕ). nat_eq (bit_at m k) 1) (sym (mask_is places lines masks i are)) ∙ e)
 
-  pub group_is : (i : ℕ) → i < length places → bit i ≡ true → ListValues plan.groups columns (combine blank d (fact i)) × (group_at grouping.columns.items i ≡ number (combine blank d (fact i)))
+  pub group_is : (i : ℕ) → i < length places → bit i ≡ true → ListValues plan.groups columns (combine blank d (fact i)) × (group_at groups i ≡ number (combine blank d (fact i)))
   group_is i below e =
-      number_is base masks k places lines are i (combine blank d (fact i)) (rows_stand base blank (at i) sound (within i nowhere below)) (bit_set i e) plan.groups columns grouping.columns.items dims grouped.parts_are
+      number_is base masks k places lines are i (combine blank d (fact i)) (rows_stand base blank (at i) sound (within i nowhere below)) (bit_set i e) plan.groups columns groups dims grouped.parts_are
 
   in_range : (i : ℕ) → Has (range_with_len 0 (length places)) i → i < length places
   in_range i h = omega (arith, (range_has (length places) 0 i h).1)
@@ -219,21 +221,21 @@ module _ (base : Tables) (question : Query × List Value) (plans : List Plan) (k
       ∙ ap (map fact) (filter_agree_on (λ i. live_test (at i)) own (range_with_len 0 (length places)) (λ i h. agree i (in_range i h)))
 
   abbrev pub of_group : ℕ → List ℕ
-  of_group g = filter (λ i. nat_eq (group_at grouping.columns.items i) g) (filter bit (range_with_len 0 (length places)))
+  of_group g = filter (λ i. nat_eq (group_at groups i) g) (filter bit (range_with_len 0 (length places)))
 
-  agree_on : (g i : ℕ) → i < length places → (is_live (at i) && takes_fact g (fact i)) ≡ (bit i && nat_eq (group_at grouping.columns.items i) g)
+  agree_on : (g i : ℕ) → i < length places → (is_live (at i) && takes_fact g (fact i)) ≡ (bit i && nat_eq (group_at groups i) g)
   agree_on g i below =
       and_assoc (is_live (at i)) (passes_line plan blank d (fact i)) (nat_eq (number (combine blank d (fact i))) g)
       ∙ ap (λ (b : Bool). b && nat_eq (number (combine blank d (fact i))) g) (sym (bit_is i below))
-      ∙ elim (bit i) as (λ b. bit i ≡ b → (b && nat_eq (number (combine blank d (fact i))) g) ≡ (b && nat_eq (group_at grouping.columns.items i) g)) [
+      ∙ elim (bit i) as (λ b. bit i ≡ b → (b && nat_eq (number (combine blank d (fact i))) g) ≡ (b && nat_eq (group_at groups i) g)) [
         | true ↦ λ e. ap (λ (m : ℕ). nat_eq m g) (sym (group_is i below e).1)
         | false ↦ λ e. refl
       ] refl
 
   pub taken_is : (g : ℕ) → filter (takes_fact g) (live_facts d places) ≡ map fact (of_group g)
   taken_is g =
-      facts_by_place (takes_fact g) (λ i. bit i && nat_eq (group_at grouping.columns.items i) g) (agree_on g)
-      ∙ ap (map fact) (sym (filter_both bit (λ i. nat_eq (group_at grouping.columns.items i) g) (range_with_len 0 (length places))))
+      facts_by_place (takes_fact g) (λ i. bit i && nat_eq (group_at groups i) g) (agree_on g)
+      ∙ ap (map fact) (sym (filter_both bit (λ i. nat_eq (group_at groups i) g) (range_with_len 0 (length places))))
 
   passing_is : filter (passes_line plan blank d) (live_facts d places) ≡ map fact (filter bit (range_with_len 0 (length places)))
   passing_is = facts_by_place (passes_line plan blank d) bit (λ i below. sym (bit_is i below))
@@ -243,62 +245,59 @@ module _ (base : Tables) (question : Query × List Value) (plans : List Plan) (k
       let in_filter = has_from_filter bit (range_with_len 0 (length places)) i h in
       (group_is i (in_range i in_filter.1) in_filter.0).0
 
-  module _ (totals : Totals) (few : length (live_facts d places) ≤ 33554432) (summed : AreTotals lines masks k grouping (range_with_len 0 (length places)) totals)
-      (counts_fit : (g : ℕ) → get_or totals.counts.items g 0 < 2 ^ 64) (gains_fit : (g : ℕ) → get_or totals.gains.items g 0 < 2 ^ 64) (losses_fit : (g : ℕ) → get_or totals.losses.items g 0 < 2 ^ 64) where
+  module _ (count gain loss : ℕ → ℕ) (few : length (live_facts d places) ≤ 33554432) (summed : AreSummed lines masks k measure groups size (range_with_len 0 (length places)) count gain loss) where
     some_of_all : (g : ℕ) → length (of_group g) ≤ 33554432
     some_of_all g =
         let same : length (of_group g) ≡ length (filter (takes_fact g) (live_facts d places)) = sym (length-map (of_group g) fact) ∙ ap length (sym (taken_is g)) in
         omega (arith, same, length-filter (takes_fact g) (live_facts d places), count_by-le-length (takes_fact g) (live_facts d places), few)
 
-    in_size : (g : ℕ) → g < size_of (counts_of columns) → g < grouping.size
+    in_size : (g : ℕ) → g < size_of (counts_of columns) → g < size
     in_size g below = subst (λ (n : ℕ). g < n) (sym grouped.size_is) below
 
-    counts_are : (g : ℕ) → g < size_of (counts_of columns) → get_or totals.counts.items g 0 ≡ length (filter (takes_fact g) (live_facts d places))
+    counts_are : (g : ℕ) → g < size_of (counts_of columns) → count g ≡ length (filter (takes_fact g) (live_facts d places))
     counts_are g below =
-        exact (λ (i : ℕ). 1) (group_at grouping.columns.items) (filter bit (range_with_len 0 (length places))) totals.counts.items grouping.size g summed.counts_are (in_size g below) (counts_fit g)
+        exact (count g) (sum_by (λ (i : ℕ). 1) (of_group g)) (summed.counts.each g (in_size g below)) (summed.counts.fits g)
         (bounded (λ (i : ℕ). 1) 1 33554432 (2 ^ 64) (of_group g) (λ i. omega arith) (some_of_all g) (omega arith))
         ∙ count_ones (of_group g) ∙ sym (length-map (of_group g) fact) ∙ ap length (sym (taken_is g))
 
-    pub gains_are : (g : ℕ) → g < size_of (counts_of columns) → get_or totals.gains.items g 0 ≡ sum_by (gain_of plan.measure) (filter (takes_fact g) (live_facts d places))
+    pub gains_are : (g : ℕ) → g < size_of (counts_of columns) → gain g ≡ sum_by (gain_of plan.measure) (filter (takes_fact g) (live_facts d places))
     gains_are g below =
-        let amount : ℕ → ℕ = gain_at lines grouping.measure in
-        let same : (i : ℕ) → amount i ≡ gain_of plan.measure (fact i) = λ i. gain_is d places lines grouping.measure i are ∙ ap (λ (m : Measure). gain_of m (fact i)) grouped.measures in
+        let amount : ℕ → ℕ = gain_at lines measure in
+        let same : (i : ℕ) → amount i ≡ gain_of plan.measure (fact i) = λ i. gain_is d places lines measure i are ∙ ap (λ (m : Measure). gain_of m (fact i)) grouped.measures in
         let small : (i : ℕ) → amount i ≤ 2 ^ 36 = λ i. subst (λ (n : ℕ). n ≤ 2 ^ 36) (sym (same i)) (gain_small d places plan.measure i within) in
-        exact amount (group_at grouping.columns.items) (filter bit (range_with_len 0 (length places))) totals.gains.items grouping.size g summed.gains_are (in_size g below) (gains_fit g)
+        exact (gain g) (sum_by amount (of_group g)) (summed.gains.each g (in_size g below)) (summed.gains.fits g)
         (bounded amount (2 ^ 36) 33554432 (2 ^ 64) (of_group g) small (some_of_all g) (omega arith))
         ∙ sym (sum_mapped (gain_of plan.measure) fact amount same (of_group g)) ∙ ap (sum_by (gain_of plan.measure)) (sym (taken_is g))
 
-    pub losses_are : (g : ℕ) → g < size_of (counts_of columns) → get_or totals.losses.items g 0 ≡ sum_by (loss_of plan.measure) (filter (takes_fact g) (live_facts d places))
+    pub losses_are : (g : ℕ) → g < size_of (counts_of columns) → loss g ≡ sum_by (loss_of plan.measure) (filter (takes_fact g) (live_facts d places))
     losses_are g below =
-        let amount : ℕ → ℕ = loss_at lines grouping.measure in
-        let same : (i : ℕ) → amount i ≡ loss_of plan.measure (fact i) = λ i. loss_is d places lines grouping.measure i are ∙ ap (λ (m : Measure). loss_of m (fact i)) grouped.measures in
+        let amount : ℕ → ℕ = loss_at lines measure in
+        let same : (i : ℕ) → amount i ≡ loss_of plan.measure (fact i) = λ i. loss_is d places lines measure i are ∙ ap (λ (m : Measure). loss_of m (fact i)) grouped.measures in
         let small : (i : ℕ) → amount i ≤ 2 ^ 36 = λ i. subst (λ (n : ℕ). n ≤ 2 ^ 36) (sym (same i)) (loss_small d places plan.measure i within) in
-        exact amount (group_at grouping.columns.items) (filter bit (range_with_len 0 (length places))) totals.losses.items grouping.size g summed.losses_are (in_size g below) (losses_fit g)
+        exact (loss g) (sum_by amount (of_group g)) (summed.losses.each g (in_size g below)) (summed.losses.fits g)
         (bounded amount (2 ^ 36) 33554432 (2 ^ 64) (of_group g) small (some_of_all g) (omega arith))
         ∙ sym (sum_mapped (loss_of plan.measure) fact amount same (of_group g)) ∙ ap (sum_by (loss_of plan.measure)) (sym (taken_is g))
 
     -- what is added up of any measure, and its difference, fits 64 bits with a sign
-    small_sum : (amount : ℕ → ℕ) (new : List ℕ) (g : ℕ) → Adds amount (group_at grouping.columns.items) (filter bit (range_with_len 0 (length places))) (replicate grouping.size 0) new
-        → ((i : ℕ) → amount i ≤ 2 ^ 36) → ((g : ℕ) → get_or new g 0 < 2 ^ 64) → get_or new g 0 < 2 ^ 62
-    small_sum amount new g adds small fits =
-        elim (nat_lt g grouping.size) as (λ b. nat_lt g grouping.size ≡ b → get_or new g 0 < 2 ^ 62) [
-          | true ↦ λ e. let below : g < grouping.size = ltb-true g grouping.size e in
-              let sum = exact amount (group_at grouping.columns.items) (filter bit (range_with_len 0 (length places))) new grouping.size g adds below (fits g)
+    small_sum : (amount sum : ℕ → ℕ) (g : ℕ) → IsSummed amount (group_at groups) size (filter bit (range_with_len 0 (length places))) sum → ((i : ℕ) → amount i ≤ 2 ^ 36) → sum g < 2 ^ 62
+    small_sum amount sum g adds small =
+        elim (nat_lt g size) as (λ b. nat_lt g size ≡ b → sum g < 2 ^ 62) [
+          | true ↦ λ e. let below : g < size = ltb-true g size e in
+              let is = exact (sum g) (sum_by amount (of_group g)) (adds.each g below) (adds.fits g)
               (bounded amount (2 ^ 36) 33554432 (2 ^ 64) (of_group g) small (some_of_all g) (omega arith)) in
-              omega (arith, sum, bounded amount (2 ^ 36) 33554432 (2 ^ 62) (of_group g) small (some_of_all g) (omega arith))
-          | false ↦ λ e. let past : length new ≤ g = omega (arith, ltb-false g grouping.size e, adds.len, length-replicate {A = ℕ} grouping.size 0) in
-              omega (arith, get_or_past new g 0 past)
+              omega (arith, is, bounded amount (2 ^ 36) 33554432 (2 ^ 62) (of_group g) small (some_of_all g) (omega arith))
+          | false ↦ λ e. omega (arith, adds.past g (ltb-false g size e))
         ] refl
 
-    pub gains_small : (g : ℕ) → get_or totals.gains.items g 0 < 2 ^ 62
+    pub gains_small : (g : ℕ) → gain g < 2 ^ 62
     gains_small g =
-        small_sum (gain_at lines grouping.measure) totals.gains.items g summed.gains_are
-        (λ i. subst (λ (n : ℕ). n ≤ 2 ^ 36) (sym (gain_is d places lines grouping.measure i are)) (gain_small d places grouping.measure i within)) gains_fit
+        small_sum (gain_at lines measure) gain g summed.gains
+        (λ i. subst (λ (n : ℕ). n ≤ 2 ^ 36) (sym (gain_is d places lines measure i are)) (gain_small d places measure i within))
 
-    pub losses_small : (g : ℕ) → get_or totals.losses.items g 0 < 2 ^ 62
+    pub losses_small : (g : ℕ) → loss g < 2 ^ 62
     losses_small g =
-        small_sum (loss_at lines grouping.measure) totals.losses.items g summed.losses_are
-        (λ i. subst (λ (n : ℕ). n ≤ 2 ^ 36) (sym (loss_is d places lines grouping.measure i are)) (loss_small d places grouping.measure i within)) losses_fit
+        small_sum (loss_at lines measure) loss g summed.losses
+        (λ i. subst (λ (n : ℕ). n ≤ 2 ^ 36) (sym (loss_is d places lines measure i are)) (loss_small d places measure i within))
 
     lists_all : (c : Combination) → Has (combinations plan d (live_facts d places)) c → ListValues plan.groups columns c
     lists_all c h =
@@ -310,8 +309,8 @@ module _ (base : Tables) (question : Query × List Value) (plans : List Plan) (k
         let member = has_from_map (λ i. combine blank d (fact i)) (filter bit (range_with_len 0 (length places))) c (subst (λ (cs : List Combination). Has cs c) by_place h) in
         subst (ListValues plan.groups columns) (sym member.2) (lists_at member.0 member.1)
 
-    pub totals_answer : (rows : List ResultRow) → AnswersLines question columns (λ g. get_or totals.counts.items g 0) (λ g. pos (get_or totals.gains.items g 0) -ℤ pos (get_or totals.losses.items g 0)) rows → rows ≡ answer_of question d (live_facts d places)
-    totals_answer rows right =
+    pub summed_answer : (rows : List ResultRow) → AnswersLines question columns count (λ g. pos (gain g) -ℤ pos (loss g)) rows → rows ≡ answer_of question d (live_facts d places)
+    summed_answer rows right =
         let all = live_facts d places in
         let made = map line_of all in
         let back = facts_back all in
@@ -320,3 +319,25 @@ module _ (base : Tables) (question : Query × List Value) (plans : List Plan) (k
         (λ g below. counts_are g below ∙ ap (λ (fs : List Fact). length (filter (takes_fact g) fs)) (sym back))
         (λ g below. (λ j. pos (gains_are g below j) -ℤ pos (losses_are g below j)) ∙ line_sum_is plan.measure (filter (takes_fact g) all) ∙ ap (λ (fs : List Fact). line_sum plan.measure (filter (takes_fact g) fs)) (sym back))
         ∙ ap (answer_of question d) back
+
+-- totals that have a number for each group are its sums
+summed_list : (amount group : ℕ → ℕ) (size : ℕ) (places new : List ℕ) → Adds amount group places (replicate size 0) new → ((g : ℕ) → get_or new g 0 < 2 ^ 64) → IsSummed amount group size places (λ g. get_or new g 0)
+summed_list amount group size places new adds fits = record {
+  each = λ g below.
+      let there : g < length (replicate size 0) = omega (arith, below, length-replicate {A = ℕ} size 0) in
+      let total = sum_in amount group g places in
+      adds.each g there ∙ ap (λ (v : ℕ). (v + total) % 2 ^ 64) (get_or-replicate size g 0 0 below) ∙ ap (λ (v : ℕ). v % 2 ^ 64) (zero-add total);
+  past = λ g past. get_or_past new g 0 (omega (arith, past, adds.len, length-replicate {A = ℕ} size 0));
+  fits = fits;
+}
+
+pub summed_totals : (lines : LineColumns) (masks : Masks) (k : ℕ) (grouping : Grouping) (places : List ℕ) (totals : Totals) → AreTotals lines masks k grouping places totals
+    → ((g : ℕ) → get_or totals.counts.items g 0 < 2 ^ 64) → ((g : ℕ) → get_or totals.gains.items g 0 < 2 ^ 64) → ((g : ℕ) → get_or totals.losses.items g 0 < 2 ^ 64)
+    → AreSummed lines masks k grouping.measure grouping.columns.items grouping.size places (λ g. get_or totals.counts.items g 0) (λ g. get_or totals.gains.items g 0) (λ g. get_or totals.losses.items g 0)
+summed_totals lines masks k grouping places totals summed counts_fit gains_fit losses_fit =
+    let at : List ℕ = taken lines masks k places in
+    record {
+      counts = summed_list _ (group_at grouping.columns.items) grouping.size at totals.counts.items summed.counts_are counts_fit;
+      gains = summed_list _ (group_at grouping.columns.items) grouping.size at totals.gains.items summed.gains_are gains_fit;
+      losses = summed_list _ (group_at grouping.columns.items) grouping.size at totals.losses.items summed.losses_are losses_fit;
+    }

@@ -9,14 +9,16 @@ use Rattle.scan_kernel.specs.declared.masks.Masks.{Masks}
 use Rattle.scan_answers.specs.Groups.{counts_of, size_of}
 use Rattle.shared_scan.specs.declared.ready.Ready.{Ready}
 use Rattle.shared_scan.specs.Grouped.{ArePrepared}
+use Rattle.shared_scan.specs.Parts.{parts_in, IsFew}
 
 -- question k of a batch is made ready
 pub record IsReady (base : Tables) (masks : Masks) (k : ℕ) (question : Query × List Value)
     (ready : Ready) : Type 0 where
   pub question_is : ready.question ≡ question
   pub plan_is : ready.plan ≡ plan_over question.0 question.1
-  pub prepared : ArePrepared base masks k ready.plan.groups ready.groups.columns.items 1 ready.groups.parts.items
+  pub prepared : ArePrepared base masks k ready.plan.groups ready.groups.columns.items 1 (parts_in ready.groups.parts)
   pub size_is : ready.groups.size ≡ size_of (counts_of ready.groups.columns.items)
+  pub few : IsFew ready.groups.parts ready.groups.size
 
 -- the questions' plans
 abbrev pub plans_of : List (Query × List Value) → List Plan

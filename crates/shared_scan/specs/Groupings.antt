@@ -1,17 +1,32 @@
 -- Groupings of questions that are made ready, as the loops read them.
-use Rattle.std.specs.Prelude.{ℕ, ◌≡◌, ◌<◌, ◌≤◌, ◌^◌, List, length, slice_index_or}
+use Rattle.std.specs.Prelude.{ℕ, ◌≡◌, ◌<◌, List, [], length, slice_index_or}
 use Rattle.ssb_schema.specs.Base.{Tables}
 use Rattle.scan_kernel.specs.declared.columns.LineColumns.{LineColumns}
 use Rattle.scan_kernel.specs.declared.columns.Grouping.{Grouping}
 use Rattle.shared_scan.specs.GroupColumns.{AreGroupColumns}
 use Rattle.shared_scan.specs.declared.ready.Ready.{Ready}
+use Rattle.shared_scan.specs.declared.parts.Parts.{Parts}
+use Rattle.shared_scan.specs.declared.parts.Parts.TheVariants.{Narrow, Wide}
 
 -- the question's measure, its group columns and the number of its groups
-pub record IsReadyGrouping (base : Tables) (lines : LineColumns) (ready : Ready) (grouping : Grouping) : Type 0 where
+pub record IsDenseGrouping (base : Tables) (lines : LineColumns) (ready : Ready) (parts : List (List ℕ))
+    (grouping : Grouping) : Type 0 where
   pub measure_is : grouping.measure ≡ ready.plan.measure
-  pub columns_are : AreGroupColumns base lines ready.plan.groups ready.groups.parts.items grouping.columns.items
+  pub columns_are : AreGroupColumns base lines ready.plan.groups parts grouping.columns.items
   pub size_is : grouping.size ≡ ready.groups.size
-  pub few : grouping.size ≤ 2 ^ 32
+
+-- one group stands for all
+pub record IsOneGroup (grouping : Grouping) : Type 0 where
+  pub ungrouped : grouping.columns.items ≡ []
+  pub one : grouping.size ≡ 1
+
+abbrev pub IsGroupingWith : Tables → LineColumns → Ready → Parts → Grouping → Type 0
+IsGroupingWith base lines ready (Narrow parts) grouping = IsDenseGrouping base lines ready parts.items grouping
+IsGroupingWith base lines ready (Wide parts) grouping = IsOneGroup grouping
+
+-- the question's grouping; one group where its groups are summed up apart
+abbrev pub IsReadyGrouping : Tables → LineColumns → Ready → Grouping → Type 0
+IsReadyGrouping base lines ready grouping = IsGroupingWith base lines ready ready.groups.parts grouping
 
 -- each question of a batch has its grouping
 pub record AreReadyGroupings (base : Tables) (lines : LineColumns) (all : List Ready)

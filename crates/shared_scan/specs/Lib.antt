@@ -12,3 +12,6 @@ pub mod CanScan
 pub mod Groupings
 pub mod TotalRows
 pub mod Lines
+pub mod Parts
+pub mod Summed
+pub mod Scanned

@@ -6,6 +6,7 @@ use Rattle.ssb_schema.specs.Base.{Tables, Dimensions}
 use Rattle.ssb_schema.specs.declared.column.Column.{Column}
 use Rattle.ssb_schema.specs.declared.table.Table.{Table}
 use Rattle.ssb_schema.specs.declared.table.Table.TheVariants as table
+use Rattle.ssb_plans.specs.declared.plan.Measure.{Measure}
 use Rattle.ssb_plans.specs.declared.plan.Plan.{Plan}
 use Rattle.ssb_plans.specs.declared.value.Value.{Value}
 use Rattle.ssb_queries.specs.RowValues.{customer_value, supplier_value, part_value, date_value, pass, is_within}
@@ -65,10 +66,15 @@ AreParts base masks k lines (column ∷ groups) (values ∷ columns) step (part 
     × AreParts base masks k lines groups columns (step * length values) parts
 AreParts base masks k lines _ _ step _ = ⊥
 
--- the grouping is the plan's, where each group column lists these values by code
-pub record IsGroupingOf (base : Tables) (masks : Masks) (k : ℕ) (lines : LineColumns) (plan : Plan)
-    (columns : List (List Value)) (grouping : Grouping) : Type 0 where
-  pub measures : grouping.measure ≡ plan.measure
-  pub parts_are : AreParts base masks k lines plan.groups columns 1 grouping.columns.items
+-- the measure, the group columns and the number of groups are the plan's, where each group column lists these values by
+-- code
+pub record IsGroupingBy (base : Tables) (masks : Masks) (k : ℕ) (lines : LineColumns) (plan : Plan)
+    (columns : List (List Value)) (measure : Measure) (groups : List GroupColumn) (size : ℕ) : Type 0 where
+  pub measures : measure ≡ plan.measure
+  pub parts_are : AreParts base masks k lines plan.groups columns 1 groups
   pub apart : AllByRecursion AreApart columns
-  pub size_is : grouping.size ≡ size_of (counts_of columns)
+  pub size_is : size ≡ size_of (counts_of columns)
+
+abbrev pub IsGroupingOf : Tables → Masks → ℕ → LineColumns → Plan → List (List Value) → Grouping → Type 0
+IsGroupingOf base masks k lines plan columns grouping =
+    IsGroupingBy base masks k lines plan columns grouping.measure grouping.columns.items grouping.size

@@ -1,10 +1,10 @@
 //! The group columns of a question, made ready.
-ghost use Rattle.std.specs.Prelude.{◌≡◌, ◌≢◌, ℕ, ◌<◌, ◌≤◌, ◌*◌, ◌^◌, All, IfOk, OnOk, IfSome, length, map, slice_index, slice_index_or, vec_len};
+ghost use Rattle.std.specs.Prelude.{◌≡◌, ◌≢◌, ℕ, ◌<◌, ◌≤◌, ◌*◌, ◌^◌, All, IfOk, length, map, slice_index, slice_index_or};
 ghost use Rattle.ssb_plans.specs.declared.value.Value.TheVariants.{Number};
 ghost use Rattle.dim_index.specs.Values.{values_of};
 ghost use Rattle.shared_scan.specs.Numbering.{HasMasks, IsPreparedColumn};
 
-use crate::numbering::{NONE, Numbering, number_codes};
+use crate::numbering::{NONE, number_codes};
 use dim_index::{Dictionary, DimIndex};
 use ssb_queries::Value;
 use ssb_schema::{Column, Items};
@@ -26,18 +26,28 @@ fn values_at(
     Ok(Items::from_vec(values))
 }
 
-/// Makes parts of numbers below a count: each times the step. A code that has no number keeps none.
-fn multiply(numbers: &mut [u32], count: u32, step: u32)
-    requires below { (code : ℕ) → code < length numbers.old → slice_index numbers.old code ≢ 4294967295 → slice_index numbers.old code < count }
-    requires fits { count * step < 2 ^ 32 }
-    ensures len { length numbers.new ≡ length numbers.old }
-    ensures each { (code : ℕ) → code < length numbers.old → slice_index numbers.old code ≢ 4294967295 → slice_index numbers.new code ≡ slice_index numbers.old code * step }
+/// A number times the step; where a code has no number, no row reads what it adds.
+fn part(number: u32, step: u64) -> u64
+    ensures { number ≢ 4294967295 → number * step < 2 ^ 64 → result ≡ number * step }
 {
-    for code in 0..numbers.len() {
-        if numbers[code] != NONE {
-            numbers[code] = numbers[code] * step;
-        }
+    if number == NONE {
+        return 0;
     }
+    u64::from(number).wrapping_mul(step)
+}
+
+/// Makes parts of numbers below a count: each times the step.
+fn parts_of(alloc: Global, numbers: &[u32], count: u32, step: u64) -> Result<Vec<u64>, AllocError>
+    requires below { (code : ℕ) → code < length numbers.now → slice_index numbers.now code ≢ 4294967295 → slice_index numbers.now code < count }
+    requires fits { count * step < 2 ^ 64 }
+    ensures len { IfOk result (λ parts. length parts.items ≡ length numbers.now) }
+    ensures each { IfOk result (λ parts. (code : ℕ) → code < length numbers.now → slice_index numbers.now code ≢ 4294967295 → slice_index parts.items code ≡ slice_index numbers.now code * step) }
+{
+    let mut parts = Vec::with_capacity(alloc, numbers.len())?;
+    for number in numbers {
+        parts.push(part(*number, step))?;
+    }
+    Ok(parts)
 }
 
 /// A group column made ready for a question: its values by number, and what each code of the column adds to the number
@@ -46,39 +56,34 @@ fn multiply(numbers: &mut [u32], count: u32, step: u32)
 pub struct GroupPart {
     pub column: Column,
     pub values: Items<Value>,
-    pub parts: Vec<u32>,
+    pub parts: Vec<u64>,
 }
 
-/// Makes a group column ready for a question, where numbers of groups so far are below the step. None where the numbers
-/// would not fit 32 bits.
+/// Makes a group column ready for a question, where numbers of groups so far are below the step.
 pub fn prepare(
     alloc: Global,
     index: &DimIndex,
     column: Column,
     masks: &Option<Items<u16>>,
     question: usize,
-    step: u32,
-) -> Result<Option<GroupPart>, AllocError>
+    step: u64,
+) -> Result<GroupPart, AllocError>
     requires question { question < 16 }
-    requires few { length (values_of index.now column) < 4294967295 }
+    requires few { length (values_of index.now column) ≤ 1048576 }
+    requires step { step ≤ 2 ^ 40 }
     requires masks { (p : ℕ) → p < length (values_of index.now column) → HasMasks masks.now p }
-    ensures column { IfOk result (λ made. IfSome made (λ part. part.column ≡ column)) }
-    ensures prepared { IfOk result (λ made. IfSome made (λ part. IsPreparedColumn (values_of index.now column) masks.now question step part.values part.parts.items)) }
-    ensures fits { IfOk result (λ made. IfSome made (λ part. length part.values * step < 2 ^ 32)) }
-    ensures few { IfOk result (λ made. IfSome made (λ part. length part.values < 2 ^ 32)) }
+    ensures column { IfOk result (λ part. part.column ≡ column) }
+    ensures prepared { IfOk result (λ part. IsPreparedColumn (values_of index.now column) masks.now question step part.values part.parts.items) }
+    ensures few { IfOk result (λ part. length part.values ≤ 1048576) }
 {
     let codes = index.codes_of(column);
     let numbering = number_codes(alloc, codes, index.codes(column), masks, question)?;
-    let Numbering { kept, mut numbers } = numbering;
-    let count = kept.len() as u32;
-    let Some(_size) = count.checked_mul(step) else {
-        return Ok(None);
-    };
-    let values = values_at(alloc, index.dictionary(column), &kept)?;
-    multiply(&mut numbers, count, step);
-    Ok(Some(GroupPart {
+    let values = values_at(alloc, index.dictionary(column), &numbering.kept)?;
+    let count = numbering.kept.len() as u32;
+    let parts = parts_of(alloc, &numbering.numbers, count, step)?;
+    Ok(GroupPart {
         column,
         values,
-        parts: numbers,
-    }))
+        parts,
+    })
 }

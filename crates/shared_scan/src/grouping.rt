@@ -1,11 +1,13 @@
 //! The grouping of a question, as the loops read it.
-ghost use Rattle.std.specs.Prelude.{◌≡◌, All, IfOk, length, vec_len};
+ghost use Rattle.std.specs.Prelude.{◌≡◌, All, IfOk, length};
 ghost use Rattle.dim_index.specs.Codes.{codes_of};
 ghost use Rattle.dim_index.specs.Values.{values_of};
 ghost use Rattle.shared_scan.specs.GroupColumns.{AreGroupColumns, IsGroupColumn};
-ghost use Rattle.shared_scan.specs.Groupings.{IsReadyGrouping, AreReadyGroupings};
+ghost use Rattle.shared_scan.specs.Groupings.{IsDenseGrouping, IsReadyGrouping, AreReadyGroupings};
+ghost use Rattle.shared_scan.specs.Parts.{parts_in};
 ghost use Rattle.shared_scan.specs.Prepared.{positions_in};
 
+use crate::parts::Parts;
 use crate::ready::Ready;
 use dim_index::DimIndex;
 use scan_kernel::{GroupColumn, Grouping, LineColumns};
@@ -13,7 +15,7 @@ use ssb_schema::{Column, Items, Table};
 use std::alloc::{AllocError, Global};
 
 /// Where the lines' rows of a table stand; no question looks up rows of the fact table, and any positions will do.
-fn positions<'a>(lines: &LineColumns<'a>, table: Table) -> &'a [u32]
+pub fn positions<'a>(lines: &LineColumns<'a>, table: Table) -> &'a [u32]
     ensures { result.now ≡ positions_in table lines.now }
 {
     match table {
@@ -59,28 +61,43 @@ pub fn group_columns<'a>(
     Ok(groups)
 }
 
-/// The grouping of a question as the loops read it.
+/// The grouping of a question with a number for each group.
+fn dense_grouping<'a>(
+    alloc: Global,
+    index: &'a DimIndex,
+    lines: &LineColumns<'a>,
+    ready: &'a Ready,
+    parts: &'a [Items<u32>],
+) -> Result<Grouping<'a>, AllocError>
+    requires { length parts.now ≡ length ready.now.plan.groups }
+    ensures { IfOk result (IsDenseGrouping index.now lines.now ready.now parts.now) }
+{
+    let columns = group_columns(alloc, index, lines, ready.plan.groups.as_slice(), parts)?;
+    Ok(Grouping {
+        measure: ready.plan.measure,
+        columns,
+        size: ready.groups.size as usize,
+    })
+}
+
+/// The grouping of a question as the loops read it. Where its groups are summed up apart, one stands for all.
 fn grouping<'a>(
     alloc: Global,
     index: &'a DimIndex,
     lines: &LineColumns<'a>,
     ready: &'a Ready,
 ) -> Result<Grouping<'a>, AllocError>
-    requires { vec_len ready.now.groups.parts ≡ length ready.now.plan.groups }
+    requires { length (parts_in ready.now.groups.parts) ≡ length ready.now.plan.groups }
     ensures { IfOk result (IsReadyGrouping index.now lines.now ready.now) }
 {
-    let columns = group_columns(
-        alloc,
-        index,
-        lines,
-        ready.plan.groups.as_slice(),
-        &ready.groups.parts,
-    )?;
-    Ok(Grouping {
-        measure: ready.plan.measure,
-        columns,
-        size: ready.groups.size as usize,
-    })
+    match &ready.groups.parts {
+        Parts::Narrow(parts) => dense_grouping(alloc, index, lines, ready, parts),
+        Parts::Wide(_) => Ok(Grouping {
+            measure: ready.plan.measure,
+            columns: Vec::new(alloc),
+            size: 1,
+        }),
+    }
 }
 
 /// The groupings of all questions as the loops read them.
@@ -90,7 +107,7 @@ pub fn groupings<'a>(
     lines: &LineColumns<'a>,
     all: &'a [Ready],
 ) -> Result<Vec<Grouping<'a>>, AllocError>
-    requires { All (λ ready. vec_len ready.groups.parts ≡ length ready.plan.groups) all.now }
+    requires { All (λ ready. length (parts_in ready.groups.parts) ≡ length ready.plan.groups) all.now }
     ensures { IfOk result (λ groupings. AreReadyGroupings index.now lines.now all.now groupings.items) }
 {
     let mut groupings = Vec::with_capacity(alloc, all.len())?;

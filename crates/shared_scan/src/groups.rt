@@ -1,13 +1,14 @@
 //! All group columns of a question, made ready.
-ghost use Rattle.std.specs.Prelude.{◌≡◌, ℕ, ◌<◌, ◌^◌, IfOk, IfSome, length};
+ghost use Rattle.std.specs.Prelude.{◌≡◌, ℕ, ◌<◌, ◌≤◌, IfOk, length};
 ghost use Rattle.scan_answers.specs.Groups.{counts_of, size_of};
 ghost use Rattle.dim_index.specs.Values.{values_of};
 ghost use Rattle.ssb_schema.specs.declared.column.Column.{Column as GroupedBy};
-ghost use Rattle.shared_scan.specs.Numbering.{HasMasks};
 ghost use Rattle.shared_scan.specs.Prepared.{masks_in};
 ghost use Rattle.shared_scan.specs.Grouped.{ArePrepared, HaveMasks};
+ghost use Rattle.shared_scan.specs.Parts.{parts_in, IsFew};
 
 use crate::group_columns::prepare;
+use crate::parts::{Parts, parts_for};
 use dim_index::DimIndex;
 use scan_kernel::Masks;
 use ssb_queries::Value;
@@ -19,8 +20,8 @@ use std::alloc::{AllocError, Global};
 #[derive(Drop)]
 pub struct Groups {
     pub columns: Vec<Items<Value>>,
-    pub parts: Vec<Items<u32>>,
-    pub size: u32,
+    pub parts: Parts,
+    pub size: u64,
 }
 
 /// The masks of a dimension; no question looks at rows of the fact table, and any masks will do.
@@ -36,34 +37,36 @@ fn masks_of(masks: &Masks, table: Table) -> &Option<Items<u16>>
     }
 }
 
-/// Makes the group columns of a question ready, one after another. None where there are more groups than numbers of 32
-/// bits.
+/// Makes the group columns of a question ready, one after another.
 pub fn prepare_groups(
     alloc: Global,
     index: &DimIndex,
     masks: &Masks,
     columns: &[Column],
     question: usize,
-) -> Result<Option<Groups>, AllocError>
+) -> Result<Groups, AllocError>
     requires question { question < 16 }
-    requires few { (column : GroupedBy) → length (values_of index.now column) < 4294967295 }
+    requires three { length columns.now ≤ 3 }
+    requires few { (column : GroupedBy) → length (values_of index.now column) ≤ 1048576 }
     requires masks { HaveMasks index.now masks.now }
-    ensures prepared { IfOk result (λ made. IfSome made (λ groups. ArePrepared index.now masks.now question columns.now groups.columns.items 1 groups.parts.items)) }
-    ensures size { IfOk result (λ made. IfSome made (λ groups. groups.size ≡ size_of (counts_of groups.columns.items))) }
+    ensures prepared { IfOk result (λ groups. ArePrepared index.now masks.now question columns.now groups.columns.items 1 (parts_in groups.parts)) }
+    ensures size { IfOk result (λ groups. groups.size ≡ size_of (counts_of groups.columns.items)) }
+    ensures few { IfOk result (λ groups. IsFew groups.parts groups.size) }
 {
-    let mut groups = Groups {
-        columns: Vec::new(alloc),
-        parts: Vec::new(alloc),
-        size: 1,
-    };
+    let mut values = Vec::new(alloc);
+    let mut parts = Vec::new(alloc);
+    let mut size = 1u64;
     for column in columns {
         let of_table = masks_of(masks, column.table);
-        let Some(made) = prepare(alloc, index, *column, of_table, question, groups.size)? else {
-            return Ok(None);
-        };
-        groups.size = made.values.len() as u32 * groups.size;
-        groups.columns.push(made.values)?;
-        groups.parts.push(Items::from_vec(made.parts))?;
+        let made = prepare(alloc, index, *column, of_table, question, size)?;
+        size = made.values.len() as u64 * size;
+        values.push(made.values)?;
+        parts.push(Items::from_vec(made.parts))?;
     }
-    Ok(Some(groups))
+    let parts = parts_for(alloc, parts, size)?;
+    Ok(Groups {
+        columns: values,
+        parts,
+        size,
+    })
 }

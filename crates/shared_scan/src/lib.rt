@@ -11,10 +11,12 @@ mod lines;
 mod masking;
 mod numbering;
 mod over_slices;
+mod parts;
 mod plan_tests;
 mod prepare;
 mod prepared;
 mod ready;
+mod scattered;
 mod sums;
 mod tested;
 

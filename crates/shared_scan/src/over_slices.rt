@@ -9,7 +9,7 @@ ghost use Rattle.shared_scan.specs.Lines.{AreOfBase, HavePlaces};
 use crate::grouping::groupings;
 use crate::lines::lines_of;
 use crate::prepared::PreparedBatch;
-use crate::sums::batch_rows;
+use crate::sums::{Scan, batch_rows};
 use dim_index::DimIndex;
 use fact_table::Slices;
 use scan_kernel::{parallel_totals, range_totals};
@@ -32,7 +32,12 @@ pub fn scan_slices(
     let groupings = groupings(alloc, index, &lines, &batch.questions)?;
     let count = lines.customer.len();
     let totals = range_totals(alloc, &lines, &batch.masks, &groupings, 0, count)?;
-    batch_rows(alloc, &batch.questions, &totals)
+    let scan = Scan {
+        index,
+        lines,
+        masks: &batch.masks,
+    };
+    batch_rows(alloc, scan, &batch.questions, &totals)
 }
 
 /// The answers over columns, by as many threads as there are processors.
@@ -50,5 +55,10 @@ pub fn scan_slices_parallel<R: Threads + Sync>(
     let lines = lines_of(slices);
     let groupings = groupings(alloc, index, &lines, &batch.questions)?;
     let totals = parallel_totals(rt, alloc, &lines, &batch.masks, &groupings)?;
-    batch_rows(alloc, &batch.questions, &totals)
+    let scan = Scan {
+        index,
+        lines,
+        masks: &batch.masks,
+    };
+    batch_rows(alloc, scan, &batch.questions, &totals)
 }

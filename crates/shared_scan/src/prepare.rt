@@ -1,5 +1,5 @@
 //! Questions are made ready.
-ghost use Rattle.std.specs.Prelude.{◌≡◌, ℕ, ◌<◌, IfOk, length};
+ghost use Rattle.std.specs.Prelude.{◌≡◌, ℕ, ◌<◌, ◌≤◌, IfOk, length};
 ghost use Rattle.dim_index.specs.Values.{values_of};
 ghost use Rattle.ssb_schema.specs.declared.column.Column.{Column as GroupedBy};
 ghost use Rattle.ssb_plans.specs.Queries.{plan_over};
@@ -25,8 +25,7 @@ pub fn plans_of(alloc: Global, questions: &[Question]) -> Result<Vec<Plan>, Allo
     Ok(plans)
 }
 
-/// One question made ready. Where its groups would be more than numbers of 32 bits, no table could hold them, and that is
-/// want of memory.
+/// One question made ready.
 pub fn prepare_question(
     alloc: Global,
     index: &DimIndex,
@@ -35,14 +34,12 @@ pub fn prepare_question(
     number: usize,
 ) -> Result<Ready, AllocError>
     requires number { number < 16 }
-    requires few { (column : GroupedBy) → length (values_of index.now column) < 4294967295 }
+    requires few { (column : GroupedBy) → length (values_of index.now column) ≤ 1048576 }
     requires masks { HaveMasks index.now masks.now }
     ensures { IfOk result (IsReady index.now masks.now number question.now) }
 {
     let plan = plan(alloc, question)?;
-    let Some(groups) = prepare_groups(alloc, index, masks, plan.groups.as_slice(), number)? else {
-        return Err(AllocError);
-    };
+    let groups = prepare_groups(alloc, index, masks, plan.groups.as_slice(), number)?;
     Ok(Ready {
         question: question.share()?,
         plan,

@@ -1,19 +1,23 @@
 //! The rows of questions from their totals.
-ghost use Rattle.std.specs.Prelude.{◌≡◌, ℕ, ◌<◌, ◌^◌, ◌-ℤ◌, pos, IfOk, length, slice_index, slice_index_or, vec_len};
+ghost use Rattle.std.specs.Prelude.{◌≡◌, ℕ, ◌<◌, ◌≤◌, ◌^◌, ◌-ℤ◌, pos, IfOk, length, slice_index, slice_index_or, vec_len};
 ghost use Rattle.scan_answers.specs.Groups.{counts_of, size_of};
 ghost use Rattle.scan_answers.specs.Scan.{AnswersLines};
 ghost use Rattle.ssb_plans.specs.Queries.{plan_over};
-ghost use Rattle.shared_scan.specs.TotalRows.{Fit64, AreSmall, FitGroups, FitAllGroups, AreRowsOf, AreBatchRows};
+ghost use Rattle.scan_kernel.specs.Places.{CanSearch};
+ghost use Rattle.shared_scan.specs.TotalRows.{AreSmall, FitGroups, AreDenseRows, CanAnswer, CanAnswerAll, AreRowsOf, AreBatchRows};
 
+use crate::parts::Parts;
 use crate::ready::Ready;
+use crate::scattered::scattered_rows;
+use dim_index::DimIndex;
 use scan_answers::answer_question;
-use scan_kernel::Totals;
+use scan_kernel::{LineColumns, Masks, Totals};
 use ssb_queries::{Question, ResultRow, Rows, Value};
 use ssb_schema::Items;
 use std::alloc::{AllocError, Global};
 
 /// A gain less a loss.
-fn difference(gain: u64, loss: u64) -> i64
+pub fn difference(gain: u64, loss: u64) -> i64
     requires gain { gain < 2 ^ 62 }
     requires loss { loss < 2 ^ 62 }
     ensures { result ≡ pos gain -ℤ pos loss }
@@ -58,30 +62,73 @@ fn fit_64_bits(numbers: &[u64])
     ensures { (g : ℕ) → slice_index numbers.now g < 2 ^ 64 }
 {}
 
-/// A question that is made ready, with its rows from its totals.
-fn question_rows(alloc: Global, ready: &Ready, totals: &Totals) -> Result<Rows, AllocError>
-    requires { FitGroups ready.now totals.now }
-    ensures { IfOk result (AreRowsOf ready.now totals.now) }
+/// The rows of a question from totals that have a number for each of its groups.
+fn dense_rows(alloc: Global, ready: &Ready, totals: &Totals) -> Result<Vec<ResultRow>, AllocError>
+    requires columns { vec_len ready.now.groups.columns ≡ length (plan_over ready.now.question.0 ready.now.question.1).groups }
+    requires fit { FitGroups ready.now totals.now }
+    ensures { IfOk result (λ rows. AreDenseRows ready.now totals.now rows.items) }
 {
     fit_64_bits(&totals.counts);
     fit_64_bits(&totals.gains);
     fit_64_bits(&totals.losses);
-    let list = rows_of(alloc, &ready.question, &ready.groups.columns, totals)?;
+    rows_of(alloc, &ready.question, &ready.groups.columns, totals)
+}
+
+/// The lines that a batch goes over, and the masks of their rows.
+#[derive(Clone, Copy)]
+pub struct Scan<'a> {
+    pub index: &'a DimIndex,
+    pub lines: LineColumns<'a>,
+    pub masks: &'a Masks,
+}
+
+/// A question that is made ready, with its rows.
+fn question_rows(
+    alloc: Global,
+    scan: Scan<'_>,
+    ready: &Ready,
+    number: usize,
+    totals: &Totals,
+) -> Result<Rows, AllocError>
+    requires few { number < 16 }
+    requires covers { CanSearch scan.lines scan.masks.now }
+    requires can { CanAnswer scan.index.now scan.lines scan.masks.now number ready.now totals.now }
+    ensures { IfOk result (AreRowsOf scan.entry.index.now scan.entry.lines scan.entry.masks.now number ready.now totals.now) }
+{
+    let list = match &ready.groups.parts {
+        Parts::Narrow(_) => dense_rows(alloc, ready, totals)?,
+        Parts::Wide(parts) => scattered_rows(
+            alloc,
+            scan.index,
+            &scan.lines,
+            scan.masks,
+            ready,
+            parts,
+            number,
+        )?,
+    };
     Ok(Rows {
         query: ready.question.share()?,
         list: Items::from_vec(list),
     })
 }
 
-/// Each question of a batch, with its rows from its totals.
-pub fn batch_rows(alloc: Global, all: &[Ready], totals: &[Totals]) -> Result<Vec<Rows>, AllocError>
+/// Each question of a batch, with its rows.
+pub fn batch_rows(
+    alloc: Global,
+    scan: Scan<'_>,
+    all: &[Ready],
+    totals: &[Totals],
+) -> Result<Vec<Rows>, AllocError>
     requires len { length totals.now ≡ length all.now }
-    requires fit { FitAllGroups all.now totals.now }
-    ensures { IfOk result (λ rows. AreBatchRows all.now totals.now rows.items) }
+    requires few { length all.now ≤ 16 }
+    requires covers { CanSearch scan.lines scan.masks.now }
+    requires can { CanAnswerAll scan.index.now scan.lines scan.masks.now all.now totals.now }
+    ensures { IfOk result (λ rows. AreBatchRows scan.entry.index.now scan.entry.lines scan.entry.masks.now all.now totals.now rows.items) }
 {
     let mut rows = Vec::with_capacity(alloc, all.len())?;
     for number in 0..all.len() {
-        rows.push(question_rows(alloc, &all[number], &totals[number])?)?;
+        rows.push(question_rows(alloc, scan, &all[number], number, &totals[number])?)?;
     }
     Ok(rows)
 }

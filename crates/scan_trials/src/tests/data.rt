@@ -2,7 +2,10 @@
 ghost use Rattle.std.specs.Prelude.{◌≡◌};
 
 use crate::tests::small_data::small_tables;
-use crate::{CUSTOMER, DATE, PART, SUPPLIER, lineorder};
+use crate::{
+    CUSTOMER, DATE, PART, SUPPLIER, brands_of_parts, cities_of_customers, cities_of_suppliers,
+    lineorder,
+};
 use dim_index::DimIndex;
 use fact_columns::Columns;
 use row_store::{Commit, PlainLines, Replica};
@@ -94,11 +97,33 @@ pub fn made_up(
     count: u64,
     commits: &[Commit],
 ) -> Result<Warehouse, Fail> {
-    let lines = lineorder(alloc, count)?;
+    let lines = lineorder(alloc, count, 8)?;
     let tables = Tables {
         customer: CUSTOMER.as_bytes(),
         supplier: SUPPLIER.as_bytes(),
         part: PART.as_bytes(),
+        date: DATE.as_bytes(),
+        lineorder: lines.as_bytes(),
+    };
+    warehouse_after(rt, alloc, base_of(alloc, tables)?, commits)
+}
+
+/// The warehouse of so many lines after these commits, over 200 customers and suppliers of as many cities, and 200 parts of
+/// as many brands.
+pub fn of_many_cities(
+    rt: &impl RandomSource,
+    alloc: Global,
+    count: u64,
+    commits: &[Commit],
+) -> Result<Warehouse, Fail> {
+    let customers = cities_of_customers(alloc, 200)?;
+    let suppliers = cities_of_suppliers(alloc, 200)?;
+    let parts = brands_of_parts(alloc, 200)?;
+    let lines = lineorder(alloc, count, 200)?;
+    let tables = Tables {
+        customer: customers.as_bytes(),
+        supplier: suppliers.as_bytes(),
+        part: parts.as_bytes(),
         date: DATE.as_bytes(),
         lineorder: lines.as_bytes(),
     };

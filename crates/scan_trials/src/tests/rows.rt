@@ -1,6 +1,8 @@
 //! The rows of batches.
 use crate::tests::data::Given::{Name, Number};
-use crate::tests::data::{Given, Warehouse, asked, every_third, made_up, small, thirteen};
+use crate::tests::data::{
+    Given, Warehouse, asked, every_third, made_up, of_many_cities, small, thirteen,
+};
 use shared_scan::{PreparedBatch, scan, scan_parallel};
 use ssb_queries::{Query, Question, Rows, plain};
 use ssb_schema::{Base, Line, MOST_LINES};
@@ -165,6 +167,53 @@ fn batches_of_none_and_of_sixteen(rt: HostRuntime) -> Result<(), Fail> {
             count_rows(&rt, alloc, &warehouse, &same)?,
             one.wrapping_mul(16)
         );
+    }
+    Ok(())
+}
+
+// Questions of which two have more groups than there are numbers for: 200 cities by 200 by six years, and two years by 200
+// cities by 200 brands.
+fn of_many_groups(alloc: Global) -> Result<Vec<Question>, Fail> {
+    let given: [(Query, &[Given]); 4] = [
+        (Query::Q2_1, &[Name("MFGR#14"), Name("ASIA")]),
+        (
+            Query::Q3_2,
+            &[Name("CHINA"), Name("CHINA"), Number(1992), Number(1997)],
+        ),
+        (
+            Query::Q1_1,
+            &[Number(1993), Number(1), Number(3), Number(0), Number(24)],
+        ),
+        (
+            Query::Q4_3,
+            &[
+                Name("ASIA"),
+                Name("CHINA"),
+                Number(1997),
+                Number(1998),
+                Name("MFGR#14"),
+            ],
+        ),
+    ];
+    let mut questions = Vec::new(alloc);
+    for (query, constants) in given {
+        questions.push(asked(alloc, query, constants)?)?;
+    }
+    Ok(questions)
+}
+
+#[test]
+fn more_groups_than_numbers(rt: HostRuntime) -> Result<(), Fail> {
+    let alloc = rt.alloc();
+    let questions = of_many_groups(alloc)?;
+    for count in [0, 1, 4099] {
+        let commits = every_third(alloc, count)?;
+        for after in [&[], commits.as_slice()] {
+            let warehouse = of_many_cities(&rt, alloc, count, after)?;
+            let rows = count_rows(&rt, alloc, &warehouse, &questions)?;
+            assert!(rt; rows >= 1, "a total at least, of {count}");
+            assert!(rt; count < 4099 || rows > 2000);
+        }
     }
     Ok(())
 }
