@@ -76,6 +76,16 @@ fn times_argument<'a>(alloc: Global, help: &'a str) -> Arg<'a> {
         .action(ArgAction::SetTrue)
 }
 
+// Whether nothing is shown while the data is read.
+fn quiet_argument<'a>(alloc: Global) -> Arg<'a> {
+    Arg::new(alloc, "quiet")
+        .long("quiet")
+        .help(
+            "Shows no progress of a long load; without it a terminal shows it, and a pipe never gets it",
+        )
+        .action(ArgAction::SetTrue)
+}
+
 // The words of `query`.
 fn query_command<'a>(alloc: Global) -> Result<Command<'a>, AllocError> {
     let all = Arg::new(alloc, "all")
@@ -103,6 +113,7 @@ fn query_command<'a>(alloc: Global) -> Result<Command<'a>, AllocError> {
         .arg(data_argument(alloc))?
         .arg(all)?
         .arg(times)?
+        .arg(quiet_argument(alloc))?
         .arg(name)?
         .arg(constants)
 }
@@ -123,7 +134,7 @@ fn run_command<'a>(alloc: Global) -> Result<Command<'a>, AllocError> {
         .action(ArgAction::Set);
     let times = times_argument(
         alloc,
-        "Tells on standard error how many seconds loading and serving took, and how much was served a second",
+        "Tells on standard error how many seconds loading and serving took, how much was served a second, and how long a refresh and an answer took",
     );
     let scripts = Arg::new(alloc, "scripts")
         .value_name("SCRIPT")
@@ -138,6 +149,7 @@ fn run_command<'a>(alloc: Global) -> Result<Command<'a>, AllocError> {
         .arg(dispatchers)?
         .arg(trace)?
         .arg(times)?
+        .arg(quiet_argument(alloc))?
         .arg(scripts)
 }
 
@@ -152,6 +164,7 @@ fn audit_command<'a>(alloc: Global) -> Result<Command<'a>, AllocError> {
         .about("Checks the trace of a run: its commits, and the rows of its answers")
         .long_about(AUDIT_HELP)
         .arg(data_argument(alloc))?
+        .arg(quiet_argument(alloc))?
         .arg(trace)
 }
 

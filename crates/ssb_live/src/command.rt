@@ -3,23 +3,37 @@
 use crate::audit::run_audit;
 use crate::demo::demo;
 use crate::fault::Fault;
+use crate::progress::{Screen, Source, watch, watch_scripts, watch_tables};
 use crate::query::{Settings, run_all, run_query};
 use crate::scripts::{RunSettings, run_scripts};
 use crate::{arguments, files};
 use clap::ArgMatches;
 use ssb_load::Tables;
 use std::hash::RandomState;
-use std::io::{BufWriter, Read, Write};
+use std::io::{BufWriter, Print, Read, Write};
 use std::random::RandomSource;
 use std::rt::Files;
 use std::sync::Wait;
 use std::thread::Threads;
 use std::time::Clock;
 
+/// The terminal, where there is one and the words let it show the progress of a load, which begins now.
+pub fn screen_of<'a, C: Clock, P: Print>(
+    clock: &'a C,
+    matches: &ArgMatches<'_>,
+    terminal: Option<&'a P>,
+) -> Option<Screen<'a, C, P>> {
+    if matches.get_flag("quiet") {
+        return None;
+    }
+    Screen::start(clock, terminal)
+}
+
 // Answers one question, or all, over the files of a folder.
-fn answer_query<R, W: Write, E: Write>(
+fn answer_query<R, P: Print, W: Write, E: Write>(
     rt: &R,
     matches: &ArgMatches<'_>,
+    terminal: Option<&P>,
     out: &mut W,
     err: &mut E,
 ) -> u8
@@ -33,6 +47,8 @@ where
     let Ok(hashing) = RandomState::new(rt) else {
         return Fault::NoRandomness.tell(err);
     };
+    let screen = screen_of(rt, matches, terminal);
+    let tables = watch_tables(screen.as_ref(), tables);
     let times = matches.get_flag("times");
     let settings = Settings { hashing, times };
     if matches.get_flag("all") {
@@ -80,9 +96,10 @@ where
 }
 
 // Serves scripts at once over the files of a folder.
-fn serve_scripts<R, W: Write, E: Write>(
+fn serve_scripts<R, P: Print, W: Write, E: Write>(
     rt: &R,
     matches: &ArgMatches<'_>,
+    terminal: Option<&P>,
     out: &mut W,
     err: &mut E,
 ) -> u8
@@ -98,18 +115,24 @@ where
         Ok(opened) => opened,
         Err(fault) => return fault.tell(err),
     };
+    let screen = screen_of(rt, matches, terminal);
+    let Ok(scripts) = watch_scripts(rt.alloc(), screen.as_ref(), scripts) else {
+        return Fault::OutOfMemory.tell(err);
+    };
+    let tables = watch_tables(screen.as_ref(), tables);
     run_scripts(rt, settings, tables, scripts, out, &mut trace, err)
 }
 
 // Checks a trace over the files of a folder.
-fn check_trace<R, W: Write, E: Write>(
+fn check_trace<R, P: Print, W: Write, E: Write>(
     rt: &R,
     matches: &ArgMatches<'_>,
+    terminal: Option<&P>,
     out: &mut W,
     err: &mut E,
 ) -> u8
 where
-    R: Files + RandomSource + Threads + Sync + AllocGlobal,
+    R: Files + Clock + RandomSource + Threads + Sync + AllocGlobal,
 {
     let tables = match files::open(rt, matches.get_str("data").unwrap_or("")) {
         Ok(tables) => tables,
@@ -119,6 +142,9 @@ where
         Ok(trace) => trace,
         Err(fault) => return fault.tell(err),
     };
+    let screen = screen_of(rt, matches, terminal);
+    let tables = watch_tables(screen.as_ref(), tables);
+    let trace = watch(screen.as_ref(), Source::Trace, trace);
     match RandomState::new(rt) {
         Ok(hashing) => run_audit(rt, hashing, tables, trace, out, err),
         Err(_) => Fault::NoRandomness.tell(err),
@@ -141,11 +167,13 @@ where
     }
 }
 
-/// Does what the words say, and gives the exit status. Without words the script `input` is served.
-pub fn run<R, I: Read + Drop, W: Write, E: Write>(
+/// Does what the words say, and gives the exit status. Without words the script `input` is served. A terminal shows the
+/// progress of a long load, and nothing of it goes to `err`.
+pub fn run<R, I: Read + Drop, P: Print, W: Write, E: Write>(
     rt: &R,
     words: &[String],
     input: I,
+    terminal: Option<&P>,
     out: &mut W,
     err: &mut E,
 ) -> u8
@@ -157,9 +185,9 @@ where
         Err(answer) => return arguments::tell(&answer, out, err),
     };
     match matches.subcommand() {
-        Some(("run", words)) => serve_scripts(rt, words, out, err),
-        Some(("audit", words)) => check_trace(rt, words, out, err),
-        Some((_, words)) => answer_query(rt, words, out, err),
+        Some(("run", words)) => serve_scripts(rt, words, terminal, out, err),
+        Some(("audit", words)) => check_trace(rt, words, terminal, out, err),
+        Some((_, words)) => answer_query(rt, words, terminal, out, err),
         None => serve_script(rt, input, out, err),
     }
 }

@@ -20,6 +20,7 @@ mod loading;
 mod opening;
 mod pace;
 mod printing;
+mod progress;
 mod query;
 mod reading;
 mod scripts;
@@ -31,7 +32,7 @@ mod tests;
 use arguments::words;
 use command::run;
 use fault::Fault;
-use std::io::BufWriter;
+use std::io::{BufWriter, IsTerminal};
 use std::process::ExitCode;
 
 fn main(rt: HostRuntime) -> ExitCode {
@@ -39,8 +40,21 @@ fn main(rt: HostRuntime) -> ExitCode {
     let Ok(mut out) = BufWriter::new(rt.alloc(), rt.stdout()) else {
         return ExitCode::from(Fault::OutOfMemory.tell(&mut err));
     };
+    let screen = rt.stderr();
+    let terminal = if screen.is_terminal() {
+        Some(&screen)
+    } else {
+        None
+    };
     ExitCode::from(match words(&rt) {
-        Ok(words) => run(&rt, words.as_slice(), rt.stdin(), &mut out, &mut err),
+        Ok(words) => run(
+            &rt,
+            words.as_slice(),
+            rt.stdin(),
+            terminal,
+            &mut out,
+            &mut err,
+        ),
         Err(fault) => fault.tell(&mut err),
     })
 }

@@ -1,6 +1,7 @@
 //! How fast a run of scripts was. What a clock says is in no contract.
 
-use ssb_runs::{Batches, Run};
+use ssb_runs::{Batches, Latencies, Latency, Run};
+use std::fmt;
 use std::io::Write;
 use std::time::{Clock, Duration, Instant};
 
@@ -15,11 +16,38 @@ pub struct Pace {
     commits: u64,
     answers: u64,
     batches: Batches,
+    latencies: Latencies,
 }
 
 // How many there were a second, rounded down; none where no time passed.
 fn a_second(count: u64, time: Duration) -> Option<u128> {
     (u128::from(count) * 1_000_000).checked_div(time.as_micros())
+}
+
+// Microseconds with one decimal, rounded down.
+#[derive(Clone, Copy)]
+struct Micros(Duration);
+
+impl fmt::Display for Micros {
+    fn fmt<W: fmt::Write>(&self, f: &mut fmt::Formatter<W>) -> fmt::Result {
+        let tenths = self.0.as_nanos() / 100;
+        write!(f, "{}.{} us", tenths / 10, tenths % 10)
+    }
+}
+
+// How long requests of one kind took, where there were any.
+fn tell_latency<E: Write>(err: &mut E, name: &str, times: Latency) {
+    if times.count == 0 {
+        return;
+    }
+    let _ = writeln!(
+        err,
+        "ssb_live: {name} {}, middle {}, 99th percentile {}, greatest {}",
+        times.count,
+        Micros(times.middle),
+        Micros(times.ninety_ninth),
+        Micros(times.greatest)
+    );
 }
 
 impl Pace {
@@ -33,6 +61,7 @@ impl Pace {
             commits: 0,
             answers: 0,
             batches: Batches::default(),
+            latencies: Latencies::default(),
         }
     }
 
@@ -55,10 +84,11 @@ impl Pace {
         self.commits = run.trace.commits.as_slice().len() as u64;
         self.answers = run.trace.answers.as_slice().len() as u64;
         self.batches = run.batches;
+        self.latencies = run.latencies;
     }
 
     /// Writes the seconds of both steps, the commits and the answers with how many there were a second, and the batches with
-    /// the mean number of questions in one, as far as the writer takes them.
+    /// the mean number of questions in one, and the times of a refresh and of a question, as far as the writer takes them.
     pub fn tell<E: Write>(&self, err: &mut E) {
         for (name, time) in [("load", self.load), ("serving", self.serving)] {
             if let Some(time) = time {
@@ -74,6 +104,8 @@ impl Pace {
             }
         }
         self.tell_batches(err);
+        tell_latency(err, "refreshes", self.latencies.refreshes);
+        tell_latency(err, "questions", self.latencies.answers);
     }
 
     // The mean is told in hundredths, rounded down.

@@ -44,10 +44,11 @@ pub struct RunSettings {
 }
 
 // Serves scripts at once over a base.
-fn serve<R: Threads + Sync + Wait + AllocGlobal>(
+fn serve<R: Threads + Sync + Wait + Clock + AllocGlobal>(
     rt: &R,
     hashing: RandomState,
     dispatchers: u32,
+    times: bool,
     base: Base,
     scripts: Vec<Script>,
 ) -> Result<Run, Fault>
@@ -56,7 +57,7 @@ fn serve<R: Threads + Sync + Wait + AllocGlobal>(
     ensures fault { IfErr result (λ fault. status_of fault ≡ 4) }
 {
     let base = Arc::new(rt.alloc(), base)?;
-    match serve_scripts(rt, rt.alloc(), hashing, base, scripts, dispatchers) {
+    match serve_scripts(rt, rt.alloc(), hashing, base, scripts, dispatchers, times) {
         Ok(run) => Ok(run),
         Err(fault) => Err(Fault::Run(fault)),
     }
@@ -82,7 +83,12 @@ fn run_of<R: Threads + Sync + Wait + Clock + AllocGlobal, I: Read + Drop>(
     let base = base_of(rt.alloc(), tables)?;
     let scripts = read_scripts(rt.alloc(), sources)?;
     pace.end_load(rt);
-    let run = serve(rt, settings.hashing, settings.dispatchers, base, scripts)?;
+    let RunSettings {
+        hashing,
+        dispatchers,
+        times,
+    } = settings;
+    let run = serve(rt, hashing, dispatchers, times, base, scripts)?;
     pace.end_serving(rt, &run);
     Ok(run)
 }

@@ -2,6 +2,7 @@
 
 mod command;
 mod faults;
+mod progress;
 mod served;
 
 use crate::demo::demo;

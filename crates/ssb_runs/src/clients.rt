@@ -5,14 +5,14 @@ ghost use Rattle.ssb_runs.specs.Sessions.{IsSessionOf, AreSessionsOf, IsTaskAt};
 use crate::job::Job;
 use crate::session::{Session, serve_script};
 use ssb_server::Server;
-use ssb_session::BlocksError;
 use std::alloc::{AllocError, Global};
 use std::snapshot::Snapshot;
 use std::sync::Wait;
 use std::thread::{Promise, PromisedHandle, Scope, Threads};
+use std::time::Clock;
 
 // What a client's thread ends with.
-type Served<W> = Result<Session<W>, BlocksError>;
+type Served<W> = Result<Session<W>, AllocError>;
 
 /// What a client's thread promises: the session of its job.
 #[derive(Drop)]
@@ -28,7 +28,7 @@ impl<W: Wait + Drop> Promise<Served<W>> for SessionOf<W> {
 pub(crate) type Serving<W> = PromisedHandle<Served<W>, SessionOf<W>>;
 
 /// Starts a thread for each job, in order. Where a thread can't be started, no later one is.
-pub(crate) fn start_clients<'s, E, W: Wait + Drop + Send, R: Wait + Threads + Sync>(
+pub(crate) fn start_clients<'s, E, W: Wait + Drop + Send, R: Wait + Threads + Sync + Clock>(
     scope: &Scope<'s, E>,
     rt: &'s R,
     alloc: Global,

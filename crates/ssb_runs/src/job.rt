@@ -5,11 +5,12 @@ use ssb_server::Client;
 use std::marker::Model;
 use std::sync::Wait;
 
-/// A client, and its script.
+/// A client, its script, and whether its requests' times are taken.
 #[derive(Drop)]
 pub(crate) struct Job<W: Wait + Drop> {
     pub(crate) client: Client<W>,
     pub(crate) script: Script,
+    pub(crate) timed: bool,
 }
 
 impl<W: Wait + Drop> Model for Job<W> {

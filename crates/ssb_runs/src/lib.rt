@@ -13,7 +13,7 @@
 //! is legal; so the trace is legal, and an audit finds nothing against it. That a thread gets on is claimed by no proof.
 //!
 //! ```text
-//! let run = serve_scripts(&rt, rt.alloc(), hashing, base, scripts, 2)?;
+//! let run = serve_scripts(&rt, rt.alloc(), hashing, base, scripts, 2, false)?;
 //! write_trace(&mut file, &run.trace)?;
 //! ```
 #![tactic(auto)]
@@ -22,7 +22,9 @@ mod batches;
 mod clients;
 mod dispatchers;
 mod fault;
+mod histogram;
 mod job;
+mod latency;
 mod run;
 mod session;
 #[cfg(test)]
@@ -31,4 +33,5 @@ mod threads;
 
 pub use batches::Batches;
 pub use fault::RunFault;
+pub use latency::{Latencies, Latency};
 pub use run::{Run, serve_scripts};

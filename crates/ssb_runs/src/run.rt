@@ -9,6 +9,7 @@ ghost use Rattle.ssb_server.specs.Opening.{AreCounts};
 use crate::batches::Batches;
 use crate::fault::RunFault;
 use crate::job::Job;
+use crate::latency::{Latencies, Times, joined, latencies_of};
 use crate::session::Session;
 use crate::threads::{Ended, run_threads};
 use ssb_audit::{Told, Trace};
@@ -19,14 +20,16 @@ use std::alloc::{AllocError, Global};
 use std::hash::RandomState;
 use std::sync::{Arc, Wait};
 use std::thread::Threads;
+use std::time::Clock;
 
 /// What a run leaves: the report of each script, in the order of the scripts, and the trace, which has the log and what each
-/// client was told, one client after another.
+/// client was told, one client after another. Batches and latencies are figures for a reader.
 #[derive(Drop)]
 pub struct Run {
     pub reports: Vec<Vec<u8>>,
     pub trace: Trace,
     pub batches: Batches,
+    pub latencies: Latencies,
 }
 
 // What the clients leave, each by its place.
@@ -35,6 +38,7 @@ struct Gathered<W: Wait + Drop> {
     clients: Vec<Client<W>>,
     reports: Vec<Vec<u8>>,
     told: Vec<Told>,
+    times: Option<Times>,
 }
 
 // Each client with its script.
@@ -42,6 +46,7 @@ fn jobs_of<W: Wait + Drop>(
     alloc: Global,
     clients: Vec<Client<W>>,
     scripts: Vec<Script>,
+    timed: bool,
 ) -> Result<Vec<Job<W>>, AllocError>
     requires { vec_len clients ≡ vec_len scripts }
     ensures clients { IfOk result (λ jobs. map (λ job. job.client) jobs.items ≡ clients.items) }
@@ -53,7 +58,11 @@ fn jobs_of<W: Wait + Drop>(
         let Some(script) = scripts.next() else {
             unreachable!()
         };
-        jobs.push(Job { client, script })?;
+        jobs.push(Job {
+            client,
+            script,
+            timed,
+        })?;
     }
     Ok(jobs)
 }
@@ -70,20 +79,24 @@ fn gather<W: Wait + Drop>(
     let mut clients = Vec::new(alloc);
     let mut reports = Vec::new(alloc);
     let mut told = Vec::new(alloc);
+    let mut times = None;
     for session in sessions {
         let Session {
             client,
             report,
             told: mut own,
+            times: taken,
         } = session;
         clients.push(client)?;
         reports.push(report)?;
         told.append(&mut own)?;
+        times = joined(times, taken);
     }
     Ok(Gathered {
         clients,
         reports,
         told,
+        times,
     })
 }
 
@@ -105,6 +118,7 @@ fn close<W: Wait + Drop>(
         clients,
         reports,
         told,
+        times,
     } = gather(alloc, sessions)?;
     let Ok(Closed { base: _, log }) = server.close(clients, dispatchers) else {
         unreachable!()
@@ -116,15 +130,17 @@ fn close<W: Wait + Drop>(
             answers: Items::from_vec(told),
         },
         batches,
+        latencies: latencies_of(&times),
     })
 }
 
 // Serves each script by the client of its place.
-fn serve<W: Wait + Drop + Send, R: Wait + Threads + Sync>(
+fn serve<W: Wait + Drop + Send, R: Wait + Threads + Sync + Clock>(
     rt: &R,
     alloc: Global,
     opened: Opened<W>,
     scripts: Vec<Script>,
+    timed: bool,
 ) -> Result<Run, AllocError>
     requires clients { opened.clients.items ≡ new_clients opened.server }
     requires dispatchers { opened.dispatchers.items ≡ new_dispatchers opened.server }
@@ -136,24 +152,26 @@ fn serve<W: Wait + Drop + Send, R: Wait + Threads + Sync>(
         clients,
         dispatchers,
     } = opened;
-    let jobs = jobs_of(alloc, clients, scripts)?;
+    let jobs = jobs_of(alloc, clients, scripts, timed)?;
     let ended = run_threads(rt, alloc, &server, jobs, dispatchers)?;
     close(alloc, server, ended)
 }
 
 /// Serves 1 to 16 scripts by 1 to 4 dispatchers over a base, each client and each dispatcher in a thread of its own; `hashing`
-/// keys the map of orders. It waits until all of them have ended.
+/// keys the map of orders. It waits until all of them have ended. Where `timed` says so, each client's thread takes the time
+/// of its requests; else no clock is read.
 ///
 /// The dispatchers' threads start first, then the clients' in the order of the scripts, and where one can't be started, no
 /// later one is. That, and a refused growth wherever it is met, is `OutOfMemory`; each thread that was started has ended
 /// then, too.
-pub fn serve_scripts<R: Wait + Threads + Sync>(
+pub fn serve_scripts<R: Wait + Threads + Sync + Clock>(
     rt: &R,
     alloc: Global,
     hashing: RandomState,
     base: Arc<Base>,
     scripts: Vec<Script>,
     dispatchers: u32,
+    timed: bool,
 ) -> Result<Run, RunFault>
     ensures counts { OnOk result (AreCounts (vec_len scripts) dispatchers) }
     ensures served { IfOk result (λ run. IsRun base.value scripts.items dispatchers (map (λ report. report.items) run.reports.items) run.trace) }
@@ -162,7 +180,7 @@ pub fn serve_scripts<R: Wait + Threads + Sync>(
 {
     let count = u32::try_from(scripts.len()).unwrap_or(u32::MAX);
     match open(alloc, rt, hashing, base, count, dispatchers) {
-        Ok(opened) => Ok(serve(rt, alloc, opened, scripts)?),
+        Ok(opened) => Ok(serve(rt, alloc, opened, scripts, timed)?),
         Err(error) => Err(RunFault::from(error.fault)),
     }
 }

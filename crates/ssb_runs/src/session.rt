@@ -3,19 +3,23 @@ ghost use Rattle.std.specs.Prelude.{◌≡◌, IfOk};
 ghost use Rattle.ssb_runs.specs.Sessions.{IsSessionOf, IsTaskAt};
 
 use crate::job::Job;
+use crate::latency::{Timer, Times};
 use ssb_audit::Told;
 use ssb_server::{Client, Server};
-use ssb_session::{BlocksError, run_blocks};
-use std::alloc::Global;
+use ssb_session::run_blocks;
+use std::alloc::{AllocError, Global};
 use std::marker::Model;
 use std::sync::Wait;
+use std::time::Clock;
 
-/// A session that has ended: the client, what was reported to it, and what it was told.
+/// A session that has ended: the client, what was reported to it, what it was told, and how long its requests took, where
+/// that was asked for.
 #[derive(Drop)]
 pub(crate) struct Session<W: Wait + Drop> {
     pub(crate) client: Client<W>,
     pub(crate) report: Vec<u8>,
     pub(crate) told: Vec<Told>,
+    pub(crate) times: Option<Times>,
 }
 
 impl<W: Wait + Drop> Model for Session<W> {
@@ -26,23 +30,39 @@ impl<W: Wait + Drop> Model for Session<W> {
     ghost view = { λ s. record { client = s.client; report = s.report.items; told = s.told.items } };
 }
 
-/// Serves the client its script, with a report in memory.
-pub(crate) fn serve_script<W: Wait + Drop, R: Wait>(
+/// Serves the client its script, with a report in memory, so that want of memory alone can end it early.
+pub(crate) fn serve_script<W: Wait + Drop, R: Wait + Clock>(
     rt: &R,
     alloc: Global,
     server: &Server<W>,
     job: Job<W>,
-) -> Result<Session<W>, BlocksError>
+) -> Result<Session<W>, AllocError>
     requires { IsTaskAt server.now job }
     ensures { IfOk result (λ session. IsSessionOf job session) }
 {
-    let Job { mut client, script } = job;
+    let Job {
+        mut client,
+        script,
+        timed,
+    } = job;
     let mut report = Vec::new(alloc);
     let mut told = Vec::new(alloc);
-    run_blocks(rt, server, &mut client, script, &mut report, &mut told)?;
-    Ok(Session {
-        client,
-        report,
-        told,
-    })
+    let mut timer = Timer::new(alloc, rt, timed)?;
+    match run_blocks(
+        rt,
+        server,
+        &mut client,
+        script,
+        &mut report,
+        &mut told,
+        &mut timer,
+    ) {
+        Ok(()) => Ok(Session {
+            client,
+            report,
+            told,
+            times: timer.into_times(),
+        }),
+        Err(_) => Err(AllocError),
+    }
 }

@@ -1,8 +1,9 @@
 //! Runs over the small data set.
 
 mod data;
+mod latency;
 
-use crate::{Batches, Run, RunFault, serve_scripts};
+use crate::{Batches, Latencies, Run, RunFault, serve_scripts};
 use data::{adding_script, adding_scripts, base};
 use ssb_audit::audit;
 use ssb_script::Script;
@@ -12,16 +13,19 @@ use std::hash::RandomState;
 use std::sync::Wait;
 use std::test::Fail;
 use std::thread::Threads;
+use std::time::Clock;
 
 // The scripts are served over the small data set.
-fn served<R: Wait + Threads + Sync>(
+fn served<R: Wait + Threads + Sync + Clock>(
     rt: &R,
     alloc: Global,
     hashing: RandomState,
     scripts: Vec<Script>,
     dispatchers: u32,
+    timed: bool,
 ) -> Result<Run, Fail> {
-    Ok(serve_scripts(rt, alloc, hashing, base(alloc)?, scripts, dispatchers)?)
+    let base = base(alloc)?;
+    Ok(serve_scripts(rt, alloc, hashing, base, scripts, dispatchers, timed)?)
 }
 
 // How many of the commits are the client's.
@@ -47,7 +51,7 @@ fn committed_lines(report: &[u8]) -> Result<usize, Fail> {
 fn three_clients_of_ten_refreshes_leave_thirty_commits(rt: HostRuntime) -> Result<(), Fail> {
     let alloc = rt.alloc();
     let hashing = RandomState::new(&rt)?;
-    let run = served(&rt, alloc, hashing, adding_scripts(alloc, 3, 10)?, 2)?;
+    let run = served(&rt, alloc, hashing, adding_scripts(alloc, 3, 10)?, 2, true)?;
     assert_eq!(rt; run.trace.commits.len(), 30);
     let of_each = (
         commits_of(&run, 1),
@@ -61,6 +65,10 @@ fn three_clients_of_ten_refreshes_leave_thirty_commits(rt: HostRuntime) -> Resul
     }
     assert_eq!(rt; run.trace.answers.len(), 3);
     assert_eq!(rt; run.batches.questions, 3);
+    let Latencies { refreshes, answers } = run.latencies;
+    assert_eq!(rt; (refreshes.count, answers.count), (30, 3));
+    assert!(rt; refreshes.middle <= refreshes.ninety_ninth);
+    assert!(rt; refreshes.ninety_ninth <= refreshes.greatest);
     assert!(rt; audit(&rt, alloc, base(alloc)?, hashing, &run.trace).is_ok());
     Ok(())
 }
@@ -70,7 +78,7 @@ fn an_answer_has_the_clients_own_commit(rt: HostRuntime) -> Result<(), Fail> {
     let alloc = rt.alloc();
     let mut scripts = Vec::new(alloc);
     scripts.push(adding_script(alloc, 8, 1)?)?;
-    let run = served(&rt, alloc, RandomState::new(&rt)?, scripts, 1)?;
+    let run = served(&rt, alloc, RandomState::new(&rt)?, scripts, 1, false)?;
     let wanted = "committed 1\nQ4.1 at 1 rows 1\n1997|UNITED STATES|-1330\n";
     let reports = run.reports.as_slice();
     assert_eq!(rt; reports.len(), 1);
@@ -80,6 +88,7 @@ fn an_answer_has_the_clients_own_commit(rt: HostRuntime) -> Result<(), Fail> {
         questions: 1,
     };
     assert_eq!(rt; run.batches, batches);
+    assert_eq!(rt; run.latencies, Latencies::default());
     Ok(())
 }
 
@@ -91,7 +100,7 @@ fn the_reports_stand_in_the_order_of_the_scripts(rt: HostRuntime) -> Result<(), 
         for orders in 0..clients {
             scripts.push(adding_script(alloc, 100 * orders + 100, orders)?)?;
         }
-        let run = served(&rt, alloc, RandomState::new(&rt)?, scripts, 4)?;
+        let run = served(&rt, alloc, RandomState::new(&rt)?, scripts, 4, false)?;
         let mut orders = 0;
         for report in &run.reports {
             assert_eq!(rt; committed_lines(report.as_slice())?, orders);
@@ -104,7 +113,7 @@ fn the_reports_stand_in_the_order_of_the_scripts(rt: HostRuntime) -> Result<(), 
 }
 
 // The fault of so many scripts and dispatchers.
-fn fault_of<R: Wait + Threads + Sync>(
+fn fault_of<R: Wait + Threads + Sync + Clock>(
     rt: &R,
     alloc: Global,
     hashing: RandomState,
@@ -112,7 +121,15 @@ fn fault_of<R: Wait + Threads + Sync>(
     dispatchers: u32,
 ) -> Result<Option<RunFault>, Fail> {
     let scripts = adding_scripts(alloc, clients, 0)?;
-    match serve_scripts(rt, alloc, hashing, base(alloc)?, scripts, dispatchers) {
+    match serve_scripts(
+        rt,
+        alloc,
+        hashing,
+        base(alloc)?,
+        scripts,
+        dispatchers,
+        false,
+    ) {
         Ok(_run) => Ok(None),
         Err(fault) => Ok(Some(fault)),
     }

@@ -14,6 +14,7 @@ use std::sync::Wait;
 use std::sync::atomic::{AtomicBool, Ordering};
 use std::thread;
 use std::thread::{Scope, Threads};
+use std::time::Clock;
 
 /// All who took part, after their threads ended.
 #[derive(Drop)]
@@ -67,7 +68,7 @@ fn crew_of<W: Wait + Drop>(
 
 // Starts the dispatchers, then the clients, whom nobody would answer without them, and joins all that were started: the clients
 // first, which the dispatchers answer until then.
-fn serve_all<'s, E, W: Wait + Drop + Send, R: Wait + Threads + Sync>(
+fn serve_all<'s, E, W: Wait + Drop + Send, R: Wait + Threads + Sync + Clock>(
     scope: &Scope<'s, E>,
     rt: &'s R,
     alloc: Global,
@@ -108,7 +109,7 @@ fn serve_all<'s, E, W: Wait + Drop + Send, R: Wait + Threads + Sync>(
 }
 
 // Runs all of it in a scope, which ends when every thread has.
-fn serve_in_scope<W: Wait + Drop + Send, R: Wait + Threads + Sync>(
+fn serve_in_scope<W: Wait + Drop + Send, R: Wait + Threads + Sync + Clock>(
     rt: &R,
     alloc: Global,
     server: &Server<W>,
@@ -133,7 +134,7 @@ fn serve_in_scope<W: Wait + Drop + Send, R: Wait + Threads + Sync>(
 }
 
 /// Serves the jobs, each in a thread of its own, by these dispatchers, each in a thread of its own.
-pub(crate) fn run_threads<W: Wait + Drop + Send, R: Wait + Threads + Sync>(
+pub(crate) fn run_threads<W: Wait + Drop + Send, R: Wait + Threads + Sync + Clock>(
     rt: &R,
     alloc: Global,
     server: &Server<W>,

@@ -11,6 +11,7 @@ ghost use Rattle.ssb_session.specs.Steps.{AreAlike, ServesOne, StopsIn};
 ghost use Rattle.ssb_audit.specs.declared.trace.Told.{Told as PlainTold};
 
 use crate::fault::{BlocksError, Stop};
+use crate::meter::{Meter, kind_of};
 use ssb_audit::Told;
 use ssb_plans::Question;
 use ssb_queries::Answer;
@@ -118,14 +119,15 @@ fn serve_block<W: Wait + Drop, R: Wait, O: Write>(
 /// told before. It waits for the rows and for answers; a dispatcher has to take its turns meanwhile.
 ///
 /// A failed write ends it: the blocks before it and its own have been served. Want of memory for keeping an answer ends it
-/// before its question is asked. In each case nothing is outstanding then.
-pub fn run_blocks<W: Wait + Drop, R: Wait, O: Write>(
+/// before its question is asked. In each case nothing is outstanding then. The meter is told when each block begins and ends.
+pub fn run_blocks<W: Wait + Drop, R: Wait, O: Write, M: Meter>(
     rt: &R,
     server: &Server<W>,
     client: &mut Client<W>,
     script: Script,
     writer: &mut O,
     told: &mut Vec<Told>,
+    meter: &mut M,
 ) -> Result<(), BlocksError>
     requires hall { client.old.hall ≡ server.now }
     requires quiet { is_some client.old.asked ≡ false }
@@ -138,10 +140,13 @@ pub fn run_blocks<W: Wait + Drop, R: Wait, O: Write>(
     let mut blocks = script.blocks.into_iter();
     let mut done = 0;
     while let Some(block) = blocks.next() {
+        let kind = kind_of(&block);
+        meter.begin();
         match serve_block(rt, server, client, number, block, writer, told) {
             Ok(()) => done += 1,
             Err(stop) => return Err(stop.after(done)),
         }
+        meter.end(kind);
     }
     Ok(())
 }

@@ -11,7 +11,7 @@
 //!
 //! ```text
 //! let script = read_script(alloc, file, MOST_RECORDS)?;
-//! run_blocks(&rt, &server, &mut client, script, &mut report, &mut told)?;
+//! run_blocks(&rt, &server, &mut client, script, &mut report, &mut told, &mut NoMeter)?;
 //! ```
 #![tactic(auto)]
 
@@ -19,8 +19,10 @@ mod alone;
 mod blocks;
 mod fault;
 pub mod laws;
+mod meter;
 
 pub use alone::run_script;
 pub use blocks::run_blocks;
 pub use fault::BlocksError;
+pub use meter::{Kind, Meter, NoMeter};
 pub use ssb_audit::Told;

@@ -3,6 +3,7 @@
 use crate::arguments;
 use crate::command::run;
 use crate::small_data::{CUSTOMER, DATE, LINEORDER, PART, SUPPLIER};
+use crate::tests::progress::Screened;
 use crate::tests::{ALL, Full, Holding, Told};
 use std::alloc::Global;
 use std::env::{Env, FillError};
@@ -15,8 +16,11 @@ use std::test::Fail;
 use std::thread::Threads;
 use std::time::Clock;
 
+// No terminal.
+const NONE: Option<&Screened> = None;
+
 // These words as the system gives them.
-fn listed(alloc: Global, words: &[&str]) -> Result<Vec<String>, Fail> {
+pub(super) fn listed(alloc: Global, words: &[&str]) -> Result<Vec<String>, Fail> {
     let mut list = Vec::new(alloc);
     for word in words {
         list.push(String::from_str(alloc, word)?)?;
@@ -32,7 +36,8 @@ where
     let words = listed(rt.alloc(), words)?;
     let mut out = Vec::new(rt.alloc());
     let mut err = Vec::new(rt.alloc());
-    let status = run(rt, words.as_slice(), script.as_bytes(), &mut out, &mut err);
+    let script = script.as_bytes();
+    let status = run(rt, words.as_slice(), script, NONE, &mut out, &mut err);
     Ok(Told { status, out, err })
 }
 
@@ -58,6 +63,7 @@ fn each_word_after_query_has_its_place(rt: HostRuntime) -> Result<(), Fail> {
         );
         assert!(rt; !query.get_flag("all"));
         assert!(rt; !query.get_flag("times"));
+        assert!(rt; !query.get_flag("quiet"));
     }
     Ok(())
 }
@@ -156,11 +162,14 @@ fn help_and_version_go_to_standard_output(rt: HostRuntime) -> Result<(), Fail> {
         let words = listed(rt.alloc(), words)?;
         let script = "".as_bytes();
         let mut err = Vec::new(rt.alloc());
-        assert_eq!(rt; run(&rt, words.as_slice(), script, &mut Full, &mut err), 4);
+        assert_eq!(rt;
+            run(&rt, words.as_slice(), script, NONE, &mut Full, &mut err),
+            4
+        );
         assert_eq!(rt; err.as_slice(), b"ssb_live: write failed\n".as_slice());
         let mut err = Vec::new(rt.alloc());
         assert_eq!(rt;
-            run(&rt, words.as_slice(), script, &mut Holding, &mut err),
+            run(&rt, words.as_slice(), script, NONE, &mut Holding, &mut err),
             4
         );
         assert_eq!(rt; err.as_slice(), b"ssb_live: write failed\n".as_slice());
@@ -182,6 +191,11 @@ fn wrong_words_end_with_status_2_whether_or_not_they_are_told(rt: HostRuntime) -
             "ssb_live", "query", "--data", "t", "--all", "Q2.1", "MFGR#12", "ASIA",
         ],
         &["ssb_live", "query", "--all"],
+        &["ssb_live", "--quiet"],
+        &["ssb_live", "query", "--data", "t", "--silent", "Q1.1"],
+        &["ssb_live", "query", "--data", "t", "--quiet=yes", "Q1.1"],
+        &["ssb_live", "run", "--data", "t", "--silent", "s"],
+        &["ssb_live", "audit", "--data", "t", "--times", "s"],
         &["ssb_live", "--data", "t"],
     ] {
         let told = run_with(&rt, words, "")?;
@@ -191,7 +205,10 @@ fn wrong_words_end_with_status_2_whether_or_not_they_are_told(rt: HostRuntime) -
         let words = listed(rt.alloc(), words)?;
         let mut out = Vec::new(rt.alloc());
         let script = "".as_bytes();
-        assert_eq!(rt; run(&rt, words.as_slice(), script, &mut out, &mut Full), 2);
+        assert_eq!(rt;
+            run(&rt, words.as_slice(), script, NONE, &mut out, &mut Full),
+            2
+        );
     }
     Ok(())
 }

@@ -300,6 +300,8 @@ fn the_pace_of_a_run_is_told_after_it(rt: HostRuntime) -> Result<(), Fail> {
         "ssb_live: commits 1, ",
         "ssb_live: answers 3, ",
         "ssb_live: batches 3, 1.00 questions each\n",
+        "ssb_live: refreshes 2, middle ",
+        "ssb_live: questions 3, middle ",
     ] {
         assert!(rt; pace.contains(begin));
     }
