@@ -1,37 +1,52 @@
 -- A script served over the small data set.
 use Rattle.std.specs.Prelude.{◌≡◌, ◌⊎◌, ℕ, List, [], Option, Some}
 use Rattle.std.specs.Io.KnownBytes.{Keeps}
-use Rattle.ssb_live.specs.Reported.{AreRefused}
+use Rattle.ssb_live.specs.Reported.{AreRefused, IsLoaded}
 use Rattle.ssb_live.specs.SmallTexts.{small_texts}
 use Rattle.ssb_live.specs.Status.{script_status}
-use Rattle.ssb_load.specs.Load.{SpellsBase}
-use Rattle.ssb_report.specs.Run.{ServesAll, ServesPart, most_records}
+use Rattle.ssb_report.specs.Report.{Serves, StopsAfter}
+use Rattle.ssb_report.specs.Run.{AreAsked, most_records}
 use Rattle.ssb_schema.specs.Base.{Tables}
-use Rattle.ssb_schema.specs.Limits.{limits_of}
+use Rattle.ssb_script.specs.Requests.{Request}
 use Rattle.ssb_script.specs.Scripts.{IsScriptFault}
 use Rattle.ssb_script.specs.declared.error.ScriptError.{ScriptError}
+use Rattle.ssb_session.specs.Alone.{may_be_told}
 use Rattle.row_store.specs.History.{Warehouse}
 
--- the base that the small data set spells, with the greatest limits
-pub record IsSmall (base : Tables) : Type 0 where
-  pub limited : limits_of base.limits ≡ (1048576, 33554432, 1000000)
-  pub spelled : SpellsBase small_texts base
+-- the warehouse over a base, before any commit
+abbrev pub opening : Tables → Warehouse
+opening base = record { base = base; log = [] }
 
--- the script was served to its end: what was written is its report from the loaded state on
-pub record ServesSmall (remaining : Option (List ℕ)) (before after : Option (List ℕ)) : Type 0 where
-  pub base : Tables
-  pub small : IsSmall base
-  pub done : ℕ
+-- the script was served to its end over a base: what was written is its report from the loaded state on, as of client 1
+pub record ServesOver (base : Tables) (remaining : Option (List ℕ)) (before after : Option (List ℕ)) : Type 0 where
+  pub requests : List Request
+  pub asked : AreAsked remaining requests
   pub ended : Warehouse
-  pub served : ServesAll remaining done (record { base = base; log = [] }) ended before after
+  pub served : Serves may_be_told 1 (opening base) ended requests before after
 
 -- a write failed in the report of a reply
-pub record StopsSmall (remaining : Option (List ℕ)) (before after : Option (List ℕ)) : Type 0 where
-  pub base : Tables
-  pub small : IsSmall base
+pub record StopsOver (base : Tables) (remaining : Option (List ℕ)) (before after : Option (List ℕ)) : Type 0 where
+  pub requests : List Request
+  pub asked : AreAsked remaining requests
   pub done : ℕ
   pub ended : Warehouse
-  pub served : ServesPart remaining done (record { base = base; log = [] }) ended before after
+  pub stopped : StopsAfter may_be_told done 1 (opening base) ended requests before after
+
+-- nothing was written, or a report that was cut
+abbrev pub EndsOver : Tables → Option (List ℕ) → Option (List ℕ) → Option (List ℕ) → Type 0
+EndsOver base remaining before after = Keeps before after ⊎ StopsOver base remaining before after
+
+-- the script was served to its end over the base that the small data set spells
+pub record ServesSmall (remaining : Option (List ℕ)) (before after : Option (List ℕ)) : Type 0 where
+  pub base : Tables
+  pub loaded : IsLoaded small_texts base
+  pub served : ServesOver base remaining before after
+
+-- a write failed in its report
+pub record StopsSmall (remaining : Option (List ℕ)) (before after : Option (List ℕ)) : Type 0 where
+  pub base : Tables
+  pub loaded : IsLoaded small_texts base
+  pub stopped : StopsOver base remaining before after
 
 -- the run ended early, or its report was not handed on: nothing was written, or a report that was cut, or all of it
 abbrev pub EndsEarly : Option (List ℕ) → Option (List ℕ) → Option (List ℕ) → Type 0
@@ -43,6 +58,10 @@ pub record IsRefused (text : List ℕ) : Type 0 where
   pub first : IsScriptFault most_records text fault
   pub of_script : script_status fault ≡ 1
 
--- the script is refused, wherever its bytes are known; or else the small data set is
+-- the script is refused, wherever its bytes are known
+abbrev pub IsRefusedScript : Option (List ℕ) → Type 0
+IsRefusedScript remaining = (text : List ℕ) → remaining ≡ Some text → IsRefused text
+
+-- the script is refused; or else the small data set is
 abbrev pub IsOfScript : Option (List ℕ) → Type 0
-IsOfScript remaining = ((text : List ℕ) → remaining ≡ Some text → IsRefused text) ⊎ AreRefused small_texts
+IsOfScript remaining = IsRefusedScript remaining ⊎ AreRefused small_texts

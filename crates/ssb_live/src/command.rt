@@ -151,7 +151,7 @@ where
     }
 }
 
-// Serves a script. The keys of its store are hashed at random, so that no client can choose some that collide.
+// Serves a script. The keys of its orders are hashed at random, so that no client can choose some that collide.
 fn serve_script<R, I: Read + Drop, W: Write, E: Write>(
     rt: &R,
     input: I,
@@ -159,10 +159,10 @@ fn serve_script<R, I: Read + Drop, W: Write, E: Write>(
     err: &mut E,
 ) -> u8
 where
-    R: RandomSource + AllocGlobal,
+    R: RandomSource + Threads + Sync + Wait + AllocGlobal,
 {
     match RandomState::new(rt) {
-        Ok(hashing) => demo(rt.alloc(), hashing, input, out, err),
+        Ok(hashing) => demo(rt, hashing, input, out, err),
         Err(_) => Fault::NoRandomness.tell(err),
     }
 }

@@ -1,7 +1,7 @@
 //! The program `ssb_live`: a warehouse of the Star Schema Benchmark on the command line.
 //!
-//! Without words it serves the script on standard input over the small built-in data set, as the one client of a one-thread
-//! warehouse, and prints the report. `ssb_live query --data DIR NAME [CONSTANT..]` loads five table files and prints the
+//! Without words it serves the script on standard input over the small built-in data set, as the one client of the live
+//! server, and prints the report. `ssb_live query --data DIR NAME [CONSTANT..]` loads five table files and prints the
 //! report of one question, `ssb_live query --data DIR --all` those of the thirteen queries, answered in one pass.
 //! `ssb_live run --data DIR SCRIPT..` serves scripts at once, a client of the live server each, and `ssb_live audit --data DIR
 //! TRACE` checks the trace that such a run left. The work is done by `demo::demo`, `query::run_query`, `query::run_all`,

@@ -300,13 +300,8 @@ fn a_fault_of_the_script_is_told(rt: HostRuntime) -> Result<(), Fail> {
     let hashing = RandomState::new(&rt)?;
     let mut out = Vec::new(rt.alloc());
     let mut err = Vec::new(rt.alloc());
-    let status = demo(
-        rt.alloc(),
-        hashing,
-        "hello\n".as_bytes(),
-        &mut out,
-        &mut err,
-    );
+    let script = "hello\n".as_bytes();
+    let status = demo(&rt, hashing, script, &mut out, &mut err);
     assert_eq!(rt; status, 1);
     assert!(rt; out.is_empty());
     assert_eq!(rt;
@@ -370,7 +365,7 @@ fn a_report_that_is_not_handed_on_is_told(rt: HostRuntime) -> Result<(), Fail> {
     let mut err = Vec::new(rt.alloc());
     let hashing = RandomState::new(&rt)?;
     let script = "query|Q1.1\n".as_bytes();
-    let status = demo(rt.alloc(), hashing, script, &mut Holding, &mut err);
+    let status = demo(&rt, hashing, script, &mut Holding, &mut err);
     assert_eq!(rt; status, 4);
     assert_eq!(rt; err.as_slice(), "ssb_live: write failed\n".as_bytes());
     Ok(())

@@ -1,14 +1,17 @@
-use Rattle.std.proofs.Common.{◌∙◌, ap}
-use Rattle.ssb_schema.specs.Limits.{limits_of}
+use Rattle.std.proofs.Common.{◌≡◌, Err, rules}
+use Rattle.ssb_live.specs.Reported.{AreRefused}
 use Rattle.ssb_live.specs.SmallTexts.{small_texts}
+use Rattle.ssb_live.specs.Status.{status_of}
 use Rattle.ssb_live.proofs.demo.small_base.Goals as goal
 
-pub returns-in-Ok-clause-base : goal.returns-in-Ok-clause-base
-returns-in-Ok-clause-base c = record {
-  limited = ap limits_of c.in-Ok.ensures.limits ∙ c.standard.ensures;
-  spelled = c.in-Ok.ensures.base small_texts c.tables.ensures;
-}
+pub returns-in_err-base-clause-data : goal.returns-in_err-base-clause-data
+returns-in_err-base-clause-data c =
+    let is : c.from_residual.result ≡ Err c.in_err-base.field-0.0 = search rules in
+    let here : status_of c.in_err-base.field-0.0 ≡ 1 → AreRefused small_texts =
+    λ status. c.in_err-base.ensures.data status small_texts c.tables.ensures in
+    rw is here
 
-pub returns-in-Err-clause-data : goal.returns-in-Err-clause-data
-returns-in-Err-clause-data c = λ of_data.
-    record { limits = c.standard.result; limited = c.standard.ensures; fault = c.in-Err.fault; first = c.in-Err.ensures.fault small_texts c.tables.ensures; of_data = of_data }
+pub returns-clause-base : goal.returns-clause-base
+returns-clause-base c =
+    let is : c.in_ok-new.field-0.value ≡ c.in_ok-base.base = search rules in
+    rw is (c.in_ok-base.ensures.base small_texts c.tables.ensures)
