@@ -1,5 +1,8 @@
 //! The server's calls, run and compared.
 mod data;
+mod flags;
 mod one_thread;
 mod opening;
 mod steps;
+mod two_clients;
+mod waking;
