@@ -1,4 +1,5 @@
 //! The server's calls, run and compared.
+mod closing;
 mod data;
 mod flags;
 mod one_thread;
