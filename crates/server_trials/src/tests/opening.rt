@@ -9,9 +9,9 @@ use std::hash::RandomState;
 use std::sync::Wait;
 use std::test::Fail;
 
-// A server over the small data set.
+/// A server over the small data set.
 #[tactic(auto, using(ssb_server::proofs::Staying::new_clients_are_quiet, ssb_server::proofs::Staying::new_dispatchers_are_of_it))]
-fn opened<W: Wait + Drop>(
+pub fn opened<W: Wait + Drop>(
     alloc: Global,
     rt: W,
     hashing: RandomState,
@@ -27,8 +27,8 @@ fn opened<W: Wait + Drop>(
     }
 }
 
-// The last client.
-fn next_client<W: Wait + Drop>(
+/// The last client, which leaves.
+pub fn next_client<W: Wait + Drop>(
     server: &Server<W>,
     clients: &mut Vec<Client<W>>,
 ) -> Option<Client<W>>
@@ -40,8 +40,8 @@ fn next_client<W: Wait + Drop>(
     clients.pop()
 }
 
-// The last dispatcher.
-fn next_dispatcher<W: Wait + Drop>(
+/// The last dispatcher, which leaves.
+pub fn next_dispatcher<W: Wait + Drop>(
     server: &Server<W>,
     dispatchers: &mut Vec<Dispatcher<W>>,
 ) -> Option<Dispatcher<W>>
@@ -67,6 +67,38 @@ pub fn for_one_client<W: Wait + Drop>(
     let client = next_client(&server, &mut made.clients).ok_or("no client")?;
     let dispatcher = next_dispatcher(&server, &mut made.dispatchers).ok_or("no dispatcher")?;
     Ok((server, client, dispatcher))
+}
+
+/// The last two clients, which leave: the last but one, and the last.
+pub fn next_two_clients<W: Wait + Drop>(
+    server: &Server<W>,
+    clients: &mut Vec<Client<W>>,
+) -> Result<(Client<W>, Client<W>), Fail>
+    requires { All (IsQuiet server.now) clients.old.items }
+    ensures left { All (IsQuiet server.now) clients.new.items }
+    ensures first { IfOk result (λ two. IsQuiet server.now two.0) }
+    ensures second { IfOk result (λ two. IsQuiet server.now two.1) }
+{
+    let second = next_client(server, clients).ok_or("no second client")?;
+    let first = next_client(server, clients).ok_or("no client")?;
+    Ok((first, second))
+}
+
+/// A server with two clients and one dispatcher.
+pub fn for_two_clients<W: Wait + Drop>(
+    alloc: Global,
+    rt: W,
+    hashing: RandomState,
+) -> Result<(Server<W>, (Client<W>, Client<W>), Dispatcher<W>), Fail>
+    ensures first { IfOk result (λ made. IsQuiet made.0 made.1.0) }
+    ensures second { IfOk result (λ made. IsQuiet made.0 made.1.1) }
+    ensures dispatcher { IfOk result (λ made. IsOf made.0 made.2) }
+{
+    let mut made = opened(alloc, rt, hashing, 2, 1)?;
+    let server = made.server;
+    let clients = next_two_clients(&server, &mut made.clients)?;
+    let dispatcher = next_dispatcher(&server, &mut made.dispatchers).ok_or("no dispatcher")?;
+    Ok((server, clients, dispatcher))
 }
 
 #[test]

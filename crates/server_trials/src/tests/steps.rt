@@ -3,9 +3,9 @@ ghost use Rattle.std.specs.Prelude.{◌≡◌, OnOk, true};
 ghost use Rattle.std.specs.Option.{is_some};
 ghost use Rattle.ssb_server.specs.Tickets.{IsOf, IsQuiet};
 
-use crate::tests::data::{adding, question};
+use crate::tests::data::{adding, question, told};
 use row_store::{Receipt, RefreshError};
-use ssb_plans::Query;
+use ssb_plans::{Query, Question};
 use ssb_queries::Answer;
 use ssb_schema::Refresh;
 use ssb_server::{Client, Dispatcher, OpenGate, ScanGate, Server, Turn};
@@ -106,4 +106,52 @@ pub fn asks_and_is_answered<W: Wait + Drop, R: Wait + Threads + Sync>(
         Turn::Answered { count: 1, .. } => polls(server, client),
         _ => Err("another turn")?,
     }
+}
+
+/// A client meets another one, and is told how many commits it then sees.
+#[tactic(auto, using(ssb_server::proofs::Staying::looks_stays))]
+pub fn meets<W: Wait + Drop>(
+    server: &Server<W>,
+    client: &mut Client<W>,
+    other: &mut Client<W>,
+) -> u64
+    requires client { IsQuiet server.now client.old }
+    requires other { IsQuiet server.now other.old }
+    ensures client { IsQuiet server.now client.new }
+    ensures other { IsQuiet server.now other.new }
+{
+    client.meet(server, other)
+}
+
+/// A client asks this question.
+#[tactic(auto, using(ssb_server::proofs::Staying::asks_stays))]
+pub fn asks_this<W: Wait + Drop>(server: &Server<W>, client: &mut Client<W>, question: Question)
+    requires { IsQuiet server.now client.old }
+    ensures hall { client.new.hall ≡ server.now }
+    ensures asking { is_some client.new.asked ≡ true }
+{
+    client.ask(server, question);
+}
+
+/// A client awaits the answer.
+#[tactic(auto, using(ssb_server::proofs::Staying::polls_stays))]
+pub fn awaits<W: Wait + Drop, R: Wait>(rt: &R, server: &Server<W>, client: &mut Client<W>) -> Answer
+    requires hall { client.old.hall ≡ server.now }
+    requires asking { is_some client.old.asked ≡ true }
+    ensures { IsQuiet server.now client.new }
+{
+    client.await_answer(rt, server)
+}
+
+/// A client polls the answer, which is there, as text.
+pub fn polls_text<W: Wait + Drop>(
+    alloc: Global,
+    server: &Server<W>,
+    client: &mut Client<W>,
+) -> Result<String, Fail>
+    requires { client.old.hall ≡ server.now }
+    ensures { OnOk result (IsQuiet server.now client.new) }
+{
+    let answer = polls(server, client)?;
+    told(alloc, &answer)
 }
