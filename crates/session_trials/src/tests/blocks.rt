@@ -30,7 +30,8 @@ fn refreshes_are_reported_and_tell_no_answer(rt: HostRuntime) -> Result<(), Fail
     Ok(())
 }
 
-// What a run of the refreshes with room for so many bytes leaves: how it ended, what was written, and the report of Q4.1 then.
+// What a run of the refreshes with room for so many bytes leaves: how it ended, what was written, and the report of
+// Q4.1 then.
 #[derive(Drop)]
 struct Left {
     ended: Result<(), BlocksError>,

@@ -72,7 +72,8 @@ Q4.1 at 1 rows 1
 1997|UNITED STATES|-1330
 ";
 
-/// Adds order 9, amends order 1 to one line, withdraws order 9 with one that is absent and then alone; with questions between.
+/// Adds order 9, amends order 1 to one line, withdraws order 9 with one that is absent and then alone; with questions
+/// between.
 pub const LONG: &str = "query|Q1.1
 begin
 add

@@ -12,7 +12,8 @@ use std::sync::Wait;
 use std::test::Fail;
 use std::thread::Threads;
 
-// A script over a server that was just opened, with room for so many bytes of its report: how it ended, and what was written.
+// A script over a server that was just opened, with room for so many bytes of its report: how it ended, and what was
+// written.
 fn within<T: Wait + Threads + Sync>(
     alloc: Global,
     rt: &T,
