@@ -1,0 +1,6 @@
+//! Scripts, served and compared.
+mod blocks;
+mod data;
+mod ends;
+mod reports;
+mod serving;
