@@ -5,5 +5,6 @@ mod flags;
 mod one_thread;
 mod opening;
 mod steps;
+mod thirty;
 mod two_clients;
 mod waking;

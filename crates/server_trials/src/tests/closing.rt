@@ -6,13 +6,13 @@ use crate::tests::data::ORDER_NINE;
 use crate::tests::opening::{next_client, opened};
 use crate::tests::steps::adds;
 use ssb_server::{Client, CloseError, Closed, Dispatcher, Server};
-use std::alloc::AllocError;
+use std::alloc::{AllocError, Global};
 use std::hash::RandomState;
 use std::sync::Wait;
 use std::test::Fail;
 
-// Closes the server.
-fn closes<W: Wait + Drop>(
+/// Closes the server.
+pub fn closes<W: Wait + Drop>(
     server: Server<W>,
     clients: Vec<Client<W>>,
     dispatchers: Vec<Dispatcher<W>>,
@@ -44,8 +44,8 @@ fn stays_open<W: Wait + Drop>(
     }
 }
 
-// These clients, and one more.
-fn with_client<W: Wait + Drop>(
+/// These clients, and one more.
+pub fn with_client<W: Wait + Drop>(
     server: &Server<W>,
     mut clients: Vec<Client<W>>,
     client: Client<W>,
@@ -74,8 +74,41 @@ fn closes_with<W: Wait + Drop>(back: CloseError<W>, client: Client<W>) -> Result
     closes(server, clients, dispatchers)
 }
 
-// How many of the commits are the client's.
-fn commits_of(closed: &Closed, client: u32) -> usize {
+// This dispatcher alone.
+fn only_dispatcher<W: Wait + Drop>(
+    alloc: Global,
+    server: &Server<W>,
+    dispatcher: Dispatcher<W>,
+) -> Result<Vec<Dispatcher<W>>, AllocError>
+    requires { IsOf server.now dispatcher }
+    ensures { IfOk result (λ all. All (IsOf server.now) all.items) }
+{
+    let _ = server;
+    Ok(vec![in alloc; dispatcher]?)
+}
+
+/// Closes the server with three clients and a dispatcher.
+pub fn closes_three<W: Wait + Drop>(
+    alloc: Global,
+    server: Server<W>,
+    clients: (Client<W>, (Client<W>, Client<W>)),
+    dispatcher: Dispatcher<W>,
+) -> Result<Closed, Fail>
+    requires first { IsQuiet server clients.0 }
+    requires second { IsQuiet server clients.1.0 }
+    requires third { IsQuiet server clients.1.1 }
+    requires dispatcher { IsOf server dispatcher }
+{
+    let (first, (second, third)) = clients;
+    let clients = with_client(&server, Vec::new(alloc), third)?;
+    let clients = with_client(&server, clients, first)?;
+    let clients = with_client(&server, clients, second)?;
+    let dispatchers = only_dispatcher(alloc, &server, dispatcher)?;
+    closes(server, clients, dispatchers)
+}
+
+/// How many of the commits are the client's.
+pub fn commits_of(closed: &Closed, client: u32) -> usize {
     closed
         .log
         .iter()

@@ -101,6 +101,32 @@ pub fn for_two_clients<W: Wait + Drop>(
     Ok((server, clients, dispatcher))
 }
 
+/// A server with three clients and so many dispatchers.
+pub fn for_three_clients<W: Wait + Drop>(
+    alloc: Global,
+    rt: W,
+    hashing: RandomState,
+    dispatchers: u32,
+) -> Result<
+    (
+        Server<W>,
+        (Client<W>, (Client<W>, Client<W>)),
+        Vec<Dispatcher<W>>,
+    ),
+    Fail,
+>
+    ensures first { IfOk result (λ made. IsQuiet made.0 made.1.0) }
+    ensures second { IfOk result (λ made. IsQuiet made.0 made.1.1.0) }
+    ensures third { IfOk result (λ made. IsQuiet made.0 made.1.1.1) }
+    ensures dispatchers { IfOk result (λ made. All (IsOf made.0) made.2.items) }
+{
+    let mut made = opened(alloc, rt, hashing, 3, dispatchers)?;
+    let server = made.server;
+    let others = next_two_clients(&server, &mut made.clients)?;
+    let first = next_client(&server, &mut made.clients).ok_or("no client")?;
+    Ok((server, (first, others), made.dispatchers))
+}
+
 #[test]
 fn counts_out_of_range_open_nothing(rt: HostRuntime) -> Result<(), Fail> {
     let alloc = rt.alloc();

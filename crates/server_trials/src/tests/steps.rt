@@ -143,6 +143,24 @@ pub fn awaits<W: Wait + Drop, R: Wait>(rt: &R, server: &Server<W>, client: &mut 
     client.await_answer(rt, server)
 }
 
+/// A client asks, a dispatcher takes a turn that answers it alone, and the client polls: its answer as text.
+pub fn asks_and_is_told<W: Wait + Drop, R: Wait + Threads + Sync>(
+    rt: &R,
+    alloc: Global,
+    server: &Server<W>,
+    client: &mut Client<W>,
+    dispatcher: &mut Dispatcher<W>,
+    query: Query,
+) -> Result<String, Fail>
+    requires client { IsQuiet server.now client.old }
+    requires dispatcher { IsOf server.now dispatcher.old }
+    ensures client { OnOk result (IsQuiet server.now client.new) }
+    ensures dispatcher { IsOf server.now dispatcher.new }
+{
+    let answer = asks_and_is_answered(rt, alloc, server, client, dispatcher, query)?;
+    told(alloc, &answer)
+}
+
 /// A client polls the answer, which is there, as text.
 pub fn polls_text<W: Wait + Drop>(
     alloc: Global,
