@@ -360,39 +360,3 @@ fn faults_are_told_by_number_and_name(rt: HostRuntime) -> Result<(), Fail> {
     }
     Ok(())
 }
-
-// Want of memory is told as such, and then the trace is looked at once more.
-fn audited_at_last(
-    rt: &(impl Threads + Sync),
-    alloc: Global,
-    base: &Arc<Base>,
-    hashing: RandomState,
-    trace: &Trace,
-) -> Result<Result<(), AuditFault>, Fail> {
-    match audit(rt, alloc, Arc::try_clone(base)?, hashing, trace) {
-        Err(AuditFault::OutOfMemory) => Ok(audit(
-            rt,
-            alloc,
-            Arc::try_clone(base)?,
-            hashing,
-            trace,
-        )),
-        ended => Ok(ended),
-    }
-}
-
-// Under `bench/growths` each growth of memory is refused in turn.
-#[test]
-fn after_want_of_memory_the_verdict_is_the_same(rt: HostRuntime) -> Result<(), Fail> {
-    let alloc = rt.alloc();
-    let base = small_base(alloc)?;
-    let hashing = RandomState::new(&rt)?;
-    for (last, verdict) in [(-1330, Ok(())), (-1331, Err(AuditFault::WrongRows(1, 2)))] {
-        let trace = Trace {
-            commits: items(alloc, [commit_of(alloc, 1, "9")?])?,
-            answers: items(alloc, [told_sum(alloc, 1, 0, 660)?, told_sum(alloc, 1, 1, last)?])?,
-        };
-        assert!(rt; audited_at_last(&rt, alloc, &base, hashing, &trace)? == verdict, "{last}");
-    }
-    Ok(())
-}

@@ -112,14 +112,3 @@ pub record AreTakenDimensions (dimensions : Dimensions) : Type 0 where
 -- the sums of an answer have 64 bits
 abbrev pub HasSums : Told → Type 0
 HasSums told = AllByRecursion (λ row. IfSome row.sum (FitsSigned w64)) told.rows
-
--- an answer whose numbers and sums have 64 bits, and whose question its query takes
-pub record IsHeld (told : Told) : Type 0 where
-  pub at : told.at < 2 ^ 64
-  pub question : IsAllowedQuestion told.question
-  pub count : length told.rows < 2 ^ 64
-  pub sums : HasSums told
-
--- each answer is to one of at most 16 clients
-abbrev pub AreToClients : List Told → Type 0
-AreToClients answers = AllByRecursion (λ told. IsClient told.client) answers

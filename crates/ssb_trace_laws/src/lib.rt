@@ -3,7 +3,6 @@
 //! [`text_is_read_back`]: the text of a trace that is allowed spells that trace and no other.
 //! [`legal_traces_are_allowed`]: a legal trace over a base is allowed, where its parts are. So where a run's trace is
 //! allowed, what `ssb_trace` writes of it is read as that trace alone, and an audit of the text is an audit of the run.
-//! [`legal_trace_is_read_back`]: both in one, for a trace that a run leaves.
 //!
 //! What `Line::new` and `Question::with` give is allowed: [`allowed_line`], [`question_is_allowed`].
 //!
@@ -19,5 +18,5 @@ mod laws;
 #[cfg(test)]
 mod tests;
 
-pub use held::{allowed_line, legal_trace_is_read_back, question_is_allowed};
+pub use held::{allowed_line, question_is_allowed};
 pub use laws::{legal_traces_are_allowed, text_is_read_back};
