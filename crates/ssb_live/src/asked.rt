@@ -6,7 +6,7 @@ ghost use Rattle.ssb_live.specs.Asked.{AskNothing, IsAsked, standard_questions, 
 ghost use Rattle.ssb_live.specs.Status.{status_of};
 
 use crate::fault::Fault;
-use ssb_load::number;
+use ssb_records::number;
 use ssb_plans::{ConstantKind, QUERIES, Query, Question, QuestionError, Value};
 use ssb_schema::Text;
 use std::alloc::{AllocError, Global};
