@@ -1,6 +1,6 @@
 -- The question that the words of a command line ask.
 use Rattle.std.specs.Prelude.{◌≡◌, ◌⊎◌, ℕ, ◌^◌, List, [], ◌∷◌, map, Option, Some, None, nat_lt, if◌then◌else◌}
-use Rattle.ssb_load.specs.Spelling.{number_of}
+use Rattle.ssb_records.specs.Spelling.{number_of}
 use Rattle.ssb_plans.specs.Kind.{constant_kinds}
 use Rattle.ssb_plans.specs.Queries.{standard_constants}
 use Rattle.ssb_plans.specs.Query.{name_of}

@@ -6,8 +6,8 @@ ghost use Rattle.ssb_answers.specs.Asked.{AskNothing, IsAsked, standard_question
 ghost use Rattle.ssb_faults.specs.Status.{status_of};
 
 use ssb_faults::Fault;
-use ssb_load::number;
 use ssb_plans::{ConstantKind, QUERIES, Query, Question, QuestionError, Value};
+use ssb_records::number;
 use ssb_schema::Text;
 use std::alloc::{AllocError, Global};
 

@@ -3,7 +3,7 @@ use Rattle.std.proofs.Common.{◌≡◌, ℕ, List, true, false, arith, eq-eqb}
 use Rattle.std.specs.Str.{IsUtf8, IsValidUpTo}
 use Rattle.std.proofs.lemmas.Str.{utf8_valid_len-IsUtf8, utf8_valid_len-IsValidUpTo}
 use Rattle.std.proofs.lemmas.Bool.{ne_eqb}
-use Rattle.ssb_load.specs.Spelling.{is_utf8}
+use Rattle.ssb_records.specs.Spelling.{is_utf8}
 
 -- text is UTF-8, and bytes that are no text are not
 pub text_is_utf8 : (bytes : List ℕ) → IsUtf8 bytes → is_utf8 bytes ≡ true

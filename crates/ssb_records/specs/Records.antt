@@ -8,8 +8,8 @@ use Rattle.csv.specs.declared.parser.State.{State}
 use Rattle.csv.specs.declared.parser.State.TheVariants as st
 use Rattle.csv.specs.declared.reader.Reader.{Reader}
 use Rattle.csv.specs.declared.reader.Trim.TheVariants as trim
-use Rattle.ssb_load.specs.declared.records.ReadError.{ReadError}
-use Rattle.ssb_load.specs.declared.records.ReadError.TheVariants as read
+use Rattle.ssb_records.specs.declared.records.ReadError.{ReadError}
+use Rattle.ssb_records.specs.declared.records.ReadError.TheVariants as read
 
 -- fields are parted by `|`, and no quotes are known
 abbrev pub record_config : Config

@@ -4,7 +4,7 @@ use Rattle.std.specs.List.{list_all}
 use Rattle.std.specs.Prelude.{◌==◌}
 use Rattle.std.proofs.lemmas.List.{take_more}
 use Rattle.std.proofs.lemmas.List.Folds.{list_all-append}
-use Rattle.ssb_load.specs.Spelling.{without_spaces}
+use Rattle.ssb_records.specs.Spelling.{without_spaces}
 
 and_false : (b : Bool) → (b && false) ≡ false
 and_false true = refl

@@ -5,7 +5,7 @@ use Rattle.csv.specs.Reading.{ReadRecord, Reached, reader_state, source_of, stri
 use Rattle.csv.specs.declared.parser.State.TheVariants as st
 use Rattle.csv.specs.declared.reader.Reader.{Reader}
 use Rattle.csv.proofs.ReadFacts.{rows-end, rows-more}
-use Rattle.ssb_load.specs.Records.{record_config, GivesNext, HasGiven, IsRecordReader}
+use Rattle.ssb_records.specs.Records.{record_config, GivesNext, HasGiven, IsRecordReader}
 
 -- at the start no record was given
 pub given_nothing : {R : Type 0} (remaining : R → Option (List ℕ)) (source : R) (text : List ℕ) (reader : Reader R)

@@ -1,5 +1,5 @@
 -- What the bytes of one field spell.
-use Rattle.std.specs.Prelude.{ℕ, ◌+◌, ◌-◌, ◌*◌, ◌^◌, Bool, ◌&&◌, List, [], ◌∷◌, length, Option, Some, None, nat_lt, nat_le, ◌==◌, if◌then◌else◌}
+use Rattle.std.specs.Prelude.{ℕ, ◌+◌, ◌-◌, ◌*◌, ◌^◌, Bool, ◌&&◌, List, [], ◌∷◌, length, get_or, Option, Some, None, nat_lt, nat_le, ◌==◌, if◌then◌else◌}
 use Rattle.std.specs.List.{list_all}
 use Rattle.std.specs.Char.{is_ascii_digit}
 use Rattle.std.specs.Str.Lossy.{utf8_valid_len}
@@ -8,6 +8,10 @@ use Rattle.std.specs.Str.Lossy.{utf8_valid_len}
 unfoldable pub without_spaces : List ℕ → List ℕ
 without_spaces [] = []
 without_spaces (b ∷ rest) = if list_all (λ c. c == 32) (b ∷ rest) then [] else b ∷ without_spaces rest
+
+-- a record's field at a place, counted from 0, without the spaces at its end
+abbrev pub field : List (List ℕ) → ℕ → List ℕ
+field fields place = without_spaces (get_or fields place [])
 
 -- whether bytes are UTF-8
 abbrev pub is_utf8 : List ℕ → Bool

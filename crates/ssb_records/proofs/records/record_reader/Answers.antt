@@ -1,5 +1,5 @@
-use Rattle.ssb_load.proofs.Given.{given_nothing}
-use Rattle.ssb_load.proofs.records.record_reader.Goals as goal
+use Rattle.ssb_records.proofs.Given.{given_nothing}
+use Rattle.ssb_records.proofs.records.record_reader.Goals as goal
 
 pub returns-clause-start : goal.returns-clause-start
 returns-clause-start g c = λ bytes known.

@@ -1,18 +1,19 @@
-//! The records of a table's file, or of a script: fields parted by `|`, with no quotes and no header row.
+//! The records of a text, one by one: fields parted by `|`, with no quotes and no header row.
 
-ghost use Rattle.std.specs.Prelude.{◌≡◌, ℕ, ◌<◌, List, Some, [], get_or, IfOk};
+ghost use Rattle.std.specs.Prelude.{◌≡◌, ℕ, List, Some, [], IfOk};
 ghost use Rattle.csv.specs.Records.{fields_of};
-ghost use Rattle.ssb_load.specs.Records as spec;
-ghost use Rattle.ssb_load.specs.Records.{GivesNext, HasGiven, IsRecordReader, read_error_of};
+ghost use Rattle.ssb_records.specs.Records.{GivesNext, HasGiven, IsRecordReader, read_error_of};
 
 use csv::{ByteRecord, Error, ErrorKind, Reader, ReaderBuilder};
 use std::alloc::Global;
 use std::io::Read;
 
-/// Why a record could not be read: the reader underneath failed, or memory ran out.
+/// Why a record could not be read.
 #[derive(Clone, Copy, Debug, PartialEq, Eq)]
 pub enum ReadError {
+    /// The reader underneath failed.
     Read,
+    /// Memory ran out.
     OutOfMemory,
 }
 
@@ -41,7 +42,7 @@ pub fn record_reader<R: Read>(alloc: Global, source: R) -> Reader<R>
         .from_reader(alloc, source)
 }
 
-/// Reads the next record into `next`: false where there is none.
+/// Reads the next record into `next`: false where there is none. After an error the reader is not to be read again.
 pub fn next_record<R: Read>(
     reader: &mut Reader<R>,
     next: &mut ByteRecord,
@@ -54,20 +55,4 @@ pub fn next_record<R: Read>(
         Ok(found) => Ok(found),
         Err(error) => Err(ReadError::from(error)),
     }
-}
-
-/// The field at a place, counted from 0. Past the end there are no bytes.
-pub fn field_at(fields: &ByteRecord, place: usize) -> &[u8]
-    ensures { result.now ≡ get_or (fields_of fields.now) place [] }
-{
-    fields.get(place).unwrap_or(b"")
-}
-
-/// Whether a record has so many fields, or one more that has no bytes.
-pub fn has_columns(fields: &ByteRecord, count: usize) -> bool
-    requires { count < 100 }
-    ensures { result ≡ spec.has_columns count (fields_of fields.now) }
-{
-    let len = fields.len();
-    len == count || (len == count + 1 && field_at(fields, count).is_empty())
 }

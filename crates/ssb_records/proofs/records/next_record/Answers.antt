@@ -1,6 +1,6 @@
 use Rattle.csv.specs.Records.{fields_of}
-use Rattle.ssb_load.proofs.Given.{read_gives}
-use Rattle.ssb_load.proofs.records.next_record.Goals as goal
+use Rattle.ssb_records.proofs.Given.{read_gives}
+use Rattle.ssb_records.proofs.records.next_record.Goals as goal
 
 pub returns-in-Ok-clause-next : goal.returns-in-Ok-clause-next
 returns-in-Ok-clause-next g c =

@@ -1,7 +1,7 @@
 //! What the bytes of one field spell.
 
 ghost use Rattle.std.specs.Prelude.{◌≡◌, ◌<◌, ◌≤◌, ◌+◌, ◌-◌, ◌*◌, ◌^◌, SomeIff, option_map};
-ghost use Rattle.ssb_load.specs.Spelling.{number_of, text_of, without_spaces};
+ghost use Rattle.ssb_records.specs.Spelling.{number_of, text_of, without_spaces};
 
 use std::str;
 
