@@ -1,4 +1,4 @@
-use Rattle.std.proofs.Common.{◌∙◌, ap, length, sym, arith}
+use Rattle.std.proofs.Common.{◌∙◌, sym, arith}
 use Rattle.std.proofs.lemmas.List.{length-map}
 use Rattle.ssb_schema.specs.Base.{customer_key, supplier_key, part_key, date_key}
 use Rattle.ssb_schema.specs.Facts.{fact_of}
