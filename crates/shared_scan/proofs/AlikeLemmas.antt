@@ -12,7 +12,8 @@ use Rattle.ssb_plans.specs.declared.plan.Plan.{Plan}
 use Rattle.ssb_plans.specs.declared.value.Value.{Value}
 use Rattle.ssb_queries.specs.RowValues.{customer_value, supplier_value, part_value, date_value, pass, is_within}
 use Rattle.ssb_queries.specs.Combination.{Combination, value_in, value_at, passes}
-use Rattle.ssb_queries.specs.Answer.{groups_cmp, group_of, amount, sum_over, in_group, row_of, groups_among, row_cmp, rows_over}
+use Rattle.ssb_queries.specs.Answer.{groups_cmp, group_of, amount, sum_over, in_group, row_of, groups_among, row_cmp}
+use Rattle.ssb_queries.specs.Answer.{rows_over}
 use Rattle.ssb_queries.specs.Ordered.{in_order}
 
 -- the same numbers of the line, and rows with the same values in every column
@@ -43,7 +44,8 @@ passes_alike plan c e alike = λ i.
     && pass plan.dates (λ place. alike.date place i)
 
 group_alike : (plan : Plan) (c e : Combination) → Alike c e → group_of plan c ≡ group_of plan e
-group_alike plan c e alike = λ i. map (λ (column : Column). value_alike column.table column.place c e alike i) plan.groups
+group_alike plan c e alike = λ i. map (λ (column : Column). value_alike column.table column.place c e alike i)
+    plan.groups
 
 amount_alike : (measure : Measure) (c e : Combination) → Alike c e → amount measure c.fact ≡ amount measure e.fact
 amount_alike PriceTimesDiscount c e alike = λ i. pos (alike.price i * alike.discount i)
@@ -57,32 +59,38 @@ AllAlike [] (e ∷ es) = ⊥
 AllAlike (c ∷ cs) [] = ⊥
 AllAlike (c ∷ cs) (e ∷ es) = Alike c e × AllAlike cs es
 
-filter_alike : (test : Combination → Bool) → ((c e : Combination) → Alike c e → test c ≡ test e) → (cs es : List Combination) → AllAlike cs es → AllAlike (filter test cs) (filter test es)
+filter_alike : (test : Combination → Bool) → ((c e : Combination) → Alike c e → test c ≡ test e)
+    → (cs es : List Combination) → AllAlike cs es → AllAlike (filter test cs) (filter test es)
 filter_alike test same [] [] all = tt
 filter_alike test same [] (e ∷ es) all = absurd all
 filter_alike test same (c ∷ cs) [] all = absurd all
-filter_alike test same (c ∷ cs) (e ∷ es) all = step (test c) (test e) (same c e all.0) (filter_alike test same cs es all.1)
+filter_alike test same (c ∷ cs) (e ∷ es) all = step (test c) (test e) (same c e all.0)
+    (filter_alike test same cs es all.1)
   where
-    step : (a b : Bool) → a ≡ b → AllAlike (filter test cs) (filter test es) → AllAlike (cond a (c ∷ filter test cs) (filter test cs)) (cond b (e ∷ filter test es) (filter test es))
+    step : (a b : Bool) → a ≡ b → AllAlike (filter test cs) (filter test es)
+        → AllAlike (cond a (c ∷ filter test cs) (filter test cs)) (cond b (e ∷ filter test es) (filter test es))
     step true true is rest = (all.0, rest)
     step false false is rest = rest
     step true false is rest = absurd (cc)
     step false true is rest = absurd (cc)
 
-map_alike : {X : Type 0} (f : Combination → X) → ((c e : Combination) → Alike c e → f c ≡ f e) → (cs es : List Combination) → AllAlike cs es → map f cs ≡ map f es
+map_alike : {X : Type 0} (f : Combination → X) → ((c e : Combination) → Alike c e → f c ≡ f e)
+    → (cs es : List Combination) → AllAlike cs es → map f cs ≡ map f es
 map_alike f same [] [] all = refl
 map_alike f same [] (e ∷ es) all = absurd all
 map_alike f same (c ∷ cs) [] all = absurd all
 map_alike f same (c ∷ cs) (e ∷ es) all = λ i. same c e all.0 i ∷ map_alike f same cs es all.1 i
 
 fold_alike : (measure : Measure) (sum : ℤ) (cs es : List Combination) → AllAlike cs es
-    → fold (λ total combination. total +ℤ amount measure combination.fact) sum cs ≡ fold (λ total combination. total +ℤ amount measure combination.fact) sum es
+    → fold (λ total combination. total +ℤ amount measure combination.fact) sum cs ≡ fold
+    (λ total combination. total +ℤ amount measure combination.fact) sum es
 fold_alike measure sum [] [] all = refl
 fold_alike measure sum [] (e ∷ es) all = absurd all
 fold_alike measure sum (c ∷ cs) [] all = absurd all
 fold_alike measure sum (c ∷ cs) (e ∷ es) all =
     fold_alike measure (sum +ℤ amount measure c.fact) cs es all.1
-    ∙ ap (λ a. fold (λ total combination. total +ℤ amount measure combination.fact) (sum +ℤ a) es) (amount_alike measure c e all.0)
+    ∙ ap (λ a. fold (λ total combination. total +ℤ amount measure combination.fact) (sum +ℤ a) es)
+    (amount_alike measure c e all.0)
 
 sum_alike : (measure : Measure) (cs es : List Combination) → AllAlike cs es → sum_over measure cs ≡ sum_over measure es
 sum_alike measure [] [] all = refl
@@ -90,17 +98,20 @@ sum_alike measure [] (e ∷ es) all = absurd all
 sum_alike measure (c ∷ cs) [] all = absurd all
 sum_alike measure (c ∷ cs) (e ∷ es) all = ap Some (fold_alike measure (pos 0) (c ∷ cs) (e ∷ es) all)
 
-groups_alike : (plan : Plan) (columns : List Column) (cs es : List Combination) → AllAlike cs es → groups_among columns (group_of plan) cs ≡ groups_among columns (group_of plan) es
+groups_alike : (plan : Plan) (columns : List Column) (cs es : List Combination) → AllAlike cs es
+    → groups_among columns (group_of plan) cs ≡ groups_among columns (group_of plan) es
 groups_alike plan [] cs es all = refl
 groups_alike plan (column ∷ columns) cs es all = map_alike (group_of plan) (group_alike plan) cs es all
 
 -- rows over combinations that are alike are the same
 pub rows_alike : (plan : Plan) (cs es : List Combination) → AllAlike cs es → rows_over plan cs ≡ rows_over plan es
-rows_alike plan cs es all = λ i. in_order (row_cmp plan.order) (map (λ groups. row groups i) (groups_alike plan plan.groups cs es all i))
+rows_alike plan cs es all = λ i. in_order (row_cmp plan.order)
+    (map (λ groups. row groups i) (groups_alike plan plan.groups cs es all i))
   where
     row : (groups : List Value) → row_of plan cs groups ≡ row_of plan es groups
     row groups = λ i. record {
       groups = groups;
       sum = sum_alike plan.measure (in_group plan groups cs) (in_group plan groups es)
-          (filter_alike (λ combination. is_eq (groups_cmp (group_of plan combination) groups)) (λ c e alike. ap (λ g. is_eq (groups_cmp g groups)) (group_alike plan c e alike)) cs es all) i;
+          (filter_alike (λ combination. is_eq (groups_cmp (group_of plan combination) groups))
+          (λ c e alike. ap (λ g. is_eq (groups_cmp g groups)) (group_alike plan c e alike)) cs es all) i;
     }

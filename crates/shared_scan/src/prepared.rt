@@ -41,10 +41,9 @@ impl PreparedBatch {
         requires { length questions.now ≤ 16 }
         ensures { IfOk result (λ batch. batch ≡ record { base = index.value; questions = questions.now }) }
     {
-        index.base().soundness();
-        index.first_rows().soundness();
-        let plans = plans_of(alloc, questions)?;
         let rows = index.first_rows();
+        rows.soundness();
+        let plans = plans_of(alloc, questions)?;
         let masks = batch_masks(alloc, rows, &plans)?;
         let mut all = Vec::with_capacity(alloc, questions.len())?;
         for number in 0..questions.len() {
