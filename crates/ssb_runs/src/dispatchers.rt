@@ -1,5 +1,5 @@
 //! The threads of the dispatchers.
-ghost use Rattle.std.specs.Prelude.{◌≡◌, ◌+◌, ◌≤◌, [], ◌++◌, All, OnOk, map, length, vec_len, vec_capacity};
+ghost use Rattle.std.specs.Prelude.{◌≡◌, ◌+◌, ◌≤◌, [], ◌++◌, All, IfOk, OnOk, map, length, vec_len, vec_capacity};
 ghost use Rattle.std.specs.Thread.{IsSync};
 ghost use Rattle.ssb_runs.specs.Sessions.{IsStill, AreStill};
 ghost use Rattle.ssb_server.specs.Tickets.{IsOf};
@@ -70,6 +70,24 @@ fn dispatch<W: Wait + Drop, R: Wait + Threads + Sync>(
     unreachable!()
 }
 
+// Starts a dispatcher's thread.
+fn start_dispatcher<'s, E, W: Wait + Drop + Send, R: Wait + Threads + Sync>(
+    scope: &Scope<'s, E>,
+    rt: &'s R,
+    server: &'s Server<W>,
+    stop: &'s AtomicBool,
+    dispatcher: Dispatcher<W>,
+) -> Result<Dispatching<W>, AllocError>
+    requires { IsOf server.now dispatcher }
+    ensures { IfOk result (λ thread. thread.promise.dispatcher.value ≡ dispatcher) }
+{
+    let promise = DispatchedBy {
+        dispatcher: Snapshot::of(&dispatcher),
+    };
+    let thread = scope.spawn_with(promise, move || dispatch(rt, server, stop, dispatcher))?;
+    Ok(thread)
+}
+
 /// Starts a thread for each dispatcher, in order. Where a thread can't be started, no later one is.
 pub(crate) fn start_dispatchers<'s, E, W: Wait + Drop + Send, R: Wait + Threads + Sync>(
     scope: &Scope<'s, E>,
@@ -85,16 +103,7 @@ pub(crate) fn start_dispatchers<'s, E, W: Wait + Drop + Send, R: Wait + Threads 
     ensures started { OnOk result (map (λ h. h.promise.dispatcher.value) dispatching.new.items ≡ map (λ h. h.promise.dispatcher.value) dispatching.old.items ++ dispatchers.items) }
 {
     for dispatcher in dispatchers {
-        let promise = DispatchedBy {
-            dispatcher: Snapshot::of(&dispatcher),
-        };
-        let thread = scope.spawn_with(
-            promise,
-            move || -> Dispatched<W>
-                requires { IsSync R.row × IsOf server.now dispatcher }
-                ensures { IsStill dispatcher result }
-            { dispatch(rt, server, stop, dispatcher) },
-        )?;
+        let thread = start_dispatcher(scope, rt, server, stop, dispatcher)?;
         dispatching.push_reserved(thread);
     }
     Ok(())
