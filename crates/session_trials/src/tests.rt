@@ -2,6 +2,5 @@
 mod blocks;
 mod data;
 mod ends;
-mod growths;
 mod reports;
 mod serving;

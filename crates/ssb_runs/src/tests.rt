@@ -6,12 +6,11 @@ mod latency;
 use crate::{Batches, Latencies, Run, RunFault, serve_scripts};
 use data::{adding_script, adding_scripts, base};
 use ssb_audit::audit;
-use ssb_schema::Base;
 use ssb_script::Script;
 use ssb_server::OpenFault;
 use std::alloc::Global;
 use std::hash::RandomState;
-use std::sync::{Arc, Wait};
+use std::sync::Wait;
 use std::test::Fail;
 use std::thread::Threads;
 use std::time::Clock;
@@ -46,14 +45,6 @@ fn committed_lines(report: &[u8]) -> Result<usize, Fail> {
             .filter(|line| line.starts_with("committed "))
             .count(),
     )
-}
-
-// Whether some reply in the report tells that memory was wanting.
-fn lacks_memory(report: &[u8]) -> bool {
-    match str::from_utf8(report) {
-        Ok(text) => text.lines().any(|line| line.ends_with(": out of memory")),
-        Err(_) => false,
-    }
 }
 
 #[test]
@@ -98,43 +89,6 @@ fn an_answer_has_the_clients_own_commit(rt: HostRuntime) -> Result<(), Fail> {
     };
     assert_eq!(rt; run.batches, batches);
     assert_eq!(rt; run.latencies, Latencies::default());
-    Ok(())
-}
-
-// The reports and the trace of a run of one script, or None where memory was wanting: for the run, or for a reply.
-fn run_of_one<R: Wait + Threads + Sync + Clock>(
-    rt: &R,
-    alloc: Global,
-    hashing: RandomState,
-    base: Arc<Base>,
-) -> Result<Option<Run>, Fail> {
-    let mut scripts = Vec::new(alloc);
-    scripts.push(adding_script(alloc, 8, 1)?)?;
-    match serve_scripts(rt, alloc, hashing, base, scripts, 1, false) {
-        Err(RunFault::OutOfMemory) => Ok(None),
-        Err(fault) => Err(fault)?,
-        Ok(run) => {
-            let wanting = run.reports.iter().any(|report| lacks_memory(report.as_slice()));
-            Ok(if wanting { None } else { Some(run) })
-        },
-    }
-}
-
-// Under `bench/growths` each growth of memory is refused in turn, among them those for the rows that a client is told.
-#[test]
-fn after_want_of_memory_there_is_another_run(rt: HostRuntime) -> Result<(), Fail> {
-    let alloc = rt.alloc();
-    let hashing = RandomState::new(&rt)?;
-    let base = base(alloc)?;
-    let first = run_of_one(&rt, alloc, hashing, Arc::try_clone(&base)?)?;
-    let run = match first {
-        Some(run) => run,
-        None => run_of_one(&rt, alloc, hashing, base)?.ok_or("memory is wanting still")?,
-    };
-    let wanted = "committed 1\nQ4.1 at 1 rows 1\n1997|UNITED STATES|-1330\n";
-    let reports = run.reports.as_slice();
-    assert!(rt; reports.len() == 1 && reports[0].as_slice() == wanted.as_bytes());
-    assert_eq!(rt; (run.trace.commits.len(), run.trace.answers.len()), (1, 1));
     Ok(())
 }
 
