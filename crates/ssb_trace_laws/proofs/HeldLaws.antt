@@ -24,9 +24,34 @@ pub line_made : {T : Type 0} (fields : LineFields) (made : Result LineFields (Re
     → IsUtf8 fields.ship_mode → IfOk made IsAllowedLine
 line_made fields (Ok line) fault same priority ship mode =
     subst IsAllowedLine (sym same)
-    (record { taken = sym fault; texts =
-    (tt, (tt, (tt, (tt, (tt, (tt, (priority, (ship,
-    (tt, (tt, (tt, (tt, (tt, (tt, (tt, (tt, (mode, tt))))))))))))))))) })
+    (record {
+      taken = sym fault;
+      texts = (
+        tt,
+        (
+          tt,
+          (
+            tt,
+            (
+              tt,
+              (
+                tt,
+                (
+                  tt,
+                  (
+                    priority,
+                    (
+                      ship,
+                      (tt, (tt, (tt, (tt, (tt, (tt, (tt, (tt, (mode, tt))))))))),
+                    ),
+                  ),
+                ),
+              ),
+            ),
+          ),
+        ),
+      );
+    })
 line_made fields (Err refused) fault same priority ship mode = tt
 
 -- the heads of answers that are held, and to clients

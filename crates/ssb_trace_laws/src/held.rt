@@ -57,7 +57,12 @@ pub fn question_is_allowed(question: &Question)
 fn sum_is_held(row: &ResultRow)
     ensures { IfSome row.now.sum (FitsSigned w64) }
 {
-    let _sum = row.sum;
+    match &row.sum {
+        Some(sum) => {
+            let _sum = *sum;
+        },
+        None => {},
+    }
 }
 
 // The sums of rows have.

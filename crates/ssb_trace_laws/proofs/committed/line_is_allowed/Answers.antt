@@ -8,7 +8,29 @@ returns c =
     let mode = subst IsUtf8 c.ship_mode.ensures c.is_text-3.ensures in
     record {
       taken = c.soundness.ensures;
-      texts =
-      (tt, (tt, (tt, (tt, (tt, (tt, (priority, (ship,
-          (tt, (tt, (tt, (tt, (tt, (tt, (tt, (tt, (mode, tt)))))))))))))))));
+      texts = (
+        tt,
+        (
+          tt,
+          (
+            tt,
+            (
+              tt,
+              (
+                tt,
+                (
+                  tt,
+                  (
+                    priority,
+                    (
+                      ship,
+                      (tt, (tt, (tt, (tt, (tt, (tt, (tt, (tt, (mode, tt))))))))),
+                    ),
+                  ),
+                ),
+              ),
+            ),
+          ),
+        ),
+      );
     }
