@@ -93,9 +93,9 @@ fn answers_are_held(answers: &[Told])
     }
 }
 
-/// The text of a legal trace over a base is read back as that trace, where its commits and answers are those of clients
-/// 1 to 16, as they are after a run. What else an allowed trace wants holds of every `Base` and every `Trace` by their
-/// types: this looks at each row, commit and answer, and does nothing.
+/// The text of a legal trace over a base is read back as that trace and as no other, where its commits and answers are
+/// those of clients 1 to 16. What else an allowed trace wants holds of every `Base` and every `Trace` by their types:
+/// this looks at each row, commit and answer, and does nothing.
 pub fn legal_trace_is_read_back(base: &Base, trace: &Trace)
     ensures { HasClients trace.now → IsLegalTrace base.now trace.now → IsReadBack trace.now }
 {

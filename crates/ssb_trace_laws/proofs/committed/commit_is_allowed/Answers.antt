@@ -1,4 +1,4 @@
-use Rattle.std.proofs.Common.{◌≡◌, ◌∙◌, ap, sym, None, List, All, subst}
+use Rattle.std.proofs.Common.{◌≡◌, ◌∙◌, ap, None, List, All, subst}
 use Rattle.std.specs.List.{AllByRecursion}
 use Rattle.row_store.specs.History.{CommitRecord}
 use Rattle.ssb_schema.specs.Refreshes.{refresh_fault}
