@@ -7,11 +7,12 @@ use crate::fault::WriteFault;
 use itoa::Buffer;
 use std::io::Write;
 
-/// A piece of a line.
+/// A piece of a line of a report.
 #[derive(Clone, Copy)]
 pub enum Piece<'a> {
+    /// Its bytes, as they are.
     Text(&'a str),
-    /// In decimal, without leading zeros.
+    /// A number in decimal, without leading zeros.
     Number(u64),
     /// Likewise, with `-` where it is negative; `NULL` where there is none.
     Sum(Option<i64>),
