@@ -38,12 +38,12 @@ true_replies_answer causes client warehouse (request ∷ requests) =
     (true_reply_may causes warehouse request, true_replies_answer causes client (with_commits warehouse (committed_by client request (true_reply warehouse request))) requests)
 
 pub others_give_up : OthersGiveUp
-others_give_up causes client warehouse [] [] answered served = refl
-others_give_up causes client warehouse [] (reply ∷ replies) answered served = absurd answered
-others_give_up causes client warehouse (request ∷ requests) [] answered served = absurd answered
-others_give_up causes client warehouse (request ∷ requests) (reply ∷ replies) answered served =
-    let others = others_give_up causes client (with_commits warehouse (committed_by client request reply)) requests replies answered.1 served.1 in
-    elim (true_or_given_up causes warehouse request reply answered.0) [
+others_give_up causes client warehouse [] [] are served = refl
+others_give_up causes client warehouse [] (reply ∷ replies) are served = absurd are
+others_give_up causes client warehouse (request ∷ requests) [] are served = absurd are
+others_give_up causes client warehouse (request ∷ requests) (reply ∷ replies) are served =
+    let others = others_give_up causes client (with_commits warehouse (committed_by client request reply)) requests replies are.1 served.1 in
+    elim (true_or_given_up causes warehouse request reply are.0) [
       | inl same ↦ ap (λ first. first ∷ replies) same
           ∙ ap (λ rest. true_reply warehouse request ∷ rest) (others ∙ ap (λ first. true_replies client (with_commits warehouse (committed_by client request first)) requests) same)
       | inr given_up ↦ absurd (cc_false (sym given_up ∙ served.0))

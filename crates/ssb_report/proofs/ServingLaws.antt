@@ -53,32 +53,32 @@ behind_at_start lines store base fresh_lines fresh_store = record {
 
 -- as many replies as requests
 pub same_count : (causes : Cause → Bool) (client : ℕ) (old : Warehouse) (requests : List Request) (replies : List Reply) → AreReplies causes client old requests replies → length replies ≡ length requests
-same_count causes client old [] [] answered = refl
-same_count causes client old [] (reply ∷ replies) answered = absurd answered
-same_count causes client old (request ∷ requests) [] answered = absurd answered
-same_count causes client old (request ∷ requests) (reply ∷ replies) answered = ap suc (same_count causes client _ requests replies answered.1)
+same_count causes client old [] [] are = refl
+same_count causes client old [] (reply ∷ replies) are = absurd are
+same_count causes client old (request ∷ requests) [] are = absurd are
+same_count causes client old (request ∷ requests) (reply ∷ replies) are = ap suc (same_count causes client _ requests replies are.1)
 
 -- replies, and one more
 replies_more : (causes : Cause → Bool) (client : ℕ) (old : Warehouse) (requests : List Request) (replies : List Reply) (request : Request) (reply : Reply)
     → AreReplies causes client old requests replies → IsReply causes (with_commits old (committed client requests replies)) request reply
     → AreReplies causes client old (requests ++ request ∷ []) (replies ++ reply ∷ [])
-replies_more causes client old [] [] request reply answered next = (subst (λ w. IsReply causes w request reply) (with_none old) next, tt)
-replies_more causes client old [] (other ∷ replies) request reply answered next = absurd answered
-replies_more causes client old (other ∷ requests) [] request reply answered next = absurd answered
-replies_more causes client old (first ∷ requests) (answer ∷ replies) request reply answered next = (
-  answered.0,
-  replies_more causes client (with_commits old (committed_by client first answer)) requests replies request reply answered.1
+replies_more causes client old [] [] request reply are next = (subst (λ w. IsReply causes w request reply) (with_none old) next, tt)
+replies_more causes client old [] (other ∷ replies) request reply are next = absurd are
+replies_more causes client old (other ∷ requests) [] request reply are next = absurd are
+replies_more causes client old (first ∷ requests) (answer ∷ replies) request reply are next = (
+  are.0,
+  replies_more causes client (with_commits old (committed_by client first answer)) requests replies request reply are.1
       (subst (λ w. IsReply causes w request reply) (sym (with_both old (committed_by client first answer) (committed client requests replies))) next),
 )
 
 committed_more : (causes : Cause → Bool) (client : ℕ) (old : Warehouse) (requests : List Request) (replies : List Reply) (request : Request) (reply : Reply)
     → AreReplies causes client old requests replies
     → committed client (requests ++ request ∷ []) (replies ++ reply ∷ []) ≡ committed client requests replies ++ committed_by client request reply
-committed_more causes client old [] [] request reply answered = append-nil (committed_by client request reply)
-committed_more causes client old [] (other ∷ replies) request reply answered = absurd answered
-committed_more causes client old (other ∷ requests) [] request reply answered = absurd answered
-committed_more causes client old (first ∷ requests) (answer ∷ replies) request reply answered =
-    ap (λ commits. committed_by client first answer ++ commits) (committed_more causes client (with_commits old (committed_by client first answer)) requests replies request reply answered.1)
+committed_more causes client old [] [] request reply are = append-nil (committed_by client request reply)
+committed_more causes client old [] (other ∷ replies) request reply are = absurd are
+committed_more causes client old (other ∷ requests) [] request reply are = absurd are
+committed_more causes client old (first ∷ requests) (answer ∷ replies) request reply are =
+    ap (λ commits. committed_by client first answer ++ commits) (committed_more causes client (with_commits old (committed_by client first answer)) requests replies request reply are.1)
     ∙ sym (append_assoc (committed_by client first answer) (committed client requests replies) (committed_by client request reply))
 
 -- a refresh that was answered

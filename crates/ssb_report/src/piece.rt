@@ -7,12 +7,11 @@ use crate::fault::WriteFault;
 use itoa::Buffer;
 use std::io::Write;
 
-/// A piece of a line of a report.
+/// A piece of a line.
 #[derive(Clone, Copy)]
 pub enum Piece<'a> {
-    /// Its bytes, as they are.
     Text(&'a str),
-    /// A number in decimal, without leading zeros.
+    /// In decimal, without leading zeros.
     Number(u64),
     /// Likewise, with `-` where it is negative; `NULL` where there is none.
     Sum(Option<i64>),
