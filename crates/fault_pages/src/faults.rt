@@ -1,0 +1,175 @@
+//! Every fault that has a number, with the values that the page's words in capitals stand for.
+
+use row_store::Cause;
+use ssb_audit::AuditFault;
+use ssb_load::LoadError;
+use ssb_plans::{ConstantsFault, NoSuchQuery, Query};
+use ssb_schema::{C_CITY, SchemaFault, Table};
+use ssb_script::ScriptError;
+use ssb_server::OpenFault;
+use std::alloc::{AllocError, Global};
+use std::fmt::Display;
+
+/// A type of faults that lists its variants that have a number, one after the other.
+trait Listed: Display + Drop {
+    fn first() -> Self;
+
+    /// The variant behind this one, if it is not the last.
+    fn next(&self) -> Option<Self>;
+}
+
+impl Listed for SchemaFault {
+    fn first() -> SchemaFault {
+        SchemaFault::NoLines
+    }
+
+    fn next(&self) -> Option<SchemaFault> {
+        Some(match self {
+            SchemaFault::NoLines => SchemaFault::TooManyLines,
+            SchemaFault::TooManyLines => SchemaFault::KeysDiffer,
+            SchemaFault::KeysDiffer => SchemaFault::LineRepeated(3),
+            SchemaFault::LineRepeated(_) => SchemaFault::NoActions,
+            SchemaFault::NoActions => SchemaFault::TooManyActions,
+            SchemaFault::TooManyActions => SchemaFault::KeyRepeated(Table::Customer, 2),
+            SchemaFault::KeyRepeated(_, _) => SchemaFault::UnknownKey(2, Table::Customer),
+            SchemaFault::UnknownKey(_, _) => SchemaFault::TooManyRows(Table::Customer),
+            SchemaFault::TooManyRows(_) => SchemaFault::OutOfRange(C_CITY),
+            SchemaFault::OutOfRange(_) => SchemaFault::FieldTooLong(C_CITY),
+            SchemaFault::FieldTooLong(_) => return None,
+        })
+    }
+}
+
+impl Listed for LoadError {
+    fn first() -> LoadError {
+        LoadError::Read(Table::Customer)
+    }
+
+    fn next(&self) -> Option<LoadError> {
+        Some(match self {
+            LoadError::Read(_) => LoadError::FieldCount(Table::Customer, 2),
+            LoadError::FieldCount(_, _) => LoadError::NotUtf8(Table::Customer, 2, C_CITY),
+            LoadError::NotUtf8(_, _, _) => LoadError::NotANumber(Table::Customer, 2, C_CITY),
+            LoadError::NotANumber(_, _, _) => {
+                LoadError::Row(Table::Customer, 2, SchemaFault::FieldTooLong(C_CITY))
+            }
+            LoadError::Row(_, _, _) | LoadError::OutOfMemory => return None,
+        })
+    }
+}
+
+impl Listed for NoSuchQuery {
+    fn first() -> NoSuchQuery {
+        NoSuchQuery
+    }
+
+    fn next(&self) -> Option<NoSuchQuery> {
+        None
+    }
+}
+
+impl Listed for ConstantsFault {
+    fn first() -> ConstantsFault {
+        ConstantsFault::WrongCount(Query::Q2_1)
+    }
+
+    fn next(&self) -> Option<ConstantsFault> {
+        match self {
+            ConstantsFault::WrongCount(_) => Some(ConstantsFault::BadConstant(4)),
+            ConstantsFault::BadConstant(_) => None,
+        }
+    }
+}
+
+impl Listed for Cause {
+    fn first() -> Cause {
+        Cause::LogFull
+    }
+
+    fn next(&self) -> Option<Cause> {
+        Some(match self {
+            Cause::LogFull => Cause::Present(77),
+            Cause::Present(_) => Cause::UnknownCustomer,
+            Cause::UnknownCustomer => Cause::UnknownSupplier,
+            Cause::UnknownSupplier => Cause::UnknownPart,
+            Cause::UnknownPart => Cause::UnknownDate,
+            Cause::UnknownDate => Cause::LinesFull,
+            Cause::LinesFull => Cause::Absent(77),
+            Cause::Absent(_) => Cause::AmendAbsent(77),
+            Cause::AmendAbsent(_) => return None,
+        })
+    }
+}
+
+impl Listed for OpenFault {
+    fn first() -> OpenFault {
+        OpenFault::ClientCount
+    }
+
+    fn next(&self) -> Option<OpenFault> {
+        match self {
+            OpenFault::ClientCount => Some(OpenFault::DispatcherCount),
+            OpenFault::DispatcherCount => Some(OpenFault::NoReader),
+            OpenFault::NoReader | OpenFault::OutOfMemory => None,
+        }
+    }
+}
+
+impl Listed for ScriptError {
+    fn first() -> ScriptError {
+        ScriptError::BadLine(3)
+    }
+
+    fn next(&self) -> Option<ScriptError> {
+        Some(match self {
+            ScriptError::BadLine(_) => ScriptError::NoCommit,
+            ScriptError::NoCommit => ScriptError::EmptyBlock(3),
+            ScriptError::EmptyBlock(_) => ScriptError::Row(3, SchemaFault::FieldTooLong(C_CITY)),
+            ScriptError::Row(_, _) => ScriptError::TooLong,
+            ScriptError::TooLong => ScriptError::Read,
+            ScriptError::Read | ScriptError::OutOfMemory => return None,
+        })
+    }
+}
+
+impl Listed for AuditFault {
+    fn first() -> AuditFault {
+        AuditFault::CommitRefused(3)
+    }
+
+    fn next(&self) -> Option<AuditFault> {
+        Some(match self {
+            AuditFault::CommitRefused(_) => AuditFault::WrongRows(5, 6),
+            AuditFault::WrongRows(_, _) => AuditFault::WentBack(5, 6),
+            AuditFault::WentBack(_, _) => AuditFault::AtTooLarge(5, 6),
+            AuditFault::AtTooLarge(_, _) | AuditFault::OutOfMemory => return None,
+        })
+    }
+}
+
+// Adds the line that each fault of a type prints.
+fn push_lines<F: Listed>(alloc: Global, lines: &mut Vec<String>) -> Result<(), AllocError> {
+    let mut fault = F::first();
+    for _ in 0..100 {
+        lines.push(format!(in alloc; "{fault}")?)?;
+        match fault.next() {
+            Some(next) => fault = next,
+            None => break,
+        }
+    }
+    Ok(())
+}
+
+/// The line of each fault that has a number.
+pub fn all_lines(alloc: Global) -> Result<Vec<String>, AllocError> {
+    let mut lines = Vec::new(alloc);
+    push_lines::<SchemaFault>(alloc, &mut lines)?;
+    push_lines::<LoadError>(alloc, &mut lines)?;
+    push_lines::<NoSuchQuery>(alloc, &mut lines)?;
+    push_lines::<ConstantsFault>(alloc, &mut lines)?;
+    push_lines::<Cause>(alloc, &mut lines)?;
+    push_lines::<OpenFault>(alloc, &mut lines)?;
+    push_lines::<ScriptError>(alloc, &mut lines)?;
+    push_lines::<AuditFault>(alloc, &mut lines)?;
+    Ok(lines)
+}
