@@ -1,5 +1,5 @@
 -- An answer depends on rows through the columns that queries read alone.
-use Rattle.std.proofs.Common.{◌≡◌, ℕ, Bool, true, false, cond, List, [], ◌∷◌, map, refl, sym, ap, ◌∙◌}
+use Rattle.std.proofs.Common.{◌≡◌, ℕ, Bool, true, false, cond, List, [], ◌∷◌, map, refl, ap, ◌∙◌}
 use Rattle.std.specs.Prelude.{ℤ, pos, ◌+ℤ◌, ◌-ℤ◌, ◌*◌, ◌&&◌, Some}
 use Rattle.std.specs.List.{filter, fold}
 use Rattle.std.specs.Ordering.{is_eq}
@@ -11,7 +11,7 @@ use Rattle.ssb_plans.specs.declared.plan.Measure.TheVariants.{PriceTimesDiscount
 use Rattle.ssb_plans.specs.declared.plan.Plan.{Plan}
 use Rattle.ssb_plans.specs.declared.value.Value.{Value}
 use Rattle.ssb_queries.specs.RowValues.{customer_value, supplier_value, part_value, date_value, pass, is_within}
-use Rattle.ssb_queries.specs.Combination.{Combination, value_in, value_at, passes}
+use Rattle.ssb_queries.specs.Combination.{Combination, value_in, passes}
 use Rattle.ssb_queries.specs.Answer.{groups_cmp, group_of, amount, sum_over, in_group, row_of, groups_among, row_cmp}
 use Rattle.ssb_queries.specs.Answer.{rows_over}
 use Rattle.ssb_queries.specs.Ordered.{in_order}
