@@ -166,7 +166,9 @@ impl<W: Follower + Drop> Shared<W> {
         rows
     }
 
-    /// Gives the row store back, as it was taken or with one commit more of the pass's client, and wakes one that waits for it.
+    /// Gives the row store back, as it was taken or with one commit more of the pass's client. One that waits for it is woken
+    /// where it was given back as it was, and by each 64th commit, so that clients that commit side by side do so in runs;
+    /// nobody sleeps for it for more than 100 microseconds at a time.
     pub fn put_rows(&self, pass: &mut Pass<W>, rows: RowStore)
         requires hall { pass.old.hall ≡ self.now }
         requires taken { pass.old.has_rows ≡ true }
@@ -179,6 +181,7 @@ impl<W: Follower + Drop> Shared<W> {
             steps::put_back(&self.board, &mut pass.seat, rows);
         } else {
             steps::put_commit(&self.board, &mut pass.seat, rows);
+            steps::wake_by_runs(&self.board, length);
         }
         pass.seen_len = length;
     }

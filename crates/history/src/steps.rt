@@ -15,6 +15,13 @@ use crate::view::SlotValue;
 use row_store::{Follower, RowStore};
 use ssb_queries::Answer;
 use std::sync::Wait;
+use std::time::Duration;
+
+/// The longest sleep of one that waits for the row store, in microseconds: then it tries again, though nobody woke it.
+const LONGEST_SLEEP: u64 = 100;
+
+/// One that waits for the row store is woken by each commit whose number this divides.
+const COMMITS_A_RUN: u64 = 64;
 
 /// Waits until the row store is home, and takes it.
 pub(crate) fn take_rows<W: Follower + Drop, R: Wait>(
@@ -35,7 +42,12 @@ pub(crate) fn take_rows<W: Follower + Drop, R: Wait>(
             };
             return store;
         }
-        board.shared.park(rt, 0, (found % (1 << 32)) as u32);
+        board.shared.park_timeout(
+            rt,
+            0,
+            (found % (1 << 32)) as u32,
+            Duration::from_micros(LONGEST_SLEEP),
+        );
     }
     unreachable!()
 }
@@ -52,7 +64,16 @@ pub(crate) fn put_back<W: Follower + Drop>(board: &Board<W>, seat: &mut Place<W>
     board.shared.wake_one(0);
 }
 
-/// Gives the row store back with one commit more.
+/// Wakes one that waits for the row store where a run of commits has ended with this one.
+pub(crate) fn wake_by_runs<W: Follower + Drop>(board: &Board<W>, commit: u64)
+    requires { Has board.now.shared.table_id 0 }
+{
+    if commit % COMMITS_A_RUN == 0 {
+        board.shared.wake_one(0);
+    }
+}
+
+/// Gives the row store back with one commit more, and wakes nobody.
 pub(crate) fn put_commit<W: Follower + Drop>(board: &Board<W>, seat: &mut Place<W>, rows: RowStore)
     requires table { Has board.now.shared.table_id 0 × (seat.old.table_id ≡ board.now.shared.table_id) }
     requires token { (seat.old.me.0.holds_rows ≡ true) × Carries 0 seat.old }
@@ -61,7 +82,6 @@ pub(crate) fn put_commit<W: Follower + Drop>(board: &Board<W>, seat: &mut Place<
 {
     board.shared.exchange(seat, 0, Some(SlotValue::Rows(rows)));
     board.shared.fetch_add::<PutRows>(seat, 0, 1);
-    board.shared.wake_one(0);
 }
 
 /// The length of the history, which the seat has seen then.

@@ -6,7 +6,7 @@ use Rattle.csv.specs.declared.reader.Reader.{Reader}
 use Rattle.ssb_schema.specs.Columns.{Value}
 use Rattle.ssb_schema.specs.declared.table.Table.{Table}
 use Rattle.ssb_schema.specs.declared.fault.SchemaFault.TheVariants as schema
-use Rattle.ssb_load.specs.Records.{GivesNext, HasGiven}
+use Rattle.ssb_records.specs.Records.{GivesNext, HasGiven}
 use Rattle.ssb_load.specs.Row.{row_of, Fails}
 use Rattle.ssb_load.specs.Tables.{in_row, IsFirstFault, IsReadFault, SpellsRow, SpellsRows}
 use Rattle.ssb_load.specs.declared.error.LineFault.{LineFault}

@@ -6,7 +6,7 @@ use Rattle.ssb_schema.specs.declared.table.Table.{Table}
 use Rattle.ssb_schema.specs.declared.fault.SchemaFault.{SchemaFault}
 use Rattle.ssb_load.specs.declared.error.LineFault.{LineFault}
 use Rattle.ssb_load.specs.declared.error.LineFault.TheVariants as fault
-use Rattle.ssb_load.specs.Records.{has_columns}
+use Rattle.ssb_records.specs.Records.{has_columns}
 use Rattle.ssb_load.specs.Row.{row_of, value_at, values_from, ◌>>=◌, Fails}
 
 pub row_taken : (t : Table) (fields : List (List ℕ)) (values : List Value) → has_columns (length (kinds_of t)) fields ≡ true

@@ -8,8 +8,8 @@ use Rattle.ssb_schema.specs.declared.kind.Kind.TheVariants as kind
 use Rattle.ssb_schema.specs.declared.fault.SchemaFault.{SchemaFault}
 use Rattle.ssb_load.specs.declared.error.LineFault.{LineFault}
 use Rattle.ssb_load.specs.declared.error.LineFault.TheVariants as fault
-use Rattle.ssb_load.specs.Records.{has_columns}
-use Rattle.ssb_load.specs.Spelling.{number_of, text_of, without_spaces}
+use Rattle.ssb_records.specs.Records.{has_columns}
+use Rattle.ssb_records.specs.Spelling.{number_of, text_of, without_spaces}
 
 infixl 10 ◌>>=◌
 abbrev pub ◌>>=◌ : {A B : Type 0} → Result A LineFault → (A → Result B LineFault) → Result B LineFault

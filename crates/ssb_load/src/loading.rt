@@ -15,10 +15,15 @@ use std::io::Read;
 /// The readers of the five tables' files (Star Schema Benchmark, section 2).
 #[derive(Drop)]
 pub struct Tables<R> {
+    /// Of `customer.tbl`.
     pub customer: R,
+    /// Of `supplier.tbl`.
     pub supplier: R,
+    /// Of `part.tbl`.
     pub part: R,
+    /// Of `date.tbl`.
     pub date: R,
+    /// Of `lineorder.tbl`.
     pub lineorder: R,
 }
 

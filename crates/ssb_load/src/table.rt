@@ -2,13 +2,13 @@
 
 ghost use Rattle.std.specs.Prelude.{◌≡◌, map, IfOk, IfErr, IfSome, ◌⊎◌, ◌<◌, ◌^◌};
 ghost use Rattle.csv.specs.Records.{fields_of};
-ghost use Rattle.ssb_load.specs.Records.{GivesNext, IsRecordReader};
+ghost use Rattle.ssb_records.specs.Records.{GivesNext, IsRecordReader};
 ghost use Rattle.ssb_load.specs.Tables.{IsFirstFault, IsReadFault, SpellsRows};
 
 use crate::error::{LineFault, LoadError};
-use crate::records::{ReadError, next_record, record_reader};
 use crate::row::TableRow;
 use csv::{ByteRecord, Reader};
+use ssb_records::{ReadError, next_record, record_reader};
 use ssb_schema::{SchemaFault, Table};
 use std::alloc::Global;
 use std::io::Read;

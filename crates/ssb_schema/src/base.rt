@@ -25,17 +25,24 @@ use std::marker::Model;
 /// The rows of a base, table by table.
 #[derive(Drop)]
 pub struct BaseParts {
+    /// The rows of customer, in the order of their file.
     pub customers: Vec<Customer>,
+    /// The rows of supplier.
     pub suppliers: Vec<Supplier>,
+    /// The rows of part.
     pub parts: Vec<Part>,
+    /// The rows of date.
     pub dates: Vec<DateRow>,
+    /// The loaded lines: the rows of lineorder.
     pub lines: Vec<Line>,
 }
 
 /// Why there is no base. The rows come back.
 #[derive(Drop)]
 pub enum BaseError {
+    /// The rows have this fault.
     Refused(Refused<BaseParts>),
+    /// Memory ran out.
     OutOfMemory(BaseParts),
 }
 

@@ -19,7 +19,9 @@ use std::alloc::{AllocError, Global};
 /// Why a check of rows stopped.
 #[derive(Debug, Drop)]
 pub enum Stop {
+    /// At the first fault of the rows.
     Fault(SchemaFault),
+    /// Memory ran out.
     OutOfMemory,
 }
 
@@ -81,9 +83,13 @@ pub struct Index {
 /// The indexes of the four dimensions.
 #[derive(Drop)]
 pub struct Indexes {
+    /// Of customer.
     pub customers: Index,
+    /// Of supplier.
     pub suppliers: Index,
+    /// Of part.
     pub parts: Index,
+    /// Of date.
     pub dates: Index,
 }
 

@@ -5,9 +5,9 @@ use Rattle.std.specs.Cmp.Lexicographic.{pointwise}
 use Rattle.ssb_schema.specs.Columns as columns
 use Rattle.ssb_schema.specs.declared.table.Table.TheVariants as table
 use Rattle.ssb_schema.specs.declared.line.LineFields.{LineFields}
-use Rattle.ssb_load.specs.Records.{has_columns}
+use Rattle.ssb_records.specs.Records.{has_columns}
 use Rattle.ssb_load.specs.Row.{row_of}
-use Rattle.ssb_load.specs.Spelling.{number_of, text_of, without_spaces}
+use Rattle.ssb_records.specs.Spelling.{field, number_of, text_of}
 use Rattle.ssb_load.specs.declared.error.LineFault.{LineFault}
 use Rattle.ssb_load.specs.declared.error.LineFault.TheVariants as row
 use Rattle.ssb_plans.specs.Kind.{constant_kinds}
@@ -39,10 +39,6 @@ pub data ScriptLine : Type 0 where
 pub data RecordFault : Type 0 where
   Bad : RecordFault
   Refused : SchemaFault → RecordFault
-
--- a record's field at a place, counted from 0, without the spaces at its end
-abbrev pub field : List (List ℕ) → ℕ → List ℕ
-field fields place = without_spaces (get_or fields place [])
 
 -- the words that a record may begin with
 abbrev pub spelling_of : Word → List ℕ

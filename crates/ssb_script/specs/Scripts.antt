@@ -1,7 +1,7 @@
 -- What the text of a script spells, and its first fault.
 use Rattle.std.specs.Prelude.{◌≡◌, ℕ, ◌+◌, ◌≤◌, ◌<◌, ◌⊎◌, ◌++◌, ◌&&◌, Bool, true, false, not, List, [], ◌∷◌, length, map, All, Option, Some, None, option_map, Result, Ok, Err, nat_eq, nat_lt, if◌then◌else◌}
 use Rattle.std.specs.List.{flat_map}
-use Rattle.ssb_load.specs.Records.{BeginsWith, HasRecords}
+use Rattle.ssb_records.specs.Records.{BeginsWith, HasRecords}
 use Rattle.ssb_schema.specs.Orders.{order_fault}
 use Rattle.ssb_schema.specs.declared.fault.SchemaFault.TheVariants as schema
 use Rattle.ssb_schema.specs.declared.refresh.Action.{Action}

@@ -26,24 +26,31 @@ use std::sync::Arc;
 pub struct BegunOrder {
     /// The actions before it in its refresh.
     pub actions: Items<Action>,
+    /// Whether it is added or amended.
     pub opening: Opening,
     /// The number of the record that began it.
     pub number: u64,
+    /// Its lines so far.
     pub lines: Items<Line>,
 }
 
 /// What is begun and not ended: nothing, a refresh, or an order in a refresh.
 #[derive(Drop)]
 pub enum Begun {
+    /// No refresh is begun.
     Nothing,
+    /// A refresh, with its actions so far, none of which is being read.
     Refresh(Items<Action>),
+    /// A refresh, and in it an order whose lines are being read.
     Order(BegunOrder),
 }
 
 /// What comes of one record: the block that it ends, if it ends one, and what is begun after it.
 #[derive(Drop)]
 pub struct Step {
+    /// The block that the record ended, if it ended one.
     pub block: Option<Block>,
+    /// What is begun after the record.
     pub begun: Begun,
 }
 

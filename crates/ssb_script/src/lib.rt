@@ -27,9 +27,8 @@ mod word;
 
 pub use begun::{Begun, BegunOrder, Step};
 pub use block::{Block, Script};
-pub use control::{Control, Opening};
+pub use control::{Control, Opening, key_of};
 pub use error::ScriptError;
-pub use fields::trimmed_at;
 pub use laws::one_reading;
 pub use order_line::OrderLine;
 pub use question::{constants_from, question_at};

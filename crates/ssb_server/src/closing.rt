@@ -75,6 +75,7 @@ impl<W: Wait + Drop> Server<W> {
             clients: _,
             dispatchers: _,
             bells: _,
+            pace: _,
             alloc: _,
             room,
         } = self;

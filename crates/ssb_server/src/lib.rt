@@ -35,6 +35,7 @@ mod closing;
 mod dispatcher;
 mod grabbing;
 mod opening;
+mod pace;
 mod room;
 mod server;
 mod snapshot;

@@ -9,6 +9,7 @@ use crate::batch::{Batch, MOST_CLIENTS};
 use crate::bells::Bells;
 use crate::client::Client;
 use crate::dispatcher::Dispatcher;
+use crate::pace::Pace;
 use crate::room::Room;
 use crate::server::{Hall, Pass, Server};
 use crate::tickets::clients_of;
@@ -104,6 +105,7 @@ fn server_over<W: Wait + Drop>(
         clients,
         dispatchers,
         bells: Bells::new(alloc, clients, dispatchers)?,
+        pace: Pace::new(),
         alloc,
         room: Mutex::new(Room::new(alloc)?),
     })

@@ -2,6 +2,7 @@
 ghost use Rattle.std.specs.Prelude.{◌≡◌};
 
 use crate::bells::Bells;
+use crate::pace::Pace;
 use crate::room::Room;
 use dim_index::DimIndex;
 use fact_columns::Columns;
@@ -26,6 +27,7 @@ pub struct Server<W: Wait + Drop> {
     pub(crate) clients: u32,
     pub(crate) dispatchers: u32,
     pub(crate) bells: Bells,
+    pub(crate) pace: Pace,
     pub(crate) alloc: Global,
     // For `close`. Passes may not be shared between threads, and behind a lock they are not; nobody takes it.
     pub(crate) room: Mutex<Room<W>>,

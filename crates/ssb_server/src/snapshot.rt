@@ -6,6 +6,7 @@ ghost use Rattle.history.specs.Tokens.{IsSound};
 ghost use Rattle.history.specs.Words.{IsCause};
 ghost use Rattle.ssb_server.specs.Turns.{IsDispatcher, HoldsNothing, HasFetched, Knows, StandsAt, Fetches, HasBeside, HasTaken, Appends, Follows, Misses};
 
+use crate::pace::Pace;
 use crate::server::{Hall, Pass};
 use fact_columns::Columns;
 use row_store::{Commit, Follower, Replica};
@@ -27,11 +28,13 @@ fn copy_of(alloc: Global, commits: &[Commit]) -> Result<Vec<Commit>, AllocError>
     Ok(copies)
 }
 
-// Takes the rows, copies the commits that the writer lacks, and gives the rows back as they were.
+// Takes the rows, copies the commits that the writer lacks, and gives the rows back as they were. Clients keep near to them
+// from then on.
 fn fetch<W: Wait + Drop, R: Wait>(
     rt: &R,
     alloc: Global,
     hall: &Hall<W>,
+    pace: &Pace,
     pass: &mut Pass<W>,
     taken: u64,
 ) -> Result<Vec<Commit>, AllocError>
@@ -44,6 +47,7 @@ fn fetch<W: Wait + Drop, R: Wait>(
     ensures few { length (lines_after pass.new.hall.base pass.new.seen) ≤ pass.new.hall.base.limits.lines }
 {
     let rows = hall.take_rows(rt, pass);
+    pace.begin(rows.len() as u64);
     let commits = copy_of(alloc, rows.log_from(taken as usize));
     let _ = rows.line_count();
     hall.put_rows(pass, rows);
@@ -139,6 +143,7 @@ fn bring_up<W: Wait + Drop, R: Wait>(
     rt: &R,
     alloc: Global,
     hall: &Hall<W>,
+    pace: &Pace,
     pass: &mut Pass<W>,
     writer: TwinWriter<Columns, W>,
     reader: TwinReader<Columns>,
@@ -154,7 +159,7 @@ fn bring_up<W: Wait + Drop, R: Wait>(
     ensures entered { MatchResult result.1 (StandsAt pass.new.hall.base pass.new.seen) (Misses pass.new.hall.base pass.new.seen) }
 {
     let taken = writer.taken();
-    match fetch(rt, alloc, hall, pass, taken) {
+    match fetch(rt, alloc, hall, pace, pass, taken) {
         Ok(commits) => catch_up(rt, writer, commits, reader),
         Err(_) => (writer, Err((reader, Unserved::OutOfMemory))),
     }
@@ -165,6 +170,7 @@ pub(crate) fn snapshot<W: Wait + Drop, R: Wait>(
     rt: &R,
     alloc: Global,
     hall: &Hall<W>,
+    pace: &Pace,
     pass: &mut Pass<W>,
     reader: TwinReader<Columns>,
 ) -> Result<Guard<Columns>, Missed>
@@ -177,7 +183,7 @@ pub(crate) fn snapshot<W: Wait + Drop, R: Wait>(
     ensures entered { MatchResult result (StandsAt pass.new.hall.base pass.new.seen) (Misses pass.new.hall.base pass.new.seen) }
 {
     let writer = hall.take_writer(rt, pass);
-    let (writer, entered) = bring_up(rt, alloc, hall, pass, writer, reader);
+    let (writer, entered) = bring_up(rt, alloc, hall, pace, pass, writer, reader);
     hall.put_writer(pass, writer);
     entered
 }

@@ -93,7 +93,7 @@ fn serve<W: Wait + Drop, R: Wait + Threads + Sync, G: ScanGate>(
     ensures empty { batch.new ≡ no_hand }
     ensures hand { Keeps no_hand pass.new.grabbed }
 {
-    match snapshot(rt, server.alloc, &server.hall, pass, reader) {
+    match snapshot(rt, server.alloc, &server.hall, &server.pace, pass, reader) {
         Ok(guard) => {
             let at = pass.seen_len();
             gate.scanning(at);
@@ -140,5 +140,7 @@ pub(crate) fn take_turn<W: Wait + Drop, R: Wait + Threads + Sync, G: ScanGate>(
     if batch.len() == 0 {
         return (reader, Turn::Idle);
     }
-    serve(rt, server, gate, pass, batch, reader)
+    let served = serve(rt, server, gate, pass, batch, reader);
+    server.pace.end(&server.bells);
+    served
 }

@@ -6,10 +6,9 @@ use Rattle.std.specs.Str.{IsUtf8}
 use Rattle.std.specs.Cmp.Lexicographic.{pointwise}
 use Rattle.std.proofs.Math.Seq.{get_or-append_seam}
 use Rattle.std.proofs.lemmas.Bool.{cases_Bool, eqb-true}
-use Rattle.ssb_load.specs.Spelling.{text_of, without_spaces}
-use Rattle.ssb_load.proofs.Utf8.{text_is_utf8}
+use Rattle.ssb_records.specs.Spelling.{field, text_of, without_spaces}
+use Rattle.ssb_records.proofs.Utf8.{text_is_utf8}
 use Rattle.ssb_schema.specs.Columns.{ends_in_space, is_plain, is_plain_byte}
-use Rattle.ssb_script.specs.Lines.{field}
 use Rattle.ssb_trace_laws.proofs.Records.{IsPlainField, and-left, and-right, not-false}
 
 -- a field that is read as it was written

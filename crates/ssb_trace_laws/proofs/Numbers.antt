@@ -11,8 +11,8 @@ use Rattle.std.proofs.Math.IntN.{+ℤ_idl}
 use Rattle.std.proofs.lemmas.Bool.Decides.{nat_tests}
 use Rattle.std.proofs.lemmas.Fmt.{decimal_nonempty, digits_decimal, digits_value-decimal, length-decimal-le}
 use Rattle.std.proofs.lemmas.Str.Parse.{IsNumeralModel, numerals_by_weight}
-use Rattle.ssb_load.proofs.Digits.{number_of-digits}
-use Rattle.ssb_load.specs.Spelling.{decimal_value, number_of, without_spaces}
+use Rattle.ssb_records.proofs.Digits.{number_of-digits}
+use Rattle.ssb_records.specs.Spelling.{decimal_value, number_of, without_spaces}
 use Rattle.ssb_schema.specs.Columns.{is_plain_byte}
 use Rattle.ssb_trace_read.specs.Rows.{amount_of, negative, positive, signed_of}
 use Rattle.ssb_trace_laws.proofs.Fields.{IsKept}

@@ -6,7 +6,7 @@ use Rattle.std.proofs.lemmas.List.{append-nil}
 use Rattle.csv.specs.Machine.{next_record}
 use Rattle.csv.specs.Reading.{Reached, strip_bom}
 use Rattle.csv.specs.declared.parser.State.TheVariants as st
-use Rattle.ssb_load.specs.Records.{HasRecords, record_config}
+use Rattle.ssb_records.specs.Records.{HasRecords, record_config}
 use Rattle.ssb_schema.specs.Columns.{is_plain_byte}
 use Rattle.ssb_trace.specs.TraceText.{fields_text, record_text}
 

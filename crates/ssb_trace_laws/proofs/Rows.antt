@@ -4,14 +4,14 @@ use Rattle.std.specs.List.{AllByRecursion, flat_map, join_with_byte}
 use Rattle.std.proofs.lemmas.Bool.{cases_Bool}
 use Rattle.std.proofs.lemmas.List.{append-nil}
 use Rattle.ssb_audit.specs.declared.trace.Told.{Told}
-use Rattle.ssb_load.specs.Records.{has_columns}
-use Rattle.ssb_load.specs.Spelling.{without_spaces}
+use Rattle.ssb_records.specs.Records.{has_columns}
+use Rattle.ssb_records.specs.Spelling.{field, without_spaces}
 use Rattle.ssb_plans.specs.Query.{sum_first}
 use Rattle.ssb_plans.specs.declared.query.Query.{Query}
 use Rattle.ssb_queries.specs.declared.answer.ResultRow.{ResultRow}
 use Rattle.ssb_report.specs.AnswerText.{columns_of, row_text, value_text}
 use Rattle.ssb_report.specs.Numbers.{line_feed, sum_text}
-use Rattle.ssb_script.specs.Lines.{constants_from, field}
+use Rattle.ssb_script.specs.Lines.{constants_from}
 use Rattle.ssb_trace.specs.TraceText.{fields_text, head_text, record_text, told_row_text, told_text}
 use Rattle.ssb_trace_read.specs.Blocks.{head_of_told, lines_of_told}
 use Rattle.ssb_trace_read.specs.Lines.{Answer, Row, Says, word_of}

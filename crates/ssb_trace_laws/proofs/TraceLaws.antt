@@ -4,7 +4,7 @@ use Rattle.std.specs.List.{AllByRecursion, flat_map}
 use Rattle.row_store.specs.History.{CommitRecord}
 use Rattle.ssb_audit.specs.declared.trace.Told.{Told}
 use Rattle.ssb_audit.specs.declared.trace.Trace.{Trace}
-use Rattle.ssb_load.specs.Records.{HasRecords}
+use Rattle.ssb_records.specs.Records.{HasRecords}
 use Rattle.ssb_script.specs.Requests.{IsWholeRequest, Refresh}
 use Rattle.ssb_trace.specs.TraceText.{commit_text, told_text, trace_text}
 use Rattle.ssb_trace_read.specs.Blocks.{lines_of_commit, lines_of_told}

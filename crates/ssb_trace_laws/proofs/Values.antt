@@ -12,9 +12,10 @@ use Rattle.ssb_plans.specs.declared.question.ConstantsFault.TheVariants.{BadCons
 use Rattle.ssb_plans.specs.declared.value.Value.{Value}
 use Rattle.ssb_plans.specs.declared.value.Value.TheVariants as value
 use Rattle.ssb_report.specs.AnswerText.{value_text}
+use Rattle.ssb_records.specs.Spelling.{field}
 use Rattle.ssb_schema.specs.Columns.{is_plain}
 use Rattle.ssb_schema.specs.declared.column.Column.{Column}
-use Rattle.ssb_script.specs.Lines.{constant_spelled, constants_from, field}
+use Rattle.ssb_script.specs.Lines.{constant_spelled, constants_from}
 use Rattle.ssb_trace_laws.specs.Allowed.{IsAllowedQuestion, IsAllowedValue, IsGroup}
 use Rattle.ssb_trace_laws.proofs.Fields.{IsKept, field_there, text_kept, text_read}
 use Rattle.ssb_trace_laws.proofs.Numbers.{number_kept, number_read}

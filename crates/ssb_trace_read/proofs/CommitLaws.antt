@@ -5,7 +5,7 @@ use Rattle.std.specs.Option.{option_map}
 use Rattle.std.specs.Bool.{if◌then◌else◌}
 use Rattle.std.proofs.lemmas.List.{append-nil, map-append}
 use Rattle.std.proofs.lemmas.List.Elements.{All-head, All-nil, All-push}
-use Rattle.ssb_load.specs.Records.{has_columns}
+use Rattle.ssb_records.specs.Records.{has_columns}
 use Rattle.ssb_load.specs.declared.error.LineFault.{LineFault}
 use Rattle.ssb_load.specs.declared.error.LineFault.TheVariants as fault
 use Rattle.ssb_schema.specs.Columns as columns

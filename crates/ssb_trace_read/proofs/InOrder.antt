@@ -5,7 +5,7 @@ use Rattle.std.proofs.lemmas.List.Elements.{All-from_recursion}
 use Rattle.row_store.specs.History.{CommitRecord}
 use Rattle.ssb_audit.specs.declared.trace.Told.{Told}
 use Rattle.ssb_audit.specs.declared.trace.Trace.{Trace}
-use Rattle.ssb_load.specs.Records.{HasRecords}
+use Rattle.ssb_records.specs.Records.{HasRecords}
 use Rattle.ssb_script.specs.Requests.{IsWholeRequest, Refresh}
 use Rattle.ssb_trace_read.specs.Blocks.{IsWholeBlock, answers_in, commits_in, lines_of_blocks, lines_of_commit, lines_of_told}
 use Rattle.ssb_trace_read.specs.Lines.{AreLines}

@@ -12,7 +12,7 @@ use Rattle.csv.specs.declared.parser.State.TheVariants as st
 use Rattle.row_store.specs.History.{CommitRecord}
 use Rattle.ssb_audit.specs.declared.trace.Told.{Told}
 use Rattle.ssb_audit.specs.declared.trace.Trace.{Trace}
-use Rattle.ssb_load.specs.Records.{record_config}
+use Rattle.ssb_records.specs.Records.{record_config}
 use Rattle.ssb_plans.specs.declared.query.Query.{Query}
 use Rattle.ssb_plans.specs.declared.query.Query.TheVariants.{Q1_1}
 use Rattle.ssb_queries.specs.declared.answer.ResultRow.{ResultRow}

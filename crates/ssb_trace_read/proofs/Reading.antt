@@ -9,9 +9,9 @@ use Rattle.csv.specs.declared.reader.Reader.{Reader}
 use Rattle.row_store.specs.History.{CommitRecord}
 use Rattle.ssb_audit.specs.declared.trace.Told.{Told}
 use Rattle.ssb_audit.specs.declared.trace.Trace.{Trace}
-use Rattle.ssb_load.specs.Records.{GivesNext, HasGiven}
-use Rattle.ssb_load.specs.declared.records.ReadError.{ReadError}
-use Rattle.ssb_load.specs.declared.records.ReadError.TheVariants as read
+use Rattle.ssb_records.specs.Records.{GivesNext, HasGiven}
+use Rattle.ssb_records.specs.declared.records.ReadError.{ReadError}
+use Rattle.ssb_records.specs.declared.records.ReadError.TheVariants as read
 use Rattle.ssb_script.specs.Errors.{error_of_read}
 use Rattle.ssb_script.specs.Scripts.{first_of}
 use Rattle.ssb_script.specs.Steps.{IsFoundBy}

@@ -6,15 +6,15 @@ use Rattle.ssb_schema.specs.Columns.{column_kind}
 use Rattle.ssb_schema.specs.declared.column.Column.{Column}
 use Rattle.ssb_schema.specs.declared.kind.Kind.{Kind}
 use Rattle.ssb_schema.specs.declared.kind.Kind.TheVariants as kind
-use Rattle.ssb_load.specs.Records.{has_columns}
-use Rattle.ssb_load.specs.Spelling.{number_of}
+use Rattle.ssb_records.specs.Records.{has_columns}
+use Rattle.ssb_records.specs.Spelling.{field, number_of}
 use Rattle.ssb_plans.specs.Queries.{plan_of}
 use Rattle.ssb_plans.specs.Query.{sum_first}
 use Rattle.ssb_plans.specs.declared.kind.ConstantKind.{ConstantKind}
 use Rattle.ssb_plans.specs.declared.kind.ConstantKind.TheVariants.{Text, Number}
 use Rattle.ssb_plans.specs.declared.query.Query.{Query}
 use Rattle.ssb_queries.specs.declared.answer.ResultRow.{ResultRow}
-use Rattle.ssb_script.specs.Lines.{field, constants_from}
+use Rattle.ssb_script.specs.Lines.{constants_from}
 
 -- what a group column holds: a number of 32 bits, or a text
 abbrev pub kind_in : Column → Option Kind → ConstantKind

@@ -1,7 +1,7 @@
 -- What the text of a trace spells, and its first fault.
 use Rattle.std.specs.Prelude.{◌≡◌, ℕ, ◌+◌, ◌≤◌, ◌⊎◌, ◌++◌, List, [], ◌∷◌, length, All, Option, Some, None, if◌then◌else◌}
 use Rattle.ssb_audit.specs.declared.trace.Trace.{Trace}
-use Rattle.ssb_load.specs.Records.{BeginsWith, HasRecords}
+use Rattle.ssb_records.specs.Records.{BeginsWith, HasRecords}
 use Rattle.ssb_script.specs.Begun.{Begun}
 use Rattle.ssb_script.specs.Scripts.{checks_in, first_of, refusal_at_end, too_long}
 use Rattle.ssb_script.specs.Steps.{begun_in}

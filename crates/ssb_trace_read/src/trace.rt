@@ -11,7 +11,7 @@ use crate::unfinished::{Step, Unfinished};
 use csv::ByteRecord;
 use row_store::Commit;
 use ssb_audit::{Told, Trace};
-use ssb_load::{next_record, record_reader};
+use ssb_records::{next_record, record_reader};
 use ssb_schema::Items;
 use ssb_script::ScriptError;
 use std::alloc::{AllocError, Global};

@@ -30,6 +30,7 @@ use std::alloc::{AllocError, Global};
 /// A commit whose actions are being read.
 #[derive(Drop)]
 pub(crate) struct UnfinishedCommit {
+    /// Whose commit it is.
     pub client: u32,
     /// What its records have begun, as a refresh of a script.
     pub begun: Begun,
@@ -38,6 +39,7 @@ pub(crate) struct UnfinishedCommit {
 /// An answer whose rows are being read.
 #[derive(Drop)]
 pub(crate) struct UnfinishedAnswer {
+    /// What its first record says.
     pub head: AnswerHead,
     /// Its rows so far.
     pub rows: Items<ResultRow>,
@@ -46,15 +48,20 @@ pub(crate) struct UnfinishedAnswer {
 /// What is begun and not ended: nothing, a commit, or an answer.
 #[derive(Drop)]
 pub(crate) enum Unfinished {
+    /// The next record begins a block.
     Nothing,
+    /// A commit whose `end` is to come.
     Commit(UnfinishedCommit),
+    /// An answer of which rows are to come.
     Answer(UnfinishedAnswer),
 }
 
 /// What comes of one record: the block that it ends, if it ends one, and what is begun after it.
 #[derive(Drop)]
 pub(crate) struct Step {
+    /// The block that the record ended, if it ended one.
     pub block: Option<Block>,
+    /// What is begun after the record.
     pub unfinished: Unfinished,
 }
 

@@ -1,5 +1,5 @@
 use Rattle.std.proofs.Common.{◌≡◌, map, length}
-use Rattle.ssb_load.specs.Records.{IsRecordReader}
+use Rattle.ssb_records.specs.Records.{IsRecordReader}
 use Rattle.ssb_load.proofs.Reading.{HasReadKnown}
 use Rattle.ssb_load.proofs.table.read_table.Given as goal
 

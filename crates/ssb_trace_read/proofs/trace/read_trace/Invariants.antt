@@ -1,4 +1,4 @@
-use Rattle.ssb_load.specs.Records.{IsRecordReader}
+use Rattle.ssb_records.specs.Records.{IsRecordReader}
 use Rattle.ssb_trace_read.specs.Blocks.{IsUnfinished}
 use Rattle.ssb_trace_read.proofs.Reading.{HasReadKnown}
 use Rattle.ssb_trace_read.proofs.trace.read_trace.Given as goal

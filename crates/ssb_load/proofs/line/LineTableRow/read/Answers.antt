@@ -2,7 +2,7 @@ use Rattle.std.proofs.Common.{◌≡◌, ◌∙◌, true, sym}
 use Rattle.csv.specs.Records.{fields_of}
 use Rattle.ssb_schema.specs.Rows.{line_values}
 use Rattle.ssb_schema.specs.declared.table.Table.TheVariants as table
-use Rattle.ssb_load.specs.Records.{has_columns}
+use Rattle.ssb_records.specs.Records.{has_columns}
 use Rattle.ssb_load.proofs.Rows.{row_taken, row_refused}
 use Rattle.ssb_load.proofs.line.LineTableRow.read.Goals as goal
 
