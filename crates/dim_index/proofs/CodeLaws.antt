@@ -1,11 +1,12 @@
 -- The distinct values of a list, and their codes.
 use Rattle.std.proofs.Common.{◌≡◌, ℕ, ◌+◌, ◌<◌, ◌≤◌, Bool, true, false, cond, not, List, [], ◌∷◌, ◌++◌, length, map, take, get_or, Some, None, zero, suc, sym, refl, ap, ◌∙◌, arith, subst, unwrap_or, length-append}
-use Rattle.std.specs.Prelude.{◌||◌, nat_lt}
-use Rattle.std.specs.List.{filter, list_any, position_or_len, slice_get, All}
+use Rattle.std.specs.Prelude.{◌||◌, nat_lt, nat_eq}
+use Rattle.std.specs.List.{filter, list_any, position_from, position_or_len, slice_get, All}
 use Rattle.std.proofs.lemmas.List.{get_or-map, get_or_append_left, length-map, map-append, append-nil, take_more}
 use Rattle.std.proofs.lemmas.List.Elements.{filter-append, All-filter, All-push}
 use Rattle.std.proofs.lemmas.List.Sums.{position_or_len_is}
-use Rattle.std.proofs.lemmas.Bool.{lt-ltb}
+use Rattle.std.proofs.lemmas.Bool.{lt-ltb, eq-eqb, ne_eqb}
+use Rattle.std.proofs.lemmas.Iterator.Adapters.{position_from-zero}
 use Rattle.std.proofs.Math.Seq.{take-length}
 use Rattle.std.proofs.lemmas.Option.{get_or_from_slice_get, slice_get_within}
 use Rattle.std.proofs.lemmas.Grind.{same_number_lists}
@@ -199,3 +200,70 @@ pub coded_all : (values dictionary : List Value) (codes : List ℕ) → CodedUpT
 coded_all values dictionary codes all =
     let read : values_in dictionary codes ≡ values = all.read ∙ take-length values in
     (record { within = all.within; seen = all.seen ∙ ap distinct (take-length values ∙ sym read) }, read)
+
+-- a value of the list is among the distinct ones
+among_distinct : (values : List Value) (p : ℕ) (d : Value) → p < length values → list_any (is_same (get_or values p d)) (distinct values) ≡ true
+unfolding distinct
+among_distinct [] p d within = absurd (omega (arith, within))
+among_distinct (x ∷ values) zero d within = ap (λ b. b || list_any (is_same x) (filter (differs x) (distinct values))) (is_itself x)
+among_distinct (x ∷ values) (suc p) d within = step (is_same v x) refl (among_distinct values p d (omega (arith, within)))
+  where
+    v : Value
+    v = get_or values p d
+
+    step : (same : Bool) → is_same v x ≡ same → list_any (is_same v) (distinct values) ≡ true → (is_same v x || list_any (is_same v) (filter (differs x) (distinct values))) ≡ true
+    step true is rest = ap (λ b. b || list_any (is_same v) (filter (differs x) (distinct values))) is
+    step false is rest =
+        ap (λ b. b || list_any (is_same v) (filter (differs x) (distinct values))) is
+        ∙ any_kept v (differs x) (distinct values) (λ other same. ap not (ap (is_same x) (sym ((value_Decides v other).0 same)) ∙ flip_false v x is))
+        ∙ rest
+
+-- where a test passes somewhere, the first place at which it does
+pub first_found : {X : Type 0} (test : X → Bool) (d : X) (a : ℕ) (xs : List X) → list_any test xs ≡ true → (i : ℕ) × (position_from test a xs ≡ Some (a + i)) × (test (get_or xs i d) ≡ true)
+first_found test d a [] some = absurd (cc)
+first_found {X = X} test d a (x ∷ xs) some = step (test x) refl (first_found test d (a + 1) xs)
+  where
+    step : (b : Bool) → test x ≡ b → (list_any test xs ≡ true → (i : ℕ) × (position_from test (a + 1) xs ≡ Some (a + 1 + i)) × (test (get_or xs i d) ≡ true))
+        → (i : ℕ) × (cond (test x) (Some a) (position_from test (a + 1) xs) ≡ Some (a + i)) × (test (get_or (x ∷ xs) i d) ≡ true)
+    step true is rest = let here : a ≡ a + 0 = omega arith in (0, ap (λ b. cond b (Some a) (position_from test (a + 1) xs)) is ∙ ap Some here, is)
+    step false is rest =
+        let later = rest (ap (λ b. b || list_any test xs) (sym is) ∙ some) in
+        let next : a + 1 + later.0 ≡ a + suc later.0 = omega arith in
+        (suc later.0, ap (λ b. cond b (Some a) (position_from test (a + 1) xs)) is ∙ later.1 ∙ ap Some next, later.2)
+
+-- a code read back is the value
+pub read_back : (values : List Value) (p : ℕ) → p < length values → get_or (distinct values) (get_or (codes_of values) p 0) (Number 0) ≡ get_or values p (Number 0)
+read_back values p within =
+    let v : Value = get_or values p (Number 0) in
+    let found = first_found (is_same v) (Number 0) 0 (distinct values) (among_distinct values p (Number 0) within) in
+    let start : 0 + found.0 ≡ found.0 = omega arith in
+    let code : get_or (codes_of values) p 0 ≡ found.0 = get_or-map (code_in (distinct values)) values p (Number 0) 0 within ∙ ap (λ o. unwrap_or o 0) (position_from-zero (is_same v) (distinct values) ∙ found.1) ∙ start in
+    ap (λ k. get_or (distinct values) k (Number 0)) code ∙ sym ((value_Decides v (get_or (distinct values) found.0 (Number 0))).0 found.2)
+
+-- rows have the same code where they have the same value
+pub same_codes : (values : List Value) (p q : ℕ) → p < length values → q < length values
+    → nat_eq (get_or (codes_of values) q 0) (get_or (codes_of values) p 0) ≡ is_same (get_or values p (Number 0)) (get_or values q (Number 0))
+same_codes values p q at_p at_q = step (is_same u v) refl
+  where
+    u : Value
+    u = get_or values p (Number 0)
+
+    v : Value
+    v = get_or values q (Number 0)
+
+    code : ℕ → ℕ
+    code i = get_or (codes_of values) i 0
+
+    step : (same : Bool) → is_same u v ≡ same → nat_eq (code q) (code p) ≡ is_same u v
+    step true is =
+        let codes : code q ≡ code p =
+        get_or-map (code_in (distinct values)) values q (Number 0) 0 at_q
+        ∙ ap (code_in (distinct values)) (sym ((value_Decides u v).0 is))
+        ∙ sym (get_or-map (code_in (distinct values)) values p (Number 0) 0 at_p) in
+        eq-eqb (code q) (code p) codes ∙ sym is
+    step false is = ne_eqb (code q) (code p) (λ codes.
+        let values_are : u ≡ v = sym (read_back values p at_p) ∙ ap (λ k. get_or (distinct values) k (Number 0)) (sym codes) ∙ read_back values q at_q in
+        true_false (sym ((value_Decides u v).1 values_are) ∙ is)) ∙ sym is
+      where
+        true_false : true ≡ false → ⊥
+        true_false e = cc

@@ -22,8 +22,10 @@
 #![tactic(auto)]
 
 mod bitmap;
+mod classes;
 mod coded;
 mod dictionary;
+mod first_rows;
 mod index;
 mod kept;
 mod row;
@@ -33,4 +35,5 @@ mod tests;
 pub use bitmap::Bitmap;
 pub use coded::CodedColumn;
 pub use dictionary::Dictionary;
+pub use first_rows::{Extents, FirstRows};
 pub use index::DimIndex;

@@ -12,7 +12,8 @@ use Rattle.ssb_schema.specs.Facts.{fact_of, facts_of}
 use Rattle.row_store.specs.Lines.{added_by}
 use Rattle.row_store.specs.State.{Counts, with_fact}
 use Rattle.fact_table.specs.declared.place.Place.{Place}
-use Rattle.fact_table.specs.Places.{fact_at, is_live, IsWithin}
+use Rattle.fact_table.specs.Places.{fact_at, is_live}
+use Rattle.fact_columns.specs.Classed.{IsPlaceOf}
 use Rattle.fact_columns.specs.Coded.{IsCodeOf, AreCodesOf, with_places}
 
 pub some_row : {R : Type 0} (rows : List R) → 0 < length rows → R
@@ -25,7 +26,7 @@ pub codes_push : (dimensions : Dimensions) (facts : List Fact) (places : List Pl
 codes_push dimensions facts places fact place codes code = record {
   read = map-append (fact_at dimensions) places (place ∷ []) ∙ (λ i. codes.read i ++ code.reads i ∷ []);
   lives = All-push (λ p. is_live p ≡ true) places place codes.lives code.live;
-  inside = All-push (IsWithin dimensions) places place codes.inside code.within;
+  inside = All-push (IsPlaceOf dimensions) places place codes.inside code.within;
 }
 
 -- the places of an order have its key
@@ -58,7 +59,7 @@ pub codes_take : (dimensions : Dimensions) (facts more : List Fact) (places : Li
 codes_take dimensions facts more places codes = record {
   read = sym (take-map (fact_at dimensions) (length facts) places) ∙ ap (take (length facts)) codes.read ∙ take_at facts more (length facts) refl;
   lives = All-take (λ p. is_live p ≡ true) (length facts) places codes.lives;
-  inside = All-take (IsWithin dimensions) (length facts) places codes.inside;
+  inside = All-take (IsPlaceOf dimensions) (length facts) places codes.inside;
 }
 
 -- and of the others
@@ -66,7 +67,7 @@ pub codes_drop : (dimensions : Dimensions) (facts more : List Fact) (places : Li
 codes_drop dimensions facts more places codes = record {
   read = sym (drop-map (fact_at dimensions) (length facts) places) ∙ ap (drop (length facts)) codes.read ∙ drop_at facts more (length facts) refl;
   lives = All-drop (λ p. is_live p ≡ true) (length facts) places codes.lives;
-  inside = All-drop (IsWithin dimensions) (length facts) places codes.inside;
+  inside = All-drop (IsPlaceOf dimensions) (length facts) places codes.inside;
 }
 
 -- counting the places of facts is counting the facts

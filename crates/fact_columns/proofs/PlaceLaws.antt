@@ -13,7 +13,8 @@ use Rattle.ssb_schema.specs.declared.fact.Fact.{Fact}
 use Rattle.ssb_schema.specs.declared.refresh.Action.TheVariants.{Withdraw}
 use Rattle.row_store.specs.State.{Counts, with_fact, fact_counts, counts_after_action}
 use Rattle.fact_table.specs.declared.place.Place.{Place}
-use Rattle.fact_table.specs.Places.{is_live, freed, fact_at, live_facts, IsWithin}
+use Rattle.fact_table.specs.Places.{is_live, freed, fact_at, live_facts}
+use Rattle.fact_columns.specs.Classed.{IsPlaceOf}
 use Rattle.fact_columns.specs.Spans.{if_live, live_at, live_count, kept, is_of_other, Covers, Spanned}
 use Rattle.fact_columns.specs.Coded.{counts_at, with_places}
 use Rattle.fact_columns.specs.declared.span.Span.{Span}
@@ -232,8 +233,14 @@ spanned_withdrawn f g places later key grows gone each other found is =
 pub covered : (f : ℕ → Option Span) (places : List Place) (key : ℕ) → Spanned f places → (place : ℕ) (line : Place) → live_at places place ≡ Some line → line.order ≡ key → Covers (f key) place
 covered f places key each place line is same = subst (λ k. Covers (f k) place) same (each place line is)
 
-pub within_freed : (dimensions : Dimensions) (place : Place) → IsWithin dimensions place → IsWithin dimensions (freed place)
-within_freed dimensions place is = record { customer = is.customer; supplier = is.supplier; part = is.part; date = is.date; quantity = omega arith; discount = omega arith; price = is.price; revenue = is.revenue; cost = is.cost }
+pub within_freed : (dimensions : Dimensions) (place : Place) → IsPlaceOf dimensions place → IsPlaceOf dimensions (freed place)
+within_freed dimensions place is = record {
+  within = record { customer = is.within.customer; supplier = is.within.supplier; part = is.within.part; date = is.within.date; quantity = omega arith; discount = omega arith; price = is.within.price; revenue = is.within.revenue; cost = is.within.cost };
+  customer_class = is.customer_class;
+  supplier_class = is.supplier_class;
+  part_class = is.part_class;
+  date_class = is.date_class;
+}
 
 pub order : (m n : ℕ) → (m < n) ⊎ (n ≤ m)
 order m zero = inr (omega arith)

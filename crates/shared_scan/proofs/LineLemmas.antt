@@ -22,7 +22,21 @@ use Rattle.shared_scan.proofs.RowLemmas.{named_row, row_there}
 
 -- the place that stands where there is none
 abbrev pub nowhere : Place
-nowhere = record { order = 0; customer = 0; supplier = 0; part = 0; date = 0; terms = 0; price = 0; revenue = 0; cost = 0 }
+nowhere = record {
+  order = 0;
+  customer = 0;
+  supplier = 0;
+  part = 0;
+  date = 0;
+  terms = 0;
+  price = 0;
+  revenue = 0;
+  cost = 0;
+  customer_class = 0;
+  supplier_class = 0;
+  part_class = 0;
+  date_class = 0;
+}
 
 -- where the rows of a combination stand
 pub record StandAt (dimensions : Dimensions) (c : Combination) (place : Place) : Type 0 where

@@ -1,14 +1,10 @@
 -- From the totals of a batch over all places to its answers.
 use Rattle.std.proofs.Common.{ℕ, ◌≡◌, ◌*◌, ◌^◌, ◌<◌, ◌≤◌, Vec, Global, List, [], ◌∷◌, length, map, get_or, Some, Result, Ok, Err, IfOk, refl, sym, ap, ◌∙◌, subst, arith}
-use Rattle.std.specs.Prelude.{slice_get, IsPermutation}
+use Rattle.std.specs.Prelude.{slice_get}
 use Rattle.std.specs.List.{All, range_with_len}
 use Rattle.std.proofs.lemmas.List.{length-map, get_or-map, ext_get_or, length-replicate}
 use Rattle.std.proofs.lemmas.Option.{slice_get-get_or}
-use Rattle.ssb_schema.specs.Base.{Tables, Dimensions, IsSound}
-use Rattle.ssb_schema.specs.declared.fact.Fact.{Fact}
-use Rattle.ssb_schema.specs.Facts.{facts_of}
-use Rattle.row_store.specs.History.{CommitRecord, lines_after}
-use Rattle.row_store.specs.State.{StandsFor}
+use Rattle.ssb_schema.specs.Base.{Tables, IsSound}
 use Rattle.ssb_schema.specs.declared.column.Column.{Column}
 use Rattle.ssb_plans.specs.declared.plan.Plan.{Plan}
 use Rattle.ssb_plans.specs.declared.query.Query.{Query}
@@ -19,13 +15,10 @@ use Rattle.ssb_queries.specs.Answer.{answer_of}
 use Rattle.ssb_queries.specs.declared.answer.Rows.{Rows}
 use Rattle.ssb_queries.specs.declared.answer.ResultRow.{ResultRow}
 use Rattle.ssb_plans.specs.declared.plan.Measure.{Measure}
-use Rattle.ssb_queries.proofs.RearrangementLemmas.{questions_ignore_order}
 use Rattle.fact_table.specs.declared.place.Place.{Place}
 use Rattle.fact_table.specs.declared.slices.Slices.{Slices}
 use Rattle.fact_table.specs.Columns.{AreColumnsOf}
 use Rattle.fact_table.specs.Places.{IsWithin, live_facts}
-use Rattle.fact_columns.specs.Stored.{Stored, IsRead, columns_state}
-use Rattle.fact_columns.proofs.ColumnLaws.{live_facts_are_the_lines}
 use Rattle.scan_kernel.specs.declared.columns.LineColumns.{LineColumns}
 use Rattle.scan_kernel.specs.declared.columns.Grouping.{Grouping}
 use Rattle.scan_kernel.specs.declared.masks.Masks.{Masks}
@@ -33,14 +26,14 @@ use Rattle.scan_kernel.specs.declared.totals.Totals.{Totals}
 use Rattle.scan_kernel.specs.declared.columns.GroupColumn.{GroupColumn}
 use Rattle.scan_kernel.specs.Places.{CanNumber, group_at}
 use Rattle.scan_kernel.specs.Totals.{CanSum, CanSumAll, AreTotals, AreBatchTotals}
-use Rattle.shared_scan.specs.Answers.{answers_over, answers_after}
+use Rattle.shared_scan.specs.Answers.{answers_over}
 use Rattle.shared_scan.specs.Prepared.{AreMasksOf, IsGroupingBy, IsGroupingOf}
 use Rattle.shared_scan.specs.Parts.{parts_in, IsFew}
 use Rattle.shared_scan.specs.declared.parts.Parts.{Parts}
 use Rattle.shared_scan.specs.declared.parts.Parts.TheVariants.{Narrow, Wide}
 use Rattle.shared_scan.specs.Summed.{AreSummed}
 use Rattle.shared_scan.specs.Laws.{AreLinesOf}
-use Rattle.shared_scan.specs.Lines.{HaveOneLength, AreOfBase}
+use Rattle.shared_scan.specs.Lines.{HaveOneLength}
 use Rattle.shared_scan.specs.Grouped.{ArePrepared}
 use Rattle.shared_scan.specs.Batch.{IsReady, AreReady, plans_of, questions_of}
 use Rattle.shared_scan.specs.Groupings.{IsDenseGrouping, IsGroupingWith, AreReadyGroupings}
@@ -62,11 +55,11 @@ line_count places lines are = ap length are.customers_are ∙ length-map places 
 -- the columns of places are of one length
 pub one_length : (places : List Place) (slices : Slices) → AreColumnsOf places slices → HaveOneLength slices
 one_length places slices are =
-    let customers : length slices.customer.now ≡ length places = ap length are.customers ∙ length-map places (λ place. place.customer) in
+    let customers : length slices.customer.now ≡ length places = ap length are.customers ∙ length-map places (λ place. place.customer_class) in
     record {
-      suppliers = ap length are.suppliers ∙ length-map places (λ place. place.supplier) ∙ sym customers;
-      parts = ap length are.parts ∙ length-map places (λ place. place.part) ∙ sym customers;
-      dates = ap length are.dates ∙ length-map places (λ place. place.date) ∙ sym customers;
+      suppliers = ap length are.suppliers ∙ length-map places (λ place. place.supplier_class) ∙ sym customers;
+      parts = ap length are.parts ∙ length-map places (λ place. place.part_class) ∙ sym customers;
+      dates = ap length are.dates ∙ length-map places (λ place. place.date_class) ∙ sym customers;
       terms = ap length are.terms ∙ length-map places (λ place. place.terms) ∙ sym customers;
       prices = ap length are.prices ∙ length-map places (λ place. place.price) ∙ sym customers;
       revenues = ap length are.revenues ∙ length-map places (λ place. place.revenue) ∙ sym customers;
@@ -222,24 +215,3 @@ module _ (base : Tables) (places : List Place) (lines : LineColumns) (masks : Ma
         where
           no_rows : Rows
           no_rows = record { query = (Q1_1, []); list = [] }
-
--- a rearrangement of the lines has the same answers
-pub answers_ignore_order : (dimensions : Dimensions) (facts other : List Fact) (questions : List (Query × List Value)) → IsPermutation facts other → answers_over dimensions facts questions ≡ answers_over dimensions other questions
-answers_ignore_order dimensions facts other [] moved = refl
-answers_ignore_order dimensions facts other (question ∷ questions) moved =
-    λ j. record { query = question; list = questions_ignore_order question dimensions facts other moved j } ∷ answers_ignore_order dimensions facts other questions moved j
-
--- the places of the columns are of their base
-pub of_base : (columns : Stored) → IsRead columns → length columns.facts ≤ 33554432 → AreOfBase columns.base columns.places
-of_base columns read few = record {
-  within = read.within;
-  few = read.few;
-  few_live = subst (λ (facts : List Fact). length facts ≤ 33554432) read.facts_are few;
-}
-
--- the answers over the live facts of columns are those after any history that the columns stand for
-pub answers_of_history : (columns : Stored) (history : List CommitRecord) (questions : List (Query × List Value)) → IsRead columns → StandsFor (columns_state columns) history
-    → answers_over columns.base.dimensions (live_facts columns.base.dimensions columns.places) questions ≡ answers_after columns.base history questions
-answers_of_history columns history questions read stands =
-    ap (λ (facts : List Fact). answers_over columns.base.dimensions facts questions) (sym read.facts_are)
-    ∙ answers_ignore_order columns.base.dimensions columns.facts (facts_of (lines_after columns.base history)) questions (live_facts_are_the_lines columns history stands)

@@ -75,7 +75,7 @@ line_of fact = record {
   ship_mode = [];
 }
 
-facts_back : (facts : List Fact) → facts_of (map line_of facts) ≡ facts
+pub facts_back : (facts : List Fact) → facts_of (map line_of facts) ≡ facts
 facts_back [] = refl
 facts_back (fact ∷ facts) = ap (λ fs. fact ∷ fs) (facts_back facts)
 
@@ -143,7 +143,7 @@ known_at dimensions place within = record {
   date = known_key date_key dimensions.dates place.date within.date;
 }
 
-known_all : (dimensions : Dimensions) (places : List Place) → All (IsWithin dimensions) places → All (IsKnown dimensions) (map line_of (live_facts dimensions places))
+pub known_all : (dimensions : Dimensions) (places : List Place) → All (IsWithin dimensions) places → All (IsKnown dimensions) (map line_of (live_facts dimensions places))
 known_all dimensions places within =
     let live = filter is_live places in
     let P : LineFields → Type 0 = IsKnown dimensions in

@@ -5,7 +5,7 @@ ghost use Rattle.dim_index.specs.Values.{values_of};
 ghost use Rattle.shared_scan.specs.Numbering.{HasMasks, IsPreparedColumn};
 
 use crate::numbering::{NONE, number_codes};
-use dim_index::{Dictionary, DimIndex};
+use dim_index::{Dictionary, FirstRows};
 use ssb_queries::Value;
 use ssb_schema::{Column, Items};
 use std::alloc::{AllocError, Global};
@@ -62,7 +62,7 @@ pub struct GroupPart {
 /// Makes a group column ready for a question, where numbers of groups so far are below the step.
 pub fn prepare(
     alloc: Global,
-    index: &DimIndex,
+    index: &FirstRows,
     column: Column,
     masks: &Option<Items<u16>>,
     question: usize,

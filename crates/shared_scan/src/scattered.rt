@@ -12,7 +12,7 @@ ghost use Rattle.shared_scan.specs.Summed.{AreRowsOver};
 use crate::grouping::positions;
 use crate::ready::Ready;
 use crate::sums::difference;
-use dim_index::DimIndex;
+use dim_index::FirstRows;
 use scan_answers::answer_scattered;
 use scan_kernel::{
     GroupSums, LineColumns, Masks, ScatteredColumn, ScatteredTotals, scattered_totals,
@@ -23,7 +23,7 @@ use std::alloc::{AllocError, Global};
 
 /// One group column as the walk reads it.
 fn scattered_column<'a>(
-    index: &'a DimIndex,
+    index: &'a FirstRows,
     lines: &LineColumns<'a>,
     column: Column,
     parts: &'a Items<u64>,
@@ -40,7 +40,7 @@ fn scattered_column<'a>(
 /// The group columns of a question as the walk reads them.
 fn scattered_columns<'a>(
     alloc: Global,
-    index: &'a DimIndex,
+    index: &'a FirstRows,
     lines: &LineColumns<'a>,
     columns: &[Column],
     parts: &'a [Items<u64>],
@@ -90,7 +90,7 @@ fn list_groups(alloc: Global, totals: &ScatteredTotals) -> Result<Listed, AllocE
 /// The rows of a question, by one walk over the places that keeps the sums of the groups that it meets.
 pub fn scattered_rows(
     alloc: Global,
-    index: &DimIndex,
+    index: &FirstRows,
     lines: &LineColumns<'_>,
     masks: &Masks,
     ready: &Ready,

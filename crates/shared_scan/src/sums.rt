@@ -9,7 +9,7 @@ ghost use Rattle.shared_scan.specs.TotalRows.{AreSmall, FitGroups, AreDenseRows,
 use crate::parts::Parts;
 use crate::ready::Ready;
 use crate::scattered::scattered_rows;
-use dim_index::DimIndex;
+use dim_index::FirstRows;
 use scan_answers::answer_question;
 use scan_kernel::{LineColumns, Masks, Totals};
 use ssb_queries::{Question, ResultRow, Rows, Value};
@@ -77,7 +77,7 @@ fn dense_rows(alloc: Global, ready: &Ready, totals: &Totals) -> Result<Vec<Resul
 /// The lines that a batch goes over, and the masks of their rows.
 #[derive(Clone, Copy)]
 pub struct Scan<'a> {
-    pub index: &'a DimIndex,
+    pub index: &'a FirstRows,
     pub lines: LineColumns<'a>,
     pub masks: &'a Masks,
 }

@@ -2,7 +2,8 @@
 use super::*;
 use ssb_plans::{Query, Question};
 use ssb_schema::{LineFields, Text};
-use ssb_trace::write_trace;
+use ssb_script::ScriptError;
+use ssb_trace::{Trace, write_trace};
 use ssb_trace_read::read_trace;
 use std::alloc::Global;
 use std::process::Abort;
@@ -66,6 +67,38 @@ fn a_trace_has_one_text(rt: HostRuntime) -> Result<(), Fail> {
 fn no_text_is_no_trace(rt: HostRuntime) -> Result<(), Fail> {
     assert!(rt; is_written_as(rt.alloc(), "", "")?);
     assert!(rt; !is_written_as(rt.alloc(), "", TIGHT)?);
+    Ok(())
+}
+
+// The trace of a text. Want of memory is told as such, and then it is read once more.
+fn read_at_last(alloc: Global, text: &str) -> Result<Trace, Fail> {
+    match read_trace(alloc, text.as_bytes(), 1000) {
+        Err(ScriptError::OutOfMemory) => Ok(read_trace(alloc, text.as_bytes(), 1000)?),
+        ended => Ok(ended?),
+    }
+}
+
+// A trace, written. Where its room can't grow a part of its text is written, and then it is written once more.
+fn written_at_last(alloc: Global, trace: &Trace, text: &str) -> Result<Vec<u8>, Fail> {
+    let mut part = Vec::new(alloc);
+    if write_trace(&mut part, trace).is_ok() {
+        return Ok(part);
+    }
+    if part.len() >= text.len() || !text.as_bytes().starts_with(part.as_slice()) {
+        return Err("no part of the text")?;
+    }
+    let mut whole = Vec::new(alloc);
+    write_trace(&mut whole, trace)?;
+    Ok(whole)
+}
+
+// Under `bench/growths` each growth of memory is refused in turn.
+#[test]
+fn after_want_of_memory_a_text_comes_back(rt: HostRuntime) -> Result<(), Fail> {
+    let alloc = rt.alloc();
+    let trace = read_at_last(alloc, EDGES)?;
+    let text = written_at_last(alloc, &trace, EDGES)?;
+    assert!(rt; text.as_slice() == EDGES.as_bytes());
     Ok(())
 }
 

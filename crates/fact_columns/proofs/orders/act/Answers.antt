@@ -16,3 +16,6 @@ add-requires-in-Amend-clause-own c =
 
 pub returns-in-Amend-clause-inside : goal.returns-in-Amend-clause-inside
 returns-in-Amend-clause-inside c = λ dimensions fresh all. c.add-in-Amend.ensures.inside dimensions fresh (c.withdraw-freed.ensures.inside dimensions all)
+
+pub returns-in-Withdraw-clause-inside : goal.returns-in-Withdraw-clause-inside
+returns-in-Withdraw-clause-inside c = λ dimensions fresh all. c.withdraw.ensures.inside dimensions all

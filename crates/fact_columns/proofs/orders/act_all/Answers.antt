@@ -3,7 +3,7 @@ use Rattle.std.proofs.lemmas.List.Sums.{fold_more}
 use Rattle.std.proofs.lemmas.List.Elements.{All-same, All-take, All-drop}
 use Rattle.ssb_schema.specs.declared.refresh.Action.{Action}
 use Rattle.row_store.specs.State.{counts_after_action}
-use Rattle.fact_table.specs.Places.{IsWithin}
+use Rattle.fact_columns.specs.Classed.{IsPlaceOf}
 use Rattle.fact_columns.specs.Coded.{counts_at}
 use Rattle.fact_columns.proofs.PlaceLaws.{live_few}
 use Rattle.fact_columns.proofs.CodingLaws.{codes_cut}
@@ -39,8 +39,8 @@ loop-action-preserved c =
           ∙ ap (counts_after_action _) c.action-item.is
           ∙ sym (fold_more counts_after_action (counts_at dimensions c.args.table.now.places) actions i action c.loop-action-test.true);
       inside = λ dimensions fresh all. c.act-freed.ensures.inside dimensions
-          (All-same (IsWithin dimensions) _ _ c.split_at.ensures.front (All-take (IsWithin dimensions) n c.loop-action.rest.now (so_far.left dimensions fresh))) (so_far.inside dimensions fresh all);
-      left = λ dimensions fresh. All-same (IsWithin dimensions) _ _ c.split_at.ensures.back (All-drop (IsWithin dimensions) n c.loop-action.rest.now (so_far.left dimensions fresh));
+          (All-same (IsPlaceOf dimensions) _ _ c.split_at.ensures.front (All-take (IsPlaceOf dimensions) n c.loop-action.rest.now (so_far.left dimensions fresh))) (so_far.inside dimensions fresh all);
+      left = λ dimensions fresh. All-same (IsPlaceOf dimensions) _ _ c.split_at.ensures.back (All-drop (IsPlaceOf dimensions) n c.loop-action.rest.now (so_far.left dimensions fresh));
       spanned = c.act-freed.ensures.spanned;
       count = omega (arith, c.act-freed.ensures.count, so_far.count, c.split_at.ensures.front_len, c.split_at.ensures.back_len);
       room = omega (arith, c.act-freed.ensures.room, so_far.room, c.split_at.ensures.front_len, c.split_at.ensures.back_len);

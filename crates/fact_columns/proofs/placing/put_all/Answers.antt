@@ -6,7 +6,7 @@ use Rattle.fact_columns.proofs.placing.put_all.Goals as goal
 
 -- what is read past the end
 abbrev none : Place
-none = record { order = 0; customer = 0; supplier = 0; part = 0; date = 0; terms = 0; price = 0; revenue = 0; cost = 0 }
+none = record { order = 0; customer = 0; supplier = 0; part = 0; date = 0; terms = 0; price = 0; revenue = 0; cost = 0; customer_class = 0; supplier_class = 0; part_class = 0; date_class = 0 }
 
 pub loop-i-preserved : goal.loop-i-preserved
 loop-i-preserved c =

@@ -47,6 +47,26 @@ index-requires-9 c =
     let n = long c.self.inside c.args.self.now c.self.view_is in
     omega (arith, n, c.requires, c.self.invariant)
 
+pub index-requires-10 : goal.index-requires-10
+index-requires-10 c =
+    let n = long c.self.inside c.args.self.now c.self.view_is in
+    omega (arith, n, c.requires, c.self.invariant)
+
+pub index-requires-11 : goal.index-requires-11
+index-requires-11 c =
+    let n = long c.self.inside c.args.self.now c.self.view_is in
+    omega (arith, n, c.requires, c.self.invariant)
+
+pub index-requires-12 : goal.index-requires-12
+index-requires-12 c =
+    let n = long c.self.inside c.args.self.now c.self.view_is in
+    omega (arith, n, c.requires, c.self.invariant)
+
+pub index-requires-13 : goal.index-requires-13
+index-requires-13 c =
+    let n = long c.self.inside c.args.self.now c.self.view_is in
+    omega (arith, n, c.requires, c.self.invariant)
+
 pub returns : goal.returns
 returns c = λ other.
     let t = c.self.inside in
@@ -61,5 +81,9 @@ returns c = λ other.
     let price = element t.price.items c.args.place c.index-7.result.now (omega (arith, within, all.price_len)) c.index-7.ensures in
     let revenue = element t.revenue.items c.args.place c.index-8.result.now (omega (arith, within, all.revenue_len)) c.index-8.ensures in
     let cost = element t.cost.items c.args.place c.index-9.result.now (omega (arith, within, all.cost_len)) c.index-9.ensures in
-    (λ i. record { order = order i; customer = customer i; supplier = supplier i; part = part i; date = date i; terms = terms i; price = price i; revenue = revenue i; cost = cost i })
+    let customer_class = element t.customer_class.items c.args.place c.index-10.result.now (omega (arith, within, all.customer_class_len)) c.index-10.ensures in
+    let supplier_class = element t.supplier_class.items c.args.place c.index-11.result.now (omega (arith, within, all.supplier_class_len)) c.index-11.ensures in
+    let part_class = element t.part_class.items c.args.place c.index-12.result.now (omega (arith, within, all.part_class_len)) c.index-12.ensures in
+    let date_class = element t.date_class.items c.args.place c.index-13.result.now (omega (arith, within, all.date_class_len)) c.index-13.ensures in
+    (λ i. record { order = order i; customer = customer i; supplier = supplier i; part = part i; date = date i; terms = terms i; price = price i; revenue = revenue i; cost = cost i; customer_class = customer_class i; supplier_class = supplier_class i; part_class = part_class i; date_class = date_class i })
     ∙ read_at t c.args.self.now c.self.view_is c.args.place other within

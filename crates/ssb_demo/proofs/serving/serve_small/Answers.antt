@@ -4,7 +4,7 @@ use Rattle.ssb_files.specs.Loaded.{IsLoaded}
 use Rattle.small_data.specs.SmallTexts.{small_texts}
 use Rattle.ssb_demo.specs.Status.{demo_status}
 use Rattle.ssb_demo.proofs.ServedLaws.{served_small, ended_small, refused_small}
-use Rattle.ssb_demo.proofs.demo.serve_small.Goals as goal
+use Rattle.ssb_demo.proofs.serving.serve_small.Goals as goal
 
 pub returns-in_err-base-clause-script : goal.returns-in_err-base-clause-script
 returns-in_err-base-clause-script g c =

@@ -116,13 +116,10 @@ fn serve<T: Wait + Threads + Sync + AllocGlobal, R: Read + Drop, O: Write>(
     }
 }
 
-/// Serves a script over the small data set as the one client of a live server, whose one dispatcher takes its turns
-/// in the
-/// same thread, and writes the report; or a fault line to `err`. The whole script is read first, and the server
-/// hashes its
-/// keys with `hashing`. The result is the exit status: 0 with nothing written to `err`, 1 where the script is
-/// refused, and
-/// else 4.
+/// Serves a script over the small data set as the one client of a live server, whose one dispatcher takes its turns in
+/// the same thread, and writes the report; or a fault line to `err`. The whole script is read first, and the server
+/// hashes its keys with `hashing`. The result is the exit status: 0 with nothing written to `err`, 1 where the script
+/// is refused, and else 4.
 pub fn demo<T: Wait + Threads + Sync + AllocGlobal, R: Read + Drop, O: Write, E: Write>(
     rt: &T,
     hashing: RandomState,

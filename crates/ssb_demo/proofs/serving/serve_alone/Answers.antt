@@ -2,7 +2,7 @@ use Rattle.std.proofs.Common.{◌≡◌, inr}
 use Rattle.history.specs.Tokens.{new_token}
 use Rattle.history_core.specs.declared.event.Who.TheVariants.{Client}
 use Rattle.ssb_demo.proofs.ServedLaws.{only_client, serves_over, stops_over}
-use Rattle.ssb_demo.proofs.demo.serve_alone.Goals as goal
+use Rattle.ssb_demo.proofs.serving.serve_alone.Goals as goal
 
 pub returns-in-Ok-clause-report : goal.returns-in-Ok-clause-report
 returns-in-Ok-clause-report g c =

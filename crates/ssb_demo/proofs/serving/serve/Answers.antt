@@ -2,7 +2,7 @@ use Rattle.std.proofs.Common.{◌≡◌, Err, rules}
 use Rattle.ssb_demo.specs.Demo.{IsOfScript}
 use Rattle.ssb_demo.specs.Status.{demo_status}
 use Rattle.ssb_demo.proofs.ServedLaws.{small_kept}
-use Rattle.ssb_demo.proofs.demo.serve.Goals as goal
+use Rattle.ssb_demo.proofs.serving.serve.Goals as goal
 
 pub returns-in_err-serve_small-clause-script : goal.returns-in_err-serve_small-clause-script
 returns-in_err-serve_small-clause-script g c =
