@@ -41,8 +41,14 @@ impl<W: Wait + Drop> Promise<Dispatched<W>> for DispatchedBy<W> {
 /// A dispatcher's thread.
 pub(crate) type Dispatching<W> = PromisedHandle<Dispatched<W>, DispatchedBy<W>>;
 
+// The threads, the sleep and the sharing that a dispatcher needs, under one name: a thread's closure that says nothing of its own
+// then passes all of it on, where bounds of the function itself would have to be said again.
+trait Shared: Wait + Threads + Sync {}
+
+impl<R: Wait + Threads + Sync> Shared for R {}
+
 // Takes turns until it is told to stop, and rests where nothing is asked. Who tells it sets the flag, and then rings.
-fn dispatch<W: Wait + Drop, R: Wait + Threads + Sync>(
+fn dispatch<W: Wait + Drop, R: Shared>(
     rt: &R,
     server: &Server<W>,
     stop: &AtomicBool,
