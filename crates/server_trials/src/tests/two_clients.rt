@@ -1,8 +1,8 @@
 //! Two clients and a dispatcher in one thread.
 
-use crate::tests::data::{ORDER_NINE, told};
-use crate::tests::opening::for_two_clients;
-use crate::tests::steps::{adds, asks, asks_and_is_answered, meets, polls, polls_text, turns};
+use server_steps::data::{ORDER_NINE, told};
+use server_steps::opening::for_two_clients;
+use server_steps::steps::{adds, asks, asks_and_is_answered, meets, polls, polls_text, turns};
 use ssb_plans::Query;
 use ssb_server::{OpenGate, Turn};
 use std::hash::RandomState;

@@ -3,10 +3,10 @@ ghost use Rattle.std.specs.Prelude.{◌≡◌};
 ghost use Rattle.std.specs.Thread.{IsSync};
 ghost use Rattle.ssb_server.specs.Tickets.{IsOf, IsQuiet};
 
-use crate::tests::data::question;
 use crate::tests::flags::is_set;
-use crate::tests::opening::for_one_client;
-use crate::tests::steps::{asks_this, awaits, turns};
+use server_steps::data::question;
+use server_steps::opening::for_one_client;
+use server_steps::steps::{asks_this, awaits, turns};
 use ssb_plans::{Query, Question};
 use ssb_queries::Answer;
 use ssb_server::{Client, Dispatcher, OpenGate, Server, Turn};

@@ -1,9 +1,9 @@
-//! What tests do with a server's clients and dispatchers, and what stays then: whose they are.
+//! What trials do with a server's clients and dispatchers, and what stays then: whose they are.
 ghost use Rattle.std.specs.Prelude.{◌≡◌, OnOk, true};
 ghost use Rattle.std.specs.Option.{is_some};
 ghost use Rattle.ssb_server.specs.Tickets.{IsOf, IsQuiet};
 
-use crate::tests::data::{adding, question, told};
+use crate::data::{adding, question, told};
 use row_store::{Receipt, RefreshError};
 use ssb_plans::{Query, Question};
 use ssb_queries::Answer;
@@ -41,7 +41,7 @@ pub fn adds<W: Wait + Drop, R: Wait>(
 {
     match refreshes(rt, server, client, adding(alloc, order)?) {
         Ok(receipt) => Ok(receipt.number),
-        Err(_) => Err("refused")?,
+        Err(error) => Err(error)?,
     }
 }
 
@@ -104,8 +104,26 @@ pub fn asks_and_is_answered<W: Wait + Drop, R: Wait + Threads + Sync>(
     asks(alloc, server, client, query)?;
     match turns(rt, server, dispatcher, &OpenGate) {
         Turn::Answered { count: 1, .. } => polls(server, client),
-        _ => Err("another turn")?,
+        other => Err(other)?,
     }
+}
+
+/// A client asks, a dispatcher takes a turn that answers it alone, and the client polls: its answer as text.
+pub fn asks_and_is_told<W: Wait + Drop, R: Wait + Threads + Sync>(
+    rt: &R,
+    alloc: Global,
+    server: &Server<W>,
+    client: &mut Client<W>,
+    dispatcher: &mut Dispatcher<W>,
+    query: Query,
+) -> Result<String, Fail>
+    requires client { IsQuiet server.now client.old }
+    requires dispatcher { IsOf server.now dispatcher.old }
+    ensures client { OnOk result (IsQuiet server.now client.new) }
+    ensures dispatcher { IsOf server.now dispatcher.new }
+{
+    let answer = asks_and_is_answered(rt, alloc, server, client, dispatcher, query)?;
+    told(alloc, &answer)
 }
 
 /// A client meets another one, and is told how many commits it then sees.

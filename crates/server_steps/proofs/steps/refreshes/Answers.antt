@@ -1,5 +1,5 @@
 use Rattle.ssb_server.proofs.Staying.{refreshed_stays}
-use Rattle.server_trials.proofs.tests.steps.refreshes.Goals as goal
+use Rattle.server_steps.proofs.steps.refreshes.Goals as goal
 
 pub returns : goal.returns
 returns g c =

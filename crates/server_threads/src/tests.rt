@@ -1,0 +1,5 @@
+//! The server's calls, run by several threads and compared.
+mod flags;
+mod held;
+mod thirty;
+mod waking;
