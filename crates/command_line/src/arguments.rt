@@ -200,8 +200,7 @@ pub fn matches<'a>(alloc: Global, words: &'a [String]) -> Result<ArgMatches<'a>,
 }
 
 /// Writes what clap answers in place of matches, and gives the exit status. A fault of the words goes to `err`, with
-/// status
-/// 2 whether or not `err` takes it; help and the version go to `out`, which has to take them.
+/// status 2 whether or not `err` takes it; help and the version go to `out`, which has to take them.
 pub fn tell<W: Write, E: Write>(answer: &Error, out: &mut W, err: &mut E) -> u8 {
     if answer.kind() == ErrorKind::OutOfMemory {
         return Fault::OutOfMemory.tell(err);

@@ -1,6 +1,5 @@
-//! The small data set that is built into the program: five texts, as the benchmark's table files have them, over
-//! which each
-//! query can be answered by hand.
+//! The small data set that is built into the program: five texts, as the benchmark's table files have them, over which
+//! each query can be answered by hand.
 //!
 //! The one contract, of [`tables`]: it reads the texts that stand, byte by byte, in `specs/SmallTexts.antt`.
 //!

@@ -5,11 +5,10 @@
 //! name and constants ── ask ─▶ question ─────────────┘
 //! ```
 //!
-//! The contracts of [`run_query`] and [`run_all`] (`specs/Asked.antt`, `specs/Reported.antt`): with status 0 they
-//! have written
-//! exactly the report of the answers, as the benchmark defines them, over the base that the texts spell; else
-//! nothing, or a part
-//! of that report from its beginning; and status 1 tells of refused data alone, 2 of words that ask no question.
+//! The contracts of [`run_query`] and [`run_all`] (`specs/Asked.antt`, `specs/Reported.antt`): with status 0 they have
+//! written exactly the report of the answers, as the benchmark defines them, over the base that the texts spell; else
+//! nothing, or a part of that report from its beginning; and status 1 tells of refused data alone, 2 of words that ask
+//! no question.
 //!
 //! ```text
 //! let status = run_query(rt, settings, tables, "Q2.1", &["MFGR#12", "EUROPE"], &mut out, &mut err);

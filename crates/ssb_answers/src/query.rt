@@ -153,12 +153,9 @@ fn run<R: Threads + Sync + Clock + AllocGlobal, I: Read + Drop, W: Write, E: Wri
 }
 
 /// Writes the report of the question of this name and these constants (without constants, the benchmark's) over the
-/// base
-/// that the tables spell; or a fault line to `err`. The question is looked at first. The result is the exit status: 0
-/// with
-/// nothing written to `err` but the times, where they are asked for; 1 where the data is refused, 2 where the
-/// question is,
-/// and else 4.
+/// base that the tables spell; or a fault line to `err`. The question is looked at first. The result is the exit
+/// status: 0 with nothing written to `err` but the times, where they are asked for; 1 where the data is refused, 2
+/// where the question is, and else 4.
 pub fn run_query<R: Threads + Sync + Clock + AllocGlobal, I: Read + Drop, W: Write, E: Write>(
     rt: &R,
     settings: Settings,

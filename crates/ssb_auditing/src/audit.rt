@@ -133,13 +133,10 @@ fn report<R: Threads + Sync + AllocGlobal, I: Read + Drop, W: Write>(
     write_verdict(out, &trace)
 }
 
-/// Checks the trace that `source` spells over the base that the tables spell, and writes the line `ok C A`, the
-/// numbers of its
-/// commits and of its answers; or a fault line to `err`. The tables are read first. The result is the exit status: 0
-/// where the
-/// trace is legal, 1 where the tables or the trace cannot be understood, 3 where something speaks against the trace,
-/// and
-/// else 4.
+/// Checks the trace that `source` spells over the base that the tables spell, and writes the line `ok C A`, the numbers
+/// of its commits and of its answers; or a fault line to `err`. The tables are read first. The result is the exit
+/// status: 0 where the trace is legal, 1 where the tables or the trace cannot be understood, 3 where something speaks
+/// against the trace, and else 4.
 pub fn run_audit<R: Threads + Sync + AllocGlobal, I: Read + Drop, W: Write, E: Write>(
     rt: &R,
     hashing: RandomState,

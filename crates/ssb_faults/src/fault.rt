@@ -50,8 +50,7 @@ fn script_status(fault: &ScriptError) -> u8
 
 impl Fault {
     /// The exit status: 1 where data, a script or a trace was refused, 2 for a wrong command line, 4 where reading,
-    /// writing
-    /// or memory failed.
+    /// writing or memory failed.
     pub fn status(&self) -> u8
         ensures { result ≡ status_of self.now }
     {

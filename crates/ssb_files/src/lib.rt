@@ -1,6 +1,5 @@
 //! What the program reads: files that are opened in the order in which faults are told, the base that five tables
-//! spell, the
-//! scripts that sources spell, and the line on a terminal that shows how far a long load is.
+//! spell, the scripts that sources spell, and the line on a terminal that shows how far a long load is.
 //!
 //! ```text
 //! paths ── open_tables, open_files ─▶ readers ── watch_tables ─▶ readers that show progress
@@ -8,10 +7,8 @@
 //! ```
 //!
 //! The contracts: [`base_of`] gives the base that the texts spell, within the greatest limits, or a fault that they
-//! have
-//! (`specs/Loaded.antt`); [`read_scripts`] the scripts, or the first fault (`specs/Scripts.antt`); a reader that is
-//! watched
-//! gives the bytes of the reader in it. That a file is opened, and what a terminal shows, is only tested.
+//! have (`specs/Loaded.antt`); [`read_scripts`] the scripts, or the first fault (`specs/Scripts.antt`); a reader that
+//! is watched gives the bytes of the reader in it. That a file is opened, and what a terminal shows, is only tested.
 //!
 //! ```text
 //! let tables = open_tables(rt, "tables")?;

@@ -6,8 +6,7 @@
 //! ```
 //!
 //! A reader that is watched gives the same bytes as the reader in it (the contract of `Read`, and `watch`). What a
-//! terminal
-//! shows is in no contract.
+//! terminal shows is in no contract.
 ghost use Rattle.std.specs.Prelude.{◌≡◌};
 
 use ssb_load::Tables;

@@ -4,12 +4,9 @@
 //! server, and prints the report. `ssb_live query --data DIR NAME [CONSTANT..]` loads five table files and prints the
 //! report of one question, `ssb_live query --data DIR --all` those of the thirteen queries, answered in one pass.
 //! `ssb_live run --data DIR SCRIPT..` serves scripts at once, a client of the live server each, and `ssb_live audit
-//! --data DIR
-//! TRACE` checks the trace that such a run left. The work is done by the libraries `ssb_demo`, `ssb_answers`,
-//! `ssb_serving` and
-//! `ssb_auditing`, whose contracts name the bytes that they write; `command::run` finds what the words ask, and this
-//! file
-//! ends with a status.
+//! --data DIR TRACE` checks the trace that such a run left. The work is done by the libraries `ssb_demo`,
+//! `ssb_answers`, `ssb_serving` and `ssb_auditing`, whose contracts name the bytes that they write; `command::run`
+//! finds what the words ask, and this file ends with a status.
 #![tactic(auto)]
 
 mod command;

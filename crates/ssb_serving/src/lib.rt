@@ -7,10 +7,9 @@
 //! ```
 //!
 //! The contract of [`run_scripts`] (`specs/Served.antt`): with status 0 it has printed the reports of one run of the
-//! live server
-//! over the base that the texts spell, script by script, and the number of commits, and kept that run's trace, which is
-//! legal; else nothing, or parts of these from their beginnings. How fast the run was is told on standard error, in no
-//! contract.
+//! live server over the base that the texts spell, script by script, and the number of commits, and kept that run's
+//! trace, which is legal; else nothing, or parts of these from their beginnings. How fast the run was is told on
+//! standard error, in no contract.
 //!
 //! ```text
 //! let settings = RunSettings { hashing, dispatchers: 2, times: false };

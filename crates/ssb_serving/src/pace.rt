@@ -6,8 +6,7 @@ use std::io::Write;
 use std::time::{Clock, Duration, Instant};
 
 /// The times of a run's two steps, where the clock told them, and what was served. A pace that is not asked for reads
-/// no
-/// clock.
+/// no clock.
 #[derive(Drop)]
 pub struct Pace {
     // When the step began that is going on.
@@ -88,10 +87,9 @@ impl Pace {
         self.latencies = run.latencies;
     }
 
-    /// Writes the seconds of both steps, the commits and the answers with how many there were a second, and the
-    /// batches with
-    /// the mean number of questions in one, and the times of a refresh and of a question, as far as the writer takes
-    /// them.
+    /// Writes the seconds of both steps, the commits and the answers with how many there were a second, and the batches
+    /// with the mean number of questions in one, and the times of a refresh and of a question, as far as the writer
+    /// takes them.
     pub fn tell<E: Write>(&self, err: &mut E) {
         for (name, time) in [("load", self.load), ("serving", self.serving)] {
             if let Some(time) = time {

@@ -67,8 +67,7 @@ fn serve<R: Threads + Sync + Wait + Clock + AllocGlobal>(
 }
 
 // The run of the scripts that the sources spell, over the base that the tables spell. All of it is read before the
-// server
-// is opened.
+// server is opened.
 fn run_of<R: Threads + Sync + Wait + Clock + AllocGlobal, I: Read + Drop>(
     rt: &R,
     settings: RunSettings,
@@ -203,17 +202,13 @@ fn tell_times<E: Write>(pace: &Pace, times: bool, err: &mut E)
 }
 
 /// Serves 1 to 16 scripts at once over the base that the tables spell: each source is the script of a client of the
-/// live
-/// server, in a thread of its own. When all have ended it writes for each client, in order, the line `client K` and its
-/// report, and then the line `commits C`; and into the file, where there is one, the trace of the run. A fault is a
-/// line to
-/// `err`.
+/// live server, in a thread of its own. When all have ended it writes for each client, in order, the line `client K`
+/// and its report, and then the line `commits C`; and into the file, where there is one, the trace of the run. A fault
+/// is a line to `err`.
 ///
-/// The tables are read first, then the scripts in order, and then the server is opened. The result is the exit
-/// status: 0 with
-/// nothing written to `err` but the times, where they are asked for; 1 where the data or a script is refused, 2 where
-/// there
-/// are more than 16 scripts, and else 4. Where `out` or the file fails, what was written before stands.
+/// The tables are read first, then the scripts in order, and then the server is opened. The result is the exit status:
+/// 0 with nothing written to `err` but the times, where they are asked for; 1 where the data or a script is refused, 2
+/// where there are more than 16 scripts, and else 4. Where `out` or the file fails, what was written before stands.
 pub fn run_scripts<
     R: Threads + Sync + Wait + Clock + AllocGlobal,
     I: Read + Drop,
