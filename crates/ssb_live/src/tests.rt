@@ -3,6 +3,7 @@
 mod command;
 mod progress;
 mod served;
+mod thirty;
 
 use std::io;
 use std::io::Write;

@@ -11,8 +11,8 @@ use std::test::Fail;
 use std::thread::Threads;
 use std::time::Clock;
 
-// A folder of one test, with the small data set in it.
-fn folder_of(rt: &HostRuntime, name: &str) -> Result<String, Fail> {
+/// A folder of one test, with the small data set in it.
+pub fn folder_of(rt: &HostRuntime, name: &str) -> Result<String, Fail> {
     let above = std::env::temp_dir(rt)?;
     let id = std::process::id(rt.process());
     let folder = format!(in rt.alloc(); "{}/ssb_live_{name}_{id}", above.display())?;
@@ -20,8 +20,8 @@ fn folder_of(rt: &HostRuntime, name: &str) -> Result<String, Fail> {
     Ok(folder)
 }
 
-// A file of this text in a folder, by its path.
-fn put(rt: &HostRuntime, folder: &str, name: &str, text: &str) -> Result<String, Fail> {
+/// A file of this text in a folder, by its path.
+pub fn put(rt: &HostRuntime, folder: &str, name: &str, text: &str) -> Result<String, Fail> {
     let path = format!(in rt.alloc(); "{folder}/{name}")?;
     fs::write(rt, path.as_str(), text)?;
     Ok(path)
@@ -69,8 +69,8 @@ answer|1|1|Q4.1|1
 row|1997|UNITED STATES|-1330
 ";
 
-// A run of the words `run --data DIR` and these others.
-fn serve<R>(rt: &R, folder: &str, words: &[&str]) -> Result<Told, Fail>
+/// A run of the words `run --data DIR` and these others.
+pub fn serve<R>(rt: &R, folder: &str, words: &[&str]) -> Result<Told, Fail>
 where
     R: Files + Clock + RandomSource + Threads + Sync + Wait + AllocGlobal,
 {
@@ -80,8 +80,8 @@ where
     run_with(rt, line.as_slice(), "")
 }
 
-// A run of the words `audit --data DIR TRACE`.
-fn audited<R>(rt: &R, folder: &str, trace: &str) -> Result<Told, Fail>
+/// A run of the words `audit --data DIR TRACE`.
+pub fn audited<R>(rt: &R, folder: &str, trace: &str) -> Result<Told, Fail>
 where
     R: Files + Clock + RandomSource + Threads + Sync + Wait + AllocGlobal,
 {
