@@ -41,8 +41,8 @@ impl<W: Wait + Drop> Promise<Dispatched<W>> for DispatchedBy<W> {
 /// A dispatcher's thread.
 pub(crate) type Dispatching<W> = PromisedHandle<Dispatched<W>, DispatchedBy<W>>;
 
-// The threads, the sleep and the sharing that a dispatcher needs, under one name: a thread's closure that says nothing of its own
-// then passes all of it on, where bounds of the function itself would have to be said again.
+// The threads, the sleep and the sharing that a dispatcher needs, under one name: a thread's closure that says nothing
+// of its own then passes all of it on, where bounds of the function itself would have to be said again.
 trait Shared: Wait + Threads + Sync {}
 
 impl<R: Wait + Threads + Sync> Shared for R {}
@@ -105,8 +105,10 @@ pub(crate) fn start_dispatchers<'s, E, W: Wait + Drop + Send, R: Wait + Threads 
 ) -> Result<(), AllocError>
     requires dispatchers { All (IsOf server.now) dispatchers.items }
     requires room { vec_len dispatching.old + vec_len dispatchers ≤ vec_capacity dispatching.old }
-    ensures room { (vec_len dispatching.new ≤ vec_len dispatching.old + vec_len dispatchers) × (vec_capacity dispatching.new ≡ vec_capacity dispatching.old) }
-    ensures started { OnOk result (map (λ h. h.promise.dispatcher.value) dispatching.new.items ≡ map (λ h. h.promise.dispatcher.value) dispatching.old.items ++ dispatchers.items) }
+    ensures room { (vec_len dispatching.new ≤ vec_len dispatching.old + vec_len dispatchers)
+        × (vec_capacity dispatching.new ≡ vec_capacity dispatching.old) }
+    ensures started { OnOk result (map (λ h. h.promise.dispatcher.value) dispatching.new.items ≡ map
+        (λ h. h.promise.dispatcher.value) dispatching.old.items ++ dispatchers.items) }
 {
     for dispatcher in dispatchers {
         let thread = start_dispatcher(scope, rt, server, stop, dispatcher)?;

@@ -5,8 +5,8 @@ use std::sync::Wait;
 use std::thread::Parker;
 use std::time::Duration;
 
-/// A parker for each client and each dispatcher, by number. A ring before the sleep lets the sleep end at once, so none is
-/// lost. At most one thread at a time sleeps at each, since it has the token.
+/// A parker for each client and each dispatcher, by number. A ring before the sleep lets the sleep end at once, so none
+/// is lost. At most one thread at a time sleeps at each, since it has the token.
 #[derive(Drop)]
 pub(crate) struct Bells {
     clients: Vec<Parker>,

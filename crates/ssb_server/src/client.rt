@@ -146,7 +146,8 @@ impl<W: Wait + Drop> Client<W> {
         refresh: Arc<Refresh>,
     ) -> Result<Receipt, RefreshError>
         requires { self.old.hall ≡ server.now }
-        ensures refreshed { (number : ℕ) → self.old.who ≡ IsNumbered number → Refreshed self.old number refresh.value result self.new }
+        ensures refreshed { (number : ℕ) → self.old.who ≡ IsNumbered number
+            → Refreshed self.old number refresh.value result self.new }
         ensures sound { IsSound self.new }
     {
         let applied = apply(rt, &server.hall, &mut self.pass, self.number, refresh);

@@ -200,9 +200,9 @@ fn build<W: Wait + Drop>(
     Ok(made)
 }
 
-/// Opens a server over a base, for 1 to 16 clients and 1 to 4 dispatchers. `rt` is the handle by which the writer of the
-/// columns waits, and `hashing` keys the map of orders. The client count is looked at first, then the dispatcher count; any
-/// fault hands the base back.
+/// Opens a server over a base, for 1 to 16 clients and 1 to 4 dispatchers. `rt` is the handle by which the writer of
+/// the columns waits, and `hashing` keys the map of orders. The client count is looked at first, then the dispatcher
+/// count; any fault hands the base back.
 pub fn open<W: Wait + Drop>(
     alloc: Global,
     rt: W,

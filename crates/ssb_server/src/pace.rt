@@ -12,10 +12,10 @@ const MOST_AHEAD: u64 = 8_192;
 /// The longest wait of a refresh for the end of a batch, in milliseconds.
 const LONGEST_WAIT: u64 = 1;
 
-/// The flow of refreshes beside a batch. A client commits faster than a dispatcher takes commits into both copies, so each
-/// batch would have more to take over than the one before it, and its answers would come later. A refresh that is far
-/// ahead of the batch that is being served waits for its end, or for a millisecond. No contract tells of it: it changes
-/// when a refresh returns, and never what it does.
+/// The flow of refreshes beside a batch. A client commits faster than a dispatcher takes commits into both copies, so
+/// each batch would have more to take over than the one before it, and its answers would come later. A refresh that is
+/// far ahead of the batch that is being served waits for its end, or for a millisecond. No contract tells of it: it
+/// changes when a refresh returns, and never what it does.
 #[derive(Drop)]
 pub(crate) struct Pace {
     // Refreshes up to this commit do not wait.

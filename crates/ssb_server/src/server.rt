@@ -17,9 +17,9 @@ pub(crate) type Hall<W> = history::Shared<TwinWriter<Columns, W>>;
 /// The pass of a client or dispatcher to that table.
 pub(crate) type Pass<W> = history::Pass<TwinWriter<Columns, W>>;
 
-/// What clients and dispatchers share: the table, the index that the columns are coded by, and the places where they sleep.
-/// Contracts see the table: its name, the base, and how many clients and dispatchers there are. `W` is the handle by which
-/// the writer of the columns waits.
+/// What clients and dispatchers share: the table, the index that the columns are coded by, and the places where they
+/// sleep. Contracts see the table: its name, the base, and how many clients and dispatchers there are. `W` is the
+/// handle by which the writer of the columns waits.
 #[derive(Drop)]
 pub struct Server<W: Wait + Drop> {
     pub(crate) hall: Hall<W>,

@@ -55,7 +55,8 @@ fn finish<W: Wait + Drop>(
     requires hand { Keeps batch.old pass.old.grabbed }
     requires some { 0 < length batch.old.clients }
     requires at { (at ≡ length pass.old.seen) × (pass.old.version ≡ Some at) }
-    requires rows { IfOk scanned (λ rows. rows.items ≡ answers_after pass.old.hall.base pass.old.seen batch.old.questions) }
+    requires rows { IfOk scanned (λ rows. rows.items ≡ answers_after pass.old.hall.base pass.old.seen
+        batch.old.questions) }
     ensures finished { Finishes pass.old result pass.new }
     ensures empty { batch.new ≡ no_hand }
     ensures hand { Keeps no_hand pass.new.grabbed }

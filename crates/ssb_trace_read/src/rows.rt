@@ -65,8 +65,8 @@ fn row_at(
     }))
 }
 
-/// The row of an answer to the query that a record spells behind its word: the printed columns, each a number of 32 bits
-/// or a text of any length, and the sum where a report has it.
+/// The row of an answer to the query that a record spells behind its word: the printed columns, each a number of 32
+/// bits or a text of any length, and the sum where a report has it.
 pub fn row_of(
     alloc: Global,
     query: Query,

@@ -7,4 +7,5 @@ use Rattle.server_steps.proofs.closing.with_dispatcher.Goals as goal
 pub returns : goal.returns
 returns g c =
     subst (All (IsOf c.args.server.now)) (sym c.push.ensures.items)
-    (All-push (IsOf c.args.server.now) c.args.dispatchers.items c.args.dispatcher c.requires.dispatchers c.requires.dispatcher)
+    (All-push (IsOf c.args.server.now) c.args.dispatchers.items c.args.dispatcher c.requires.dispatchers
+        c.requires.dispatcher)

@@ -7,5 +7,6 @@ abbrev pub invariant-loop-before : goal.invariant-loop-before
 invariant-loop-before g l = record {
   ready : IsRecordReader l.reader;
   unfinished : IsUnfinished l.before l.begun;
-  so_far : HasReadKnown g.R.Read.remaining (g.R.Read.remaining l.fn.source) l.reader l.before l.commits.items l.answers.items l.begun;
+  so_far : HasReadKnown g.R.Read.remaining (g.R.Read.remaining l.fn.source) l.reader l.before l.commits.items
+      l.answers.items l.begun;
 }
