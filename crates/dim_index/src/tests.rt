@@ -390,7 +390,8 @@ fn a_row_has_to_pass_all_tests(rt: HostRuntime) -> Result<(), Fail> {
 fn classes(index: &DimIndex, alloc: Global, table: Table) -> Result<Vec<u32>, Fail> {
     let mut classes = Vec::new(alloc);
     for position in 0..index.positions(table) {
-        classes.push(index.class(table, position as u32))?;
+        let position = u32::try_from(position).map_err(|_| "position")?;
+        classes.push(index.class(table, position))?;
     }
     Ok(classes)
 }

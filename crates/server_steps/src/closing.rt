@@ -52,7 +52,8 @@ pub fn with_client<W: Wait + Drop>(
     ensures { IfOk result (λ all. All (IsQuiet server.now) all.items) }
 {
     let _ = server;
-    clients.push(client)?;
+    clients.reserve(1)?;
+    clients.push_reserved(client);
     Ok(clients)
 }
 
@@ -67,7 +68,8 @@ pub fn with_dispatcher<W: Wait + Drop>(
     ensures { IfOk result (λ all. All (IsOf server.now) all.items) }
 {
     let _ = server;
-    dispatchers.push(dispatcher)?;
+    dispatchers.reserve(1)?;
+    dispatchers.push_reserved(dispatcher);
     Ok(dispatchers)
 }
 

@@ -90,7 +90,13 @@ fn start_dispatcher<'s, E, W: Wait + Drop + Send, R: Wait + Threads + Sync>(
     let promise = DispatchedBy {
         dispatcher: Snapshot::of(&dispatcher),
     };
-    let thread = scope.spawn_with(promise, move || dispatch(rt, server, stop, dispatcher))?;
+    let thread = scope.spawn_with(
+        promise,
+        move || -> Dispatched<W>
+            requires { IsOf server.now dispatcher }
+            ensures { IsStill dispatcher result }
+        { dispatch(rt, server, stop, dispatcher) },
+    )?;
     Ok(thread)
 }
 
