@@ -13,6 +13,7 @@ pub struct Pace {
     since: Option<Instant>,
     load: Option<Duration>,
     serving: Option<Duration>,
+    threads: Option<Duration>,
     commits: u64,
     answers: u64,
     batches: Batches,
@@ -58,6 +59,7 @@ impl Pace {
             since,
             load: None,
             serving: None,
+            threads: None,
             commits: 0,
             answers: 0,
             batches: Batches::default(),
@@ -81,17 +83,22 @@ impl Pace {
     /// The server is closed, and left this run.
     pub fn end_serving<C: Clock>(&mut self, clock: &C, run: &Run) {
         self.serving = self.lap(clock);
+        self.threads = run.threads;
         self.commits = run.trace.commits.as_slice().len() as u64;
         self.answers = run.trace.answers.as_slice().len() as u64;
         self.batches = run.batches;
         self.latencies = run.latencies;
     }
 
-    /// Writes the seconds of both steps, the commits and the answers with how many there were a second, and the batches
-    /// with the mean number of questions in one, and the times of a refresh and of a question, as far as the writer
-    /// takes them.
+    /// Writes the seconds of both steps and of the threads, the commits and the answers with how many there were a second
+    /// of the threads, the batches with the mean number of questions in one, and the times of a refresh and of a question,
+    /// as far as the writer takes them.
     pub fn tell<E: Write>(&self, err: &mut E) {
-        for (name, time) in [("load", self.load), ("serving", self.serving)] {
+        for (name, time) in [
+            ("load", self.load),
+            ("serving", self.serving),
+            ("threads", self.threads),
+        ] {
             if let Some(time) = time {
                 let seconds = time.as_secs();
                 let micros = time.subsec_micros();
@@ -99,7 +106,7 @@ impl Pace {
             }
         }
         for (name, count) in [("commits", self.commits), ("answers", self.answers)] {
-            let rate = self.serving.and_then(|time| a_second(count, time));
+            let rate = self.threads.and_then(|time| a_second(count, time));
             if let Some(rate) = rate {
                 let _ = writeln!(err, "ssb_live: {name} {count}, {rate} a second");
             }

@@ -109,6 +109,7 @@ fn the_pace_of_a_run_is_told_after_it(rt: HostRuntime) -> Result<(), Fail> {
     for begin in [
         "ssb_live: load ",
         "ssb_live: serving ",
+        "ssb_live: threads ",
         "ssb_live: commits 1, ",
         "ssb_live: answers 3, ",
         "ssb_live: batches 3, 1.00 questions each\n",
