@@ -1,5 +1,20 @@
 -- Classes of rows: a row's class is the position of the first row that no query can tell from it.
-use Rattle.std.specs.Prelude.{ℕ, ◌+◌, Bool, List, [], ◌∷◌, map, fold, length, nat_lt, slice_index_or, take, unwrap_or, if◌then◌else◌}
+use Rattle.std.specs.Prelude.{
+  ℕ,
+  ◌+◌,
+  Bool,
+  List,
+  [],
+  ◌∷◌,
+  map,
+  fold,
+  length,
+  nat_lt,
+  slice_index_or,
+  take,
+  unwrap_or,
+  if◌then◌else◌,
+}
 use Rattle.std.specs.List.{list_all, position, range_with_len}
 use Rattle.ssb_schema.specs.declared.table.Table.{Table}
 use Rattle.ssb_schema.specs.declared.table.Table.TheVariants as table
@@ -10,7 +25,8 @@ use Rattle.ssb_queries.specs.RowValues.{customer_value, supplier_value, part_val
 use Rattle.dim_index.specs.Codes.{is_same}
 use Rattle.dim_index.specs.declared.first_rows.Extents.{Extents}
 
--- a dimension's columns that queries read, each as its values row by row; where there are three, with the one at place 0,
+-- a dimension's columns that queries read, each as its values row by row; where there are three, with the one at place
+-- 0,
 -- which stands for all others and tells no rows apart
 abbrev pub read_columns : Dimensions → Table → List (List Value)
 read_columns d table.Customer =

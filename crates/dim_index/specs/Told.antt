@@ -1,5 +1,19 @@
 -- Rows told apart by their codes in four columns.
-use Rattle.std.specs.Prelude.{ℕ, Bool, ◌&&◌, nat_eq, List, map, length, Option, Some, None, slice_index, unwrap_or, if◌then◌else◌}
+use Rattle.std.specs.Prelude.{
+  ℕ,
+  Bool,
+  ◌&&◌,
+  nat_eq,
+  List,
+  map,
+  length,
+  Option,
+  Some,
+  None,
+  slice_index,
+  unwrap_or,
+  if◌then◌else◌,
+}
 use Rattle.std.specs.List.{position, range_with_len}
 use Rattle.std.specs.Option.{option_or}
 

@@ -14,7 +14,8 @@ type Told = (u32, u32, u32, u32);
 // Where the codes were seen first: here, if they are new.
 fn first_place(seen: &mut HashMap<Told, u32>, told: &Told, here: u32) -> Result<u32, AllocError>
     ensures place { IfOk result (λ place. place ≡ unwrap_or (get same_told seen.old told.now) here) }
-    ensures seen { OnOk result ((other : Codes) → get same_told seen.new other ≡ noted (get same_told seen.old) told.now here other) }
+    ensures seen { OnOk result ((other : Codes) → get same_told seen.new other ≡ noted (get same_told seen.old) told.now
+        here other) }
 {
     if let Some(place) = seen.get(told) {
         return Ok(*place);

@@ -87,7 +87,8 @@ fn push_coded(
     columns: &[Column],
     kept: &mut Vec<CodedColumn>,
 ) -> Result<(), AllocError>
-    ensures { OnOk result (kept.new.items ≡ kept.old.items ++ map (values_of (first_rows base.now extents)) columns.now) }
+    ensures { OnOk result (kept.new.items ≡ kept.old.items
+        ++ map (values_of (first_rows base.now extents)) columns.now) }
 {
     for column in columns {
         let values = coded(alloc, base, extents, *column)?;

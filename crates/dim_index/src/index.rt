@@ -182,8 +182,10 @@ fn date_classes(alloc: Global, base: &Base, columns: &[CodedColumn]) -> Result<V
 // The classes of the rows of all dimensions.
 fn base_classes(alloc: Global, base: &Base, columns: &[CodedColumn]) -> Result<Classes, AllocError>
     requires { columns.now ≡ map (values_of base.now) kept_columns }
-    ensures customers { IfOk result (λ classes. classes.customers.items ≡ classes_of base.now.dimensions table.Customer) }
-    ensures suppliers { IfOk result (λ classes. classes.suppliers.items ≡ classes_of base.now.dimensions table.Supplier) }
+    ensures customers { IfOk result (λ classes. classes.customers.items ≡ classes_of base.now.dimensions
+        table.Customer) }
+    ensures suppliers { IfOk result (λ classes. classes.suppliers.items ≡ classes_of base.now.dimensions
+        table.Supplier) }
     ensures parts { IfOk result (λ classes. classes.parts.items ≡ classes_of base.now.dimensions table.Part) }
     ensures dates { IfOk result (λ classes. classes.dates.items ≡ classes_of base.now.dimensions table.Date) }
 {

@@ -18,7 +18,8 @@ pub record Stored : Type 0 where
 abbrev pub columns_state : Stored → State
 columns_state c = record { base = c.base; commits = c.commits; counts = fact_counts c.facts }
 
--- what holds of all columns: the facts are those of the live places, read back, and every place, live or free, names rows that are there
+-- what holds of all columns: the facts are those of the live places, read back, and every place, live or free, names
+-- rows that are there
 pub record IsRead (c : Stored) : Type 0 where
   pub facts_are : c.facts ≡ live_facts c.base.dimensions c.places
   pub within : All (IsPlaceOf c.base.dimensions) c.places

@@ -19,7 +19,7 @@
 //! ```text
 //! let mut columns = Columns::new(alloc, index, RandomState::new(&rt)?)?;
 //! columns.absorb(&commit)?;
-//! let slices = columns.slices();           // slices.revenue[i] is of a line of the customers' class slices.customer[i]
+//! let slices = columns.slices();       // slices.revenue[i] is of a line of the customers' class slices.customer[i]
 //! ```
 #![tactic(auto)]
 

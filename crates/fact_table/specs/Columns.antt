@@ -11,22 +11,24 @@ pub record Held : Type 0 where
   pub room : ℕ
 
 -- what the columns have at an index
-abbrev pub place_at : (order customer supplier part date terms price revenue cost customer_class supplier_class part_class date_class : List ℕ) → ℕ → Place
-place_at order customer supplier part date terms price revenue cost customer_class supplier_class part_class date_class i = record {
-  order = slice_index order i;
-  customer = slice_index customer i;
-  supplier = slice_index supplier i;
-  part = slice_index part i;
-  date = slice_index date i;
-  terms = slice_index terms i;
-  price = slice_index price i;
-  revenue = slice_index revenue i;
-  cost = slice_index cost i;
-  customer_class = slice_index customer_class i;
-  supplier_class = slice_index supplier_class i;
-  part_class = slice_index part_class i;
-  date_class = slice_index date_class i;
-}
+abbrev pub place_at : (order customer supplier part date terms price revenue cost customer_class supplier_class
+    part_class date_class : List ℕ) → ℕ → Place
+place_at order customer supplier part date terms price revenue cost customer_class supplier_class part_class date_class
+    i = record {
+      order = slice_index order i;
+      customer = slice_index customer i;
+      supplier = slice_index supplier i;
+      part = slice_index part i;
+      date = slice_index date i;
+      terms = slice_index terms i;
+      price = slice_index price i;
+      revenue = slice_index revenue i;
+      cost = slice_index cost i;
+      customer_class = slice_index customer_class i;
+      supplier_class = slice_index supplier_class i;
+      part_class = slice_index part_class i;
+      date_class = slice_index date_class i;
+    }
 
 -- the slices are the columns of the places, each as long as there are places
 pub record AreColumnsOf (places : List Place) (slices : Slices) : Type 0 where
@@ -42,7 +44,9 @@ pub record AreColumnsOf (places : List Place) (slices : Slices) : Type 0 where
 -- a table's columns as one list of places
 abbrev pub held : Inside → Held
 held t = record {
-  places = map (place_at t.order.items t.customer.items t.supplier.items t.part.items t.date.items t.terms.items t.price.items t.revenue.items t.cost.items t.customer_class.items t.supplier_class.items t.part_class.items t.date_class.items) (range_with_len 0 (vec_len t.order));
+  places = map (place_at t.order.items t.customer.items t.supplier.items t.part.items t.date.items t.terms.items
+      t.price.items t.revenue.items t.cost.items t.customer_class.items t.supplier_class.items t.part_class.items
+      t.date_class.items) (range_with_len 0 (vec_len t.order));
   room = t.capacity - vec_len t.order;
 }
 

@@ -6,9 +6,9 @@
 //! its own, so that a scan reads only what it needs; [`Table::slices`] lends what it reads. A place is free where its
 //! quantity is 0, and is then written again.
 //!
-//! The contract: whatever is written, the columns are those of one list of places (`specs/Columns.antt`), and the facts of
-//! the live places read back (`specs/Places.antt`) are what the table stands for. `laws` says why a scan may go over all
-//! places: a test that a free place fails leaves the live lines that pass.
+//! The contract: whatever is written, the columns are those of one list of places (`specs/Columns.antt`), and the facts
+//! of the live places read back (`specs/Places.antt`) are what the table stands for. `laws` says why a scan may go over
+//! all places: a test that a free place fails leaves the live lines that pass.
 //!
 //! ```text
 //! table.reserve(1)?;

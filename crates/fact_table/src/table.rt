@@ -1,5 +1,6 @@
 //! The columns.
-ghost use Rattle.std.specs.Prelude.{◌≡◌, ◌+◌, ◌≤◌, ◌<◌, ◌++◌, [], ◌∷◌, length, set, slice_index_or, IfOk, OnErr, OnOk, ℕ};
+ghost use Rattle.std.specs.Prelude.{◌≡◌, ◌+◌, ◌≤◌, ◌<◌, ◌++◌, [], ◌∷◌, length, set, slice_index_or, IfOk, OnErr, OnOk};
+ghost use Rattle.std.specs.Prelude.{ℕ};
 ghost use Rattle.fact_table.specs.declared.place.Place.{Place as PlainPlace};
 ghost use Rattle.fact_table.specs.Columns.{Held, AreColumnsOf};
 ghost use Rattle.fact_table.specs.Places.{freed};
@@ -142,7 +143,8 @@ impl Table {
     #[inline(always)]
     pub fn free(&mut self, place: usize)
         requires { place < length self.old.places }
-        ensures places { (other : PlainPlace) → self.new.places ≡ set self.old.places place (freed (slice_index_or self.old.places place other)) }
+        ensures places { (other : PlainPlace) → self.new.places ≡ set self.old.places place
+            (freed (slice_index_or self.old.places place other)) }
         ensures room { self.new.room ≡ self.old.room }
     {
         self.terms[place] = 0;

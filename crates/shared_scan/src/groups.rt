@@ -49,7 +49,8 @@ pub fn prepare_groups(
     requires three { length columns.now ≤ 3 }
     requires few { (column : GroupedBy) → length (values_of index.now column) ≤ 1048576 }
     requires masks { HaveMasks index.now masks.now }
-    ensures prepared { IfOk result (λ groups. ArePrepared index.now masks.now question columns.now groups.columns.items 1 (parts_in groups.parts)) }
+    ensures prepared { IfOk result (λ groups. ArePrepared index.now masks.now question columns.now groups.columns.items
+        1 (parts_in groups.parts)) }
     ensures size { IfOk result (λ groups. groups.size ≡ size_of (counts_of groups.columns.items)) }
     ensures few { IfOk result (λ groups. IsFew groups.parts groups.size) }
 {

@@ -111,7 +111,8 @@ fn terms_mask(plans: &[Plan], code: u16) -> u16
     requires few { length plans.now ≤ 16 }
     requires code { code < 1024 }
     ensures free { code < 16 → result ≡ 0 }
-    ensures live { 16 ≤ code → IsMask (λ plan. is_within plan.quantity (code / 16) && is_within plan.discount (code % 16)) plans.now result }
+    ensures live { 16 ≤ code → IsMask (λ plan. is_within plan.quantity (code / 16) && is_within plan.discount
+        (code % 16)) plans.now result }
 {
     if code < 16 {
         return 0;

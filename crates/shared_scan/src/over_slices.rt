@@ -23,7 +23,9 @@ pub fn scan_slices(
     batch: &PreparedBatch,
 ) -> Result<Vec<Rows>, AllocError>
     requires { HavePlaces batch.now.base slices }
-    ensures { (places : List Place) → AreColumnsOf places slices.entry → AreOfBase batch.now.base places → IfOk result (λ rows. rows.items ≡ answers_over batch.now.base.dimensions (live_facts batch.now.base.dimensions places) batch.now.questions) }
+    ensures { (places : List Place) → AreColumnsOf places slices.entry → AreOfBase batch.now.base places
+        → IfOk result (λ rows. rows.items ≡ answers_over batch.now.base.dimensions
+        (live_facts batch.now.base.dimensions places) batch.now.questions) }
 {
     let index = batch.index.first_rows();
     batch.index.base().soundness();
@@ -48,7 +50,9 @@ pub fn scan_slices_parallel<R: Threads + Sync>(
     batch: &PreparedBatch,
 ) -> Result<Vec<Rows>, AllocError>
     requires { HavePlaces batch.now.base slices }
-    ensures { (places : List Place) → AreColumnsOf places slices.entry → AreOfBase batch.now.base places → IfOk result (λ rows. rows.items ≡ answers_over batch.now.base.dimensions (live_facts batch.now.base.dimensions places) batch.now.questions) }
+    ensures { (places : List Place) → AreColumnsOf places slices.entry → AreOfBase batch.now.base places
+        → IfOk result (λ rows. rows.items ≡ answers_over batch.now.base.dimensions
+        (live_facts batch.now.base.dimensions places) batch.now.questions) }
 {
     let index = batch.index.first_rows();
     batch.index.base().soundness();

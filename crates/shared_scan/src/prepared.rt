@@ -11,8 +11,8 @@ use std::alloc::{AllocError, Global};
 use std::marker::Model;
 use std::sync::Arc;
 
-/// At most 16 questions made ready for one pass over the columns. Contracts see the base that they were prepared on, and
-/// the questions.
+/// At most 16 questions made ready for one pass over the columns. Contracts see the base that they were prepared on,
+/// and the questions.
 #[derive(Drop)]
 pub struct PreparedBatch {
     pub(crate) index: Arc<DimIndex>,

@@ -46,7 +46,8 @@ fn scattered_columns<'a>(
     parts: &'a [Items<u64>],
 ) -> Result<Vec<ScatteredColumn<'a>>, AllocError>
     requires { length parts.now ≡ length columns.now }
-    ensures { IfOk result (λ groups. AreGroupColumns index.now lines.now columns.now parts.now (as_group_columns groups.items)) }
+    ensures { IfOk result (λ groups. AreGroupColumns index.now lines.now columns.now parts.now
+        (as_group_columns groups.items)) }
 {
     let mut groups = Vec::with_capacity(alloc, columns.len())?;
     for place in 0..columns.len() {
@@ -65,7 +66,8 @@ struct Listed {
 
 /// The groups that have lines, in three lists.
 fn list_groups(alloc: Global, totals: &ScatteredTotals) -> Result<Listed, AllocError>
-    requires { (g : ℕ) (sums : Sums) → get nat_eq totals.now g ≡ Some sums → (sums.gain < 2 ^ 62) × (sums.loss < 2 ^ 62) }
+    requires { (g : ℕ) (sums : Sums) → get nat_eq totals.now g ≡ Some sums → (sums.gain < 2 ^ 62)
+        × (sums.loss < 2 ^ 62) }
     ensures numbers { IfOk result (λ list. list.numbers.items ≡ keys totals.now) }
     ensures counts { IfOk result (λ list. list.counts.items ≡ map (λ sums. sums.count) (values totals.now)) }
     ensures sums { IfOk result (λ list. list.sums.items ≡ map net (values totals.now)) }

@@ -17,7 +17,8 @@ use std::alloc::Global;
 // The values of a customer's record, column by column.
 #[tactic(auto, unfolding(crate::specs::Row::values_from))]
 fn customer_fields(alloc: Global, fields: &ByteRecord) -> Result<CustomerFields, LineFault>
-    ensures { Gives customer_values result (values_from table.Customer 0 (kinds_of table.Customer) (fields_of fields.now)) }
+    ensures { Gives customer_values result (values_from table.Customer 0 (kinds_of table.Customer)
+        (fields_of fields.now)) }
 {
     let table = Table::Customer;
     Ok(CustomerFields {

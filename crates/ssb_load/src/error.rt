@@ -30,7 +30,8 @@ impl From<AllocError> for LineFault {
     }
 }
 
-/// Why tables could not be loaded. Rows are numbered from 1, by record. Its text is its number, its name and its values.
+/// Why tables could not be loaded. Rows are numbered from 1, by record. Its text is its number, its name and its
+/// values.
 #[derive(Debug, Drop, Error)]
 pub enum LoadError {
     /// The reader of the table failed.

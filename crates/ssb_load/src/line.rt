@@ -17,7 +17,8 @@ use std::alloc::Global;
 // The values of a line's record, column by column.
 #[tactic(auto, unfolding(crate::specs::Row::values_from))]
 fn line_fields(alloc: Global, fields: &ByteRecord) -> Result<LineFields, LineFault>
-    ensures { Gives line_values result (values_from table.Lineorder 0 (kinds_of table.Lineorder) (fields_of fields.now)) }
+    ensures { Gives line_values result (values_from table.Lineorder 0 (kinds_of table.Lineorder)
+        (fields_of fields.now)) }
 {
     let table = Table::Lineorder;
     Ok(LineFields {

@@ -17,7 +17,8 @@ use std::alloc::Global;
 // The values of a supplier's record, column by column.
 #[tactic(auto, unfolding(crate::specs::Row::values_from))]
 fn supplier_fields(alloc: Global, fields: &ByteRecord) -> Result<SupplierFields, LineFault>
-    ensures { Gives supplier_values result (values_from table.Supplier 0 (kinds_of table.Supplier) (fields_of fields.now)) }
+    ensures { Gives supplier_values result (values_from table.Supplier 0 (kinds_of table.Supplier)
+        (fields_of fields.now)) }
 {
     let table = Table::Supplier;
     Ok(SupplierFields {

@@ -65,8 +65,10 @@ pub(crate) fn read_table<T: TableRow, R: Read + Drop>(
     source: R,
 ) -> Result<Vec<T>, LoadError>
     requires { limit < 2 ^ 32 }
-    ensures rows { IfOk result (λ rows. IfSome (R.remaining source) (λ text. SpellsRows T.of_table limit text (map T.values rows.items))) }
-    ensures fault { IfErr result (λ e. IsReadFault T.of_table e ⊎ IfSome (R.remaining source) (λ text. IsFirstFault T.of_table limit text e)) }
+    ensures rows { IfOk result (λ rows. IfSome (R.remaining source)
+        (λ text. SpellsRows T.of_table limit text (map T.values rows.items))) }
+    ensures fault { IfErr result (λ e. IsReadFault T.of_table e
+        ⊎ IfSome (R.remaining source) (λ text. IsFirstFault T.of_table limit text e)) }
 {
     let mut reader = record_reader(alloc, source);
     let mut fields = ByteRecord::new(alloc);

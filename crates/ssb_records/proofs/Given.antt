@@ -19,10 +19,17 @@ given_nothing remaining source text reader from start known = record {
 }
 
 -- what a read of csv gives
-pub read_gives : {R : Type 0} (remaining : R → Option (List ℕ)) (old new : Reader R) (found : Bool) (fields : List (List ℕ))
+pub read_gives : {R : Type 0} (remaining : R → Option (List ℕ)) (old new : Reader R) (found : Bool)
+    (fields : List (List ℕ))
     → IsRecordReader old → ReadRecord remaining old new found fields → GivesNext remaining old new found fields
 read_gives remaining old new true fields is read = λ text records given.
-    let more = rows-more remaining old new fields record_config st.StartRecord (strip_bom text) given.unread records is.config given.source given.reached read in
+    let more = rows-more remaining old new fields record_config st.StartRecord (strip_bom text) given.unread records
+    is.config given.source given.reached read in
     record { unread = more.0; source = more.1; reached = more.2 }
-read_gives remaining old new false fields is read = λ text records given.
-    (reader_state old, given.unread, given.reached, rows-end remaining old new fields record_config given.unread is.config given.source read)
+read_gives remaining old new false fields is read = λ text records given. (
+  reader_state old,
+  given.unread,
+  given.reached,
+  rows-end remaining old new fields record_config given.unread
+      is.config given.source read,
+)

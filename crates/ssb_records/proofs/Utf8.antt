@@ -10,4 +10,5 @@ pub text_is_utf8 : (bytes : List ℕ) → IsUtf8 bytes → is_utf8 bytes ≡ tru
 text_is_utf8 bytes text = eq-eqb _ _ (utf8_valid_len-IsUtf8 bytes text)
 
 pub no_text_is_not : (bytes : List ℕ) (n : ℕ) → IsValidUpTo bytes n → is_utf8 bytes ≡ false
-no_text_is_not bytes n valid = ne_eqb _ _ (λ same. absurd (omega (arith, same, valid.short, utf8_valid_len-IsValidUpTo bytes n valid)))
+no_text_is_not bytes n valid = ne_eqb _ _ (λ same. absurd
+    (omega (arith, same, valid.short, utf8_valid_len-IsValidUpTo bytes n valid)))

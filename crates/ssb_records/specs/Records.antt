@@ -1,6 +1,34 @@
 -- The records of a text whose fields are parted by `|`, and how far a reader has come in them.
-use Rattle.std.specs.Prelude.{◌≡◌, ℕ, ◌+◌, ◌&&◌, ◌||◌, Bool, true, false, List, [], ◌∷◌, ◌++◌, length, get_or, Option, Some, ◌==◌}
-use Rattle.csv.specs.Reading.{AreRecords, Reached, Ready, default_config, reader_config, reader_state, reader_trim, source_of, strip_bom}
+use Rattle.std.specs.Prelude.{
+  ◌≡◌,
+  ℕ,
+  ◌+◌,
+  ◌&&◌,
+  ◌||◌,
+  Bool,
+  true,
+  false,
+  List,
+  [],
+  ◌∷◌,
+  ◌++◌,
+  length,
+  get_or,
+  Option,
+  Some,
+  ◌==◌,
+}
+use Rattle.csv.specs.Reading.{
+  AreRecords,
+  Reached,
+  Ready,
+  default_config,
+  reader_config,
+  reader_state,
+  reader_trim,
+  source_of,
+  strip_bom,
+}
 use Rattle.csv.specs.declared.error.ErrorKind.{ErrorKind}
 use Rattle.csv.specs.declared.error.ErrorKind.TheVariants as kind
 use Rattle.csv.specs.declared.parser.Config.{Config}
@@ -21,11 +49,13 @@ HasRecords text records = AreRecords record_config st.StartRecord (strip_bom tex
 
 -- these are the first records of a text
 abbrev pub BeginsWith : List ℕ → List (List (List ℕ)) → Type 0
-BeginsWith text records = (s : State) × (unread : List ℕ) × Reached record_config st.StartRecord (strip_bom text) records s unread
+BeginsWith text records = (s : State) × (unread : List ℕ)
+    × Reached record_config st.StartRecord (strip_bom text) records s unread
 
 -- whether a record has so many fields, or one more that has no bytes
 abbrev pub has_columns : ℕ → List (List ℕ) → Bool
-has_columns count fields = (length fields == count) || ((length fields == count + 1) && (length (get_or fields count []) == 0))
+has_columns count fields = (length fields == count) ||
+    ((length fields == count + 1) && (length (get_or fields count []) == 0))
 
 -- a reader reads records in this way
 pub record IsRecordReader {R : Type 0} (reader : Reader R) : Type 0 where
@@ -34,7 +64,8 @@ pub record IsRecordReader {R : Type 0} (reader : Reader R) : Type 0 where
   pub ready : Ready reader
 
 -- a reader has given these first records of a text, and gives those of the unread bytes next
-pub record HasGiven {R : Type 0} (remaining : R → Option (List ℕ)) (text : List ℕ) (reader : Reader R) (records : List (List (List ℕ))) : Type 0 where
+pub record HasGiven {R : Type 0} (remaining : R → Option (List ℕ)) (text : List ℕ) (reader : Reader R)
+    (records : List (List (List ℕ))) : Type 0 where
   pub unread : List ℕ
   pub source : source_of remaining reader ≡ Some unread
   pub reached : Reached record_config st.StartRecord (strip_bom text) records (reader_state reader) unread
@@ -42,7 +73,8 @@ pub record HasGiven {R : Type 0} (remaining : R → Option (List ℕ)) (text : L
 -- a read that found a record gave the next one of any text, and one that found none had given them all
 abbrev pub GivesNext : {R : Type 0} → (R → Option (List ℕ)) → Reader R → Reader R → Bool → List (List ℕ) → Type 0
 GivesNext remaining old new true fields =
-    (text : List ℕ) (records : List (List (List ℕ))) → HasGiven remaining text old records → HasGiven remaining text new (records ++ fields ∷ [])
+    (text : List ℕ) (records : List (List (List ℕ))) → HasGiven remaining text old records
+    → HasGiven remaining text new (records ++ fields ∷ [])
 GivesNext remaining old new false fields =
     (text : List ℕ) (records : List (List (List ℕ))) → HasGiven remaining text old records → HasRecords text records
 

@@ -93,8 +93,8 @@ pub struct Indexes {
     pub dates: Index,
 }
 
-// The first of the keys, and how many an array takes from there on: as many as there are up to the last one, or none where
-// that is many times the number of rows.
+// The first of the keys, and how many an array takes from there on: as many as there are up to the last one, or none
+// where that is many times the number of rows.
 fn window<T: Keyed>(rows: &[T]) -> (u64, usize) {
     let mut first = u64::MAX;
     let mut last = 0;

@@ -1,13 +1,15 @@
 //! What the records of a script have begun and not ended, and what one more record does to it.
 
-ghost use Rattle.std.specs.Prelude.{◌≡◌, ◌+◌, ◌-◌, ◌<◌, ◌^◌, ◌++◌, ◌∷◌, [], IfOk, IfErr, None, Ok, length, nat_lt, option_map};
+ghost use Rattle.std.specs.Prelude.{◌≡◌, ◌+◌, ◌-◌, ◌<◌, ◌^◌, ◌++◌, ◌∷◌, [], IfOk, IfErr, None, Ok, length, nat_lt};
+ghost use Rattle.std.specs.Prelude.{option_map};
 ghost use Rattle.csv.specs.Records.{fields_of};
 ghost use Rattle.ssb_schema.specs.Orders.{order_fault};
 ghost use Rattle.ssb_script.specs.Lines as spec;
 ghost use Rattle.ssb_script.specs.Lines.{ScriptLine};
 ghost use Rattle.ssb_script.specs.Requests.{action_of};
 ghost use Rattle.ssb_script.specs.Scripts.{HasRoom, checks_in, order_refused, refusal_at_end};
-ghost use Rattle.ssb_script.specs.Steps.{Follows, IsFoundBy, actions_at_end, begun_in, begun_order, line_of_control, line_of_row};
+ghost use Rattle.ssb_script.specs.Steps.{Follows, IsFoundBy, actions_at_end, begun_in, begun_order, line_of_control};
+ghost use Rattle.ssb_script.specs.Steps.{line_of_row};
 ghost use Rattle.ssb_script.specs.Begun as begun;
 
 use crate::block::Block;
@@ -184,7 +186,8 @@ impl BegunOrder {
         requires before { 0 < number }
         requires room { HasRoom (number - 1) (begun.Order (begun_order self)) }
         ensures step { IfOk result (λ step. Follows number (begun.Order (begun_order self)) (spec.Line line) step) }
-        ensures fault { IfErr result (IsFoundBy (checks_in number (begun.Order (begun_order self)) (Ok (spec.Line line)))) }
+        ensures fault { IfErr result (IsFoundBy (checks_in number (begun.Order (begun_order self))
+            (Ok (spec.Line line)))) }
     {
         if self.lines.len() == 7 {
             return Err(ScriptError::Row(self.number, SchemaFault::TooManyLines));
@@ -220,7 +223,8 @@ impl Begun {
     pub fn with_row(self, number: u64, row: OrderLine) -> Result<Step, ScriptError>
         requires before { 0 < number }
         requires room { HasRoom (number - 1) (begun_in self) }
-        ensures step { IfOk result (λ step. (line : ScriptLine) × (line_of_row row ≡ Ok line) × Follows number (begun_in self) line step) }
+        ensures step { IfOk result (λ step. (line : ScriptLine) × (line_of_row row ≡ Ok line)
+            × Follows number (begun_in self) line step) }
         ensures fault { IfErr result (IsFoundBy (checks_in number (begun_in self) (line_of_row row))) }
     {
         let Begun::Order(order) = self else {
@@ -233,8 +237,8 @@ impl Begun {
         }
     }
 
-    /// What comes of one more record that is no `line`, after so many: of what it says, if it says anything. The order that
-    /// is being read ends before it.
+    /// What comes of one more record that is no `line`, after so many: of what it says, if it says anything. The order
+    /// that is being read ends before it.
     pub fn with_control(
         self,
         alloc: Global,
@@ -243,8 +247,11 @@ impl Begun {
     ) -> Result<Step, ScriptError>
         requires counted { before < 2 ^ 64 - 1 }
         requires room { HasRoom before (begun_in self) }
-        ensures step { IfOk result (λ step. (line : ScriptLine) × (spec.line_or_bad (option_map line_of_control control) ≡ Ok line) × Follows (before + 1) (begun_in self) line step) }
-        ensures fault { IfErr result (IsFoundBy (refusal_at_end (begun_in self) ∷ checks_in (before + 1) (begun_in self) (spec.line_or_bad (option_map line_of_control control)))) }
+        ensures step { IfOk result (λ step. (line : ScriptLine)
+            × (spec.line_or_bad (option_map line_of_control control) ≡ Ok line)
+            × Follows (before + 1) (begun_in self) line step) }
+        ensures fault { IfErr result (IsFoundBy (refusal_at_end (begun_in self) ∷ checks_in (before + 1) (begun_in self)
+            (spec.line_or_bad (option_map line_of_control control)))) }
     {
         let number = before + 1;
         let actions = self.ended()?;
@@ -264,8 +271,10 @@ impl Begun {
     ) -> Result<Step, ScriptError>
         requires counted { before < 2 ^ 64 - 1 }
         requires room { HasRoom before (begun_in self) }
-        ensures step { IfOk result (λ step. (line : ScriptLine) × (spec.line_of (fields_of fields.now) ≡ Ok line) × Follows (before + 1) (begun_in self) line step) }
-        ensures fault { IfErr result (IsFoundBy (order_refused (begun_in self) (spec.word_of (fields_of fields.now)) ∷ checks_in (before + 1) (begun_in self) (spec.line_of (fields_of fields.now)))) }
+        ensures step { IfOk result (λ step. (line : ScriptLine) × (spec.line_of (fields_of fields.now) ≡ Ok line)
+            × Follows (before + 1) (begun_in self) line step) }
+        ensures fault { IfErr result (IsFoundBy (order_refused (begun_in self) (spec.word_of (fields_of fields.now)) ∷
+            checks_in (before + 1) (begun_in self) (spec.line_of (fields_of fields.now)))) }
     {
         let word = word_of(fields);
         if is_line(word) {

@@ -80,7 +80,8 @@ impl Control {
         fields: &ByteRecord,
     ) -> Result<Option<Control>, AllocError>
         requires { is_line word ≡ false }
-        ensures { IfOk result (λ control. line_after word (fields_of fields.now) ≡ line_or_bad (option_map line_of_control control)) }
+        ensures { IfOk result (λ control. line_after word (fields_of fields.now) ≡ line_or_bad
+            (option_map line_of_control control)) }
     {
         let Some(word) = word else {
             return Ok(None);

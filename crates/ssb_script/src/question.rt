@@ -46,7 +46,8 @@ pub fn constants_from(
     fields: &ByteRecord,
 ) -> Result<Option<Vec<Value>>, AllocError>
     requires { place + length kinds.now < 2 ^ 64 }
-    ensures { IfOk result (λ found. option_map (λ constants. constants.items) found ≡ spec.constants_from place kinds.now (fields_of fields.now)) }
+    ensures { IfOk result (λ found. option_map (λ constants. constants.items) found ≡ spec.constants_from place
+        kinds.now (fields_of fields.now)) }
 {
     let mut constants = Vec::new(alloc);
     for (i, kind) in kinds.iter().enumerate() {
@@ -67,7 +68,8 @@ fn question_over(
     fields: &ByteRecord,
 ) -> Result<Option<Question>, AllocError>
     requires { place < 2 ^ 32 }
-    ensures { IfOk result (λ question. question ≡ option_map (λ constants. (query, constants)) (spec.constants_at place query (fields_of fields.now))) }
+    ensures { IfOk result (λ question. question ≡ option_map (λ constants. (query, constants))
+        (spec.constants_at place query (fields_of fields.now))) }
 {
     if has_columns(fields, place) {
         return Ok(Some(Question::standard(alloc, query)?));

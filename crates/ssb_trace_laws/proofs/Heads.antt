@@ -153,7 +153,8 @@ constants-read question a b c d e allowed = elim (cases_Bool
       | inl standard ↦
           let same : question ≡ (question.0, standard_constants question.0) =
           (question_Decides question (question.0, standard_constants question.0)).0 standard in
-          let constants : standard_constants question.0 ≡ question.1 = sym (ap (λ (q : Query × List Value). q.1) same) in
+          let constants : standard_constants question.0 ≡ question.1 =
+          sym (ap (λ (q : Query × List Value). q.1) same) in
           rw standard (ap Some constants)
       | inr own ↦ rw own (given-read question a b c d e allowed)
     ]

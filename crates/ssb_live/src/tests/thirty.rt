@@ -27,8 +27,8 @@ fn next_number(lines: &mut Lines<'_>, before: &str, after: &str) -> Result<u8, F
     Ok(number.parse().map_err(|_| "no number")?)
 }
 
-// A client's report: ten receipts, whose numbers rise, and the answer after a commit no earlier than the last of them. Each
-// order takes 1,990 from the profit of 660.
+// A client's report: ten receipts, whose numbers rise, and the answer after a commit no earlier than the last of them.
+// Each order takes 1,990 from the profit of 660.
 fn read_report<R>(rt: &R, lines: &mut Lines<'_>, numbers: &mut Vec<u8>) -> Result<(), Fail>
 where
     R: Abort + AllocGlobal,

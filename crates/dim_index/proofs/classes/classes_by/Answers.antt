@@ -21,7 +21,9 @@ returns c =
     let d = c.args.third.now in
     let e = c.args.fourth.now in
     let rows : c.deref.result.now ≡ told_rows (codes_of a) (codes_of b) (codes_of d) (codes_of e) =
-    c.deref.ensures.value ∙ c.in_ok-rows.ensures ∙ (λ i. told_rows (c.codes.ensures i) (c.codes-2.ensures i) (c.codes-3.ensures i) (c.codes-4.ensures i)) in
+    c.deref.ensures.value ∙ c.in_ok-rows.ensures ∙ (λ i. told_rows (c.codes.ensures i) (c.codes-2.ensures i)
+    (c.codes-3.ensures i) (c.codes-4.ensures i)) in
     let same : map (first_in c.deref.result.now) c.deref.result.now ≡ classes_by (a ∷ b ∷ d ∷ e ∷ []) (length a) =
-    ap (λ (l : List Told). map (first_in l) l) rows ∙ classes_told a b d e c.requires.second c.requires.third c.requires.fourth in
+    ap (λ (l : List Told). map (first_in l) l) rows ∙ classes_told a b d e c.requires.second c.requires.third
+    c.requires.fourth in
     subst (λ (l : List ℕ). IfOk c.first_places.result (λ v. v.items ≡ l)) same c.first_places.ensures

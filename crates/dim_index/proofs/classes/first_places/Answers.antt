@@ -1,4 +1,21 @@
-use Rattle.std.proofs.Common.{◌∙◌, ◌++◌, ◌∷◌, [], ◌≡◌, List, ℕ, Option, Some, None, map, take, unwrap_or, get_or, ap, sym}
+use Rattle.std.proofs.Common.{
+  ◌∙◌,
+  ◌++◌,
+  ◌∷◌,
+  [],
+  ◌≡◌,
+  List,
+  ℕ,
+  Option,
+  Some,
+  None,
+  map,
+  take,
+  unwrap_or,
+  get_or,
+  ap,
+  sym,
+}
 use Rattle.std.specs.Prelude.{if◌then◌else◌}
 use Rattle.std.specs.Option.{option_or}
 use Rattle.std.proofs.lemmas.List.{map_more}
@@ -15,7 +32,8 @@ loop-row-preserved c =
     let within = c.loop-row-test.true in
     let is : told ≡ get_or rows row told = sym (get_or_from_slice_get rows row told told (sym c.row_at-told.ensures)) in
     let place : c.in_ok-place.place ≡ first_in rows told =
-    c.in_ok-place.ensures.place ∙ ap (λ o. unwrap_or o row) (c.loop-row.invariant.noted told) ∙ sym (first_known rows row told within is) in
+    c.in_ok-place.ensures.place ∙ ap (λ o. unwrap_or o row) (c.loop-row.invariant.noted told)
+    ∙ sym (first_known rows row told within is) in
     record {
       firsts =
           c.in_ok-push.ensures.items

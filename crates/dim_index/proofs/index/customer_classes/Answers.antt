@@ -15,8 +15,10 @@ returns c =
     let first : c.kept.result.now ≡ map (customer_value 4) rows = c.kept.ensures in
     let second : c.kept-2.result.now ≡ map (customer_value 5) rows = c.kept-2.ensures in
     let third : c.kept-3.result.now ≡ map (customer_value 6) rows = c.kept-3.ensures in
-    let fourth : c.kept-4.result.now ≡ map (customer_value 0) rows = c.kept-4.ensures ∙ ap (values_of base) c.unread.ensures in
-    let same : classes_by (c.kept.result.now ∷ c.kept-2.result.now ∷ c.kept-3.result.now ∷ c.kept-4.result.now ∷ []) (length c.kept.result.now) ≡ classes_of base.dimensions table.Customer =
+    let fourth : c.kept-4.result.now ≡ map (customer_value 0) rows =
+    c.kept-4.ensures ∙ ap (values_of base) c.unread.ensures in
+    let same : classes_by (c.kept.result.now ∷ c.kept-2.result.now ∷ c.kept-3.result.now ∷ c.kept-4.result.now ∷ [])
+    (length c.kept.result.now) ≡ classes_of base.dimensions table.Customer =
     (λ i. classes_by (first i ∷ second i ∷ third i ∷ fourth i ∷ []) (length (first i)))
     ∙ ap (classes_by (read_columns base.dimensions table.Customer)) (length-map rows (customer_value 4)) in
     subst (λ (l : List ℕ). IfOk c.classes_by.result (λ v. v.items ≡ l)) same c.classes_by.ensures

@@ -16,7 +16,8 @@ returns c =
     let second : c.kept-2.result.now ≡ map (date_value 6) rows = c.kept-2.ensures in
     let third : c.kept-3.result.now ≡ map (date_value 7) rows = c.kept-3.ensures in
     let fourth : c.kept-4.result.now ≡ map (date_value 12) rows = c.kept-4.ensures in
-    let same : classes_by (c.kept.result.now ∷ c.kept-2.result.now ∷ c.kept-3.result.now ∷ c.kept-4.result.now ∷ []) (length c.kept.result.now) ≡ classes_of base.dimensions table.Date =
+    let same : classes_by (c.kept.result.now ∷ c.kept-2.result.now ∷ c.kept-3.result.now ∷ c.kept-4.result.now ∷ [])
+    (length c.kept.result.now) ≡ classes_of base.dimensions table.Date =
     (λ i. classes_by (first i ∷ second i ∷ third i ∷ fourth i ∷ []) (length (first i)))
     ∙ ap (classes_by (read_columns base.dimensions table.Date)) (length-map rows (date_value 5)) in
     subst (λ (l : List ℕ). IfOk c.classes_by.result (λ v. v.items ≡ l)) same c.classes_by.ensures

@@ -15,8 +15,10 @@ returns c =
     let first : c.kept.result.now ≡ map (part_value 3) rows = c.kept.ensures in
     let second : c.kept-2.result.now ≡ map (part_value 4) rows = c.kept-2.ensures in
     let third : c.kept-3.result.now ≡ map (part_value 5) rows = c.kept-3.ensures in
-    let fourth : c.kept-4.result.now ≡ map (part_value 0) rows = c.kept-4.ensures ∙ ap (values_of base) c.unread.ensures in
-    let same : classes_by (c.kept.result.now ∷ c.kept-2.result.now ∷ c.kept-3.result.now ∷ c.kept-4.result.now ∷ []) (length c.kept.result.now) ≡ classes_of base.dimensions table.Part =
+    let fourth : c.kept-4.result.now ≡ map (part_value 0) rows =
+    c.kept-4.ensures ∙ ap (values_of base) c.unread.ensures in
+    let same : classes_by (c.kept.result.now ∷ c.kept-2.result.now ∷ c.kept-3.result.now ∷ c.kept-4.result.now ∷ [])
+    (length c.kept.result.now) ≡ classes_of base.dimensions table.Part =
     (λ i. classes_by (first i ∷ second i ∷ third i ∷ fourth i ∷ []) (length (first i)))
     ∙ ap (classes_by (read_columns base.dimensions table.Part)) (length-map rows (part_value 3)) in
     subst (λ (l : List ℕ). IfOk c.classes_by.result (λ v. v.items ≡ l)) same c.classes_by.ensures

@@ -8,4 +8,4 @@ pub returns : goal.returns
 returns g c =
     subst (All (IsOf c.args.server.now)) (sym (c.push_reserved.ensures.items ∙ ap (λ all. all ++ c.args.dispatcher ∷ []) c.reserve.ensures.items))
     (All-push (IsOf c.args.server.now) c.args.dispatchers.items c.args.dispatcher c.requires.dispatchers
-        c.requires.dispatcher)
+    c.requires.dispatcher)

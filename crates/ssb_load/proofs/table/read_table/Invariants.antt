@@ -7,5 +7,6 @@ abbrev pub invariant-loop-number : goal.invariant-loop-number
 invariant-loop-number g l = record {
   ready : IsRecordReader l.reader;
   count : length l.rows.items ≡ l.number;
-  so_far : HasReadKnown g.R.Read.remaining g.T.TableRow.of_table (g.R.Read.remaining l.fn.source) l.reader (map g.T.TableRow.values l.rows.items);
+  so_far : HasReadKnown g.R.Read.remaining g.T.TableRow.of_table (g.R.Read.remaining l.fn.source) l.reader
+      (map g.T.TableRow.values l.rows.items);
 }

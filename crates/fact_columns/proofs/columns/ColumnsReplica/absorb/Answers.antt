@@ -13,9 +13,11 @@ overflow_add-self c = omega (arith, c.self.invariant.counted, c.self.invariant.f
 pub invariant_of-self-2 : goal.invariant_of-self-2
 invariant_of-self-2 c =
     let dimensions : Dimensions = c.self.inside.index.value.dimensions in
-    let before : live_count c.reserve.new.self.places ≡ live_count c.self.inside.table.places = ap live_count c.reserve.ensures.places in
+    let before : live_count c.reserve.new.self.places ≡ live_count c.self.inside.table.places =
+    ap live_count c.reserve.ensures.places in
     let fresh : All (IsPlaceOf dimensions) c.as_slice.result.now = search rules in
-    let old : All (IsPlaceOf dimensions) c.reserve.new.self.places = All-same (IsPlaceOf dimensions) _ _ c.reserve.ensures.places c.self.invariant.within in
+    let old : All (IsPlaceOf dimensions) c.reserve.new.self.places =
+    All-same (IsPlaceOf dimensions) _ _ c.reserve.ensures.places c.self.invariant.within in
     record {
       spanned = c.act_all-freed.ensures.spanned;
       counted = omega (arith, before, c.self.invariant.counted, c.act_all-freed.ensures.count);

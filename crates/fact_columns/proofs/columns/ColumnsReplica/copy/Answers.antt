@@ -14,10 +14,13 @@ invariant_of-result c =
     let inside = c.self.inside in
     let places : c.in_ok-copy.field-0.places ≡ inside.table.places = search rules in
     let base : c.in_ok-try_clone.field-0.value ≡ inside.index.value = search rules in
-    let entries : c.in_ok-clone.field-0.entries ≡ inside.spans.entries = entries_from_clone _ _ (λ x y s. s) (λ v w s. s) _ _ c.in_ok-clone.ensures.cases in
+    let entries : c.in_ok-clone.field-0.entries ≡ inside.spans.entries =
+    entries_from_clone _ _ (λ x y s. s) (λ v w s. s) _ _ c.in_ok-clone.ensures.cases in
     record {
-      spanned = subst (λ (p : List Place × List (ℕ × Span)). Spanned (λ k. lookup (nat_eq k) p.1) p.0) (λ i. (sym places i, sym entries i)) c.self.invariant.spanned;
+      spanned = subst (λ (p : List Place × List (ℕ × Span)). Spanned (λ k. lookup (nat_eq k) p.1) p.0)
+          (λ i. (sym places i, sym entries i)) c.self.invariant.spanned;
       counted = c.self.invariant.counted ∙ ap live_count (sym places);
-      within = subst (λ (p : List Place × Tables). All (IsPlaceOf p.1.dimensions) p.0) (λ i. (sym places i, sym base i)) c.self.invariant.within;
+      within = subst (λ (p : List Place × Tables). All (IsPlaceOf p.1.dimensions) p.0) (λ i. (sym places i, sym base i))
+          c.self.invariant.within;
       few = omega (arith, c.self.invariant.few, ap length places);
     }

@@ -10,10 +10,12 @@ pub returns-in-Ok : goal.returns-in-Ok
 returns-in-Ok c =
     let fields = fields_of c.args.fields.now in
     let columns : has_columns 17 fields ≡ true = sym c.has_columns.ensures ∙ c.if-not-has_columns.false in
-    rw c.in-Ok.ensures.row (row_taken table.Lineorder fields (line_values c.in_ok-line_fields.field-0) columns c.in_ok-line_fields.ensures (sym c.in-Ok.ensures.fault))
+    rw c.in-Ok.ensures.row (row_taken table.Lineorder fields (line_values c.in_ok-line_fields.field-0) columns
+    c.in_ok-line_fields.ensures (sym c.in-Ok.ensures.fault))
 
 pub returns-in-Err : goal.returns-in-Err
 returns-in-Err c =
     let fields = fields_of c.args.fields.now in
     let columns : has_columns 17 fields ≡ true = sym c.has_columns.ensures ∙ c.if-not-has_columns.false in
-    row_refused table.Lineorder fields (line_values c.in_ok-line_fields.field-0) c.in-Err.refused.fault columns c.in_ok-line_fields.ensures (sym c.in-Err.ensures.fault)
+    row_refused table.Lineorder fields (line_values c.in_ok-line_fields.field-0) c.in-Err.refused.fault columns
+    c.in_ok-line_fields.ensures (sym c.in-Err.ensures.fault)
