@@ -176,8 +176,8 @@ impl<W: Follower + Drop> Shared<W> {
     }
 
     /// Gives the row store back, as it was taken or with one commit more of the pass's client. One that waits for it is
-    /// woken where it was given back as it was, and by each 64th commit, so that clients that commit side by side do so
-    /// in runs; nobody sleeps for it for more than 100 microseconds at a time.
+    /// woken where it was given back as it was, and by each 1,024th commit, so that clients that commit side by side do
+    /// so in runs; nobody sleeps for it for more than a millisecond at a time.
     pub fn put_rows(&self, pass: &mut Pass<W>, rows: RowStore)
         requires hall { pass.old.hall ≡ self.now }
         requires taken { pass.old.has_rows ≡ true }
