@@ -7,6 +7,7 @@ ghost use Rattle.history.specs.Words.{IsCause};
 ghost use Rattle.ssb_server.specs.Turns.{IsDispatcher, HoldsNothing, HasFetched, Knows, StandsAt, Fetches, HasBeside};
 ghost use Rattle.ssb_server.specs.Turns.{HasTaken, Appends, Follows, Misses};
 
+use crate::bells::Bells;
 use crate::pace::Pace;
 use crate::server::{Hall, Pass};
 use fact_columns::Columns;
@@ -29,13 +30,14 @@ fn copy_of(alloc: Global, commits: &[Commit]) -> Result<Vec<Commit>, AllocError>
     Ok(copies)
 }
 
-// Takes the rows, copies the commits that the writer lacks, and gives the rows back as they were. Clients keep near to
-// them from then on.
+// Takes the rows, copies the commits that the writer lacks, and gives the rows back as they were. Clients let it pass,
+// and keep near to these commits from then on.
 fn fetch<W: Wait + Drop, R: Wait>(
     rt: &R,
     alloc: Global,
     hall: &Hall<W>,
     pace: &Pace,
+    bells: &Bells,
     pass: &mut Pass<W>,
     taken: u64,
 ) -> Result<Vec<Commit>, AllocError>
@@ -47,11 +49,13 @@ fn fetch<W: Wait + Drop, R: Wait>(
     ensures sound { IsSound pass.new }
     ensures few { length (lines_after pass.new.hall.base pass.new.seen) ≤ pass.new.hall.base.limits.lines }
 {
+    pace.hold();
     let rows = hall.take_rows(rt, pass);
     pace.begin(rows.len() as u64);
     let commits = copy_of(alloc, rows.log_from(taken as usize));
     let _ = rows.line_count();
     hall.put_rows(pass, rows);
+    bells.ring_clients();
     commits
 }
 
@@ -153,6 +157,7 @@ fn bring_up<W: Wait + Drop, R: Wait>(
     alloc: Global,
     hall: &Hall<W>,
     pace: &Pace,
+    bells: &Bells,
     pass: &mut Pass<W>,
     writer: TwinWriter<Columns, W>,
     reader: TwinReader<Columns>,
@@ -169,7 +174,7 @@ fn bring_up<W: Wait + Drop, R: Wait>(
         (Misses pass.new.hall.base pass.new.seen) }
 {
     let taken = writer.taken();
-    match fetch(rt, alloc, hall, pace, pass, taken) {
+    match fetch(rt, alloc, hall, pace, bells, pass, taken) {
         Ok(commits) => catch_up(rt, writer, commits, reader),
         Err(_) => (writer, Err((reader, Unserved::OutOfMemory))),
     }
@@ -181,6 +186,7 @@ pub(crate) fn snapshot<W: Wait + Drop, R: Wait>(
     alloc: Global,
     hall: &Hall<W>,
     pace: &Pace,
+    bells: &Bells,
     pass: &mut Pass<W>,
     reader: TwinReader<Columns>,
 ) -> Result<Guard<Columns>, Missed>
@@ -194,7 +200,7 @@ pub(crate) fn snapshot<W: Wait + Drop, R: Wait>(
         (Misses pass.new.hall.base pass.new.seen) }
 {
     let writer = hall.take_writer(rt, pass);
-    let (writer, entered) = bring_up(rt, alloc, hall, pace, pass, writer, reader);
+    let (writer, entered) = bring_up(rt, alloc, hall, pace, bells, pass, writer, reader);
     hall.put_writer(pass, writer);
     entered
 }

@@ -94,7 +94,15 @@ fn serve<W: Wait + Drop, R: Wait + Threads + Sync, G: ScanGate>(
     ensures empty { batch.new ≡ no_hand }
     ensures hand { Keeps no_hand pass.new.grabbed }
 {
-    match snapshot(rt, server.alloc, &server.hall, &server.pace, pass, reader) {
+    match snapshot(
+        rt,
+        server.alloc,
+        &server.hall,
+        &server.pace,
+        &server.bells,
+        pass,
+        reader,
+    ) {
         Ok(guard) => {
             let at = pass.seen_len();
             gate.scanning(at);
