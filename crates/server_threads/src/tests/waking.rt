@@ -123,10 +123,10 @@ fn rests_until<W: Wait + Drop, R: Wait>(
     dispatcher: Dispatcher<W>,
     resting: &AtomicBool,
     ended: &AtomicBool,
-) -> Dispatcher<W> {
+) {
     for _ in rt.forever() {
         if ended.load(Ordering::SeqCst) {
-            return dispatcher;
+            return;
         }
         resting.store(true, Ordering::SeqCst);
         dispatcher.rest(rt, server);
@@ -142,7 +142,7 @@ fn rests_until_rung<W: Wait + Drop + Send, R: Wait + Threads + Sync>(
 ) -> bool {
     let flags = (AtomicBool::new(false), AtomicBool::new(false));
     let (resting, ended) = (&flags.0, &flags.1);
-    let (_, rested) = join(
+    let ((), rested) = join(
         rt,
         || rests_until(rt, server, dispatcher, resting, ended),
         || {
