@@ -89,9 +89,7 @@ fn a_word_that_is_no_utf8_is_a_wrong_word(rt: HostRuntime) -> Result<(), Fail> {
     assert_eq!(rt; given.len(), 3);
     assert_eq!(rt; given[1].as_str(), "query");
     let bad = [&b"ssb_live"[..], b"query", b"\xff"];
-    let fault = words(&(Given(&bad), rt.alloc()))
-        .err()
-        .ok_or("no fault")?;
+    let fault = words(&(Given(&bad), rt.alloc())).err().ok_or("no fault")?;
     let mut err = Vec::new(rt.alloc());
     assert_eq!(rt; fault.tell(&mut err), 2);
     assert_eq!(rt;
