@@ -1,5 +1,3 @@
 //! The server's calls, run by several threads and compared.
 mod flags;
-mod held;
-mod thirty;
 mod waking;
