@@ -2,4 +2,3 @@
 mod closing;
 mod one_thread;
 mod opening;
-mod two_clients;
