@@ -8,8 +8,10 @@ use Rattle.ssb_queries.specs.RowValues.{customer_value, supplier_value, part_val
 
 -- row by row, whether the dimension's row passes all tests
 abbrev pub bits_of : Tables → Table → List Test → List Bool
-bits_of base table.Customer tests = map (λ row. pass tests (λ place. customer_value place row)) base.dimensions.customers
-bits_of base table.Supplier tests = map (λ row. pass tests (λ place. supplier_value place row)) base.dimensions.suppliers
+bits_of base table.Customer tests = map (λ row. pass tests (λ place. customer_value place row))
+    base.dimensions.customers
+bits_of base table.Supplier tests = map (λ row. pass tests (λ place. supplier_value place row))
+    base.dimensions.suppliers
 bits_of base table.Part tests = map (λ row. pass tests (λ place. part_value place row)) base.dimensions.parts
 bits_of base table.Date tests = map (λ row. pass tests (λ place. date_value place row)) base.dimensions.dates
 bits_of base table.Lineorder tests = []

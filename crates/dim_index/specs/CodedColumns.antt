@@ -8,7 +8,8 @@ use Rattle.dim_index.specs.Codes.{distinct}
 abbrev pub values_in : List Value → List ℕ → List Value
 values_in dictionary codes = map (λ code. slice_index_or dictionary code (Number 0)) codes
 
--- every code is that of a value, and the dictionary has no other values than those of the rows, in the order of first sight
+-- every code is that of a value, and the dictionary has no other values than those of the rows, in the order of first
+-- sight
 pub record IsCoded (dictionary : List Value) (codes : List ℕ) : Type 0 where
   pub within : All (λ code. code < length dictionary) codes
   pub seen : dictionary ≡ distinct (values_in dictionary codes)

@@ -6,3 +6,6 @@ pub mod CodedColumns
 pub mod Bitmaps
 pub mod Indexed
 pub mod Kept
+pub mod Classes
+pub mod Told
+pub mod FirstRows

@@ -5,13 +5,21 @@ ghost use Rattle.dim_index.specs.Keys.{position_of, keys_of};
 ghost use Rattle.dim_index.specs.Values.{values_of};
 ghost use Rattle.dim_index.specs.Codes.{distinct, codes_of};
 ghost use Rattle.dim_index.specs.Bitmaps.{bits_of};
+ghost use Rattle.dim_index.specs.Classes.{classes_of, reduced};
+ghost use Rattle.dim_index.specs.Kept.{kept_columns, unread};
+ghost use Rattle.ssb_schema.specs.declared.table.Table.TheVariants as table;
 
 use crate::bitmap::Bitmap;
+use crate::classes::{classes_by, extent_of};
 use crate::coded::CodedColumn;
 use crate::dictionary::Dictionary;
+use crate::first_rows::{Extents, FirstRows};
 use crate::kept::{kept_at, unread_columns};
 use ssb_queries::Test;
-use ssb_schema::{Base, Column, Table, query_columns};
+use ssb_schema::{
+    Base, C_CITY, C_NATION, C_REGION, Column, D_WEEKNUMINYEAR, D_YEAR, D_YEARMONTH, D_YEARMONTHNUM,
+    P_BRAND1, P_CATEGORY, P_MFGR, S_CITY, S_NATION, S_REGION, Table, query_columns,
+};
 use std::alloc::{AllocError, Global};
 use std::marker::Model;
 use std::sync::Arc;
@@ -22,6 +30,17 @@ pub struct DimIndex {
     base: Arc<Base>,
     // The kept columns, in the order of `specs/Kept.antt`.
     columns: Vec<CodedColumn>,
+    classes: Classes,
+    first_rows: FirstRows,
+}
+
+/// The class of each row of a dimension, by position.
+#[derive(Drop)]
+struct Classes {
+    customers: Vec<u32>,
+    suppliers: Vec<u32>,
+    parts: Vec<u32>,
+    dates: Vec<u32>,
 }
 
 impl Model for DimIndex {
@@ -77,6 +96,107 @@ fn push_coded(
     Ok(())
 }
 
+// A column of a base, or the one that stands for it, among the kept ones.
+fn kept<'a>(base: &Base, columns: &'a [CodedColumn], column: Column) -> &'a CodedColumn
+    requires { columns.now ≡ map (values_of base.now) kept_columns }
+    ensures { result.now ≡ values_of base.now column }
+{
+    &columns[kept_at(column)]
+}
+
+// The column that stands for all columns of a table that no query reads: it tells no rows apart.
+fn unread(table: Table) -> Column
+    ensures { result ≡ unread table }
+{
+    Column { table, place: 0 }
+}
+
+// The classes of the customers.
+fn customer_classes(
+    alloc: Global,
+    base: &Base,
+    columns: &[CodedColumn],
+) -> Result<Vec<u32>, AllocError>
+    requires { columns.now ≡ map (values_of base.now) kept_columns }
+    ensures { IfOk result (λ classes. classes.items ≡ classes_of base.now.dimensions table.Customer) }
+{
+    base.soundness();
+    classes_by(
+        alloc,
+        kept(base, columns, C_CITY),
+        kept(base, columns, C_NATION),
+        kept(base, columns, C_REGION),
+        kept(base, columns, unread(Table::Customer)),
+    )
+}
+
+// The classes of the suppliers.
+fn supplier_classes(
+    alloc: Global,
+    base: &Base,
+    columns: &[CodedColumn],
+) -> Result<Vec<u32>, AllocError>
+    requires { columns.now ≡ map (values_of base.now) kept_columns }
+    ensures { IfOk result (λ classes. classes.items ≡ classes_of base.now.dimensions table.Supplier) }
+{
+    base.soundness();
+    classes_by(
+        alloc,
+        kept(base, columns, S_CITY),
+        kept(base, columns, S_NATION),
+        kept(base, columns, S_REGION),
+        kept(base, columns, unread(Table::Supplier)),
+    )
+}
+
+// The classes of the parts.
+fn part_classes(alloc: Global, base: &Base, columns: &[CodedColumn]) -> Result<Vec<u32>, AllocError>
+    requires { columns.now ≡ map (values_of base.now) kept_columns }
+    ensures { IfOk result (λ classes. classes.items ≡ classes_of base.now.dimensions table.Part) }
+{
+    base.soundness();
+    classes_by(
+        alloc,
+        kept(base, columns, P_MFGR),
+        kept(base, columns, P_CATEGORY),
+        kept(base, columns, P_BRAND1),
+        kept(base, columns, unread(Table::Part)),
+    )
+}
+
+// The classes of the dates.
+fn date_classes(alloc: Global, base: &Base, columns: &[CodedColumn]) -> Result<Vec<u32>, AllocError>
+    requires { columns.now ≡ map (values_of base.now) kept_columns }
+    ensures { IfOk result (λ classes. classes.items ≡ classes_of base.now.dimensions table.Date) }
+{
+    base.soundness();
+    classes_by(
+        alloc,
+        kept(base, columns, D_YEAR),
+        kept(base, columns, D_YEARMONTHNUM),
+        kept(base, columns, D_YEARMONTH),
+        kept(base, columns, D_WEEKNUMINYEAR),
+    )
+}
+
+// The classes of the rows of all dimensions.
+fn base_classes(alloc: Global, base: &Base, columns: &[CodedColumn]) -> Result<Classes, AllocError>
+    requires { columns.now ≡ map (values_of base.now) kept_columns }
+    ensures customers { IfOk result (λ classes. classes.customers.items ≡ classes_of base.now.dimensions
+        table.Customer) }
+    ensures suppliers { IfOk result (λ classes. classes.suppliers.items ≡ classes_of base.now.dimensions
+        table.Supplier) }
+    ensures parts { IfOk result (λ classes. classes.parts.items ≡ classes_of base.now.dimensions table.Part) }
+    ensures dates { IfOk result (λ classes. classes.dates.items ≡ classes_of base.now.dimensions table.Date) }
+{
+    Ok(Classes {
+        customers: customer_classes(alloc, base, columns)?,
+        suppliers: supplier_classes(alloc, base, columns)?,
+        parts: part_classes(alloc, base, columns)?,
+        dates: date_classes(alloc, base, columns)?,
+    })
+}
+
 impl DimIndex {
     /// The index of a base.
     pub fn new(alloc: Global, base: Arc<Base>) -> Result<DimIndex, AllocError>
@@ -85,7 +205,20 @@ impl DimIndex {
         let mut columns = Vec::new(alloc);
         push_coded(alloc, &base, query_columns(), &mut columns)?;
         push_coded(alloc, &base, unread_columns(), &mut columns)?;
-        Ok(DimIndex { base, columns })
+        let classes = base_classes(alloc, &base, &columns)?;
+        let extents = Extents {
+            customers: extent_of(&classes.customers),
+            suppliers: extent_of(&classes.suppliers),
+            parts: extent_of(&classes.parts),
+            dates: extent_of(&classes.dates),
+        };
+        let first_rows = FirstRows::new(alloc, Arc::try_clone(&base)?, extents)?;
+        Ok(DimIndex {
+            base,
+            columns,
+            classes,
+            first_rows,
+        })
     }
 
     /// The base.
@@ -128,7 +261,28 @@ impl DimIndex {
     pub fn column(&self, column: Column) -> &CodedColumn
         ensures { result.now ≡ values_of self.now column }
     {
-        &self.columns[kept_at(column)]
+        kept(&self.base, &self.columns, column)
+    }
+
+    /// The class of the row at a position: the position of the first row that no query can tell from it.
+    pub fn class(&self, table: Table, position: u32) -> u32
+        requires { position < length (keys_of self.now table) }
+        ensures { result ≡ slice_index (classes_of self.now.dimensions table) position }
+    {
+        match table {
+            Table::Customer => self.classes.customers[position as usize],
+            Table::Supplier => self.classes.suppliers[position as usize],
+            Table::Part => self.classes.parts[position as usize],
+            Table::Date => self.classes.dates[position as usize],
+            Table::Lineorder => 0,
+        }
+    }
+
+    /// The index of the rows that begin a class, and of those between them: all that a scan by class looks at.
+    pub fn first_rows(&self) -> &FirstRows
+        ensures { result.now ≡ reduced self.now }
+    {
+        &self.first_rows
     }
 
     /// The codes of a column's values, by position.

@@ -128,9 +128,9 @@ fn date(alloc: Global, key: u64, month: u64, name: &str, week: u64) -> Result<Da
     Ok(made.ok().ok_or("date")?)
 }
 
-fn customers(alloc: Global) -> Result<Vec<Customer>, Fail> {
+fn customers(alloc: Global, places: &[Place]) -> Result<Vec<Customer>, Fail> {
     let mut customers = Vec::new(alloc);
-    for (key, place) in (1..4).zip(&CUSTOMERS) {
+    for (key, place) in (1..9).zip(places) {
         customers.push(customer(alloc, key, *place)?)?;
     }
     Ok(customers)
@@ -144,17 +144,17 @@ fn suppliers(alloc: Global) -> Result<Vec<Supplier>, Fail> {
     Ok(suppliers)
 }
 
-fn parts(alloc: Global) -> Result<Vec<Part>, Fail> {
+fn parts(alloc: Global, rows: &[[&str; 3]]) -> Result<Vec<Part>, Fail> {
     let mut parts = Vec::new(alloc);
-    for (key, kinds) in (1..5).zip(&PARTS) {
+    for (key, kinds) in (1..9).zip(rows) {
         parts.push(part(alloc, key, *kinds)?)?;
     }
     Ok(parts)
 }
 
-fn dates(alloc: Global) -> Result<Vec<DateRow>, Fail> {
+fn dates(alloc: Global, rows: &[(u64, u64, &str, u64)]) -> Result<Vec<DateRow>, Fail> {
     let mut dates = Vec::new(alloc);
-    for (key, month, name, week) in &DATES {
+    for (key, month, name, week) in rows {
         dates.push(date(alloc, *key, *month, name, *week)?)?;
     }
     Ok(dates)
@@ -168,10 +168,39 @@ fn index_of(alloc: Global, parts: BaseParts) -> Result<DimIndex, Fail> {
 }
 
 fn small_index(alloc: Global) -> Result<DimIndex, Fail> {
-    let customers = customers(alloc)?;
+    let customers = customers(alloc, &CUSTOMERS)?;
     let suppliers = suppliers(alloc)?;
-    let parts = parts(alloc)?;
-    let dates = dates(alloc)?;
+    let parts = parts(alloc, &PARTS)?;
+    let dates = dates(alloc, &DATES)?;
+    index_of(
+        alloc,
+        BaseParts {
+            customers,
+            suppliers,
+            parts,
+            dates,
+            lines: Vec::new(alloc),
+        },
+    )
+}
+
+// Days of two weeks of a month.
+const LIKE_DATES: [(u64, u64, &str, u64); 4] = [
+    (19940105, 199401, "Jan1994", 1),
+    (19940106, 199401, "Jan1994", 1),
+    (19940108, 199401, "Jan1994", 2),
+    (19940107, 199401, "Jan1994", 1),
+];
+
+// The index of dimensions in which some rows cannot be told apart by any query: the small data set's first customer
+// three times and its second twice, and its second part, another brand of the same category, and the second part again.
+fn index_of_like_rows(alloc: Global) -> Result<DimIndex, Fail> {
+    let [first, second, _] = CUSTOMERS;
+    let customers = customers(alloc, &[first, first, second, first, second])?;
+    let suppliers = suppliers(alloc)?;
+    let [_, part, other_brand, _] = PARTS;
+    let parts = parts(alloc, &[part, other_brand, part])?;
+    let dates = dates(alloc, &LIKE_DATES)?;
     index_of(
         alloc,
         BaseParts {
@@ -357,6 +386,70 @@ fn a_row_has_to_pass_all_tests(rt: HostRuntime) -> Result<(), Fail> {
     Ok(())
 }
 
+// The classes of a table's rows.
+fn classes(index: &DimIndex, alloc: Global, table: Table) -> Result<Vec<u32>, Fail> {
+    let mut classes = Vec::new(alloc);
+    for position in 0..index.positions(table) {
+        let position = u32::try_from(position).map_err(|_| "position")?;
+        classes.push(index.class(table, position))?;
+    }
+    Ok(classes)
+}
+
+#[test]
+fn rows_that_no_query_tells_apart_have_the_class_of_the_first(rt: HostRuntime) -> Result<(), Fail> {
+    let alloc = rt.alloc();
+    let index = index_of_like_rows(alloc)?;
+    let customers = classes(&index, alloc, Table::Customer)?;
+    assert_eq!(rt; customers.as_slice(), [0, 0, 2, 0, 2].as_slice());
+    let suppliers = classes(&index, alloc, Table::Supplier)?;
+    assert_eq!(rt; suppliers.as_slice(), [0, 1, 2].as_slice());
+    let parts = classes(&index, alloc, Table::Part)?;
+    assert_eq!(rt; parts.as_slice(), [0, 1, 0].as_slice());
+    let dates = classes(&index, alloc, Table::Date)?;
+    assert_eq!(rt; dates.as_slice(), [0, 0, 2, 0].as_slice());
+    Ok(())
+}
+
+#[test]
+fn all_rows_of_the_small_data_set_can_be_told_apart(rt: HostRuntime) -> Result<(), Fail> {
+    let alloc = rt.alloc();
+    let index = small_index(alloc)?;
+    for (table, rows) in TABLES.iter().zip([3, 3, 4, 4, 0]) {
+        let classes = classes(&index, alloc, *table)?;
+        let positions: [u32; 4] = [0, 1, 2, 3];
+        assert!(rt;
+            classes.iter().eq(positions.iter().take(rows)),
+            "{}",
+            table.name()
+        );
+        assert_eq!(rt;
+            index.first_rows().positions(*table),
+            rows,
+            "{}",
+            table.name()
+        );
+    }
+    Ok(())
+}
+
+#[test]
+fn the_first_rows_end_with_the_last_that_begins_a_class(rt: HostRuntime) -> Result<(), Fail> {
+    let index = index_of_like_rows(rt.alloc())?;
+    let first_rows = index.first_rows();
+    for (table, rows) in TABLES.iter().zip([3, 3, 2, 3, 0]) {
+        assert_eq!(rt; first_rows.positions(*table), rows, "{}", table.name());
+    }
+    assert_eq!(rt; first_rows.codes_of(C_CITY), [0, 0, 1].as_slice());
+    assert_eq!(rt; first_rows.codes_of(P_CATEGORY), [0, 0].as_slice());
+    assert_eq!(rt; first_rows.codes_of(P_BRAND1), [0, 1].as_slice());
+    assert_eq!(rt; first_rows.codes_of(D_WEEKNUMINYEAR), [0, 0, 1].as_slice());
+    assert_eq!(rt; first_rows.codes(D_WEEKNUMINYEAR), 2);
+    assert_eq!(rt; first_rows.dictionary(C_CITY).text(1), "CHINA    0");
+    assert_eq!(rt; first_rows.dictionary(D_WEEKNUMINYEAR).number(1), 2);
+    Ok(())
+}
+
 #[test]
 fn a_dimension_may_have_no_rows(rt: HostRuntime) -> Result<(), Fail> {
     let alloc = rt.alloc();
@@ -368,6 +461,7 @@ fn a_dimension_may_have_no_rows(rt: HostRuntime) -> Result<(), Fail> {
     for table in TABLES {
         assert_eq!(rt; index.positions(table), 0, "{}", table.name());
         assert_eq!(rt; index.position(table, 1), None, "{}", table.name());
+        assert_eq!(rt; index.first_rows().positions(table), 0, "{}", table.name());
     }
     let asia = left(&index, alloc, C_REGION, Cond::TextIs(text(alloc, "ASIA")?))?;
     assert_eq!(rt; asia.len(), 0);

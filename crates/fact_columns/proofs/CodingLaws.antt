@@ -1,5 +1,30 @@
 -- Lines in codes: one line more, the first ones and the others, and the key of an order's places.
-use Rattle.std.proofs.Common.{◌≡◌, ℕ, ◌<◌, true, List, [], ◌∷◌, ◌++◌, length, map, fold, take, drop, get_or, zero, suc, sym, refl, ap, ◌∙◌, subst, arith, ◌+◌, append_assoc}
+use Rattle.std.proofs.Common.{
+  ◌≡◌,
+  ℕ,
+  ◌<◌,
+  true,
+  List,
+  [],
+  ◌∷◌,
+  ◌++◌,
+  length,
+  map,
+  fold,
+  take,
+  drop,
+  get_or,
+  zero,
+  suc,
+  sym,
+  refl,
+  ap,
+  ◌∙◌,
+  subst,
+  arith,
+  ◌+◌,
+  append_assoc,
+}
 use Rattle.std.specs.List.{All, flat_map}
 use Rattle.std.proofs.lemmas.List.Concat.{flat_map-cons}
 use Rattle.std.proofs.lemmas.List.{map_more, length-map, map-append, take-map, drop-map, take_at, drop_at, drop_more}
@@ -12,7 +37,8 @@ use Rattle.ssb_schema.specs.Facts.{fact_of, facts_of}
 use Rattle.row_store.specs.Lines.{added_by}
 use Rattle.row_store.specs.State.{Counts, with_fact}
 use Rattle.fact_table.specs.declared.place.Place.{Place}
-use Rattle.fact_table.specs.Places.{fact_at, is_live, IsWithin}
+use Rattle.fact_table.specs.Places.{fact_at, is_live}
+use Rattle.fact_columns.specs.Classed.{IsPlaceOf}
 use Rattle.fact_columns.specs.Coded.{IsCodeOf, AreCodesOf, with_places}
 
 pub some_row : {R : Type 0} (rows : List R) → 0 < length rows → R
@@ -20,78 +46,109 @@ some_row [] some = absurd (omega (arith, some))
 some_row (row ∷ rows) some = row
 
 -- one line more
-pub codes_push : (dimensions : Dimensions) (facts : List Fact) (places : List Place) (fact : Fact) (place : Place) → AreCodesOf dimensions facts places → IsCodeOf dimensions fact place
+pub codes_push : (dimensions : Dimensions) (facts : List Fact) (places : List Place) (fact : Fact) (place : Place)
+    → AreCodesOf dimensions facts places → IsCodeOf dimensions fact place
     → AreCodesOf dimensions (facts ++ fact ∷ []) (places ++ place ∷ [])
 codes_push dimensions facts places fact place codes code = record {
   read = map-append (fact_at dimensions) places (place ∷ []) ∙ (λ i. codes.read i ++ code.reads i ∷ []);
   lives = All-push (λ p. is_live p ≡ true) places place codes.lives code.live;
-  inside = All-push (IsWithin dimensions) places place codes.inside code.within;
+  inside = All-push (IsPlaceOf dimensions) places place codes.inside code.within;
 }
 
 -- the places of an order have its key
-pub codes_own : (dimensions : Dimensions) (order : List LineFields) (lines : List Place) (key : ℕ) → AreCodesOf dimensions (facts_of order) lines → All (λ (line : LineFields). line.order_key ≡ key) order → All (λ (place : Place). place.order ≡ key) lines
+pub codes_own : (dimensions : Dimensions) (order : List LineFields) (lines : List Place) (key : ℕ)
+    → AreCodesOf dimensions (facts_of order) lines → All (λ (line : LineFields). line.order_key ≡ key) order
+    → All (λ (place : Place). place.order ≡ key) lines
 codes_own dimensions order lines key codes alike = each order lines codes.read alike
   where
-    each : (order : List LineFields) (lines : List Place) → map (fact_at dimensions) lines ≡ facts_of order → All (λ (line : LineFields). line.order_key ≡ key) order → All (λ (place : Place). place.order ≡ key) lines
+    each : (order : List LineFields) (lines : List Place) → map (fact_at dimensions) lines ≡ facts_of order
+        → All (λ (line : LineFields). line.order_key ≡ key) order → All (λ (place : Place). place.order ≡ key) lines
     each order [] same alike i d within = absurd (omega (arith, within))
     each [] (place ∷ lines) same alike i d within = absurd (cc)
-    each (line ∷ order) (place ∷ lines) same alike zero d within = ap (λ (f : Fact). f.order_key) (first same) ∙ alike 0 line (omega arith)
+    each (line ∷ order) (place ∷ lines) same alike zero d within =
+        ap (λ (f : Fact). f.order_key) (first same) ∙ alike 0 line (omega arith)
       where
         first : {a b : Fact} {xs ys : List Fact} → a ∷ xs ≡ b ∷ ys → a ≡ b
         first e = cc
-    each (line ∷ order) (place ∷ lines) same alike (suc i) d within = each order lines (rest same) (λ j e lt. alike (suc j) e (omega (arith, lt))) i d (omega (arith, within))
+    each (line ∷ order) (place ∷ lines) same alike (suc i) d within =
+        each order lines (rest same) (λ j e lt. alike (suc j) e (omega (arith, lt))) i d (omega (arith, within))
       where
         rest : {a b : Fact} {xs ys : List Fact} → a ∷ xs ≡ b ∷ ys → xs ≡ ys
         rest e = cc
 
 -- counting places is counting the facts that they read as
-pub with_read : (dimensions : Dimensions) (counts : Counts) (lines : List Place) → with_places dimensions counts lines ≡ fold with_fact counts (map (fact_at dimensions) lines)
+pub with_read : (dimensions : Dimensions) (counts : Counts) (lines : List Place)
+    → with_places dimensions counts lines ≡ fold with_fact counts (map (fact_at dimensions) lines)
 with_read dimensions counts [] = refl
 with_read dimensions counts (line ∷ lines) = with_read dimensions (with_fact counts (fact_at dimensions line)) lines
 
 -- as many places as facts
-pub codes_length : (dimensions : Dimensions) (facts : List Fact) (places : List Place) → AreCodesOf dimensions facts places → length places ≡ length facts
+pub codes_length : (dimensions : Dimensions) (facts : List Fact) (places : List Place)
+    → AreCodesOf dimensions facts places → length places ≡ length facts
 codes_length dimensions facts places codes = sym (length-map places (fact_at dimensions)) ∙ ap length codes.read
 
 -- the places of the first facts
-pub codes_take : (dimensions : Dimensions) (facts more : List Fact) (places : List Place) → AreCodesOf dimensions (facts ++ more) places → AreCodesOf dimensions facts (take (length facts) places)
+pub codes_take : (dimensions : Dimensions) (facts more : List Fact) (places : List Place)
+    → AreCodesOf dimensions (facts ++ more) places → AreCodesOf dimensions facts (take (length facts) places)
 codes_take dimensions facts more places codes = record {
-  read = sym (take-map (fact_at dimensions) (length facts) places) ∙ ap (take (length facts)) codes.read ∙ take_at facts more (length facts) refl;
+  read = sym (take-map (fact_at dimensions) (length facts) places) ∙ ap (take (length facts)) codes.read
+      ∙ take_at facts more (length facts) refl;
   lives = All-take (λ p. is_live p ≡ true) (length facts) places codes.lives;
-  inside = All-take (IsWithin dimensions) (length facts) places codes.inside;
+  inside = All-take (IsPlaceOf dimensions) (length facts) places codes.inside;
 }
 
 -- and of the others
-pub codes_drop : (dimensions : Dimensions) (facts more : List Fact) (places : List Place) → AreCodesOf dimensions (facts ++ more) places → AreCodesOf dimensions more (drop (length facts) places)
+pub codes_drop : (dimensions : Dimensions) (facts more : List Fact) (places : List Place)
+    → AreCodesOf dimensions (facts ++ more) places → AreCodesOf dimensions more (drop (length facts) places)
 codes_drop dimensions facts more places codes = record {
-  read = sym (drop-map (fact_at dimensions) (length facts) places) ∙ ap (drop (length facts)) codes.read ∙ drop_at facts more (length facts) refl;
+  read = sym (drop-map (fact_at dimensions) (length facts) places) ∙ ap (drop (length facts)) codes.read
+      ∙ drop_at facts more (length facts) refl;
   lives = All-drop (λ p. is_live p ≡ true) (length facts) places codes.lives;
-  inside = All-drop (IsWithin dimensions) (length facts) places codes.inside;
+  inside = All-drop (IsPlaceOf dimensions) (length facts) places codes.inside;
 }
 
 -- counting the places of facts is counting the facts
-pub with_codes : (dimensions : Dimensions) (counts : Counts) (facts : List Fact) (places : List Place) → AreCodesOf dimensions facts places → with_places dimensions counts places ≡ fold with_fact counts facts
-with_codes dimensions counts facts places codes = with_read dimensions counts places ∙ ap (fold with_fact counts) codes.read
+pub with_codes : (dimensions : Dimensions) (counts : Counts) (facts : List Fact) (places : List Place)
+    → AreCodesOf dimensions facts places → with_places dimensions counts places ≡ fold with_fact counts facts
+with_codes dimensions counts facts places codes = with_read dimensions counts places
+    ∙ ap (fold with_fact counts) codes.read
 
 -- the next action's lines are cut off the front of those that are left
-pub codes_cut : (dimensions : Dimensions) (actions : List Action) (i : ℕ) (action : Action) (rest front back : List Place) (n : ℕ) → i < length actions → action ≡ get_or actions i action → n ≡ length (added_by action)
-    → front ≡ take n rest → back ≡ drop n rest → AreCodesOf dimensions (facts_of (flat_map added_by (drop i actions))) rest
-    → AreCodesOf dimensions (facts_of (added_by action)) front × AreCodesOf dimensions (facts_of (flat_map added_by (drop (i + 1) actions))) back
+pub codes_cut : (dimensions : Dimensions) (actions : List Action) (i : ℕ) (action : Action)
+    (rest front back : List Place) (n : ℕ) → i < length actions → action ≡ get_or actions i action
+    → n ≡ length (added_by action)
+    → front ≡ take n rest → back ≡ drop n rest → AreCodesOf dimensions (facts_of (flat_map added_by (drop i actions)))
+    rest
+    → AreCodesOf dimensions (facts_of (added_by action)) front
+    × AreCodesOf dimensions (facts_of (flat_map added_by (drop (i + 1) actions))) back
 codes_cut dimensions actions i action rest front back n within is count fronts backs codes =
     let later : List Action = drop (i + 1) actions in
     let next : drop i actions ≡ action ∷ later = drop_more actions i action within ∙ ap (λ a. a ∷ later) (sym is) in
     let facts : List Fact = facts_of (added_by action) in
     let more : List Fact = facts_of (flat_map added_by later) in
-    let cut : facts_of (flat_map added_by (drop i actions)) ≡ facts ++ more = ap (λ l. facts_of (flat_map added_by l)) next ∙ ap facts_of (flat_map-cons added_by action later) ∙ map-append fact_of (added_by action) (flat_map added_by later) in
+    let cut : facts_of (flat_map added_by (drop i actions)) ≡ facts ++ more =
+    ap (λ l. facts_of (flat_map added_by l)) next ∙ ap facts_of (flat_map-cons added_by action later)
+    ∙ map-append fact_of (added_by action) (flat_map added_by later) in
     let both : AreCodesOf dimensions (facts ++ more) rest = subst (λ f. AreCodesOf dimensions f rest) cut codes in
-    let size : length facts ≡ n = length-map (added_by action) fact_of ∙ sym count in
-    (subst (AreCodesOf dimensions facts) (ap (λ m. take m rest) size ∙ sym fronts) (codes_take dimensions facts more rest both), subst (AreCodesOf dimensions more) (ap (λ m. drop m rest) size ∙ sym backs) (codes_drop dimensions facts more rest both))
+    let size : length facts ≡ n = length-map (added_by action) fact_of ∙ sym count in (
+      subst (AreCodesOf dimensions facts) (ap (λ m. take m rest) size ∙ sym fronts)
+          (codes_take dimensions facts more rest both),
+      subst (AreCodesOf dimensions more)
+          (ap (λ m. drop m rest) size ∙ sym backs) (codes_drop dimensions facts more rest both),
+    )
 
 -- the next line is put behind the others
-pub codes_more : (dimensions : Dimensions) (before : List Fact) (lines : List LineFields) (i : ℕ) (line : LineFields) (places later : List Place) (place : Place) → i < length lines → line ≡ get_or lines i line
-    → later ≡ places ++ place ∷ [] → AreCodesOf dimensions (before ++ facts_of (take i lines)) places → IsCodeOf dimensions (fact_of line) place → AreCodesOf dimensions (before ++ facts_of (take (i + 1) lines)) later
+pub codes_more : (dimensions : Dimensions) (before : List Fact) (lines : List LineFields) (i : ℕ) (line : LineFields)
+    (places later : List Place) (place : Place) → i < length lines → line ≡ get_or lines i line
+    → later ≡ places ++ place ∷ [] → AreCodesOf dimensions (before ++ facts_of (take i lines)) places
+    → IsCodeOf dimensions (fact_of line) place → AreCodesOf dimensions (before ++ facts_of (take (i + 1) lines))
+    later
 codes_more dimensions before lines i line places later place within is longer codes code =
     let done : List Fact = before ++ facts_of (take i lines) in
     let facts : done ++ fact_of line ∷ [] ≡ before ++ facts_of (take (i + 1) lines) =
-    append_assoc before (facts_of (take i lines)) (fact_of line ∷ []) ∙ ap (λ l. before ++ l) (ap (λ own. facts_of (take i lines) ++ fact_of own ∷ []) is ∙ sym (map_more fact_of lines i line within)) in
-    subst (λ p. AreCodesOf dimensions (before ++ facts_of (take (i + 1) lines)) p) (sym longer) (subst (λ f. AreCodesOf dimensions f (places ++ place ∷ [])) facts (codes_push dimensions done places (fact_of line) place codes code))
+    append_assoc before (facts_of (take i lines)) (fact_of line ∷ [])
+    ∙ ap (λ l. before ++ l) (ap (λ own. facts_of (take i lines) ++ fact_of own ∷ []) is
+    ∙ sym (map_more fact_of lines i line within)) in
+    subst (λ p. AreCodesOf dimensions (before ++ facts_of (take (i + 1) lines)) p) (sym longer)
+    (subst (λ f. AreCodesOf dimensions f (places ++ place ∷ [])) facts
+    (codes_push dimensions done places (fact_of line) place codes code))

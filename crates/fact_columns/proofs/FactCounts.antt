@@ -37,15 +37,20 @@ facts_of_lines : (facts : List Fact) → facts_of (map line_of facts) ≡ facts
 facts_of_lines [] = refl
 facts_of_lines (fact ∷ facts) = ap (λ l. fact ∷ l) (facts_of_lines facts)
 
-step : (b : Bool) (fact : Fact) (lines : List LineFields) (facts : List Fact) → facts_of lines ≡ facts → facts_of (cond b (line_of fact ∷ lines) lines) ≡ cond b (fact ∷ facts) facts
+step : (b : Bool) (fact : Fact) (lines : List LineFields) (facts : List Fact) → facts_of lines ≡ facts
+    → facts_of (cond b (line_of fact ∷ lines) lines) ≡ cond b (fact ∷ facts) facts
 step true fact lines facts is = ap (λ l. fact ∷ l) is
 step false fact lines facts is = is
 
-facts_without : (key : ℕ) (facts : List Fact) → facts_of (lines_without key (map line_of facts)) ≡ filter (others key) facts
+facts_without : (key : ℕ) (facts : List Fact) → facts_of (lines_without key (map line_of facts)) ≡ filter (others key)
+    facts
 facts_without key [] = refl
-facts_without key (fact ∷ facts) = step (others key fact) fact (lines_without key (map line_of facts)) (filter (others key) facts) (facts_without key facts)
+facts_without key (fact ∷ facts) = step (others key fact) fact (lines_without key (map line_of facts))
+    (filter (others key) facts) (facts_without key facts)
 
 -- the counts without an order are those of the facts of the others
-pub counts_without_order : (key : ℕ) (facts : List Fact) → counts_without key (fact_counts facts) ≡ fact_counts (filter (others key) facts)
+pub counts_without_order : (key : ℕ) (facts : List Fact)
+    → counts_without key (fact_counts facts) ≡ fact_counts (filter (others key) facts)
 counts_without_order key facts =
-    ap (λ l. counts_without key (fact_counts l)) (sym (facts_of_lines facts)) ∙ counts_without-fact_counts key (map line_of facts) ∙ ap fact_counts (facts_without key facts)
+    ap (λ l. counts_without key (fact_counts l)) (sym (facts_of_lines facts))
+    ∙ counts_without-fact_counts key (map line_of facts) ∙ ap fact_counts (facts_without key facts)

@@ -1,5 +1,45 @@
 -- What a write, a new place and a withdrawal do to the live lines.
-use Rattle.std.proofs.Common.{◌≡◌, ◌≢◌, ℕ, ◌+◌, ◌-◌, ◌<◌, ◌≤◌, Bool, true, false, cond, not, eqb, List, [], ◌∷◌, ◌++◌, length, map, fold, take, Option, Some, None, sym, refl, ap, ◌∙◌, subst, arith, zero, suc, set, get_or, length-append, inl, inr, ⊎_elim, ◌⊎◌}
+use Rattle.std.proofs.Common.{
+  ◌≡◌,
+  ◌≢◌,
+  ℕ,
+  ◌+◌,
+  ◌-◌,
+  ◌<◌,
+  ◌≤◌,
+  Bool,
+  true,
+  false,
+  cond,
+  not,
+  eqb,
+  List,
+  [],
+  ◌∷◌,
+  ◌++◌,
+  length,
+  map,
+  fold,
+  take,
+  Option,
+  Some,
+  None,
+  sym,
+  refl,
+  ap,
+  ◌∙◌,
+  subst,
+  arith,
+  zero,
+  suc,
+  set,
+  get_or,
+  length-append,
+  inl,
+  inr,
+  ⊎_elim,
+  ◌⊎◌,
+}
 use Rattle.std.specs.List.{filter, All}
 use Rattle.std.specs.FinMap as finite
 use Rattle.std.proofs.lemmas.List.{map-append, get_or_default, take_more}
@@ -13,7 +53,8 @@ use Rattle.ssb_schema.specs.declared.fact.Fact.{Fact}
 use Rattle.ssb_schema.specs.declared.refresh.Action.TheVariants.{Withdraw}
 use Rattle.row_store.specs.State.{Counts, with_fact, fact_counts, counts_after_action}
 use Rattle.fact_table.specs.declared.place.Place.{Place}
-use Rattle.fact_table.specs.Places.{is_live, freed, fact_at, live_facts, IsWithin}
+use Rattle.fact_table.specs.Places.{is_live, freed, fact_at, live_facts}
+use Rattle.fact_columns.specs.Classed.{IsPlaceOf}
 use Rattle.fact_columns.specs.Spans.{if_live, live_at, live_count, kept, is_of_other, Covers, Spanned}
 use Rattle.fact_columns.specs.Coded.{counts_at, with_places}
 use Rattle.fact_columns.specs.declared.span.Span.{Span}
@@ -28,7 +69,8 @@ abbrev front : Option Place → List Place → List Place
 front None lines = lines
 front (Some line) lines = line ∷ lines
 
-filter_front : (b : Bool) (line : Place) (lines : List Place) → cond b (line ∷ lines) lines ≡ front (cond b (Some line) None) lines
+filter_front : (b : Bool) (line : Place) (lines : List Place)
+    → cond b (line ∷ lines) lines ≡ front (cond b (Some line) None) lines
 filter_front true line lines = refl
 filter_front false line lines = refl
 
@@ -42,48 +84,65 @@ module _ (dimensions : Dimensions) where
   counted : Counts → List Place → Counts
   counted counts lines = fold with_fact counts (map (fact_at dimensions) lines)
 
-  after_front : (o : Option Place) (counts : Counts) (later lines : List Place) (line : Place) → ((m : Counts) → fold with_fact m (map (fact_at dimensions) later) ≡ with_fact (fold with_fact m (map (fact_at dimensions) lines)) (fact_at dimensions line))
-      → fold with_fact counts (map (fact_at dimensions) (front o later)) ≡ with_fact (fold with_fact counts (map (fact_at dimensions) (front o lines))) (fact_at dimensions line)
+  after_front : (o : Option Place) (counts : Counts) (later lines : List Place) (line : Place)
+      → ((m : Counts) → fold with_fact m (map (fact_at dimensions) later) ≡ with_fact
+      (fold with_fact m (map (fact_at dimensions) lines)) (fact_at dimensions line))
+      → fold with_fact counts (map (fact_at dimensions) (front o later)) ≡ with_fact
+      (fold with_fact counts (map (fact_at dimensions) (front o lines))) (fact_at dimensions line)
   after_front None counts later lines line rest = rest counts
   after_front (Some first) counts later lines line rest = rest (with_fact counts (fact_at dimensions first))
 
-  counts_written : (counts : Counts) (places : List Place) (place : ℕ) (line : Place) → place < length places → live_at places place ≡ None → is_live line ≡ true
-      → fold with_fact counts (map (fact_at dimensions) (lives (set places place line))) ≡ with_fact (fold with_fact counts (map (fact_at dimensions) (lives places))) (fact_at dimensions line)
+  counts_written : (counts : Counts) (places : List Place) (place : ℕ) (line : Place) → place < length places
+      → live_at places place ≡ None → is_live line ≡ true
+      → fold with_fact counts (map (fact_at dimensions) (lives (set places place line))) ≡ with_fact
+      (fold with_fact counts (map (fact_at dimensions) (lives places))) (fact_at dimensions line)
   counts_written counts [] place line within free live = absurd (omega (arith, within))
   counts_written counts (first ∷ places) zero line within free live =
-      ap (λ ls. fold with_fact counts (map (fact_at dimensions) ls)) (live_front line places ∙ ap (λ o. front o (lives places)) (if_live-true line live))
+      ap (λ ls. fold with_fact counts (map (fact_at dimensions) ls))
+      (live_front line places ∙ ap (λ o. front o (lives places)) (if_live-true line live))
       ∙ counted_last counts (fact_at dimensions line) (map (fact_at dimensions) (lives places))
-      ∙ ap (λ o. with_fact (fold with_fact counts (map (fact_at dimensions) (front o (lives places)))) (fact_at dimensions line)) (sym free)
-      ∙ ap (λ ls. with_fact (fold with_fact counts (map (fact_at dimensions) ls)) (fact_at dimensions line)) (sym (live_front first places))
+      ∙ ap (λ o. with_fact (fold with_fact counts (map (fact_at dimensions) (front o (lives places))))
+      (fact_at dimensions line)) (sym free)
+      ∙ ap (λ ls. with_fact (fold with_fact counts (map (fact_at dimensions) ls)) (fact_at dimensions line))
+      (sym (live_front first places))
   counts_written counts (first ∷ places) (suc place) line within free live =
       ap (λ ls. fold with_fact counts (map (fact_at dimensions) ls)) (live_front first (set places place line))
-      ∙ after_front (if_live first) counts (lives (set places place line)) (lives places) line (λ m. counts_written m places place line (omega (arith, within)) free live)
-      ∙ ap (λ ls. with_fact (fold with_fact counts (map (fact_at dimensions) ls)) (fact_at dimensions line)) (sym (live_front first places))
+      ∙ after_front (if_live first) counts (lives (set places place line)) (lives places) line
+      (λ m. counts_written m places place line (omega (arith, within)) free live)
+      ∙ ap (λ ls. with_fact (fold with_fact counts (map (fact_at dimensions) ls)) (fact_at dimensions line))
+      (sym (live_front first places))
 
 -- writing a line into a free place counts it
-pub written : (dimensions : Dimensions) (places : List Place) (place : ℕ) (line : Place) → place < length places → live_at places place ≡ None → is_live line ≡ true
+pub written : (dimensions : Dimensions) (places : List Place) (place : ℕ) (line : Place) → place < length places
+    → live_at places place ≡ None → is_live line ≡ true
     → counts_at dimensions (set places place line) ≡ with_fact (counts_at dimensions places) (fact_at dimensions line)
 written dimensions = counts_written dimensions finite.empty
 
 -- the live lines with one more at the end
-lives_pushed : (places : List Place) (line : Place) → is_live line ≡ true → lives (places ++ line ∷ []) ≡ lives places ++ line ∷ []
-lives_pushed places line live = filter-append is_live places (line ∷ []) ∙ ap (λ ls. lives places ++ ls) (live_front line [] ∙ ap (λ o. front o []) (if_live-true line live))
+lives_pushed : (places : List Place) (line : Place) → is_live line ≡ true → lives (places ++ line ∷ []) ≡ lives places
+    ++ line ∷ []
+lives_pushed places line live = filter-append is_live places (line ∷ [])
+    ∙ ap (λ ls. lives places ++ ls) (live_front line [] ∙ ap (λ o. front o []) (if_live-true line live))
 
 -- a line in a new place is counted
-pub pushed : (dimensions : Dimensions) (places : List Place) (line : Place) → is_live line ≡ true → counts_at dimensions (places ++ line ∷ []) ≡ with_fact (counts_at dimensions places) (fact_at dimensions line)
+pub pushed : (dimensions : Dimensions) (places : List Place) (line : Place) → is_live line ≡ true
+    → counts_at dimensions (places ++ line ∷ []) ≡ with_fact (counts_at dimensions places) (fact_at dimensions line)
 pushed dimensions places line live =
     ap (λ ls. fact_counts (map (fact_at dimensions) ls)) (lives_pushed places line live)
     ∙ ap fact_counts (map-append (fact_at dimensions) (lives places) (line ∷ []))
     ∙ fold-append with_fact finite.empty (map (fact_at dimensions) (lives places)) (fact_at dimensions line ∷ [])
 
-length_front : (o : Option Place) (later lines : List Place) → length later ≡ length lines + 1 → length (front o later) ≡ length (front o lines) + 1
+length_front : (o : Option Place) (later lines : List Place) → length later ≡ length lines + 1
+    → length (front o later) ≡ length (front o lines) + 1
 length_front None later lines is = is
 length_front (Some first) later lines is = omega (arith, is)
 
-pub count_pushed : (places : List Place) (line : Place) → is_live line ≡ true → live_count (places ++ line ∷ []) ≡ live_count places + 1
+pub count_pushed : (places : List Place) (line : Place) → is_live line ≡ true
+    → live_count (places ++ line ∷ []) ≡ live_count places + 1
 count_pushed places line live = ap length (lives_pushed places line live) ∙ length-append (lives places) (line ∷ [])
 
-pub count_written : (places : List Place) (place : ℕ) (line : Place) → place < length places → live_at places place ≡ None → is_live line ≡ true → live_count (set places place line) ≡ live_count places + 1
+pub count_written : (places : List Place) (place : ℕ) (line : Place) → place < length places
+    → live_at places place ≡ None → is_live line ≡ true → live_count (set places place line) ≡ live_count places + 1
 count_written [] place line within free live = absurd (omega (arith, within))
 count_written (first ∷ places) zero line within free live =
     ap length (live_front line places ∙ ap (λ o. front o (lives places)) (if_live-true line live))
@@ -95,10 +154,12 @@ count_written (first ∷ places) zero line within free live =
     one n = omega arith
 count_written (first ∷ places) (suc place) line within free live =
     ap length (live_front first (set places place line))
-    ∙ length_front (if_live first) (lives (set places place line)) (lives places) (count_written places place line (omega (arith, within)) free live)
+    ∙ length_front (if_live first) (lives (set places place line)) (lives places)
+    (count_written places place line (omega (arith, within)) free live)
     ∙ ap (λ ls. length ls + 1) (sym (live_front first places))
 
-cond_length : (b : Bool) (line : Place) (lines : List Place) (n : ℕ) → length lines ≤ n → length (cond b (line ∷ lines) lines) ≤ suc n
+cond_length : (b : Bool) (line : Place) (lines : List Place) (n : ℕ) → length lines ≤ n
+    → length (cond b (line ∷ lines) lines) ≤ suc n
 cond_length true line lines n few = omega (arith, few)
 cond_length false line lines n few = omega (arith, few)
 
@@ -111,7 +172,8 @@ live_few (first ∷ places) = cond_length (is_live first) first (lives places) (
 freed_dead : (line : Place) → if_live (freed line) ≡ None
 freed_dead line = refl
 
-pub count_freed : (places : List Place) (place : ℕ) (d line : Place) → live_at places place ≡ Some line → live_count places ≡ live_count (set places place (freed (get_or places place d))) + 1
+pub count_freed : (places : List Place) (place : ℕ) (d line : Place) → live_at places place ≡ Some line
+    → live_count places ≡ live_count (set places place (freed (get_or places place d))) + 1
 count_freed [] place d line live = absurd (cc)
 count_freed (first ∷ places) zero d line live =
     ap length (live_front first places)
@@ -123,15 +185,18 @@ count_freed (first ∷ places) zero d line live =
     one n = omega arith
 count_freed (first ∷ places) (suc place) d line live =
     ap length (live_front first places)
-    ∙ length_front (if_live first) (lives places) (lives (set places place (freed (get_or places place d)))) (count_freed places place d line live)
+    ∙ length_front (if_live first) (lives places) (lives (set places place (freed (get_or places place d))))
+    (count_freed places place d line live)
     ∙ ap (λ ls. length ls + 1) (sym (live_front first (set places place (freed (get_or places place d)))))
 
-kept_front : (test : Place → Bool) (o : Option Place) (lines : List Place) → filter test (front o lines) ≡ front (kept test o) (filter test lines)
+kept_front : (test : Place → Bool) (o : Option Place) (lines : List Place)
+    → filter test (front o lines) ≡ front (kept test o) (filter test lines)
 kept_front test None lines = refl
 kept_front test (Some line) lines = filter_front (test line) line (filter test lines)
 
 -- where each place keeps its line or loses it by a test, the live lines are those that pass
-kept_all : (test : Place → Bool) (places later : List Place) → length later ≡ length places → ((place : ℕ) → live_at later place ≡ kept test (live_at places place))
+kept_all : (test : Place → Bool) (places later : List Place) → length later ≡ length places
+    → ((place : ℕ) → live_at later place ≡ kept test (live_at places place))
     → lives later ≡ filter test (lives places)
 kept_all test [] [] same each = refl
 kept_all test [] (l ∷ later) same each = absurd (cc)
@@ -143,46 +208,60 @@ kept_all test (p ∷ places) (l ∷ later) same each =
     ∙ sym (kept_front test (if_live p) (lives places))
     ∙ ap (filter test) (sym (live_front p places))
 
-others_read : (dimensions : Dimensions) (key : ℕ) (lines : List Place) → map (fact_at dimensions) (filter (is_of_other key) lines) ≡ filter (λ (fact : Fact). not (eqb fact.order_key key)) (map (fact_at dimensions) lines)
+others_read : (dimensions : Dimensions) (key : ℕ) (lines : List Place)
+    → map (fact_at dimensions) (filter (is_of_other key) lines) ≡ filter (λ (fact : Fact). not (eqb fact.order_key key))
+    (map (fact_at dimensions) lines)
 others_read dimensions key [] = refl
-others_read dimensions key (line ∷ lines) = read (is_of_other key line) (filter (is_of_other key) lines) (filter (λ (fact : Fact). not (eqb fact.order_key key)) (map (fact_at dimensions) lines)) (others_read dimensions key lines)
+others_read dimensions key (line ∷ lines) = read (is_of_other key line) (filter (is_of_other key) lines)
+    (filter (λ (fact : Fact). not (eqb fact.order_key key)) (map (fact_at dimensions) lines))
+    (others_read dimensions key lines)
   where
-    read : (b : Bool) (xs : List Place) (ys : List Fact) → map (fact_at dimensions) xs ≡ ys → map (fact_at dimensions) (cond b (line ∷ xs) xs) ≡ cond b (fact_at dimensions line ∷ ys) ys
+    read : (b : Bool) (xs : List Place) (ys : List Fact) → map (fact_at dimensions) xs ≡ ys
+        → map (fact_at dimensions) (cond b (line ∷ xs) xs) ≡ cond b (fact_at dimensions line ∷ ys) ys
     read true xs ys is = ap (λ l. fact_at dimensions line ∷ l) is
     read false xs ys is = is
 
 -- freeing every live place of a key is a withdrawal
-pub withdrawn : (dimensions : Dimensions) (key : ℕ) (places later : List Place) → length later ≡ length places → ((place : ℕ) → live_at later place ≡ kept (is_of_other key) (live_at places place))
+pub withdrawn : (dimensions : Dimensions) (key : ℕ) (places later : List Place) → length later ≡ length places
+    → ((place : ℕ) → live_at later place ≡ kept (is_of_other key) (live_at places place))
     → counts_at dimensions later ≡ counts_after_action (counts_at dimensions places) (Withdraw key)
 withdrawn dimensions key places later same each =
     ap (λ ls. fact_counts (map (fact_at dimensions) ls)) (kept_all (is_of_other key) places later same each)
     ∙ ap fact_counts (others_read dimensions key (lives places))
     ∙ sym (counts_without_order key (live_facts dimensions places))
 
-pub live_at_written : (places : List Place) (place : ℕ) (line : Place) → place < length places → is_live line ≡ true → live_at (set places place line) place ≡ Some line
+pub live_at_written : (places : List Place) (place : ℕ) (line : Place) → place < length places → is_live line ≡ true
+    → live_at (set places place line) place ≡ Some line
 live_at_written [] place line within live = absurd (omega (arith, within))
 live_at_written (first ∷ places) zero line within live = if_live-true line live
-live_at_written (first ∷ places) (suc place) line within live = live_at_written places place line (omega (arith, within)) live
+live_at_written (first ∷ places) (suc place) line within live =
+    live_at_written places place line (omega (arith, within)) live
 
-pub live_at_set_other : (places : List Place) (place other : ℕ) (line : Place) → other ≢ place → live_at (set places place line) other ≡ live_at places other
+pub live_at_set_other : (places : List Place) (place other : ℕ) (line : Place) → other ≢ place
+    → live_at (set places place line) other ≡ live_at places other
 live_at_set_other [] place other line differ = refl
 live_at_set_other (first ∷ places) zero zero line differ = absurd (differ refl)
 live_at_set_other (first ∷ places) zero (suc other) line differ = refl
 live_at_set_other (first ∷ places) (suc place) zero line differ = refl
-live_at_set_other (first ∷ places) (suc place) (suc other) line differ = live_at_set_other places place other line (λ e. differ (ap suc e))
+live_at_set_other (first ∷ places) (suc place) (suc other) line differ =
+    live_at_set_other places place other line (λ e. differ (ap suc e))
 
-pub live_at_pushed : (places : List Place) (line : Place) → is_live line ≡ true → live_at (places ++ line ∷ []) (length places) ≡ Some line
+pub live_at_pushed : (places : List Place) (line : Place) → is_live line ≡ true
+    → live_at (places ++ line ∷ []) (length places) ≡ Some line
 live_at_pushed [] line live = if_live-true line live
 live_at_pushed (first ∷ places) line live = live_at_pushed places line live
 
-pub live_at_end : (places : List Place) (line : Place) (place : ℕ) → place ≡ length places → is_live line ≡ true → live_at (places ++ line ∷ []) place ≡ Some line
+pub live_at_end : (places : List Place) (line : Place) (place : ℕ) → place ≡ length places → is_live line ≡ true
+    → live_at (places ++ line ∷ []) place ≡ Some line
 live_at_end places line place is live = ap (live_at (places ++ line ∷ [])) is ∙ live_at_pushed places line live
 
-pub live_at_pushed_other : (places : List Place) (line : Place) (other : ℕ) → other ≢ length places → live_at (places ++ line ∷ []) other ≡ live_at places other
+pub live_at_pushed_other : (places : List Place) (line : Place) (other : ℕ) → other ≢ length places
+    → live_at (places ++ line ∷ []) other ≡ live_at places other
 live_at_pushed_other [] line zero differ = absurd (differ refl)
 live_at_pushed_other [] line (suc other) differ = refl
 live_at_pushed_other (first ∷ places) line zero differ = refl
-live_at_pushed_other (first ∷ places) line (suc other) differ = live_at_pushed_other places line other (λ e. differ (ap suc e))
+live_at_pushed_other (first ∷ places) line (suc other) differ =
+    live_at_pushed_other places line other (λ e. differ (ap suc e))
 
 -- nothing is live past the end
 pub live_at_past : (places : List Place) (place : ℕ) → length places ≤ place → live_at places place ≡ None
@@ -191,18 +270,21 @@ live_at_past (first ∷ places) zero past = absurd (omega (arith, past))
 live_at_past (first ∷ places) (suc place) past = live_at_past places place (omega (arith, past))
 
 -- and a live line is within
-pub live_within : (places : List Place) (place : ℕ) (line : Place) → live_at places place ≡ Some line → place < length places
+pub live_within : (places : List Place) (place : ℕ) (line : Place) → live_at places place ≡ Some line
+    → place < length places
 live_within [] place line live = absurd (cc)
 live_within (first ∷ places) zero line live = omega arith
 live_within (first ∷ places) (suc place) line live = omega (arith, live_within places place line live)
 
-pub live_at_freed : (places : List Place) (place : ℕ) (d : Place) → live_at (set places place (freed (get_or places place d))) place ≡ None
+pub live_at_freed : (places : List Place) (place : ℕ) (d : Place)
+    → live_at (set places place (freed (get_or places place d))) place ≡ None
 live_at_freed [] place d = refl
 live_at_freed (first ∷ places) zero d = refl
 live_at_freed (first ∷ places) (suc place) d = live_at_freed places place d
 
 -- a line of another order stays
-pub stays : (key : ℕ) (o : Option Place) → ((line : Place) → o ≡ Some line → line.order ≡ key → ⊥) → kept (is_of_other key) o ≡ o
+pub stays : (key : ℕ) (o : Option Place) → ((line : Place) → o ≡ Some line → line.order ≡ key → ⊥)
+    → kept (is_of_other key) o ≡ o
 stays key None other = refl
 stays key (Some line) other = step (eqb line.order key) refl
   where
@@ -211,29 +293,55 @@ stays key (Some line) other = step (eqb line.order key) refl
     step false is = refl
 
 -- a line of the order goes
-pub goes : (key : ℕ) (o : Option Place) → option_map (λ (line : Place). line.order) o ≡ Some key → kept (is_of_other key) o ≡ None
+pub goes : (key : ℕ) (o : Option Place) → option_map (λ (line : Place). line.order) o ≡ Some key
+    → kept (is_of_other key) o ≡ None
 goes key None there = refl
-goes key (Some line) there = ap (λ b. cond (not b) (Some line) None) (eq-eqb line.order key (same_Some line.order key there))
+goes key (Some line) there = ap (λ b. cond (not b) (Some line) None)
+    (eq-eqb line.order key (same_Some line.order key there))
 
-kept_some : (test : Place → Bool) (o : Option Place) (line : Place) → kept test o ≡ Some line → (o ≡ Some line) × (test line ≡ true)
+kept_some : (test : Place → Bool) (o : Option Place) (line : Place) → kept test o ≡ Some line → (o ≡ Some line)
+    × (test line ≡ true)
 kept_some test None line is = absurd (cc)
-kept_some test (Some first) line is = let both = cond_some (test first) first line is in (ap Some both.1, ap test (sym both.1) ∙ both.0)
+kept_some test (Some first) line is = let both = cond_some (test first) first line is in
+    (ap Some both.1, ap test (sym both.1) ∙ both.0)
 
 -- the span of a withdrawn order is not asked for
-pub spanned_withdrawn : (f g : ℕ → Option Span) (places later : List Place) (key : ℕ) → ((order i : ℕ) → (order ≡ key → ⊥) → Covers (f order) i → Covers (g order) i)
-    → ((place : ℕ) → live_at later place ≡ kept (is_of_other key) (live_at places place)) → Spanned f places → Spanned g later
+pub spanned_withdrawn : (f g : ℕ → Option Span) (places later : List Place) (key : ℕ)
+    → ((order i : ℕ) → (order ≡ key → ⊥) → Covers (f order) i → Covers (g order) i)
+    → ((place : ℕ) → live_at later place ≡ kept (is_of_other key) (live_at places place)) → Spanned f places
+    → Spanned g later
 spanned_withdrawn f g places later key grows gone each other found is =
     let both = kept_some (is_of_other key) (live_at places other) found (sym (gone other) ∙ is) in
-    grows found.order other (λ e. absurd (true_false (sym both.1 ∙ ap not (eq-eqb found.order key e)))) (each other found both.0)
+    grows found.order other (λ e. absurd (true_false (sym both.1 ∙ ap not (eq-eqb found.order key e))))
+    (each other found both.0)
   where
     true_false : true ≡ false → ⊥
     true_false e = absurd (cc)
 
-pub covered : (f : ℕ → Option Span) (places : List Place) (key : ℕ) → Spanned f places → (place : ℕ) (line : Place) → live_at places place ≡ Some line → line.order ≡ key → Covers (f key) place
+pub covered : (f : ℕ → Option Span) (places : List Place) (key : ℕ) → Spanned f places → (place : ℕ) (line : Place)
+    → live_at places place ≡ Some line → line.order ≡ key → Covers (f key) place
 covered f places key each place line is same = subst (λ k. Covers (f k) place) same (each place line is)
 
-pub within_freed : (dimensions : Dimensions) (place : Place) → IsWithin dimensions place → IsWithin dimensions (freed place)
-within_freed dimensions place is = record { customer = is.customer; supplier = is.supplier; part = is.part; date = is.date; quantity = omega arith; discount = omega arith; price = is.price; revenue = is.revenue; cost = is.cost }
+pub within_freed : (dimensions : Dimensions) (place : Place) → IsPlaceOf dimensions place
+    → IsPlaceOf dimensions (freed place)
+within_freed dimensions place is = record {
+  within = record {
+    customer = is.within.customer;
+    supplier = is.within.supplier;
+    part = is.within.part;
+    date = is.within.date;
+    quantity = omega arith;
+    discount = omega arith;
+    price = is.within.price;
+    revenue =
+        is.within.revenue;
+    cost = is.within.cost;
+  };
+  customer_class = is.customer_class;
+  supplier_class = is.supplier_class;
+  part_class = is.part_class;
+  date_class = is.date_class;
+}
 
 pub order : (m n : ℕ) → (m < n) ⊎ (n ≤ m)
 order m zero = inr (omega arith)
@@ -242,9 +350,12 @@ order (suc m) (suc n) = ⊎_elim (λ l. inl (omega (arith, l))) (λ l. inr (omeg
 
 -- so many places from the first on have lines of one order, and its span covers them
 pub spanned_put : (f g : ℕ → Option Span) (places later : List Place) (first key : ℕ) (lines : List Place)
-    → ((i : ℕ) (other : Place) → i < length lines → live_at later (first + i) ≡ Some (get_or lines i other)) → All (λ line. line.order ≡ key) lines
-    → ((place : ℕ) → place < first → live_at later place ≡ live_at places place) → ((place : ℕ) → first + length lines ≤ place → live_at later place ≡ live_at places place)
-    → ((place : ℕ) → first ≤ place → place < first + length lines → Covers (g key) place) → ((order place : ℕ) → Covers (f order) place → Covers (g order) place) → Spanned f places → Spanned g later
+    → ((i : ℕ) (other : Place) → i < length lines → live_at later (first + i) ≡ Some (get_or lines i other))
+    → All (λ line. line.order ≡ key) lines
+    → ((place : ℕ) → place < first → live_at later place ≡ live_at places place)
+    → ((place : ℕ) → first + length lines ≤ place → live_at later place ≡ live_at places place)
+    → ((place : ℕ) → first ≤ place → place < first + length lines → Covers (g key) place)
+    → ((order place : ℕ) → Covers (f order) place → Covers (g order) place) → Spanned f places → Spanned g later
 spanned_put f g places later first key lines mine alike below above own grows each place found is =
     ⊎_elim
     (λ lt. grows found.order place (each place found (sym (below place lt) ∙ is)))
@@ -253,7 +364,8 @@ spanned_put f g places later first key lines mine alike below above own grows ea
     let i : ℕ = place - first in
     let here : first + i ≡ place = omega (arith, from) in
     let inside : i < length lines = omega (arith, from, within) in
-    let line : get_or lines i found ≡ found = same_Some _ found (sym (mine i found inside) ∙ ap (live_at later) here ∙ is) in
+    let line : get_or lines i found ≡ found = same_Some _ found
+    (sym (mine i found inside) ∙ ap (live_at later) here ∙ is) in
     let same : found.order ≡ key = sym (ap (λ (p : Place). p.order) line) ∙ alike i found inside in
     subst (λ k. Covers (g k) place) (sym same) (own place from within))
     (λ past. grows found.order place (each place found (sym (above place past) ∙ is)))
@@ -261,42 +373,56 @@ spanned_put f g places later first key lines mine alike below above own grows ea
     (order place first)
 
 -- one line more is put
-pub mine_more : (places later : List Place) (first i : ℕ) (lines : List Place) (d : Place) → i < length lines → live_at later (first + i) ≡ Some (get_or lines i d)
-    → ((other : ℕ) → other ≢ first + i → live_at later other ≡ live_at places other) → ((k : ℕ) (o : Place) → k < i → live_at places (first + k) ≡ Some (get_or lines k o))
+pub mine_more : (places later : List Place) (first i : ℕ) (lines : List Place) (d : Place) → i < length lines
+    → live_at later (first + i) ≡ Some (get_or lines i d)
+    → ((other : ℕ) → other ≢ first + i → live_at later other ≡ live_at places other)
+    → ((k : ℕ) (o : Place) → k < i → live_at places (first + k) ≡ Some (get_or lines k o))
     → (k : ℕ) (o : Place) → k < i + 1 → live_at later (first + k) ≡ Some (get_or lines k o)
 mine_more places later first i lines d within here others mine k o lt =
     ⊎_elim
     (λ below. others (first + k) (λ e. omega (arith, below, e)) ∙ mine k o below)
     (λ from.
     let same : i ≡ k = omega (arith, from, lt) in
-    subst (λ j. live_at later (first + j) ≡ Some (get_or lines j o)) same (here ∙ ap Some (get_or_default lines i d o within)))
+    subst (λ j. live_at later (first + j) ≡ Some (get_or lines j o)) same
+    (here ∙ ap Some (get_or_default lines i d o within)))
     (order k i)
 
-pub with_more : (dimensions : Dimensions) (counts before after : Counts) (lines : List Place) (i : ℕ) (d : Place) → i < length lines → before ≡ with_places dimensions counts (take i lines)
-    → after ≡ with_fact before (fact_at dimensions (get_or lines i d)) → after ≡ with_places dimensions counts (take (i + 1) lines)
+pub with_more : (dimensions : Dimensions) (counts before after : Counts) (lines : List Place) (i : ℕ) (d : Place)
+    → i < length lines → before ≡ with_places dimensions counts (take i lines)
+    → after ≡ with_fact before (fact_at dimensions (get_or lines i d))
+    → after ≡ with_places dimensions counts (take (i + 1) lines)
 with_more dimensions counts before after lines i d within so_far now =
     let step : Counts → Place → Counts = λ m place. with_fact m (fact_at dimensions place) in
-    now ∙ ap (λ m. step m (get_or lines i d)) so_far ∙ sym (fold-append step counts (take i lines) (get_or lines i d ∷ [])) ∙ ap (fold step counts) (sym (take_more lines i d within))
+    now ∙ ap (λ m. step m (get_or lines i d)) so_far ∙ sym
+    (fold-append step counts (take i lines) (get_or lines i d ∷ []))
+    ∙ ap (fold step counts) (sym (take_more lines i d within))
 
 -- one place more is looked at
-pub gone_more : (key place : ℕ) (before mid later : List Place) → ((k : ℕ) → k < place → live_at mid k ≡ kept (is_of_other key) (live_at before k))
-    → ((k : ℕ) → place ≤ k → live_at mid k ≡ live_at before k) → live_at later place ≡ kept (is_of_other key) (live_at mid place) → ((k : ℕ) → k ≢ place → live_at later k ≡ live_at mid k)
+pub gone_more : (key place : ℕ) (before mid later : List Place)
+    → ((k : ℕ) → k < place → live_at mid k ≡ kept (is_of_other key) (live_at before k))
+    → ((k : ℕ) → place ≤ k → live_at mid k ≡ live_at before k)
+    → live_at later place ≡ kept (is_of_other key) (live_at mid place)
+    → ((k : ℕ) → k ≢ place → live_at later k ≡ live_at mid k)
     → (k : ℕ) → k < place + 1 → live_at later k ≡ kept (is_of_other key) (live_at before k)
 gone_more key place before mid later done left here others k lt =
     ⊎_elim
     (λ below. others k (λ e. omega (arith, below, e)) ∙ done k below)
     (λ from.
     let same : place ≡ k = omega (arith, from, lt) in
-    subst (λ j. live_at later j ≡ kept (is_of_other key) (live_at before j)) same (here ∙ ap (kept (is_of_other key)) (left place (omega arith))))
+    subst (λ j. live_at later j ≡ kept (is_of_other key) (live_at before j)) same
+    (here ∙ ap (kept (is_of_other key)) (left place (omega arith))))
     (order k place)
 
-pub is_of_key : (key : ℕ) (o : Option Place) → option_eq eqb (option_map (λ (line : Place). line.order) o) (Some key) ≡ true → option_map (λ (line : Place). line.order) o ≡ Some key
+pub is_of_key : (key : ℕ) (o : Option Place) → option_eq eqb (option_map (λ (line : Place). line.order) o)
+    (Some key) ≡ true → option_map (λ (line : Place). line.order) o ≡ Some key
 is_of_key key None is = absurd (cc)
 is_of_key key (Some line) is = ap Some (eqb-true line.order key is)
 
-pub is_of_none : (key : ℕ) (o : Option Place) → option_eq eqb (option_map (λ (line : Place). line.order) o) (Some key) ≡ false → (line : Place) → o ≡ Some line → line.order ≡ key → ⊥
+pub is_of_none : (key : ℕ) (o : Option Place) → option_eq eqb (option_map (λ (line : Place). line.order) o)
+    (Some key) ≡ false → (line : Place) → o ≡ Some line → line.order ≡ key → ⊥
 is_of_none key None is line at same = absurd (cc)
-is_of_none key (Some own) is line at same = apart (sym is ∙ eq-eqb own.order key (ap (λ (p : Place). p.order) (same_Some own line at) ∙ same))
+is_of_none key (Some own) is line at same = apart (sym is
+    ∙ eq-eqb own.order key (ap (λ (p : Place). p.order) (same_Some own line at) ∙ same))
   where
     apart : false ≡ true → ⊥
     apart e = absurd (cc)

@@ -7,19 +7,20 @@ use Rattle.ssb_schema.specs.declared.refresh.Action.TheVariants.{Add, Amend, Wit
 use Rattle.ssb_schema.specs.Orders.{order_key}
 use Rattle.row_store.specs.State.{Counts, with_fact, fact_counts}
 use Rattle.fact_table.specs.declared.place.Place.{Place}
-use Rattle.fact_table.specs.Places.{IsWithin, is_live, fact_at, live_facts}
+use Rattle.fact_table.specs.Places.{is_live, fact_at, live_facts}
+use Rattle.fact_columns.specs.Classed.{IsPlaceOf}
 
 -- the place is live, within the dimensions, and read back it is the fact
 pub record IsCodeOf (dimensions : Dimensions) (fact : Fact) (place : Place) : Type 0 where
   pub reads : fact_at dimensions place ≡ fact
   pub live : is_live place ≡ true
-  pub within : IsWithin dimensions place
+  pub within : IsPlaceOf dimensions place
 
 -- the places are live, within the dimensions, and read back they are the facts, in order
 pub record AreCodesOf (dimensions : Dimensions) (facts : List Fact) (places : List Place) : Type 0 where
   pub read : map (fact_at dimensions) places ≡ facts
   pub lives : All (λ place. is_live place ≡ true) places
-  pub inside : All (IsWithin dimensions) places
+  pub inside : All (IsPlaceOf dimensions) places
 
 -- how often each fact is live
 abbrev pub counts_at : Dimensions → List Place → Counts

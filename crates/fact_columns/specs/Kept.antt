@@ -1,7 +1,8 @@
 -- What the columns keep, so that a withdrawal finds every line of an order.
 use Rattle.std.specs.Prelude.{◌≡◌, ◌<◌, ◌^◌, nat_eq, All, length}
 use Rattle.std.specs.HashMap.{get}
-use Rattle.fact_table.specs.Places.{IsWithin, live_facts}
+use Rattle.fact_table.specs.Places.{live_facts}
+use Rattle.fact_columns.specs.Classed.{IsPlaceOf}
 use Rattle.fact_columns.specs.Spans.{Spanned, live_count}
 use Rattle.fact_columns.specs.Stored.{Stored}
 use Rattle.fact_columns.specs.declared.columns.Columns.TheInside.{Inside}
@@ -17,5 +18,5 @@ stored c = record {
 pub record AreKept (c : Inside) : Type 0 where
   pub spanned : Spanned (get nat_eq c.spans) c.table.places
   pub counted : c.rows ≡ live_count c.table.places
-  pub within : All (IsWithin c.index.value.dimensions) c.table.places
+  pub within : All (IsPlaceOf c.index.value.dimensions) c.table.places
   pub few : length c.table.places < 2 ^ 32

@@ -7,4 +7,5 @@ use Rattle.fact_columns.specs.Stored.{Stored, columns_state}
 
 -- the live facts are the lines after any history that the columns stand for, rearranged
 abbrev pub LiveFactsAreTheLines : Type 0
-LiveFactsAreTheLines = (c : Stored) (history : List CommitRecord) → StandsFor (columns_state c) history → IsPermutation c.facts (facts_of (lines_after c.base history))
+LiveFactsAreTheLines = (c : Stored) (history : List CommitRecord) → StandsFor (columns_state c) history
+    → IsPermutation c.facts (facts_of (lines_after c.base history))

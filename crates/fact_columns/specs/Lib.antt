@@ -1,3 +1,4 @@
+pub mod Classed
 pub mod Stored
 pub mod Spans
 pub mod Coded

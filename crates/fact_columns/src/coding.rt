@@ -38,6 +38,10 @@ pub fn coded(index: &DimIndex, line: &Line) -> Result<Place, AllocError>
         price: fact.price,
         revenue: fact.revenue,
         cost: fact.cost,
+        customer_class: index.class(Table::Customer, customer),
+        supplier_class: index.class(Table::Supplier, supplier),
+        part_class: index.class(Table::Part, part),
+        date_class: index.class(Table::Date, date),
     })
 }
 

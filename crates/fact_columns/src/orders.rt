@@ -6,7 +6,8 @@ ghost use Rattle.ssb_schema.specs.declared.refresh.Action.TheVariants.{Withdraw}
 ghost use Rattle.ssb_schema.specs.Facts.{facts_of};
 ghost use Rattle.row_store.specs.Lines.{added_by};
 ghost use Rattle.row_store.specs.State.{counts_after_action};
-ghost use Rattle.fact_table.specs.Places.{is_live, IsWithin};
+ghost use Rattle.fact_table.specs.Places.{is_live};
+ghost use Rattle.fact_columns.specs.Classed.{IsPlaceOf};
 ghost use Rattle.fact_columns.specs.Spans.{AreFree, Spanned, live_count};
 ghost use Rattle.fact_columns.specs.Coded.{AreCodesOf, counts_at, with_places, key_of};
 
@@ -32,8 +33,8 @@ fn put_order(table: &mut Table, spans: &mut Spans, first: usize, key: u64, lines
         → counts_at dimensions table.new.places
         ≡ with_places dimensions (counts_at dimensions table.old.places) lines.now }
     ensures count { live_count table.new.places ≡ live_count table.old.places + length lines.now }
-    ensures inside { (dimensions : Dimensions) → All (IsWithin dimensions) lines.now
-        → All (IsWithin dimensions) table.old.places → All (IsWithin dimensions) table.new.places }
+    ensures inside { (dimensions : Dimensions) → All (IsPlaceOf dimensions) lines.now
+        → All (IsPlaceOf dimensions) table.old.places → All (IsPlaceOf dimensions) table.new.places }
     ensures len { length table.new.places ≤ length table.old.places + length lines.now }
     ensures room { table.old.room ≤ table.new.room + length lines.now }
     ensures spare { spare spans.old ≤ spare spans.new + 1 }
@@ -57,8 +58,8 @@ fn take_order(table: &mut Table, spans: &mut Spans, key: u64) -> (Span, usize)
         → counts_at dimensions table.new.places
         ≡ counts_after_action (counts_at dimensions table.old.places) (Withdraw key) }
     ensures count { live_count table.old.places ≡ live_count table.new.places + result.1 }
-    ensures inside { (dimensions : Dimensions) → All (IsWithin dimensions) table.old.places
-        → All (IsWithin dimensions) table.new.places }
+    ensures inside { (dimensions : Dimensions) → All (IsPlaceOf dimensions) table.old.places
+        → All (IsPlaceOf dimensions) table.new.places }
     ensures len { length table.new.places ≡ length table.old.places }
     ensures room { table.new.room ≡ table.old.room }
     ensures spare { spare spans.old ≤ spare spans.new }
@@ -93,8 +94,8 @@ fn add(table: &mut Table, spans: &mut Spans, hints: &mut Hints, key: u64, lines:
         → counts_at dimensions table.new.places
         ≡ with_places dimensions (counts_at dimensions table.old.places) lines.now }
     ensures count { live_count table.new.places ≡ live_count table.old.places + length lines.now }
-    ensures inside { (dimensions : Dimensions) → All (IsWithin dimensions) lines.now
-        → All (IsWithin dimensions) table.old.places → All (IsWithin dimensions) table.new.places }
+    ensures inside { (dimensions : Dimensions) → All (IsPlaceOf dimensions) lines.now
+        → All (IsPlaceOf dimensions) table.old.places → All (IsPlaceOf dimensions) table.new.places }
     ensures len { length table.new.places ≤ length table.old.places + length lines.now }
     ensures room { table.old.room ≤ table.new.room + length lines.now }
     ensures spare { spare spans.old ≤ spare spans.new + 1 }
@@ -111,8 +112,8 @@ fn withdraw(table: &mut Table, spans: &mut Spans, hints: &mut Hints, key: u64) -
         → counts_at dimensions table.new.places
         ≡ counts_after_action (counts_at dimensions table.old.places) (Withdraw key) }
     ensures count { live_count table.old.places ≡ live_count table.new.places + result }
-    ensures inside { (dimensions : Dimensions) → All (IsWithin dimensions) table.old.places
-        → All (IsWithin dimensions) table.new.places }
+    ensures inside { (dimensions : Dimensions) → All (IsPlaceOf dimensions) table.old.places
+        → All (IsPlaceOf dimensions) table.new.places }
     ensures len { length table.new.places ≡ length table.old.places }
     ensures room { table.new.room ≡ table.old.room }
     ensures spare { spare spans.old ≤ spare spans.new }
@@ -141,8 +142,8 @@ fn act(
         → counts_at dimensions table.new.places
         ≡ counts_after_action (counts_at dimensions table.old.places) action.now }
     ensures count { live_count table.new.places + result ≡ live_count table.old.places + length lines.now }
-    ensures inside { (dimensions : Dimensions) → All (IsWithin dimensions) lines.now
-        → All (IsWithin dimensions) table.old.places → All (IsWithin dimensions) table.new.places }
+    ensures inside { (dimensions : Dimensions) → All (IsPlaceOf dimensions) lines.now
+        → All (IsPlaceOf dimensions) table.old.places → All (IsPlaceOf dimensions) table.new.places }
     ensures len { length table.new.places ≤ length table.old.places + length lines.now }
     ensures room { table.old.room ≤ table.new.room + length lines.now }
     ensures spare { spare spans.old ≤ spare spans.new + 1 }
@@ -181,8 +182,8 @@ pub fn act_all(
         → counts_at dimensions table.new.places
         ≡ fold counts_after_action (counts_at dimensions table.old.places) actions.now }
     ensures count { live_count table.new.places + result ≡ live_count table.old.places + length fresh.now }
-    ensures inside { (dimensions : Dimensions) → All (IsWithin dimensions) fresh.now
-        → All (IsWithin dimensions) table.old.places → All (IsWithin dimensions) table.new.places }
+    ensures inside { (dimensions : Dimensions) → All (IsPlaceOf dimensions) fresh.now
+        → All (IsPlaceOf dimensions) table.old.places → All (IsPlaceOf dimensions) table.new.places }
     ensures len { length table.new.places ≤ length table.old.places + length fresh.now }
 {
     let mut rest = fresh;

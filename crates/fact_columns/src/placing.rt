@@ -4,7 +4,8 @@ ghost use Rattle.std.specs.Prelude.{Some, None, slice_index_or, option_map};
 ghost use Rattle.ssb_schema.specs.Base.{Dimensions};
 ghost use Rattle.row_store.specs.State.{with_fact};
 ghost use Rattle.fact_table.specs.declared.place.Place.{Place as PlainPlace};
-ghost use Rattle.fact_table.specs.Places.{is_live, fact_at, IsWithin};
+ghost use Rattle.fact_table.specs.Places.{is_live, fact_at};
+ghost use Rattle.fact_columns.specs.Classed.{IsPlaceOf};
 ghost use Rattle.fact_columns.specs.Spans.{live_at, live_count, kept, is_of_other, AreFree};
 ghost use Rattle.fact_columns.specs.Coded.{counts_at, with_places};
 
@@ -56,8 +57,8 @@ fn put(table: &mut Table, place: usize, line: Place)
         → counts_at dimensions table.new.places
         ≡ with_fact (counts_at dimensions table.old.places) (fact_at dimensions line) }
     ensures count { live_count table.new.places ≡ live_count table.old.places + 1 }
-    ensures inside { (dimensions : Dimensions) → IsWithin dimensions line → All (IsWithin dimensions) table.old.places
-        → All (IsWithin dimensions) table.new.places }
+    ensures inside { (dimensions : Dimensions) → IsPlaceOf dimensions line → All (IsPlaceOf dimensions) table.old.places
+        → All (IsPlaceOf dimensions) table.new.places }
     ensures len { (length table.old.places ≤ length table.new.places)
         × (length table.new.places ≤ length table.old.places + 1) }
     ensures reach { place < length table.new.places }
@@ -86,8 +87,8 @@ pub fn put_all(table: &mut Table, first: usize, lines: &[Place])
         → counts_at dimensions table.new.places
         ≡ with_places dimensions (counts_at dimensions table.old.places) lines.now }
     ensures count { live_count table.new.places ≡ live_count table.old.places + length lines.now }
-    ensures inside { (dimensions : Dimensions) → All (IsWithin dimensions) lines.now
-        → All (IsWithin dimensions) table.old.places → All (IsWithin dimensions) table.new.places }
+    ensures inside { (dimensions : Dimensions) → All (IsPlaceOf dimensions) lines.now
+        → All (IsPlaceOf dimensions) table.old.places → All (IsPlaceOf dimensions) table.new.places }
     ensures len { (length table.old.places ≤ length table.new.places)
         × (length table.new.places ≤ length table.old.places + length lines.now) }
     ensures room { table.old.room ≤ table.new.room + length lines.now }
@@ -103,8 +104,8 @@ fn free(table: &mut Table, place: usize)
     ensures here { live_at table.new.places place ≡ None }
     ensures others { (other : ℕ) → other ≢ place → live_at table.new.places other ≡ live_at table.old.places other }
     ensures count { live_count table.old.places ≡ live_count table.new.places + 1 }
-    ensures inside { (dimensions : Dimensions) → All (IsWithin dimensions) table.old.places
-        → All (IsWithin dimensions) table.new.places }
+    ensures inside { (dimensions : Dimensions) → All (IsPlaceOf dimensions) table.old.places
+        → All (IsPlaceOf dimensions) table.new.places }
     ensures len { length table.new.places ≡ length table.old.places }
     ensures room { table.new.room ≡ table.old.room }
 {
@@ -118,8 +119,8 @@ pub fn free_order(table: &mut Table, key: u64, span: Span) -> usize
     ensures gone { (place : ℕ)
         → live_at table.new.places place ≡ kept (is_of_other key) (live_at table.old.places place) }
     ensures count { live_count table.old.places ≡ live_count table.new.places + result }
-    ensures inside { (dimensions : Dimensions) → All (IsWithin dimensions) table.old.places
-        → All (IsWithin dimensions) table.new.places }
+    ensures inside { (dimensions : Dimensions) → All (IsPlaceOf dimensions) table.old.places
+        → All (IsPlaceOf dimensions) table.new.places }
     ensures len { length table.new.places ≡ length table.old.places }
     ensures room { table.new.room ≡ table.old.room }
 {

@@ -133,6 +133,44 @@ fn a_withdrawn_place_is_used_again(rt: HostRuntime) -> Result<(), Fail> {
     Ok(())
 }
 
+// The classes of the customer, supplier, part and date of each place, live or free.
+fn classes(alloc: Global, columns: &Columns) -> Result<Vec<(u32, u32, u32, u32)>, Fail> {
+    let mut classes = Vec::new(alloc);
+    for i in 0..columns.places() {
+        let line = columns.at(i);
+        classes.push((
+            line.customer_class,
+            line.supplier_class,
+            line.part_class,
+            line.date_class,
+        ))?;
+    }
+    Ok(classes)
+}
+
+#[test]
+fn each_place_has_the_classes_of_its_rows(rt: HostRuntime) -> Result<(), Fail> {
+    let alloc = rt.alloc();
+    let mut columns = columns(&rt, alloc)?;
+    let loaded = classes(alloc, &columns)?;
+    let wanted = [(1, 1, 1, 0), (1, 1, 2, 0), (0, 0, 0, 3), (0, 1, 0, 3)];
+    assert_eq!(rt; loaded.as_slice(), wanted.as_slice());
+    assert_eq!(rt; columns.slices().customer, [1, 1, 0, 0].as_slice());
+    assert_eq!(rt; columns.slices().part, [1, 2, 0, 0].as_slice());
+    Ok(())
+}
+
+#[test]
+fn a_reused_place_has_the_classes_of_its_new_rows(rt: HostRuntime) -> Result<(), Fail> {
+    let alloc = rt.alloc();
+    let mut columns = columns(&rt, alloc)?;
+    take_all(alloc, &mut columns, &[WITHDRAW_ONE, ADD_NINE])?;
+    let reused = classes(alloc, &columns)?;
+    let wanted = [(0, 1, 0, 3), (1, 1, 2, 0), (0, 0, 0, 3), (0, 1, 0, 3)];
+    assert_eq!(rt; reused.as_slice(), wanted.as_slice());
+    Ok(())
+}
+
 #[test]
 fn an_amended_order_has_its_new_lines_alone(rt: HostRuntime) -> Result<(), Fail> {
     let alloc = rt.alloc();

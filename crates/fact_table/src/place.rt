@@ -19,6 +19,11 @@ pub struct Place {
     pub revenue: u32,
     /// LO_SUPPLYCOST.
     pub cost: u32,
+    /// Of each row its class, which a scan reads in place of its position: equal where no query tells rows apart.
+    pub customer_class: u32,
+    pub supplier_class: u32,
+    pub part_class: u32,
+    pub date_class: u32,
 }
 
 /// Quantity and discount in one code, `quantity * 16 + discount`, which spares the scan a look-up.

@@ -3,13 +3,13 @@
 /// The columns of a table that queries read, side by side: what stands at one index of each belongs to one place.
 #[derive(Clone, Copy, Debug)]
 pub struct Slices<'a> {
-    /// Positions of customers.
+    /// Classes of customers.
     pub customer: &'a [u32],
-    /// Positions of suppliers.
+    /// Classes of suppliers.
     pub supplier: &'a [u32],
-    /// Positions of parts.
+    /// Classes of parts.
     pub part: &'a [u32],
-    /// Positions of dates.
+    /// Classes of dates.
     pub date: &'a [u32],
     /// Codes of quantity and discount, below 16 where the place is free.
     pub terms: &'a [u16],

@@ -1,5 +1,6 @@
 //! The columns.
-ghost use Rattle.std.specs.Prelude.{◌≡◌, ◌+◌, ◌≤◌, ◌<◌, ◌++◌, [], ◌∷◌, length, set, slice_index_or, IfOk, OnErr, OnOk, ℕ};
+ghost use Rattle.std.specs.Prelude.{◌≡◌, ◌+◌, ◌≤◌, ◌<◌, ◌++◌, [], ◌∷◌, length, set, slice_index_or, IfOk, OnErr, OnOk};
+ghost use Rattle.std.specs.Prelude.{ℕ};
 ghost use Rattle.fact_table.specs.declared.place.Place.{Place as PlainPlace};
 ghost use Rattle.fact_table.specs.Columns.{Held, AreColumnsOf};
 ghost use Rattle.fact_table.specs.Places.{freed};
@@ -22,6 +23,10 @@ pub struct Table {
     price: Vec<u32>,
     revenue: Vec<u32>,
     cost: Vec<u32>,
+    customer_class: Vec<u32>,
+    supplier_class: Vec<u32>,
+    part_class: Vec<u32>,
+    date_class: Vec<u32>,
     // No column has memory for fewer.
     capacity: usize,
 }
@@ -51,6 +56,10 @@ impl Table {
             price: Vec::new(alloc),
             revenue: Vec::new(alloc),
             cost: Vec::new(alloc),
+            customer_class: Vec::new(alloc),
+            supplier_class: Vec::new(alloc),
+            part_class: Vec::new(alloc),
+            date_class: Vec::new(alloc),
             capacity: 0,
         }
     }
@@ -77,6 +86,10 @@ impl Table {
         self.price.reserve(count)?;
         self.revenue.reserve(count)?;
         self.cost.reserve(count)?;
+        self.customer_class.reserve(count)?;
+        self.supplier_class.reserve(count)?;
+        self.part_class.reserve(count)?;
+        self.date_class.reserve(count)?;
         self.capacity = self.order.len() + count;
         Ok(())
     }
@@ -97,6 +110,10 @@ impl Table {
             price: self.price[place],
             revenue: self.revenue[place],
             cost: self.cost[place],
+            customer_class: self.customer_class[place],
+            supplier_class: self.supplier_class[place],
+            part_class: self.part_class[place],
+            date_class: self.date_class[place],
         }
     }
 
@@ -116,13 +133,18 @@ impl Table {
         self.price[place] = with.price;
         self.revenue[place] = with.revenue;
         self.cost[place] = with.cost;
+        self.customer_class[place] = with.customer_class;
+        self.supplier_class[place] = with.supplier_class;
+        self.part_class[place] = with.part_class;
+        self.date_class[place] = with.date_class;
     }
 
     /// Frees a place.
     #[inline(always)]
     pub fn free(&mut self, place: usize)
         requires { place < length self.old.places }
-        ensures places { (other : PlainPlace) → self.new.places ≡ set self.old.places place (freed (slice_index_or self.old.places place other)) }
+        ensures places { (other : PlainPlace) → self.new.places ≡ set self.old.places place
+            (freed (slice_index_or self.old.places place other)) }
         ensures room { self.new.room ≡ self.old.room }
     {
         self.terms[place] = 0;
@@ -144,6 +166,10 @@ impl Table {
         self.price.push_reserved(with.price);
         self.revenue.push_reserved(with.revenue);
         self.cost.push_reserved(with.cost);
+        self.customer_class.push_reserved(with.customer_class);
+        self.supplier_class.push_reserved(with.supplier_class);
+        self.part_class.push_reserved(with.part_class);
+        self.date_class.push_reserved(with.date_class);
     }
 
     /// The columns that queries read.
@@ -151,10 +177,10 @@ impl Table {
         ensures { AreColumnsOf self.now.places result }
     {
         Slices {
-            customer: self.customer.as_slice(),
-            supplier: self.supplier.as_slice(),
-            part: self.part.as_slice(),
-            date: self.date.as_slice(),
+            customer: self.customer_class.as_slice(),
+            supplier: self.supplier_class.as_slice(),
+            part: self.part_class.as_slice(),
+            date: self.date_class.as_slice(),
             terms: self.terms.as_slice(),
             price: self.price.as_slice(),
             revenue: self.revenue.as_slice(),
@@ -177,6 +203,10 @@ impl Table {
             price: self.price.to_vec(alloc)?,
             revenue: self.revenue.to_vec(alloc)?,
             cost: self.cost.to_vec(alloc)?,
+            customer_class: self.customer_class.to_vec(alloc)?,
+            supplier_class: self.supplier_class.to_vec(alloc)?,
+            part_class: self.part_class.to_vec(alloc)?,
+            date_class: self.date_class.to_vec(alloc)?,
             capacity: self.order.len(),
         })
     }

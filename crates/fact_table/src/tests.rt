@@ -14,6 +14,10 @@ const CHINA: Place = Place {
     price: 1000,
     revenue: 970,
     cost: 600,
+    customer_class: 2,
+    supplier_class: 3,
+    part_class: 7,
+    date_class: 0,
 };
 
 const EUROPE: Place = Place {
@@ -26,6 +30,10 @@ const EUROPE: Place = Place {
     price: 500,
     revenue: 501,
     cost: 700,
+    customer_class: 4,
+    supplier_class: 1,
+    part_class: 5,
+    date_class: 3,
 };
 
 const AMERICA: Place = Place {
@@ -38,14 +46,18 @@ const AMERICA: Place = Place {
     price: 800,
     revenue: 760,
     cost: 100,
+    customer_class: 6,
+    supplier_class: 8,
+    part_class: 2,
+    date_class: 1,
 };
 
 // Whether the place stands at the index of each column that queries read.
 fn stands_at(slices: &Slices<'_>, index: usize, place: &Place) -> bool {
-    slices.customer.get(index) == Some(&place.customer)
-        && slices.supplier.get(index) == Some(&place.supplier)
-        && slices.part.get(index) == Some(&place.part)
-        && slices.date.get(index) == Some(&place.date)
+    slices.customer.get(index) == Some(&place.customer_class)
+        && slices.supplier.get(index) == Some(&place.supplier_class)
+        && slices.part.get(index) == Some(&place.part_class)
+        && slices.date.get(index) == Some(&place.date_class)
         && slices.terms.get(index) == Some(&place.terms)
         && slices.price.get(index) == Some(&place.price)
         && slices.revenue.get(index) == Some(&place.revenue)

@@ -1,5 +1,31 @@
 -- What the last state of the table says of its slots, where one seat took in all others.
-use Rattle.std.proofs.Common.{◌≡◌, ◌≢◌, ℕ, ◌+◌, ◌-◌, ◌<◌, ◌≤◌, Bool, true, false, List, length, Option, Some, None, refl, ap, sym, ◌∙◌, ⊎_elim, arith, set, slice_index_or, get_or-set_same, get_or-set_other}
+use Rattle.std.proofs.Common.{
+  ◌≡◌,
+  ◌≢◌,
+  ℕ,
+  ◌+◌,
+  ◌-◌,
+  ◌<◌,
+  ◌≤◌,
+  Bool,
+  true,
+  false,
+  List,
+  length,
+  Option,
+  Some,
+  None,
+  refl,
+  ap,
+  sym,
+  ◌∙◌,
+  ⊎_elim,
+  arith,
+  set,
+  slice_index_or,
+  get_or-set_same,
+  get_or-set_other,
+}
 use Rattle.std.proofs.lemmas.Bool.Decides.{nat_tests}
 use Rattle.std.specs.Prelude.{nat_lt}
 use mathlib.Core.Option.{some}
@@ -29,11 +55,16 @@ pub who_same : (clients a b : ℕ) → who_at clients a ≡ who_at clients b →
 who_same clients a b e = go (nat_lt a clients) (nat_lt b clients) refl refl
   where
     go : (x y : Bool) → nat_lt a clients ≡ x → nat_lt b clients ≡ y → a ≡ b
-    go true true low low' = let same : Client (a + 1) ≡ Client (b + 1) = sym (rw low refl) ∙ (e ∙ rw low' refl) in let k : a + 1 ≡ b + 1 = cc same in omega arith
-    go true false low high = let same : Client (a + 1) ≡ Dispatcher ((b - clients) + 1) = sym (rw low refl) ∙ (e ∙ rw high refl) in absurd (cc same)
-    go false true high low = let same : Dispatcher ((a - clients) + 1) ≡ Client (b + 1) = sym (rw high refl) ∙ (e ∙ rw low refl) in absurd (cc same)
-    go false false high high' = let same : Dispatcher ((a - clients) + 1) ≡ Dispatcher ((b - clients) + 1) = sym (rw high refl) ∙ (e ∙ rw high' refl) in let k : (a - clients) + 1 ≡ (b - clients) + 1 = cc same in
-        let far : clients ≤ a = grind (arith, nat_tests) in let far' : clients ≤ b = grind (arith, nat_tests) in omega arith
+    go true true low low' = let same : Client (a + 1) ≡ Client (b + 1) = sym (rw low refl) ∙ (e ∙ rw low' refl) in
+        let k : a + 1 ≡ b + 1 = cc same in omega arith
+    go true false low high = let same : Client (a + 1) ≡ Dispatcher ((b - clients) + 1) =
+        sym (rw low refl) ∙ (e ∙ rw high refl) in absurd (cc same)
+    go false true high low = let same : Dispatcher ((a - clients) + 1) ≡ Client (b + 1) =
+        sym (rw high refl) ∙ (e ∙ rw low refl) in absurd (cc same)
+    go false false high high' = let same : Dispatcher ((a - clients) + 1) ≡ Dispatcher ((b - clients) + 1) =
+        sym (rw high refl) ∙ (e ∙ rw high' refl) in let k : (a - clients) + 1 ≡ (b - clients) + 1 = cc same in
+        let far : clients ≤ a = grind (arith, nat_tests) in let far' : clients ≤ b = grind (arith, nat_tests) in
+        omega arith
 
 -- what is known of each member that is among those of the closing seat
 record Among (w : World) (m : Member) : Type 0 where
@@ -52,14 +83,27 @@ abbrev pub HoldsNothing : View → Type 0
 HoldsNothing v = (v.holds_rows ≡ false) × (v.holds_writer ≡ false) × (v.asked ≡ None)
 
 module _ {W : Type 0} (base_of : W → Tables) (taken : W → List CommitRecord) (key : Terms) where
-  among : (homes : Homes W) (w : World) (owner : ℕ → ℕ) (id place : ℕ) (v : View) → TokenKnows key homes w owner id v place → HoldsNothing v → (k : ℕ) (m : Member) → get_elem? (members_of v) k ≡ some m → Among w m
+  among : (homes : Homes W) (w : World) (owner : ℕ → ℕ) (id place : ℕ) (v : View)
+      → TokenKnows key homes w owner id v place → HoldsNothing v → (k : ℕ) (m : Member)
+      → get_elem? (members_of v) k ≡ some m → Among w m
   among homes w owner id place v known nothing k m at = ⊎_elim
-      (λ (t : (k < length v.gathered) × (get_elem? v.gathered k ≡ some m)). let h = known.gathered k m t.1 in record { place = h.place; member = h.member; free = h.free; idle = h.idle; quiet = h.quiet })
-      (λ (t : (k ≡ length v.gathered) × (v.member ≡ m)). record { place = place; member = known.member ∙ ap some t.1; free = known.free nothing.0; idle = known.idle nothing.1; quiet = λ box there. sym (known.asked box there) ∙ nothing.2 })
+      (λ (t : (k < length v.gathered) × (get_elem? v.gathered k ≡ some m)). let h = known.gathered k m t.1 in
+      record { place = h.place; member = h.member; free = h.free; idle = h.idle; quiet = h.quiet })
+      (λ (t : (k ≡ length v.gathered) × (v.member ≡ m)).
+      record {
+        place = place;
+        member = known.member ∙ ap some t.1;
+        free = known.free nothing.0;
+        idle = known.idle nothing.1;
+        quiet = λ box there. sym (known.asked box there) ∙ nothing.2;
+      })
       (at_end v.gathered v.member m k at)
 
-  pub ends : (id place : ℕ) (v : View) (words : List ℕ) (slots : List (Slot W)) → Final (Seen (ShowsWorld base_of taken key) id v) words slots → v.role ≡ Seat place → HoldsNothing v → AreAll key (members_of v)
-      → (log : List CommitRecord) × (get_elem? slots 0 ≡ some (rows key.base log)) × IsClosed key (members_of v) (store key.base log)
+  pub ends : (id place : ℕ) (v : View) (words : List ℕ) (slots : List (Slot W))
+      → Final (Seen (ShowsWorld base_of taken key) id v) words slots → v.role ≡ Seat place → HoldsNothing v
+      → AreAll key (members_of v)
+      → (log : List CommitRecord) × (get_elem? slots 0 ≡ some (rows key.base log))
+      × IsClosed key (members_of v) (store key.base log)
   ends id place v words slots last is nothing all = (
     w.history,
     last.4 0 (rows key.base w.history) (sh.rows.home home),
@@ -67,8 +111,10 @@ module _ {W : Type 0} (base_of : W → Tables) (taken : W → List CommitRecord)
       base = refl;
       legal = kept.legal;
       named = kept.named;
-      seen = λ k m at. let a = among s.homes w sh.owner id place v known nothing k m at in (kept.members a.place m a.member).begins;
-      owns = λ k m at. let a = among s.homes w sh.owner id place v known nothing k m at in (kept.members a.place m a.member).owns;
+      seen = λ k m at. let a = among s.homes w sh.owner id place v known nothing k m at in
+          (kept.members a.place m a.member).begins;
+      owns = λ k m at. let a = among s.homes w sh.owner id place v known nothing k m at in
+          (kept.members a.place m a.member).owns;
       has_run = record {
         events = last.1.0.0;
         world = w;
@@ -77,7 +123,12 @@ module _ {W : Type 0} (base_of : W → Tables) (taken : W → List CommitRecord)
         rows = home;
         writer = writer_home;
         mail = all_empty;
-        did = λ k m at. let a = among s.homes w sh.owner id place v known nothing k m at in (a.place, (kept.members a.place m a.member).is, a.member, did_all key last.1.0.0 w last.1.0.2 a.place m a.member);
+        did = λ k m at. let a = among s.homes w sh.owner id place v known nothing k m at in (
+          a.place,
+          (kept.members a.place m a.member).is,
+          a.member,
+          did_all key last.1.0.0 w last.1.0.2 a.place m a.member,
+        );
       };
     },
   )
@@ -99,21 +150,26 @@ module _ {W : Type 0} (base_of : W → Tables) (taken : W → List CommitRecord)
 
       -- each place is that of a member that was handed in
       found : (p : ℕ) → p < key.clients + key.dispatchers → (m : Member) × (a : Among w m) × (a.place ≡ p)
-      found p within = let there = all p within in let a = among s.homes w sh.owner id place v known nothing there.0 there.1 there.2 in
+      found p within = let there = all p within in let a =
+          among s.homes w sh.owner id place v known nothing there.0 there.1 there.2 in
           (there.1, a, who_same key.clients a.place p (sym (kept.members a.place there.1 a.member).is ∙ there.3))
 
       home : w.rows ≡ None
       home = out_of_hands w.rows (λ p e. let f = found p (kept.held p e) in f.1.free (e ∙ ap (λ n. Some n) (sym f.2)))
 
       writer_home : w.writer ≡ None
-      writer_home = out_of_hands w.writer (λ p e. let f = found p (kept.writer_held p e) in f.1.idle (e ∙ ap (λ n. Some n) (sym f.2)))
+      writer_home = out_of_hands w.writer (λ p e. let f = found p (kept.writer_held p e) in
+          f.1.idle (e ∙ ap (λ n. Some n) (sym f.2)))
 
       all_empty : (client : ℕ) (box : Mailbox) → get_elem? w.mailboxes client ≡ some box → box ≡ empty
-      all_empty client box at = let within = in_range w.mailboxes client box at in let count = sh.box_count in let f = found client (omega (arith, within, count)) in
+      all_empty client box at = let within = in_range w.mailboxes client box at in let count = sh.box_count in let f =
+          found client (omega (arith, within, count)) in
           only_empty box (f.1.quiet box (ap (get_elem? w.mailboxes) f.2 ∙ at))
 
 -- a row of slots is empty below a place and full from it on
-module _ (filled : List Bool) (i n : ℕ) (within : i < length filled) (full : (k : ℕ) → i ≤ k → k < n → slice_index_or filled k false ≡ true) (bare : (k : ℕ) → k < i → slice_index_or filled k false ≡ false) where
+module _ (filled : List Bool) (i n : ℕ) (within : i < length filled)
+    (full : (k : ℕ) → i ≤ k → k < n → slice_index_or filled k false ≡ true)
+    (bare : (k : ℕ) → k < i → slice_index_or filled k false ≡ false) where
   pub still_full : (k : ℕ) → i + 1 ≤ k → k < n → slice_index_or (set filled i false) k false ≡ true
   still_full k le lt = get_or-set_other filled i k false false (λ e. omega arith) ∙ full k (omega arith) lt
 

@@ -20,17 +20,32 @@ use Rattle.history.specs.declared.request.Grabbed.{Grabbed}
 use Rattle.history.specs.Words.{store, request}
 use Rattle.std.proofs.lemmas.Bool.Decides.{nat_tests}
 use Rattle.history.specs.World.{number_of}
-use Rattle.history.specs.Tokens.{Hall, Token, new_token, new_clients, new_dispatchers, Took, MayPut, Put, gave_back, committed}
+use Rattle.history.specs.Tokens.{
+  Hall,
+  Token,
+  new_token,
+  new_clients,
+  new_dispatchers,
+  Took,
+  MayPut,
+  Put,
+  gave_back,
+  committed,
+}
 use Rattle.history.specs.Tokens.{request_of, without, Grabs, MayAnswer, Collected}
 use Rattle.history.specs.Closing.{IsClientOf, IsDispatcherOf, AreClients, AreDispatchers}
 
 pub fresh_clients : (hall : Hall) → All (IsClientOf hall) (new_clients hall)
-fresh_clients hall k d low = let f : ℕ → Token = λ number. new_token hall (Client number) in let long = length-map-range_with_len f 1 hall.clients in
-    subst (IsClientOf hall) (sym (get_or-map-range_with_len f 1 hall.clients k (k + 1) d (omega (arith, low, long)) (omega arith))) record { hall_is = refl; client = (k + 1, refl); rows = refl; quiet = refl }
+fresh_clients hall k d low = let f : ℕ → Token = λ number. new_token hall (Client number) in let long =
+    length-map-range_with_len f 1 hall.clients in
+    subst (IsClientOf hall) (sym (get_or-map-range_with_len f 1 hall.clients k (k + 1) d (omega (arith, low, long))
+    (omega arith))) record { hall_is = refl; client = (k + 1, refl); rows = refl; quiet = refl }
 
 pub fresh_dispatchers : (hall : Hall) → All (IsDispatcherOf hall) (new_dispatchers hall)
-fresh_dispatchers hall k d low = let f : ℕ → Token = λ number. new_token hall (Dispatcher number) in let long = length-map-range_with_len f 1 hall.dispatchers in
-    subst (IsDispatcherOf hall) (sym (get_or-map-range_with_len f 1 hall.dispatchers k (k + 1) d (omega (arith, low, long)) (omega arith)))
+fresh_dispatchers hall k d low = let f : ℕ → Token = λ number. new_token hall (Dispatcher number) in let long =
+    length-map-range_with_len f 1 hall.dispatchers in
+    subst (IsDispatcherOf hall) (sym (get_or-map-range_with_len f 1 hall.dispatchers k (k + 1) d
+    (omega (arith, low, long)) (omega arith)))
     record { hall_is = refl; dispatcher = (k + 1, refl); free = record { rows = refl; writer = refl; hand = refl } }
 
 -- how often a number is among these
@@ -51,76 +66,136 @@ two_each a b x y (suc zero) low = λ i. often 2 (x i ∷ y i ∷ [])
 two_each a b x y (suc (suc more)) low = absurd (omega arith)
 
 pub three_clients : (hall : Hall) (a b c : Token) (items : List Token) → items ≡ a ∷ b ∷ c ∷ [] → hall.clients ≡ 3
-    → IsClientOf hall a × (a.who ≡ Client 2) → IsClientOf hall b × (b.who ≡ Client 3) → IsClientOf hall c × (c.who ≡ Client 1) → AreClients hall items
+    → IsClientOf hall a × (a.who ≡ Client 2) → IsClientOf hall b × (b.who ≡ Client 3) → IsClientOf hall c
+    × (c.who ≡ Client 1) → AreClients hall items
 three_clients hall a b c items are three x y z = subst (AreClients hall) (sym are) record {
-  numbered = record { count_is = sym three; each = λ before low. three_each a b c x.1 y.1 z.1 before (subst (λ n. before < n) three low) };
-  left = All-cons (IsClientOf hall) a (b ∷ c ∷ []) x.0 (All-cons (IsClientOf hall) b (c ∷ []) y.0 (All-cons (IsClientOf hall) c [] z.0 (All-nil (IsClientOf hall))));
+  numbered = record {
+    count_is = sym three;
+    each = λ before low. three_each a b c x.1 y.1 z.1 before
+        (subst (λ n. before < n) three low);
+  };
+  left = All-cons (IsClientOf hall) a (b ∷ c ∷ []) x.0
+      (All-cons (IsClientOf hall) b (c ∷ []) y.0 (All-cons (IsClientOf hall) c [] z.0 (All-nil (IsClientOf hall))));
 }
 
 pub two_dispatchers : (hall : Hall) (a b : Token) (items : List Token) → items ≡ a ∷ b ∷ [] → hall.dispatchers ≡ 2
-    → IsDispatcherOf hall a × (a.who ≡ Dispatcher 2) → IsDispatcherOf hall b × (b.who ≡ Dispatcher 1) → AreDispatchers hall items
+    → IsDispatcherOf hall a × (a.who ≡ Dispatcher 2) → IsDispatcherOf hall b × (b.who ≡ Dispatcher 1)
+    → AreDispatchers hall items
 two_dispatchers hall a b items are two x y = subst (AreDispatchers hall) (sym are) record {
-  numbered = record { count_is = sym two; each = λ before low. two_each a b x.1 y.1 before (subst (λ n. before < n) two low) };
-  left = All-cons (IsDispatcherOf hall) a (b ∷ []) x.0 (All-cons (IsDispatcherOf hall) b [] y.0 (All-nil (IsDispatcherOf hall)));
+  numbered = record {
+    count_is = sym two;
+    each = λ before low. two_each a b x.1 y.1 before
+        (subst (λ n. before < n) two low);
+  };
+  left = All-cons (IsDispatcherOf hall) a (b ∷ []) x.0
+      (All-cons (IsDispatcherOf hall) b [] y.0 (All-nil (IsDispatcherOf hall)));
 }
 
 -- the store after a refresh of the pass's client may be put back
-pub may_put : (t : Token) (client : ℕ) (actions : List Action) (rows after : Warehouse) (result : Result Receipt ApplyError) → t.who ≡ Client client → rows ≡ store t.hall.base t.seen
-    → OnOk result (refusal_of rows.base rows.log actions ≡ None) → OnOk result (after ≡ with_commit rows record { client = client; actions = actions }) → OnErr result (after ≡ rows) → MayPut t after
+pub may_put : (t : Token) (client : ℕ) (actions : List Action) (rows after : Warehouse)
+    (result : Result Receipt ApplyError) → t.who ≡ Client client → rows ≡ store t.hall.base t.seen
+    → OnOk result (refusal_of rows.base rows.log actions ≡ None)
+    → OnOk result (after ≡ with_commit rows record { client = client; actions = actions })
+    → OnErr result (after ≡ rows) → MayPut t after
 may_put t client actions rows after (Ok receipt) who is accepted log same = (
   ap (λ (w : Warehouse). w.base) (log ∙ ap (λ w. with_commit w record { client = client; actions = actions }) is),
-  inr (record { client = client; actions = actions }, who, (λ i. refusal_of (sym is i).base (sym is i).log actions) ∙ accepted, ap (λ (w : Warehouse). w.log) (log ∙ ap (λ w. with_commit w record { client = client; actions = actions }) is)),
+  inr (
+    record { client = client; actions = actions },
+    who,
+    (λ i. refusal_of (sym is i).base (sym is i).log actions)
+        ∙ accepted,
+    ap (λ (w : Warehouse). w.log) (log ∙ ap
+        (λ w. with_commit w record { client = client; actions = actions }) is),
+  ),
 )
-may_put t client actions rows after (Err error) who is accepted log same = (ap (λ (w : Warehouse). w.base) (same ∙ is), inl (ap (λ (w : Warehouse). w.log) (same ∙ is)))
+may_put t client actions rows after (Err error) who is accepted log same =
+    (ap (λ (w : Warehouse). w.base) (same ∙ is), inl (ap (λ (w : Warehouse). w.log) (same ∙ is)))
 
 -- a client's token holds nothing where the rows came back
-rests : (hall : Hall) (t u : Token) (client : ℕ) (after : Warehouse) → t.hall ≡ hall → t.who ≡ Client client → t.asked ≡ None → MayPut t after → Put t after u → IsClientOf hall u × (u.who ≡ Client client)
+rests : (hall : Hall) (t u : Token) (client : ℕ) (after : Warehouse) → t.hall ≡ hall → t.who ≡ Client client
+    → t.asked ≡ None → MayPut t after → Put t after u → IsClientOf hall u × (u.who ≡ Client client)
 rests hall t u client after here who quiet may put = ⊎_elim
     (λ (same : after.log ≡ t.seen). holds (gave_back t) refl refl refl refl (put.0 same))
-    (λ (more : (commit : CommitRecord) × (t.who ≡ Client commit.client) × (refusal_of t.hall.base t.seen commit.actions ≡ None) × (after.log ≡ t.seen ++ commit ∷ [])).
+    (λ (more : (commit : CommitRecord) × (t.who ≡ Client commit.client)
+    × (refusal_of t.hall.base t.seen commit.actions ≡ None) × (after.log ≡ t.seen ++ commit ∷ [])).
     holds (committed t more.0) refl refl refl refl (put.1 more.0 more.3))
     may.1
   where
-    holds : (x : Token) → x.hall ≡ t.hall → x.who ≡ t.who → x.asked ≡ t.asked → x.has_rows ≡ false → u ≡ x → IsClientOf hall u × (u.who ≡ Client client)
+    holds : (x : Token) → x.hall ≡ t.hall → x.who ≡ t.who → x.asked ≡ t.asked → x.has_rows ≡ false → u ≡ x
+        → IsClientOf hall u × (u.who ≡ Client client)
     holds x h w a r e = let name : u.who ≡ Client client = ap (λ (y : Token). y.who) e ∙ (w ∙ who) in (
-      record { hall_is = ap (λ (y : Token). y.hall) e ∙ (h ∙ here); client = (client, name); rows = ap (λ (y : Token). y.has_rows) e ∙ r; quiet = ap (λ (y : Token). y.asked) e ∙ (a ∙ quiet) },
+      record {
+        hall_is = ap (λ (y : Token). y.hall) e ∙ (h ∙ here);
+        client = (client, name);
+        rows = ap (λ (y : Token). y.has_rows) e ∙ r;
+        quiet = ap (λ (y : Token). y.asked) e ∙ (a ∙ quiet);
+      },
       name,
     )
 
 -- after a refresh of its client
-pub refreshed : (hall : Hall) (before t u : Token) (client : ℕ) (actions : List Action) (rows after : Warehouse) (result : Result Receipt ApplyError) → IsClientOf hall before → before.who ≡ Client client → Took before t → rows ≡ store t.hall.base t.seen
-    → OnOk result (refusal_of rows.base rows.log actions ≡ None) → OnOk result (after ≡ with_commit rows record { client = client; actions = actions }) → OnErr result (after ≡ rows) → Put t after u → IsClientOf hall u × (u.who ≡ Client client)
-refreshed hall before t u client actions rows after result is who took are accepted log same put = let name : t.who ≡ Client client = ap (λ (x : Token). x.who) took.now ∙ who in
-    rests hall t u client after (ap (λ (x : Token). x.hall) took.now ∙ is.hall_is) name (ap (λ (x : Token). x.asked) took.now ∙ is.quiet) (may_put t client actions rows after result name are accepted log same) put
+pub refreshed : (hall : Hall) (before t u : Token) (client : ℕ) (actions : List Action) (rows after : Warehouse)
+    (result : Result Receipt ApplyError) → IsClientOf hall before → before.who ≡ Client client → Took before t
+    → rows ≡ store t.hall.base t.seen
+    → OnOk result (refusal_of rows.base rows.log actions ≡ None)
+    → OnOk result (after ≡ with_commit rows record { client = client; actions = actions })
+    → OnErr result (after ≡ rows) → Put t after u → IsClientOf hall u × (u.who ≡ Client client)
+refreshed hall before t u client actions rows after result is who took are accepted log same put = let name :
+    t.who ≡ Client client = ap (λ (x : Token). x.who) took.now ∙ who in
+    rests hall t u client after (ap (λ (x : Token). x.hall) took.now ∙ is.hall_is) name
+    (ap (λ (x : Token). x.asked) took.now ∙ is.quiet)
+    (may_put t client actions rows after result name are accepted log same) put
 
 -- the request that was grabbed last may be given up
-newest_held : (client : ℕ) (asked : Request) (others : List Grabbed) → request_of client (record { client = client; request = asked } ∷ others) ≡ Some asked
+newest_held : (client : ℕ) (asked : Request) (others : List Grabbed)
+    → request_of client (record { client = client; request = asked } ∷ others) ≡ Some asked
 newest_held client asked others = let same : (client == client) ≡ true = grind (arith, nat_tests) in rw same refl
 
-pub may_give_up : (before t : Token) (client : ℕ) (question : Question) → Grabs before client question t → MayAnswer t client (Unserved question OutOfMemory)
+pub may_give_up : (before t : Token) (client : ℕ) (question : Question) → Grabs before client question t
+    → MayAnswer t client (Unserved question OutOfMemory)
 may_give_up before t client question grabs = let asked : Request = request question grabs.floor in record {
   asked = asked;
   held = ap (λ (x : Token). request_of client x.grabbed) grabs.now ∙ newest_held client asked before.grabbed;
   serves = (refl, tt);
 }
 
--- of the requests of three clients in one hand the second's may be given up first, then the first's, and then the third's
+-- of the requests of three clients in one hand the second's may be given up first, then the first's, and then the
+-- third's
 module _ (t : Token) (one two three : Question) (floors : ℕ × ℕ × ℕ)
-    (hand : t.grabbed ≡ record { client = 3; request = request three floors.2 } ∷ record { client = 2; request = request two floors.1 } ∷ record { client = 1; request = request one floors.0 } ∷ []) where
+    (hand : t.grabbed ≡ record { client = 3; request = request three floors.2 } ∷
+    record { client = 2; request = request two floors.1 } ∷ record { client = 1; request = request one floors.0 } ∷
+    []) where
   pub second_may_go : MayAnswer t 2 (Unserved two OutOfMemory)
   second_may_go = record { asked = request two floors.1; held = ap (request_of 2) hand; serves = (refl, tt) }
 
   pub first_may_go : (u : Token) → u.grabbed ≡ without 2 t.grabbed → MayAnswer u 1 (Unserved one OutOfMemory)
-  first_may_go u now = record { asked = request one floors.0; held = ap (request_of 1) now ∙ ap (λ l. request_of 1 (without 2 l)) hand; serves = (refl, tt) }
+  first_may_go u now = record {
+    asked = request one floors.0;
+    held = ap (request_of 1) now
+        ∙ ap (λ l. request_of 1 (without 2 l)) hand;
+    serves = (refl, tt);
+  }
 
-  pub third_may_go : (u v : Token) → u.grabbed ≡ without 2 t.grabbed → v.grabbed ≡ without 1 u.grabbed → MayAnswer v 3 (Unserved three OutOfMemory)
+  pub third_may_go : (u v : Token) → u.grabbed ≡ without 2 t.grabbed → v.grabbed ≡ without 1 u.grabbed
+      → MayAnswer v 3 (Unserved three OutOfMemory)
   third_may_go u v before now = record {
     asked = request three floors.2;
-    held = ap (request_of 3) now ∙ ap (λ l. request_of 3 (without 1 l)) before ∙ ap (λ l. request_of 3 (without 1 (without 2 l))) hand;
+    held = ap (request_of 3) now ∙ ap (λ l. request_of 3 (without 1 l)) before
+        ∙ ap (λ l. request_of 3 (without 1 (without 2 l))) hand;
     serves = (refl, tt);
   }
 
 -- a client that collected its answer has nothing asked
-pub collected_rests : (hall : Hall) (before t : Token) (client : ℕ) (reply : Answer) → before.hall ≡ hall → before.who ≡ Client client → before.has_rows ≡ false → Collected before reply t → IsClientOf hall t × (t.who ≡ Client client)
-collected_rests hall before t client reply here who rows got = let name : t.who ≡ Client client = ap (λ (x : Token). x.who) got.now ∙ who in
-    (record { hall_is = ap (λ (x : Token). x.hall) got.now ∙ here; client = (client, name); rows = ap (λ (x : Token). x.has_rows) got.now ∙ rows; quiet = ap (λ (x : Token). x.asked) got.now }, name)
+pub collected_rests : (hall : Hall) (before t : Token) (client : ℕ) (reply : Answer) → before.hall ≡ hall
+    → before.who ≡ Client client → before.has_rows ≡ false → Collected before reply t → IsClientOf hall t
+    × (t.who ≡ Client client)
+collected_rests hall before t client reply here who rows got = let name : t.who ≡ Client client =
+    ap (λ (x : Token). x.who) got.now ∙ who in (
+      record {
+        hall_is = ap (λ (x : Token). x.hall) got.now ∙ here;
+        client = (client, name);
+        rows = ap (λ (x : Token). x.has_rows) got.now ∙ rows;
+        quiet = ap (λ (x : Token). x.asked) got.now;
+      },
+      name,
+    )

@@ -1,4 +1,5 @@
-//! What a client or a dispatcher did at the table, and what it was told. Contracts alone speak of these; no value is made.
+//! What a client or a dispatcher did at the table, and what it was told. Contracts alone speak of these; no value is
+//! made.
 
 use history_core::{Reply, Who};
 use ssb_plans::Question;

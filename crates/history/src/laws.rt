@@ -1,7 +1,8 @@
 //! The table's runs are runs of the protocol's pure machine.
 ghost use Rattle.history.specs.Link.{EveryRunIsTheCores, EveryRunHasATrueRun};
 
-/// Any events that the table went through are a run of the machine in which each is enabled: a true run of the same history.
+/// Any events that the table went through are a run of the machine in which each is enabled: a true run of the same
+/// history.
 pub fn every_run_is_the_cores()
     ensures { EveryRunIsTheCores }
 {}

@@ -1,6 +1,6 @@
-//! The heart of the live warehouse: one history of commits that threads share. Clients commit refreshes to the row store and
-//! ask questions, dispatchers carry the commits over to the secondary replica and answer; all of it goes through one table
-//! of words and slots, which no lock guards.
+//! The heart of the live warehouse: one history of commits that threads share. Clients commit refreshes to the row
+//! store and ask questions, dispatchers carry the commits over to the secondary replica and answer; all of it goes
+//! through one table of words and slots, which no lock guards.
 //!
 //! ```text
 //! word 0, slot 0     the row store        twice the number of commits, and 1 more while it is taken
@@ -9,10 +9,11 @@
 //! slot 1 + n         client n's mailbox   0 empty, 1 asked, 2 in a dispatcher's hand, 3 answered
 //! ```
 //!
-//! **The contract.** Whatever the threads do, the table shows a world of the pure protocol (`history_core`) that events led
-//! to, each of them enabled (`specs/Rule`, `ShowsWorld`). A pass is a client's or dispatcher's token; its record tells what
-//! it has seen, made, asked, given and done (`specs/Tokens`, one equation for each call). At the end `close` gives the row
-//! store, whose log is that of a true run in which each token did, and was told, what its record says (`specs/Closing`).
+//! **The contract.** Whatever the threads do, the table shows a world of the pure protocol (`history_core`) that events
+//! led to, each of them enabled (`specs/Rule`, `ShowsWorld`). A pass is a client's or dispatcher's token; its record
+//! tells what it has seen, made, asked, given and done (`specs/Tokens`, one equation for each call). At the end `close`
+//! gives the row store, whose log is that of a true run in which each token did, and was told, what its record says
+//! (`specs/Closing`).
 //!
 //! | step of the table | event |
 //! |---|---|

@@ -7,8 +7,8 @@ use arrayvec::ArrayVec;
 use history_core::Who;
 use std::marker::Model;
 
-/// The pass of one client or dispatcher, its only one. Contracts see it as a `Token`: what its holder has seen, made, asked,
-/// given and done, and what it holds. Of the lists nothing is kept when the program runs.
+/// The pass of one client or dispatcher, its only one. Contracts see it as a `Token`: what its holder has seen, made,
+/// asked, given and done, and what it holds. Of the lists nothing is kept when the program runs.
 #[derive(Drop)]
 pub struct Pass<W> {
     pub(crate) who: Who,

@@ -1,6 +1,7 @@
 //! The rule of the table, and what each step tells.
 ghost use Rattle.history.specs.Rule.{ShowsWorld, dealer, terms_of, nobody, view_of};
-ghost use Rattle.history.specs.Plays.{TriesRows, PutsRows, Looks, dealt, token_of, note_of, hears, leaves, gathers, OpensBox, Posts, Grabs, Answers, Collects, TriesWriter, PutsWriter};
+ghost use Rattle.history.specs.Plays.{TriesRows, PutsRows, Looks, dealt, token_of, note_of, hears, leaves, gathers};
+ghost use Rattle.history.specs.Plays.{OpensBox, Posts, Grabs, Answers, Collects, TriesWriter, PutsWriter};
 
 use crate::view::{Opening, SlotValue, View};
 use atomic_table::{Join, Play, Seat, Split, Table, TableRule};

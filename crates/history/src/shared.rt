@@ -1,5 +1,6 @@
 //! The table that threads share: its calls, each with the pass of the client or dispatcher that makes it.
-ghost use Rattle.std.specs.Prelude.{◌≡◌, ℕ, ◌+◌, ◌-◌, ◌<◌, ◌≤◌, ◌^◌, All, true, false, [], length, Some, None, IfOk, MatchOption};
+ghost use Rattle.std.specs.Prelude.{◌≡◌, ℕ, ◌+◌, ◌-◌, ◌<◌, ◌≤◌, ◌^◌, All, true, false, [], length, Some, None, IfOk};
+ghost use Rattle.std.specs.Prelude.{MatchOption};
 ghost use Rattle.row_store.specs.History.{IsPrefix};
 ghost use Rattle.row_store.specs.Legal.{IsLegal};
 ghost use Rattle.history_core.specs.OwnCommits.{IsOfClients};
@@ -8,7 +9,9 @@ ghost use Rattle.history.specs.Rule.{dealer, terms_of};
 ghost use Rattle.history.specs.Seats.{IsDealer};
 ghost use Rattle.history.specs.World.{who_at};
 ghost use Rattle.history.specs.Passes.{hall_of};
-ghost use Rattle.history.specs.Tokens.{new_token, new_clients, new_dispatchers, IsSound, IsClient, IsDispatcher, Saw, Took, MayPut, Put, posted, Grabs, MayAnswer, Answers, Collected, with_writer, without_writer};
+ghost use Rattle.history.specs.Tokens.{new_token, new_clients, new_dispatchers, IsSound, IsClient, IsDispatcher, Saw};
+ghost use Rattle.history.specs.Tokens.{Took, MayPut, Put, posted, Grabs, MayAnswer, Answers, Collected, with_writer};
+ghost use Rattle.history.specs.Tokens.{without_writer};
 ghost use Rattle.history.specs.Closing.{AreClients, AreDispatchers, IsLogOf};
 
 use crate::pass::{Pass, position};
@@ -26,8 +29,8 @@ use std::marker::Model;
 use std::snapshot::Snapshot;
 use std::sync::Wait;
 
-/// The table: the row store and the writer in their slots, each with a word, and a word and a slot for each client's mailbox.
-/// Contracts see it as a `Hall`: which table it is, over which base, for how many clients and dispatchers.
+/// The table: the row store and the writer in their slots, each with a word, and a word and a slot for each client's
+/// mailbox. Contracts see it as a `Hall`: which table it is, over which base, for how many clients and dispatchers.
 #[derive(Drop)]
 pub struct Shared<W: Follower + Drop> {
     board: Board<W>,
@@ -73,8 +76,11 @@ fn open<W: Follower + Drop>(
     opening: &Opening,
 ) -> Result<(Board<W>, Place<W>), AllocError>
     requires few { opening.now.clients ≤ 16 }
-    requires parts { (rows ≡ store opening.now.base.value []) × (W.base writer ≡ opening.now.base.value) × (W.commits writer ≡ []) }
-    ensures { IfOk result (λ t. (t.0.shared.table_id.words ≡ 2 + opening.now.clients) × (t.1.table_id ≡ t.0.shared.table_id) × (t.1.me ≡ (dealer (terms_of opening.now), [])) × (t.0.shared.key ≡ opening.now)) }
+    requires parts { (rows ≡ store opening.now.base.value []) × (W.base writer ≡ opening.now.base.value)
+        × (W.commits writer ≡ []) }
+    ensures { IfOk result (λ t. (t.0.shared.table_id.words ≡ 2 + opening.now.clients)
+        × (t.1.table_id ≡ t.0.shared.table_id) × (t.1.me ≡ (dealer (terms_of opening.now), []))
+        × (t.0.shared.key ≡ opening.now)) }
 {
     let clients = opening.clients as usize;
     let words = Vec::from_elem(alloc, 0u64, 2 + clients)?;
@@ -98,8 +104,10 @@ fn deal<W: Follower + Drop>(
     requires dealer { IsDealer dealer.old (terms_of board.now.shared.key) place }
     requires room { (place < board.now.shared.key.clients + board.now.shared.key.dispatchers) × (place < 2 ^ 31) }
     requires key { (clients ≡ board.now.shared.key.clients) × (clients ≤ 16) }
-    ensures dealt { result ≡ new_token (hall_of board.now.shared.table_id (terms_of board.now.shared.key)) (who_at clients place) }
-    ensures dealer { (dealer.new.table_id ≡ dealer.old.table_id) × IsDealer dealer.new (terms_of board.now.shared.key) (place + 1) }
+    ensures dealt { result ≡ new_token (hall_of board.now.shared.table_id (terms_of board.now.shared.key))
+        (who_at clients place) }
+    ensures dealer { (dealer.new.table_id ≡ dealer.old.table_id)
+        × IsDealer dealer.new (terms_of board.now.shared.key) (place + 1) }
 {
     let mut seat = board.shared.split_seat::<Deal>(dealer);
     if place < clients {
@@ -115,8 +123,8 @@ fn deal<W: Follower + Drop>(
 }
 
 impl<W: Follower + Drop> Shared<W> {
-    /// The table over an empty row store and a writer that has taken nothing, for 1 to 16 clients and 1 to 4 dispatchers.
-    /// Where memory is refused, both parts are dropped.
+    /// The table over an empty row store and a writer that has taken nothing, for 1 to 16 clients and 1 to 4
+    /// dispatchers. Where memory is refused, both parts are dropped.
     pub fn new(
         alloc: Global,
         rows: RowStore,
@@ -128,7 +136,8 @@ impl<W: Follower + Drop> Shared<W> {
         requires dispatchers { (1 ≤ dispatchers) × (dispatchers ≤ 4) }
         requires rows { rows.log ≡ [] }
         requires writer { (W.base writer ≡ rows.base) × (W.commits writer ≡ []) }
-        ensures hall { IfOk result (λ made. (made.shared.base ≡ rows.base) × (made.shared.clients ≡ clients) × (made.shared.dispatchers ≡ dispatchers)) }
+        ensures hall { IfOk result (λ made. (made.shared.base ≡ rows.base) × (made.shared.clients ≡ clients)
+            × (made.shared.dispatchers ≡ dispatchers)) }
         ensures clients { IfOk result (λ made. made.clients.items ≡ new_clients made.shared) }
         ensures dispatchers { IfOk result (λ made. made.dispatchers.items ≡ new_dispatchers made.shared) }
     {
@@ -166,7 +175,9 @@ impl<W: Follower + Drop> Shared<W> {
         rows
     }
 
-    /// Gives the row store back, as it was taken or with one commit more of the pass's client, and wakes one that waits for it.
+    /// Gives the row store back, as it was taken or with one commit more of the pass's client. One that waits for it is
+    /// woken where it was given back as it was, and by each 1,024th commit, so that clients that commit side by side do
+    /// so in runs; nobody sleeps for it for more than a millisecond at a time.
     pub fn put_rows(&self, pass: &mut Pass<W>, rows: RowStore)
         requires hall { pass.old.hall ≡ self.now }
         requires taken { pass.old.has_rows ≡ true }
@@ -179,6 +190,7 @@ impl<W: Follower + Drop> Shared<W> {
             steps::put_back(&self.board, &mut pass.seat, rows);
         } else {
             steps::put_commit(&self.board, &mut pass.seat, rows);
+            steps::wake_by_runs(&self.board, length);
         }
         pass.seen_len = length;
     }
@@ -263,7 +275,8 @@ impl<W: Follower + Drop> Shared<W> {
         steps::take_writer(rt, &self.board, &mut pass.seat, pass.place as usize)
     }
 
-    /// Gives the writer back, and wakes one that waits for it. What it has taken is a beginning of what the pass has seen.
+    /// Gives the writer back, and wakes one that waits for it. What it has taken is a beginning of what the pass has
+    /// seen.
     pub fn put_writer(&self, pass: &mut Pass<W>, writer: W)
         requires hall { pass.old.hall ≡ self.now }
         requires dispatcher { IsDispatcher pass.old }
@@ -299,7 +312,8 @@ impl<W: Follower + Drop> Shared<W> {
         ensures base { result.base ≡ self.base }
         ensures legal { IsLegal result.base result.log }
         ensures named { IsOfClients self.clients result.log }
-        ensures seen { All (λ t. IsPrefix t.seen result.log) clients.items × All (λ t. IsPrefix t.seen result.log) dispatchers.items }
+        ensures seen { All (λ t. IsPrefix t.seen result.log) clients.items
+            × All (λ t. IsPrefix t.seen result.log) dispatchers.items }
         ensures owns { All (λ t. Owns t.who t.mine result.log) clients.items }
         ensures true_log { IsLogOf self clients.items dispatchers.items result.log }
     {

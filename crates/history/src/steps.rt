@@ -4,7 +4,9 @@ ghost use Rattle.atomic_table.specs.Table.{rest};
 ghost use Rattle.history.specs.Words.{store};
 ghost use Rattle.history.specs.Rule.{terms_of, IsElsewhere};
 ghost use Rattle.history.specs.Plays.{gathers, gave_back, hears, note_of, opened, posted, grabbed, without_writer};
-ghost use Rattle.history.specs.Seats.{Has, Carries, IsToken, IsTokenAt, IsClientAt, IsDispatcherAt, IsFree, AreAll, members_of, IsClosed, Takes, LooksAt, Adds, Becomes, turns, MayServe, Serves, Collects, TakesWriter, MayPutWriter};
+ghost use Rattle.history.specs.Seats.{Has, Carries, IsToken, IsTokenAt, IsClientAt, IsDispatcherAt, IsFree, AreAll};
+ghost use Rattle.history.specs.Seats.{members_of, IsClosed, Takes, LooksAt, Adds, Becomes, turns, MayServe, Serves};
+ghost use Rattle.history.specs.Seats.{Collects, TakesWriter, MayPutWriter};
 
 use crate::request::Request;
 use crate::rule::{
@@ -15,6 +17,13 @@ use crate::view::SlotValue;
 use row_store::{Follower, RowStore};
 use ssb_queries::Answer;
 use std::sync::Wait;
+use std::time::Duration;
+
+/// The longest sleep of one that waits for the row store, in microseconds: then it tries again, though nobody woke it.
+const LONGEST_SLEEP: u64 = 1_000;
+
+/// One that waits for the row store is woken by each commit whose number this divides.
+const COMMITS_A_RUN: u64 = 1_024;
 
 /// Waits until the row store is home, and takes it.
 pub(crate) fn take_rows<W: Follower + Drop, R: Wait>(
@@ -35,7 +44,12 @@ pub(crate) fn take_rows<W: Follower + Drop, R: Wait>(
             };
             return store;
         }
-        board.shared.park(rt, 0, (found % (1 << 32)) as u32);
+        board.shared.park_timeout(
+            rt,
+            0,
+            (found % (1 << 32)) as u32,
+            Duration::from_micros(LONGEST_SLEEP),
+        );
     }
     unreachable!()
 }
@@ -52,7 +66,16 @@ pub(crate) fn put_back<W: Follower + Drop>(board: &Board<W>, seat: &mut Place<W>
     board.shared.wake_one(0);
 }
 
-/// Gives the row store back with one commit more.
+/// Wakes one that waits for the row store where a run of commits has ended with this one.
+pub(crate) fn wake_by_runs<W: Follower + Drop>(board: &Board<W>, commit: u64)
+    requires { Has board.now.shared.table_id 0 }
+{
+    if commit % COMMITS_A_RUN == 0 {
+        board.shared.wake_one(0);
+    }
+}
+
+/// Gives the row store back with one commit more, and wakes nobody.
 pub(crate) fn put_commit<W: Follower + Drop>(board: &Board<W>, seat: &mut Place<W>, rows: RowStore)
     requires table { Has board.now.shared.table_id 0 × (seat.old.table_id ≡ board.now.shared.table_id) }
     requires token { (seat.old.me.0.holds_rows ≡ true) × Carries 0 seat.old }
@@ -61,7 +84,6 @@ pub(crate) fn put_commit<W: Follower + Drop>(board: &Board<W>, seat: &mut Place<
 {
     board.shared.exchange(seat, 0, Some(SlotValue::Rows(rows)));
     board.shared.fetch_add::<PutRows>(seat, 0, 1);
-    board.shared.wake_one(0);
 }
 
 /// The length of the history, which the seat has seen then.
@@ -75,7 +97,8 @@ pub(crate) fn look<W: Follower + Drop>(board: &Board<W>, seat: &mut Place<W>) ->
 
 /// Lets a seat know what another has seen.
 pub(crate) fn hear<W: Follower + Drop>(board: &Board<W>, seat: &mut Place<W>, other: &mut Place<W>)
-    requires table { Has board.now.shared.table_id 0 × (seat.old.table_id ≡ board.now.shared.table_id) × (other.old.table_id ≡ board.now.shared.table_id) }
+    requires table { Has board.now.shared.table_id 0 × (seat.old.table_id ≡ board.now.shared.table_id)
+        × (other.old.table_id ≡ board.now.shared.table_id) }
     requires token { IsToken seat.old × IsToken other.old }
     ensures own { Becomes seat.old (hears seat.old.me.0 (note_of other.old.me.0)) seat.old.me.1 seat.new }
     ensures other { Becomes other.old other.old.me.0 other.old.me.1 other.new }
@@ -100,7 +123,8 @@ pub(crate) fn post<W: Follower + Drop>(
     place: usize,
     request: Request,
 )
-    requires table { (place < 16) × Has board.now.shared.table_id (2 + place) × (seat.old.table_id ≡ board.now.shared.table_id) }
+    requires table { (place < 16) × Has board.now.shared.table_id (2 + place)
+        × (seat.old.table_id ≡ board.now.shared.table_id) }
     requires token { IsClientAt seat.old place }
     requires mailbox { (seat.old.me.0.has_box ≡ true) × (seat.old.me.0.asked ≡ None) × Carries (2 + place) seat.old }
     requires floor { request.floor ≡ length seat.old.me.0.member.seen }
@@ -119,9 +143,12 @@ pub(crate) fn grab<W: Follower + Drop>(
     place: usize,
     client: usize,
 ) -> Option<Request>
-    requires table { (client < 16) × Has board.now.shared.table_id (2 + client) × (seat.old.table_id ≡ board.now.shared.table_id) }
+    requires table { (client < 16) × Has board.now.shared.table_id (2 + client)
+        × (seat.old.table_id ≡ board.now.shared.table_id) }
     requires token { IsDispatcherAt seat.old place × (client < seat.old.me.0.terms.clients) }
-    ensures { MatchOption result (Becomes seat.old seat.old.me.0 seat.old.me.1 seat.new) (λ request. Becomes seat.old (grabbed seat.old.me.0 client request) ((2 + client, None) ∷ seat.old.me.1) seat.new × IsElsewhere client seat.old.me.0.grabbed) }
+    ensures { MatchOption result (Becomes seat.old seat.old.me.0 seat.old.me.1 seat.new)
+        (λ request. Becomes seat.old (grabbed seat.old.me.0 client request) ((2 + client, None) ∷ seat.old.me.1)
+        seat.new × IsElsewhere client seat.old.me.0.grabbed) }
 {
     let _ = place;
     if board
@@ -146,7 +173,8 @@ pub(crate) fn serve<W: Follower + Drop>(
     client: usize,
     answer: Answer,
 )
-    requires table { (client < 16) × Has board.now.shared.table_id (2 + client) × (seat.old.table_id ≡ board.now.shared.table_id) }
+    requires table { (client < 16) × Has board.now.shared.table_id (2 + client)
+        × (seat.old.table_id ≡ board.now.shared.table_id) }
     requires token { IsDispatcherAt seat.old place × (client < seat.old.me.0.terms.clients) }
     requires answer { MayServe seat.old client answer }
     ensures { Serves seat.old client answer seat.new }
@@ -164,9 +192,11 @@ pub(crate) fn collect<W: Follower + Drop>(
     seat: &mut Place<W>,
     place: usize,
 ) -> Option<Answer>
-    requires table { (place < 16) × Has board.now.shared.table_id (2 + place) × (seat.old.table_id ≡ board.now.shared.table_id) }
+    requires table { (place < 16) × Has board.now.shared.table_id (2 + place)
+        × (seat.old.table_id ≡ board.now.shared.table_id) }
     requires token { IsClientAt seat.old place × (seat.old.me.0.has_box ≡ true) }
-    ensures { MatchOption result (Becomes seat.old seat.old.me.0 seat.old.me.1 seat.new) (λ answer. Collects seat.old place answer seat.new) }
+    ensures { MatchOption result (Becomes seat.old seat.old.me.0 seat.old.me.1 seat.new)
+        (λ answer. Collects seat.old place answer seat.new) }
 {
     if board
         .shared
@@ -238,7 +268,8 @@ pub(crate) fn turn_by<W>(seat: &mut Place<W>, times: usize)
 
 /// Takes in the seat of a member that does nothing more.
 pub(crate) fn gather<W: Follower + Drop>(board: &Board<W>, seat: &mut Place<W>, mut other: Place<W>)
-    requires table { Has board.now.shared.table_id 0 × (seat.old.table_id ≡ board.now.shared.table_id) × (other.table_id ≡ board.now.shared.table_id) }
+    requires table { Has board.now.shared.table_id 0 × (seat.old.table_id ≡ board.now.shared.table_id)
+        × (other.table_id ≡ board.now.shared.table_id) }
     requires token { IsToken seat.old }
     requires other { IsFree other }
     ensures { Becomes seat.old (gathers seat.old.me.0 other.me.0) seat.old.me.1 seat.new }
@@ -250,7 +281,8 @@ pub(crate) fn gather<W: Follower + Drop>(board: &Board<W>, seat: &mut Place<W>, 
 /// Ends the table by the seat that took in all others. The row store is home.
 pub(crate) fn finish<W: Follower + Drop>(board: Board<W>, seat: Place<W>) -> RowStore
     requires table { (seat.table_id ≡ board.shared.table_id) × (seat.me.0.terms ≡ terms_of board.shared.key) }
-    requires token { IsToken seat × (seat.me.0.holds_rows ≡ false) × (seat.me.0.holds_writer ≡ false) × (seat.me.0.asked ≡ None) }
+    requires token { IsToken seat × (seat.me.0.holds_rows ≡ false) × (seat.me.0.holds_writer ≡ false)
+        × (seat.me.0.asked ≡ None) }
     requires all { AreAll seat.me.0.terms (members_of seat.me.0) }
     ensures { IsClosed seat.me.0.terms (members_of seat.me.0) result }
 {

@@ -232,7 +232,10 @@ fn grab_three(shared: &Table, pass: &mut Ticket) -> Option<(Question, Question, 
     ensures hall { pass.new.hall ≡ shared.now }
     ensures who { pass.new.who ≡ pass.old.who }
     ensures free { (pass.new.has_rows ≡ false) × (pass.new.has_writer ≡ false) }
-    ensures hand { IfSome result (λ asked. (floors : ℕ × ℕ × ℕ) × (pass.new.grabbed ≡ record { client = 3; request = request asked.2 floors.2 } ∷ record { client = 2; request = request asked.1 floors.1 } ∷ record { client = 1; request = request asked.0 floors.0 } ∷ [])) }
+    ensures hand { IfSome result (λ asked. (floors : ℕ × ℕ × ℕ)
+        × (pass.new.grabbed ≡ record { client = 3; request = request asked.2 floors.2 } ∷
+        record { client = 2; request = request asked.1 floors.1 } ∷
+        record { client = 1; request = request asked.0 floors.0 } ∷ [])) }
 {
     let first = shared.grab(pass, 1)?;
     let second = shared.grab(pass, 2)?;
@@ -246,7 +249,11 @@ fn give_up(shared: &Table, pass: &mut Ticket, client: u32, query: Question)
     requires dispatcher { IsDispatcher pass.old }
     requires free { (pass.old.has_rows ≡ false) × (pass.old.has_writer ≡ false) }
     requires request { MayAnswer pass.old client (GivenUp query OutOfMemory) }
-    ensures now { pass.new ≡ record pass.old { grabbed = without client pass.old.grabbed; given = pass.new.given; did = pass.new.did } }
+    ensures now { pass.new ≡ record pass.old {
+      grabbed = without client pass.old.grabbed;
+      given = pass.new.given;
+      did = pass.new.did;
+    } }
     ensures dispatcher { IsDispatcher pass.new }
 {
     let cause = Unserved::OutOfMemory;
@@ -286,8 +293,10 @@ fn three_clients_commit_ten_refreshes_each_and_then_meet(rt: HostRuntime) -> Res
             ensures { IsClientOf shared.entry.now result × (result.who ≡ Client 1) }
         { commit_all(&rt, shared, first, 1, a) },
         || -> (Ticket, Ticket)
-            requires { IsClientOf shared.now second × (second.who ≡ Client 2) × IsClientOf shared.now third × (third.who ≡ Client 3) }
-            ensures { IsClientOf shared.entry.now result.0 × (result.0.who ≡ Client 2) × IsClientOf shared.entry.now result.1 × (result.1.who ≡ Client 3) }
+            requires { IsClientOf shared.now second × (second.who ≡ Client 2) × IsClientOf shared.now third
+                × (third.who ≡ Client 3) }
+            ensures { IsClientOf shared.entry.now result.0 × (result.0.who ≡ Client 2)
+                × IsClientOf shared.entry.now result.1 × (result.1.who ≡ Client 3) }
         {
             join(
                 &rt,
@@ -338,8 +347,10 @@ fn two_dispatchers_answer_a_thousand_questions_of_a_client(rt: HostRuntime) -> R
             ensures { IsClientOf shared.entry.now result × (result.who ≡ Client 1) }
         { ask_all(&rt, shared, first, 1, questions) },
         || -> (Ticket, Ticket)
-            requires { IsDispatcherOf shared.now one × (one.who ≡ Dispatcher 1) × IsDispatcherOf shared.now other × (other.who ≡ Dispatcher 2) × (1 ≤ shared.now.clients) }
-            ensures { IsDispatcherOf shared.entry.now result.0 × (result.0.who ≡ Dispatcher 1) × IsDispatcherOf shared.entry.now result.1 × (result.1.who ≡ Dispatcher 2) }
+            requires { IsDispatcherOf shared.now one × (one.who ≡ Dispatcher 1) × IsDispatcherOf shared.now other
+                × (other.who ≡ Dispatcher 2) × (1 ≤ shared.now.clients) }
+            ensures { IsDispatcherOf shared.entry.now result.0 × (result.0.who ≡ Dispatcher 1)
+                × IsDispatcherOf shared.entry.now result.1 × (result.1.who ≡ Dispatcher 2) }
         {
             join(
                 &rt,

@@ -1,5 +1,27 @@
 -- A commit's action on lines, told apart: the earlier lines that stay, and what comes behind them.
-use Rattle.std.proofs.Common.{◌≡◌, ℕ, Bool, true, false, cond, not, ◌||◌, eqb, List, [], ◌∷◌, ◌++◌, sym, refl, ap, ◌∙◌, arith, flat_map, append_assoc, append-nil}
+use Rattle.std.proofs.Common.{
+  ◌≡◌,
+  ℕ,
+  Bool,
+  true,
+  false,
+  cond,
+  not,
+  ◌||◌,
+  eqb,
+  List,
+  [],
+  ◌∷◌,
+  ◌++◌,
+  sym,
+  refl,
+  ap,
+  ◌∙◌,
+  arith,
+  flat_map,
+  append_assoc,
+  append-nil,
+}
 use Rattle.std.specs.List.{list_any}
 use Rattle.std.proofs.lemmas.Bool.Decides.{nat_tests}
 use Rattle.std.proofs.lemmas.List.Elements.{filter-append}
@@ -22,36 +44,47 @@ without_none [] = refl
 without_none (line ∷ lines) = ap (λ l. line ∷ l) (without_none lines)
 
 -- without one order, and then without others
-without_more : (key : ℕ) (keys : List ℕ) (lines : List LineFields) → lines_without_all keys (lines_without key lines) ≡ lines_without_all (key ∷ keys) lines
+without_more : (key : ℕ) (keys : List ℕ) (lines : List LineFields)
+    → lines_without_all keys (lines_without key lines) ≡ lines_without_all (key ∷ keys) lines
 without_more key keys [] = refl
 without_more key keys (line ∷ lines) =
     let rest = without_more key keys lines in
-    let step : (b : Bool) → lines_without_all keys (cond (not b) (line ∷ lines_without key lines) (lines_without key lines))
-    ≡ cond (not (b || is_of_any keys line)) (line ∷ lines_without_all (key ∷ keys) lines) (lines_without_all (key ∷ keys) lines) =
+    let step : (b : Bool) → lines_without_all keys (cond (not b) (line ∷ lines_without key lines)
+    (lines_without key lines))
+    ≡ cond (not (b || is_of_any keys line)) (line ∷ lines_without_all (key ∷ keys) lines)
+    (lines_without_all (key ∷ keys) lines) =
     elim [
       | true ↦ rest
       | false ↦ ap (λ l. cond (not (is_of_any keys line)) (line ∷ l) l) rest
     ] in
     step (is_of key line)
-    ∙ ap (λ b. cond (not (b || is_of_any keys line)) (line ∷ lines_without_all (key ∷ keys) lines) (lines_without_all (key ∷ keys) lines)) (flip line.order_key key)
+    ∙ ap (λ b. cond (not (b || is_of_any keys line)) (line ∷ lines_without_all (key ∷ keys) lines)
+    (lines_without_all (key ∷ keys) lines)) (flip line.order_key key)
 
-split : (lines more : List LineFields) (actions : List Action) → lines_after_refresh (lines ++ more) actions ≡ lines_without_all (flat_map gone_by actions) lines ++ lines_after_refresh more actions
+split : (lines more : List LineFields) (actions : List Action)
+    → lines_after_refresh (lines ++ more) actions ≡ lines_without_all (flat_map gone_by actions) lines
+    ++ lines_after_refresh more actions
 split lines more [] = ap (λ l. l ++ more) (sym (without_none lines))
 split lines more (Add order ∷ actions) =
     ap (λ l. lines_after_refresh l actions) (append_assoc lines more order) ∙ split lines (more ++ order) actions
 split lines more (Amend order ∷ actions) =
     let key = order_key order in
-    let kept : lines_without key (lines ++ more) ≡ lines_without key lines ++ lines_without key more = filter-append (λ line. not (is_of key line)) lines more in
+    let kept : lines_without key (lines ++ more) ≡ lines_without key lines ++ lines_without key more =
+    filter-append (λ line. not (is_of key line)) lines more in
     ap (λ l. lines_after_refresh (l ++ order) actions) kept
     ∙ ap (λ l. lines_after_refresh l actions) (append_assoc (lines_without key lines) (lines_without key more) order)
     ∙ split (lines_without key lines) (lines_without key more ++ order) actions
-    ∙ ap (λ l. l ++ lines_after_refresh (lines_without key more ++ order) actions) (without_more key (flat_map gone_by actions) lines)
+    ∙ ap (λ l. l ++ lines_after_refresh (lines_without key more ++ order) actions)
+    (without_more key (flat_map gone_by actions) lines)
 split lines more (Withdraw key ∷ actions) =
-    let kept : lines_without key (lines ++ more) ≡ lines_without key lines ++ lines_without key more = filter-append (λ line. not (is_of key line)) lines more in
+    let kept : lines_without key (lines ++ more) ≡ lines_without key lines ++ lines_without key more =
+    filter-append (λ line. not (is_of key line)) lines more in
     ap (λ l. lines_after_refresh l actions) kept
     ∙ split (lines_without key lines) (lines_without key more) actions
-    ∙ ap (λ l. l ++ lines_after_refresh (lines_without key more) actions) (without_more key (flat_map gone_by actions) lines)
+    ∙ ap (λ l. l ++ lines_after_refresh (lines_without key more) actions)
+    (without_more key (flat_map gone_by actions) lines)
 
 -- the lines of the orders that an action touches go, and what the actions make of no lines comes behind the others
-pub absorbed : (lines : List LineFields) (actions : List Action) → lines_without_all (flat_map gone_by actions) lines ++ lines_after_refresh [] actions ≡ lines_after_refresh lines actions
+pub absorbed : (lines : List LineFields) (actions : List Action) → lines_without_all (flat_map gone_by actions) lines
+    ++ lines_after_refresh [] actions ≡ lines_after_refresh lines actions
 absorbed lines actions = sym (ap (λ l. lines_after_refresh l actions) (sym (append-nil lines)) ∙ split lines [] actions)

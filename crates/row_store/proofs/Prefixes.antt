@@ -1,9 +1,33 @@
 -- Beginnings of lists of commits.
-use Rattle.std.proofs.Common.{◌≡◌, ℕ, List, [], ◌∷◌, ◌++◌, length, take, drop, refl, ap, sym, ◌∙◌, arith, length-append, append_assoc}
+use Rattle.std.proofs.Common.{
+  ◌≡◌,
+  ℕ,
+  List,
+  [],
+  ◌∷◌,
+  ◌++◌,
+  length,
+  take,
+  drop,
+  refl,
+  ap,
+  sym,
+  ◌∙◌,
+  arith,
+  length-append,
+  append_assoc,
+}
 use Rattle.std.proofs.lemmas.List.{append-nil, take-append-drop, take-append-le}
 use Rattle.std.proofs.Math.Seq.{take-append_seam, drop-append_seam}
 use Rattle.row_store.specs.History.{CommitRecord, IsPrefix}
-use Rattle.row_store.specs.Laws.{BeginsWithItself, BeginningsChain, OneMoreBeginsWithIt, BeginningsOfOneAgree, BeginningsAreShorter, AsLongIsTheWhole}
+use Rattle.row_store.specs.Laws.{
+  BeginsWithItself,
+  BeginningsChain,
+  OneMoreBeginsWithIt,
+  BeginningsOfOneAgree,
+  BeginningsAreShorter,
+  AsLongIsTheWhole,
+}
 
 pub begins_with_itself : BeginsWithItself
 begins_with_itself history = record { rest = []; whole = sym (append-nil history) }
@@ -21,36 +45,54 @@ pub prefix_take : (n : ℕ) (history : List CommitRecord) → IsPrefix (take n h
 prefix_take n history = record { rest = drop n history; whole = sym (take-append-drop n history) }
 
 pub beginnings_chain : BeginningsChain
-beginnings_chain first second third p q = record { rest = p.rest ++ q.rest; whole = q.whole ∙ ap (λ list. list ++ q.rest) p.whole ∙ append_assoc first p.rest q.rest }
+beginnings_chain first second third p q = record {
+  rest = p.rest ++ q.rest;
+  whole = q.whole ∙ ap (λ list. list ++ q.rest) p.whole ∙ append_assoc first p.rest q.rest;
+}
 
 -- a beginning stays one when commits come behind the whole
-pub prefix_longer : (shorter longer more : List CommitRecord) → IsPrefix shorter longer → IsPrefix shorter (longer ++ more)
+pub prefix_longer : (shorter longer more : List CommitRecord) → IsPrefix shorter longer
+    → IsPrefix shorter (longer ++ more)
 prefix_longer shorter longer more p = beginnings_chain shorter longer (longer ++ more) p (prefix_append longer more)
 
 -- and when commits come before both
-pub prefix_behind : (front shorter longer : List CommitRecord) → IsPrefix shorter longer → IsPrefix (front ++ shorter) (front ++ longer)
-prefix_behind front shorter longer p = record { rest = p.rest; whole = ap (λ list. front ++ list) p.whole ∙ sym (append_assoc front shorter p.rest) }
+pub prefix_behind : (front shorter longer : List CommitRecord) → IsPrefix shorter longer
+    → IsPrefix (front ++ shorter) (front ++ longer)
+prefix_behind front shorter longer p = record {
+  rest = p.rest;
+  whole = ap (λ list. front ++ list) p.whole
+      ∙ sym (append_assoc front shorter p.rest);
+}
 
 pub beginnings_are_shorter : BeginningsAreShorter
-beginnings_are_shorter shorter longer p = let count : length longer ≡ length (shorter ++ p.rest) = ap length p.whole in omega (arith, count, length-append shorter p.rest)
+beginnings_are_shorter shorter longer p = let count : length longer ≡ length (shorter ++ p.rest) = ap length p.whole in
+    omega (arith, count, length-append shorter p.rest)
 
 -- the first commits of the whole are the beginning
-pub take_prefix : (shorter longer : List CommitRecord) → IsPrefix shorter longer → take (length shorter) longer ≡ shorter
+pub take_prefix : (shorter longer : List CommitRecord) → IsPrefix shorter longer
+    → take (length shorter) longer ≡ shorter
 take_prefix shorter longer p = ap (take (length shorter)) p.whole ∙ take-append_seam shorter p.rest
 
 -- and those that come after so many are the rest
-pub drop_prefix : (shorter longer : List CommitRecord) (p : IsPrefix shorter longer) → drop (length shorter) longer ≡ p.rest
+pub drop_prefix : (shorter longer : List CommitRecord) (p : IsPrefix shorter longer)
+    → drop (length shorter) longer ≡ p.rest
 drop_prefix shorter longer p = ap (drop (length shorter)) p.whole ∙ drop-append_seam shorter p.rest
 
 -- the whole is the beginning, and what comes after so many
-pub prefix_drop : (shorter longer : List CommitRecord) → IsPrefix shorter longer → shorter ++ drop (length shorter) longer ≡ longer
+pub prefix_drop : (shorter longer : List CommitRecord) → IsPrefix shorter longer → shorter
+    ++ drop (length shorter) longer ≡ longer
 prefix_drop shorter longer p = ap (λ list. shorter ++ list) (drop_prefix shorter longer p) ∙ sym p.whole
 
 pub beginnings_of_one_agree : BeginningsOfOneAgree
 beginnings_of_one_agree first second whole p q few =
     let same : take (length first) second ≡ first =
-    sym (take-append-le (length first) second q.rest few) ∙ ap (take (length first)) (sym q.whole) ∙ take_prefix first whole p in
-    record { rest = drop (length first) second; whole = sym (take-append-drop (length first) second) ∙ ap (λ list. list ++ drop (length first) second) same }
+    sym (take-append-le (length first) second q.rest few) ∙ ap (take (length first)) (sym q.whole)
+    ∙ take_prefix first whole p in
+    record {
+      rest = drop (length first) second;
+      whole = sym (take-append-drop (length first) second)
+          ∙ ap (λ list. list ++ drop (length first) second) same;
+    }
 
 no_rest : (rest : List CommitRecord) → length rest ≡ 0 → rest ≡ []
 no_rest [] e = refl

@@ -11,7 +11,9 @@ use Rattle.row_store.specs.declared.refusal.Refusal.{Refusal}
 use Rattle.row_store.specs.declared.refusal.RefreshError.{RefreshError}
 
 -- a reply of the one-thread warehouse
-true_tells : (base : Tables) (history : List CommitRecord) (actions : List Action) (reply : Result Receipt RefreshError) (refusal : Option Refusal) → refusal_of base history actions ≡ refusal → reply ≡ reply_at (length history) refusal → Tells reply base history actions
+true_tells : (base : Tables) (history : List CommitRecord) (actions : List Action) (reply : Result Receipt RefreshError)
+    (refusal : Option Refusal) → refusal_of base history actions ≡ refusal → reply ≡ reply_at (length history) refusal
+    → Tells reply base history actions
 true_tells base history actions reply None is e = rw e (is, refl)
 true_tells base history actions reply (Some refusal) is e = rw e (is, refl)
 

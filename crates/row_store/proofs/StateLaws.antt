@@ -1,5 +1,31 @@
 -- The state follows the lines: what an action does to the counts is what it does to the lines.
-use Rattle.std.proofs.Common.{◌≡◌, ℕ, ◌+◌, Bool, true, false, cond, not, eqb, List, [], ◌∷◌, ◌++◌, length, fold, unwrap_or, Option, Some, None, sym, refl, ap, ◌∙◌, length-append, append_assoc}
+use Rattle.std.proofs.Common.{
+  ◌≡◌,
+  ℕ,
+  ◌+◌,
+  Bool,
+  true,
+  false,
+  cond,
+  not,
+  eqb,
+  List,
+  [],
+  ◌∷◌,
+  ◌++◌,
+  length,
+  fold,
+  unwrap_or,
+  Option,
+  Some,
+  None,
+  sym,
+  refl,
+  ap,
+  ◌∙◌,
+  length-append,
+  append_assoc,
+}
 use Rattle.std.specs.List.{filter}
 use Rattle.std.specs.Ordering.{eq_by_cmp, is_eq}
 use Rattle.std.specs.declared.cmp.Ordering.{Ordering}
@@ -18,13 +44,26 @@ use Rattle.ssb_schema.specs.Facts.{fact_of, facts_of}
 use Rattle.ssb_schema.specs.Orders.{order_key}
 use Rattle.row_store.specs.Lines.{is_of, lines_without, lines_after_action, lines_after_refresh}
 use Rattle.row_store.specs.History.{CommitRecord, lines_after}
-use Rattle.row_store.specs.State.{Counts, fact_values, fact_from, fact_cmp, count_of, with_fact, counts_without, fact_counts, counts_after_action, state_after, state_of}
+use Rattle.row_store.specs.State.{
+  Counts,
+  fact_values,
+  fact_from,
+  fact_cmp,
+  count_of,
+  with_fact,
+  counts_without,
+  fact_counts,
+  counts_after_action,
+  state_after,
+  state_of,
+}
 
 pub total_order : IsTotalOrder fact_cmp
 total_order = on_texts fact_values
 
 pub only_equal : (x y : Fact) → fact_cmp x y ≡ Equal → x ≡ y
-only_equal x y e = ap fact_from (map.slice_cmp-IsAntisymmetric map.nat_cmp-IsAntisymmetric (fact_values x) (fact_values y) e)
+only_equal x y e = ap fact_from (map.slice_cmp-IsAntisymmetric map.nat_cmp-IsAntisymmetric (fact_values x)
+    (fact_values y) e)
 
 pub tied : (r : Ordering) (x y : Fact) → fact_cmp x y ≡ r → (is_eq r ≡ true) → x ≡ y
 tied Less x y e t = absurd (cc)
@@ -32,35 +71,43 @@ tied Equal x y e t = only_equal x y e
 tied Greater x y e t = absurd (cc)
 
 -- what stays of the counts, at a fact
-pub get_kept : (p : Fact → Bool) (counts : Counts) (fact : Fact) → map.get (map.retain_keys counts p) fact ≡ cond (p fact) (map.get counts fact) None
+pub get_kept : (p : Fact → Bool) (counts : Counts) (fact : Fact)
+    → map.get (map.retain_keys counts p) fact ≡ cond (p fact) (map.get counts fact) None
 get_kept p counts fact = map.get-retain_keys counts p fact (λ x e. ap p (sym (only_equal fact x e)))
 
 -- two facts at which the counts are asked: the one that was put, and any
-at_put : (same : Bool) (k fact : Fact) (p : Fact → Bool) (v : ℕ) (old : Option ℕ) → (same ≡ true → fact ≡ k) → p k ≡ true
+at_put : (same : Bool) (k fact : Fact) (p : Fact → Bool) (v : ℕ) (old : Option ℕ) → (same ≡ true → fact ≡ k)
+    → p k ≡ true
     → cond (p fact) (cond same (Some v) old) None ≡ cond same (Some v) (cond (p fact) old None)
 at_put true k fact p v old is here = ap (λ b. cond b (Some v) None) (ap p (is refl) ∙ here)
 at_put false k fact p v old is here = refl
 
-at_dropped : (same : Bool) (k fact : Fact) (p : Fact → Bool) (v : ℕ) (old : Option ℕ) → (same ≡ true → fact ≡ k) → p k ≡ false
+at_dropped : (same : Bool) (k fact : Fact) (p : Fact → Bool) (v : ℕ) (old : Option ℕ) → (same ≡ true → fact ≡ k)
+    → p k ≡ false
     → cond (p fact) (cond same (Some v) old) None ≡ cond (p fact) old None
-at_dropped true k fact p v old is here = let e : p fact ≡ false = ap p (is refl) ∙ here in ap (λ b. cond b (Some v) None) e ∙ ap (λ b. cond b old None) (sym e)
+at_dropped true k fact p v old is here = let e : p fact ≡ false = ap p (is refl) ∙ here in
+    ap (λ b. cond b (Some v) None) e ∙ ap (λ b. cond b old None) (sym e)
 at_dropped false k fact p v old is here = refl
 
 -- a fact that stays
-kept-with_fact : (p : Fact → Bool) (counts : Counts) (k : Fact) → p k ≡ true → map.retain_keys (with_fact counts k) p ≡ with_fact (map.retain_keys counts p) k
+kept-with_fact : (p : Fact → Bool) (counts : Counts) (k : Fact) → p k ≡ true
+    → map.retain_keys (with_fact counts k) p ≡ with_fact (map.retain_keys counts p) k
 kept-with_fact p counts k here =
     let n : ℕ = count_of counts k + 1 in
-    let same_count : count_of (map.retain_keys counts p) k ≡ count_of counts k = ap (λ o. unwrap_or o 0) (get_kept p counts k ∙ ap (λ b. cond b (map.get counts k) None) here) in
+    let same_count : count_of (map.retain_keys counts p) k ≡ count_of counts k =
+    ap (λ o. unwrap_or o 0) (get_kept p counts k ∙ ap (λ b. cond b (map.get counts k) None) here) in
     map.same_map total_order only_equal _ _ (λ fact.
     get_kept p (with_fact counts k) fact
     ∙ ap (λ o. cond (p fact) o None) (map.get-insert total_order counts k n fact)
     ∙ at_put (eq_by_cmp fact_cmp fact k) k fact p n (map.get counts fact) (tied (fact_cmp fact k) fact k refl) here
     ∙ ap (cond (eq_by_cmp fact_cmp fact k) (Some n)) (sym (get_kept p counts fact))
-    ∙ ap (λ m. cond (eq_by_cmp fact_cmp fact k) (Some (m + 1)) (map.get (map.retain_keys counts p) fact)) (sym same_count)
+    ∙ ap (λ m. cond (eq_by_cmp fact_cmp fact k) (Some (m + 1)) (map.get (map.retain_keys counts p) fact))
+    (sym same_count)
     ∙ sym (map.get-insert total_order (map.retain_keys counts p) k (count_of (map.retain_keys counts p) k + 1) fact))
 
 -- a fact that goes
-dropped-with_fact : (p : Fact → Bool) (counts : Counts) (k : Fact) → p k ≡ false → map.retain_keys (with_fact counts k) p ≡ map.retain_keys counts p
+dropped-with_fact : (p : Fact → Bool) (counts : Counts) (k : Fact) → p k ≡ false
+    → map.retain_keys (with_fact counts k) p ≡ map.retain_keys counts p
 dropped-with_fact p counts k here =
     let n : ℕ = count_of counts k + 1 in
     map.same_map total_order only_equal _ _ (λ fact.
@@ -69,15 +116,21 @@ dropped-with_fact p counts k here =
     ∙ at_dropped (eq_by_cmp fact_cmp fact k) k fact p n (map.get counts fact) (tied (fact_cmp fact k) fact k refl) here
     ∙ sym (get_kept p counts fact))
 
-kept_facts : (q : LineFields → Bool) (p : Fact → Bool) → ((line : LineFields) → p (fact_of line) ≡ q line) → (counts : Counts) (lines : List LineFields)
-    → map.retain_keys (fold with_fact counts (facts_of lines)) p ≡ fold with_fact (map.retain_keys counts p) (facts_of (filter q lines))
+kept_facts : (q : LineFields → Bool) (p : Fact → Bool) → ((line : LineFields) → p (fact_of line) ≡ q line)
+    → (counts : Counts) (lines : List LineFields)
+    → map.retain_keys (fold with_fact counts (facts_of lines)) p ≡ fold with_fact (map.retain_keys counts p)
+    (facts_of (filter q lines))
 kept_facts q p alike counts [] = refl
 kept_facts q p alike counts (line ∷ lines) =
     let rest = kept_facts q p alike (with_fact counts (fact_of line)) lines in
-    let step : (b : Bool) → q line ≡ b → fold with_fact (map.retain_keys (with_fact counts (fact_of line)) p) (facts_of (filter q lines)) ≡ fold with_fact (map.retain_keys counts p) (facts_of (cond b (line ∷ filter q lines) (filter q lines))) =
+    let step : (b : Bool) → q line ≡ b → fold with_fact (map.retain_keys (with_fact counts (fact_of line)) p)
+    (facts_of (filter q lines)) ≡ fold with_fact (map.retain_keys counts p)
+    (facts_of (cond b (line ∷ filter q lines) (filter q lines))) =
     elim [
-      | true ↦ λ is. ap (λ m. fold with_fact m (facts_of (filter q lines))) (kept-with_fact p counts (fact_of line) (alike line ∙ is))
-      | false ↦ λ is. ap (λ m. fold with_fact m (facts_of (filter q lines))) (dropped-with_fact p counts (fact_of line) (alike line ∙ is))
+      | true ↦ λ is. ap (λ m. fold with_fact m (facts_of (filter q lines)))
+          (kept-with_fact p counts (fact_of line) (alike line ∙ is))
+      | false ↦ λ is. ap (λ m. fold with_fact m (facts_of (filter q lines)))
+          (dropped-with_fact p counts (fact_of line) (alike line ∙ is))
     ] in
     rest ∙ step (q line) refl
 
@@ -86,42 +139,62 @@ no_entry true old e = e
 no_entry false old e = refl
 
 kept_empty : (p : Fact → Bool) → map.retain_keys (map.empty {R = fact_cmp}) p ≡ map.empty {X = ℕ}
-kept_empty p = map.same_map total_order only_equal _ _ (λ fact. get_kept p map.empty fact ∙ no_entry (p fact) (map.get map.empty fact) (map.get-empty fact_cmp fact) ∙ sym (map.get-empty fact_cmp fact))
+kept_empty p = map.same_map total_order only_equal _ _
+    (λ fact. get_kept p map.empty fact ∙ no_entry (p fact) (map.get map.empty fact) (map.get-empty fact_cmp fact)
+    ∙ sym (map.get-empty fact_cmp fact))
 
 -- the counts without an order are those of the lines without it
-pub counts_without-fact_counts : (key : ℕ) (lines : List LineFields) → counts_without key (fact_counts (facts_of lines)) ≡ fact_counts (facts_of (lines_without key lines))
+pub counts_without-fact_counts : (key : ℕ) (lines : List LineFields)
+    → counts_without key (fact_counts (facts_of lines)) ≡ fact_counts (facts_of (lines_without key lines))
 counts_without-fact_counts key lines =
     let p : Fact → Bool = λ fact. not (eqb fact.order_key key) in
-    kept_facts (λ line. not (is_of key line)) p (λ line. refl) map.empty lines ∙ ap (λ m. fold with_fact m (facts_of (lines_without key lines))) (kept_empty p)
+    kept_facts (λ line. not (is_of key line)) p (λ line. refl) map.empty lines
+    ∙ ap (λ m. fold with_fact m (facts_of (lines_without key lines))) (kept_empty p)
 
 -- the counts of more lines
-fact_counts-append : (lines order : List LineFields) → fold with_fact (fact_counts (facts_of lines)) (facts_of order) ≡ fact_counts (facts_of (lines ++ order))
-fact_counts-append lines order = sym (ap fact_counts (map-append fact_of lines order) ∙ fold-append with_fact map.empty (facts_of lines) (facts_of order))
+fact_counts-append : (lines order : List LineFields) → fold with_fact (fact_counts (facts_of lines))
+    (facts_of order) ≡ fact_counts (facts_of (lines ++ order))
+fact_counts-append lines order = sym (ap fact_counts (map-append fact_of lines order)
+    ∙ fold-append with_fact map.empty (facts_of lines) (facts_of order))
 
-pub counts_after_action-fact_counts : (lines : List LineFields) (action : Action) → counts_after_action (fact_counts (facts_of lines)) action ≡ fact_counts (facts_of (lines_after_action lines action))
+pub counts_after_action-fact_counts : (lines : List LineFields) (action : Action)
+    → counts_after_action (fact_counts (facts_of lines)) action ≡ fact_counts
+    (facts_of (lines_after_action lines action))
 counts_after_action-fact_counts lines (Add order) = fact_counts-append lines order
 counts_after_action-fact_counts lines (Amend order) =
-    ap (λ m. fold with_fact m (facts_of order)) (counts_without-fact_counts (order_key order) lines) ∙ fact_counts-append (lines_without (order_key order) lines) order
+    ap (λ m. fold with_fact m (facts_of order)) (counts_without-fact_counts (order_key order) lines)
+    ∙ fact_counts-append (lines_without (order_key order) lines) order
 counts_after_action-fact_counts lines (Withdraw key) = counts_without-fact_counts key lines
 
-pub counts_after-all : (lines : List LineFields) (actions : List Action) → fold counts_after_action (fact_counts (facts_of lines)) actions ≡ fact_counts (facts_of (lines_after_refresh lines actions))
+pub counts_after-all : (lines : List LineFields) (actions : List Action)
+    → fold counts_after_action (fact_counts (facts_of lines)) actions ≡ fact_counts
+    (facts_of (lines_after_refresh lines actions))
 counts_after-all lines [] = refl
-counts_after-all lines (action ∷ actions) = ap (λ m. fold counts_after_action m actions) (counts_after_action-fact_counts lines action) ∙ counts_after-all (lines_after_action lines action) actions
+counts_after-all lines (action ∷ actions) = ap (λ m. fold counts_after_action m actions)
+    (counts_after_action-fact_counts lines action) ∙ counts_after-all (lines_after_action lines action) actions
 
 -- the lines after one commit more
-pub lines_after-push : (base : Tables) (history : List CommitRecord) (commit : CommitRecord) → lines_after base (history ++ commit ∷ []) ≡ lines_after_refresh (lines_after base history) commit.actions
-lines_after-push base history commit = fold-append (λ lines commit. lines_after_refresh lines commit.actions) base.lines history (commit ∷ [])
+pub lines_after-push : (base : Tables) (history : List CommitRecord) (commit : CommitRecord)
+    → lines_after base (history ++ commit ∷ []) ≡ lines_after_refresh (lines_after base history) commit.actions
+lines_after-push base history commit = fold-append (λ lines commit. lines_after_refresh lines commit.actions) base.lines
+    history (commit ∷ [])
 
 -- the state after one commit more
-pub state_after-state_of : (base : Tables) (history : List CommitRecord) (commit : CommitRecord) → state_after (state_of base history) commit ≡ state_of base (history ++ commit ∷ [])
+pub state_after-state_of : (base : Tables) (history : List CommitRecord) (commit : CommitRecord)
+    → state_after (state_of base history) commit ≡ state_of base (history ++ commit ∷ [])
 state_after-state_of base history commit =
     let longer : length history + 1 ≡ length (history ++ commit ∷ []) = sym (length-append history (commit ∷ [])) in
-    let counts : fold counts_after_action (fact_counts (facts_of (lines_after base history))) commit.actions ≡ fact_counts (facts_of (lines_after base (history ++ commit ∷ []))) =
-    counts_after-all (lines_after base history) commit.actions ∙ ap (λ lines. fact_counts (facts_of lines)) (sym (lines_after-push base history commit)) in
+    let counts : fold counts_after_action (fact_counts (facts_of (lines_after base history)))
+    commit.actions ≡ fact_counts (facts_of (lines_after base (history ++ commit ∷ []))) =
+    counts_after-all (lines_after base history) commit.actions
+    ∙ ap (λ lines. fact_counts (facts_of lines)) (sym (lines_after-push base history commit)) in
     λ i. record { base = base; commits = longer i; counts = counts i }
 
 -- several commits more
-pub state_after-all : (base : Tables) (history more : List CommitRecord) → fold state_after (state_of base history) more ≡ state_of base (history ++ more)
+pub state_after-all : (base : Tables) (history more : List CommitRecord)
+    → fold state_after (state_of base history) more ≡ state_of base (history ++ more)
 state_after-all base history [] = ap (state_of base) (sym (append-nil history))
 state_after-all base history (commit ∷ more) =
-    ap (λ s. fold state_after s more) (state_after-state_of base history commit) ∙ state_after-all base (history ++ commit ∷ []) more ∙ ap (state_of base) (append_assoc history (commit ∷ []) more)
+    ap (λ s. fold state_after s more) (state_after-state_of base history commit)
+    ∙ state_after-all base (history ++ commit ∷ []) more
+    ∙ ap (state_of base) (append_assoc history (commit ∷ []) more)

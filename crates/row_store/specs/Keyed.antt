@@ -27,7 +27,8 @@ key_at lines i = option_map_or (λ line. line.order_key) (slice_get lines i) 0
 
 -- the lines that an action of a commit adds
 abbrev pub order_at : List CommitRecord → ℕ → ℕ → List LineFields
-order_at log commit action = option_map_or (λ made. option_map_or added_by (slice_get made.actions action) []) (slice_get log commit) []
+order_at log commit action = option_map_or (λ made. option_map_or added_by (slice_get made.actions action) [])
+    (slice_get log commit) []
 
 -- so many lines from a source: the loaded lines in the order of the index, or an order of the log
 abbrev pub lines_from : Sources → ℕ → Source → List LineFields
@@ -57,13 +58,16 @@ abbrev pub Located : Sources → (ℕ → Option Place) → List LineFields → 
 Located sources orders lines = (key : ℕ) → Lies sources (orders key) (lines_of key lines)
 
 -- each key has its place, the lines are counted together and within the limit, and the index names loaded lines
-pub record IsKeyed (base : Tables) (sources : Sources) (orders : ℕ → Option Place) (line_count : ℕ) (lines : List LineFields) : Type 0 where
+pub record IsKeyed (base : Tables) (sources : Sources) (orders : ℕ → Option Place) (line_count : ℕ)
+    (lines : List LineFields) : Type 0 where
   pub each : Located sources orders lines
   pub total : line_count ≡ length lines
   pub few : line_count ≤ base.limits.lines
   pub index : All (λ i. i < length sources.loaded) sources.index
 
 -- the orders by key stand for the lines that the log leaves, and the log is legal
-pub record IsStore (base : Tables) (index : List ℕ) (log : List CommitRecord) (orders : ℕ → Option Place) (line_count : ℕ) : Type 0 where
-  pub keyed : IsKeyed base (record { loaded = base.lines; index = index; log = log }) orders line_count (lines_after base log)
+pub record IsStore (base : Tables) (index : List ℕ) (log : List CommitRecord) (orders : ℕ → Option Place)
+    (line_count : ℕ) : Type 0 where
+  pub keyed : IsKeyed base (record { loaded = base.lines; index = index; log = log }) orders line_count
+      (lines_after base log)
   pub legal : IsLegal base log

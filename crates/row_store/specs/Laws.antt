@@ -1,5 +1,24 @@
 -- Laws of histories and of states.
-use Rattle.std.specs.Prelude.{◌≡◌, ℕ, ◌+◌, ◌≤◌, ◌==◌, if◌then◌else◌, List, [], ◌∷◌, ◌++◌, length, fold, None, Some, Result, Ok, Err, IsPermutation}
+use Rattle.std.specs.Prelude.{
+  ◌≡◌,
+  ℕ,
+  ◌+◌,
+  ◌≤◌,
+  ◌==◌,
+  if◌then◌else◌,
+  List,
+  [],
+  ◌∷◌,
+  ◌++◌,
+  length,
+  fold,
+  None,
+  Some,
+  Result,
+  Ok,
+  Err,
+  IsPermutation,
+}
 use Rattle.std.specs.Bool.{Decides}
 use Rattle.ssb_schema.specs.declared.refresh.Action.{Action}
 use Rattle.ssb_schema.specs.declared.fact.Fact.{Fact}
@@ -9,7 +28,18 @@ use Rattle.row_store.specs.Lines.{lines_after_refresh}
 use Rattle.row_store.specs.History.{CommitRecord, IsPrefix, lines_after}
 use Rattle.row_store.specs.Refusals.{refusal_of}
 use Rattle.row_store.specs.Legal.{IsLegal, warehouse_reply, warehouse_after, IsRefreshReply, Tells}
-use Rattle.row_store.specs.State.{State, StandsFor, Counts, is_same, occurrences, count_of, with_fact, counts_without, fact_counts, state_after}
+use Rattle.row_store.specs.State.{
+  State,
+  StandsFor,
+  Counts,
+  is_same,
+  occurrences,
+  count_of,
+  with_fact,
+  counts_without,
+  fact_counts,
+  state_after,
+}
 use Rattle.row_store.specs.declared.commit.Receipt.{Receipt}
 use Rattle.row_store.specs.declared.refusal.Refusal.{Refusal}
 use Rattle.row_store.specs.declared.refusal.RefreshError.{RefreshError}
@@ -17,15 +47,18 @@ use Rattle.row_store.specs.declared.refusal.RefreshError.TheVariants.{Refused}
 
 -- a legal history is legal in all its beginnings
 abbrev pub BeginningsAreLegal : Type 0
-BeginningsAreLegal = (base : Tables) (shorter longer : List CommitRecord) → IsPrefix shorter longer → IsLegal base longer → IsLegal base shorter
+BeginningsAreLegal = (base : Tables) (shorter longer : List CommitRecord) → IsPrefix shorter longer
+    → IsLegal base longer → IsLegal base shorter
 
 -- a legal history stays legal with one commit more that is not refused after it
 abbrev pub AcceptedStaysLegal : Type 0
-AcceptedStaysLegal = (base : Tables) (history : List CommitRecord) (commit : CommitRecord) → IsLegal base history → refusal_of base history commit.actions ≡ None → IsLegal base (history ++ commit ∷ [])
+AcceptedStaysLegal = (base : Tables) (history : List CommitRecord) (commit : CommitRecord) → IsLegal base history
+    → refusal_of base history commit.actions ≡ None → IsLegal base (history ++ commit ∷ [])
 
 -- a legal history has no more commits than the limit, and leaves no more lines than the limit
 abbrev pub LegalHistoriesAreFew : Type 0
-LegalHistoriesAreFew = (base : Tables) (history : List CommitRecord) → IsSound base → IsLegal base history → (length history ≤ base.limits.commits) × (length (lines_after base history) ≤ base.limits.lines)
+LegalHistoriesAreFew = (base : Tables) (history : List CommitRecord) → IsSound base → IsLegal base history
+    → (length history ≤ base.limits.commits) × (length (lines_after base history) ≤ base.limits.lines)
 
 -- a history begins with itself
 abbrev pub BeginsWithItself : Type 0
@@ -33,7 +66,8 @@ BeginsWithItself = (history : List CommitRecord) → IsPrefix history history
 
 -- a beginning of a beginning is a beginning
 abbrev pub BeginningsChain : Type 0
-BeginningsChain = (first second third : List CommitRecord) → IsPrefix first second → IsPrefix second third → IsPrefix first third
+BeginningsChain = (first second third : List CommitRecord) → IsPrefix first second → IsPrefix second third
+    → IsPrefix first third
 
 -- a history is a beginning of it and one commit more
 abbrev pub OneMoreBeginsWithIt : Type 0
@@ -41,7 +75,8 @@ OneMoreBeginsWithIt = (history : List CommitRecord) (commit : CommitRecord) → 
 
 -- of two beginnings of one history the one that is not longer is a beginning of the other
 abbrev pub BeginningsOfOneAgree : Type 0
-BeginningsOfOneAgree = (first second whole : List CommitRecord) → IsPrefix first whole → IsPrefix second whole → length first ≤ length second → IsPrefix first second
+BeginningsOfOneAgree = (first second whole : List CommitRecord) → IsPrefix first whole → IsPrefix second whole
+    → length first ≤ length second → IsPrefix first second
 
 -- a beginning is not longer
 abbrev pub BeginningsAreShorter : Type 0
@@ -49,15 +84,18 @@ BeginningsAreShorter = (shorter longer : List CommitRecord) → IsPrefix shorter
 
 -- a beginning that is as long as the whole is the whole
 abbrev pub AsLongIsTheWhole : Type 0
-AsLongIsTheWhole = (shorter longer : List CommitRecord) → IsPrefix shorter longer → length shorter ≡ length longer → shorter ≡ longer
+AsLongIsTheWhole = (shorter longer : List CommitRecord) → IsPrefix shorter longer → length shorter ≡ length longer
+    → shorter ≡ longer
 
 -- the lines after a history and one commit more are the commit's action on the lines after it
 abbrev pub LinesFollowCommits : Type 0
-LinesFollowCommits = (base : Tables) (history : List CommitRecord) (commit : CommitRecord) → lines_after base (history ++ commit ∷ []) ≡ lines_after_refresh (lines_after base history) commit.actions
+LinesFollowCommits = (base : Tables) (history : List CommitRecord) (commit : CommitRecord)
+    → lines_after base (history ++ commit ∷ []) ≡ lines_after_refresh (lines_after base history) commit.actions
 
 -- where a state stands for a history, the state after a commit stands for the history and that commit
 abbrev pub StatesFollowCommits : Type 0
-StatesFollowCommits = (state : State) (history : List CommitRecord) (commit : CommitRecord) → StandsFor state history → StandsFor (state_after state commit) (history ++ commit ∷ [])
+StatesFollowCommits = (state : State) (history : List CommitRecord) (commit : CommitRecord) → StandsFor state history
+    → StandsFor (state_after state commit) (history ++ commit ∷ [])
 
 -- facts with the same values are equal
 abbrev pub SameFactsAreEqual : Type 0
@@ -69,11 +107,13 @@ CountsTellOccurrences = (facts : List Fact) (fact : Fact) → count_of (fact_cou
 
 -- a fact more counts once more, and no other does
 abbrev pub OneFactCountsOnce : Type 0
-OneFactCountsOnce = (counts : Counts) (fact other : Fact) → count_of (with_fact counts fact) other ≡ count_of counts other + (if is_same other fact then 1 else 0)
+OneFactCountsOnce = (counts : Counts) (fact other : Fact)
+    → count_of (with_fact counts fact) other ≡ count_of counts other + (if is_same other fact then 1 else 0)
 
 -- without an order no fact of it counts, and the others count as before
 abbrev pub WithoutAnOrder : Type 0
-WithoutAnOrder = (key : ℕ) (counts : Counts) (fact : Fact) → count_of (counts_without key counts) fact ≡ (if fact.order_key == key then 0 else count_of counts fact)
+WithoutAnOrder = (key : ℕ) (counts : Counts) (fact : Fact)
+    → count_of (counts_without key counts) fact ≡ (if fact.order_key == key then 0 else count_of counts fact)
 
 -- facts that come behind others are counted with them
 abbrev pub AppendedFactsCount : Type 0
@@ -81,7 +121,8 @@ AppendedFactsCount = (facts more : List Fact) → fold with_fact (fact_counts fa
 
 -- two facts may be counted in either order
 abbrev pub FactsCommute : Type 0
-FactsCommute = (counts : Counts) (fact other : Fact) → with_fact (with_fact counts fact) other ≡ with_fact (with_fact counts other) fact
+FactsCommute = (counts : Counts) (fact other : Fact) → with_fact (with_fact counts fact) other ≡ with_fact
+    (with_fact counts other) fact
 
 -- rearranged facts count the same
 abbrev pub RearrangedCountEqual : Type 0
@@ -93,18 +134,25 @@ EqualCountsRearrange = (facts others : List Fact) → fact_counts facts ≡ fact
 
 -- two histories for which one state stands leave the same facts, rearranged
 abbrev pub OneStateOneAnswer : Type 0
-OneStateOneAnswer = (state : State) (history other : List CommitRecord) → StandsFor state history → StandsFor state other → IsPermutation (facts_of (lines_after state.base history)) (facts_of (lines_after state.base other))
+OneStateOneAnswer = (state : State) (history other : List CommitRecord) → StandsFor state history
+    → StandsFor state other → IsPermutation (facts_of (lines_after state.base history))
+    (facts_of (lines_after state.base other))
 
 -- the one-thread warehouse makes a refresh that is not refused its next commit, and tells its number
 abbrev pub AcceptedIsCommitted : Type 0
-AcceptedIsCommitted = (base : Tables) (history : List CommitRecord) (commit : CommitRecord) → refusal_of base history commit.actions ≡ None
-    → (warehouse_reply base history commit.actions ≡ Ok (record { number = length (history ++ commit ∷ []) })) × (warehouse_after base history commit ≡ history ++ commit ∷ [])
+AcceptedIsCommitted = (base : Tables) (history : List CommitRecord) (commit : CommitRecord)
+    → refusal_of base history commit.actions ≡ None
+    → (warehouse_reply base history commit.actions ≡ Ok (record { number = length (history ++ commit ∷ []) }))
+    × (warehouse_after base history commit ≡ history ++ commit ∷ [])
 
 -- it tells a refusal with the number of commits so far, and changes nothing
 abbrev pub RefusedChangesNothing : Type 0
-RefusedChangesNothing = (base : Tables) (history : List CommitRecord) (commit : CommitRecord) (refusal : Refusal) → refusal_of base history commit.actions ≡ Some refusal
-    → (warehouse_reply base history commit.actions ≡ Err (Refused (length history) refusal.action refusal.cause)) × (warehouse_after base history commit ≡ history)
+RefusedChangesNothing = (base : Tables) (history : List CommitRecord) (commit : CommitRecord) (refusal : Refusal)
+    → refusal_of base history commit.actions ≡ Some refusal
+    → (warehouse_reply base history commit.actions ≡ Err (Refused (length history) refusal.action refusal.cause))
+    × (warehouse_after base history commit ≡ history)
 
 -- a reply tells the refusal of the refresh, or that it has none
 abbrev pub RepliesTell : Type 0
-RepliesTell = (base : Tables) (history : List CommitRecord) (actions : List Action) (reply : Result Receipt RefreshError) → IsRefreshReply base history actions reply → Tells reply base history actions
+RepliesTell = (base : Tables) (history : List CommitRecord) (actions : List Action)
+    (reply : Result Receipt RefreshError) → IsRefreshReply base history actions reply → Tells reply base history actions

@@ -1,5 +1,23 @@
 -- The one-thread warehouse, and the histories that it can have.
-use Rattle.std.specs.Prelude.{◌≡◌, ℕ, ◌+◌, ◌⊎◌, List, [], ◌∷◌, ◌++◌, length, take, slice_get, Option, Some, None, Result, Ok, Err}
+use Rattle.std.specs.Prelude.{
+  ◌≡◌,
+  ℕ,
+  ◌+◌,
+  ◌⊎◌,
+  List,
+  [],
+  ◌∷◌,
+  ◌++◌,
+  length,
+  take,
+  slice_get,
+  Option,
+  Some,
+  None,
+  Result,
+  Ok,
+  Err,
+}
 use Rattle.ssb_schema.specs.declared.refresh.Action.{Action}
 use Rattle.ssb_schema.specs.Base.{Tables}
 use Rattle.row_store.specs.History.{CommitRecord}
@@ -23,11 +41,14 @@ warehouse_reply base history actions = reply_at (length history) (refusal_of bas
 -- what a client may be told: the one-thread warehouse's reply, or that memory ran out for a refresh that has no refusal
 abbrev pub IsRefreshReply : Tables → List CommitRecord → List Action → Result Receipt RefreshError → Type 0
 IsRefreshReply base history actions reply =
-    (reply ≡ warehouse_reply base history actions) ⊎ ((reply ≡ Err refresh.OutOfMemory) × (refusal_of base history actions ≡ None))
+    (reply ≡ warehouse_reply base history actions) ⊎ ((reply ≡ Err refresh.OutOfMemory)
+    × (refusal_of base history actions ≡ None))
 
--- what a reply tells of the refresh: that it has no refusal, and the commit's number; or its refusal, and how many commits there were
+-- what a reply tells of the refresh: that it has no refusal, and the commit's number; or its refusal, and how many
+-- commits there were
 abbrev pub Tells : Result Receipt RefreshError → Tables → List CommitRecord → List Action → Type 0
-Tells (Ok receipt) base history actions = (refusal_of base history actions ≡ None) × (receipt.number ≡ length history + 1)
+Tells (Ok receipt) base history actions = (refusal_of base history actions ≡ None)
+    × (receipt.number ≡ length history + 1)
 Tells (Err (refresh.Refused at action cause)) base history actions =
     (refusal_of base history actions ≡ Some (record { action = action; cause = cause })) × (at ≡ length history)
 Tells (Err refresh.OutOfMemory) base history actions = refusal_of base history actions ≡ None
@@ -42,7 +63,8 @@ warehouse_after base history commit = unless_refused history commit (refusal_of 
 
 -- each commit has no refusal after the commits before it
 pub record IsLegal (base : Tables) (history : List CommitRecord) : Type 0 where
-  pub accepted : (i : ℕ) (commit : CommitRecord) → slice_get history i ≡ Some commit → refusal_of base (take i history) commit.actions ≡ None
+  pub accepted : (i : ℕ) (commit : CommitRecord) → slice_get history i ≡ Some commit
+      → refusal_of base (take i history) commit.actions ≡ None
 
 -- what a failed application says: the refusal, or that memory ran out where there is none
 abbrev pub Fails : ApplyError → Option Refusal → Type 0

@@ -28,7 +28,8 @@ added_by (Add order) = order
 added_by (Amend order) = order
 added_by (Withdraw key) = []
 
--- adding an order appends its lines, amending one puts its lines in place of those with its key, withdrawing one drops every line with its key
+-- adding an order appends its lines, amending one puts its lines in place of those with its key, withdrawing one drops
+-- every line with its key
 abbrev pub lines_after_action : List LineFields → Action → List LineFields
 lines_after_action lines (Add order) = lines ++ order
 lines_after_action lines (Amend order) = lines_without (order_key order) lines ++ order

@@ -1,5 +1,20 @@
 -- Which refresh is refused, and why. Each cause is a test over whole lists.
-use Rattle.std.specs.Prelude.{ℕ, ◌+◌, Bool, not, nat_lt, nat_le, if◌then◌else◌, List, [], ◌∷◌, length, Option, Some, None}
+use Rattle.std.specs.Prelude.{
+  ℕ,
+  ◌+◌,
+  Bool,
+  not,
+  nat_lt,
+  nat_le,
+  if◌then◌else◌,
+  List,
+  [],
+  ◌∷◌,
+  length,
+  Option,
+  Some,
+  None,
+}
 use Rattle.std.specs.Option.{option_or, option_map}
 use Rattle.std.specs.List.{list_any}
 use Rattle.ssb_schema.specs.declared.line.LineFields.{LineFields}
@@ -10,7 +25,17 @@ use Rattle.ssb_schema.specs.Base.{Tables, Dimensions, has_key, customer_key, sup
 use Rattle.row_store.specs.Lines.{is_present, lines_without, lines_after_action}
 use Rattle.row_store.specs.History.{CommitRecord, lines_after}
 use Rattle.row_store.specs.declared.refusal.Cause.{Cause}
-use Rattle.row_store.specs.declared.refusal.Cause.TheVariants.{LogFull, Present, UnknownCustomer, UnknownSupplier, UnknownPart, UnknownDate, LinesFull, Absent, AmendAbsent}
+use Rattle.row_store.specs.declared.refusal.Cause.TheVariants.{
+  LogFull,
+  Present,
+  UnknownCustomer,
+  UnknownSupplier,
+  UnknownPart,
+  UnknownDate,
+  LinesFull,
+  Absent,
+  AmendAbsent,
+}
 use Rattle.row_store.specs.declared.refusal.Refusal.{Refusal}
 
 -- the line names a row that the dimension lacks
@@ -53,13 +78,16 @@ cause_of base lines (Amend order) =
     else Some (AmendAbsent (order_key order))
 cause_of base lines (Withdraw key) = if is_present key lines then None else Some (Absent key)
 
--- the first action that is refused, counted from a number on, and why; each is looked at among the lines that the earlier ones leave
+-- the first action that is refused, counted from a number on, and why; each is looked at among the lines that the
+-- earlier ones leave
 abbrev pub first_refusal : Tables → ℕ → List LineFields → List Action → Option Refusal
 first_refusal base number lines [] = None
 first_refusal base number lines (action ∷ actions) =
-    option_or (option_map (λ cause. record { action = number; cause = cause }) (cause_of base lines action)) (first_refusal base (number + 1) (lines_after_action lines action) actions)
+    option_or (option_map (λ cause. record { action = number; cause = cause }) (cause_of base lines action))
+    (first_refusal base (number + 1) (lines_after_action lines action) actions)
 
--- the refusal of a refresh after a history, if there is one: first a full log, as action 0, and then action by action from 1
+-- the refusal of a refresh after a history, if there is one: first a full log, as action 0, and then action by action
+-- from 1
 abbrev pub refusal_of : Tables → List CommitRecord → List Action → Option Refusal
 refusal_of base history actions =
     if nat_le base.limits.commits (length history) then Some (record { action = 0; cause = LogFull })

@@ -16,7 +16,8 @@ use Rattle.row_store.specs.History.{CommitRecord, lines_after}
 
 -- the ten values of a fact
 abbrev pub fact_values : Fact → List ℕ
-fact_values fact = fact.order_key ∷ fact.customer ∷ fact.supplier ∷ fact.part ∷ fact.date ∷ fact.quantity ∷ fact.discount ∷ fact.price ∷ fact.revenue ∷ fact.cost ∷ []
+fact_values fact = fact.order_key ∷ fact.customer ∷ fact.supplier ∷ fact.part ∷ fact.date ∷ fact.quantity ∷
+    fact.discount ∷ fact.price ∷ fact.revenue ∷ fact.cost ∷ []
 
 -- the fact of ten values
 abbrev pub fact_from : List ℕ → Fact
@@ -83,11 +84,19 @@ pub record State : Type 0 where
 
 -- the state after one commit more
 abbrev pub state_after : State → CommitRecord → State
-state_after state commit = record { base = state.base; commits = state.commits + 1; counts = fold counts_after_action state.counts commit.actions }
+state_after state commit = record {
+  base = state.base;
+  commits = state.commits + 1;
+  counts = fold counts_after_action state.counts commit.actions;
+}
 
 -- the state of the lines that a history leaves
 abbrev pub state_of : Tables → List CommitRecord → State
-state_of base history = record { base = base; commits = length history; counts = fact_counts (facts_of (lines_after base history)) }
+state_of base history = record {
+  base = base;
+  commits = length history;
+  counts = fact_counts (facts_of (lines_after base history));
+}
 
 -- the state is that of the history over its base
 abbrev pub StandsFor : State → List CommitRecord → Type 0

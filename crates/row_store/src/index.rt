@@ -1,5 +1,6 @@
 //! The loaded orders: an index of the loaded lines in the order of their keys, and each order's run in it.
-ghost use Rattle.std.specs.Prelude.{◌≡◌, ◌≢◌, ◌<◌, ◌≤◌, ◌^◌, ℕ, List, All, length, nat_eq, slice_index, None, IfOk, OnOk};
+ghost use Rattle.std.specs.Prelude.{◌≡◌, ◌≢◌, ◌<◌, ◌≤◌, ◌^◌, ℕ, List, All, length, nat_eq, slice_index, None, IfOk};
+ghost use Rattle.std.specs.Prelude.{OnOk};
 ghost use Rattle.std.specs.List.{range_with_len};
 ghost use Rattle.std.specs.List.Sorted.{IsNonDecreasingBy};
 ghost use Rattle.std.specs.HashMap.{get};
@@ -42,7 +43,8 @@ pub(crate) fn index_of(alloc: Global, lines: &[Line]) -> Result<Vec<u32>, AllocE
     requires { length lines.now < 2 ^ 32 }
     ensures within { IfOk result (λ index. All (λ i. i < length lines.now) index.items) }
     ensures sorted { IfOk result (λ index. IsNonDecreasingBy (key_at lines.now) index.items) }
-    ensures same { IfOk result (λ index. (key : ℕ) → lines_of key (lines_at lines.now index.items) ≡ lines_of key lines.now) }
+    ensures same { IfOk result (λ index. (key : ℕ) → lines_of key (lines_at lines.now index.items) ≡ lines_of key
+        lines.now) }
     ensures len { IfOk result (λ index. length index.items ≡ length lines.now) }
 {
     let mut index = positions(alloc, lines.len() as u32)?;

@@ -1,7 +1,11 @@
 //! What holds of every history and state: each law is the contract of a function that does nothing.
-ghost use Rattle.row_store.specs.Laws.{BeginningsAreLegal, AcceptedStaysLegal, LegalHistoriesAreFew, LinesFollowCommits, StatesFollowCommits};
-ghost use Rattle.row_store.specs.Laws.{BeginsWithItself, BeginningsChain, OneMoreBeginsWithIt, BeginningsOfOneAgree, BeginningsAreShorter, AsLongIsTheWhole};
-ghost use Rattle.row_store.specs.Laws.{SameFactsAreEqual, CountsTellOccurrences, OneFactCountsOnce, WithoutAnOrder, AppendedFactsCount, FactsCommute, RearrangedCountEqual, EqualCountsRearrange, OneStateOneAnswer};
+ghost use Rattle.row_store.specs.Laws.{BeginningsAreLegal, AcceptedStaysLegal, LegalHistoriesAreFew};
+ghost use Rattle.row_store.specs.Laws.{LinesFollowCommits, StatesFollowCommits};
+ghost use Rattle.row_store.specs.Laws.{BeginsWithItself, BeginningsChain, OneMoreBeginsWithIt, BeginningsOfOneAgree};
+ghost use Rattle.row_store.specs.Laws.{BeginningsAreShorter, AsLongIsTheWhole};
+ghost use Rattle.row_store.specs.Laws.{SameFactsAreEqual, CountsTellOccurrences, OneFactCountsOnce, WithoutAnOrder};
+ghost use Rattle.row_store.specs.Laws.{AppendedFactsCount, FactsCommute, RearrangedCountEqual, EqualCountsRearrange};
+ghost use Rattle.row_store.specs.Laws.{OneStateOneAnswer};
 ghost use Rattle.row_store.specs.Laws.{AcceptedIsCommitted, RefusedChangesNothing, RepliesTell};
 
 /// A legal history is legal in all its beginnings.
@@ -28,8 +32,8 @@ pub fn beginnings_are_an_order()
     ensures shorter { BeginningsAreShorter }
 {}
 
-/// A history is a beginning of it and one commit more; and of two beginnings of one history the one that is not longer is
-/// a beginning of the other.
+/// A history is a beginning of it and one commit more; and of two beginnings of one history the one that is not longer
+/// is a beginning of the other.
 pub fn histories_grow()
     ensures one_more { OneMoreBeginsWithIt }
     ensures agree { BeginningsOfOneAgree }

@@ -1,5 +1,6 @@
 //! A replica that keeps the live lines as a list.
-ghost use Rattle.std.specs.Prelude.{◌≡◌, ◌++◌, ◌≤◌, [], flat_map, vec_len, vec_capacity, IfOk, OnOk, OnErr, MatchResult};
+ghost use Rattle.std.specs.Prelude.{◌≡◌, ◌++◌, ◌≤◌, [], flat_map, vec_len, vec_capacity, IfOk, OnOk, OnErr};
+ghost use Rattle.std.specs.Prelude.{MatchResult};
 ghost use Rattle.row_store.specs.Absorbing.{gone_by, lines_without_all};
 ghost use Rattle.row_store.specs.Lines.{lines_after_action, lines_after_refresh};
 ghost use Rattle.row_store.specs.History.{lines_after, with_commit};

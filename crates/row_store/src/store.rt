@@ -1,10 +1,12 @@
 //! The primary replica: the live orders by key, and the log.
-ghost use Rattle.std.specs.Prelude.{◌≡◌, ◌+◌, ◌≤◌, ◌^◌, ◌↔◌, List, [], length, drop, None, Some, IsNone, IfSome, MatchResult, OnOk, OnErr, IfOk, IfErr};
+ghost use Rattle.std.specs.Prelude.{◌≡◌, ◌+◌, ◌≤◌, ◌^◌, ◌↔◌, List, [], length, drop, None, Some, IsNone, IfSome};
+ghost use Rattle.std.specs.Prelude.{MatchResult, OnOk, OnErr, IfOk, IfErr};
 ghost use Rattle.std.specs.List.{list_any};
 ghost use Rattle.ssb_schema.specs.declared.line.LineFields.{LineFields};
 ghost use Rattle.row_store.specs.Lines.{lines_of, lines_after_action, lines_after_refresh};
 ghost use Rattle.row_store.specs.History.{lines_after, with_commit};
-ghost use Rattle.row_store.specs.Refusals.{lacks_customer, lacks_supplier, lacks_part, lacks_date, unknown_key, order_cause, cause_of, refusal_of};
+ghost use Rattle.row_store.specs.Refusals.{lacks_customer, lacks_supplier, lacks_part, lacks_date, unknown_key};
+ghost use Rattle.row_store.specs.Refusals.{order_cause, cause_of, refusal_of};
 ghost use Rattle.row_store.specs.Legal.{Fails, IsLegal, IsRefreshReply};
 
 use crate::commit::{Commit, Receipt};
@@ -99,7 +101,8 @@ fn join(base: &Base, order: &Order, live: usize) -> Result<usize, Cause>
     requires { live ≤ base.now.limits.lines }
     ensures { (lines : List LineFields) → length lines ≡ live →
         MatchResult result
-        (λ n. (order_cause base.now lines order.now ≡ None) × (n ≡ length lines + length order.now) × (n ≤ base.now.limits.lines))
+        (λ n. (order_cause base.now lines order.now ≡ None) × (n ≡ length lines + length order.now)
+        × (n ≤ base.now.limits.lines))
         (λ cause. order_cause base.now lines order.now ≡ Some cause) }
 {
     let lines = order.lines();
@@ -214,7 +217,8 @@ impl RowStore {
     /// accepts.
     pub fn apply(&mut self, client: u32, refresh: Arc<Refresh>) -> Result<Receipt, ApplyError>
         ensures accepted { OnOk result (refusal_of self.old.base self.old.log refresh.value ≡ None) }
-        ensures log { OnOk result (self.new ≡ with_commit self.old (record { client = client; actions = refresh.value })) }
+        ensures log { OnOk result (self.new ≡ with_commit self.old
+            (record { client = client; actions = refresh.value })) }
         ensures number { IfOk result (λ receipt. receipt.number ≡ length self.new.log) }
         ensures failed { IfErr result (λ error. Fails error (refusal_of self.old.base self.old.log refresh.value)) }
         ensures unchanged { OnErr result (self.new ≡ self.old) }
@@ -242,7 +246,8 @@ impl RowStore {
     /// commit's number, or the refusal and how many commits there were.
     pub fn refresh(&mut self, client: u32, refresh: Arc<Refresh>) -> Result<Receipt, RefreshError>
         ensures reply { IsRefreshReply self.old.base self.old.log refresh.value result }
-        ensures committed { OnOk result (self.new ≡ with_commit self.old (record { client = client; actions = refresh.value })) }
+        ensures committed { OnOk result (self.new ≡ with_commit self.old
+            (record { client = client; actions = refresh.value })) }
         ensures unchanged { OnErr result (self.new ≡ self.old) }
     {
         let at = self.log.len() as u64;
@@ -331,7 +336,8 @@ impl RowStore {
     // How many lines the order has after the earlier actions.
     fn count(&self, earlier: &[Action], key: u64) -> usize
         requires { length earlier.now ≤ 64 }
-        ensures { result ≡ length (lines_of key (lines_after_refresh (lines_after self.now.base self.now.log) earlier.now)) }
+        ensures { result ≡ length (lines_of key (lines_after_refresh (lines_after self.now.base self.now.log)
+            earlier.now)) }
     {
         let held = self.orders.get(&key).map_or(0, |place| place.lines);
         count_after(held, earlier, key) as usize

@@ -214,8 +214,8 @@ fn refresh(alloc: Global, steps: &[Step<'_>]) -> Result<Arc<Refresh>, Fail> {
     Ok(Arc::new(alloc, refresh).map_err(AllocError::from)?)
 }
 
-// What a store replies to a refresh by client 1, as a line. Where memory is wanting, the store is as it was, and the same
-// refresh is tried once more.
+// What a store replies to a refresh by client 1, as a line. Where memory is wanting, the store is as it was, and the
+// same refresh is tried once more.
 fn reply(store: &mut RowStore, told: &mut String, refresh: Arc<Refresh>) -> Result<(), Fail> {
     let again = Arc::try_clone(&refresh)?;
     let (commits, lines) = (store.len(), store.line_count());

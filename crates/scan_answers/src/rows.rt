@@ -1,5 +1,6 @@
 //! Rows from counts and sums by group number.
-ghost use Rattle.std.specs.Prelude.{◌≡◌, ◌<◌, length, pos, IfOk, slice_index, slice_index_or, nat_lt, Some, None, [], ◌∷◌, if◌then◌else◌};
+ghost use Rattle.std.specs.Prelude.{◌≡◌, ◌<◌, length, pos, IfOk, slice_index, slice_index_or, nat_lt, Some, None, []};
+ghost use Rattle.std.specs.Prelude.{◌∷◌, if◌then◌else◌};
 ghost use Rattle.ssb_plans.specs.Plan.{OrdersAllGroups};
 ghost use Rattle.scan_answers.specs.Groups.{size_of, counts_of, group_values};
 ghost use Rattle.scan_answers.specs.Dense.{dense_rows, AnswersAll};
@@ -60,7 +61,8 @@ fn rows_by_number(
 ) -> Result<Vec<ResultRow>, AllocError>
     requires counts { length counts.now ≡ size_of (counts_of columns.now) }
     requires sums { length sums.now ≡ size_of (counts_of columns.now) }
-    ensures { IfOk result (λ rows. rows.items ≡ dense_rows (length counts.now) (group_values columns.now) (λ g. slice_index counts.now g) (λ g. slice_index_or sums.now g (pos 0))) }
+    ensures { IfOk result (λ rows. rows.items ≡ dense_rows (length counts.now) (group_values columns.now)
+        (λ g. slice_index counts.now g) (λ g. slice_index_or sums.now g (pos 0))) }
 {
     let mut rows = Vec::new(alloc);
     for number in 0..counts.len() {
@@ -74,7 +76,8 @@ fn rows_by_number(
 
 /// The one row of a plan without group columns.
 pub fn total_row(alloc: Global, count: u64, sum: i64) -> Result<Vec<ResultRow>, AllocError>
-    ensures { IfOk result (λ rows. rows.items ≡ record { groups = []; sum = if nat_lt 0 count then Some sum else None } ∷ []) }
+    ensures { IfOk result (λ rows. rows.items ≡ record { groups = []; sum = if nat_lt 0 count then Some sum else None }
+        ∷ []) }
 {
     let groups = Items::from_vec(Vec::new(alloc));
     let sum = if count > 0 { Some(sum) } else { None };
@@ -95,7 +98,8 @@ pub fn answer_rows(
     requires columns { length columns.now ≡ length plan.now.groups }
     requires counts { length counts.now ≡ size_of (counts_of columns.now) }
     requires sums { length sums.now ≡ size_of (counts_of columns.now) }
-    ensures { IfOk result (λ rows. AnswersAll plan.now (length counts.now) (group_values columns.now) (λ g. slice_index counts.now g) (λ g. slice_index_or sums.now g (pos 0)) rows.items) }
+    ensures { IfOk result (λ rows. AnswersAll plan.now (length counts.now) (group_values columns.now)
+        (λ g. slice_index counts.now g) (λ g. slice_index_or sums.now g (pos 0)) rows.items) }
 {
     if plan.groups.len() == 0 {
         return total_row(alloc, counts[0], sum_at(sums, 0));
@@ -116,7 +120,8 @@ pub fn answer_question(
     requires columns { length columns.now ≡ length (plan_over question.now.0 question.now.1).groups }
     requires counts { length counts.now ≡ size_of (counts_of columns.now) }
     requires sums { length sums.now ≡ size_of (counts_of columns.now) }
-    ensures { IfOk result (λ rows. AnswersLines question.now columns.now (λ g. slice_index counts.now g) (λ g. slice_index_or sums.now g (pos 0)) rows.items) }
+    ensures { IfOk result (λ rows. AnswersLines question.now columns.now (λ g. slice_index counts.now g)
+        (λ g. slice_index_or sums.now g (pos 0)) rows.items) }
 {
     let plan = plan(alloc, question)?;
     answer_rows(alloc, &plan, columns, counts, sums)

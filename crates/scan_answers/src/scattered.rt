@@ -26,7 +26,8 @@ fn rows_of_numbers(
     requires apart { IsDistinct nat_eq numbers.now }
     requires counts { length counts.now ≡ length numbers.now }
     requires sums { length sums.now ≡ length numbers.now }
-    ensures { IfOk result (λ rows. rows.items ≡ scattered_rows numbers.now (group_values columns.now) (count_of numbers.now counts.now) (sum_of numbers.now sums.now)) }
+    ensures { IfOk result (λ rows. rows.items ≡ scattered_rows numbers.now (group_values columns.now)
+        (count_of numbers.now counts.now) (sum_of numbers.now sums.now)) }
 {
     let mut rows = Vec::new(alloc);
     for at in 0..numbers.len() {
@@ -53,7 +54,8 @@ fn scattered_answer(
     requires apart { IsDistinct nat_eq numbers.now }
     requires counts { length counts.now ≡ length numbers.now }
     requires sums { length sums.now ≡ length numbers.now }
-    ensures { IfOk result (λ rows. AnswersAll plan.now (size_of (counts_of columns.now)) (group_values columns.now) (count_of numbers.now counts.now) (sum_of numbers.now sums.now) rows.items) }
+    ensures { IfOk result (λ rows. AnswersAll plan.now (size_of (counts_of columns.now)) (group_values columns.now)
+        (count_of numbers.now counts.now) (sum_of numbers.now sums.now) rows.items) }
 {
     if plan.groups.len() == 0 {
         if numbers.is_empty() {
@@ -66,7 +68,8 @@ fn scattered_answer(
     Ok(rows)
 }
 
-/// The rows of a question from the counts and sums of the groups that have combinations, each beside its group's number.
+/// The rows of a question from the counts and sums of the groups that have combinations, each beside its group's
+/// number.
 pub fn answer_scattered(
     alloc: Global,
     question: &Question,
@@ -80,7 +83,8 @@ pub fn answer_scattered(
     requires apart { IsDistinct nat_eq numbers.now }
     requires counts { length counts.now ≡ length numbers.now }
     requires sums { length sums.now ≡ length numbers.now }
-    ensures { IfOk result (λ rows. AnswersLines question.now columns.now (count_of numbers.now counts.now) (sum_of numbers.now sums.now) rows.items) }
+    ensures { IfOk result (λ rows. AnswersLines question.now columns.now (count_of numbers.now counts.now)
+        (sum_of numbers.now sums.now) rows.items) }
 {
     let plan = plan(alloc, question)?;
     scattered_answer(alloc, &plan, columns, numbers, counts, sums)

@@ -1,12 +1,35 @@
 -- Steps of the search, place by place.
-use Rattle.std.proofs.Common.{◌≡◌, ℕ, ◌+◌, ◌-◌, ◌<◌, ◌≤◌, Bool, true, false, cond, List, [], ◌∷◌, ◌++◌, length, take, map, set, ltb, arith, refl}
+use Rattle.std.proofs.Common.{
+  ◌≡◌,
+  ℕ,
+  ◌+◌,
+  ◌-◌,
+  ◌<◌,
+  ◌≤◌,
+  Bool,
+  true,
+  false,
+  cond,
+  List,
+  [],
+  ◌∷◌,
+  ◌++◌,
+  length,
+  take,
+  map,
+  set,
+  ltb,
+  arith,
+  refl,
+}
 use Rattle.std.proofs.lemmas.List.{map-id, take_more_set, take-set, append-nil, map_push}
 use Rattle.std.proofs.lemmas.List.Elements.{filter-append}
 use Rattle.std.proofs.lemmas.List.FromFn.{map-range_with_len_more}
 use Rattle.std.proofs.lemmas.Bool.{lt-ltb, le-ltb}
 use Rattle.std.specs.List.{filter, range_with_len}
 
--- Of the places from `from` up to `at`, those whose mask is not 0 stand at the front of `places`, and their masks in `found`.
+-- Of the places from `from` up to `at`, those whose mask is not 0 stand at the front of `places`, and their masks in
+-- `found`.
 pub record FoundUpTo (mask : ℕ → ℕ) (from at count : ℕ) (places found : List ℕ) : Type 0 where
   pub fewer : count + from ≤ at
   pub places_are : take count places ≡ filter (λ i. ltb 0 (mask i)) (range_with_len from (at - from))
@@ -15,7 +38,8 @@ pub record FoundUpTo (mask : ℕ → ℕ) (from at count : ℕ) (places found : 
 pub range_more : (a n : ℕ) → range_with_len a (n + 1) ≡ range_with_len a n ++ (a + n) ∷ []
 range_more a n = simp map-id at (map-range_with_len_more (λ (x : ℕ). x) a n (a + n) refl)
 
-pub filter_range_more : (p : ℕ → Bool) (a at : ℕ) → a ≤ at → filter p (range_with_len a (at + 1 - a)) ≡ filter p (range_with_len a (at - a)) ++ cond (p at) (at ∷ []) []
+pub filter_range_more : (p : ℕ → Bool) (a at : ℕ) → a ≤ at
+    → filter p (range_with_len a (at + 1 - a)) ≡ filter p (range_with_len a (at - a)) ++ cond (p at) (at ∷ []) []
 filter_range_more p a at le =
     let s : at + 1 - a ≡ at - a + 1 = omega arith in
     let j : a + (at - a) ≡ at = omega arith in
@@ -26,7 +50,8 @@ found_first mask from places found =
     let s : from - from ≡ 0 = omega arith in
     record { fewer = omega arith; places_are = rw s refl; masks_are = refl }
 
-pub found_some : (mask : ℕ → ℕ) (from at count next m : ℕ) (places found : List ℕ) → FoundUpTo mask from at count places found
+pub found_some : (mask : ℕ → ℕ) (from at count next m : ℕ) (places found : List ℕ)
+    → FoundUpTo mask from at count places found
     → count < length places → count < length found → m ≡ mask at → 0 < m → next ≡ count + 1
     → FoundUpTo mask from (at + 1) next (set places count at) (set found count m)
 found_some mask from at count next m places found h room marks is some one =
@@ -34,11 +59,20 @@ found_some mask from at count next m places found h room marks is some one =
     let test : ltb 0 (mask at) ≡ true = rw (← is) (lt-ltb 0 m some) in
     record {
       fewer = omega (arith, h.fewer);
-      places_are = rw (one, filter_range_more (λ i. ltb 0 (mask i)) from at le, test, ← h.places_are) (take_more_set places count at room);
-      masks_are = rw (one, take_more_set places count at room, take_more_set found count m marks, map_push, ← h.masks_are, ← is) refl;
+      places_are = rw (one, filter_range_more (λ i. ltb 0 (mask i)) from at le, test, ← h.places_are)
+          (take_more_set places count at room);
+      masks_are = rw (
+        one,
+        take_more_set places count at room,
+        take_more_set found count m marks,
+        map_push,
+        ← h.masks_are,
+        ← is,
+      ) refl;
     }
 
-pub found_none : (mask : ℕ → ℕ) (from at count next m : ℕ) (places found : List ℕ) → FoundUpTo mask from at count places found
+pub found_none : (mask : ℕ → ℕ) (from at count next m : ℕ) (places found : List ℕ)
+    → FoundUpTo mask from at count places found
     → m ≡ mask at → m ≡ 0 → next ≡ count
     → FoundUpTo mask from (at + 1) next (set places count at) (set found count m)
 found_none mask from at count next m places found h is none one =
@@ -47,6 +81,7 @@ found_none mask from at count next m places found h is none one =
     let test : ltb 0 (mask at) ≡ false = le-ltb 0 (mask at) zero in
     record {
       fewer = omega (arith, h.fewer);
-      places_are = rw (one, filter_range_more (λ i. ltb 0 (mask i)) from at le, test, append-nil, ← h.places_are) (take-set places count at);
+      places_are = rw (one, filter_range_more (λ i. ltb 0 (mask i)) from at le, test, append-nil, ← h.places_are)
+          (take-set places count at);
       masks_are = rw (one, take-set places count at, take-set found count m, h.masks_are) refl;
     }

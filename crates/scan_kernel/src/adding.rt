@@ -22,7 +22,8 @@ fn add(sums: &mut [u64], group: usize, amount: u64)
 fn count_places(places: &[u32], groups: &[u32], counts: &mut [u64])
     requires groups { length groups.now ≡ length places.now }
     requires room { All (λ group. group < length counts.old) groups.now }
-    ensures { (group : ℕ → ℕ) → groups.now ≡ map group places.now → Adds (λ place. 1) group places.now counts.old counts.new }
+    ensures { (group : ℕ → ℕ) → groups.now ≡ map group places.now
+        → Adds (λ place. 1) group places.now counts.old counts.new }
 {
     for at in 0..groups.len() {
         add(counts, groups[at] as usize, 1);
@@ -35,7 +36,8 @@ fn add_amounts(places: &[u32], groups: &[u32], amounts: &[u32], sums: &mut [u64]
     requires groups { length groups.now ≡ length places.now }
     requires within { All (λ place. place < length amounts.now) places.now }
     requires room { All (λ group. group < length sums.old) groups.now }
-    ensures { (group : ℕ → ℕ) → groups.now ≡ map group places.now → Adds (λ place. slice_index amounts.now place) group places.now sums.old sums.new }
+    ensures { (group : ℕ → ℕ) → groups.now ≡ map group places.now
+        → Adds (λ place. slice_index amounts.now place) group places.now sums.old sums.new }
 {
     for at in 0..places.len() {
         let amount = amounts[places[at] as usize];
@@ -59,7 +61,9 @@ fn add_discounts(places: &[u32], groups: &[u32], price: &[u32], terms: &[u16], s
     requires price { All (λ place. place < length price.now) places.now }
     requires terms { All (λ place. place < length terms.now) places.now }
     requires room { All (λ group. group < length sums.old) groups.now }
-    ensures { (group : ℕ → ℕ) → groups.now ≡ map group places.now → Adds (λ place. slice_index price.now place * (slice_index terms.now place % 16)) group places.now sums.old sums.new }
+    ensures { (group : ℕ → ℕ) → groups.now ≡ map group places.now
+        → Adds (λ place. slice_index price.now place * (slice_index terms.now place % 16)) group places.now sums.old
+        sums.new }
 {
     for at in 0..places.len() {
         let amount = discounted(price, terms, places[at] as usize);
@@ -78,7 +82,8 @@ fn add_gains(
     requires groups { length groups.now ≡ length places.now }
     requires places { All (λ place. place < length lines.now.customer.now) places.now }
     requires room { All (λ group. group < length gains.old) groups.now }
-    ensures { (group : ℕ → ℕ) → groups.now ≡ map group places.now → Adds (gain_at lines.now measure) group places.now gains.old gains.new }
+    ensures { (group : ℕ → ℕ) → groups.now ≡ map group places.now
+        → Adds (gain_at lines.now measure) group places.now gains.old gains.new }
 {
     match measure {
         Measure::PriceTimesDiscount => {
@@ -99,7 +104,8 @@ fn add_losses(
     requires groups { length groups.now ≡ length places.now }
     requires places { All (λ place. place < length lines.now.customer.now) places.now }
     requires room { All (λ group. group < length losses.old) groups.now }
-    ensures { (group : ℕ → ℕ) → groups.now ≡ map group places.now → Adds (loss_at lines.now measure) group places.now losses.old losses.new }
+    ensures { (group : ℕ → ℕ) → groups.now ≡ map group places.now
+        → Adds (loss_at lines.now measure) group places.now losses.old losses.new }
 {
     match measure {
         Measure::PriceTimesDiscount => {}
@@ -120,9 +126,12 @@ fn add_to_groups(
     requires places { All (λ place. place < length lines.now.customer.now) places.now }
     requires room { All (λ group. group < vec_len totals.old.counts) groups.now }
     ensures size { vec_len totals.new.counts ≡ vec_len totals.old.counts }
-    ensures counts { Adds (λ place. 1) (group_at grouping.now.columns.items) places.now totals.old.counts.items totals.new.counts.items }
-    ensures gains { Adds (gain_at lines.now grouping.now.measure) (group_at grouping.now.columns.items) places.now totals.old.gains.items totals.new.gains.items }
-    ensures losses { Adds (loss_at lines.now grouping.now.measure) (group_at grouping.now.columns.items) places.now totals.old.losses.items totals.new.losses.items }
+    ensures counts { Adds (λ place. 1) (group_at grouping.now.columns.items) places.now totals.old.counts.items
+        totals.new.counts.items }
+    ensures gains { Adds (gain_at lines.now grouping.now.measure) (group_at grouping.now.columns.items) places.now
+        totals.old.gains.items totals.new.gains.items }
+    ensures losses { Adds (loss_at lines.now grouping.now.measure) (group_at grouping.now.columns.items) places.now
+        totals.old.losses.items totals.new.losses.items }
 {
     count_places(places, groups, &mut totals.counts);
     add_gains(lines, grouping.measure, places, groups, &mut totals.gains);

@@ -28,7 +28,8 @@ fn add_question(
     requires few { number < 16 }
     requires within { to ≤ length lines.now.customer.now }
     requires order { from ≤ to }
-    requires found { places.now ≡ filter (λ place. nat_lt 0 (mask_at lines.now masks.now place)) (range_with_len from (to - from)) }
+    requires found { places.now ≡ filter (λ place. nat_lt 0 (mask_at lines.now masks.now place))
+        (range_with_len from (to - from)) }
     requires masks { found.now ≡ map (mask_at lines.now masks.now) places.now }
     requires room { length places.now ≤ length selected.old }
     requires numbers { length groups.old ≡ length selected.old }
@@ -37,7 +38,8 @@ fn add_question(
     ensures room { length selected.new ≡ length selected.old }
     ensures numbers { length groups.new ≡ length groups.old }
     ensures size { vec_len totals.new.counts ≡ vec_len totals.old.counts }
-    ensures added { AddsPlaces lines.now grouping.now (taken lines.now masks.now number (range_with_len from (to - from))) totals.old totals.new }
+    ensures added { AddsPlaces lines.now grouping.now (taken lines.now masks.now number
+        (range_with_len from (to - from))) totals.old totals.new }
 {
     let count = select_places(number, places, found, selected);
     add_places(
@@ -65,7 +67,8 @@ pub fn add_found(
     requires few { length groupings.now ≤ 16 }
     requires within { to ≤ length lines.now.customer.now }
     requires order { from ≤ to }
-    requires found { places.now ≡ filter (λ place. nat_lt 0 (mask_at lines.now masks.now place)) (range_with_len from (to - from)) }
+    requires found { places.now ≡ filter (λ place. nat_lt 0 (mask_at lines.now masks.now place))
+        (range_with_len from (to - from)) }
     requires masks { found.now ≡ map (mask_at lines.now masks.now) places.now }
     requires room { length places.now ≤ length selected.old }
     requires numbers { length groups.old ≡ length selected.old }
@@ -74,7 +77,8 @@ pub fn add_found(
     ensures room { length selected.new ≡ length selected.old }
     ensures numbers { length groups.new ≡ length groups.old }
     ensures sizes { HaveSizes groupings.now totals.new }
-    ensures added { AddsBatch lines.now masks.now groupings.now (range_with_len from (to - from)) totals.old totals.new }
+    ensures added { AddsBatch lines.now masks.now groupings.now (range_with_len from (to - from)) totals.old
+        totals.new }
 {
     for number in 0..groupings.len() {
         add_question(

@@ -44,7 +44,8 @@ fn merge(into: &mut Totals, from: &Totals)
 /// Adds the totals of each question over other places.
 fn merge_batch(into: &mut [Totals], from: &[Totals])
     requires all { length from.now ≡ length into.old }
-    requires sizes { (k : ℕ) (r t : Totals) → k < length into.old → vec_len (slice_index_or from.now k r).counts ≡ vec_len (slice_index_or into.old k t).counts }
+    requires sizes { (k : ℕ) (r t : Totals) → k < length into.old
+        → vec_len (slice_index_or from.now k r).counts ≡ vec_len (slice_index_or into.old k t).counts }
     ensures all { length into.new ≡ length into.old }
     ensures merged { MergesBatch (length into.old) into.old from.now into.new }
 {
@@ -73,7 +74,8 @@ fn part_numbers(alloc: Global, count: u32) -> Result<Vec<u32>, AllocError>
     Ok(numbers)
 }
 
-/// The totals of each part, in as many threads as there are processors. A part is much work: one is enough for a thread.
+/// The totals of each part, in as many threads as there are processors. A part is much work: one is enough for a
+/// thread.
 fn parts_in_threads(
     rt: &(impl Threads + Sync),
     alloc: Global,
@@ -89,7 +91,9 @@ fn parts_in_threads(
     requires size { size ≤ 2 ^ 32 }
     requires covers { CanSearch lines.now masks.now }
     requires can_sum { CanSumAll lines.now masks.now groupings.now }
-    ensures { IfOk result (λ v. AllZip (λ part r. IfOk r (λ t. AreBatchTotals lines.now masks.now groupings.now (part_places (length lines.now.customer.now) size part) t.items)) parts.now v.items) }
+    ensures { IfOk result (λ v. AllZip (λ part r. IfOk r
+        (λ t. AreBatchTotals lines.now masks.now groupings.now (part_places (length lines.now.customer.now) size part)
+        t.items)) parts.now v.items) }
 {
     parts
         .par_iter()
@@ -102,7 +106,8 @@ fn parts_in_threads(
                 requires size { size ≤ 2 ^ 32 }
                 requires covers { CanSearch lines.now masks.now }
                 requires can_sum { CanSumAll lines.now masks.now groupings.now }
-                ensures { IfOk result (λ t. AreBatchTotals lines.entry.now masks.entry.now groupings.entry.now (part_places (length lines.entry.now.customer.now) size part.now) t.items) }
+                ensures { IfOk result (λ t. AreBatchTotals lines.entry.now masks.entry.now groupings.entry.now
+                    (part_places (length lines.entry.now.customer.now) size part.now) t.items) }
             {
                 let part = *part as usize;
                 let count = lines.customer.len();
@@ -126,7 +131,8 @@ pub fn parallel_totals(
     requires small { length lines.now.customer.now < 2 ^ 32 }
     requires covers { CanSearch lines.now masks.now }
     requires can_sum { CanSumAll lines.now masks.now groupings.now }
-    ensures { IfOk result (λ v. AreBatchTotals lines.now masks.now groupings.now (range_with_len 0 (length lines.now.customer.now)) v.items) }
+    ensures { IfOk result (λ v. AreBatchTotals lines.now masks.now groupings.now
+        (range_with_len 0 (length lines.now.customer.now)) v.items) }
 {
     let size = lines.customer.len() / 16 + 1;
     let numbers = part_numbers(alloc, PARTS)?;

@@ -46,7 +46,8 @@ fn add_chunk(
     requires sizes { HaveSizes groupings.now totals.old }
     ensures room { (count : ℕ) → HasRoom count room.old → HasRoom count room.new }
     ensures sizes { HaveSizes groupings.now totals.new }
-    ensures added { AddsBatch lines.now masks.now groupings.now (range_with_len from (to - from)) totals.old totals.new }
+    ensures added { AddsBatch lines.now masks.now groupings.now (range_with_len from (to - from)) totals.old
+        totals.new }
 {
     let count = search(lines, masks, from, to, &mut room.places, &mut room.found);
     add_found(
@@ -82,7 +83,8 @@ fn add_range(
     requires can_sum { CanSumAll lines.now masks.now groupings.now }
     requires sizes { HaveSizes groupings.now totals.old }
     ensures sizes { HaveSizes groupings.now totals.new }
-    ensures added { AddsBatch lines.now masks.now groupings.now (range_with_len from (to - from)) totals.old totals.new }
+    ensures added { AddsBatch lines.now masks.now groupings.now (range_with_len from (to - from)) totals.old
+        totals.new }
 {
     let mut at = from;
     while at < to {
@@ -143,7 +145,8 @@ fn no_totals(alloc: Global, size: usize) -> Result<Totals, AllocError>
 /// Totals of no places for each question.
 pub fn no_batch_totals(alloc: Global, groupings: &[Grouping<'_>]) -> Result<Vec<Totals>, AllocError>
     ensures all { IfOk result (λ v. length v.items ≡ length groupings.now) }
-    ensures each { IfOk result (λ v. (k : ℕ) (grouping : Grouping) (t : Totals) → k < length groupings.now → AreZeros (slice_index_or groupings.now k grouping).size (slice_index_or v.items k t)) }
+    ensures each { IfOk result (λ v. (k : ℕ) (grouping : Grouping) (t : Totals) → k < length groupings.now
+        → AreZeros (slice_index_or groupings.now k grouping).size (slice_index_or v.items k t)) }
 {
     let mut all = Vec::with_capacity(alloc, groupings.len())?;
     for grouping in groupings {
@@ -167,7 +170,8 @@ pub fn range_totals(
     requires order { from ≤ to }
     requires covers { CanSearch lines.now masks.now }
     requires can_sum { CanSumAll lines.now masks.now groupings.now }
-    ensures { IfOk result (λ v. AreBatchTotals lines.now masks.now groupings.now (range_with_len from (to - from)) v.items) }
+    ensures { IfOk result (λ v. AreBatchTotals lines.now masks.now groupings.now (range_with_len from (to - from))
+        v.items) }
 {
     let mut room = room_for(alloc, CHUNK)?;
     let mut totals = no_batch_totals(alloc, groupings)?;

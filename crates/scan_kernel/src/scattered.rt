@@ -1,8 +1,10 @@
 //! The totals of one question whose groups are too many for a number each: of the groups that lines have alone.
 ghost use Rattle.std.specs.Prelude.{◌≡◌, ℕ, ◌<◌, ◌%◌, ◌^◌, All, IfOk, OnOk, length, slice_index, true};
 ghost use Rattle.std.specs.List.{range_with_len, sum_by};
-ghost use Rattle.scan_kernel.specs.Places.{CanNumber, CanSearch, Covers, has_bit, mask_at, mask_in, group_at, gain_at, loss_at};
-ghost use Rattle.scan_kernel.specs.Scattered.{as_group_column, as_group_columns, wide_part_at, sums_in, AddsLine, AreScatteredTotals};
+ghost use Rattle.scan_kernel.specs.Places.{CanNumber, CanSearch, Covers, has_bit, mask_at, mask_in, group_at, gain_at};
+ghost use Rattle.scan_kernel.specs.Places.{loss_at};
+ghost use Rattle.scan_kernel.specs.Scattered.{as_group_column, as_group_columns, wide_part_at, sums_in, AddsLine};
+ghost use Rattle.scan_kernel.specs.Scattered.{AreScatteredTotals};
 ghost use Rattle.scan_kernel.specs.Totals.{taken};
 
 use crate::columns::LineColumns;
@@ -164,8 +166,10 @@ pub fn scattered_totals(
     requires few { number < 16 }
     requires covers { CanSearch lines.now masks.now }
     requires columns { All (λ column. CanNumber (length lines.now.customer.now) (as_group_column column)) columns.now }
-    requires groups { (place : ℕ) → place < length lines.now.customer.now → has_bit lines.now masks.now number place ≡ true → group_at (as_group_columns columns.now) place < size }
-    ensures { IfOk result (λ totals. AreScatteredTotals lines.now measure (as_group_columns columns.now) (taken lines.now masks.now number (range_with_len 0 (length lines.now.customer.now))) size totals) }
+    requires groups { (place : ℕ) → place < length lines.now.customer.now
+        → has_bit lines.now masks.now number place ≡ true → group_at (as_group_columns columns.now) place < size }
+    ensures { IfOk result (λ totals. AreScatteredTotals lines.now measure (as_group_columns columns.now)
+        (taken lines.now masks.now number (range_with_len 0 (length lines.now.customer.now))) size totals) }
 {
     let mut totals = IndexMap::new(alloc);
     let count = lines.customer.len();

@@ -65,7 +65,8 @@ fn find_places<const C: bool, const S: bool, const P: bool, const D: bool>(
     requires room { to ≤ from + length places.old }
     requires marks { length found.old ≡ length places.old }
     requires covers { CanSearch lines (masks_of C S P D tables) }
-    ensures { IsSearch lines.entry (masks_of C S P D tables.entry) from to result places.old places.new found.old found.new }
+    ensures { IsSearch lines.entry (masks_of C S P D tables.entry) from to result places.old places.new found.old
+        found.new }
 {
     let mut count = 0usize;
     for at in from..to {
@@ -96,7 +97,8 @@ fn search_with<const C: bool, const S: bool>(
     requires room { to ≤ from + length places.old }
     requires marks { length found.old ≡ length places.old }
     requires covers { CanSearch lines (masks_of C S parts dates tables) }
-    ensures { IsSearch lines.entry (masks_of C S parts dates tables.entry) from to result places.old places.new found.old found.new }
+    ensures { IsSearch lines.entry (masks_of C S parts dates tables.entry) from to result places.old places.new
+        found.old found.new }
 {
     match (parts, dates) {
         (true, true) => find_places::<C, S, true, true>(lines, tables, from, to, places, found),
@@ -125,7 +127,8 @@ fn search_tables(
     requires room { to ≤ from + length places.old }
     requires marks { length found.old ≡ length places.old }
     requires covers { CanSearch lines (masks_of customers suppliers parts dates tables) }
-    ensures { IsSearch lines.entry (masks_of customers suppliers parts dates tables.entry) from to result places.old places.new found.old found.new }
+    ensures { IsSearch lines.entry (masks_of customers suppliers parts dates tables.entry) from to result places.old
+        places.new found.old found.new }
 {
     match (customers, suppliers) {
         (true, true) => search_with::<true, true>(

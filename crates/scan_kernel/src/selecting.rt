@@ -1,5 +1,6 @@
 //! The places of one question among those that were found for all, and their groups.
-ghost use Rattle.std.specs.Prelude.{◌≡◌, ℕ, ◌<◌, ◌≤◌, ◌+◌, ◌%◌, ◌^◌, All, length, map, filter, take, nat_eq, slice_index};
+ghost use Rattle.std.specs.Prelude.{◌≡◌, ℕ, ◌<◌, ◌≤◌, ◌+◌, ◌%◌, ◌^◌, All, length, map, filter, take, nat_eq};
+ghost use Rattle.std.specs.Prelude.{slice_index};
 ghost use Rattle.std.specs.Int.{bit_at};
 ghost use Rattle.scan_kernel.specs.Places.{part_at, group_at, CanNumber};
 
@@ -13,7 +14,8 @@ pub fn select_places(number: usize, places: &[u32], found: &[u16], selected: &mu
     requires room { length places.now ≤ length selected.old }
     ensures count { result ≤ length places.now }
     ensures len { length selected.new ≡ length selected.old }
-    ensures selected { (mask : ℕ → ℕ) → found.now ≡ map mask places.now → take result selected.new ≡ filter (λ place. nat_eq (bit_at (mask place) number) 1) places.now }
+    ensures selected { (mask : ℕ → ℕ) → found.now ≡ map mask places.now
+        → take result selected.new ≡ filter (λ place. nat_eq (bit_at (mask place) number) 1) places.now }
 {
     let mut count = 0usize;
     for at in 0..places.len() {
@@ -43,7 +45,8 @@ fn add_parts(column: GroupColumn<'_>, places: &[u32], groups: &mut [u32])
     requires positions { All (λ position. position < length column.codes.now) column.positions.now }
     requires codes { All (λ code. code < length column.parts.now) column.codes.now }
     ensures len { length groups.new ≡ length groups.old }
-    ensures added { (at : ℕ) → at < length places.now → slice_index groups.new at ≡ (slice_index groups.old at + part_at (slice_index places.now at) column.entry) % 2 ^ 32 }
+    ensures added { (at : ℕ) → at < length places.now → slice_index groups.new
+        at ≡ (slice_index groups.old at + part_at (slice_index places.now at) column.entry) % 2 ^ 32 }
 {
     for at in 0..places.len() {
         groups[at] = groups[at].wrapping_add(part_of(column, places[at] as usize));

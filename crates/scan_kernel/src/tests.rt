@@ -10,7 +10,13 @@ use std::thread::Threads;
 
 // The second line and the third are the question's.
 fn masks(alloc: Global) -> Result<Masks, AllocError>
-    ensures { IfOk result (λ masks. masks ≡ record { customers = None; suppliers = None; parts = None; dates = None; terms = 0 ∷ 0 ∷ 1 ∷ 1 ∷ [] }) }
+    ensures { IfOk result (λ masks. masks ≡ record {
+      customers = None;
+      suppliers = None;
+      parts = None;
+      dates = None;
+      terms = 0 ∷ 0 ∷ 1 ∷ 1 ∷ [];
+    }) }
 {
     Ok(Masks {
         customers: None,

@@ -25,30 +25,59 @@ use Rattle.shared_scan.proofs.EachLemmas.{each_more, item_of}
 pub few_rows : (base : Tables) → IsSound base → (column : Column) → length (values_of base column) < 4294967295
 few_rows base sound column = by_table column.table column.place where
   by_table : (t : Table) (place : ℕ) → length (values_at base t place) < 4294967295
-  by_table table.Customer place = omega (arith, length-map base.dimensions.customers (customer_value place), sound.customers.few, base.limits.dimension_rows_range.1)
-  by_table table.Supplier place = omega (arith, length-map base.dimensions.suppliers (supplier_value place), sound.suppliers.few, base.limits.dimension_rows_range.1)
-  by_table table.Part place = omega (arith, length-map base.dimensions.parts (part_value place), sound.parts.few, base.limits.dimension_rows_range.1)
-  by_table table.Date place = omega (arith, length-map base.dimensions.dates (date_value place), sound.dates.few, base.limits.dimension_rows_range.1)
+  by_table table.Customer place = omega (
+    arith,
+    length-map base.dimensions.customers (customer_value place),
+    sound.customers.few,
+    base.limits.dimension_rows_range.1,
+  )
+  by_table table.Supplier place = omega (
+    arith,
+    length-map base.dimensions.suppliers (supplier_value place),
+    sound.suppliers.few,
+    base.limits.dimension_rows_range.1,
+  )
+  by_table table.Part place = omega (
+    arith,
+    length-map base.dimensions.parts (part_value place),
+    sound.parts.few,
+    base.limits.dimension_rows_range.1,
+  )
+  by_table table.Date place = omega (
+    arith,
+    length-map base.dimensions.dates (date_value place),
+    sound.dates.few,
+    base.limits.dimension_rows_range.1,
+  )
   by_table table.Lineorder place = omega arith
 
 pub have_masks : (base : Tables) (masks : Masks) → CoverRows base.dimensions masks → HaveMasks base masks
 have_masks base masks cover column p below = by_table column.table column.place below where
   by_table : (t : Table) (place : ℕ) → p < length (values_at base t place) → HasMasks (masks_in t masks) p
-  by_table table.Customer place h = cover.customer_rows p (omega (arith, h, length-map base.dimensions.customers (customer_value place)))
-  by_table table.Supplier place h = cover.supplier_rows p (omega (arith, h, length-map base.dimensions.suppliers (supplier_value place)))
-  by_table table.Part place h = cover.part_rows p (omega (arith, h, length-map base.dimensions.parts (part_value place)))
-  by_table table.Date place h = cover.date_rows p (omega (arith, h, length-map base.dimensions.dates (date_value place)))
+  by_table table.Customer place h = cover.customer_rows p
+      (omega (arith, h, length-map base.dimensions.customers (customer_value place)))
+  by_table table.Supplier place h = cover.supplier_rows p
+      (omega (arith, h, length-map base.dimensions.suppliers (supplier_value place)))
+  by_table table.Part place h = cover.part_rows p (omega
+      (arith, h, length-map base.dimensions.parts (part_value place)))
+  by_table table.Date place h = cover.date_rows p (omega
+      (arith, h, length-map base.dimensions.dates (date_value place)))
   by_table table.Lineorder place h = absurd (omega (arith, h))
 
 -- one question more
-pub ready_more : (base : Tables) (masks : Masks) (questions : List (Query × List Value)) (all : List Ready) (n : ℕ) (this : Query × List Value) (one : Ready)
+pub ready_more : (base : Tables) (masks : Masks) (questions : List (Query × List Value)) (all : List Ready) (n : ℕ)
+    (this : Query × List Value) (one : Ready)
     → length all ≡ n → n < length questions → this ≡ get_or questions n this → IsReady base masks n this one
-    → ((k : ℕ) (question : Query × List Value) (r : Ready) → k < n → slice_get questions k ≡ Some question → IsReady base masks k question (get_or all k r))
-    → (k : ℕ) (question : Query × List Value) (r : Ready) → k < n + 1 → slice_get questions k ≡ Some question → IsReady base masks k question (get_or (all ++ one ∷ []) k r)
+    → ((k : ℕ) (question : Query × List Value) (r : Ready) → k < n → slice_get questions k ≡ Some question
+    → IsReady base masks k question (get_or all k r))
+    → (k : ℕ) (question : Query × List Value) (r : Ready) → k < n + 1 → slice_get questions k ≡ Some question
+    → IsReady base masks k question (get_or (all ++ one ∷ []) k r)
 ready_more base masks questions all n this one len below is ready done k question r h at =
-    let P : ℕ → Ready → Type 0 = λ j v. (q : Query × List Value) → slice_get questions j ≡ Some q → IsReady base masks j q v in
+    let P : ℕ → Ready → Type 0 = λ j v. (q : Query × List Value) → slice_get questions j ≡ Some q
+    → IsReady base masks j q v in
     let found : slice_get questions n ≡ Some this = slice_get-get_or questions n this below ∙ ap Some (sym is) in
-    let here : P n one = λ q at_n. subst (λ (v : Query × List Value). IsReady base masks n v one) (some_same this q (sym found ∙ at_n)) ready in
+    let here : P n one = λ q at_n. subst (λ (v : Query × List Value). IsReady base masks n v one)
+    (some_same this q (sym found ∙ at_n)) ready in
     each_more P all n one len here (λ j v less q at_j. done j q v less at_j) k r h question at
   where
     some_same : (a b : Query × List Value) → Some a ≡ Some b → a ≡ b
@@ -59,10 +88,12 @@ no_question : Query × List Value
 no_question = (Q1_1, [])
 
 -- what was made ready for each question has that question
-pub questions_are : (base : Tables) (masks : Masks) (questions : List (Query × List Value)) (all : List Ready) → length all ≡ length questions → AreReady base masks questions all → questions_of all ≡ questions
+pub questions_are : (base : Tables) (masks : Masks) (questions : List (Query × List Value)) (all : List Ready)
+    → length all ≡ length questions → AreReady base masks questions all → questions_of all ≡ questions
 questions_are base masks questions all len ready =
     ext_get_or no_question (questions_of all) questions (length-map all (λ ready. ready.question) ∙ len) (λ i below.
     let inside : i < length all = omega (arith, below, length-map all (λ ready. ready.question)) in
     let there : i < length questions = omega (arith, inside, len) in
     let r = item_of all i inside in
-    get_or-map (λ (ready : Ready). ready.question) all i r no_question inside ∙ (ready i (get_or questions i no_question) r (slice_get-get_or questions i no_question there)).question_is)
+    get_or-map (λ (ready : Ready). ready.question) all i r no_question inside
+    ∙ (ready i (get_or questions i no_question) r (slice_get-get_or questions i no_question there)).question_is)

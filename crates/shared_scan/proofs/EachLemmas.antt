@@ -1,5 +1,28 @@
 -- What holds of each item of a list and its index, one item after another.
-use Rattle.std.proofs.Common.{ℕ, ◌≡◌, ◌≢◌, ◌+◌, ◌<◌, List, [], ◌∷◌, ◌++◌, length, get_or, eqb, true, false, sym, ap, subst, ◌∙◌, arith, ◌⊎◌, inl, inr}
+use Rattle.std.proofs.Common.{
+  ℕ,
+  ◌≡◌,
+  ◌≢◌,
+  ◌+◌,
+  ◌<◌,
+  List,
+  [],
+  ◌∷◌,
+  ◌++◌,
+  length,
+  get_or,
+  eqb,
+  true,
+  false,
+  sym,
+  ap,
+  subst,
+  ◌∙◌,
+  arith,
+  ◌⊎◌,
+  inl,
+  inr,
+}
 use Rattle.std.proofs.lemmas.Bool.Decides.{eqb_tells}
 use Rattle.std.proofs.Math.ListN.{get_or-append}
 use Rattle.std.proofs.Math.Seq.{get_or-append_seam}
@@ -9,11 +32,13 @@ abbrev pub item_of : {A : Type 0} (xs : List A) (k : ℕ) → k < length xs → 
 item_of [] k below = absurd (omega (arith, below))
 item_of (x ∷ xs) k below = x
 
-pub each_more : {B : Type 0} (P : ℕ → B → Type 0) (ys : List B) (n : ℕ) (y : B) → length ys ≡ n → P n y → ((k : ℕ) (b : B) → k < n → P k (get_or ys k b)) → (k : ℕ) (b : B) → k < n + 1 → P k (get_or (ys ++ y ∷ []) k b)
+pub each_more : {B : Type 0} (P : ℕ → B → Type 0) (ys : List B) (n : ℕ) (y : B) → length ys ≡ n → P n y
+    → ((k : ℕ) (b : B) → k < n → P k (get_or ys k b)) → (k : ℕ) (b : B) → k < n + 1 → P k (get_or (ys ++ y ∷ []) k b)
 each_more {B} P ys n y len here before k b h = go (eqb_tells k n) where
   same : k ≡ n → P k (get_or (ys ++ y ∷ []) k b)
   same e =
-      let item_is : get_or (ys ++ y ∷ []) k b ≡ y = ap (λ (j : ℕ). get_or (ys ++ y ∷ []) j b) (e ∙ sym len) ∙ get_or-append_seam ys y [] b in
+      let item_is : get_or (ys ++ y ∷ []) k b ≡ y = ap (λ (j : ℕ). get_or (ys ++ y ∷ []) j b) (e ∙ sym len)
+      ∙ get_or-append_seam ys y [] b in
       let Q : B → Type 0 = λ v. P k v in
       let R : ℕ → Type 0 = λ j. P j y in
       subst Q (sym item_is) (subst R (sym e) here)

@@ -4,7 +4,21 @@ use Rattle.std.specs.List.{AllByRecursion}
 use Rattle.ssb_schema.specs.declared.table.Table.TheVariants.{Customer, Supplier, Part, Date, Lineorder}
 use Rattle.ssb_plans.specs.Queries.{plan_over}
 use Rattle.ssb_plans.specs.declared.query.Query.{Query}
-use Rattle.ssb_plans.specs.declared.query.Query.TheVariants.{Q1_1, Q1_2, Q1_3, Q2_1, Q2_2, Q2_3, Q3_1, Q3_2, Q3_3, Q3_4, Q4_1, Q4_2, Q4_3}
+use Rattle.ssb_plans.specs.declared.query.Query.TheVariants.{
+  Q1_1,
+  Q1_2,
+  Q1_3,
+  Q2_1,
+  Q2_2,
+  Q2_3,
+  Q3_1,
+  Q3_2,
+  Q3_3,
+  Q3_4,
+  Q4_1,
+  Q4_2,
+  Q4_3,
+}
 use Rattle.ssb_plans.specs.declared.value.Value.{Value}
 
 no_customer : Customer ≡ Lineorder → ⊥
@@ -19,7 +33,8 @@ no_part e = cc
 no_date : Date ≡ Lineorder → ⊥
 no_date e = cc
 
-pub dimensions_alone : (query : Query) (constants : List Value) → AllByRecursion (λ column. column.table ≡ Lineorder → ⊥) (plan_over query constants).groups
+pub dimensions_alone : (query : Query) (constants : List Value)
+    → AllByRecursion (λ column. column.table ≡ Lineorder → ⊥) (plan_over query constants).groups
 dimensions_alone Q1_1 constants = tt
 dimensions_alone Q1_2 constants = tt
 dimensions_alone Q1_3 constants = tt

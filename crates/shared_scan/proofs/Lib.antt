@@ -1,5 +1,7 @@
 pub mod RowLemmas
 pub mod LineLemmas
+pub mod AlikeLemmas
+pub mod ClassedLemmas
 pub mod NumberLemmas
 pub mod SumLemmas
 pub mod TotalsLemmas
@@ -18,4 +20,5 @@ pub mod CanSumLemmas
 pub mod ReadyLemmas
 pub mod EachLemmas
 pub mod ScanLemmas
+pub mod HistoryLemmas
 pub mod ScatteredLemmas

@@ -22,7 +22,21 @@ use Rattle.shared_scan.proofs.RowLemmas.{named_row, row_there}
 
 -- the place that stands where there is none
 abbrev pub nowhere : Place
-nowhere = record { order = 0; customer = 0; supplier = 0; part = 0; date = 0; terms = 0; price = 0; revenue = 0; cost = 0 }
+nowhere = record {
+  order = 0;
+  customer = 0;
+  supplier = 0;
+  part = 0;
+  date = 0;
+  terms = 0;
+  price = 0;
+  revenue = 0;
+  cost = 0;
+  customer_class = 0;
+  supplier_class = 0;
+  part_class = 0;
+  date_class = 0;
+}
 
 -- where the rows of a combination stand
 pub record StandAt (dimensions : Dimensions) (c : Combination) (place : Place) : Type 0 where
@@ -31,7 +45,8 @@ pub record StandAt (dimensions : Dimensions) (c : Combination) (place : Place) :
   pub part : slice_get dimensions.parts place.part ≡ Some c.part
   pub date : slice_get dimensions.dates place.date ≡ Some c.date
 
-pub rows_stand : (base : Tables) (blank : Combination) (place : Place) → IsSound base → IsWithin base.dimensions place → StandAt base.dimensions (combine blank base.dimensions (fact_at base.dimensions place)) place
+pub rows_stand : (base : Tables) (blank : Combination) (place : Place) → IsSound base → IsWithin base.dimensions place
+    → StandAt base.dimensions (combine blank base.dimensions (fact_at base.dimensions place)) place
 rows_stand base blank place sound within =
     let d = base.dimensions in
     let customer = row_there customer_key d.customers place.customer within.customer in
@@ -39,8 +54,10 @@ rows_stand base blank place sound within =
     let part = row_there part_key d.parts place.part within.part in
     let date = row_there date_key d.dates place.date within.date in
     record {
-      customer = named_row customer_key d.customers place.customer customer.0 blank.customer sound.customers.distinct customer.1;
-      supplier = named_row supplier_key d.suppliers place.supplier supplier.0 blank.supplier sound.suppliers.distinct supplier.1;
+      customer = named_row customer_key d.customers place.customer customer.0 blank.customer sound.customers.distinct
+          customer.1;
+      supplier = named_row supplier_key d.suppliers place.supplier supplier.0 blank.supplier sound.suppliers.distinct
+          supplier.1;
       part = named_row part_key d.parts place.part part.0 blank.part sound.parts.distinct part.1;
       date = named_row date_key d.dates place.date date.0 blank.date sound.dates.distinct date.1;
     }
@@ -48,9 +65,11 @@ rows_stand base blank place sound within =
 -- the mask of a place, of what the place has
 abbrev pub place_mask : Masks → Place → ℕ
 place_mask masks place =
-    bit_and (bit_and (bit_and (bit_and (get_or masks.terms place.terms 0) (mask_in masks.customers place.customer)) (mask_in masks.suppliers place.supplier)) (mask_in masks.parts place.part)) (mask_in masks.dates place.date)
+    bit_and (bit_and (bit_and (bit_and (get_or masks.terms place.terms 0) (mask_in masks.customers place.customer))
+    (mask_in masks.suppliers place.supplier)) (mask_in masks.parts place.part)) (mask_in masks.dates place.date)
 
-pub mask_is : (places : List Place) (lines : LineColumns) (masks : Masks) (i : ℕ) → AreLinesOf places lines → mask_at lines masks i ≡ place_mask masks (get_or places i nowhere)
+pub mask_is : (places : List Place) (lines : LineColumns) (masks : Masks) (i : ℕ) → AreLinesOf places lines
+    → mask_at lines masks i ≡ place_mask masks (get_or places i nowhere)
 mask_is places lines masks i are =
     rw (
       are.terms_are,
@@ -66,19 +85,27 @@ mask_is places lines masks i are =
     ) refl
 
 -- the mask of a live place tells which plans its combination passes
-pub live_mask : (base : Tables) (plans : List Plan) (masks : Masks) (c : Combination) (place : Place) → AreMasksOf plans base.dimensions masks → StandAt base.dimensions c place
-    → IsWithin base.dimensions place → c.fact ≡ fact_at base.dimensions place → 0 < quantity_in place.terms → IsMask (λ plan. passes plan c) plans (place_mask masks place)
+pub live_mask : (base : Tables) (plans : List Plan) (masks : Masks) (c : Combination) (place : Place)
+    → AreMasksOf plans base.dimensions masks → StandAt base.dimensions c place
+    → IsWithin base.dimensions place → c.fact ≡ fact_at base.dimensions place → 0 < quantity_in place.terms
+    → IsMask (λ plan. passes plan c) plans (place_mask masks place)
 live_mask base plans masks c place tell stand within fact_is live =
     let quantity = quantity_in place.terms in
     let discount = discount_in place.terms in
     let together : quantity * 16 + discount ≡ place.terms = omega arith in
     let terms : IsMask (λ plan. is_in_ranges plan c.fact) plans (get_or masks.terms place.terms 0) =
     subst (λ (f : Fact). IsMask (λ plan. is_in_ranges plan f) plans (get_or masks.terms place.terms 0)) (sym fact_is)
-    (subst (λ (t : ℕ). IsMask (λ plan. is_in_ranges plan (fact_at base.dimensions place)) plans (get_or masks.terms t 0)) together (tell.terms_tell quantity discount live (omega (arith, within.quantity)) (omega (arith, within.discount)))) in
-    masks_combine plans c _ _ _ _ _ terms (tell.customers_tell place.customer c.customer stand.customer) (tell.suppliers_tell place.supplier c.supplier stand.supplier) (tell.parts_tell place.part c.part stand.part) (tell.dates_tell place.date c.date stand.date)
+    (subst (λ (t : ℕ). IsMask (λ plan. is_in_ranges plan (fact_at base.dimensions place)) plans
+    (get_or masks.terms t 0)) together (tell.terms_tell quantity discount live (omega (arith, within.quantity))
+    (omega (arith, within.discount)))) in
+    masks_combine plans c _ _ _ _ _ terms (tell.customers_tell place.customer c.customer stand.customer)
+    (tell.suppliers_tell place.supplier c.supplier stand.supplier) (tell.parts_tell place.part c.part stand.part)
+    (tell.dates_tell place.date c.date stand.date)
 
 -- a free place has no bit
-pub free_mask : (plans : List Plan) (dimensions : Dimensions) (masks : Masks) (place : Place) (k : ℕ) → AreMasksOf plans dimensions masks → quantity_in place.terms ≡ 0 → bit_at (place_mask masks place) k ≡ 0
+pub free_mask : (plans : List Plan) (dimensions : Dimensions) (masks : Masks) (place : Place) (k : ℕ)
+    → AreMasksOf plans dimensions masks → quantity_in place.terms ≡ 0 → bit_at (place_mask masks place) k ≡ 0
 free_mask plans dimensions masks place k tell free =
     let below : place.terms < 16 = omega (arith, free) in
-    rw (bit_at_and, bit_at_and, bit_at_and, bit_at_and, tell.free_is_none place.terms below, bit_at-zero k) (omega arith)
+    rw (bit_at_and, bit_at_and, bit_at_and, bit_at_and, tell.free_is_none place.terms below, bit_at-zero k)
+    (omega arith)

@@ -1,5 +1,34 @@
 -- Masks as their bits are set one after another.
-use Rattle.std.proofs.Common.{ℕ, ◌≡◌, ◌+◌, ◌*◌, ◌-◌, ◌%◌, ◌^◌, ◌<◌, ◌≤◌, Bool, true, false, cond, List, [], ◌∷◌, ◌++◌, length, length-append, get_or, Some, sym, refl, ap, ◌∙◌, subst, arith, bit_or}
+use Rattle.std.proofs.Common.{
+  ℕ,
+  ◌≡◌,
+  ◌+◌,
+  ◌*◌,
+  ◌-◌,
+  ◌%◌,
+  ◌^◌,
+  ◌<◌,
+  ◌≤◌,
+  Bool,
+  true,
+  false,
+  cond,
+  List,
+  [],
+  ◌∷◌,
+  ◌++◌,
+  length,
+  length-append,
+  get_or,
+  Some,
+  sym,
+  refl,
+  ap,
+  ◌∙◌,
+  subst,
+  arith,
+  bit_or,
+}
 use Rattle.std.specs.Prelude.{slice_get, nat_eq}
 use Rattle.std.specs.Cmp.{unsigned_Decides}
 use Rattle.std.specs.Int.{bit_at, w16}
@@ -16,12 +45,17 @@ pub record IsMaskUpTo (passes : Plan → Bool) (plans : List Plan) (number mask 
   pub above : (k : ℕ) → number ≤ k → bit_at mask k ≡ 0
 
 pub mask_starts : (passes : Plan → Bool) (plans : List Plan) → IsMaskUpTo passes plans 0 0
-mask_starts passes plans = record { bits = λ k plan below at. absurd (omega (arith, below)); above = λ k from. bit_at-zero k }
+mask_starts passes plans = record {
+  bits = λ k plan below at. absurd (omega (arith, below));
+  above = λ k from. bit_at-zero k;
+}
 
-pub mask_ends : (passes : Plan → Bool) (plans : List Plan) (mask : ℕ) → IsMaskUpTo passes plans (length plans) mask → IsMask passes plans mask
+pub mask_ends : (passes : Plan → Bool) (plans : List Plan) (mask : ℕ) → IsMaskUpTo passes plans (length plans) mask
+    → IsMask passes plans mask
 mask_ends passes plans mask h = λ k plan at. h.bits k plan (slice_get_within plans k plan at) at
 
-module _ (passes : Plan → Bool) (plans : List Plan) (number mask : ℕ) (this : Plan) (at_number : slice_get plans number ≡ Some this) (h : IsMaskUpTo passes plans number mask) where
+module _ (passes : Plan → Bool) (plans : List Plan) (number mask : ℕ) (this : Plan)
+    (at_number : slice_get plans number ≡ Some this) (h : IsMaskUpTo passes plans number mask) where
   same_plan : (plan : Plan) → slice_get plans number ≡ Some plan → plan ≡ this
   same_plan plan e = let both : Some plan ≡ Some this = sym e ∙ at_number in cc
 
@@ -34,52 +68,69 @@ module _ (passes : Plan → Bool) (plans : List Plan) (number mask : ℕ) (this 
       ] refl
 
   -- a bit of the new mask, where the new bit is right and the others stay
-  next : (new : ℕ) → bit_at new number ≡ cond (passes this) 1 0 → ((k : ℕ) → (k ≡ number → ⊥) → bit_at new k ≡ bit_at mask k) → IsMaskUpTo passes plans (number + 1) new
+  next : (new : ℕ) → bit_at new number ≡ cond (passes this) 1 0
+      → ((k : ℕ) → (k ≡ number → ⊥) → bit_at new k ≡ bit_at mask k) → IsMaskUpTo passes plans (number + 1) new
   next new here others = record {
     bits = λ k plan below at. split (λ j. bit_at new j ≡ cond (passes plan) 1 0) k
-        (λ same. ap (bit_at new) same ∙ here ∙ ap (λ (p : Plan). cond (passes p) 1 0) (sym (same_plan plan (sym (ap (slice_get plans) same) ∙ at))))
+        (λ same. ap (bit_at new) same ∙ here ∙ ap (λ (p : Plan). cond (passes p) 1 0)
+        (sym (same_plan plan (sym (ap (slice_get plans) same) ∙ at))))
         (λ other. others k other ∙ h.bits k plan (omega (arith, below, other)) at);
     above = λ k from. others k (λ e. omega (arith, from, e)) ∙ h.above k (omega (arith, from));
   }
 
-  pub mask_sets : number < 16 → passes this ≡ true → IsMaskUpTo passes plans (number + 1) (bit_or mask (1 * 2 ^ number % 2 ^ 16))
-  mask_sets within pass = next _ (bit_at_set_same w16 mask number within ∙ ap (λ (b : Bool). cond b 1 0) (sym pass)) (λ k other. bit_at_set_other w16 mask number within k other)
+  pub mask_sets : number < 16 → passes this ≡ true → IsMaskUpTo passes plans (number + 1)
+      (bit_or mask (1 * 2 ^ number % 2 ^ 16))
+  mask_sets within pass = next _ (bit_at_set_same w16 mask number within ∙ ap (λ (b : Bool). cond b 1 0) (sym pass))
+      (λ k other. bit_at_set_other w16 mask number within k other)
 
   pub mask_stays : passes this ≡ false → IsMaskUpTo passes plans (number + 1) mask
-  mask_stays pass = next mask (h.above number (omega arith) ∙ ap (λ (b : Bool). cond b 1 0) (sym pass)) (λ k other. refl)
+  mask_stays pass = next mask (h.above number (omega arith) ∙ ap (λ (b : Bool). cond b 1 0) (sym pass))
+      (λ k other. refl)
 
 -- the first of some rows, or values, have their masks
-pub record AreMasksUpTo {Row : Type 0} (passes : Plan → Row → Bool) (plans : List Plan) (rows : List Row) (count : ℕ) (masks : List ℕ) : Type 0 where
+pub record AreMasksUpTo {Row : Type 0} (passes : Plan → Row → Bool) (plans : List Plan) (rows : List Row) (count : ℕ)
+    (masks : List ℕ) : Type 0 where
   pub len : length masks ≡ count
-  pub each : (at : ℕ) (row : Row) → at < count → slice_get rows at ≡ Some row → IsMask (λ plan. passes plan row) plans (get_or masks at 0)
+  pub each : (at : ℕ) (row : Row) → at < count → slice_get rows at ≡ Some row
+      → IsMask (λ plan. passes plan row) plans (get_or masks at 0)
 
 module _ {Row : Type 0} (passes : Plan → Row → Bool) (plans : List Plan) (rows : List Row) where
   pub masks_start : AreMasksUpTo passes plans rows 0 []
   masks_start = record { len = refl; each = λ at row below e. absurd (omega (arith, below)) }
 
-  pub masks_push : (count : ℕ) (masks : List ℕ) (this : Row) (mask : ℕ) → slice_get rows count ≡ Some this → AreMasksUpTo passes plans rows count masks → IsMask (λ plan. passes plan this) plans mask
+  pub masks_push : (count : ℕ) (masks : List ℕ) (this : Row) (mask : ℕ) → slice_get rows count ≡ Some this
+      → AreMasksUpTo passes plans rows count masks → IsMask (λ plan. passes plan this) plans mask
       → AreMasksUpTo passes plans rows (count + 1) (masks ++ mask ∷ [])
   masks_push count masks this mask at_count h is = record {
     len = length-append masks (mask ∷ []) ∙ ap (λ (n : ℕ). n + 1) h.len;
     each = λ at row below e.
-        elim (nat_eq at count) as (λ b. nat_eq at count ≡ b → IsMask (λ plan. passes plan row) plans (get_or (masks ++ mask ∷ []) at 0)) [
+        elim (nat_eq at count) as (λ b. nat_eq at count ≡ b
+        → IsMask (λ plan. passes plan row) plans (get_or (masks ++ mask ∷ []) at 0)) [
           | true ↦ λ t. let same : at ≡ length masks = (unsigned_Decides at count).0 t ∙ sym h.len in
-              let both : Some row ≡ Some this = sym e ∙ ap (slice_get rows) ((unsigned_Decides at count).0 t) ∙ at_count in
+              let both : Some row ≡ Some this = sym e ∙ ap (slice_get rows) ((unsigned_Decides at count).0 t)
+              ∙ at_count in
               let one : row ≡ this = cc in
-              let last : get_or (masks ++ mask ∷ []) at 0 ≡ mask = ap (λ (n : ℕ). get_or (masks ++ mask ∷ []) n 0) same ∙ get_or-append_seam masks mask [] 0 in
-              subst (λ (r : Row). IsMask (λ plan. passes plan r) plans (get_or (masks ++ mask ∷ []) at 0)) (sym one) (subst (IsMask (λ plan. passes plan this) plans) (sym last) is)
-          | false ↦ λ f. let other : (at ≡ count → ⊥) = λ same. let t : nat_eq at count ≡ true = (unsigned_Decides at count).1 same in cc in
+              let last : get_or (masks ++ mask ∷ []) at 0 ≡ mask =
+              ap (λ (n : ℕ). get_or (masks ++ mask ∷ []) n 0) same ∙ get_or-append_seam masks mask [] 0 in
+              subst (λ (r : Row). IsMask (λ plan. passes plan r) plans (get_or (masks ++ mask ∷ []) at 0)) (sym one)
+              (subst (IsMask (λ plan. passes plan this) plans) (sym last) is)
+          | false ↦ λ f. let other : (at ≡ count → ⊥) = λ same. let t : nat_eq at count ≡ true =
+              (unsigned_Decides at count).1 same in cc in
               let within : at < count = omega (arith, below, other) in
-              subst (IsMask (λ plan. passes plan row) plans) (sym (get_or-append masks (mask ∷ []) 0 at (omega (arith, within, h.len)))) (h.each at row within e)
+              subst (IsMask (λ plan. passes plan row) plans)
+              (sym (get_or-append masks (mask ∷ []) 0 at (omega (arith, within, h.len)))) (h.each at row within e)
         ] refl;
   }
 
 -- a mask by one test is the mask by another that says the same of the plans
-pub mask_same : (passes tells : Plan → Bool) (plans : List Plan) (mask : ℕ) → ((k : ℕ) (plan : Plan) → slice_get plans k ≡ Some plan → passes plan ≡ tells plan) → IsMask passes plans mask → IsMask tells plans mask
+pub mask_same : (passes tells : Plan → Bool) (plans : List Plan) (mask : ℕ)
+    → ((k : ℕ) (plan : Plan) → slice_get plans k ≡ Some plan → passes plan ≡ tells plan) → IsMask passes plans mask
+    → IsMask tells plans mask
 mask_same passes tells plans mask same h = λ k plan at. h k plan at ∙ ap (λ (b : Bool). cond b 1 0) (same k plan at)
 
 -- where every bit is set, all plans pass
-pub mask_full : (passes : Plan → Bool) (plans : List Plan) → length plans ≤ 16 → ((k : ℕ) (plan : Plan) → slice_get plans k ≡ Some plan → passes plan ≡ true) → IsMask passes plans (2 ^ 16 - 1)
+pub mask_full : (passes : Plan → Bool) (plans : List Plan) → length plans ≤ 16
+    → ((k : ℕ) (plan : Plan) → slice_get plans k ≡ Some plan → passes plan ≡ true) → IsMask passes plans (2 ^ 16 - 1)
 mask_full passes plans few all = λ k plan at.
     let below : k < 16 = omega (arith, slice_get_within plans k plan at, few) in
     bit_at_ones 16 k below ∙ ap (λ (b : Bool). cond b 1 0) (sym (all k plan at))

@@ -1,5 +1,32 @@
 -- One code more has a number, or is marked.
-use Rattle.std.proofs.Common.{ℕ, ◌≡◌, ◌≢◌, ◌+◌, ◌<◌, List, [], ◌∷◌, ◌++◌, length, get_or, set, eqb, eqb-true, eq-eqb, true, false, bit_or, refl, sym, ap, ◌∙◌, arith, ◌⊎◌, inl, inr}
+use Rattle.std.proofs.Common.{
+  ℕ,
+  ◌≡◌,
+  ◌≢◌,
+  ◌+◌,
+  ◌<◌,
+  List,
+  [],
+  ◌∷◌,
+  ◌++◌,
+  length,
+  get_or,
+  set,
+  eqb,
+  eqb-true,
+  eq-eqb,
+  true,
+  false,
+  bit_or,
+  refl,
+  sym,
+  ap,
+  ◌∙◌,
+  arith,
+  ◌⊎◌,
+  inl,
+  inr,
+}
 use Rattle.std.specs.Int.{bit_at}
 use Rattle.std.proofs.lemmas.Nat.Bits.{bit_at_or, bit_at-lt}
 use Rattle.std.proofs.lemmas.Bool.Decides.{eqb_tells}
@@ -8,7 +35,8 @@ use Rattle.std.proofs.Math.ListN.{get_or-append}
 use Rattle.std.proofs.Math.Seq.{get_or-append_seam}
 use Rattle.shared_scan.specs.Numbering.{AreNumbered}
 
-module _ (numbers kept : List ℕ) (code : ℕ) (below : code < length numbers) (none : get_or numbers code 0 ≡ 4294967295) (few : length kept < 4294967295) (was : AreNumbered numbers kept) where
+module _ (numbers kept : List ℕ) (code : ℕ) (below : code < length numbers) (none : get_or numbers code 0 ≡ 4294967295)
+    (few : length kept < 4294967295) (was : AreNumbered numbers kept) where
   here : get_or (set numbers code (length kept)) code 0 ≡ length kept
   here = get_or-set_same numbers code (length kept) 0 below
 
@@ -26,17 +54,24 @@ module _ (numbers kept : List ℕ) (code : ℕ) (below : code < length numbers) 
 
   there_now : (c : ℕ) → c < length numbers → get_or (set numbers code (length kept)) c 0 ≢ 4294967295
       → ((eqb c code ≡ true) × (c ≡ code)) ⊎ ((eqb c code ≡ false) × (c ≢ code))
-      → (get_or (set numbers code (length kept)) c 0 < length (kept ++ code ∷ [])) × (get_or (kept ++ code ∷ []) (get_or (set numbers code (length kept)) c 0) 0 ≡ c)
+      → (get_or (set numbers code (length kept)) c 0 < length (kept ++ code ∷ []))
+      × (get_or (kept ++ code ∷ []) (get_or (set numbers code (length kept)) c 0) 0 ≡ c)
   there_now c inside some (inl (_, e)) =
-      let n : get_or (set numbers code (length kept)) c 0 ≡ length kept = ap (λ (v : ℕ). get_or (set numbers code (length kept)) v 0) e ∙ here in
+      let n : get_or (set numbers code (length kept)) c 0 ≡ length kept =
+      ap (λ (v : ℕ). get_or (set numbers code (length kept)) v 0) e ∙ here in
       (omega (arith, n, longer), ap (λ (v : ℕ). get_or (kept ++ code ∷ []) v 0) n ∙ at_end ∙ sym e)
   there_now c inside some (inr (_, ne)) =
       let n : get_or (set numbers code (length kept)) c 0 ≡ get_or numbers c 0 = other c ne in
-      let old = was.there c inside (λ e. some (n ∙ e)) in
-      (omega (arith, n, old.0, longer), ap (λ (v : ℕ). get_or (kept ++ code ∷ []) v 0) n ∙ before (get_or numbers c 0) old.0 ∙ old.1)
+      let old = was.there c inside (λ e. some (n ∙ e)) in (
+        omega (arith, n, old.0, longer),
+        ap (λ (v : ℕ). get_or (kept ++ code ∷ []) v 0) n
+            ∙ before (get_or numbers c 0) old.0 ∙ old.1,
+      )
 
-  back_now : (n : ℕ) → n < length (kept ++ code ∷ []) → ((eqb n (length kept) ≡ true) × (n ≡ length kept)) ⊎ ((eqb n (length kept) ≡ false) × (n ≢ length kept))
-      → (get_or (kept ++ code ∷ []) n 0 < length numbers) × (get_or (set numbers code (length kept)) (get_or (kept ++ code ∷ []) n 0) 0 ≡ n)
+  back_now : (n : ℕ) → n < length (kept ++ code ∷ []) → ((eqb n (length kept) ≡ true) × (n ≡ length kept))
+      ⊎ ((eqb n (length kept) ≡ false) × (n ≢ length kept))
+      → (get_or (kept ++ code ∷ []) n 0 < length numbers)
+      × (get_or (set numbers code (length kept)) (get_or (kept ++ code ∷ []) n 0) 0 ≡ n)
   back_now n inside (inl (_, e)) =
       let c : get_or (kept ++ code ∷ []) n 0 ≡ code = ap (λ (v : ℕ). get_or (kept ++ code ∷ []) v 0) e ∙ at_end in
       (omega (arith, c, below), ap (λ (v : ℕ). get_or (set numbers code (length kept)) v 0) c ∙ here ∙ sym e)
@@ -44,20 +79,27 @@ module _ (numbers kept : List ℕ) (code : ℕ) (below : code < length numbers) 
       let small : n < length kept = omega (arith, inside, longer, ne) in
       let c : get_or (kept ++ code ∷ []) n 0 ≡ get_or kept n 0 = before n small in
       let old = was.back n small in
-      let differs : get_or kept n 0 ≢ code = λ e. let m : n ≡ 4294967295 = sym old.1 ∙ ap (λ (v : ℕ). get_or numbers v 0) e ∙ none in omega (arith, m, small, few) in
-      (omega (arith, c, old.0), ap (λ (v : ℕ). get_or (set numbers code (length kept)) v 0) c ∙ other (get_or kept n 0) differs ∙ old.1)
+      let differs : get_or kept n 0 ≢ code = λ e. let m : n ≡ 4294967295 =
+      sym old.1 ∙ ap (λ (v : ℕ). get_or numbers v 0) e ∙ none in omega (arith, m, small, few) in (
+        omega (arith, c, old.0),
+        ap (λ (v : ℕ). get_or (set numbers code (length kept)) v 0) c
+            ∙ other (get_or kept n 0) differs ∙ old.1,
+      )
 
   pub numbered_more : AreNumbered (set numbers code (length kept)) (kept ++ code ∷ [])
   numbered_more = record {
-    there = λ c inside some. there_now c (omega (arith, inside, length-set numbers code (length kept))) some (eqb_tells c code);
-    back = λ n inside. let r = back_now n inside (eqb_tells n (length kept)) in (omega (arith, r.0, length-set numbers code (length kept)), r.1);
+    there = λ c inside some. there_now c (omega (arith, inside, length-set numbers code (length kept))) some
+        (eqb_tells c code);
+    back = λ n inside. let r = back_now n inside (eqb_tells n (length kept)) in
+        (omega (arith, r.0, length-set numbers code (length kept)), r.1);
   }
 
 -- a row's code is marked with the bits of the row's mask, and keeps those that it had
 pub mark_more : (seen codes masks : List ℕ) (row : ℕ) → get_or codes row 0 < length seen
     → ((p k : ℕ) → p < row → bit_at (get_or masks p 0) k ≡ 1 → bit_at (get_or seen (get_or codes p 0) 0) k ≡ 1)
     → (p k : ℕ) → p < row + 1 → bit_at (get_or masks p 0) k ≡ 1
-    → bit_at (get_or (set seen (get_or codes row 0) (bit_or (get_or seen (get_or codes row 0) 0) (get_or masks row 0))) (get_or codes p 0) 0) k ≡ 1
+    → bit_at (get_or (set seen (get_or codes row 0) (bit_or (get_or seen (get_or codes row 0) 0) (get_or masks row 0)))
+    (get_or codes p 0) 0) k ≡ 1
 mark_more seen codes masks row within before p k below bit =
     let code = get_or codes row 0 in
     let mark = bit_or (get_or seen code 0) (get_or masks row 0) in
@@ -68,14 +110,25 @@ mark_more seen codes masks row within before p k below bit =
       | true ↦ λ t.
           let same : c ≡ code = eqb-true c code t in
           ap (λ (n : ℕ). bit_at (get_or new n 0) k) same ∙ ap (λ (m : ℕ). bit_at m k) here
-          ∙ omega (arith, bit_at_or (get_or seen code 0) (get_or masks row 0) k, bit_at-lt (get_or masks row 0) k, sym (ap (λ (n : ℕ). bit_at (get_or seen n 0) k) same) ∙ had)
-      | false ↦ λ f. ap (λ (m : ℕ). bit_at m k) (get_or-set_other seen code c mark 0 (λ e. let t : eqb c code ≡ true = eq-eqb c code e in cc)) ∙ had
+          ∙ omega (
+            arith,
+            bit_at_or (get_or seen code 0) (get_or masks row 0) k,
+            bit_at-lt (get_or masks row 0) k,
+            sym (ap (λ (n : ℕ). bit_at (get_or seen n 0) k) same) ∙ had,
+          )
+      | false ↦ λ f. ap (λ (m : ℕ). bit_at m k) (get_or-set_other seen code c mark 0
+          (λ e. let t : eqb c code ≡ true = eq-eqb c code e in cc)) ∙ had
     ] refl in
     elim (eqb p row) as (λ b. eqb p row ≡ b → bit_at (get_or new (get_or codes p 0) 0) k ≡ 1) [
       | true ↦ λ t.
           let same : p ≡ row = eqb-true p row t in
           ap (λ (n : ℕ). bit_at (get_or new (get_or codes n 0) 0) k) same ∙ ap (λ (m : ℕ). bit_at m k) here
-          ∙ omega (arith, bit_at_or (get_or seen code 0) (get_or masks row 0) k, bit_at-lt (get_or seen code 0) k, sym (ap (λ (n : ℕ). bit_at (get_or masks n 0) k) same) ∙ bit)
+          ∙ omega (
+            arith,
+            bit_at_or (get_or seen code 0) (get_or masks row 0) k,
+            bit_at-lt (get_or seen code 0) k,
+            sym (ap (λ (n : ℕ). bit_at (get_or masks n 0) k) same) ∙ bit,
+          )
       | false ↦ λ f.
           let other : (p ≡ row → ⊥) = λ e. let t : eqb p row ≡ true = eq-eqb p row e in cc in
           keeps (get_or codes p 0) (before p k (omega (arith, below, other)) bit)

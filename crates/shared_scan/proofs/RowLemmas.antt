@@ -1,5 +1,27 @@
 -- A line's rows by position are those that it names.
-use Rattle.std.proofs.Common.{◌||◌, ℕ, zero, suc, ◌≡◌, ◌<◌, List, [], ◌∷◌, Bool, true, false, cond, Option, Some, length, refl, sym, ap, ◌∙◌, arith}
+use Rattle.std.proofs.Common.{
+  ◌||◌,
+  ℕ,
+  zero,
+  suc,
+  ◌≡◌,
+  ◌<◌,
+  List,
+  [],
+  ◌∷◌,
+  Bool,
+  true,
+  false,
+  cond,
+  Option,
+  Some,
+  length,
+  refl,
+  sym,
+  ap,
+  ◌∙◌,
+  arith,
+}
 use Rattle.std.specs.Prelude.{nat_eq, slice_get, unwrap_or}
 use Rattle.std.specs.Option.{option_map_or}
 use Rattle.std.specs.Cmp.{unsigned_Decides}
@@ -9,7 +31,8 @@ use Rattle.fact_table.specs.Places.{key_at}
 
 module _ {R : Type 0} (key : R → ℕ) where
   -- the first row with a row's key is that row
-  pub own_row : (rows : List R) (p : ℕ) (row : R) → AreDistinct (has_key_of key) rows → slice_get rows p ≡ Some row → row_with key rows (key row) ≡ Some row
+  pub own_row : (rows : List R) (p : ℕ) (row : R) → AreDistinct (has_key_of key) rows → slice_get rows p ≡ Some row
+      → row_with key rows (key row) ≡ Some row
   own_row [] p row distinct at = cc
   own_row (r ∷ rows) zero row distinct at =
       let same : r ≡ row = cc in
@@ -17,7 +40,8 @@ module _ {R : Type 0} (key : R → ℕ) where
       ap (λ (b : Bool). cond b (Some r) (row_with key rows (key row))) t ∙ at
   own_row (r ∷ rows) (suc p) row distinct at =
       ap (λ (b : Bool). cond b (Some r) (row_with key rows (key row))) (distinct 0 (suc p) r row (omega arith) refl at)
-      ∙ own_row rows p row (λ i j earlier later below at_i at_j. distinct (suc i) (suc j) earlier later (omega (arith, below)) at_i at_j) at
+      ∙ own_row rows p row (λ i j earlier later below at_i at_j. distinct (suc i) (suc j) earlier later
+      (omega (arith, below)) at_i at_j) at
 
   pub own_key : (rows : List R) (p : ℕ) (row : R) → slice_get rows p ≡ Some row → has_key key rows (key row) ≡ true
   own_key [] p row at = cc
@@ -35,10 +59,12 @@ module _ {R : Type 0} (key : R → ℕ) where
   row_there (r ∷ rows) (suc p) below = row_there rows p (omega (arith, below))
 
   -- the row at a position is the one whose key is read back there
-  pub named_row : (rows : List R) (p : ℕ) (row blank : R) → AreDistinct (has_key_of key) rows → slice_get rows p ≡ Some row → slice_get rows p ≡ Some (unwrap_or (row_with key rows (key_at key rows p)) blank)
+  pub named_row : (rows : List R) (p : ℕ) (row blank : R) → AreDistinct (has_key_of key) rows
+      → slice_get rows p ≡ Some row → slice_get rows p ≡ Some (unwrap_or (row_with key rows (key_at key rows p)) blank)
   named_row rows p row blank distinct at =
       let k : key_at key rows p ≡ key row = ap (λ (o : Option R). option_map_or key o 0) at in
-      let found : row_with key rows (key_at key rows p) ≡ Some row = ap (row_with key rows) k ∙ own_row rows p row distinct at in
+      let found : row_with key rows (key_at key rows p) ≡ Some row =
+      ap (row_with key rows) k ∙ own_row rows p row distinct at in
       at ∙ sym (ap (λ (o : Option R). Some (unwrap_or o blank)) found)
 
   pub known_key : (rows : List R) (p : ℕ) → p < length rows → has_key key rows (key_at key rows p) ≡ true

@@ -1,5 +1,28 @@
 -- A row passes a plan's tests where each of its values passes those of its column.
-use Rattle.std.proofs.Common.{ℕ, suc, ◌≡◌, ◌+◌, ◌<◌, Bool, true, false, not, List, [], ◌∷◌, ◌++◌, map, get_or, nat_eq, Some, refl, sym, ap, ◌∙◌, arith}
+use Rattle.std.proofs.Common.{
+  ℕ,
+  suc,
+  ◌≡◌,
+  ◌+◌,
+  ◌<◌,
+  Bool,
+  true,
+  false,
+  not,
+  List,
+  [],
+  ◌∷◌,
+  ◌++◌,
+  map,
+  get_or,
+  nat_eq,
+  Some,
+  refl,
+  sym,
+  ap,
+  ◌∙◌,
+  arith,
+}
 use Rattle.std.specs.Prelude.{◌&&◌, ◌||◌, slice_get, All}
 use Rattle.std.specs.List.{list_all}
 use Rattle.std.specs.Cmp.{unsigned_Decides}
@@ -14,8 +37,10 @@ use Rattle.ssb_queries.specs.RowValues.{pass}
 use Rattle.shared_scan.specs.Tests.{is_place, passes_at}
 
 -- one place more
-pub place_kept : (places : List ℕ) (new place : ℕ) → is_place places place ≡ true → is_place (places ++ new ∷ []) place ≡ true
-place_kept places new place there = list_any-append (λ own. nat_eq own place) places (new ∷ []) ∙ ap (λ (b : Bool). b || is_place (new ∷ []) place) there
+pub place_kept : (places : List ℕ) (new place : ℕ) → is_place places place ≡ true
+    → is_place (places ++ new ∷ []) place ≡ true
+place_kept places new place there = list_any-append (λ own. nat_eq own place) places (new ∷ [])
+    ∙ ap (λ (b : Bool). b || is_place (new ∷ []) place) there
 
 or_true : (b : Bool) → (b || true) ≡ true
 or_true true = refl
@@ -24,10 +49,12 @@ or_true false = refl
 pub place_added : (places : List ℕ) (new : ℕ) → is_place (places ++ new ∷ []) new ≡ true
 place_added places new =
     let own : nat_eq new new ≡ true = (unsigned_Decides new new).1 refl in
-    list_any-append (λ own. nat_eq own new) places (new ∷ []) ∙ ap (λ (b : Bool). is_place places new || (b || false)) own ∙ or_true (is_place places new)
+    list_any-append (λ own. nat_eq own new) places (new ∷ [])
+    ∙ ap (λ (b : Bool). is_place places new || (b || false)) own ∙ or_true (is_place places new)
 
 -- the place of one test more is among them
-pub has_more : (tests : List Test) (places more : List ℕ) (i : ℕ) → ((place : ℕ) → is_place places place ≡ true → is_place more place ≡ true)
+pub has_more : (tests : List Test) (places more : List ℕ) (i : ℕ)
+    → ((place : ℕ) → is_place places place ≡ true → is_place more place ≡ true)
     → ((d : Test) → is_place more (get_or tests i d).column.place ≡ true)
     → ((k : ℕ) (d : Test) → k < i → is_place places (get_or tests k d).column.place ≡ true)
     → (k : ℕ) (d : Test) → k < i + 1 → is_place more (get_or tests k d).column.place ≡ true
@@ -53,7 +80,8 @@ joined : (a b : Bool) → a ≡ true → b ≡ true → (a && b) ≡ true
 joined a b e f = ap (λ (x : Bool). x && b) e ∙ f
 
 -- a test of all holds of the one that is found
-all_has : (f : ℕ → Bool) (places : List ℕ) (place : ℕ) → list_all f places ≡ true → is_place places place ≡ true → f place ≡ true
+all_has : (f : ℕ → Bool) (places : List ℕ) (place : ℕ) → list_all f places ≡ true → is_place places place ≡ true
+    → f place ≡ true
 all_has f [] place all there = absurd (cc)
 all_has f (own ∷ places) place all there =
     let parts = both (f own) (list_all f places) all in
@@ -67,21 +95,28 @@ all_of f [] each = refl
 all_of f (own ∷ places) each = joined (f own) (list_all f places) (each own) (all_of f places each)
 
 module _ (value : ℕ → Value) where
-  own_tests : (test : Test) → (not (nat_eq test.column.place test.column.place) || holds test.cond (value test.column.place)) ≡ true → holds test.cond (value test.column.place) ≡ true
+  own_tests : (test : Test) → (not (nat_eq test.column.place test.column.place) || holds test.cond
+      (value test.column.place)) ≡ true → holds test.cond (value test.column.place) ≡ true
   own_tests test h =
-      let own : nat_eq test.column.place test.column.place ≡ true = (unsigned_Decides test.column.place test.column.place).1 refl in
+      let own : nat_eq test.column.place test.column.place ≡ true =
+      (unsigned_Decides test.column.place test.column.place).1 refl in
       sym (ap (λ (b : Bool). not b || holds test.cond (value test.column.place)) own) ∙ h
 
   -- all tests of each tested column hold: so does each test
-  each_holds : (tests all : List Test) (places : List ℕ) → list_all (λ place. passes_at all place (value place)) places ≡ true
-      → ((test : Test) (place : ℕ) → passes_at all place (value place) ≡ true → passes_at tests place (value place) ≡ true)
+  each_holds : (tests all : List Test) (places : List ℕ)
+      → list_all (λ place. passes_at all place (value place)) places ≡ true
+      → ((test : Test) (place : ℕ) → passes_at all place (value place) ≡ true
+      → passes_at tests place (value place) ≡ true)
       → All (λ test. is_place places test.column.place ≡ true) tests → pass tests value ≡ true
   each_holds [] all places hold part covered = refl
   each_holds (test ∷ tests) all places hold part covered =
-      let here = all_has (λ place. passes_at all place (value place)) places test.column.place hold (covered 0 test (omega arith)) in
-      let mine = both (not (nat_eq test.column.place test.column.place) || holds test.cond (value test.column.place)) (passes_at tests test.column.place (value test.column.place)) (part test test.column.place here) in
+      let here = all_has (λ place. passes_at all place (value place)) places test.column.place hold
+      (covered 0 test (omega arith)) in
+      let mine = both (not (nat_eq test.column.place test.column.place) || holds test.cond (value test.column.place))
+      (passes_at tests test.column.place (value test.column.place)) (part test test.column.place here) in
       let later = each_holds tests all places hold
-      (λ t place h. (both (not (nat_eq test.column.place place) || holds test.cond (value place)) (passes_at tests place (value place)) (part t place h)).1)
+      (λ t place h. (both (not (nat_eq test.column.place place) || holds test.cond (value place))
+      (passes_at tests place (value place)) (part t place h)).1)
       (λ k d below. covered (suc k) d (omega (arith, below))) in
       joined (holds test.cond (value test.column.place)) (pass tests value) (own_tests test mine.0) later
 
@@ -91,19 +126,25 @@ module _ (value : ℕ → Value) where
   column_holds (test ∷ tests) place hold =
       let parts = both (holds test.cond (value test.column.place)) (pass tests value) hold in
       let here : (not (nat_eq test.column.place place) || holds test.cond (value place)) ≡ true =
-      elim (nat_eq test.column.place place) as (λ b. nat_eq test.column.place place ≡ b → (not b || holds test.cond (value place)) ≡ true) [
-        | true ↦ λ t. ap (λ (n : ℕ). holds test.cond (value n)) (sym ((unsigned_Decides test.column.place place).0 t)) ∙ parts.0
+      elim (nat_eq test.column.place place) as (λ b. nat_eq test.column.place place ≡ b
+      → (not b || holds test.cond (value place)) ≡ true) [
+        | true ↦ λ t. ap (λ (n : ℕ). holds test.cond (value n)) (sym ((unsigned_Decides test.column.place place).0 t))
+            ∙ parts.0
         | false ↦ λ e. refl
       ] refl in
-      joined (not (nat_eq test.column.place place) || holds test.cond (value place)) (passes_at tests place (value place)) here (column_holds tests place parts.1)
+      joined (not (nat_eq test.column.place place) || holds test.cond (value place))
+      (passes_at tests place (value place)) here (column_holds tests place parts.1)
 
   -- so a row passes all tests where it passes those of each tested column
-  pub pass_by_places : (tests : List Test) (places : List ℕ) → All (λ test. is_place places test.column.place ≡ true) tests
+  pub pass_by_places : (tests : List Test) (places : List ℕ)
+      → All (λ test. is_place places test.column.place ≡ true) tests
       → list_all (λ place. passes_at tests place (value place)) places ≡ pass tests value
   pass_by_places tests places covered = same_bool _ _
       (λ hold. each_holds tests tests places hold (λ test place h. h) covered)
       (λ hold. all_of (λ place. passes_at tests place (value place)) places (λ place. column_holds tests place hold))
 
 -- what a row has in each column
-pub row_reads : {R : Type 0} (value : ℕ → R → Value) (rows : List R) (p : ℕ) (row : R) → slice_get rows p ≡ Some row → (place : ℕ) → get_or (map (value place) rows) p (Number 0) ≡ value place row
-row_reads value rows p row at place = get_or-map (value place) rows p row (Number 0) (slice_get_within rows p row at) ∙ ap (value place) (get_or_from_slice_get rows p row row at)
+pub row_reads : {R : Type 0} (value : ℕ → R → Value) (rows : List R) (p : ℕ) (row : R) → slice_get rows p ≡ Some row
+    → (place : ℕ) → get_or (map (value place) rows) p (Number 0) ≡ value place row
+row_reads value rows p row at place = get_or-map (value place) rows p row (Number 0) (slice_get_within rows p row at)
+    ∙ ap (value place) (get_or_from_slice_get rows p row row at)

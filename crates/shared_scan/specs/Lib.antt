@@ -7,6 +7,7 @@ pub mod Grouped
 pub mod GroupColumns
 pub mod Batch
 pub mod Answers
+pub mod Classed
 pub mod PreparedBatch
 pub mod CanScan
 pub mod Groupings

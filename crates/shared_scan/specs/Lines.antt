@@ -4,7 +4,8 @@ use Rattle.ssb_schema.specs.Base.{Tables}
 use Rattle.fact_table.specs.declared.place.Place.{Place}
 use Rattle.fact_table.specs.declared.slices.Slices.{Slices}
 use Rattle.fact_table.specs.Columns.{AreColumnsOf}
-use Rattle.fact_table.specs.Places.{IsWithin, live_facts}
+use Rattle.fact_table.specs.Places.{live_facts}
+use Rattle.fact_columns.specs.Classed.{IsPlaceOf}
 
 -- every column is as long as the first
 pub record HaveOneLength (slices : Slices) : Type 0 where
@@ -16,9 +17,10 @@ pub record HaveOneLength (slices : Slices) : Type 0 where
   pub revenues : length slices.revenue.now ≡ length slices.customer.now
   pub costs : length slices.cost.now ≡ length slices.customer.now
 
--- the places are within the dimensions, and no more of them are live than a fact table may have lines
+-- the places are within the dimensions and have the classes of their rows, and no more of them are live than a fact
+-- table may have lines
 pub record AreOfBase (base : Tables) (places : List Place) : Type 0 where
-  pub within : All (IsWithin base.dimensions) places
+  pub within : All (IsPlaceOf base.dimensions) places
   pub few : length places < 2 ^ 32
   pub few_live : length (live_facts base.dimensions places) ≤ 33554432
 

@@ -22,7 +22,8 @@ pub fn scan(
 ) -> Result<Vec<Rows>, AllocError>
     requires base { batch.now.base ≡ columns.now.base }
     requires small { length columns.now.facts ≤ MOST_LINES }
-    ensures { (history : List CommitRecord) → StandsFor (columns_state columns.now) history → IfOk result (λ rows. rows.items ≡ answers_after columns.now.base history batch.now.questions) }
+    ensures { (history : List CommitRecord) → StandsFor (columns_state columns.now) history
+        → IfOk result (λ rows. rows.items ≡ answers_after columns.now.base history batch.now.questions) }
 {
     scan_slices(alloc, columns.slices(), batch)
 }
@@ -36,7 +37,8 @@ pub fn scan_parallel<R: Threads + Sync>(
 ) -> Result<Vec<Rows>, AllocError>
     requires base { batch.now.base ≡ columns.now.base }
     requires small { length columns.now.facts ≤ MOST_LINES }
-    ensures { (history : List CommitRecord) → StandsFor (columns_state columns.now) history → IfOk result (λ rows. rows.items ≡ answers_after columns.now.base history batch.now.questions) }
+    ensures { (history : List CommitRecord) → StandsFor (columns_state columns.now) history
+        → IfOk result (λ rows. rows.items ≡ answers_after columns.now.base history batch.now.questions) }
 {
     scan_slices_parallel(rt, alloc, columns.slices(), batch)
 }

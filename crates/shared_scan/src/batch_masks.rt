@@ -4,14 +4,14 @@ ghost use Rattle.shared_scan.specs.Prepared.{AreMasksOf};
 ghost use Rattle.shared_scan.specs.Masking.{CoverRows};
 
 use crate::masking::{dimension_masks, terms_masks};
-use dim_index::DimIndex;
+use dim_index::FirstRows;
 use scan_kernel::Masks;
 use ssb_queries::Plan;
 use ssb_schema::{Items, Table};
 use std::alloc::{AllocError, Global};
 
 /// The masks of the rows of all dimensions, and of all codes of quantity and discount.
-pub fn batch_masks(alloc: Global, index: &DimIndex, plans: &[Plan]) -> Result<Masks, AllocError>
+pub fn batch_masks(alloc: Global, index: &FirstRows, plans: &[Plan]) -> Result<Masks, AllocError>
     requires few { length plans.now ≤ 16 }
     ensures tell { IfOk result (AreMasksOf plans.now index.now.dimensions) }
     ensures cover { IfOk result (CoverRows index.now.dimensions) }

@@ -1,11 +1,12 @@
 //! The group columns of a question, made ready.
-ghost use Rattle.std.specs.Prelude.{◌≡◌, ◌≢◌, ℕ, ◌<◌, ◌≤◌, ◌*◌, ◌^◌, All, IfOk, length, map, slice_index, slice_index_or};
+ghost use Rattle.std.specs.Prelude.{◌≡◌, ◌≢◌, ℕ, ◌<◌, ◌≤◌, ◌*◌, ◌^◌, All, IfOk, length, map, slice_index};
+ghost use Rattle.std.specs.Prelude.{slice_index_or};
 ghost use Rattle.ssb_plans.specs.declared.value.Value.TheVariants.{Number};
 ghost use Rattle.dim_index.specs.Values.{values_of};
 ghost use Rattle.shared_scan.specs.Numbering.{HasMasks, IsPreparedColumn};
 
 use crate::numbering::{NONE, number_codes};
-use dim_index::{Dictionary, DimIndex};
+use dim_index::{Dictionary, FirstRows};
 use ssb_queries::Value;
 use ssb_schema::{Column, Items};
 use std::alloc::{AllocError, Global};
@@ -38,10 +39,13 @@ fn part(number: u32, step: u64) -> u64
 
 /// Makes parts of numbers below a count: each times the step.
 fn parts_of(alloc: Global, numbers: &[u32], count: u32, step: u64) -> Result<Vec<u64>, AllocError>
-    requires below { (code : ℕ) → code < length numbers.now → slice_index numbers.now code ≢ 4294967295 → slice_index numbers.now code < count }
+    requires below { (code : ℕ) → code < length numbers.now → slice_index numbers.now code ≢ 4294967295
+        → slice_index numbers.now code < count }
     requires fits { count * step < 2 ^ 64 }
     ensures len { IfOk result (λ parts. length parts.items ≡ length numbers.now) }
-    ensures each { IfOk result (λ parts. (code : ℕ) → code < length numbers.now → slice_index numbers.now code ≢ 4294967295 → slice_index parts.items code ≡ slice_index numbers.now code * step) }
+    ensures each { IfOk result (λ parts. (code : ℕ) → code < length numbers.now
+        → slice_index numbers.now code ≢ 4294967295 → slice_index parts.items code ≡ slice_index numbers.now code *
+        step) }
 {
     let mut parts = Vec::with_capacity(alloc, numbers.len())?;
     for number in numbers {
@@ -62,7 +66,7 @@ pub struct GroupPart {
 /// Makes a group column ready for a question, where numbers of groups so far are below the step.
 pub fn prepare(
     alloc: Global,
-    index: &DimIndex,
+    index: &FirstRows,
     column: Column,
     masks: &Option<Items<u16>>,
     question: usize,
@@ -73,7 +77,8 @@ pub fn prepare(
     requires step { step ≤ 2 ^ 40 }
     requires masks { (p : ℕ) → p < length (values_of index.now column) → HasMasks masks.now p }
     ensures column { IfOk result (λ part. part.column ≡ column) }
-    ensures prepared { IfOk result (λ part. IsPreparedColumn (values_of index.now column) masks.now question step part.values part.parts.items) }
+    ensures prepared { IfOk result (λ part. IsPreparedColumn (values_of index.now column) masks.now question step
+        part.values part.parts.items) }
     ensures few { IfOk result (λ part. length part.values ≤ 1048576) }
 {
     let codes = index.codes_of(column);

@@ -9,7 +9,7 @@ ghost use Rattle.shared_scan.specs.Prepared.{positions_in};
 
 use crate::parts::Parts;
 use crate::ready::Ready;
-use dim_index::DimIndex;
+use dim_index::FirstRows;
 use scan_kernel::{GroupColumn, Grouping, LineColumns};
 use ssb_schema::{Column, Items, Table};
 use std::alloc::{AllocError, Global};
@@ -29,7 +29,7 @@ pub fn positions<'a>(lines: &LineColumns<'a>, table: Table) -> &'a [u32]
 
 /// One group column as the loops read it.
 fn group_column<'a>(
-    index: &'a DimIndex,
+    index: &'a FirstRows,
     lines: &LineColumns<'a>,
     column: Column,
     parts: &'a Items<u32>,
@@ -46,7 +46,7 @@ fn group_column<'a>(
 /// The group columns of a question as the loops read them.
 pub fn group_columns<'a>(
     alloc: Global,
-    index: &'a DimIndex,
+    index: &'a FirstRows,
     lines: &LineColumns<'a>,
     columns: &[Column],
     parts: &'a [Items<u32>],
@@ -64,7 +64,7 @@ pub fn group_columns<'a>(
 /// The grouping of a question with a number for each group.
 fn dense_grouping<'a>(
     alloc: Global,
-    index: &'a DimIndex,
+    index: &'a FirstRows,
     lines: &LineColumns<'a>,
     ready: &'a Ready,
     parts: &'a [Items<u32>],
@@ -83,7 +83,7 @@ fn dense_grouping<'a>(
 /// The grouping of a question as the loops read it. Where its groups are summed up apart, one stands for all.
 fn grouping<'a>(
     alloc: Global,
-    index: &'a DimIndex,
+    index: &'a FirstRows,
     lines: &LineColumns<'a>,
     ready: &'a Ready,
 ) -> Result<Grouping<'a>, AllocError>
@@ -103,7 +103,7 @@ fn grouping<'a>(
 /// The groupings of all questions as the loops read them.
 pub fn groupings<'a>(
     alloc: Global,
-    index: &'a DimIndex,
+    index: &'a FirstRows,
     lines: &LineColumns<'a>,
     all: &'a [Ready],
 ) -> Result<Vec<Grouping<'a>>, AllocError>

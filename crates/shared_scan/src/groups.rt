@@ -9,7 +9,7 @@ ghost use Rattle.shared_scan.specs.Parts.{parts_in, IsFew};
 
 use crate::group_columns::prepare;
 use crate::parts::{Parts, parts_for};
-use dim_index::DimIndex;
+use dim_index::FirstRows;
 use scan_kernel::Masks;
 use ssb_queries::Value;
 use ssb_schema::{Column, Items, Table};
@@ -40,7 +40,7 @@ fn masks_of(masks: &Masks, table: Table) -> &Option<Items<u16>>
 /// Makes the group columns of a question ready, one after another.
 pub fn prepare_groups(
     alloc: Global,
-    index: &DimIndex,
+    index: &FirstRows,
     masks: &Masks,
     columns: &[Column],
     question: usize,
@@ -49,7 +49,8 @@ pub fn prepare_groups(
     requires three { length columns.now ≤ 3 }
     requires few { (column : GroupedBy) → length (values_of index.now column) ≤ 1048576 }
     requires masks { HaveMasks index.now masks.now }
-    ensures prepared { IfOk result (λ groups. ArePrepared index.now masks.now question columns.now groups.columns.items 1 (parts_in groups.parts)) }
+    ensures prepared { IfOk result (λ groups. ArePrepared index.now masks.now question columns.now groups.columns.items
+        1 (parts_in groups.parts)) }
     ensures size { IfOk result (λ groups. groups.size ≡ size_of (counts_of groups.columns.items)) }
     ensures few { IfOk result (λ groups. IsFew groups.parts groups.size) }
 {

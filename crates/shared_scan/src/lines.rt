@@ -1,17 +1,18 @@
 //! The columns of the fact table, as the loops read them.
-ghost use Rattle.std.specs.Prelude.{List};
+ghost use Rattle.std.specs.Prelude.{List, map};
 ghost use Rattle.fact_table.specs.declared.place.Place.{Place};
 ghost use Rattle.fact_table.specs.Columns.{AreColumnsOf};
+ghost use Rattle.shared_scan.specs.Classed.{classed};
 ghost use Rattle.shared_scan.specs.Laws.{AreLinesOf};
 ghost use Rattle.shared_scan.specs.Lines.{HaveOneLength};
 
 use fact_table::Slices;
 use scan_kernel::LineColumns;
 
-/// The same columns, of one length.
+/// The same columns, of one length: each row by its class.
 pub fn lines_of(slices: Slices<'_>) -> LineColumns<'_>
     requires { HaveOneLength slices }
-    ensures { (places : List Place) → AreColumnsOf places slices.entry → AreLinesOf places result }
+    ensures { (places : List Place) → AreColumnsOf places slices.entry → AreLinesOf (map classed places) result }
 {
     LineColumns {
         customer: slices.customer,

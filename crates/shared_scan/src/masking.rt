@@ -10,7 +10,7 @@ ghost use Rattle.shared_scan.specs.Masking.{AreCodeMasks, AreRowMasks, TellDimen
 
 use crate::plan_tests::tested_places;
 use crate::tested::{Cell, Terms, Tested};
-use dim_index::{Dictionary, DimIndex};
+use dim_index::{Dictionary, FirstRows};
 use ssb_queries::Plan;
 use ssb_schema::{Column, Items, Table};
 use std::alloc::{AllocError, Global};
@@ -68,7 +68,7 @@ fn narrow(masks: &mut [u16], codes: &[u32], of_codes: &[u16])
 /// The masks of a dimension's rows, by position, from the columns at these places.
 fn row_masks(
     alloc: Global,
-    index: &DimIndex,
+    index: &FirstRows,
     plans: &[Plan],
     table: Table,
     places: &[usize],
@@ -91,7 +91,7 @@ fn row_masks(
 /// The masks of a dimension's rows, by position; none where no plan tests them.
 pub fn dimension_masks(
     alloc: Global,
-    index: &DimIndex,
+    index: &FirstRows,
     plans: &[Plan],
     table: Table,
 ) -> Result<Option<Items<u16>>, AllocError>
@@ -111,7 +111,8 @@ fn terms_mask(plans: &[Plan], code: u16) -> u16
     requires few { length plans.now ≤ 16 }
     requires code { code < 1024 }
     ensures free { code < 16 → result ≡ 0 }
-    ensures live { 16 ≤ code → IsMask (λ plan. is_within plan.quantity (code / 16) && is_within plan.discount (code % 16)) plans.now result }
+    ensures live { 16 ≤ code → IsMask (λ plan. is_within plan.quantity (code / 16) && is_within plan.discount
+        (code % 16)) plans.now result }
 {
     if code < 16 {
         return 0;

@@ -34,7 +34,8 @@ fn number_code(numbering: &mut Numbering, code: u32) -> Result<(), AllocError>
     ensures grows { vec_len numbering.new.kept ≤ vec_len numbering.old.kept + 1 }
     ensures len { vec_len numbering.new.numbers ≡ vec_len numbering.old.numbers }
     ensures has { OnOk result (slice_index numbering.new.numbers.items code ≢ 4294967295) }
-    ensures keeps { OnOk result ((other : ℕ) → slice_index numbering.old.numbers.items other ≢ 4294967295 → slice_index numbering.new.numbers.items other ≢ 4294967295) }
+    ensures keeps { OnOk result ((other : ℕ) → slice_index numbering.old.numbers.items other ≢ 4294967295
+        → slice_index numbering.new.numbers.items other ≢ 4294967295) }
 {
     if numbering.numbers[code as usize] == NONE {
         let number = numbering.kept.len() as u32;

@@ -10,7 +10,6 @@ use crate::grouping::groupings;
 use crate::lines::lines_of;
 use crate::prepared::PreparedBatch;
 use crate::sums::{Scan, batch_rows};
-use dim_index::DimIndex;
 use fact_table::Slices;
 use scan_kernel::{parallel_totals, range_totals};
 use ssb_queries::Rows;
@@ -24,10 +23,13 @@ pub fn scan_slices(
     batch: &PreparedBatch,
 ) -> Result<Vec<Rows>, AllocError>
     requires { HavePlaces batch.now.base slices }
-    ensures { (places : List Place) → AreColumnsOf places slices.entry → AreOfBase batch.now.base places → IfOk result (λ rows. rows.items ≡ answers_over batch.now.base.dimensions (live_facts batch.now.base.dimensions places) batch.now.questions) }
+    ensures { (places : List Place) → AreColumnsOf places slices.entry → AreOfBase batch.now.base places
+        → IfOk result (λ rows. rows.items ≡ answers_over batch.now.base.dimensions
+        (live_facts batch.now.base.dimensions places) batch.now.questions) }
 {
-    let index: &DimIndex = &batch.index;
-    index.base().soundness();
+    let index = batch.index.first_rows();
+    batch.index.base().soundness();
+    index.soundness();
     let lines = lines_of(slices);
     let groupings = groupings(alloc, index, &lines, &batch.questions)?;
     let count = lines.customer.len();
@@ -48,10 +50,13 @@ pub fn scan_slices_parallel<R: Threads + Sync>(
     batch: &PreparedBatch,
 ) -> Result<Vec<Rows>, AllocError>
     requires { HavePlaces batch.now.base slices }
-    ensures { (places : List Place) → AreColumnsOf places slices.entry → AreOfBase batch.now.base places → IfOk result (λ rows. rows.items ≡ answers_over batch.now.base.dimensions (live_facts batch.now.base.dimensions places) batch.now.questions) }
+    ensures { (places : List Place) → AreColumnsOf places slices.entry → AreOfBase batch.now.base places
+        → IfOk result (λ rows. rows.items ≡ answers_over batch.now.base.dimensions
+        (live_facts batch.now.base.dimensions places) batch.now.questions) }
 {
-    let index: &DimIndex = &batch.index;
-    index.base().soundness();
+    let index = batch.index.first_rows();
+    batch.index.base().soundness();
+    index.soundness();
     let lines = lines_of(slices);
     let groupings = groupings(alloc, index, &lines, &batch.questions)?;
     let totals = parallel_totals(rt, alloc, &lines, &batch.masks, &groupings)?;

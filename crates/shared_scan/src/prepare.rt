@@ -8,7 +8,7 @@ ghost use Rattle.shared_scan.specs.Batch.{plans_of, IsReady};
 
 use crate::groups::prepare_groups;
 use crate::ready::Ready;
-use dim_index::DimIndex;
+use dim_index::FirstRows;
 use scan_kernel::Masks;
 use ssb_queries::question::plan;
 use ssb_queries::{Plan, Question};
@@ -28,7 +28,7 @@ pub fn plans_of(alloc: Global, questions: &[Question]) -> Result<Vec<Plan>, Allo
 /// One question made ready.
 pub fn prepare_question(
     alloc: Global,
-    index: &DimIndex,
+    index: &FirstRows,
     masks: &Masks,
     question: &Question,
     number: usize,

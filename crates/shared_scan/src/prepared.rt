@@ -11,8 +11,8 @@ use std::alloc::{AllocError, Global};
 use std::marker::Model;
 use std::sync::Arc;
 
-/// At most 16 questions made ready for one pass over the columns. Contracts see the base that they were prepared on, and
-/// the questions.
+/// At most 16 questions made ready for one pass over the columns. Contracts see the base that they were prepared on,
+/// and the questions.
 #[derive(Drop)]
 pub struct PreparedBatch {
     pub(crate) index: Arc<DimIndex>,
@@ -41,12 +41,13 @@ impl PreparedBatch {
         requires { length questions.now ≤ 16 }
         ensures { IfOk result (λ batch. batch ≡ record { base = index.value; questions = questions.now }) }
     {
-        index.base().soundness();
+        let rows = index.first_rows();
+        rows.soundness();
         let plans = plans_of(alloc, questions)?;
-        let masks = batch_masks(alloc, &index, &plans)?;
+        let masks = batch_masks(alloc, rows, &plans)?;
         let mut all = Vec::with_capacity(alloc, questions.len())?;
         for number in 0..questions.len() {
-            all.push(prepare_question(alloc, &index, &masks, &questions[number], number)?)?;
+            all.push(prepare_question(alloc, rows, &masks, &questions[number], number)?)?;
         }
         Ok(PreparedBatch {
             index,

@@ -12,7 +12,7 @@ ghost use Rattle.shared_scan.specs.Summed.{AreRowsOver};
 use crate::grouping::positions;
 use crate::ready::Ready;
 use crate::sums::difference;
-use dim_index::DimIndex;
+use dim_index::FirstRows;
 use scan_answers::answer_scattered;
 use scan_kernel::{
     GroupSums, LineColumns, Masks, ScatteredColumn, ScatteredTotals, scattered_totals,
@@ -23,7 +23,7 @@ use std::alloc::{AllocError, Global};
 
 /// One group column as the walk reads it.
 fn scattered_column<'a>(
-    index: &'a DimIndex,
+    index: &'a FirstRows,
     lines: &LineColumns<'a>,
     column: Column,
     parts: &'a Items<u64>,
@@ -40,13 +40,14 @@ fn scattered_column<'a>(
 /// The group columns of a question as the walk reads them.
 fn scattered_columns<'a>(
     alloc: Global,
-    index: &'a DimIndex,
+    index: &'a FirstRows,
     lines: &LineColumns<'a>,
     columns: &[Column],
     parts: &'a [Items<u64>],
 ) -> Result<Vec<ScatteredColumn<'a>>, AllocError>
     requires { length parts.now ≡ length columns.now }
-    ensures { IfOk result (λ groups. AreGroupColumns index.now lines.now columns.now parts.now (as_group_columns groups.items)) }
+    ensures { IfOk result (λ groups. AreGroupColumns index.now lines.now columns.now parts.now
+        (as_group_columns groups.items)) }
 {
     let mut groups = Vec::with_capacity(alloc, columns.len())?;
     for place in 0..columns.len() {
@@ -65,7 +66,8 @@ struct Listed {
 
 /// The groups that have lines, in three lists.
 fn list_groups(alloc: Global, totals: &ScatteredTotals) -> Result<Listed, AllocError>
-    requires { (g : ℕ) (sums : Sums) → get nat_eq totals.now g ≡ Some sums → (sums.gain < 2 ^ 62) × (sums.loss < 2 ^ 62) }
+    requires { (g : ℕ) (sums : Sums) → get nat_eq totals.now g ≡ Some sums → (sums.gain < 2 ^ 62)
+        × (sums.loss < 2 ^ 62) }
     ensures numbers { IfOk result (λ list. list.numbers.items ≡ keys totals.now) }
     ensures counts { IfOk result (λ list. list.counts.items ≡ map (λ sums. sums.count) (values totals.now)) }
     ensures sums { IfOk result (λ list. list.sums.items ≡ map net (values totals.now)) }
@@ -90,7 +92,7 @@ fn list_groups(alloc: Global, totals: &ScatteredTotals) -> Result<Listed, AllocE
 /// The rows of a question, by one walk over the places that keeps the sums of the groups that it meets.
 pub fn scattered_rows(
     alloc: Global,
-    index: &DimIndex,
+    index: &FirstRows,
     lines: &LineColumns<'_>,
     masks: &Masks,
     ready: &Ready,

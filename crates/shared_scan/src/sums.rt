@@ -1,15 +1,17 @@
 //! The rows of questions from their totals.
-ghost use Rattle.std.specs.Prelude.{◌≡◌, ℕ, ◌<◌, ◌≤◌, ◌^◌, ◌-ℤ◌, pos, IfOk, length, slice_index, slice_index_or, vec_len};
+ghost use Rattle.std.specs.Prelude.{◌≡◌, ℕ, ◌<◌, ◌≤◌, ◌^◌, ◌-ℤ◌, pos, IfOk, length, slice_index, slice_index_or};
+ghost use Rattle.std.specs.Prelude.{vec_len};
 ghost use Rattle.scan_answers.specs.Groups.{counts_of, size_of};
 ghost use Rattle.scan_answers.specs.Scan.{AnswersLines};
 ghost use Rattle.ssb_plans.specs.Queries.{plan_over};
 ghost use Rattle.scan_kernel.specs.Places.{CanSearch};
-ghost use Rattle.shared_scan.specs.TotalRows.{AreSmall, FitGroups, AreDenseRows, CanAnswer, CanAnswerAll, AreRowsOf, AreBatchRows};
+ghost use Rattle.shared_scan.specs.TotalRows.{AreSmall, FitGroups, AreDenseRows, CanAnswer, CanAnswerAll, AreRowsOf};
+ghost use Rattle.shared_scan.specs.TotalRows.{AreBatchRows};
 
 use crate::parts::Parts;
 use crate::ready::Ready;
 use crate::scattered::scattered_rows;
-use dim_index::DimIndex;
+use dim_index::FirstRows;
 use scan_answers::answer_question;
 use scan_kernel::{LineColumns, Masks, Totals};
 use ssb_queries::{Question, ResultRow, Rows, Value};
@@ -31,7 +33,8 @@ fn differences(alloc: Global, gains: &[u64], losses: &[u64]) -> Result<Vec<i64>,
     requires gains { (g : ℕ) → slice_index gains.now g < 2 ^ 62 }
     requires losses { (g : ℕ) → slice_index losses.now g < 2 ^ 62 }
     ensures len { IfOk result (λ v. vec_len v ≡ length gains.now) }
-    ensures each { IfOk result (λ v. (g : ℕ) → g < length gains.now → slice_index_or v.items g (pos 0) ≡ pos (slice_index gains.now g) -ℤ pos (slice_index losses.now g)) }
+    ensures each { IfOk result (λ v. (g : ℕ) → g < length gains.now
+        → slice_index_or v.items g (pos 0) ≡ pos (slice_index gains.now g) -ℤ pos (slice_index losses.now g)) }
 {
     let mut sums = Vec::with_capacity(alloc, gains.len())?;
     for group in 0..gains.len() {
@@ -50,7 +53,8 @@ fn rows_of(
     requires columns { length columns.now ≡ length (plan_over question.now.0 question.now.1).groups }
     requires counts { vec_len totals.now.counts ≡ size_of (counts_of columns.now) }
     requires small { AreSmall totals.now }
-    ensures { IfOk result (λ rows. AnswersLines question.now columns.now (λ g. slice_index totals.now.counts.items g) (λ g. pos (slice_index totals.now.gains.items g) -ℤ pos (slice_index totals.now.losses.items g)) rows.items) }
+    ensures { IfOk result (λ rows. AnswersLines question.now columns.now (λ g. slice_index totals.now.counts.items g)
+        (λ g. pos (slice_index totals.now.gains.items g) -ℤ pos (slice_index totals.now.losses.items g)) rows.items) }
 {
     let sums = differences(alloc, &totals.gains, &totals.losses)?;
     let rows = answer_question(alloc, question, columns, &totals.counts, &sums)?;
@@ -64,7 +68,8 @@ fn fit_64_bits(numbers: &[u64])
 
 /// The rows of a question from totals that have a number for each of its groups.
 fn dense_rows(alloc: Global, ready: &Ready, totals: &Totals) -> Result<Vec<ResultRow>, AllocError>
-    requires columns { vec_len ready.now.groups.columns ≡ length (plan_over ready.now.question.0 ready.now.question.1).groups }
+    requires columns { vec_len ready.now.groups.columns ≡ length
+        (plan_over ready.now.question.0 ready.now.question.1).groups }
     requires fit { FitGroups ready.now totals.now }
     ensures { IfOk result (λ rows. AreDenseRows ready.now totals.now rows.items) }
 {
@@ -77,7 +82,7 @@ fn dense_rows(alloc: Global, ready: &Ready, totals: &Totals) -> Result<Vec<Resul
 /// The lines that a batch goes over, and the masks of their rows.
 #[derive(Clone, Copy)]
 pub struct Scan<'a> {
-    pub index: &'a DimIndex,
+    pub index: &'a FirstRows,
     pub lines: LineColumns<'a>,
     pub masks: &'a Masks,
 }
@@ -93,7 +98,8 @@ fn question_rows(
     requires few { number < 16 }
     requires covers { CanSearch scan.lines scan.masks.now }
     requires can { CanAnswer scan.index.now scan.lines scan.masks.now number ready.now totals.now }
-    ensures { IfOk result (AreRowsOf scan.entry.index.now scan.entry.lines scan.entry.masks.now number ready.now totals.now) }
+    ensures { IfOk result (AreRowsOf scan.entry.index.now scan.entry.lines scan.entry.masks.now number ready.now
+        totals.now) }
 {
     let list = match &ready.groups.parts {
         Parts::Narrow(_) => dense_rows(alloc, ready, totals)?,
@@ -124,7 +130,8 @@ pub fn batch_rows(
     requires few { length all.now ≤ 16 }
     requires covers { CanSearch scan.lines scan.masks.now }
     requires can { CanAnswerAll scan.index.now scan.lines scan.masks.now all.now totals.now }
-    ensures { IfOk result (λ rows. AreBatchRows scan.entry.index.now scan.entry.lines scan.entry.masks.now all.now totals.now rows.items) }
+    ensures { IfOk result (λ rows. AreBatchRows scan.entry.index.now scan.entry.lines scan.entry.masks.now all.now
+        totals.now rows.items) }
 {
     let mut rows = Vec::with_capacity(alloc, all.len())?;
     for number in 0..all.len() {

@@ -13,5 +13,6 @@ pub record IsDisorder (commits : ℕ) (answers : List Told) (place : ℕ) (fault
 -- none of the first answers has a fault of order, and this is the fault of the next one; without a fault they are all
 pub record AreInOrder (commits : ℕ) (answers : List Told) (count : ℕ) (fault : Option AuditFault) : Type 0 where
   pub within : count ≤ length answers
-  pub clear : (i : ℕ) (told : Told) → i < count → slice_get answers i ≡ Some told → order_fault commits (take i answers) told ≡ None
+  pub clear : (i : ℕ) (told : Told) → i < count → slice_get answers i ≡ Some told
+      → order_fault commits (take i answers) told ≡ None
   pub next : MatchOption fault (count ≡ length answers) (IsDisorder commits answers count)

@@ -7,14 +7,16 @@ use Rattle.ssb_audit.specs.Traces.{rows_after, trace_fault}
 use Rattle.ssb_audit.specs.declared.trace.Told.{Told}
 use Rattle.ssb_audit.specs.declared.trace.Trace.{Trace}
 
--- an answer is true of a history: it is after some of its first commits, and its rows are those of its question after these
+-- an answer is true of a history: it is after some of its first commits, and its rows are those of its question after
+-- these
 pub record IsTrueOf (base : Tables) (commits : List CommitRecord) (told : Told) : Type 0 where
   pub within : told.at ≤ length commits
   pub rows : told.rows ≡ rows_after base (take told.at commits) told
 
 -- of two answers to one client the later is after no fewer commits
 abbrev pub NeverGoBack : List Told → Type 0
-NeverGoBack answers = (i j : ℕ) (earlier later : Told) → i < j → slice_get answers i ≡ Some earlier → slice_get answers j ≡ Some later
+NeverGoBack answers = (i j : ℕ) (earlier later : Told) → i < j → slice_get answers i ≡ Some earlier
+    → slice_get answers j ≡ Some later
     → earlier.client ≡ later.client → earlier.at ≤ later.at
 
 -- the commits are a legal history, each answer is true of it, and no client's answers go back

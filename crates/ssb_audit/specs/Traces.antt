@@ -1,5 +1,27 @@
 -- What speaks against a trace.
-use Rattle.std.specs.Prelude.{◌≡◌, ℕ, ◌+◌, ◌⊎◌, Bool, false, ◌==◌, nat_lt, if◌then◌else◌, List, [], ◌∷◌, length, take, find, reverse, Option, Some, None, Result, MatchResult}
+use Rattle.std.specs.Prelude.{
+  ◌≡◌,
+  ℕ,
+  ◌+◌,
+  ◌⊎◌,
+  Bool,
+  false,
+  ◌==◌,
+  nat_lt,
+  if◌then◌else◌,
+  List,
+  [],
+  ◌∷◌,
+  length,
+  take,
+  find,
+  reverse,
+  Option,
+  Some,
+  None,
+  Result,
+  MatchResult,
+}
 use Rattle.std.specs.List.{count_by}
 use Rattle.std.specs.Option.{option_or, option_map, option_map_or}
 use Rattle.std.specs.Cmp.Lexicographic.{pointwise}
@@ -13,7 +35,13 @@ use Rattle.row_store.specs.Refusals.{refusal_of}
 use Rattle.ssb_audit.specs.declared.trace.Told.{Told}
 use Rattle.ssb_audit.specs.declared.trace.Trace.{Trace}
 use Rattle.ssb_audit.specs.declared.fault.AuditFault.{AuditFault}
-use Rattle.ssb_audit.specs.declared.fault.AuditFault.TheVariants.{CommitRefused, WrongRows, WentBack, AtTooLarge, OutOfMemory}
+use Rattle.ssb_audit.specs.declared.fault.AuditFault.TheVariants.{
+  CommitRefused,
+  WrongRows,
+  WentBack,
+  AtTooLarge,
+  OutOfMemory,
+}
 
 -- the first fault of a list whose elements are judged by their places, the first of which is given
 abbrev pub first_from : {X : Type 0} → (ℕ → X → Option AuditFault) → ℕ → List X → Option AuditFault
@@ -22,7 +50,8 @@ first_from judge place (x ∷ xs) = option_or (judge place x) (first_from judge 
 
 -- a commit, at a place counted from 0, is refused after these
 abbrev pub refused_commit : Tables → List CommitRecord → ℕ → CommitRecord → Option AuditFault
-refused_commit base before place commit = option_map (λ _. CommitRefused (place + 1)) (refusal_of base before commit.actions)
+refused_commit base before place commit = option_map (λ _. CommitRefused (place + 1))
+    (refusal_of base before commit.actions)
 
 -- a commit is refused after those before it
 abbrev pub commit_fault : Tables → List CommitRecord → ℕ → CommitRecord → Option AuditFault
@@ -63,7 +92,8 @@ rows_fault base history earlier told =
 
 -- what speaks against an answer after the earlier ones
 abbrev pub fault_after : Tables → List CommitRecord → List Told → Told → Option AuditFault
-fault_after base commits earlier told = option_or (order_fault (length commits) earlier told) (rows_fault base (take told.at commits) earlier told)
+fault_after base commits earlier told = option_or (order_fault (length commits) earlier told)
+    (rows_fault base (take told.at commits) earlier told)
 
 -- what speaks against the answer at a place, counted from 0
 abbrev pub answer_fault : Tables → List CommitRecord → List Told → ℕ → Told → Option AuditFault

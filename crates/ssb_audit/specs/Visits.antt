@@ -26,7 +26,8 @@ pub record IsIn (answers : List Told) (visit : Visit) : Type 0 where
 -- the questions of the answers that are visited
 pub record AreAsked (answers : List Told) (visits : List Visit) (questions : List (Query × List Value)) : Type 0 where
   pub len : length questions ≡ length visits
-  pub each : (k : ℕ) (visit : Visit) (told : Told) → slice_get visits k ≡ Some visit → slice_get answers visit.place ≡ Some told
+  pub each : (k : ℕ) (visit : Visit) (told : Told) → slice_get visits k ≡ Some visit
+      → slice_get answers visit.place ≡ Some told
       → slice_get questions k ≡ Some told.question
 
 -- whether an answer has these rows
@@ -49,16 +50,20 @@ pub record IsOther (answers : List Told) (visits : List Visit) (found : List Row
   pub found_is : slice_get found k ≡ Some rows
   pub other : has_rows told rows.list ≡ false
 
--- of the first answers that are visited, and rows found for each, place is the first before the limit where they differ, or
+-- of the first answers that are visited, and rows found for each, place is the first before the limit where they
+-- differ, or
 -- the limit
-pub record IsFirstOther (answers : List Told) (visits : List Visit) (found : List Rows) (count limit place : ℕ) : Type 0 where
+pub record IsFirstOther (answers : List Told) (visits : List Visit) (found : List Rows) (count limit place : ℕ) :
+    Type 0 where
   pub at_most : place ≤ limit
-  pub same : (k : ℕ) (visit : Visit) (told : Told) (rows : Rows) → k < count → slice_get visits k ≡ Some visit → slice_get answers visit.place ≡ Some told
+  pub same : (k : ℕ) (visit : Visit) (told : Told) (rows : Rows) → k < count → slice_get visits k ≡ Some visit
+      → slice_get answers visit.place ≡ Some told
       → slice_get found k ≡ Some rows → visit.place < place → has_rows told rows.list ≡ true
   pub other : (place ≡ limit) ⊎ IsOther answers visits found place
 
 -- of the answers that are visited, after some history, one has not its question's rows, and stands at the place
-pub record IsWrongOf (base : Tables) (history : List CommitRecord) (answers : List Told) (visits : List Visit) (place : ℕ) : Type 0 where
+pub record IsWrongOf (base : Tables) (history : List CommitRecord) (answers : List Told) (visits : List Visit)
+    (place : ℕ) : Type 0 where
   pub k : ℕ
   pub visit : Visit
   pub told : Told
@@ -67,15 +72,19 @@ pub record IsWrongOf (base : Tables) (history : List CommitRecord) (answers : Li
   pub there : slice_get answers visit.place ≡ Some told
   pub wrong : has_rows told (rows_after base history told) ≡ false
 
--- of the answers that are visited, after some history, place is the first before the limit that has not its question's rows, or
+-- of the answers that are visited, after some history, place is the first before the limit that has not its question's
+-- rows, or
 -- the limit
-pub record IsFirstWrongOf (base : Tables) (history : List CommitRecord) (answers : List Told) (visits : List Visit) (limit place : ℕ) : Type 0 where
+pub record IsFirstWrongOf (base : Tables) (history : List CommitRecord) (answers : List Told) (visits : List Visit)
+    (limit place : ℕ) : Type 0 where
   pub at_most : place ≤ limit
-  pub right : (k : ℕ) (visit : Visit) (told : Told) → slice_get visits k ≡ Some visit → slice_get answers visit.place ≡ Some told
+  pub right : (k : ℕ) (visit : Visit) (told : Told) → slice_get visits k ≡ Some visit
+      → slice_get answers visit.place ≡ Some told
       → visit.place < place → has_rows told (rows_after base history told) ≡ true
   pub wrong : (place ≡ limit) ⊎ IsWrongOf base history answers visits place
 
 -- the answers before the place have their rows, and the one at the place, if there is one, has not
 pub record IsFirstWrong (base : Tables) (commits : List CommitRecord) (answers : List Told) (place : ℕ) : Type 0 where
-  pub right : (i : ℕ) (told : Told) → i < place → slice_get answers i ≡ Some told → has_its_rows base commits told ≡ true
+  pub right : (i : ℕ) (told : Told) → i < place → slice_get answers i ≡ Some told
+      → has_its_rows base commits told ≡ true
   pub wrong : (told : Told) → slice_get answers place ≡ Some told → has_its_rows base commits told ≡ false

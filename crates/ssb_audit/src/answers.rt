@@ -63,7 +63,8 @@ struct InOrder {
     fault: Option<AuditFault>,
 }
 
-// The answers before the first that is after more commits than there are, or after fewer than its client's answer before.
+// The answers before the first that is after more commits than there are, or after fewer than its client's answer
+// before.
 fn in_order_of(commits: usize, answers: &[Told]) -> InOrder
     ensures { AreInOrder commits answers.now result.count result.fault }
 {
@@ -84,8 +85,8 @@ fn in_order_of(commits: usize, answers: &[Told]) -> InOrder
 /// Whether each answer is one that its client may have got: after no more commits than there are and no fewer than its
 /// client's answer before, with the rows of its question.
 ///
-/// Rows are looked at for the answers before the first fault of order alone. They are looked at in the order of the answers'
-/// numbers of commits, and the fault is that of the first answer in the trace's order.
+/// Rows are looked at for the answers before the first fault of order alone. They are looked at in the order of the
+/// answers' numbers of commits, and the fault is that of the first answer in the trace's order.
 pub(crate) fn check_answers<R: Threads + Sync>(
     rt: &R,
     alloc: Global,

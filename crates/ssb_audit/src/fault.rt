@@ -6,8 +6,8 @@ ghost use Rattle.ssb_audit.specs.declared.fault.AuditFault.TheVariants.{OutOfMem
 use std::alloc::AllocError;
 use thiserror::Error;
 
-/// What speaks against a trace. Commits are numbered from 1; an answer is told by its client and by which of that client's
-/// answers it is, counted from 1. Its text is its number, its name and its values.
+/// What speaks against a trace. Commits are numbered from 1; an answer is told by its client and by which of that
+/// client's answers it is, counted from 1. Its text is its number, its name and its values.
 #[derive(Clone, Copy, Debug, PartialEq, Eq, Error)]
 pub enum AuditFault {
     /// The refresh of this commit is refused after the commits before it.

@@ -144,7 +144,8 @@ fn audited<const C: usize, const A: usize>(
     audited_trace(rt, alloc, &trace)
 }
 
-// So many answers to one client after no commit: the sum is right in all but one of them, and that one's place is given.
+// So many answers to one client after no commit: the sum is right in all but one of them, and that one's place is
+// given.
 fn many_told(alloc: Global, count: u64, wrong: u64) -> Result<Items<Told>, Fail> {
     let mut answers = Vec::new(alloc);
     for place in 0..count {

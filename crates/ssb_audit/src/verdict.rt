@@ -16,9 +16,10 @@ use std::thread::Threads;
 
 /// Whether a trace is legal over a base: its commits one after another, and then its answers in the trace's order.
 ///
-/// The fault is the first in this order: a commit that is refused after those before it; then, answer by answer, one that
-/// is after more commits than there are, one that is after fewer than its client's answer before, and one whose rows are
-/// not those of its question over the warehouse after its number of commits. Only want of memory may come before it.
+/// The fault is the first in this order: a commit that is refused after those before it; then, answer by answer, one
+/// that is after more commits than there are, one that is after fewer than its client's answer before, and one whose
+/// rows are not those of its question over the warehouse after its number of commits. Only want of memory may come
+/// before it.
 ///
 /// Rows are looked at by as many threads as there are processors; `hashing` is for the keys of orders.
 pub fn audit<R: Threads + Sync>(

@@ -86,8 +86,8 @@ fn check_batch<R: Threads + Sync>(
     Ok(first_other(answers, visits, found.as_slice(), limit))
 }
 
-// The place of the first answer that has not its question's rows, or the number of answers. The columns take the commits as
-// the visits come to them.
+// The place of the first answer that has not its question's rows, or the number of answers. The columns take the
+// commits as the visits come to them.
 fn walk<R: Threads + Sync>(
     rt: &R,
     alloc: Global,
@@ -117,8 +117,8 @@ fn walk<R: Threads + Sync>(
     Ok(first)
 }
 
-/// The place of the first answer that has not the rows of its question after its number of commits; the number of answers
-/// where there is none. It goes over the commits once.
+/// The place of the first answer that has not the rows of its question after its number of commits; the number of
+/// answers where there is none. It goes over the commits once.
 pub(crate) fn first_wrong<R: Threads + Sync>(
     rt: &R,
     alloc: Global,

@@ -1,14 +1,17 @@
 //! What the words of a command line do.
 
-use crate::audit::run_audit;
-use crate::demo::demo;
-use crate::fault::Fault;
-use crate::progress::{Screen, Source, watch, watch_scripts, watch_tables};
-use crate::query::{Settings, run_all, run_query};
-use crate::scripts::{RunSettings, run_scripts};
-use crate::{arguments, files};
 use clap::ArgMatches;
+use command_line::{matches, tell};
+use ssb_answers::{Settings, run_all, run_query};
+use ssb_auditing::run_audit;
+use ssb_demo::demo;
+use ssb_faults::Fault;
+use ssb_files::{
+    Screen, Source, make_file, open_file, open_files, open_tables, watch, watch_scripts,
+    watch_tables,
+};
 use ssb_load::Tables;
+use ssb_serving::{RunSettings, run_scripts};
 use std::hash::RandomState;
 use std::io::{BufWriter, Print, Read, Write};
 use std::random::RandomSource;
@@ -40,7 +43,7 @@ fn answer_query<R, P: Print, W: Write, E: Write>(
 where
     R: Files + Clock + RandomSource + Threads + Sync + AllocGlobal,
 {
-    let tables = match files::open(rt, matches.get_str("data").unwrap_or("")) {
+    let tables = match open_tables(rt, matches.get_str("data").unwrap_or("")) {
         Ok(tables) => tables,
         Err(fault) => return fault.tell(err),
     };
@@ -73,10 +76,10 @@ fn open_run<R>(rt: &R, matches: &ArgMatches<'_>) -> Result<OpenedRun<R::File>, F
 where
     R: Files + RandomSource + AllocGlobal,
 {
-    let tables = files::open(rt, matches.get_str("data").unwrap_or(""))?;
-    let scripts = files::open_files(rt, matches.get_strs("scripts").unwrap_or(&[]))?;
+    let tables = open_tables(rt, matches.get_str("data").unwrap_or(""))?;
+    let scripts = open_files(rt, matches.get_strs("scripts").unwrap_or(&[]))?;
     let trace = match matches.get_str("trace") {
-        Some(path) => Some(files::make(rt, path)?),
+        Some(path) => Some(make_file(rt, path)?),
         None => None,
     };
     let Ok(hashing) = RandomState::new(rt) else {
@@ -134,11 +137,11 @@ fn check_trace<R, P: Print, W: Write, E: Write>(
 where
     R: Files + Clock + RandomSource + Threads + Sync + AllocGlobal,
 {
-    let tables = match files::open(rt, matches.get_str("data").unwrap_or("")) {
+    let tables = match open_tables(rt, matches.get_str("data").unwrap_or("")) {
         Ok(tables) => tables,
         Err(fault) => return fault.tell(err),
     };
-    let trace = match files::open_file(rt, matches.get_str("trace").unwrap_or("")) {
+    let trace = match open_file(rt, matches.get_str("trace").unwrap_or("")) {
         Ok(trace) => trace,
         Err(fault) => return fault.tell(err),
     };
@@ -180,11 +183,11 @@ pub fn run<R, I: Read + Drop, P: Print, W: Write, E: Write>(
 where
     R: Files + Clock + RandomSource + Threads + Sync + Wait + AllocGlobal,
 {
-    let matches = match arguments::matches(rt.alloc(), words) {
-        Ok(matches) => matches,
-        Err(answer) => return arguments::tell(&answer, out, err),
+    let matched = match matches(rt.alloc(), words) {
+        Ok(matched) => matched,
+        Err(answer) => return tell(&answer, out, err),
     };
-    match matches.subcommand() {
+    match matched.subcommand() {
         Some(("run", words)) => serve_scripts(rt, words, terminal, out, err),
         Some(("audit", words)) => check_trace(rt, words, terminal, out, err),
         Some((_, words)) => answer_query(rt, words, terminal, out, err),

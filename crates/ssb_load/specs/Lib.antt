@@ -1,5 +1,3 @@
-pub mod Spelling
-pub mod Records
 pub mod Row
 pub mod DateColumns
 pub mod Tables

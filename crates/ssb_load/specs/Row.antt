@@ -1,5 +1,21 @@
 -- What a record of a table's file spells: the values of a row, or the first reason why it spells none.
-use Rattle.std.specs.Prelude.{◌≡◌, ℕ, ◌+◌, List, [], ◌∷◌, length, get_or, Option, Some, None, Result, Ok, Err, if◌then◌else◌}
+use Rattle.std.specs.Prelude.{
+  ◌≡◌,
+  ℕ,
+  ◌+◌,
+  List,
+  [],
+  ◌∷◌,
+  length,
+  get_or,
+  Option,
+  Some,
+  None,
+  Result,
+  Ok,
+  Err,
+  if◌then◌else◌,
+}
 use Rattle.ssb_schema.specs.Columns.{Value, Number, Text, kinds_of, row_fault}
 use Rattle.ssb_schema.specs.declared.table.Table.{Table}
 use Rattle.ssb_schema.specs.declared.column.Column.{Column}
@@ -8,8 +24,8 @@ use Rattle.ssb_schema.specs.declared.kind.Kind.TheVariants as kind
 use Rattle.ssb_schema.specs.declared.fault.SchemaFault.{SchemaFault}
 use Rattle.ssb_load.specs.declared.error.LineFault.{LineFault}
 use Rattle.ssb_load.specs.declared.error.LineFault.TheVariants as fault
-use Rattle.ssb_load.specs.Records.{has_columns}
-use Rattle.ssb_load.specs.Spelling.{number_of, text_of, without_spaces}
+use Rattle.ssb_records.specs.Records.{has_columns}
+use Rattle.ssb_records.specs.Spelling.{number_of, text_of, without_spaces}
 
 infixl 10 ◌>>=◌
 abbrev pub ◌>>=◌ : {A B : Type 0} → Result A LineFault → (A → Result B LineFault) → Result B LineFault
@@ -53,7 +69,8 @@ unless_refused (Some why) values = Err (fault.Refused why)
 -- the values of the row that a record spells, or its first fault
 unfoldable pub row_of : Table → List (List ℕ) → Result (List Value) LineFault
 row_of t fields =
-    if has_columns (length (kinds_of t)) fields then (values_from t 0 (kinds_of t) fields >>= λ values. unless_refused (row_fault t values) values)
+    if has_columns (length (kinds_of t)) fields then (values_from t 0 (kinds_of t) fields >>= λ values. unless_refused
+    (row_fault t values) values)
     else Err fault.FieldCount
 
 -- what a call returned, seen by `view`, is what is spelled, unless memory ran out

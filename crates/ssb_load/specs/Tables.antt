@@ -8,10 +8,10 @@ use Rattle.ssb_load.specs.declared.error.LineFault.{LineFault}
 use Rattle.ssb_load.specs.declared.error.LineFault.TheVariants as fault
 use Rattle.ssb_load.specs.declared.error.LoadError.{LoadError}
 use Rattle.ssb_load.specs.declared.error.LoadError.TheVariants as errors
-use Rattle.ssb_load.specs.Records.{BeginsWith, HasRecords}
+use Rattle.ssb_records.specs.Records.{BeginsWith, HasRecords}
 use Rattle.ssb_load.specs.Row.{row_of}
-use Rattle.ssb_load.specs.declared.records.ReadError.{ReadError}
-use Rattle.ssb_load.specs.declared.records.ReadError.TheVariants as read
+use Rattle.ssb_records.specs.declared.records.ReadError.{ReadError}
+use Rattle.ssb_records.specs.declared.records.ReadError.TheVariants as read
 
 -- a record spells a row of these values
 abbrev pub SpellsRow : Table → List (List ℕ) → List Value → Type 0

@@ -8,16 +8,17 @@ ghost use Rattle.ssb_schema.specs.Rows.{customer_values};
 ghost use Rattle.ssb_load.specs.Row.{Gives, values_from};
 
 use crate::error::LineFault;
-use crate::records::has_columns;
 use crate::row::{TableRow, read_number, read_text};
 use csv::ByteRecord;
+use ssb_records::has_columns;
 use ssb_schema::{Column, Customer, CustomerFields, Table};
 use std::alloc::Global;
 
 // The values of a customer's record, column by column.
 #[tactic(auto, unfolding(crate::specs::Row::values_from))]
 fn customer_fields(alloc: Global, fields: &ByteRecord) -> Result<CustomerFields, LineFault>
-    ensures { Gives customer_values result (values_from table.Customer 0 (kinds_of table.Customer) (fields_of fields.now)) }
+    ensures { Gives customer_values result (values_from table.Customer 0 (kinds_of table.Customer)
+        (fields_of fields.now)) }
 {
     let table = Table::Customer;
     Ok(CustomerFields {

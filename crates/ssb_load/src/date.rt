@@ -8,9 +8,9 @@ ghost use Rattle.ssb_schema.specs.Rows.{date_values};
 ghost use Rattle.ssb_load.specs.Row.{Gives, values_from};
 
 use crate::error::LineFault;
-use crate::records::has_columns;
 use crate::row::{TableRow, read_number, read_text};
 use csv::ByteRecord;
+use ssb_records::has_columns;
 use ssb_schema::{Column, DateFields, DateRow, Table, Text};
 use std::alloc::Global;
 

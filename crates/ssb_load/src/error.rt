@@ -18,6 +18,7 @@ pub enum LineFault {
     NotANumber(Column),
     /// The schema refuses the row.
     Refused(SchemaFault),
+    /// Memory ran out.
     OutOfMemory,
 }
 
@@ -29,19 +30,26 @@ impl From<AllocError> for LineFault {
     }
 }
 
-/// Why tables could not be loaded. Rows are numbered from 1, by record.
+/// Why tables could not be loaded. Rows are numbered from 1, by record. Its text is its number, its name and its
+/// values.
 #[derive(Debug, Drop, Error)]
 pub enum LoadError {
+    /// The reader of the table failed.
     #[error("20 Read {0}")]
     Read(Table),
+    /// The row has neither as many fields as the table has columns nor one more that has no bytes.
     #[error("21 FieldCount {0} {1}")]
     FieldCount(Table, usize),
+    /// The field of this text column is no UTF-8.
     #[error("22 NotUtf8 {0} {1} {2}")]
     NotUtf8(Table, usize, Column),
+    /// The field of this number column is no number of 64 bits.
     #[error("23 NotANumber {0} {1} {2}")]
     NotANumber(Table, usize, Column),
+    /// The schema refuses the row, or the base that it makes with the other rows.
     #[error("24 Row {0} {1} {2}")]
     Row(Table, usize, SchemaFault),
+    /// Memory ran out.
     #[error("out of memory")]
     OutOfMemory,
 }

@@ -6,23 +6,20 @@
 //! what is refused is refused for the first reason that there is, in the order of the files, their records
 //! and their columns. Only a failed read and want of memory may come before it.
 //!
-//! What bytes spell is defined in `specs/`, from the bottom up: `Spelling` (one field: a number, a text),
-//! `Records` (the records of a text), `Row` (a record's row, or its first fault), `Tables` (a file's rows, or
-//! its first fault) and `Load` (the base of five files).
+//! What a text's records are and what one field spells is defined in `ssb_records`; `specs/` says, from the bottom
+//! up, what follows for tables: `Row` (a record's row, or its first fault), `Tables` (a file's rows, or its first
+//! fault) and `Load` (the base of five files).
 //!
 //! `load(alloc, Limits::standard(), Tables { customer, supplier, part, date, lineorder })?` gives the base of
-//! five open files. `line_of(alloc, &fields)` reads one line of a script, whose records are read by
-//! `record_reader` and `next_record`.
+//! five open files. `line_of(alloc, &fields)` reads one line of a script.
 #![tactic(auto)]
 
 mod customer;
 mod date;
 mod error;
-mod field;
 mod line;
 mod loading;
 mod part;
-mod records;
 mod row;
 mod supplier;
 mod table;
@@ -30,7 +27,5 @@ mod table;
 mod tests;
 
 pub use error::{LineFault, LoadError};
-pub use field::{number, text, trimmed};
 pub use line::line_of;
 pub use loading::{Tables, load};
-pub use records::{ReadError, field_at, has_columns, next_record, record_reader};

@@ -8,16 +8,17 @@ ghost use Rattle.ssb_schema.specs.Rows.{line_values};
 ghost use Rattle.ssb_load.specs.Row.{Gives, row_of, values_from};
 
 use crate::error::LineFault;
-use crate::records::has_columns;
 use crate::row::{TableRow, read_number, read_text};
 use csv::ByteRecord;
+use ssb_records::has_columns;
 use ssb_schema::{Column, Line, LineFields, Table};
 use std::alloc::Global;
 
 // The values of a line's record, column by column.
 #[tactic(auto, unfolding(crate::specs::Row::values_from))]
 fn line_fields(alloc: Global, fields: &ByteRecord) -> Result<LineFields, LineFault>
-    ensures { Gives line_values result (values_from table.Lineorder 0 (kinds_of table.Lineorder) (fields_of fields.now)) }
+    ensures { Gives line_values result (values_from table.Lineorder 0 (kinds_of table.Lineorder)
+        (fields_of fields.now)) }
 {
     let table = Table::Lineorder;
     Ok(LineFields {

@@ -15,10 +15,15 @@ use std::io::Read;
 /// The readers of the five tables' files (Star Schema Benchmark, section 2).
 #[derive(Drop)]
 pub struct Tables<R> {
+    /// Of `customer.tbl`.
     pub customer: R,
+    /// Of `supplier.tbl`.
     pub supplier: R,
+    /// Of `part.tbl`.
     pub part: R,
+    /// Of `date.tbl`.
     pub date: R,
+    /// Of `lineorder.tbl`.
     pub lineorder: R,
 }
 
@@ -57,8 +62,10 @@ fn read_parts<R: Read + Drop>(
     limits: Limits,
     tables: Tables<R>,
 ) -> Result<BaseParts, LoadError>
-    ensures spelled { IfOk result (λ parts. (texts : Table → List ℕ) → AreTexts R.remaining tables texts → SpellsBase texts (tables_of limits parts)) }
-    ensures stops { IfErr result (λ e. (texts : Table → List ℕ) → AreTexts R.remaining tables texts → StopsIn limits texts all_tables e) }
+    ensures spelled { IfOk result (λ parts. (texts : Table → List ℕ) → AreTexts R.remaining tables texts
+        → SpellsBase texts (tables_of limits parts)) }
+    ensures stops { IfErr result (λ e. (texts : Table → List ℕ) → AreTexts R.remaining tables texts
+        → StopsIn limits texts all_tables e) }
 {
     Ok(BaseParts {
         customers: read_table(alloc, limits.dimension_rows, tables.customer)?,
@@ -79,8 +86,10 @@ pub fn load<R: Read + Drop>(
     tables: Tables<R>,
 ) -> Result<Base, LoadError>
     ensures limits { IfOk result (λ base. base.limits ≡ limits) }
-    ensures base { IfOk result (λ base. (texts : Table → List ℕ) → AreTexts R.remaining tables texts → SpellsBase texts base) }
-    ensures fault { IfErr result (λ e. (texts : Table → List ℕ) → AreTexts R.remaining tables texts → IsLoadFault limits texts e) }
+    ensures base { IfOk result (λ base. (texts : Table → List ℕ) → AreTexts R.remaining tables texts
+        → SpellsBase texts base) }
+    ensures fault { IfErr result (λ e. (texts : Table → List ℕ) → AreTexts R.remaining tables texts
+        → IsLoadFault limits texts e) }
 {
     match Base::new(alloc, limits, read_parts(alloc, limits, tables)?) {
         Ok(base) => Ok(base),

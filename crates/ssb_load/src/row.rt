@@ -7,9 +7,8 @@ ghost use Rattle.ssb_schema.specs.Columns.{Value};
 ghost use Rattle.ssb_load.specs.Row.{Gives, number_at, row_of, text_at};
 
 use crate::error::LineFault;
-use crate::field::{number, text, trimmed};
-use crate::records::field_at;
 use csv::ByteRecord;
+use ssb_records::{number, text, trimmed_at};
 use ssb_schema::{Column, Table, Text};
 use std::alloc::Global;
 
@@ -37,8 +36,7 @@ pub(crate) fn read_number(fields: &ByteRecord, column: Column) -> Result<u64, Li
     requires { 1 ≤ column.place }
     ensures { Gives (λ n. n) result (number_at column (get_or (fields_of fields.now) (column.place - 1) [])) }
 {
-    let field = field_at(fields, column.place - 1);
-    number(trimmed(field)).ok_or(LineFault::NotANumber(column))
+    number(trimmed_at(fields, column.place - 1)).ok_or(LineFault::NotANumber(column))
 }
 
 // The text that a record spells in a column.
@@ -51,8 +49,7 @@ pub(crate) fn read_text(
     requires { 1 ≤ column.place }
     ensures { Gives (λ t. t) result (text_at column (get_or (fields_of fields.now) (column.place - 1) [])) }
 {
-    let field = field_at(fields, column.place - 1);
-    match text(trimmed(field)) {
+    match text(trimmed_at(fields, column.place - 1)) {
         Some(text) => Ok(Text::from_str(alloc, text)?),
         None => Err(LineFault::NotUtf8(column)),
     }

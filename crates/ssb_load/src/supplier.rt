@@ -8,16 +8,17 @@ ghost use Rattle.ssb_schema.specs.Rows.{supplier_values};
 ghost use Rattle.ssb_load.specs.Row.{Gives, values_from};
 
 use crate::error::LineFault;
-use crate::records::has_columns;
 use crate::row::{TableRow, read_number, read_text};
 use csv::ByteRecord;
+use ssb_records::has_columns;
 use ssb_schema::{Column, Supplier, SupplierFields, Table};
 use std::alloc::Global;
 
 // The values of a supplier's record, column by column.
 #[tactic(auto, unfolding(crate::specs::Row::values_from))]
 fn supplier_fields(alloc: Global, fields: &ByteRecord) -> Result<SupplierFields, LineFault>
-    ensures { Gives supplier_values result (values_from table.Supplier 0 (kinds_of table.Supplier) (fields_of fields.now)) }
+    ensures { Gives supplier_values result (values_from table.Supplier 0 (kinds_of table.Supplier)
+        (fields_of fields.now)) }
 {
     let table = Table::Supplier;
     Ok(SupplierFields {

@@ -2,13 +2,13 @@
 
 ghost use Rattle.std.specs.Prelude.{◌≡◌, map, IfOk, IfErr, IfSome, ◌⊎◌, ◌<◌, ◌^◌};
 ghost use Rattle.csv.specs.Records.{fields_of};
-ghost use Rattle.ssb_load.specs.Records.{GivesNext, IsRecordReader};
+ghost use Rattle.ssb_records.specs.Records.{GivesNext, IsRecordReader};
 ghost use Rattle.ssb_load.specs.Tables.{IsFirstFault, IsReadFault, SpellsRows};
 
 use crate::error::{LineFault, LoadError};
-use crate::records::{ReadError, next_record, record_reader};
 use crate::row::TableRow;
 use csv::{ByteRecord, Reader};
+use ssb_records::{ReadError, next_record, record_reader};
 use ssb_schema::{SchemaFault, Table};
 use std::alloc::Global;
 use std::io::Read;
@@ -65,8 +65,10 @@ pub(crate) fn read_table<T: TableRow, R: Read + Drop>(
     source: R,
 ) -> Result<Vec<T>, LoadError>
     requires { limit < 2 ^ 32 }
-    ensures rows { IfOk result (λ rows. IfSome (R.remaining source) (λ text. SpellsRows T.of_table limit text (map T.values rows.items))) }
-    ensures fault { IfErr result (λ e. IsReadFault T.of_table e ⊎ IfSome (R.remaining source) (λ text. IsFirstFault T.of_table limit text e)) }
+    ensures rows { IfOk result (λ rows. IfSome (R.remaining source)
+        (λ text. SpellsRows T.of_table limit text (map T.values rows.items))) }
+    ensures fault { IfErr result (λ e. IsReadFault T.of_table e
+        ⊎ IfSome (R.remaining source) (λ text. IsFirstFault T.of_table limit text e)) }
 {
     let mut reader = record_reader(alloc, source);
     let mut fields = ByteRecord::new(alloc);

@@ -1,7 +1,7 @@
 //! The small data set, its variants, and the texts of faults.
 
 use super::*;
-use csv::ByteRecord;
+use ssb_records::ReadError;
 use ssb_schema::{Base, Fact, Limits, Table};
 use std::alloc::Global;
 use std::io;
@@ -220,20 +220,6 @@ fn name_may_have_64_bytes(rt: HostRuntime) -> Result<(), Fail> {
 }
 
 #[test]
-fn numbers_are_1_to_20_digits_of_64_bits(rt: HostRuntime) {
-    assert_eq!(rt; number(b"18446744073709551615"), Some(18446744073709551615));
-    assert_eq!(rt; number(b"00000000000000000007"), Some(7));
-    assert_eq!(rt; number(b"18446744073709551616"), None);
-    assert_eq!(rt; number(b"000000000000000000007"), None);
-    assert_eq!(rt; number(b""), None);
-    assert_eq!(rt; number(b" 7"), None);
-    assert_eq!(rt; number(b"+7"), None);
-    assert_eq!(rt; trimmed(b" 7 \t  "), b" 7 \t".as_slice());
-    assert_eq!(rt; text(b"\xc3\xa9"), Some("\u{e9}"));
-    assert_eq!(rt; text(b"\xff"), None);
-}
-
-#[test]
 fn fields_that_spell_nothing_are_refused(rt: HostRuntime) -> Result<(), Fail> {
     let alloc = rt.alloc();
     let quantity = line_fault(alloc, "|24|", "|x|")?;
@@ -298,14 +284,8 @@ fn faults_between_rows_come_after_all_files(rt: HostRuntime) -> Result<(), Fail>
 
 #[test]
 fn want_of_memory_is_no_failed_read(rt: HostRuntime) -> Result<(), Fail> {
-    let memory = ReadError::from(csv::Error::out_of_memory());
-    assert_eq!(rt; memory, ReadError::OutOfMemory);
-    let told = LoadError::in_table(Table::Date, memory).to_string(rt.alloc())?;
-    assert_eq!(rt; told.as_str(), "out of memory");
-    let mut reader = record_reader(rt.alloc(), File::Broken);
-    let mut fields = ByteRecord::new(rt.alloc());
-    let failed = next_record(&mut reader, &mut fields);
-    assert_eq!(rt; failed, Err(ReadError::Read));
+    let memory = LoadError::in_table(Table::Date, ReadError::OutOfMemory);
+    assert_eq!(rt; memory.to_string(rt.alloc())?.as_str(), "out of memory");
     for (customer, told) in [
         (File::Broken, "20 Read customer"),
         (File::Bytes(b"1|C1"), "21 FieldCount customer 1"),
@@ -346,19 +326,5 @@ fn line_is_read_from_its_fields(rt: HostRuntime) -> Result<(), Fail> {
     assert_eq!(rt; without.fact(), line.fact());
     let short = line_of(rt.alloc(), &fields[..16]).err();
     assert_eq!(rt; short, Some(LineFault::FieldCount));
-    Ok(())
-}
-
-#[test]
-fn script_is_read_record_by_record(rt: HostRuntime) -> Result<(), Fail> {
-    let text: &[u8] = b"query|Q4.1 |\n\nbegin";
-    let mut reader = record_reader(rt.alloc(), text);
-    let mut fields = ByteRecord::new(rt.alloc());
-    assert_eq!(rt; next_record(&mut reader, &mut fields), Ok(true));
-    assert!(rt; has_columns(&fields, 2));
-    assert_eq!(rt; field_at(&fields, 1), b"Q4.1 ".as_slice());
-    assert_eq!(rt; next_record(&mut reader, &mut fields), Ok(true));
-    assert!(rt; has_columns(&fields, 1));
-    assert_eq!(rt; next_record(&mut reader, &mut fields), Ok(false));
     Ok(())
 }

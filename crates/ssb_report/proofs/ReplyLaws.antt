@@ -15,37 +15,47 @@ use Rattle.ssb_report.specs.Laws.{true_replies, gives_up, TrueRepliesAnswer, Oth
 abbrev TrueOrGivenUp : Warehouse → Request → Reply → Type 0
 TrueOrGivenUp warehouse request reply = (reply ≡ true_reply warehouse request) ⊎ (gives_up reply ≡ true)
 
-refreshed_so : (warehouse : Warehouse) (actions : List Action) (reply : Result Receipt RefreshError) → IsRefreshReply warehouse.base warehouse.log actions reply → TrueOrGivenUp warehouse (Refresh actions) (Refreshed reply)
+refreshed_so : (warehouse : Warehouse) (actions : List Action) (reply : Result Receipt RefreshError)
+    → IsRefreshReply warehouse.base warehouse.log actions reply
+    → TrueOrGivenUp warehouse (Refresh actions) (Refreshed reply)
 refreshed_so warehouse actions reply is = elim is [
   | inl same ↦ inl (ap Refreshed same)
   | inr full ↦ inr (ap (λ r. gives_up (Refreshed r)) full.0)
 ]
 
-true_or_given_up : (causes : Cause → Bool) (warehouse : Warehouse) (request : Request) (reply : Reply) → IsReply causes warehouse request reply → TrueOrGivenUp warehouse request reply
+true_or_given_up : (causes : Cause → Bool) (warehouse : Warehouse) (request : Request) (reply : Reply)
+    → IsReply causes warehouse request reply → TrueOrGivenUp warehouse request reply
 true_or_given_up causes warehouse (Refresh actions) (Refreshed reply) is = refreshed_so warehouse actions reply is
 true_or_given_up causes warehouse (Refresh actions) (Answered answer) is = absurd is
 true_or_given_up causes warehouse (Ask question) (Refreshed result) is = absurd is
 true_or_given_up causes warehouse (Ask question) (Answered (Rows query at rows)) is = inl (ap Answered is)
 true_or_given_up causes warehouse (Ask question) (Answered (Unserved query cause)) is = inr refl
 
-true_reply_may : (causes : Cause → Bool) (warehouse : Warehouse) (request : Request) → IsReply causes warehouse request (true_reply warehouse request)
+true_reply_may : (causes : Cause → Bool) (warehouse : Warehouse) (request : Request)
+    → IsReply causes warehouse request (true_reply warehouse request)
 true_reply_may causes warehouse (Refresh actions) = inl refl
 true_reply_may causes warehouse (Ask question) = refl
 
 pub true_replies_answer : TrueRepliesAnswer
 true_replies_answer causes client warehouse [] = tt
-true_replies_answer causes client warehouse (request ∷ requests) =
-    (true_reply_may causes warehouse request, true_replies_answer causes client (with_commits warehouse (committed_by client request (true_reply warehouse request))) requests)
+true_replies_answer causes client warehouse (request ∷ requests) = (
+  true_reply_may causes warehouse request,
+  true_replies_answer causes client
+      (with_commits warehouse (committed_by client request (true_reply warehouse request))) requests,
+)
 
 pub others_give_up : OthersGiveUp
 others_give_up causes client warehouse [] [] are served = refl
 others_give_up causes client warehouse [] (reply ∷ replies) are served = absurd are
 others_give_up causes client warehouse (request ∷ requests) [] are served = absurd are
 others_give_up causes client warehouse (request ∷ requests) (reply ∷ replies) are served =
-    let others = others_give_up causes client (with_commits warehouse (committed_by client request reply)) requests replies are.1 served.1 in
+    let others = others_give_up causes client (with_commits warehouse (committed_by client request reply)) requests
+    replies are.1 served.1 in
     elim (true_or_given_up causes warehouse request reply are.0) [
       | inl same ↦ ap (λ first. first ∷ replies) same
-          ∙ ap (λ rest. true_reply warehouse request ∷ rest) (others ∙ ap (λ first. true_replies client (with_commits warehouse (committed_by client request first)) requests) same)
+          ∙ ap (λ rest. true_reply warehouse request ∷ rest)
+          (others ∙ ap (λ first. true_replies client (with_commits warehouse (committed_by client request first))
+          requests) same)
       | inr given_up ↦ absurd (cc_false (sym given_up ∙ served.0))
     ]
   where

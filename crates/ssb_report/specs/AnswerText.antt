@@ -30,7 +30,8 @@ row_text query row = join_with_byte 124 (columns_of query row) ++ line_feed
 
 -- the line before the rows: the query, after how many commits, and how many rows
 abbrev pub head_text : Query → ℕ → ℕ → List ℕ
-head_text query at count = concat (name_of query ∷ codes " at " ∷ decimal at ∷ codes " rows " ∷ decimal count ∷ line_feed ∷ [])
+head_text query at count = concat (name_of query ∷ codes " at " ∷ decimal at ∷ codes " rows " ∷ decimal count ∷
+    line_feed ∷ [])
 
 -- that line, and a line for each row
 abbrev pub rows_text : Query → ℕ → List ResultRow → List ℕ
@@ -39,7 +40,8 @@ rows_text query at rows = head_text query at (length rows) ++ flat_map (row_text
 -- the line in place of rows
 abbrev pub unserved_text : Query → Unserved → List ℕ
 unserved_text query unserved.OutOfMemory = concat (name_of query ∷ codes " unserved: out of memory" ∷ line_feed ∷ [])
-unserved_text query (unserved.Twin told found) = concat (name_of query ∷ codes " unserved: twin " ∷ decimal told ∷ codes " " ∷ decimal found ∷ line_feed ∷ [])
+unserved_text query (unserved.Twin told found) = concat
+    (name_of query ∷ codes " unserved: twin " ∷ decimal told ∷ codes " " ∷ decimal found ∷ line_feed ∷ [])
 
 -- the report of an answer
 abbrev pub answer_text : Answer → List ℕ

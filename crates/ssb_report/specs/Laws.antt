@@ -13,7 +13,8 @@ use Rattle.ssb_report.specs.Report.{AreReplies}
 abbrev pub true_replies : ℕ → Warehouse → List Request → List Reply
 true_replies client warehouse [] = []
 true_replies client warehouse (request ∷ requests) =
-    true_reply warehouse request ∷ true_replies client (with_commits warehouse (committed_by client request (true_reply warehouse request))) requests
+    true_reply warehouse request ∷ true_replies client
+    (with_commits warehouse (committed_by client request (true_reply warehouse request))) requests
 
 -- whether a reply tells that its request was given up
 abbrev pub gives_up : Reply → Bool
@@ -25,10 +26,12 @@ gives_up (Answered (Unserved query cause)) = true
 
 -- they answer every list of requests
 abbrev pub TrueRepliesAnswer : Type 0
-TrueRepliesAnswer = (causes : Cause → Bool) (client : ℕ) (warehouse : Warehouse) (requests : List Request) → AreReplies causes client warehouse requests (true_replies client warehouse requests)
+TrueRepliesAnswer = (causes : Cause → Bool) (client : ℕ) (warehouse : Warehouse) (requests : List Request)
+    → AreReplies causes client warehouse requests (true_replies client warehouse requests)
 
 -- and no other replies do, where none tells that its request was given up
 abbrev pub OthersGiveUp : Type 0
 OthersGiveUp =
     (causes : Cause → Bool) (client : ℕ) (warehouse : Warehouse) (requests : List Request) (replies : List Reply)
-    → AreReplies causes client warehouse requests replies → AllByRecursion (λ reply. gives_up reply ≡ false) replies → replies ≡ true_replies client warehouse requests
+    → AreReplies causes client warehouse requests replies → AllByRecursion (λ reply. gives_up reply ≡ false) replies
+    → replies ≡ true_replies client warehouse requests

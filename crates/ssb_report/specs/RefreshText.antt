@@ -3,7 +3,17 @@ use Rattle.std.specs.Prelude.{ℕ, List, [], ◌∷◌, ◌++◌, codes, decimal
 use Rattle.std.specs.List.{concat}
 use Rattle.row_store.specs.declared.commit.Receipt.{Receipt}
 use Rattle.row_store.specs.declared.refusal.Cause.{Cause}
-use Rattle.row_store.specs.declared.refusal.Cause.TheVariants.{LogFull, Present, UnknownCustomer, UnknownSupplier, UnknownPart, UnknownDate, LinesFull, Absent, AmendAbsent}
+use Rattle.row_store.specs.declared.refusal.Cause.TheVariants.{
+  LogFull,
+  Present,
+  UnknownCustomer,
+  UnknownSupplier,
+  UnknownPart,
+  UnknownDate,
+  LinesFull,
+  Absent,
+  AmendAbsent,
+}
 use Rattle.row_store.specs.declared.refusal.RefreshError.{RefreshError}
 use Rattle.row_store.specs.declared.refusal.RefreshError.TheVariants as refresh
 use Rattle.ssb_report.specs.Numbers.{line_feed}
@@ -27,7 +37,8 @@ cause_text (AmendAbsent key) = concat (codes "48 AmendAbsent " ∷ decimal key �
 -- the report of a refusal after so many commits
 abbrev pub refused_text : ℕ → ℕ → Cause → List ℕ
 refused_text at action cause =
-    concat (codes "refused at " ∷ decimal at ∷ codes " action " ∷ decimal action ∷ codes ": " ∷ []) ++ cause_text cause ++ line_feed
+    concat (codes "refused at " ∷ decimal at ∷ codes " action " ∷ decimal action ∷ codes ": " ∷ []) ++ cause_text cause
+    ++ line_feed
 
 -- the report of a refresh that was not applied
 abbrev pub refusal_text : RefreshError → List ℕ

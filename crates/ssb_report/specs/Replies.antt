@@ -31,7 +31,8 @@ reply_text (Answered answer) = answer_text answer
 -- the rows that answer a question over the live lines, after all commits so far
 abbrev pub warehouse_answer : Warehouse → Named × List Value → Answer
 warehouse_answer warehouse question =
-    Rows question (length warehouse.log) (answer_of question warehouse.base.dimensions (facts_of (lines_after warehouse.base warehouse.log)))
+    Rows question (length warehouse.log) (answer_of question warehouse.base.dimensions
+    (facts_of (lines_after warehouse.base warehouse.log)))
 
 -- the reply of the one-thread warehouse
 abbrev pub true_reply : Warehouse → Request → Reply
@@ -48,7 +49,8 @@ abbrev pub IsAnswer : (Cause → Bool) → Warehouse → Named × List Value →
 IsAnswer causes warehouse question (Rows query at rows) = Rows query at rows ≡ warehouse_answer warehouse question
 IsAnswer causes warehouse question (Unserved query cause) = (query ≡ question) × (causes cause ≡ true)
 
--- a reply that may be given: to a refresh that of the one-thread warehouse, or that memory ran out where that is a receipt
+-- a reply that may be given: to a refresh that of the one-thread warehouse, or that memory ran out where that is a
+-- receipt
 abbrev pub IsReply : (Cause → Bool) → Warehouse → Request → Reply → Type 0
 IsReply causes warehouse (Refresh actions) (Refreshed reply) = IsRefreshReply warehouse.base warehouse.log actions reply
 IsReply causes warehouse (Ask question) (Answered answer) = IsAnswer causes warehouse question answer

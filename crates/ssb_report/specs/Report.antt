@@ -10,7 +10,8 @@ use Rattle.ssb_report.specs.Replies.{Reply, IsReply, reply_text, committed_by, w
 abbrev pub AreReplies : (Cause → Bool) → ℕ → Warehouse → List Request → List Reply → Type 0
 AreReplies causes client warehouse [] [] = Unit {0}
 AreReplies causes client warehouse (request ∷ requests) (reply ∷ replies) =
-    IsReply causes warehouse request reply × AreReplies causes client (with_commits warehouse (committed_by client request reply)) requests replies
+    IsReply causes warehouse request reply × AreReplies causes client
+    (with_commits warehouse (committed_by client request reply)) requests replies
 AreReplies causes client warehouse [] (reply ∷ replies) = ⊥
 AreReplies causes client warehouse (request ∷ requests) [] = ⊥
 
@@ -18,21 +19,26 @@ AreReplies causes client warehouse (request ∷ requests) [] = ⊥
 abbrev pub committed : ℕ → List Request → List Reply → List CommitRecord
 committed client [] replies = []
 committed client (request ∷ requests) [] = []
-committed client (request ∷ requests) (reply ∷ replies) = committed_by client request reply ++ committed client requests replies
+committed client (request ∷ requests) (reply ∷ replies) =
+    committed_by client request reply ++ committed client requests replies
 
 -- the report of replies
 abbrev pub report_of : List Reply → List ℕ
 report_of replies = flat_map reply_text replies
 
--- all requests of a client were answered: what was written is a report of them, and the log is longer by what it calls committed
-pub record Serves (causes : Cause → Bool) (client : ℕ) (old new : Warehouse) (requests : List Request) (before after : Option (List ℕ)) : Type 0 where
+-- all requests of a client were answered: what was written is a report of them, and the log is longer by what it calls
+-- committed
+pub record Serves (causes : Cause → Bool) (client : ℕ) (old new : Warehouse) (requests : List Request)
+    (before after : Option (List ℕ)) : Type 0 where
   pub replies : List Reply
   pub answered : AreReplies causes client old requests replies
   pub grown : new ≡ with_commits old (committed client requests replies)
   pub written : Appends before after (report_of replies)
 
--- the first requests and one more were answered: what was written is a report of the first ones and a part of that of the last reply, of which something is left
-pub record StopsAfter (causes : Cause → Bool) (done client : ℕ) (old new : Warehouse) (requests : List Request) (before after : Option (List ℕ)) : Type 0 where
+-- the first requests and one more were answered: what was written is a report of the first ones and a part of that of
+-- the last reply, of which something is left
+pub record StopsAfter (causes : Cause → Bool) (done client : ℕ) (old new : Warehouse) (requests : List Request)
+    (before after : Option (List ℕ)) : Type 0 where
   pub replies : List Reply
   pub last : Reply
   pub count : length replies ≡ done

@@ -18,14 +18,16 @@ pub record TakesPart (old new : Warehouse) (commits : List CommitRecord) : Type 
   pub grown : new ≡ with_commits old taken
 
 -- a request was answered: what was written is the report of the reply, and the log is longer by what it calls committed
-pub record Answers (causes : Cause → Bool) (client : ℕ) (old new : Warehouse) (request : Request) (before after : Option (List ℕ)) : Type 0 where
+pub record Answers (causes : Cause → Bool) (client : ℕ) (old new : Warehouse) (request : Request)
+    (before after : Option (List ℕ)) : Type 0 where
   pub reply : Reply
   pub answered : IsReply causes old request reply
   pub grown : new ≡ with_commits old (committed_by client request reply)
   pub written : Appends before after (reply_text reply)
 
 -- a request was answered, but a part of the report alone was written
-pub record AnswersInPart (causes : Cause → Bool) (client : ℕ) (old new : Warehouse) (request : Request) (before after : Option (List ℕ)) : Type 0 where
+pub record AnswersInPart (causes : Cause → Bool) (client : ℕ) (old new : Warehouse) (request : Request)
+    (before after : Option (List ℕ)) : Type 0 where
   pub reply : Reply
   pub answered : IsReply causes old request reply
   pub grown : new ≡ with_commits old (committed_by client request reply)
@@ -34,4 +36,5 @@ pub record AnswersInPart (causes : Cause → Bool) (client : ℕ) (old new : War
 -- serving stops only where a write fails
 abbrev pub Stops : RunError → ℕ → Warehouse → Warehouse → List Request → Option (List ℕ) → Option (List ℕ) → Type 0
 Stops (Script fault) client old new requests before after = ⊥
-Stops (Write done) client old new requests before after = StopsAfter memory_alone done client old new requests before after
+Stops (Write done) client old new requests before after =
+    StopsAfter memory_alone done client old new requests before after

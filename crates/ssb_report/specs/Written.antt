@@ -17,6 +17,7 @@ pub record StopsShort (old new : Option (List ℕ)) (text : List ℕ) : Type 0 w
   pub left : 0 < length rest
   pub appends : Appends old new part
 
--- known bytes grow by the text; where the result is a fault, by a part of it from its beginning on, and something is left
+-- known bytes grow by the text; where the result is a fault, by a part of it from its beginning on, and something is
+-- left
 abbrev pub Writes : {X E : Type 0} → Option (List ℕ) → Option (List ℕ) → Result X E → List ℕ → Type 0
 Writes old new result text = MatchResult result (λ _. Appends old new text) (λ _. StopsShort old new text)

@@ -3,7 +3,8 @@ ghost use Rattle.std.specs.Prelude.{◌≡◌, OnOk, OnErr, flat_map};
 ghost use Rattle.std.specs.Io.KnownBytes.{Appends};
 ghost use Rattle.ssb_report.specs.Written.{StopsShort, Writes};
 ghost use Rattle.ssb_report.specs.Piece.{piece_text};
-ghost use Rattle.ssb_report.specs.AnswerText.{answer_text, unserved_text, head_text, row_text, rows_text, value_text, with_bar, after_bar};
+ghost use Rattle.ssb_report.specs.AnswerText.{answer_text, unserved_text, head_text, row_text, rows_text, value_text};
+ghost use Rattle.ssb_report.specs.AnswerText.{with_bar, after_bar};
 
 use crate::fault::WriteFault;
 use crate::piece::{Piece, write_pieces};

@@ -12,7 +12,8 @@ use std::io::Write;
 /// Writes the report of a commit, its number. It takes no memory.
 pub fn write_receipt<W: Write>(writer: &mut W, receipt: &Receipt) -> Result<(), WriteFault>
     ensures report { OnOk result (Appends (W.contents writer.old) (W.contents writer.new) (receipt_text receipt.now)) }
-    ensures fault { OnErr result (StopsShort (W.contents writer.old) (W.contents writer.new) (receipt_text receipt.now)) }
+    ensures fault { OnErr result (StopsShort (W.contents writer.old) (W.contents writer.new)
+        (receipt_text receipt.now)) }
 {
     let number = Piece::Number(receipt.number);
     write_pieces(

@@ -27,8 +27,10 @@ pub fn run_store<R: Read + Drop, W: Write>(
     writer: &mut W,
 ) -> Result<u64, RunError>
     requires { IsBehind lines.old store.old }
-    ensures served { IfOk result (λ done. ServesAll (R.remaining source) done store.old store.new (W.contents writer.old) (W.contents writer.new)) }
-    ensures ended { IfErr result (λ error. Ends (R.remaining source) error store.old store.new lines.old lines.new (W.contents writer.old) (W.contents writer.new)) }
+    ensures served { IfOk result (λ done. ServesAll (R.remaining source) done store.old store.new
+        (W.contents writer.old) (W.contents writer.new)) }
+    ensures ended { IfErr result (λ error. Ends (R.remaining source) error store.old store.new lines.old lines.new
+        (W.contents writer.old) (W.contents writer.new)) }
     ensures behind { IsBehind lines.new store.new }
 {
     match read_script(alloc, source, MOST_RECORDS) {

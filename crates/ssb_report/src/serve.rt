@@ -43,7 +43,8 @@ fn rows_of(
     question: &Question,
 ) -> Result<Items<ResultRow>, AllocError>
     requires { IsBehind lines.old store.now }
-    ensures rows { IfOk result (λ rows. rows ≡ answer_of question.now store.now.base.dimensions (facts_of (lines_after store.now.base store.now.log))) }
+    ensures rows { IfOk result (λ rows. rows ≡ answer_of question.now store.now.base.dimensions
+        (facts_of (lines_after store.now.base store.now.log))) }
     ensures behind { IsBehind lines.new store.now }
 {
     let taken = lines.commits() as usize;
@@ -81,8 +82,10 @@ pub fn write_reply<W: Write>(
     writer: &mut W,
     reply: &Result<Receipt, RefreshError>,
 ) -> Result<(), WriteFault>
-    ensures report { OnOk result (Appends (W.contents writer.old) (W.contents writer.new) (reply_text (Refreshed reply.now))) }
-    ensures fault { OnErr result (StopsShort (W.contents writer.old) (W.contents writer.new) (reply_text (Refreshed reply.now))) }
+    ensures report { OnOk result (Appends (W.contents writer.old) (W.contents writer.new)
+        (reply_text (Refreshed reply.now))) }
+    ensures fault { OnErr result (StopsShort (W.contents writer.old) (W.contents writer.new)
+        (reply_text (Refreshed reply.now))) }
 {
     match reply {
         Ok(receipt) => write_receipt(writer, receipt),
@@ -99,8 +102,10 @@ fn serve_block<W: Write>(
     writer: &mut W,
 ) -> Result<(), WriteFault>
     requires { IsBehind lines.old store.old }
-    ensures reply { OnOk result (Answers memory_alone 1 store.old store.new (request.request_of block) (W.contents writer.old) (W.contents writer.new)) }
-    ensures fault { OnErr result (AnswersInPart memory_alone 1 store.old store.new (request.request_of block) (W.contents writer.old) (W.contents writer.new)) }
+    ensures reply { OnOk result (Answers memory_alone 1 store.old store.new (request.request_of block)
+        (W.contents writer.old) (W.contents writer.new)) }
+    ensures fault { OnErr result (AnswersInPart memory_alone 1 store.old store.new (request.request_of block)
+        (W.contents writer.old) (W.contents writer.new)) }
     ensures behind { IsBehind lines.new store.new }
 {
     match block {
@@ -122,8 +127,10 @@ pub fn serve_script<W: Write>(
 ) -> Result<u64, RunError>
     requires { IsBehind lines.old store.old }
     ensures count { IfOk result (λ done. done ≡ length (request.requests_of script)) }
-    ensures served { OnOk result (Serves memory_alone 1 store.old store.new (request.requests_of script) (W.contents writer.old) (W.contents writer.new)) }
-    ensures stopped { IfErr result (λ error. Stops error 1 store.old store.new (request.requests_of script) (W.contents writer.old) (W.contents writer.new)) }
+    ensures served { OnOk result (Serves memory_alone 1 store.old store.new (request.requests_of script)
+        (W.contents writer.old) (W.contents writer.new)) }
+    ensures stopped { IfErr result (λ error. Stops error 1 store.old store.new (request.requests_of script)
+        (W.contents writer.old) (W.contents writer.new)) }
     ensures behind { IsBehind lines.new store.new }
 {
     let mut blocks = script.blocks.into_iter();

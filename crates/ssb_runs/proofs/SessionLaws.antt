@@ -1,5 +1,38 @@
 -- Tasks and their sessions, place by place; and the numbers of those who took part.
-use Rattle.std.proofs.Common.{◌≡◌, ℕ, zero, suc, ◌+◌, ◌<◌, ◌≤◌, List, [], ◌∷◌, ◌++◌, length, map, Bool, true, false, cond, ◌≢◌, ◌⊎◌, inl, inr, Some, None, Result, Ok, Err, refl, sym, ◌∙◌, ap, subst, arith}
+use Rattle.std.proofs.Common.{
+  ◌≡◌,
+  ℕ,
+  zero,
+  suc,
+  ◌+◌,
+  ◌<◌,
+  ◌≤◌,
+  List,
+  [],
+  ◌∷◌,
+  ◌++◌,
+  length,
+  map,
+  Bool,
+  true,
+  false,
+  cond,
+  ◌≢◌,
+  ◌⊎◌,
+  inl,
+  inr,
+  Some,
+  None,
+  Result,
+  Ok,
+  Err,
+  refl,
+  sym,
+  ◌∙◌,
+  ap,
+  subst,
+  arith,
+}
 use Rattle.std.specs.Prelude.{All, OnOk, ◌==◌, count_by, slice_get}
 use Rattle.std.specs.List.{range_with_len}
 use Rattle.std.proofs.lemmas.Bool.{ne_eqb}
@@ -17,7 +50,8 @@ use Rattle.ssb_server.specs.Tickets.{IsQuiet, IsOf}
 use Rattle.ssb_runs.specs.Sessions.{Task, Session, IsTaskAt, IsSessionOf, AreSessionsOf, IsStill, AreStill, IsReady}
 
 -- one task and one session more
-pub sessions_push : (tasks : List Task) (sessions : List Session) (task : Task) (session : Session) → AreSessionsOf tasks sessions → IsSessionOf task session
+pub sessions_push : (tasks : List Task) (sessions : List Session) (task : Task) (session : Session)
+    → AreSessionsOf tasks sessions → IsSessionOf task session
     → AreSessionsOf (tasks ++ task ∷ []) (sessions ++ session ∷ [])
 sessions_push [] [] task session are is = (is, tt)
 sessions_push [] (s ∷ ss) task session are is = absurd are
@@ -25,10 +59,13 @@ sessions_push (t ∷ ts) [] task session are is = absurd are
 sessions_push (t ∷ ts) (s ∷ ss) task session are is = (are.0, sessions_push ts ss task session are.1 is)
 
 -- one more, where all before it were served
-pub served_push : {X E : Type 0} (all : Result X E) (tasks longer : List Task) (sessions more : List Session) (task : Task) (session : Session)
-    → OnOk all (AreSessionsOf tasks sessions) → IsSessionOf task session → longer ≡ tasks ++ task ∷ [] → more ≡ sessions ++ session ∷ [] → OnOk all (AreSessionsOf longer more)
+pub served_push : {X E : Type 0} (all : Result X E) (tasks longer : List Task) (sessions more : List Session)
+    (task : Task) (session : Session)
+    → OnOk all (AreSessionsOf tasks sessions) → IsSessionOf task session → longer ≡ tasks ++ task ∷ [] → more ≡ sessions
+    ++ session ∷ [] → OnOk all (AreSessionsOf longer more)
 served_push (Ok x) tasks longer sessions more task session are is here there =
-    subst (λ ts. AreSessionsOf ts more) (sym here) (subst (AreSessionsOf (tasks ++ task ∷ [])) (sym there) (sessions_push tasks sessions task session are is))
+    subst (λ ts. AreSessionsOf ts more) (sym here) (subst (AreSessionsOf (tasks ++ task ∷ [])) (sym there)
+    (sessions_push tasks sessions task session are is))
 served_push (Err e) tasks longer sessions more task session are is here there = are
 
 -- one member more
@@ -39,10 +76,12 @@ still_push [] (a ∷ others) before after are is = absurd are
 still_push (b ∷ others) [] before after are is = absurd are
 still_push (b ∷ befores) (a ∷ afters) before after are is = (are.0, still_push befores afters before after are.1 is)
 
-pub still_longer : (befores longer afters more : List Token) (before after : Token) → AreStill befores afters → IsStill before after → longer ≡ befores ++ before ∷ []
+pub still_longer : (befores longer afters more : List Token) (before after : Token) → AreStill befores afters
+    → IsStill before after → longer ≡ befores ++ before ∷ []
     → more ≡ afters ++ after ∷ [] → AreStill longer more
 still_longer befores longer afters more before after are is here there =
-    subst (λ ts. AreStill ts more) (sym here) (subst (AreStill (befores ++ before ∷ [])) (sym there) (still_push befores afters before after are is))
+    subst (λ ts. AreStill ts more) (sym here) (subst (AreStill (befores ++ before ∷ [])) (sym there)
+    (still_push befores afters before after are is))
 
 pub none_is : {X : Type 0} {x : X} → None ≡ Some x → ⊥
 none_is e = cc
@@ -51,14 +90,17 @@ pub some_is : {X : Type 0} {x y : X} → Some x ≡ Some y → x ≡ y
 some_is e = cc
 
 -- the session at a place is that of the task there
-pub session_at : (tasks : List Task) (sessions : List Session) (i : ℕ) (task : Task) (session : Session) → AreSessionsOf tasks sessions
+pub session_at : (tasks : List Task) (sessions : List Session) (i : ℕ) (task : Task) (session : Session)
+    → AreSessionsOf tasks sessions
     → slice_get tasks i ≡ Some task → slice_get sessions i ≡ Some session → IsSessionOf task session
 session_at [] sessions i task session are here there = absurd (none_is here)
 session_at (t ∷ ts) [] i task session are here there = absurd are
-session_at (t ∷ ts) (s ∷ ss) zero task session are here there = subst (λ x. IsSessionOf x session) (some_is here) (subst (IsSessionOf t) (some_is there) are.0)
+session_at (t ∷ ts) (s ∷ ss) zero task session are here there =
+    subst (λ x. IsSessionOf x session) (some_is here) (subst (IsSessionOf t) (some_is there) are.0)
 session_at (t ∷ ts) (s ∷ ss) (suc i) task session are here there = session_at ts ss i task session are.1 here there
 
-pub as_many : (tasks : List Task) (sessions : List Session) → AreSessionsOf tasks sessions → length sessions ≡ length tasks
+pub as_many : (tasks : List Task) (sessions : List Session) → AreSessionsOf tasks sessions
+    → length sessions ≡ length tasks
 as_many [] [] are = refl
 as_many [] (s ∷ ss) are = absurd are
 as_many (t ∷ ts) [] are = absurd are
@@ -80,18 +122,21 @@ session_numbers [] [] are = refl
 session_numbers [] (s ∷ ss) are = absurd are
 session_numbers (t ∷ ts) [] are = absurd are
 session_numbers (t ∷ ts) (s ∷ ss) are =
-    ap (λ w. number_of w ∷ map number_in (map client_of_session ss)) are.0.who ∙ ap (λ ns. number_of t.client.who ∷ ns) (session_numbers ts ss are.1)
+    ap (λ w. number_of w ∷ map number_in (map client_of_session ss)) are.0.who
+    ∙ ap (λ ns. number_of t.client.who ∷ ns) (session_numbers ts ss are.1)
 
 still_numbers : (befores afters : List Token) → AreStill befores afters → map number_in afters ≡ map number_in befores
 still_numbers [] [] are = refl
 still_numbers [] (a ∷ others) are = absurd are
 still_numbers (b ∷ others) [] are = absurd are
-still_numbers (b ∷ befores) (a ∷ afters) are = ap (λ w. number_of w ∷ map number_in afters) are.0.who ∙ ap (λ ns. number_of b.who ∷ ns) (still_numbers befores afters are.1)
+still_numbers (b ∷ befores) (a ∷ afters) are = ap (λ w. number_of w ∷ map number_in afters) are.0.who
+    ∙ ap (λ ns. number_of b.who ∷ ns) (still_numbers befores afters are.1)
 
 -- a number is once in a row that it is in, and not in one that begins later
 count_map : {X Y : Type 0} (p : Y → Bool) (f : X → Y) (xs : List X) → count_by (λ x. p (f x)) xs ≡ count_by p (map f xs)
 count_map p f [] = refl
-count_map p f (x ∷ xs) = count_cons (λ y. p (f y)) x xs ∙ (ap (λ k. cond (p (f x)) 1 0 + k) (count_map p f xs) ∙ sym (count_cons p (f x) (map f xs)))
+count_map p f (x ∷ xs) = count_cons (λ y. p (f y)) x xs
+    ∙ (ap (λ k. cond (p (f x)) 1 0 + k) (count_map p f xs) ∙ sym (count_cons p (f x) (map f xs)))
 
 abbrev one_if : Bool → ℕ
 one_if test = cond test 1 0
@@ -104,8 +149,10 @@ not_in_row first (suc n) number low =
     omega (arith, count_cons (λ x. x == number) first (range_with_len (first + 1) n), here, later)
 
 -- the first of a row is it, or a later one
-once_first : (first n number : ℕ) → ((eqb first number ≡ true) × (first ≡ number)) ⊎ ((eqb first number ≡ false) × (first ≢ number)) → first ≤ number
-    → (first + 1 ≤ number → count_by (λ x. x == number) (range_with_len (first + 1) n) ≡ 1) → count_by (λ x. x == number) (range_with_len first (suc n)) ≡ 1
+once_first : (first n number : ℕ) → ((eqb first number ≡ true) × (first ≡ number))
+    ⊎ ((eqb first number ≡ false) × (first ≢ number)) → first ≤ number
+    → (first + 1 ≤ number → count_by (λ x. x == number) (range_with_len (first + 1) n) ≡ 1)
+    → count_by (λ x. x == number) (range_with_len first (suc n)) ≡ 1
 once_first first n number (inl is) low later =
     let here : one_if (eqb first number) ≡ 1 = ap one_if is.0 in
     let none = not_in_row (first + 1) n number (omega (arith, is.1)) in
@@ -115,9 +162,11 @@ once_first first n number (inr other) low later =
     let one = later (omega (arith, other.1, low)) in
     omega (arith, count_cons (λ x. x == number) first (range_with_len (first + 1) n), here, one)
 
-once_in_row : (first n number : ℕ) → first ≤ number → number < first + n → count_by (λ x. x == number) (range_with_len first n) ≡ 1
+once_in_row : (first n number : ℕ) → first ≤ number → number < first + n
+    → count_by (λ x. x == number) (range_with_len first n) ≡ 1
 once_in_row first zero number low high = absurd (omega (arith, low, high))
-once_in_row first (suc n) number low high = once_first first n number (eqb_tells first number) low (λ later. once_in_row (first + 1) n number later (omega (arith, high)))
+once_in_row first (suc n) number low high = once_first first n number (eqb_tells first number) low
+    (λ later. once_in_row (first + 1) n number later (omega (arith, high)))
 
 -- tokens whose numbers are a row from 1 are numbered
 pub row_numbered : (n : ℕ) (tokens : List Token) → map number_in tokens ≡ range_with_len 1 n → AreNumbered n tokens
@@ -127,55 +176,69 @@ row_numbered n tokens row = record {
       ∙ (ap (count_by (λ x. x == before + 1)) row ∙ once_in_row 1 n (before + 1) (omega arith) (omega (arith, low)));
 }
 
-new_numbers : (make : ℕ → Token) → ((n : ℕ) → number_in (make n) ≡ n) → (row : List ℕ) → map number_in (map make row) ≡ row
+new_numbers : (make : ℕ → Token) → ((n : ℕ) → number_in (make n) ≡ n) → (row : List ℕ)
+    → map number_in (map make row) ≡ row
 new_numbers make is [] = refl
-new_numbers make is (n ∷ row) = ap (λ k. k ∷ map number_in (map make row)) (is n) ∙ ap (λ ks. n ∷ ks) (new_numbers make is row)
+new_numbers make is (n ∷ row) = ap (λ k. k ∷ map number_in (map make row)) (is n)
+    ∙ ap (λ ks. n ∷ ks) (new_numbers make is row)
 
 -- new clients ask nothing, and stand at their table
 pub new_clients_quiet : (hall : Hall) → All (IsQuiet hall) (new_clients hall)
-new_clients_quiet hall = All-map (IsQuiet hall) (λ number. new_token hall (Client number)) (range_with_len 1 hall.clients) (λ k d low. record { hall_is = refl; quiet = refl })
+new_clients_quiet hall = All-map (IsQuiet hall) (λ number. new_token hall (Client number))
+    (range_with_len 1 hall.clients) (λ k d low. record { hall_is = refl; quiet = refl })
 
 pub new_dispatchers_of : (hall : Hall) → All (IsOf hall) (new_dispatchers hall)
-new_dispatchers_of hall = All-map (IsOf hall) (λ number. new_token hall (Dispatcher number)) (range_with_len 1 hall.dispatchers) (λ k d low. refl)
+new_dispatchers_of hall = All-map (IsOf hall) (λ number. new_token hall (Dispatcher number))
+    (range_with_len 1 hall.dispatchers) (λ k d low. refl)
 
-quiet_tasks : (hall : Hall) (tasks : List Task) → All (IsQuiet hall) (map client_of_task tasks) → All (IsTaskAt hall) tasks
+quiet_tasks : (hall : Hall) (tasks : List Task) → All (IsQuiet hall) (map client_of_task tasks)
+    → All (IsTaskAt hall) tasks
 quiet_tasks hall [] all = All-nil (IsTaskAt hall)
 quiet_tasks hall (t ∷ ts) all =
     let first = All-head (IsQuiet hall) t.client (map client_of_task ts) all in
     All-cons (IsTaskAt hall) t ts (record { hall_is = first.hall_is; quiet = first.quiet })
     (quiet_tasks hall ts (All-tail (IsQuiet hall) t.client (map client_of_task ts) all))
 
-pub new_tasks : (hall : Hall) (tasks : List Task) → map client_of_task tasks ≡ new_clients hall → All (IsTaskAt hall) tasks
+pub new_tasks : (hall : Hall) (tasks : List Task) → map client_of_task tasks ≡ new_clients hall
+    → All (IsTaskAt hall) tasks
 new_tasks hall tasks new = quiet_tasks hall tasks (subst (All (IsQuiet hall)) (sym new) (new_clients_quiet hall))
 
 -- where they end they still ask nothing
-quiet_sessions : (hall : Hall) (tasks : List Task) (sessions : List Session) → All (IsTaskAt hall) tasks → AreSessionsOf tasks sessions
+quiet_sessions : (hall : Hall) (tasks : List Task) (sessions : List Session) → All (IsTaskAt hall) tasks
+    → AreSessionsOf tasks sessions
     → All (IsQuiet hall) (map client_of_session sessions)
 quiet_sessions hall [] [] all are = All-nil (IsQuiet hall)
 quiet_sessions hall [] (s ∷ ss) all are = absurd are
 quiet_sessions hall (t ∷ ts) [] all are = absurd are
 quiet_sessions hall (t ∷ ts) (s ∷ ss) all are =
     let first = All-head (IsTaskAt hall) t ts all in
-    All-cons (IsQuiet hall) s.client (map client_of_session ss) (record { hall_is = are.0.hall ∙ first.hall_is; quiet = are.0.quiet })
+    All-cons (IsQuiet hall) s.client (map client_of_session ss)
+    (record { hall_is = are.0.hall ∙ first.hall_is; quiet = are.0.quiet })
     (quiet_sessions hall ts ss (All-tail (IsTaskAt hall) t ts all) are.1)
 
-still_of : (hall : Hall) (befores afters : List Token) → All (IsOf hall) befores → AreStill befores afters → All (IsOf hall) afters
+still_of : (hall : Hall) (befores afters : List Token) → All (IsOf hall) befores → AreStill befores afters
+    → All (IsOf hall) afters
 still_of hall [] [] all are = All-nil (IsOf hall)
 still_of hall [] (a ∷ others) all are = absurd are
 still_of hall (b ∷ others) [] all are = absurd are
 still_of hall (b ∷ befores) (a ∷ afters) all are =
-    All-cons (IsOf hall) a afters (are.0.hall ∙ All-head (IsOf hall) b befores all) (still_of hall befores afters (All-tail (IsOf hall) b befores all) are.1)
+    All-cons (IsOf hall) a afters (are.0.hall ∙ All-head (IsOf hall) b befores all)
+    (still_of hall befores afters (All-tail (IsOf hall) b befores all) are.1)
 
 -- all that the server was opened with is there at the end
-pub ready : (hall : Hall) (tasks : List Task) (sessions : List Session) (befores afters : List Token) → map client_of_task tasks ≡ new_clients hall
-    → AreSessionsOf tasks sessions → befores ≡ new_dispatchers hall → AreStill befores afters → IsReady hall (map client_of_session sessions) afters
+pub ready : (hall : Hall) (tasks : List Task) (sessions : List Session) (befores afters : List Token)
+    → map client_of_task tasks ≡ new_clients hall
+    → AreSessionsOf tasks sessions → befores ≡ new_dispatchers hall → AreStill befores afters
+    → IsReady hall (map client_of_session sessions) afters
 ready hall tasks sessions befores afters clients are dispatchers still = record {
   quiet = quiet_sessions hall tasks sessions (new_tasks hall tasks clients) are;
   left = still_of hall befores afters (subst (All (IsOf hall)) (sym dispatchers) (new_dispatchers_of hall)) still;
   there = record {
-    clients_are = row_numbered hall.clients (map client_of_session sessions) (session_numbers tasks sessions are ∙ (ap (map number_in) clients
+    clients_are = row_numbered hall.clients (map client_of_session sessions)
+        (session_numbers tasks sessions are ∙ (ap (map number_in) clients
         ∙ new_numbers (λ number. new_token hall (Client number)) (λ n. refl) (range_with_len 1 hall.clients)));
-    dispatchers_are = row_numbered hall.dispatchers afters (still_numbers befores afters still ∙ (ap (map number_in) dispatchers
+    dispatchers_are = row_numbered hall.dispatchers afters
+        (still_numbers befores afters still ∙ (ap (map number_in) dispatchers
         ∙ new_numbers (λ number. new_token hall (Dispatcher number)) (λ n. refl) (range_with_len 1 hall.dispatchers)));
   };
 }

@@ -19,23 +19,28 @@ use Rattle.ssb_runs.specs.Sessions.{Session}
 use Rattle.ssb_runs.specs.declared.fault.RunFault.{RunFault}
 use Rattle.ssb_runs.specs.declared.fault.RunFault.TheVariants.{Open, OutOfMemory}
 
--- the new client of this number was served the script whole, and was reported and told what the session says; what it sees
+-- the new client of this number was served the script whole, and was reported and told what the session says; what it
+-- sees
 -- at the end is a beginning of the log, and the commits that it made are those of its number in the log
-pub record IsServed (hall : Hall) (log : List CommitRecord) (number : ℕ) (script : Script) (session : Session) : Type 0 where
-  pub served : Serves number (new_token hall (Client number)) session.client (requests_of script) [] session.told (Some []) (Some session.report)
+pub record IsServed (hall : Hall) (log : List CommitRecord) (number : ℕ) (script : Script) (session : Session) :
+    Type 0 where
+  pub served : Serves number (new_token hall (Client number)) session.client (requests_of script) [] session.told
+      (Some []) (Some session.report)
   pub begins : IsPrefix session.client.seen log
   pub made : session.client.mine ≡ commits_of number log
 
 -- a server over the base served each script by a client of its own, the clients numbered from 1 in the order of the
 -- scripts, and was closed: these are their reports, and the trace has the log and what each of them was told, in order
-pub record IsRun (base : Tables) (scripts : List Script) (dispatchers : ℕ) (reports : List (List ℕ)) (trace : Trace) : Type 0 where
+pub record IsRun (base : Tables) (scripts : List Script) (dispatchers : ℕ) (reports : List (List ℕ)) (trace : Trace) :
+    Type 0 where
   pub hall : Hall
   pub base_is : hall.base ≡ base
   pub clients_are : hall.clients ≡ length scripts
   pub dispatchers_are : hall.dispatchers ≡ dispatchers
   pub sessions : List Session
   pub one_each : length sessions ≡ length scripts
-  pub served : (i : ℕ) (script : Script) (session : Session) → slice_get scripts i ≡ Some script → slice_get sessions i ≡ Some session
+  pub served : (i : ℕ) (script : Script) (session : Session) → slice_get scripts i ≡ Some script
+      → slice_get sessions i ≡ Some session
       → IsServed hall trace.commits (i + 1) script session
   pub reports_are : reports ≡ map (λ (session : Session). session.report) sessions
   pub answers_are : trace.answers ≡ flat_map (λ (session : Session). session.told) sessions
@@ -45,7 +50,8 @@ pub record IsRun (base : Tables) (scripts : List Script) (dispatchers : ℕ) (re
   pub named : IsOfClients (length scripts) trace.commits
 
 -- what a closed server and the sessions of its clients leave
-pub record Leaves (hall : Hall) (sessions : List Session) (ended : List Token) (reports : List (List ℕ)) (trace : Trace) : Type 0 where
+pub record Leaves (hall : Hall) (sessions : List Session) (ended : List Token) (reports : List (List ℕ))
+    (trace : Trace) : Type 0 where
   pub reports_are : reports ≡ map (λ (session : Session). session.report) sessions
   pub answers_are : trace.answers ≡ flat_map (λ (session : Session). session.told) sessions
   pub true_log : IsLogOf hall (map (λ (session : Session). session.client) sessions) ended trace.commits
@@ -61,7 +67,8 @@ fault_of opening.ClientCount = Open opening.ClientCount
 fault_of opening.DispatcherCount = Open opening.DispatcherCount
 fault_of opening.NoReader = Open opening.NoReader
 
--- a count is refused where it is out of its range, that of the clients first; the other faults come where both are right
+-- a count is refused where it is out of its range, that of the clients first; the other faults come where both are
+-- right
 abbrev pub IsRunFault : ℕ → ℕ → RunFault → Type 0
 IsRunFault clients dispatchers (Open fault) = (fault ≢ opening.OutOfMemory) × IsOpenFault clients dispatchers fault
 IsRunFault clients dispatchers OutOfMemory = AreCounts clients dispatchers

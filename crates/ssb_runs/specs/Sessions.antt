@@ -29,7 +29,8 @@ pub record IsSessionOf (task : Task) (session : Session) : Type 0 where
   pub hall : session.client.hall ≡ task.client.hall
   pub who : session.client.who ≡ task.client.who
   pub quiet : session.client.asked ≡ None
-  pub served : Serves (number_of task.client.who) task.client session.client (requests_of task.script) [] session.told (Some []) (Some session.report)
+  pub served : Serves (number_of task.client.who) task.client session.client (requests_of task.script) [] session.told
+      (Some []) (Some session.report)
 
 -- a session of each task, in order
 abbrev pub AreSessionsOf : List Task → List Session → Type 0

@@ -1,6 +1,7 @@
 //! How many batches were answered.
 
-/// The batches that dispatchers answered, and the questions in all of them. Figures for a reader: no contract tells them.
+/// The batches that dispatchers answered, and the questions in all of them. Figures for a reader: no contract tells
+/// them.
 #[derive(Clone, Copy, Debug, Default, PartialEq, Eq)]
 pub struct Batches {
     pub count: u64,

@@ -38,8 +38,10 @@ pub(crate) fn start_clients<'s, E, W: Wait + Drop + Send, R: Wait + Threads + Sy
 ) -> Result<(), AllocError>
     requires jobs { All (IsTaskAt server.now) jobs.items }
     requires room { vec_len serving.old + vec_len jobs ≤ vec_capacity serving.old }
-    ensures room { (vec_len serving.new ≤ vec_len serving.old + vec_len jobs) × (vec_capacity serving.new ≡ vec_capacity serving.old) }
-    ensures started { OnOk result (map (λ h. h.promise.job.value) serving.new.items ≡ map (λ h. h.promise.job.value) serving.old.items ++ jobs.items) }
+    ensures room { (vec_len serving.new ≤ vec_len serving.old + vec_len jobs)
+        × (vec_capacity serving.new ≡ vec_capacity serving.old) }
+    ensures started { OnOk result (map (λ h. h.promise.job.value) serving.new.items ≡ map (λ h. h.promise.job.value)
+        serving.old.items ++ jobs.items) }
 {
     for job in jobs {
         let promise = SessionOf {

@@ -1,6 +1,7 @@
 //! Times by number: a histogram of fixed size, so that keeping a time takes no memory.
 //!
-//! A time below 64 nanoseconds has a place of its own. Above, each power of two is cut into 32 equal parts, a place each:
+//! A time below 64 nanoseconds has a place of its own. Above, each power of two is cut into 32 equal parts, a place
+//! each:
 //!
 //! ```text
 //! 0 1 2 .. 63 | 64 66 68 .. 126 | 128 132 .. 252 | 256 264 ..
@@ -97,8 +98,8 @@ impl Histogram {
         self.greatest
     }
 
-    /// A time that so many of a hundred don't pass: the greatest of the first place up to which there are as many, and never
-    /// more than the greatest time.
+    /// A time that so many of a hundred don't pass: the greatest of the first place up to which there are as many, and
+    /// never more than the greatest time.
     pub(crate) fn within(&self, percent: u64) -> u64
         ensures { result ≤ self.now.greatest }
     {

@@ -5,8 +5,9 @@ use ssb_session::{Kind, Meter};
 use std::alloc::{AllocError, Global};
 use std::time::{Clock, Duration, Instant};
 
-/// How long the requests of one kind took, from the call to the reply and its report. The middle and the 99th percentile are
-/// at most 1/32 too great; all three are zero where there are none. Figures for a reader: no contract tells them.
+/// How long the requests of one kind took, from the call to the reply and its report. The middle and the 99th
+/// percentile are at most 1/32 too great; all three are zero where there are none. Figures for a reader: no contract
+/// tells them.
 #[derive(Clone, Copy, Debug, Default, PartialEq, Eq)]
 pub struct Latency {
     pub count: u64,

@@ -1,5 +1,5 @@
-//! A run: the scripts of many clients served at once by a live server, each client and each dispatcher in a thread of its
-//! own.
+//! A run: the scripts of many clients served at once by a live server, each client and each dispatcher in a thread of
+//! its own.
 //!
 //! ```text
 //! script 1 ── client 1 ─┐                    ┌─ dispatcher 1
@@ -8,9 +8,10 @@
 //!     └▶ report 1, report 2 ..      └▶ trace: the log, and what each client was told
 //! ```
 //!
-//! The contract of [`serve_scripts`] (`specs/Run.antt`): each script, in order, was served whole by a client of its own from
-//! a new token on, and its report is that of the replies; every commit of the log is one that some client made, and the log
-//! is legal; so the trace is legal, and an audit finds nothing against it. That a thread gets on is claimed by no proof.
+//! The contract of [`serve_scripts`] (`specs/Run.antt`): each script, in order, was served whole by a client of its own
+//! from a new token on, and its report is that of the replies; every commit of the log is one that some client made,
+//! and the log is legal; so the trace is legal, and an audit finds nothing against it. That a thread gets on is claimed
+//! by no proof.
 //!
 //! ```text
 //! let run = serve_scripts(&rt, rt.alloc(), hashing, base, scripts, 2, false)?;

@@ -20,16 +20,18 @@ use std::alloc::{AllocError, Global};
 use std::hash::RandomState;
 use std::sync::{Arc, Wait};
 use std::thread::Threads;
-use std::time::Clock;
+use std::time::{Clock, Duration, Instant};
 
-/// What a run leaves: the report of each script, in the order of the scripts, and the trace, which has the log and what each
-/// client was told, one client after another. Batches and latencies are figures for a reader.
+/// What a run leaves: the report of each script, in the order of the scripts, and the trace, which has the log and what
+/// each client was told, one client after another. Batches, latencies and the time from the start of the first thread to
+/// the end of the last, where times were taken, are figures for a reader.
 #[derive(Drop)]
 pub struct Run {
     pub reports: Vec<Vec<u8>>,
     pub trace: Trace,
     pub batches: Batches,
     pub latencies: Latencies,
+    pub threads: Option<Duration>,
 }
 
 // What the clients leave, each by its place.
@@ -73,7 +75,8 @@ fn gather<W: Wait + Drop>(
     sessions: Vec<Session<W>>,
 ) -> Result<Gathered<W>, AllocError>
     ensures clients { IfOk result (λ left. left.clients.items ≡ map (λ session. session.client) sessions.items) }
-    ensures reports { IfOk result (λ left. map (λ report. report.items) left.reports.items ≡ map (λ session. session.report) sessions.items) }
+    ensures reports { IfOk result (λ left. map (λ report. report.items) left.reports.items ≡ map
+        (λ session. session.report) sessions.items) }
     ensures told { IfOk result (λ left. left.told.items ≡ flat_map (λ session. session.told) sessions.items) }
 {
     let mut clients = Vec::new(alloc);
@@ -105,9 +108,11 @@ fn close<W: Wait + Drop>(
     alloc: Global,
     server: Server<W>,
     ended: Ended<W>,
+    threads: Option<Duration>,
 ) -> Result<Run, AllocError>
     requires { IsReady server (map (λ session. session.client) ended.sessions.items) ended.dispatchers.items }
-    ensures { IfOk result (λ run. Leaves server ended.sessions.items ended.dispatchers.items (map (λ report. report.items) run.reports.items) run.trace) }
+    ensures { IfOk result (λ run. Leaves server ended.sessions.items ended.dispatchers.items
+        (map (λ report. report.items) run.reports.items) run.trace) }
 {
     let Ended {
         sessions,
@@ -131,7 +136,24 @@ fn close<W: Wait + Drop>(
         },
         batches,
         latencies: latencies_of(&times),
+        threads,
     })
+}
+
+// The time now, where times are taken and the clock tells it.
+fn moment<C: Clock>(clock: &C, timed: bool) -> Option<Instant> {
+    if timed {
+        Instant::now(clock).ok()
+    } else {
+        None
+    }
+}
+
+// The time since then.
+fn since<C: Clock>(clock: &C, began: Option<Instant>) -> Option<Duration> {
+    let began = began?;
+    let now = Instant::now(clock).ok()?;
+    Some(now.duration_since(began))
 }
 
 // Serves each script by the client of its place.
@@ -145,7 +167,8 @@ fn serve<W: Wait + Drop + Send, R: Wait + Threads + Sync + Clock>(
     requires clients { opened.clients.items ≡ new_clients opened.server }
     requires dispatchers { opened.dispatchers.items ≡ new_dispatchers opened.server }
     requires scripts { opened.server.clients ≡ vec_len scripts }
-    ensures { IfOk result (λ run. IsRun opened.server.base scripts.items opened.server.dispatchers (map (λ report. report.items) run.reports.items) run.trace) }
+    ensures { IfOk result (λ run. IsRun opened.server.base scripts.items opened.server.dispatchers
+        (map (λ report. report.items) run.reports.items) run.trace) }
 {
     let Opened {
         server,
@@ -153,17 +176,19 @@ fn serve<W: Wait + Drop + Send, R: Wait + Threads + Sync + Clock>(
         dispatchers,
     } = opened;
     let jobs = jobs_of(alloc, clients, scripts, timed)?;
+    let began = moment(rt, timed);
     let ended = run_threads(rt, alloc, &server, jobs, dispatchers)?;
-    close(alloc, server, ended)
+    let threads = since(rt, began);
+    close(alloc, server, ended, threads)
 }
 
-/// Serves 1 to 16 scripts by 1 to 4 dispatchers over a base, each client and each dispatcher in a thread of its own; `hashing`
-/// keys the map of orders. It waits until all of them have ended. Where `timed` says so, each client's thread takes the time
-/// of its requests; else no clock is read.
+/// Serves 1 to 16 scripts by 1 to 4 dispatchers over a base, each client and each dispatcher in a thread of its own;
+/// `hashing` keys the map of orders. It waits until all of them have ended. Where `timed` says so, the time of all threads
+/// is taken, and by each client's thread that of its requests; else no clock is read.
 ///
-/// The dispatchers' threads start first, then the clients' in the order of the scripts, and where one can't be started, no
-/// later one is. That, and a refused growth wherever it is met, is `OutOfMemory`; each thread that was started has ended
-/// then, too.
+/// The dispatchers' threads start first, then the clients' in the order of the scripts, and where one can't be started,
+/// no later one is. That, and a refused growth wherever it is met, is `OutOfMemory`; each thread that was started has
+/// ended then, too.
 pub fn serve_scripts<R: Wait + Threads + Sync + Clock>(
     rt: &R,
     alloc: Global,
@@ -174,7 +199,8 @@ pub fn serve_scripts<R: Wait + Threads + Sync + Clock>(
     timed: bool,
 ) -> Result<Run, RunFault>
     ensures counts { OnOk result (AreCounts (vec_len scripts) dispatchers) }
-    ensures served { IfOk result (λ run. IsRun base.value scripts.items dispatchers (map (λ report. report.items) run.reports.items) run.trace) }
+    ensures served { IfOk result (λ run. IsRun base.value scripts.items dispatchers
+        (map (λ report. report.items) run.reports.items) run.trace) }
     ensures legal { IfOk result (λ run. IsLegalTrace base.value run.trace) }
     ensures fault { IfErr result (λ fault. IsRunFault (vec_len scripts) dispatchers fault) }
 {

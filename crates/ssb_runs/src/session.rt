@@ -12,8 +12,8 @@ use std::marker::Model;
 use std::sync::Wait;
 use std::time::Clock;
 
-/// A session that has ended: the client, what was reported to it, what it was told, and how long its requests took, where
-/// that was asked for.
+/// A session that has ended: the client, what was reported to it, what it was told, and how long its requests took,
+/// where that was asked for.
 #[derive(Drop)]
 pub(crate) struct Session<W: Wait + Drop> {
     pub(crate) client: Client<W>,

@@ -24,8 +24,8 @@ pub(crate) struct Ended<W: Wait + Drop> {
     pub(crate) batches: Batches,
 }
 
-// All who are to take part, with room for their threads and for what these leave. The room is made before the first thread starts:
-// a started thread can then be joined without memory.
+// All who are to take part, with room for their threads and for what these leave. The room is made before the first
+// thread starts: a started thread can then be joined without memory.
 #[derive(Drop)]
 struct Crew<W: Wait + Drop> {
     jobs: Vec<Job<W>>,
@@ -66,8 +66,8 @@ fn crew_of<W: Wait + Drop>(
     })
 }
 
-// Starts the dispatchers, then the clients, whom nobody would answer without them, and joins all that were started: the clients
-// first, which the dispatchers answer until then.
+// Starts the dispatchers, then the clients, whom nobody would answer without them, and joins all that were started: the
+// clients first, which the dispatchers answer until then.
 fn serve_all<'s, E, W: Wait + Drop + Send, R: Wait + Threads + Sync + Clock>(
     scope: &Scope<'s, E>,
     rt: &'s R,

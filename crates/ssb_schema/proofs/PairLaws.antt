@@ -1,5 +1,25 @@
 -- Lines by their order key and line number, as a set of pairs has them.
-use Rattle.std.proofs.Common.{ℕ, ◌≡◌, ◌≢◌, ◌⊎◌, inl, inr, ◌<◌, ◌+◌, ◌*◌, Bool, true, false, ◌&&◌, List, Some, take, refl, sym, arith}
+use Rattle.std.proofs.Common.{
+  ℕ,
+  ◌≡◌,
+  ◌≢◌,
+  ◌⊎◌,
+  inl,
+  inr,
+  ◌<◌,
+  ◌+◌,
+  ◌*◌,
+  Bool,
+  true,
+  false,
+  ◌&&◌,
+  List,
+  Some,
+  take,
+  refl,
+  sym,
+  arith,
+}
 use Rattle.std.specs.Prelude.{nat_eq, slice_get}
 use Rattle.std.specs.List.{list_any}
 use Rattle.std.proofs.lemmas.Bool.Decides.{eqb_tells}
@@ -28,4 +48,5 @@ pub new_next : (lines : List LineFields) (i : ℕ) (line : LineFields) (q : ℕ 
     → list_any (λ e. same_pair (line_key e) q) (take i lines) ≡ false
     → list_any (λ e. same_pair (line_key e) q) (take (i + 1) lines) ≡ false
 new_next lines i line q at later none =
-    sym (seen_next same_pair line_key lines i line q false false at (rw (later_is_other (line_key line) q later) refl) (sym none))
+    sym (seen_next same_pair line_key lines i line q false false at (rw (later_is_other (line_key line) q later) refl)
+    (sym none))

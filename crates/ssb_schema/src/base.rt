@@ -25,17 +25,24 @@ use std::marker::Model;
 /// The rows of a base, table by table.
 #[derive(Drop)]
 pub struct BaseParts {
+    /// The rows of customer, in the order of their file.
     pub customers: Vec<Customer>,
+    /// The rows of supplier.
     pub suppliers: Vec<Supplier>,
+    /// The rows of part.
     pub parts: Vec<Part>,
+    /// The rows of date.
     pub dates: Vec<DateRow>,
+    /// The loaded lines: the rows of lineorder.
     pub lines: Vec<Line>,
 }
 
 /// Why there is no base. The rows come back.
 #[derive(Drop)]
 pub enum BaseError {
+    /// The rows have this fault.
     Refused(Refused<BaseParts>),
+    /// Memory ran out.
     OutOfMemory(BaseParts),
 }
 
@@ -85,8 +92,8 @@ fn unknown(indexes: &Indexes, line: &Line) -> Option<Table>
     }
 }
 
-// Checks that each line is the first of its order key and line number, and names a row of each dimension, by a set of all
-// keys.
+// Checks that each line is the first of its order key and line number, and names a row of each dimension, by a set of
+// all keys.
 fn check_any_lines(alloc: Global, indexes: &Indexes, lines: &[Line]) -> Result<(), Stop>
     ensures { (dimensions : Dimensions) → AreIndexesOf indexes.now dimensions
         → Finds result (rows_fault (line_fault dimensions) [] lines.now) }
@@ -115,8 +122,8 @@ fn is_after(line: &Line, order_key: u64, line_number: u8) -> bool
         || (line.order_key() == order_key && line.line_number() > line_number)
 }
 
-// Checks the same, and that there are no more lines than the limit. Files have lines in the order of their keys: while they
-// ascend none is there twice, and no set is needed.
+// Checks the same, and that there are no more lines than the limit. Files have lines in the order of their keys: while
+// they ascend none is there twice, and no set is needed.
 fn check_lines(alloc: Global, limit: usize, indexes: &Indexes, lines: &[Line]) -> Result<(), Stop>
     ensures { (dimensions : Dimensions) → AreIndexesOf indexes.now dimensions
         → Finds result (table_fault limit table.Lineorder (line_fault dimensions) lines.now) }

@@ -9,7 +9,9 @@ use std::fmt;
 /// A column of a table, by its place in the table's file, from 1.
 #[derive(Clone, Copy, Debug, PartialEq, Eq)]
 pub struct Column {
+    /// The table.
     pub table: Table,
+    /// The place among the table's columns, from 1.
     pub place: usize,
 }
 

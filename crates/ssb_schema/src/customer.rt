@@ -1,6 +1,6 @@
 //! Customer rows.
 
-ghost use Rattle.std.specs.Prelude.{◌≡◌, IfOk, IfErr};
+ghost use Rattle.std.specs.Prelude.{◌≡◌, IfOk, IfErr, None};
 ghost use Rattle.ssb_schema.specs.declared.table.Table.TheVariants as table;
 ghost use Rattle.ssb_schema.specs.Columns.{row_fault};
 
@@ -89,6 +89,13 @@ impl Customer {
             });
         }
         Ok(Customer { fields })
+    }
+
+    /// The schema finds no fault in any customer. The law alone: it does nothing.
+    pub fn soundness(&self)
+        ensures { row_fault table.Customer (customer_values self.now) ≡ None }
+    {
+        let _field = &self.fields;
     }
 
     /// C_CUSTKEY, the primary key.

@@ -1,6 +1,6 @@
 //! Date rows.
 
-ghost use Rattle.std.specs.Prelude.{◌≡◌, IfOk, IfErr};
+ghost use Rattle.std.specs.Prelude.{◌≡◌, IfOk, IfErr, None};
 ghost use Rattle.ssb_schema.specs.declared.table.Table.TheVariants as table;
 ghost use Rattle.ssb_schema.specs.Columns.{row_fault};
 
@@ -116,6 +116,13 @@ impl DateRow {
             });
         }
         Ok(DateRow { fields })
+    }
+
+    /// The schema finds no fault in any date. The law alone: it does nothing.
+    pub fn soundness(&self)
+        ensures { row_fault table.Date (date_values self.now) ≡ None }
+    {
+        let _field = &self.fields;
     }
 
     /// D_DATEKEY, the primary key.

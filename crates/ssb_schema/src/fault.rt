@@ -45,6 +45,8 @@ pub enum SchemaFault {
 /// A refusal, which hands the values back.
 #[derive(Debug, Drop)]
 pub struct Refused<T> {
+    /// Why they are refused.
     pub fault: SchemaFault,
+    /// The values, as they were given.
     pub back: T,
 }

@@ -19,7 +19,9 @@ use std::alloc::{AllocError, Global};
 /// Why a check of rows stopped.
 #[derive(Debug, Drop)]
 pub enum Stop {
+    /// At the first fault of the rows.
     Fault(SchemaFault),
+    /// Memory ran out.
     OutOfMemory,
 }
 
@@ -81,14 +83,18 @@ pub struct Index {
 /// The indexes of the four dimensions.
 #[derive(Drop)]
 pub struct Indexes {
+    /// Of customer.
     pub customers: Index,
+    /// Of supplier.
     pub suppliers: Index,
+    /// Of part.
     pub parts: Index,
+    /// Of date.
     pub dates: Index,
 }
 
-// The first of the keys, and how many an array takes from there on: as many as there are up to the last one, or none where
-// that is many times the number of rows.
+// The first of the keys, and how many an array takes from there on: as many as there are up to the last one, or none
+// where that is many times the number of rows.
 fn window<T: Keyed>(rows: &[T]) -> (u64, usize) {
     let mut first = u64::MAX;
     let mut last = 0;

@@ -13,14 +13,18 @@ use crate::table::Table;
 /// What a column takes: a number from `least` to `most`, both included, or a text.
 #[derive(Clone, Copy, Debug)]
 pub enum Kind {
+    /// A number within these bounds.
     Number { least: u64, most: u64 },
+    /// A text that a table file can hold.
     Text,
 }
 
 /// A value that is offered for a column.
 #[derive(Clone, Copy)]
 pub enum Cell<'a> {
+    /// A number.
     Number(u64),
+    /// A text.
     Text(&'a str),
 }
 

@@ -14,8 +14,11 @@ pub const MOST_COMMITS: u64 = 1_000_000;
 /// How many rows each dimension, how many live lines and how many commits a warehouse may have.
 #[derive(Clone, Copy, Debug, PartialEq, Eq)]
 pub struct Limits {
+    /// Rows of each dimension, 1 to 1,048,576.
     pub dimension_rows: usize,
+    /// Live lines, up to 33,554,432.
     pub lines: usize,
+    /// Commits, 1 to 1,000,000.
     pub commits: u64,
     ghost dimension_rows_range: { (1 ≤ dimension_rows) × (dimension_rows ≤ 1048576) },
     ghost lines_range: { lines ≤ 33554432 },

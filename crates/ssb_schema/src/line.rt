@@ -1,6 +1,6 @@
 //! Lines of orders, the rows of the fact table.
 
-ghost use Rattle.std.specs.Prelude.{◌≡◌, IfOk, IfErr};
+ghost use Rattle.std.specs.Prelude.{◌≡◌, IfOk, IfErr, None};
 ghost use Rattle.ssb_schema.specs.declared.table.Table.TheVariants as table;
 ghost use Rattle.ssb_schema.specs.Columns.{row_fault};
 
@@ -155,6 +155,13 @@ impl Line {
             ship_priority: fields.ship_priority,
             ship_mode: fields.ship_mode,
         })
+    }
+
+    /// The schema finds no fault in any line. The law alone: it does nothing.
+    pub fn soundness(&self)
+        ensures { row_fault table.Lineorder (line_values self.now) ≡ None }
+    {
+        let _field = &self.order_key;
     }
 
     /// What queries and columns read of the line.

@@ -1,6 +1,6 @@
 //! Orders: one to seven lines of one key.
 
-ghost use Rattle.std.specs.Prelude.{◌≡◌, IfOk, IfErr, [], nat_eq};
+ghost use Rattle.std.specs.Prelude.{◌≡◌, IfOk, IfErr, None, [], nat_eq};
 ghost use Rattle.std.specs.List.{list_all, list_any};
 ghost use Rattle.ssb_schema.specs.Orders.{order_key, order_fault, repeated_number, IsOrder};
 ghost use Rattle.ssb_schema.specs.FirstFault.{rows_fault};
@@ -84,6 +84,13 @@ impl Order {
             Some(fault) => Err(Refused { fault, back: lines }),
             None => Ok(Order { lines }),
         }
+    }
+
+    /// The schema finds no fault in any order. The law alone: it does nothing.
+    pub fn soundness(&self)
+        ensures { order_fault self.now ≡ None }
+    {
+        let _lines = &self.lines;
     }
 
     /// The order key of the lines.

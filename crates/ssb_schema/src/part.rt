@@ -1,6 +1,6 @@
 //! Part rows.
 
-ghost use Rattle.std.specs.Prelude.{◌≡◌, IfOk, IfErr};
+ghost use Rattle.std.specs.Prelude.{◌≡◌, IfOk, IfErr, None};
 ghost use Rattle.ssb_schema.specs.declared.table.Table.TheVariants as table;
 ghost use Rattle.ssb_schema.specs.Columns.{row_fault};
 
@@ -92,6 +92,13 @@ impl Part {
             });
         }
         Ok(Part { fields })
+    }
+
+    /// The schema finds no fault in any part. The law alone: it does nothing.
+    pub fn soundness(&self)
+        ensures { row_fault table.Part (part_values self.now) ≡ None }
+    {
+        let _field = &self.fields;
     }
 
     /// P_PARTKEY, the primary key.

@@ -7,8 +7,8 @@ ghost use Rattle.ssb_schema.specs.Places.{place_in, place_of_word};
 use std::alloc::{AllocError, Global};
 use std::collections::HashMap;
 
-/// The place of each key among the rows. The keys of most dimensions lie close together, as they are counted from 1: those
-/// from a first one on stand in an array, and others in a map.
+/// The place of each key among the rows. The keys of most dimensions lie close together, as they are counted from 1:
+/// those from a first one on stand in an array, and others in a map.
 #[derive(Drop)]
 pub struct Places {
     first: u64,
@@ -72,7 +72,8 @@ impl Places {
     pub fn insert(&mut self, key: u64, place: usize) -> Result<bool, AllocError>
         requires { place < 2 ^ 32 - 1 }
         ensures fresh { IfOk result (λ fresh. fresh ≡ not (is_some (place_in self.old key))) }
-        ensures updated { IfOk result (λ fresh. fresh ≡ true → (q : ℕ) → place_in self.new q ≡ cond (nat_eq key q) (Some place) (place_in self.old q)) }
+        ensures updated { IfOk result (λ fresh. fresh ≡ true → (q : ℕ)
+            → place_in self.new q ≡ cond (nat_eq key q) (Some place) (place_in self.old q)) }
     {
         match self.near_index(key) {
             Some(i) => {

@@ -1,6 +1,6 @@
 //! Refreshes: lists of actions on whole orders, in the manner of the refresh functions of TPC-H.
 
-ghost use Rattle.std.specs.Prelude.{◌≡◌, ◌≤◌, ◌<◌, IfOk, IfErr, length};
+ghost use Rattle.std.specs.Prelude.{◌≡◌, ◌≤◌, ◌<◌, IfOk, IfErr, None, length};
 ghost use Rattle.ssb_schema.specs.Refusals.{fault_of};
 
 use crate::fault::{Refused, SchemaFault};
@@ -58,6 +58,13 @@ impl Refresh {
             });
         }
         Ok(Refresh { actions })
+    }
+
+    /// The schema finds no fault in any refresh. The law alone: it does nothing.
+    pub fn soundness(&self)
+        ensures { refresh_fault self.now ≡ None }
+    {
+        let _actions = &self.actions;
     }
 
     /// The actions.

@@ -1,6 +1,6 @@
 //! Supplier rows.
 
-ghost use Rattle.std.specs.Prelude.{◌≡◌, IfOk, IfErr};
+ghost use Rattle.std.specs.Prelude.{◌≡◌, IfOk, IfErr, None};
 ghost use Rattle.ssb_schema.specs.declared.table.Table.TheVariants as table;
 ghost use Rattle.ssb_schema.specs.Columns.{row_fault};
 
@@ -86,6 +86,13 @@ impl Supplier {
             });
         }
         Ok(Supplier { fields })
+    }
+
+    /// The schema finds no fault in any supplier. The law alone: it does nothing.
+    pub fn soundness(&self)
+        ensures { row_fault table.Supplier (supplier_values self.now) ≡ None }
+    {
+        let _field = &self.fields;
     }
 
     /// S_SUPPKEY, the primary key.

@@ -8,10 +8,15 @@ use std::fmt;
 /// A table of the Star Schema Benchmark: four dimensions and the fact table, in the order in which they are loaded.
 #[derive(Clone, Copy, Debug, PartialEq, Eq)]
 pub enum Table {
+    /// Whom orders are of: a dimension.
     Customer,
+    /// Whom goods come from: a dimension.
     Supplier,
+    /// What is ordered: a dimension.
     Part,
+    /// When it is ordered: a dimension.
     Date,
+    /// The lines of the orders: the fact table.
     Lineorder,
 }
 

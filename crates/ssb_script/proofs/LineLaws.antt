@@ -27,6 +27,7 @@ line_of-row fields w found at is_one row = ap (λ v. line_after v fields) (sym a
 
 -- a record of another word spells what its control does
 pub line_of-control : (fields : List (List ℕ)) (w : Option Word) (found : Option Control) → w ≡ word_of fields
-    → line_after w fields ≡ line_or_bad (option_map line_of_control found) → line_of fields ≡ line_or_bad (option_map line_of_control found)
+    → line_after w fields ≡ line_or_bad (option_map line_of_control found)
+    → line_of fields ≡ line_or_bad (option_map line_of_control found)
 unfolding line_of
 line_of-control fields w found at control = ap (λ v. line_after v fields) (sym at) ∙ control

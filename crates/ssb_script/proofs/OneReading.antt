@@ -1,5 +1,23 @@
 -- A text spells no two lists of requests: they are read off its lines, from the last to the first.
-use Rattle.std.proofs.Common.{◌≡◌, ℕ, List, [], ◌∷◌, ◌++◌, map, None, Ok, Err, Result, subst, refl, sym, ap, ◌∙◌, append_assoc}
+use Rattle.std.proofs.Common.{
+  ◌≡◌,
+  ℕ,
+  List,
+  [],
+  ◌∷◌,
+  ◌++◌,
+  map,
+  None,
+  Ok,
+  Err,
+  Result,
+  subst,
+  refl,
+  sym,
+  ap,
+  ◌∙◌,
+  append_assoc,
+}
 use Rattle.std.specs.List.{flat_map}
 use Rattle.std.proofs.lemmas.Option.{none-some, same_Some}
 use Rattle.csv.specs.Machine.{Read, next_record}
@@ -7,14 +25,22 @@ use Rattle.csv.specs.Reading.{Reached, strip_bom}
 use Rattle.csv.specs.declared.parser.Config.{Config}
 use Rattle.csv.specs.declared.parser.State.{State}
 use Rattle.csv.specs.declared.parser.State.TheVariants as st
-use Rattle.ssb_load.specs.Records.{record_config}
+use Rattle.ssb_records.specs.Records.{record_config}
 use Rattle.ssb_schema.specs.declared.line.LineFields.{LineFields}
 use Rattle.ssb_schema.specs.declared.refresh.Action.{Action}
 use Rattle.ssb_schema.specs.declared.refresh.Action.TheVariants as action
 use Rattle.ssb_script.specs.Laws.{HasOneReading}
 use Rattle.ssb_script.specs.Lines.{ScriptLine, RecordFault, line_of}
 use Rattle.ssb_script.specs.Lines as line
-use Rattle.ssb_script.specs.Requests.{Request, Refresh, Ask, action_of, lines_of_action, lines_of_request, lines_of_requests}
+use Rattle.ssb_script.specs.Requests.{
+  Request,
+  Refresh,
+  Ask,
+  action_of,
+  lines_of_action,
+  lines_of_request,
+  lines_of_requests,
+}
 use Rattle.ssb_script.specs.declared.control.Opening.TheVariants.{Add, Amend}
 
 -- what the lines from one on hold: lines of an order that began before it, actions of a refresh that did, and requests
@@ -26,9 +52,17 @@ record Tail : Type 0 where
 abbrev before : ScriptLine → Tail → Tail
 before (line.Query question) tail = record { lines = []; actions = []; requests = Ask question ∷ tail.requests }
 before line.Begin tail = record { lines = []; actions = []; requests = Refresh tail.actions ∷ tail.requests }
-before (line.Open opening) tail = record { lines = []; actions = action_of opening tail.lines ∷ tail.actions; requests = tail.requests }
+before (line.Open opening) tail = record {
+  lines = [];
+  actions = action_of opening tail.lines ∷ tail.actions;
+  requests = tail.requests;
+}
 before (line.Line row) tail = record { lines = row ∷ tail.lines; actions = tail.actions; requests = tail.requests }
-before (line.Withdraw key) tail = record { lines = []; actions = action.Withdraw key ∷ tail.actions; requests = tail.requests }
+before (line.Withdraw key) tail = record {
+  lines = [];
+  actions = action.Withdraw key ∷ tail.actions;
+  requests = tail.requests;
+}
 before line.Commit tail = record { lines = []; actions = []; requests = tail.requests }
 
 abbrev tail_of : List ScriptLine → Tail
@@ -37,18 +71,30 @@ tail_of (l ∷ lines) = before l (tail_of lines)
 
 -- of the lines of an order, of an action, of actions, of a request
 of_order : (order : List LineFields) (rest : List ScriptLine) → (tail_of rest).lines ≡ []
-    → tail_of (map line.Line order ++ rest) ≡ record { lines = order; actions = (tail_of rest).actions; requests = (tail_of rest).requests }
+    → tail_of (map line.Line order ++ rest) ≡ record {
+      lines = order;
+      actions = (tail_of rest).actions;
+      requests = (tail_of rest).requests;
+    }
 of_order [] rest none = rw (← none) refl
 of_order (row ∷ order) rest none = ap (before (line.Line row)) (of_order order rest none)
 
 of_action : (a : Action) (rest : List ScriptLine) → (tail_of rest).lines ≡ []
-    → tail_of (lines_of_action a ++ rest) ≡ record { lines = []; actions = a ∷ (tail_of rest).actions; requests = (tail_of rest).requests }
+    → tail_of (lines_of_action a ++ rest) ≡ record {
+      lines = [];
+      actions = a ∷ (tail_of rest).actions;
+      requests = (tail_of rest).requests;
+    }
 of_action (action.Add order) rest none = ap (before (line.Open Add)) (of_order order rest none)
 of_action (action.Amend order) rest none = ap (before (line.Open Amend)) (of_order order rest none)
 of_action (action.Withdraw key) rest none = refl
 
 of_actions : (actions : List Action) (rest : List ScriptLine)
-    → tail_of (flat_map lines_of_action actions ++ line.Commit ∷ rest) ≡ record { lines = []; actions = actions; requests = (tail_of rest).requests }
+    → tail_of (flat_map lines_of_action actions ++ line.Commit ∷ rest) ≡ record {
+      lines = [];
+      actions = actions;
+      requests = (tail_of rest).requests;
+    }
 of_actions [] rest = refl
 of_actions (a ∷ actions) rest =
     let later = of_actions actions rest in
@@ -56,19 +102,23 @@ of_actions (a ∷ actions) rest =
     ∙ (of_action a (flat_map lines_of_action actions ++ line.Commit ∷ rest) (ap (λ t. t.lines) later)
     ∙ ap (λ t. record { lines = []; actions = a ∷ t.actions; requests = t.requests }) later)
 
-of_request : (one : Request) (rest : List ScriptLine) → (tail_of (lines_of_request one ++ rest)).requests ≡ one ∷ (tail_of rest).requests
+of_request : (one : Request) (rest : List ScriptLine) → (tail_of (lines_of_request one ++ rest)).requests ≡ one ∷
+    (tail_of rest).requests
 of_request (Refresh actions) rest =
-    ap (λ lines. (tail_of (line.Begin ∷ lines)).requests) (append_assoc (flat_map lines_of_action actions) (line.Commit ∷ []) rest)
+    ap (λ lines. (tail_of (line.Begin ∷ lines)).requests)
+    (append_assoc (flat_map lines_of_action actions) (line.Commit ∷ []) rest)
     ∙ ap (λ t. (before line.Begin t).requests) (of_actions actions rest)
 of_request (Ask question) rest = refl
 
 of_requests : (requests : List Request) → (tail_of (lines_of_requests requests)).requests ≡ requests
 of_requests [] = refl
-of_requests (one ∷ requests) = of_request one (lines_of_requests requests) ∙ ap (λ rest. one ∷ rest) (of_requests requests)
+of_requests (one ∷ requests) = of_request one (lines_of_requests requests)
+    ∙ ap (λ rest. one ∷ rest) (of_requests requests)
 
 -- the records of a text are one list
 one_list : (cfg : Config) (s s1 s2 : State) (text ys zs : List ℕ) (one other : List (List (List ℕ)))
-    → Reached cfg s text one s1 ys → next_record cfg s1 [] [] ys ≡ None → Reached cfg s text other s2 zs → next_record cfg s2 [] [] zs ≡ None → one ≡ other
+    → Reached cfg s text one s1 ys → next_record cfg s1 [] [] ys ≡ None → Reached cfg s text other s2 zs
+    → next_record cfg s2 [] [] zs ≡ None → one ≡ other
 unfolding Reached
 one_list cfg s s1 s2 text ys zs [] [] a enda b endb = refl
 one_list cfg s s1 s2 text ys zs [] (r ∷ other) a enda b endb =
@@ -81,7 +131,8 @@ one_list cfg s s1 s2 text ys zs (r ∷ one) (q ∷ other) a enda b endb =
     let same : a.0 ≡ b.0 = same_Some a.0 b.0 (sym a.1 ∙ b.1) in
     let Rest : Read → Type 0 = λ p. Reached cfg p.1 p.2 other s2 zs in
     let first : r ≡ q = a.2 ∙ (ap (λ p. p.0) same ∙ sym b.2) in
-    let later : one ≡ other = one_list cfg a.0.1 s1 s2 a.0.2 ys zs one other a.3 enda (subst Rest (sym same) b.3) endb in
+    let later : one ≡ other = one_list cfg a.0.1 s1 s2 a.0.2 ys zs one other a.3 enda (subst Rest (sym same) b.3) endb
+    in
     rw (first, later) refl
 
 -- the lines that results give
@@ -95,7 +146,10 @@ all_given (l ∷ lines) = ap (λ rest. l ∷ rest) (all_given lines)
 
 pub one_reading : (text : List ℕ) → HasOneReading text
 one_reading text most more one other a b =
-    let records : a.records ≡ b.records = one_list record_config st.StartRecord a.all.0 b.all.0 (strip_bom text) a.all.1 b.all.1 a.records b.records a.all.2 a.all.3 b.all.2 b.all.3 in
-    let results : map Ok (lines_of_requests one) ≡ map Ok (lines_of_requests other) = sym a.spelled ∙ (ap (map line_of) records ∙ b.spelled) in
-    let lines : lines_of_requests one ≡ lines_of_requests other = sym (all_given (lines_of_requests one)) ∙ (ap (map given) results ∙ all_given (lines_of_requests other)) in
+    let records : a.records ≡ b.records = one_list record_config st.StartRecord a.all.0 b.all.0 (strip_bom text) a.all.1
+    b.all.1 a.records b.records a.all.2 a.all.3 b.all.2 b.all.3 in
+    let results : map Ok (lines_of_requests one) ≡ map Ok (lines_of_requests other) =
+    sym a.spelled ∙ (ap (map line_of) records ∙ b.spelled) in
+    let lines : lines_of_requests one ≡ lines_of_requests other =
+    sym (all_given (lines_of_requests one)) ∙ (ap (map given) results ∙ all_given (lines_of_requests other)) in
     sym (of_requests one) ∙ (ap (λ lines. (tail_of lines).requests) lines ∙ of_requests other)

@@ -1,19 +1,57 @@
 -- What is known of a script's text while it is read.
-use Rattle.std.proofs.Common.{◌≡◌, ℕ, ◌+◌, ◌<◌, ◌≤◌, true, false, List, [], ◌∷◌, ◌++◌, Option, Some, Result, Ok, Err, map, length, refl, sym, ap, ◌∙◌, inl, inr, arith}
+use Rattle.std.proofs.Common.{
+  ◌≡◌,
+  ℕ,
+  ◌+◌,
+  ◌<◌,
+  ◌≤◌,
+  true,
+  false,
+  List,
+  [],
+  ◌∷◌,
+  ◌++◌,
+  Option,
+  Some,
+  Result,
+  Ok,
+  Err,
+  map,
+  length,
+  refl,
+  sym,
+  ap,
+  ◌∙◌,
+  inl,
+  inr,
+  arith,
+}
 use Rattle.std.proofs.lemmas.List.Elements.{All-append, All-nil}
 use Rattle.std.specs.Result.{IfOk, IfErr}
 use Rattle.std.proofs.lemmas.Bool.{le-ltb, lt-ltb}
 use Rattle.std.proofs.lemmas.List.{append_assoc, append-nil, map-append, length_push}
 use Rattle.std.proofs.lemmas.Grind.{flat_map-append}
 use Rattle.csv.specs.declared.reader.Reader.{Reader}
-use Rattle.ssb_load.specs.Records.{GivesNext, HasGiven}
-use Rattle.ssb_load.specs.declared.records.ReadError.{ReadError}
-use Rattle.ssb_load.specs.declared.records.ReadError.TheVariants as read
+use Rattle.ssb_records.specs.Records.{GivesNext, HasGiven}
+use Rattle.ssb_records.specs.declared.records.ReadError.{ReadError}
+use Rattle.ssb_records.specs.declared.records.ReadError.TheVariants as read
 use Rattle.ssb_script.specs.Begun.{Begun, Nothing}
 use Rattle.ssb_script.specs.Errors.{error_of_read}
 use Rattle.ssb_script.specs.Lines.{ScriptLine, line_of, word_of}
 use Rattle.ssb_script.specs.Requests.{Request, IsWholeRequest, lines_of_request, lines_of_requests, requests_of}
-use Rattle.ssb_script.specs.Scripts.{Spells, SpellsScript, IsFirstFault, IsScriptFault, EndsInRefresh, checks_in, fault_of, first_of, is_outside, lines_of_begun, order_refused}
+use Rattle.ssb_script.specs.Scripts.{
+  Spells,
+  SpellsScript,
+  IsFirstFault,
+  IsScriptFault,
+  EndsInRefresh,
+  checks_in,
+  fault_of,
+  first_of,
+  is_outside,
+  lines_of_begun,
+  order_refused,
+}
 use Rattle.ssb_script.specs.Steps.{Follows, IsFoundBy, asked, begun_in}
 use Rattle.ssb_script.specs.declared.begun.Step.{Step}
 use Rattle.ssb_script.specs.declared.block.Script.{Script}
@@ -21,18 +59,22 @@ use Rattle.ssb_script.specs.declared.error.ScriptError.{ScriptError}
 use Rattle.ssb_script.specs.declared.error.ScriptError.TheVariants as error
 
 -- so many records that a reader has given of a text spell these requests, and what is begun
-pub record HasRead {R : Type 0} (remaining : R → Option (List ℕ)) (text : List ℕ) (reader : Reader R) (count : ℕ) (requests : List Request) (begun : Begun) : Type 0 where
+pub record HasRead {R : Type 0} (remaining : R → Option (List ℕ)) (text : List ℕ) (reader : Reader R) (count : ℕ)
+    (requests : List Request) (begun : Begun) : Type 0 where
   pub records : List (List (List ℕ))
   pub given : HasGiven remaining text reader records
   pub many : length records ≡ count
   pub spells : Spells records requests begun
 
 -- the same, of whatever text is known
-abbrev pub HasReadKnown : {R : Type 0} → (R → Option (List ℕ)) → Option (List ℕ) → Reader R → ℕ → List Request → Begun → Type 0
-HasReadKnown remaining known reader count requests begun = (text : List ℕ) → known ≡ Some text → HasRead remaining text reader count requests begun
+abbrev pub HasReadKnown : {R : Type 0} → (R → Option (List ℕ)) → Option (List ℕ) → Reader R → ℕ → List Request → Begun
+    → Type 0
+HasReadKnown remaining known reader count requests begun =
+    (text : List ℕ) → known ≡ Some text → HasRead remaining text reader count requests begun
 
 -- at the start nothing was read
-pub read_nothing : {R : Type 0} (remaining : R → Option (List ℕ)) (text : List ℕ) (reader : Reader R) → HasGiven remaining text reader [] → HasRead remaining text reader 0 [] Nothing
+pub read_nothing : {R : Type 0} (remaining : R → Option (List ℕ)) (text : List ℕ) (reader : Reader R)
+    → HasGiven remaining text reader [] → HasRead remaining text reader 0 [] Nothing
 read_nothing remaining text reader given = record {
   records = [];
   given = given;
@@ -41,22 +83,35 @@ read_nothing remaining text reader given = record {
 }
 
 -- the lines of one record more
-lines_more : (before begun asked begun' : List ScriptLine) (line : ScriptLine) → begun ++ line ∷ [] ≡ asked ++ begun' → (before ++ begun) ++ line ∷ [] ≡ (before ++ asked) ++ begun'
-lines_more before begun asked begun' line e = append_assoc before begun (line ∷ []) ∙ ap (λ rest. before ++ rest) e ∙ sym (append_assoc before asked begun')
+lines_more : (before begun asked begun' : List ScriptLine) (line : ScriptLine) → begun ++ line ∷ [] ≡ asked ++ begun'
+    → (before ++ begun) ++ line ∷ [] ≡ (before ++ asked) ++ begun'
+lines_more before begun asked begun' line e = append_assoc before begun (line ∷ []) ∙ ap (λ rest. before ++ rest) e
+    ∙ sym (append_assoc before asked begun')
 
-spells_more : (records : List (List (List ℕ))) (requests : List Request) (old : Begun) (fields : List (List ℕ)) (line : ScriptLine) (step : Step)
-    → Spells records requests old → line_of fields ≡ Ok line → Follows (length records + 1) old line step → Spells (records ++ fields ∷ []) (requests ++ asked step) (begun_in step.begun)
+spells_more : (records : List (List (List ℕ))) (requests : List Request) (old : Begun) (fields : List (List ℕ))
+    (line : ScriptLine) (step : Step)
+    → Spells records requests old → line_of fields ≡ Ok line → Follows (length records + 1) old line step
+    → Spells (records ++ fields ∷ []) (requests ++ asked step) (begun_in step.begun)
 spells_more records requests old fields line step so_far spelled follows = record {
-  spelled = rw (map-append line_of records (fields ∷ []), so_far.spelled, spelled, flat_map-append lines_of_request requests (asked step))
-      (sym (map-append Ok (lines_of_requests requests ++ lines_of_begun old) (line ∷ [])) ∙ ap (map Ok) (lines_more (lines_of_requests requests) (lines_of_begun old) (lines_of_requests (asked step)) (lines_of_begun (begun_in step.begun)) line follows.lines));
+  spelled = rw (
+    map-append line_of records (fields ∷ []),
+    so_far.spelled,
+    spelled,
+    flat_map-append lines_of_request requests (asked step),
+  )
+      (sym (map-append Ok (lines_of_requests requests ++ lines_of_begun old) (line ∷ []))
+      ∙ ap (map Ok) (lines_more (lines_of_requests requests) (lines_of_begun old) (lines_of_requests (asked step))
+      (lines_of_begun (begun_in step.begun)) line follows.lines));
   whole = All-append IsWholeRequest requests (asked step) so_far.whole follows.whole;
   room = rw (length_push records fields) follows.room;
   settled = follows.settled;
 }
 
 -- one more record was read
-pub read_more : {R : Type 0} (remaining : R → Option (List ℕ)) (text : List ℕ) (old new : Reader R) (count : ℕ) (requests : List Request) (begun : Begun) (fields : List (List ℕ)) (line : ScriptLine) (step : Step)
-    → HasRead remaining text old count requests begun → GivesNext remaining old new true fields → line_of fields ≡ Ok line → Follows (count + 1) begun line step
+pub read_more : {R : Type 0} (remaining : R → Option (List ℕ)) (text : List ℕ) (old new : Reader R) (count : ℕ)
+    (requests : List Request) (begun : Begun) (fields : List (List ℕ)) (line : ScriptLine) (step : Step)
+    → HasRead remaining text old count requests begun → GivesNext remaining old new true fields
+    → line_of fields ≡ Ok line → Follows (count + 1) begun line step
     → HasRead remaining text new (count + 1) (requests ++ asked step) (begun_in step.begun)
 read_more remaining text old new count requests begun fields line step so_far next spelled follows = record {
   records = so_far.records ++ fields ∷ [];
@@ -66,8 +121,10 @@ read_more remaining text old new count requests begun fields line step so_far ne
 }
 
 -- there was no more record, and nothing is begun
-pub read_all : {R : Type 0} (remaining : R → Option (List ℕ)) (most : ℕ) (text : List ℕ) (old new : Reader R) (count : ℕ) (requests : List Request) (fields : List (List ℕ))
-    → HasRead remaining text old count requests Nothing → GivesNext remaining old new false fields → count ≤ most → SpellsScript most text requests
+pub read_all : {R : Type 0} (remaining : R → Option (List ℕ)) (most : ℕ) (text : List ℕ) (old new : Reader R)
+    (count : ℕ) (requests : List Request) (fields : List (List ℕ))
+    → HasRead remaining text old count requests Nothing → GivesNext remaining old new false fields → count ≤ most
+    → SpellsScript most text requests
 read_all remaining most text old new count requests fields so_far next few = record {
   records = so_far.records;
   all = next text so_far.records so_far.given;
@@ -77,8 +134,10 @@ read_all remaining most text old new count requests fields so_far next few = rec
 }
 
 -- there was no more record, and a refresh is begun
-pub ends_inside : {R : Type 0} (remaining : R → Option (List ℕ)) (most : ℕ) (text : List ℕ) (old new : Reader R) (count : ℕ) (requests : List Request) (begun : Begun) (fields : List (List ℕ))
-    → HasRead remaining text old count requests begun → GivesNext remaining old new false fields → count ≤ most → is_outside begun ≡ false → EndsInRefresh most text
+pub ends_inside : {R : Type 0} (remaining : R → Option (List ℕ)) (most : ℕ) (text : List ℕ) (old new : Reader R)
+    (count : ℕ) (requests : List Request) (begun : Begun) (fields : List (List ℕ))
+    → HasRead remaining text old count requests begun → GivesNext remaining old new false fields → count ≤ most
+    → is_outside begun ≡ false → EndsInRefresh most text
 ends_inside remaining most text old new count requests begun fields so_far next few inside = record {
   records = so_far.records;
   all = next text so_far.records so_far.given;
@@ -90,8 +149,10 @@ ends_inside remaining most text old new count requests begun fields so_far next 
 }
 
 -- one more record was read, and it has a fault
-pub first_fault : {R : Type 0} (remaining : R → Option (List ℕ)) (most : ℕ) (text : List ℕ) (old new : Reader R) (count : ℕ) (requests : List Request) (begun : Begun) (fields : List (List ℕ)) (e : ScriptError)
-    → HasRead remaining text old count requests begun → GivesNext remaining old new true fields → count ≤ most → fault_of most (count + 1) begun fields ≡ Some e → IsFirstFault most text e
+pub first_fault : {R : Type 0} (remaining : R → Option (List ℕ)) (most : ℕ) (text : List ℕ) (old new : Reader R)
+    (count : ℕ) (requests : List Request) (begun : Begun) (fields : List (List ℕ)) (e : ScriptError)
+    → HasRead remaining text old count requests begun → GivesNext remaining old new true fields → count ≤ most
+    → fault_of most (count + 1) begun fields ≡ Some e → IsFirstFault most text e
 first_fault remaining most text old new count requests begun fields e so_far next few bad =
     let given = next text so_far.records so_far.given in
     record {
@@ -106,21 +167,27 @@ first_fault remaining most text old new count requests begun fields e so_far nex
     }
 
 -- past the bound no record is read
-pub too_many : (most number : ℕ) (b : Begun) (fields : List (List ℕ)) → most < number → fault_of most number b fields ≡ Some error.TooLong
+pub too_many : (most number : ℕ) (b : Begun) (fields : List (List ℕ)) → most < number
+    → fault_of most number b fields ≡ Some error.TooLong
 too_many most number b fields past = rw (lt-ltb most number past) refl
 
 -- within it, the other checks decide
-pub within : (most number : ℕ) (b : Begun) (fields : List (List ℕ)) → number ≤ most → fault_of most number b fields ≡ first_of (order_refused b (word_of fields) ∷ checks_in number b (line_of fields))
+pub within : (most number : ℕ) (b : Begun) (fields : List (List ℕ)) → number ≤ most
+    → fault_of most number b fields ≡ first_of (order_refused b (word_of fields) ∷ checks_in number b (line_of fields))
 within most number b fields few = rw (le-ltb most number few) refl
 
 -- what an error tells, where the other checks found it
-pub found_fault : {R : Type 0} (remaining : R → Option (List ℕ)) (most : ℕ) (known : Option (List ℕ)) (old new : Reader R) (count : ℕ) (requests : List Request) (begun : Begun) (fields : List (List ℕ)) (e : ScriptError)
+pub found_fault : {R : Type 0} (remaining : R → Option (List ℕ)) (most : ℕ) (known : Option (List ℕ))
+    (old new : Reader R) (count : ℕ) (requests : List Request) (begun : Begun) (fields : List (List ℕ))
+    (e : ScriptError)
     → HasReadKnown remaining known old count requests begun → GivesNext remaining old new true fields → count < most
     → IsFoundBy (order_refused begun (word_of fields) ∷ checks_in (count + 1) begun (line_of fields)) e
     → (text : List ℕ) → known ≡ Some text → IsScriptFault most text e
-found_fault remaining most known old new count requests begun fields e so_far next few (inl memory) text is = inr (inl memory)
+found_fault remaining most known old new count requests begun fields e so_far next few (inl memory) text is =
+    inr (inl memory)
 found_fault remaining most known old new count requests begun fields e so_far next few (inr found) text is =
-    inr (inr (inl (first_fault remaining most text old new count requests begun fields e (so_far text is) next (omega arith) (within most (count + 1) begun fields (omega arith) ∙ found))))
+    inr (inr (inl (first_fault remaining most text old new count requests begun fields e (so_far text is) next
+    (omega arith) (within most (count + 1) begun fields (omega arith) ∙ found))))
 
 -- what an error of the reader tells
 pub read_fault : (most : ℕ) (text : List ℕ) (why : ReadError) → IsScriptFault most text (error_of_read why)
@@ -128,7 +195,9 @@ read_fault most text read.Read = inl refl
 read_fault most text read.OutOfMemory = inr (inl refl)
 
 -- what the reading gives where there is no more record
-pub read_script_all : {R : Type 0} (remaining : R → Option (List ℕ)) (most : ℕ) (known : Option (List ℕ)) (old new : Reader R) (count : ℕ) (requests : List Request) (begun : Begun) (fields : List (List ℕ)) (result : Result Script ScriptError)
+pub read_script_all : {R : Type 0} (remaining : R → Option (List ℕ)) (most : ℕ) (known : Option (List ℕ))
+    (old new : Reader R) (count : ℕ) (requests : List Request) (begun : Begun) (fields : List (List ℕ))
+    (result : Result Script ScriptError)
     → HasReadKnown remaining known old count requests begun → GivesNext remaining old new false fields → count ≤ most
     → IfOk result (λ script. (begun ≡ Nothing) × (requests_of script ≡ requests))
     → IfOk result (λ script. (text : List ℕ) → known ≡ Some text → SpellsScript most text (requests_of script))
@@ -136,10 +205,16 @@ read_script_all remaining most known old new count requests begun fields (Ok scr
     rw made.1 (read_all remaining most text old new count requests fields (rw made.0 at (so_far text is)) next few)
 read_script_all remaining most known old new count requests begun fields (Err e) so_far next few made = tt
 
-pub read_script_ends : {R : Type 0} (remaining : R → Option (List ℕ)) (most : ℕ) (known : Option (List ℕ)) (old new : Reader R) (count : ℕ) (requests : List Request) (begun : Begun) (fields : List (List ℕ)) (result : Result Script ScriptError)
+pub read_script_ends : {R : Type 0} (remaining : R → Option (List ℕ)) (most : ℕ) (known : Option (List ℕ))
+    (old new : Reader R) (count : ℕ) (requests : List Request) (begun : Begun) (fields : List (List ℕ))
+    (result : Result Script ScriptError)
     → HasReadKnown remaining known old count requests begun → GivesNext remaining old new false fields → count ≤ most
     → IfErr result (λ e. (e ≡ error.NoCommit) × (is_outside begun ≡ false))
     → IfErr result (λ e. (text : List ℕ) → known ≡ Some text → IsScriptFault most text e)
 read_script_ends remaining most known old new count requests begun fields (Ok script) so_far next few told = tt
 read_script_ends remaining most known old new count requests begun fields (Err e) so_far next few told = λ text is.
-    inr (inr (inr (told.0, ends_inside remaining most text old new count requests begun fields (so_far text is) next few told.1)))
+    inr (inr (inr (
+      told.0,
+      ends_inside remaining most text old new count requests begun fields (so_far text is) next few
+          told.1,
+    )))

@@ -1,5 +1,29 @@
 -- Laws of what one record does to what is begun.
-use Rattle.std.proofs.Common.{◌≡◌, ℕ, true, false, List, [], ◌∷◌, ◌++◌, Option, Some, None, Result, Ok, Err, map, refl, sym, ap, ◌∙◌, inl, inr, arith, Bool}
+use Rattle.std.proofs.Common.{
+  ◌≡◌,
+  ℕ,
+  true,
+  false,
+  List,
+  [],
+  ◌∷◌,
+  ◌++◌,
+  Option,
+  Some,
+  None,
+  Result,
+  Ok,
+  Err,
+  map,
+  refl,
+  sym,
+  ap,
+  ◌∙◌,
+  inl,
+  inr,
+  arith,
+  Bool,
+}
 use Rattle.std.specs.List.{flat_map}
 use Rattle.std.specs.Option.{option_map}
 use Rattle.std.specs.Result.{IfOk, IfErr}
@@ -15,7 +39,15 @@ use Rattle.ssb_script.specs.Begun.{Begun}
 use Rattle.ssb_script.specs.Begun as begun
 use Rattle.ssb_script.specs.Lines.{ScriptLine, RecordFault, Open, Line, Begin, is_line, line_or_bad}
 use Rattle.ssb_script.specs.Requests.{IsWholeAction, action_of, lines_of_action}
-use Rattle.ssb_script.specs.Scripts.{HasRoom, checks_in, ends_in_order, first_of, lines_of_begun, order_refused, refusal_at_end}
+use Rattle.ssb_script.specs.Scripts.{
+  HasRoom,
+  checks_in,
+  ends_in_order,
+  first_of,
+  lines_of_begun,
+  order_refused,
+  refusal_at_end,
+}
 use Rattle.ssb_script.specs.Steps.{Follows, IsFoundBy, actions_at_end, begun_of, line_of_control}
 use Rattle.ssb_script.specs.declared.begun.Step.{Step}
 use Rattle.ssb_script.specs.declared.control.Control.{Control}
@@ -27,7 +59,8 @@ use Rattle.ssb_script.specs.declared.error.ScriptError.TheVariants as error
 use Rattle.ssb_script.specs.declared.word.Word.{Word}
 
 -- the lines of an order are those of its action
-lines_of_action-action_of : (opening : Opening) (order : List LineFields) → lines_of_action (action_of opening order) ≡ Open opening ∷ map Line order
+lines_of_action-action_of : (opening : Opening) (order : List LineFields)
+    → lines_of_action (action_of opening order) ≡ Open opening ∷ map Line order
 lines_of_action-action_of Add order = refl
 lines_of_action-action_of Amend order = refl
 
@@ -38,27 +71,35 @@ lines-ended (begun.Refresh actions) = refl
 lines-ended (begun.Order order) =
     let last : List ScriptLine = lines_of_action (action_of order.opening order.lines) in
     ap (λ rest. Begin ∷ rest) (flat_map-append lines_of_action order.actions (action_of order.opening order.lines ∷ [])
-    ∙ ap (λ rest. flat_map lines_of_action order.actions ++ rest) (append-nil last ∙ lines_of_action-action_of order.opening order.lines))
+    ∙ ap (λ rest. flat_map lines_of_action order.actions ++ rest)
+    (append-nil last ∙ lines_of_action-action_of order.opening order.lines))
 
 -- a fault that is told of none is none
 none_told : {A B : Type 0} (f : A → B) (o : Option A) → option_map f o ≡ None → o ≡ None
 none_told f None e = refl
 none_told f (Some x) e = absurd cc
 
-whole-action_of : (opening : Opening) (order : List LineFields) → order_fault order ≡ None → IsWholeAction (action_of opening order)
+whole-action_of : (opening : Opening) (order : List LineFields) → order_fault order ≡ None
+    → IsWholeAction (action_of opening order)
 whole-action_of Add order whole = whole
 whole-action_of Amend order whole = whole
 
 -- an order that is not refused has its place in the refresh
-pub room-ended : (count after : ℕ) (b : Begun) → HasRoom count b → refusal_at_end b ≡ None → HasRoom after (begun_of (actions_at_end b))
+pub room-ended : (count after : ℕ) (b : Begun) → HasRoom count b → refusal_at_end b ≡ None
+    → HasRoom after (begun_of (actions_at_end b))
 room-ended count after begun.Nothing room whole = tt
 room-ended count after (begun.Refresh actions) room whole = room
 room-ended count after (begun.Order order) room whole =
-    let last : Action = action_of order.opening order.lines in
-    (rw (length_push order.actions last) (omega (arith, room.0)), All-push IsWholeAction order.actions last room.1 (whole-action_of order.opening order.lines (none_told (error.Row order.number) (order_fault order.lines) whole)))
+    let last : Action = action_of order.opening order.lines in (
+      rw (length_push order.actions last) (omega (arith, room.0)),
+      All-push IsWholeAction order.actions last room.1
+          (whole-action_of order.opening order.lines (none_told (error.Row order.number) (order_fault order.lines)
+          whole)),
+    )
 
 -- what follows once the order has ended follows
-pub follows-ended : (number : ℕ) (b : Begun) (line : ScriptLine) (step : Step) → Follows number (begun_of (actions_at_end b)) line step → Follows number b line step
+pub follows-ended : (number : ℕ) (b : Begun) (line : ScriptLine) (step : Step)
+    → Follows number (begun_of (actions_at_end b)) line step → Follows number b line step
 follows-ended number b line step follows = record {
   lines = ap (λ lines. lines ++ line ∷ []) (sym (lines-ended b)) ∙ follows.lines;
   whole = follows.whole;
@@ -68,19 +109,25 @@ follows-ended number b line step follows = record {
 
 -- the checks of a record that is no `line` are those where the order has ended
 pub checks-ended : (number : ℕ) (b : Begun) (found : Option Control)
-    → first_of (checks_in number b (line_or_bad (option_map line_of_control found))) ≡ first_of (checks_in number (begun_of (actions_at_end b)) (line_or_bad (option_map line_of_control found)))
+    → first_of (checks_in number b (line_or_bad (option_map line_of_control found))) ≡ first_of
+    (checks_in number (begun_of (actions_at_end b)) (line_or_bad (option_map line_of_control found)))
 checks-ended number begun.Nothing found = refl
 checks-ended number (begun.Refresh actions) found = refl
 checks-ended number (begun.Order order) None = refl
 checks-ended number (begun.Order order) (Some (control.Query question)) = refl
 checks-ended number (begun.Order order) (Some control.Begin) = refl
-checks-ended number (begun.Order order) (Some (control.Open opening)) = rw (length_push order.actions (action_of order.opening order.lines)) refl
-checks-ended number (begun.Order order) (Some (control.Withdraw key)) = rw (length_push order.actions (action_of order.opening order.lines)) refl
-checks-ended number (begun.Order order) (Some control.Commit) = rw (length_push order.actions (action_of order.opening order.lines)) refl
+checks-ended number (begun.Order order) (Some (control.Open opening)) =
+    rw (length_push order.actions (action_of order.opening order.lines)) refl
+checks-ended number (begun.Order order) (Some (control.Withdraw key)) =
+    rw (length_push order.actions (action_of order.opening order.lines)) refl
+checks-ended number (begun.Order order) (Some control.Commit) =
+    rw (length_push order.actions (action_of order.opening order.lines)) refl
 
 -- where no order is refused, the checks of the record decide
-pub refused_later : (result : Result Step ScriptError) (b : Begun) (word : Option Word) (checks : List (Option ScriptError))
-    → order_refused b word ≡ None → IfErr result (IsFoundBy checks) → IfErr result (IsFoundBy (order_refused b word ∷ checks))
+pub refused_later : (result : Result Step ScriptError) (b : Begun) (word : Option Word)
+    (checks : List (Option ScriptError))
+    → order_refused b word ≡ None → IfErr result (IsFoundBy checks)
+    → IfErr result (IsFoundBy (order_refused b word ∷ checks))
 refused_later (Ok step) b word checks none found = tt
 refused_later (Err e) b word checks none (inl memory) = inl memory
 refused_later (Err e) b word checks none (inr found) = inr (rw none found)
@@ -96,14 +143,19 @@ pub line_not_refused : (b : Begun) (word : Option Word) → is_line word ≡ tru
 line_not_refused b word is_one = rw is_one refl
 
 -- what comes of a record that is no `line`, once the order has ended
-pub step_after : (result : Result Step ScriptError) (number : ℕ) (b : Begun) (spelled : Result ScriptLine RecordFault) (found : Control) (ended : Option (List Action))
-    → actions_at_end b ≡ ended → spelled ≡ Ok (line_of_control found) → IfOk result (λ step. Follows number (begun_of ended) (line_of_control found) step)
+pub step_after : (result : Result Step ScriptError) (number : ℕ) (b : Begun) (spelled : Result ScriptLine RecordFault)
+    (found : Control) (ended : Option (List Action))
+    → actions_at_end b ≡ ended → spelled ≡ Ok (line_of_control found)
+    → IfOk result (λ step. Follows number (begun_of ended) (line_of_control found) step)
     → IfOk result (λ step. (line : ScriptLine) × (spelled ≡ Ok line) × Follows number b line step)
-step_after (Ok step) number b spelled found ended at is follows = (line_of_control found, is, follows-ended number b (line_of_control found) step (rw at follows))
+step_after (Ok step) number b spelled found ended at is follows =
+    (line_of_control found, is, follows-ended number b (line_of_control found) step (rw at follows))
 step_after (Err e) number b spelled found ended at is follows = tt
 
-pub fault_after : (result : Result Step ScriptError) (number : ℕ) (b : Begun) (word : Option Word) (spelled : Result ScriptLine RecordFault) (found : Control) (ended : Option (List Action))
-    → actions_at_end b ≡ ended → refusal_at_end b ≡ None → spelled ≡ Ok (line_of_control found) → IfErr result (IsFoundBy (checks_in number (begun_of ended) (Ok (line_of_control found))))
+pub fault_after : (result : Result Step ScriptError) (number : ℕ) (b : Begun) (word : Option Word)
+    (spelled : Result ScriptLine RecordFault) (found : Control) (ended : Option (List Action))
+    → actions_at_end b ≡ ended → refusal_at_end b ≡ None → spelled ≡ Ok (line_of_control found)
+    → IfErr result (IsFoundBy (checks_in number (begun_of ended) (Ok (line_of_control found))))
     → IfErr result (IsFoundBy (order_refused b word ∷ checks_in number b spelled))
 fault_after (Ok step) number b word spelled found ended at none is faults = tt
 fault_after (Err e) number b word spelled found ended at none is (inl memory) = inl memory

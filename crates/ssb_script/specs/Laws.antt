@@ -5,4 +5,5 @@ use Rattle.ssb_script.specs.Scripts.{SpellsScript}
 
 -- a text has one reading: it spells no two lists of requests, whatever the bounds of records
 abbrev pub HasOneReading : List ℕ → Type 0
-HasOneReading text = (most more : ℕ) (one other : List Request) → SpellsScript most text one → SpellsScript more text other → one ≡ other
+HasOneReading text = (most more : ℕ) (one other : List Request) → SpellsScript most text one
+    → SpellsScript more text other → one ≡ other

@@ -1,13 +1,39 @@
 -- What one record of a script spells.
-use Rattle.std.specs.Prelude.{ℕ, ◌+◌, ◌^◌, Bool, true, false, List, [], ◌∷◌, length, get_or, drop, find, codes, Option, Some, None, is_none, option_map, Result, Ok, Err, nat_eq, nat_lt, if◌then◌else◌}
+use Rattle.std.specs.Prelude.{
+  ℕ,
+  ◌+◌,
+  ◌^◌,
+  Bool,
+  true,
+  false,
+  List,
+  [],
+  ◌∷◌,
+  length,
+  get_or,
+  drop,
+  find,
+  codes,
+  Option,
+  Some,
+  None,
+  is_none,
+  option_map,
+  Result,
+  Ok,
+  Err,
+  nat_eq,
+  nat_lt,
+  if◌then◌else◌,
+}
 use Rattle.std.specs.Option.{option_and_then}
 use Rattle.std.specs.Cmp.Lexicographic.{pointwise}
 use Rattle.ssb_schema.specs.Columns as columns
 use Rattle.ssb_schema.specs.declared.table.Table.TheVariants as table
 use Rattle.ssb_schema.specs.declared.line.LineFields.{LineFields}
-use Rattle.ssb_load.specs.Records.{has_columns}
+use Rattle.ssb_records.specs.Records.{has_columns}
 use Rattle.ssb_load.specs.Row.{row_of}
-use Rattle.ssb_load.specs.Spelling.{number_of, text_of, without_spaces}
+use Rattle.ssb_records.specs.Spelling.{field, number_of, text_of}
 use Rattle.ssb_load.specs.declared.error.LineFault.{LineFault}
 use Rattle.ssb_load.specs.declared.error.LineFault.TheVariants as row
 use Rattle.ssb_plans.specs.Kind.{constant_kinds}
@@ -40,10 +66,6 @@ pub data RecordFault : Type 0 where
   Bad : RecordFault
   Refused : SchemaFault → RecordFault
 
--- a record's field at a place, counted from 0, without the spaces at its end
-abbrev pub field : List (List ℕ) → ℕ → List ℕ
-field fields place = without_spaces (get_or fields place [])
-
 -- the words that a record may begin with
 abbrev pub spelling_of : Word → List ℕ
 spelling_of word.Query = codes "query"
@@ -72,28 +94,33 @@ query_named name = find (λ query. pointwise nat_eq (name_of query) name) QUERIE
 -- the constant of a kind that bytes spell: a text, or a number of 32 bits
 abbrev pub constant_spelled : ConstantKind → List ℕ → Option Value
 constant_spelled (kind.Text column) bytes = option_map value.Text (text_of bytes)
-constant_spelled kind.Number bytes = option_and_then (λ n. if nat_lt n (2 ^ 32) then Some (value.Number n) else None) (number_of bytes)
+constant_spelled kind.Number bytes = option_and_then (λ n. if nat_lt n (2 ^ 32) then Some (value.Number n) else None)
+    (number_of bytes)
 
 -- the constants of these kinds that the fields from a place on spell, where each spells one
 unfoldable pub constants_from : ℕ → List ConstantKind → List (List ℕ) → Option (List Value)
 constants_from place [] fields = Some []
 constants_from place (kind ∷ kinds) fields =
-    option_and_then (λ constant. option_map (λ rest. constant ∷ rest) (constants_from (place + 1) kinds fields)) (constant_spelled kind (field fields place))
+    option_and_then (λ constant. option_map (λ rest. constant ∷ rest) (constants_from (place + 1) kinds fields))
+    (constant_spelled kind (field fields place))
 
 -- constants that a query takes
 abbrev pub taken_by : Named → List Value → Option (List Value)
 taken_by query constants = if is_none (constants_fault query constants) then Some constants else None
 
--- the constants of a query behind so many fields: those that it has where none are given, or one in each field from there on
+-- the constants of a query behind so many fields: those that it has where none are given, or one in each field from
+-- there on
 unfoldable pub constants_at : ℕ → Named → List (List ℕ) → Option (List Value)
 constants_at place query fields =
     if has_columns place fields then Some (standard_constants query)
-    else if has_columns (place + length (constant_kinds query)) fields then option_and_then (taken_by query) (constants_from place (constant_kinds query) fields)
+    else if has_columns (place + length (constant_kinds query)) fields then option_and_then (taken_by query)
+    (constants_from place (constant_kinds query) fields)
     else None
 
 -- the query that a record names at one place, with its constants from another on
 abbrev pub question_at : ℕ → ℕ → List (List ℕ) → Option (Named × List Value)
-question_at name place fields = option_and_then (λ query. option_map (λ constants. (query, constants)) (constants_at place query fields)) (query_named (field fields name))
+question_at name place fields = option_and_then (λ query. option_map (λ constants. (query, constants))
+    (constants_at place query fields)) (query_named (field fields name))
 
 -- the question that a `query` record asks
 abbrev pub question_of : List (List ℕ) → Option (Named × List Value)

@@ -1,7 +1,36 @@
 -- What the text of a script spells, and its first fault.
-use Rattle.std.specs.Prelude.{◌≡◌, ℕ, ◌+◌, ◌≤◌, ◌<◌, ◌⊎◌, ◌++◌, ◌&&◌, Bool, true, false, not, List, [], ◌∷◌, length, map, All, Option, Some, None, option_map, Result, Ok, Err, nat_eq, nat_lt, if◌then◌else◌}
+use Rattle.std.specs.Prelude.{
+  ◌≡◌,
+  ℕ,
+  ◌+◌,
+  ◌≤◌,
+  ◌<◌,
+  ◌⊎◌,
+  ◌++◌,
+  ◌&&◌,
+  Bool,
+  true,
+  false,
+  not,
+  List,
+  [],
+  ◌∷◌,
+  length,
+  map,
+  All,
+  Option,
+  Some,
+  None,
+  option_map,
+  Result,
+  Ok,
+  Err,
+  nat_eq,
+  nat_lt,
+  if◌then◌else◌,
+}
 use Rattle.std.specs.List.{flat_map}
-use Rattle.ssb_load.specs.Records.{BeginsWith, HasRecords}
+use Rattle.ssb_records.specs.Records.{BeginsWith, HasRecords}
 use Rattle.ssb_schema.specs.Orders.{order_fault}
 use Rattle.ssb_schema.specs.declared.fault.SchemaFault.TheVariants as schema
 use Rattle.ssb_schema.specs.declared.refresh.Action.{Action}
@@ -27,14 +56,16 @@ pub record SpellsScript (most : ℕ) (text : List ℕ) (requests : List Request)
 abbrev pub lines_of_begun : Begun → List ScriptLine
 lines_of_begun begun.Nothing = []
 lines_of_begun (begun.Refresh actions) = line.Begin ∷ flat_map lines_of_action actions
-lines_of_begun (begun.Order order) = line.Begin ∷ (flat_map lines_of_action order.actions ++ line.Open order.opening ∷ map line.Line order.lines)
+lines_of_begun (begun.Order order) = line.Begin ∷ (flat_map lines_of_action order.actions
+    ++ line.Open order.opening ∷ map line.Line order.lines)
 
 -- what is begun has room in a refresh and an order, and its order began at that record, of so many that were read
 abbrev pub HasRoom : ℕ → Begun → Type 0
 HasRoom count begun.Nothing = Unit {0}
 HasRoom count (begun.Refresh actions) = (length actions ≤ 64) × All IsWholeAction actions
 HasRoom count (begun.Order order) =
-    (length order.actions < 64) × All IsWholeAction order.actions × (length order.lines ≤ 7) × (order.number + length order.lines ≡ count)
+    (length order.actions < 64) × All IsWholeAction order.actions × (length order.lines ≤ 7)
+    × (order.number + length order.lines ≡ count)
 
 -- whether the last of these actions adds or amends an order
 abbrev pub is_order : Action → Bool
@@ -119,7 +150,8 @@ line_refused number (Err Bad) = None
 line_refused number (Ok spelled) = None
 
 abbrev pub too_many_lines : Begun → Result ScriptLine RecordFault → Option ScriptError
-too_many_lines (begun.Order order) (Ok (line.Line row)) = if nat_lt (length order.lines) 7 then None else Some (error.Row order.number schema.TooManyLines)
+too_many_lines (begun.Order order) (Ok (line.Line row)) =
+    if nat_lt (length order.lines) 7 then None else Some (error.Row order.number schema.TooManyLines)
 too_many_lines _ _ = None
 
 -- 5. it begins the 65th action
@@ -129,7 +161,8 @@ begins_action (Ok (line.Withdraw key)) = true
 begins_action _ = false
 
 abbrev pub too_many_actions : ℕ → Begun → Result ScriptLine RecordFault → Option ScriptError
-too_many_actions number b spelled = if begins_action spelled && not (nat_lt (actions_in b) 64) then Some (error.Row number schema.TooManyActions) else None
+too_many_actions number b spelled = if begins_action spelled && not (nat_lt (actions_in b) 64) then Some
+    (error.Row number schema.TooManyActions) else None
 
 -- 6. it is the `commit` of no action
 abbrev pub empty_block : ℕ → Begun → Result ScriptLine RecordFault → Option ScriptError
@@ -182,4 +215,5 @@ pub record EndsInRefresh (most : ℕ) (text : List ℕ) : Type 0 where
 -- an error tells the first fault of a text; two tell nothing of it: that its reader failed, and that memory ran out
 abbrev pub IsScriptFault : ℕ → List ℕ → ScriptError → Type 0
 IsScriptFault most text e =
-    (e ≡ error.Read) ⊎ ((e ≡ error.OutOfMemory) ⊎ (IsFirstFault most text e ⊎ ((e ≡ error.NoCommit) × EndsInRefresh most text)))
+    (e ≡ error.Read) ⊎ ((e ≡ error.OutOfMemory) ⊎ (IsFirstFault most text e
+    ⊎ ((e ≡ error.NoCommit) × EndsInRefresh most text)))

@@ -21,7 +21,12 @@ use Rattle.ssb_script.specs.declared.error.ScriptError.TheVariants.{OutOfMemory}
 
 -- what is begun, of what the reading holds of it
 abbrev pub begun_order : HeldOrder → BegunOrder
-begun_order order = record { actions = order.actions; opening = order.opening; number = order.number; lines = order.lines }
+begun_order order = record {
+  actions = order.actions;
+  opening = order.opening;
+  number = order.number;
+  lines = order.lines;
+}
 
 abbrev pub begun_in : Held → Begun
 begun_in held.Nothing = begun.Nothing

@@ -1,13 +1,15 @@
 //! What the records of a script have begun and not ended, and what one more record does to it.
 
-ghost use Rattle.std.specs.Prelude.{◌≡◌, ◌+◌, ◌-◌, ◌<◌, ◌^◌, ◌++◌, ◌∷◌, [], IfOk, IfErr, None, Ok, length, nat_lt, option_map};
+ghost use Rattle.std.specs.Prelude.{◌≡◌, ◌+◌, ◌-◌, ◌<◌, ◌^◌, ◌++◌, ◌∷◌, [], IfOk, IfErr, None, Ok, length, nat_lt};
+ghost use Rattle.std.specs.Prelude.{option_map};
 ghost use Rattle.csv.specs.Records.{fields_of};
 ghost use Rattle.ssb_schema.specs.Orders.{order_fault};
 ghost use Rattle.ssb_script.specs.Lines as spec;
 ghost use Rattle.ssb_script.specs.Lines.{ScriptLine};
 ghost use Rattle.ssb_script.specs.Requests.{action_of};
 ghost use Rattle.ssb_script.specs.Scripts.{HasRoom, checks_in, order_refused, refusal_at_end};
-ghost use Rattle.ssb_script.specs.Steps.{Follows, IsFoundBy, actions_at_end, begun_in, begun_order, line_of_control, line_of_row};
+ghost use Rattle.ssb_script.specs.Steps.{Follows, IsFoundBy, actions_at_end, begun_in, begun_order, line_of_control};
+ghost use Rattle.ssb_script.specs.Steps.{line_of_row};
 ghost use Rattle.ssb_script.specs.Begun as begun;
 
 use crate::block::Block;
@@ -26,24 +28,31 @@ use std::sync::Arc;
 pub struct BegunOrder {
     /// The actions before it in its refresh.
     pub actions: Items<Action>,
+    /// Whether it is added or amended.
     pub opening: Opening,
     /// The number of the record that began it.
     pub number: u64,
+    /// Its lines so far.
     pub lines: Items<Line>,
 }
 
 /// What is begun and not ended: nothing, a refresh, or an order in a refresh.
 #[derive(Drop)]
 pub enum Begun {
+    /// No refresh is begun.
     Nothing,
+    /// A refresh, with its actions so far, none of which is being read.
     Refresh(Items<Action>),
+    /// A refresh, and in it an order whose lines are being read.
     Order(BegunOrder),
 }
 
 /// What comes of one record: the block that it ends, if it ends one, and what is begun after it.
 #[derive(Drop)]
 pub struct Step {
+    /// The block that the record ended, if it ended one.
     pub block: Option<Block>,
+    /// What is begun after the record.
     pub begun: Begun,
 }
 
@@ -177,7 +186,8 @@ impl BegunOrder {
         requires before { 0 < number }
         requires room { HasRoom (number - 1) (begun.Order (begun_order self)) }
         ensures step { IfOk result (λ step. Follows number (begun.Order (begun_order self)) (spec.Line line) step) }
-        ensures fault { IfErr result (IsFoundBy (checks_in number (begun.Order (begun_order self)) (Ok (spec.Line line)))) }
+        ensures fault { IfErr result (IsFoundBy (checks_in number (begun.Order (begun_order self))
+            (Ok (spec.Line line)))) }
     {
         if self.lines.len() == 7 {
             return Err(ScriptError::Row(self.number, SchemaFault::TooManyLines));
@@ -213,7 +223,8 @@ impl Begun {
     pub fn with_row(self, number: u64, row: OrderLine) -> Result<Step, ScriptError>
         requires before { 0 < number }
         requires room { HasRoom (number - 1) (begun_in self) }
-        ensures step { IfOk result (λ step. (line : ScriptLine) × (line_of_row row ≡ Ok line) × Follows number (begun_in self) line step) }
+        ensures step { IfOk result (λ step. (line : ScriptLine) × (line_of_row row ≡ Ok line)
+            × Follows number (begun_in self) line step) }
         ensures fault { IfErr result (IsFoundBy (checks_in number (begun_in self) (line_of_row row))) }
     {
         let Begun::Order(order) = self else {
@@ -226,8 +237,8 @@ impl Begun {
         }
     }
 
-    /// What comes of one more record that is no `line`, after so many: of what it says, if it says anything. The order that
-    /// is being read ends before it.
+    /// What comes of one more record that is no `line`, after so many: of what it says, if it says anything. The order
+    /// that is being read ends before it.
     pub fn with_control(
         self,
         alloc: Global,
@@ -236,8 +247,11 @@ impl Begun {
     ) -> Result<Step, ScriptError>
         requires counted { before < 2 ^ 64 - 1 }
         requires room { HasRoom before (begun_in self) }
-        ensures step { IfOk result (λ step. (line : ScriptLine) × (spec.line_or_bad (option_map line_of_control control) ≡ Ok line) × Follows (before + 1) (begun_in self) line step) }
-        ensures fault { IfErr result (IsFoundBy (refusal_at_end (begun_in self) ∷ checks_in (before + 1) (begun_in self) (spec.line_or_bad (option_map line_of_control control)))) }
+        ensures step { IfOk result (λ step. (line : ScriptLine)
+            × (spec.line_or_bad (option_map line_of_control control) ≡ Ok line)
+            × Follows (before + 1) (begun_in self) line step) }
+        ensures fault { IfErr result (IsFoundBy (refusal_at_end (begun_in self) ∷ checks_in (before + 1) (begun_in self)
+            (spec.line_or_bad (option_map line_of_control control)))) }
     {
         let number = before + 1;
         let actions = self.ended()?;
@@ -257,8 +271,10 @@ impl Begun {
     ) -> Result<Step, ScriptError>
         requires counted { before < 2 ^ 64 - 1 }
         requires room { HasRoom before (begun_in self) }
-        ensures step { IfOk result (λ step. (line : ScriptLine) × (spec.line_of (fields_of fields.now) ≡ Ok line) × Follows (before + 1) (begun_in self) line step) }
-        ensures fault { IfErr result (IsFoundBy (order_refused (begun_in self) (spec.word_of (fields_of fields.now)) ∷ checks_in (before + 1) (begun_in self) (spec.line_of (fields_of fields.now)))) }
+        ensures step { IfOk result (λ step. (line : ScriptLine) × (spec.line_of (fields_of fields.now) ≡ Ok line)
+            × Follows (before + 1) (begun_in self) line step) }
+        ensures fault { IfErr result (IsFoundBy (order_refused (begun_in self) (spec.word_of (fields_of fields.now)) ∷
+            checks_in (before + 1) (begun_in self) (spec.line_of (fields_of fields.now)))) }
     {
         let word = word_of(fields);
         if is_line(word) {

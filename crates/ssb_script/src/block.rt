@@ -8,12 +8,15 @@ use std::sync::Arc;
 /// or a question.
 #[derive(Drop)]
 pub enum Block {
+    /// `begin` .. `commit`: a refresh, for the log and the server to share.
     Refresh(Arc<Refresh>),
+    /// `query|NAME`: a question.
     Ask(Question),
 }
 
 /// The blocks of a script, in order.
 #[derive(Drop)]
 pub struct Script {
+    /// The blocks, each to be served before the next.
     pub blocks: Vec<Block>,
 }

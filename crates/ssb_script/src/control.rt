@@ -7,29 +7,35 @@ ghost use Rattle.ssb_script.specs.Lines.{is_line, line_after, line_or_bad};
 ghost use Rattle.ssb_script.specs.Steps.{line_of_control};
 ghost use Rattle.ssb_script.specs.Requests.{action_of};
 
-use crate::fields::trimmed_at;
 use crate::question::question_at;
 use crate::word::Word;
 use csv::ByteRecord;
-use ssb_load::{has_columns, number};
 use ssb_plans::Question;
+use ssb_records::{has_columns, number, trimmed_at};
 use ssb_schema::{Action, Order};
 use std::alloc::{AllocError, Global};
 
 /// How an order begins: as one that is absent, or one that is present.
 #[derive(Clone, Copy, Debug, PartialEq, Eq)]
 pub enum Opening {
+    /// `add`: its key is absent.
     Add,
+    /// `amend`: it takes the place of the order of its key.
     Amend,
 }
 
 /// What a record that is no `line` says.
 #[derive(Drop)]
 pub enum Control {
+    /// `query`: it asks.
     Query(Question),
+    /// `begin`: a refresh begins.
     Begin,
+    /// `add` or `amend`: an order begins.
     Open(Opening),
+    /// `withdraw`: the order of this key is taken away.
     Withdraw(u64),
+    /// `commit`: the refresh ends.
     Commit,
 }
 
@@ -45,19 +51,8 @@ impl Opening {
     }
 }
 
-// What a record says that has no more than its word.
-fn alone(control: Control, fields: &ByteRecord) -> Option<Control>
-    ensures { option_map line_of_control result ≡ spec.alone (line_of_control control) (fields_of fields.now) }
-{
-    if has_columns(fields, 1) {
-        Some(control)
-    } else {
-        None
-    }
-}
-
-// The key of a `withdraw` record.
-fn key_of(fields: &ByteRecord) -> Option<u64>
+/// The key that a `withdraw` record gives: the number in its second column, where it has two.
+pub fn key_of(fields: &ByteRecord) -> Option<u64>
     ensures { result ≡ spec.key_of (fields_of fields.now) }
 {
     if !has_columns(fields, 2) {
@@ -67,6 +62,17 @@ fn key_of(fields: &ByteRecord) -> Option<u64>
 }
 
 impl Control {
+    /// What a record says whose word says this: this, if the record has no more than its word.
+    pub fn alone(self, fields: &ByteRecord) -> Option<Control>
+        ensures { option_map line_of_control result ≡ spec.alone (line_of_control self) (fields_of fields.now) }
+    {
+        if has_columns(fields, 1) {
+            Some(self)
+        } else {
+            None
+        }
+    }
+
     /// What a record of this word says, if it says anything.
     pub(crate) fn of(
         alloc: Global,
@@ -74,18 +80,19 @@ impl Control {
         fields: &ByteRecord,
     ) -> Result<Option<Control>, AllocError>
         requires { is_line word ≡ false }
-        ensures { IfOk result (λ control. line_after word (fields_of fields.now) ≡ line_or_bad (option_map line_of_control control)) }
+        ensures { IfOk result (λ control. line_after word (fields_of fields.now) ≡ line_or_bad
+            (option_map line_of_control control)) }
     {
         let Some(word) = word else {
             return Ok(None);
         };
         Ok(match word {
             Word::Query => question_at(alloc, 1, 2, fields)?.map(Control::Query),
-            Word::Begin => alone(Control::Begin, fields),
-            Word::Add => alone(Control::Open(Opening::Add), fields),
-            Word::Amend => alone(Control::Open(Opening::Amend), fields),
+            Word::Begin => Control::Begin.alone(fields),
+            Word::Add => Control::Open(Opening::Add).alone(fields),
+            Word::Amend => Control::Open(Opening::Amend).alone(fields),
             Word::Withdraw => key_of(fields).map(Control::Withdraw),
-            Word::Commit => alone(Control::Commit, fields),
+            Word::Commit => Control::Commit.alone(fields),
             Word::Line => None,
         })
     }

@@ -4,7 +4,7 @@ ghost use Rattle.std.specs.Prelude.{◌≡◌};
 ghost use Rattle.ssb_script.specs.Errors.{error_of_read};
 ghost use Rattle.ssb_script.specs.declared.error.ScriptError.TheVariants.{OutOfMemory};
 
-use ssb_load::ReadError;
+use ssb_records::ReadError;
 use ssb_schema::SchemaFault;
 use std::alloc::{AllocError, AllocFailed};
 use thiserror::Error;
@@ -30,6 +30,7 @@ pub enum ScriptError {
     /// The reader underneath failed.
     #[error("75 Read")]
     Read,
+    /// Memory ran out.
     #[error("out of memory")]
     OutOfMemory,
 }

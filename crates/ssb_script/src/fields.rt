@@ -2,20 +2,12 @@
 
 ghost use Rattle.std.specs.Prelude.{◌≡◌, drop, map, IfOk};
 ghost use Rattle.csv.specs.Records.{fields_of};
-ghost use Rattle.ssb_script.specs.Lines.{field};
 ghost use Rattle.ssb_script.specs.Lines as spec;
 
 use crate::word::Word;
 use csv::ByteRecord;
-use ssb_load::{field_at, trimmed};
+use ssb_records::{field_at, trimmed_at};
 use std::alloc::{AllocError, Global};
-
-/// The field at a place, counted from 0, without the spaces at its end.
-pub fn trimmed_at(fields: &ByteRecord, place: usize) -> &[u8]
-    ensures { result.now ≡ field (fields_of fields.now) place }
-{
-    trimmed(field_at(fields, place))
-}
 
 /// The word of a record, if its first field is one.
 #[tactic(auto, unfolding(crate::specs::Lines::word_of))]

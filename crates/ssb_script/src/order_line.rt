@@ -15,8 +15,11 @@ use std::alloc::{AllocError, Global};
 /// What a `line` record says: a line, one that the schema refuses, or nothing.
 #[derive(Drop)]
 pub enum OrderLine {
+    /// A line of an order.
     Read(Line),
+    /// The schema refuses the line.
     Refused(SchemaFault),
+    /// Its fields spell no line.
     Bad,
 }
 

@@ -1,14 +1,13 @@
 //! The `query` records of a script: a query's name, alone or with all its constants.
 
-ghost use Rattle.std.specs.Prelude.{◌≡◌, ◌+◌, ◌<◌, ◌≤◌, length, option_map, IfOk};
+ghost use Rattle.std.specs.Prelude.{◌≡◌, ◌+◌, ◌<◌, ◌^◌, length, option_map, IfOk};
 ghost use Rattle.csv.specs.Records.{fields_of};
 ghost use Rattle.ssb_script.specs.Lines as spec;
 ghost use Rattle.ssb_script.specs.Lines.{constant_spelled};
 
-use crate::fields::trimmed_at;
 use csv::ByteRecord;
-use ssb_load::{has_columns, number, text};
 use ssb_plans::{ConstantKind, QUERIES, Query, Question, QuestionError, Value};
+use ssb_records::{has_columns, number, text, trimmed_at};
 use ssb_schema::Text;
 use std::alloc::{AllocError, Global};
 
@@ -46,8 +45,9 @@ pub fn constants_from(
     kinds: &[ConstantKind],
     fields: &ByteRecord,
 ) -> Result<Option<Vec<Value>>, AllocError>
-    requires { place + length kinds.now < 100 }
-    ensures { IfOk result (λ found. option_map (λ constants. constants.items) found ≡ spec.constants_from place kinds.now (fields_of fields.now)) }
+    requires { place + length kinds.now < 2 ^ 64 }
+    ensures { IfOk result (λ found. option_map (λ constants. constants.items) found ≡ spec.constants_from place
+        kinds.now (fields_of fields.now)) }
 {
     let mut constants = Vec::new(alloc);
     for (i, kind) in kinds.iter().enumerate() {
@@ -67,8 +67,9 @@ fn question_over(
     place: usize,
     fields: &ByteRecord,
 ) -> Result<Option<Question>, AllocError>
-    requires { place ≤ 10 }
-    ensures { IfOk result (λ question. question ≡ option_map (λ constants. (query, constants)) (spec.constants_at place query (fields_of fields.now))) }
+    requires { place < 2 ^ 32 }
+    ensures { IfOk result (λ question. question ≡ option_map (λ constants. (query, constants))
+        (spec.constants_at place query (fields_of fields.now))) }
 {
     if has_columns(fields, place) {
         return Ok(Some(Question::standard(alloc, query)?));
@@ -95,7 +96,7 @@ pub fn question_at(
     place: usize,
     fields: &ByteRecord,
 ) -> Result<Option<Question>, AllocError>
-    requires { place ≤ 10 }
+    requires { place < 2 ^ 32 }
     ensures { IfOk result (λ question. question ≡ spec.question_at name place (fields_of fields.now)) }
 {
     match query_named(trimmed_at(fields, name)) {

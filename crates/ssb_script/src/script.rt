@@ -12,13 +12,14 @@ use crate::begun::{Begun, Step};
 use crate::block::{Block, Script};
 use crate::error::ScriptError;
 use csv::ByteRecord;
-use ssb_load::{next_record, record_reader};
+use ssb_records::{next_record, record_reader};
 use std::alloc::{AllocError, Global};
 use std::io::Read;
 
 // Keeps the block that a record ended, if it ended one.
 fn keep(blocks: &mut Vec<Block>, block: Option<Block>) -> Result<(), AllocError>
-    ensures { IfOk result (λ _. map request_of blocks.new.items ≡ map request_of blocks.old.items ++ map request_of (option_to_list block)) }
+    ensures { IfOk result (λ _. map request_of blocks.new.items ≡ map request_of blocks.old.items
+        ++ map request_of (option_to_list block)) }
 {
     if let Some(block) = block {
         blocks.push(block)?;
@@ -28,7 +29,8 @@ fn keep(blocks: &mut Vec<Block>, block: Option<Block>) -> Result<(), AllocError>
 
 // The script of these blocks, where nothing more is begun.
 fn script_of(blocks: Vec<Block>, begun: Begun) -> Result<Script, ScriptError>
-    ensures script { IfOk result (λ script. (begun_in begun ≡ Nothing) × (requests_of script ≡ map request_of blocks.items)) }
+    ensures script { IfOk result (λ script. (begun_in begun ≡ Nothing)
+        × (requests_of script ≡ map request_of blocks.items)) }
     ensures fault { IfErr result (λ e. (e ≡ NoCommit) × (is_outside (begun_in begun) ≡ false)) }
 {
     match begun {
@@ -49,8 +51,10 @@ pub fn read_script<R: Read + Drop>(
     source: R,
     max_records: u64,
 ) -> Result<Script, ScriptError>
-    ensures script { IfOk result (λ script. (text : List ℕ) → R.remaining source ≡ Some text → SpellsScript max_records text (requests_of script)) }
-    ensures fault { IfErr result (λ e. (text : List ℕ) → R.remaining source ≡ Some text → IsScriptFault max_records text e) }
+    ensures script { IfOk result (λ script. (text : List ℕ) → R.remaining source ≡ Some text
+        → SpellsScript max_records text (requests_of script)) }
+    ensures fault { IfErr result (λ e. (text : List ℕ) → R.remaining source ≡ Some text
+        → IsScriptFault max_records text e) }
 {
     let mut reader = record_reader(alloc, source);
     let mut fields = ByteRecord::new(alloc);

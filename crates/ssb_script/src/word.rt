@@ -16,6 +16,7 @@ pub(crate) enum Word {
     Commit,
 }
 
+/// All words.
 pub(crate) const WORDS: [Word; 7] = [
     Word::Query,
     Word::Begin,

@@ -4,5 +4,6 @@ use Rattle.history.specs.declared.event.Deed.{Deed}
 use Rattle.history.specs.Tokens.{Token}
 
 -- a token that is known with its record is known with the record that it has
-pub done : {after : Token} {did : List Deed} (token : List Deed → Token) → ((d : List Deed) → (token d).did ≡ d) → after ≡ token did → after ≡ token after.did
+pub done : {after : Token} {did : List Deed} (token : List Deed → Token) → ((d : List Deed) → (token d).did ≡ d)
+    → after ≡ token did → after ≡ token after.did
 done token keeps is = is ∙ ap token (sym (ap (λ (t : Token). t.did) is ∙ keeps _))

@@ -11,7 +11,11 @@ use Rattle.ssb_server.specs.Turns.{HasGrabbed}
 use Rattle.ssb_server.proofs.Deeds.{done}
 
 abbrev pub with_one : Hand → ℕ → Query × List Value → Hand
-with_one hand client question = record { clients = hand.clients ++ client ∷ []; questions = hand.questions ++ question ∷ [] }
+with_one hand client question = record {
+  clients = hand.clients ++ client ∷ [];
+  questions = hand.questions
+      ++ question ∷ [];
+}
 
 pub not_empty : {X : Type 0} (xs : List X) (x : X) → xs ++ x ∷ [] ≡ [] → ⊥
 not_empty xs x e = let n : length (xs ++ x ∷ []) ≡ 0 = ap length e in omega (arith, length_push xs x)
@@ -23,12 +27,22 @@ grabbed_none t e = record {
   none = λ _. refl;
 }
 
-pub grabbed_more : (before : Token) (hand : Hand) (t : Token) (client : ℕ) (question : Query × List Value) (after : Token) → HasGrabbed before hand t → Grabs t client question after → HasGrabbed before (with_one hand client question) after
+pub grabbed_more : (before : Token) (hand : Hand) (t : Token) (client : ℕ) (question : Query × List Value)
+    (after : Token) → HasGrabbed before hand t → Grabs t client question after
+    → HasGrabbed before (with_one hand client question) after
 grabbed_more before hand t client question after has more =
     let newest : Grabbed = record { client = client; request = request question more.floor } in
-    let e : after ≡ record t { mark = None; version = None; grabbed = newest ∷ t.grabbed; did = after.did } = done (λ d. record t { mark = None; version = None; grabbed = newest ∷ t.grabbed; did = d }) (λ d. refl) more.now in
+    let e : after ≡ record t { mark = None; version = None; grabbed = newest ∷ t.grabbed; did = after.did } =
+    done (λ d. record t { mark = None; version = None; grabbed = newest ∷ t.grabbed; did = d }) (λ d. refl) more.now
+    in
     record {
-      now = subst (λ u. u ≡ record before { mark = u.mark; version = u.version; grabbed = u.grabbed; did = u.did }) (sym e) (ap (λ (u : Token). record u { mark = None; version = None; grabbed = newest ∷ t.grabbed; did = after.did }) has.now);
+      now = subst (λ u. u ≡ record before { mark = u.mark; version = u.version; grabbed = u.grabbed; did = u.did })
+          (sym e) (ap (λ (u : Token). record u {
+            mark = None;
+            version = None;
+            grabbed = newest ∷ t.grabbed;
+            did = after.did;
+          }) has.now);
       hand_is = subst (λ u. Keeps (with_one hand client question) u.grabbed) (sym e) record {
         clients = ap (λ cs. cs ++ client ∷ []) has.hand_is.clients;
         questions = ap (λ qs. qs ++ question ∷ []) has.hand_is.questions;

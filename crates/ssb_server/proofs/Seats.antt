@@ -27,36 +27,44 @@ new_free : (hall : Hall) (who : Who) → IsFree (new_token hall who)
 new_free hall who = record { rows = refl; writer = refl; hand = refl }
 
 pub clients_are_new : (hall : Hall) → All IsNewClient (new_clients hall)
-clients_are_new hall = All-map IsNewClient (λ number. new_token hall (Client number)) (range_with_len 1 hall.clients) (λ k d low. record {
-  number = _;
-  who_is = refl;
-  free = new_free hall _;
-  quiet = refl;
-  sound = new_sound hall _ refl;
-})
+clients_are_new hall = All-map IsNewClient (λ number. new_token hall (Client number)) (range_with_len 1 hall.clients)
+    (λ k d low. record {
+      number = _;
+      who_is = refl;
+      free = new_free hall _;
+      quiet = refl;
+      sound = new_sound hall _ refl;
+    })
 
 pub dispatchers_are_new : (hall : Hall) → All (IsNewDispatcher hall.base) (new_dispatchers hall)
-dispatchers_are_new hall = All-map (IsNewDispatcher hall.base) (λ number. new_token hall (Dispatcher number)) (range_with_len 1 hall.dispatchers) (λ k d low. record {
-  base_is = refl;
-  number = _;
-  who_is = refl;
-  free = new_free hall _;
-  sound = new_sound hall _ refl;
-})
+dispatchers_are_new hall = All-map (IsNewDispatcher hall.base) (λ number. new_token hall (Dispatcher number))
+    (range_with_len 1 hall.dispatchers) (λ k d low. record {
+      base_is = refl;
+      number = _;
+      who_is = refl;
+      free = new_free hall _;
+      sound = new_sound hall _ refl;
+    })
 
-pub clients_left : (hall : Hall) (tokens : List Token) → All IsResting tokens → All (IsQuiet hall) tokens → All (IsClientOf hall) tokens
+pub clients_left : (hall : Hall) (tokens : List Token) → All IsResting tokens → All (IsQuiet hall) tokens
+    → All (IsClientOf hall) tokens
 clients_left hall tokens rest quiet k d low =
     let r = rest k d low in
     let q = quiet k d low in
     record { hall_is = q.hall_is; client = (r.number, r.who_is); rows = r.rows; quiet = q.quiet }
 
-pub dispatchers_left : (hall : Hall) (tokens : List Token) → All IsLeft tokens → All (IsOf hall) tokens → All (IsDispatcherOf hall) tokens
+pub dispatchers_left : (hall : Hall) (tokens : List Token) → All IsLeft tokens → All (IsOf hall) tokens
+    → All (IsDispatcherOf hall) tokens
 dispatchers_left hall tokens left here k d low =
     let r = left k d low in
     record { hall_is = here k d low; dispatcher = (r.number, r.who_is); free = r.free }
 
-pub all_clients : (hall : Hall) (tokens room : List Token) → room ≡ tokens → AreNumbered hall.clients tokens → All IsResting tokens → All (IsQuiet hall) tokens → AreClients hall room
-all_clients hall tokens room is numbered rest quiet = subst (AreClients hall) (sym is) record { numbered = numbered; left = clients_left hall tokens rest quiet }
+pub all_clients : (hall : Hall) (tokens room : List Token) → room ≡ tokens → AreNumbered hall.clients tokens
+    → All IsResting tokens → All (IsQuiet hall) tokens → AreClients hall room
+all_clients hall tokens room is numbered rest quiet = subst (AreClients hall) (sym is)
+    record { numbered = numbered; left = clients_left hall tokens rest quiet }
 
-pub all_dispatchers : (hall : Hall) (tokens room : List Token) → room ≡ tokens → AreNumbered hall.dispatchers tokens → All IsLeft tokens → All (IsOf hall) tokens → AreDispatchers hall room
-all_dispatchers hall tokens room is numbered left here = subst (AreDispatchers hall) (sym is) record { numbered = numbered; left = dispatchers_left hall tokens left here }
+pub all_dispatchers : (hall : Hall) (tokens room : List Token) → room ≡ tokens → AreNumbered hall.dispatchers tokens
+    → All IsLeft tokens → All (IsOf hall) tokens → AreDispatchers hall room
+all_dispatchers hall tokens room is numbered left here =
+    subst (AreDispatchers hall) (sym is) record { numbered = numbered; left = dispatchers_left hall tokens left here }

@@ -42,7 +42,12 @@ pub record Commits (before : Token) (commit : CommitRecord) (number : ℕ) (afte
   pub begins : IsPrefix before.seen history
   pub accepted : refusal_of before.hall.base history commit.actions ≡ None
   pub number_is : number ≡ length after.seen
-  pub now : after ≡ record before { seen = history ++ commit ∷ []; mine = before.mine ++ commit ∷ []; beside = []; did = after.did }
+  pub now : after ≡ record before {
+    seen = history ++ commit ∷ [];
+    mine = before.mine ++ commit ∷ [];
+    beside = [];
+    did = after.did;
+  }
 
 -- the client sees more, and nothing else of it changed
 pub record Looks (before after : Token) : Type 0 where
@@ -51,14 +56,23 @@ pub record Looks (before after : Token) : Type 0 where
 
 -- a refresh: a commit, or a refusal after what is seen then, or want of memory where there is none
 abbrev pub Refreshed : Token → ℕ → List Action → Result Receipt RefreshError → Token → Type 0
-Refreshed before client actions (Ok receipt) after = Commits before (record { client = client; actions = actions }) receipt.number after
-Refreshed before client actions (Err (refresh.Refused at action cause)) after = (at ≡ length after.seen) × (refusal_of after.hall.base after.seen actions ≡ Some (record { action = action; cause = cause })) × Looks before after
-Refreshed before client actions (Err refresh.OutOfMemory) after = (refusal_of after.hall.base after.seen actions ≡ None) × Looks before after
+Refreshed before client actions (Ok receipt) after = Commits before (record { client = client; actions = actions })
+    receipt.number after
+Refreshed before client actions (Err (refresh.Refused at action cause)) after =
+    (at ≡ length after.seen) × (refusal_of after.hall.base after.seen actions ≡ Some
+    (record { action = action; cause = cause })) × Looks before after
+Refreshed before client actions (Err refresh.OutOfMemory) after =
+    (refusal_of after.hall.base after.seen actions ≡ None) × Looks before after
 
 -- the client has asked, with what it sees then as floor
 pub record Asks (before : Token) (question : Query × List Value) (after : Token) : Type 0 where
   pub begins : IsPrefix before.seen after.seen
-  pub now : after ≡ record before { seen = after.seen; beside = []; asked = Some (request question (length after.seen)); did = after.did }
+  pub now : after ≡ record before {
+    seen = after.seen;
+    beside = [];
+    asked = Some (request question (length after.seen));
+    did = after.did;
+  }
 
 -- the client got an answer to what it had asked, right in what it sees then
 pub record Polls (before : Token) (reply : Answer) (after : Token) : Type 0 where

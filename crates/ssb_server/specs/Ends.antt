@@ -13,7 +13,8 @@ use Rattle.ssb_server.specs.declared.turn.Turn.TheVariants.{Idle, Answered, Unse
 -- from the version on: every request in hand was answered
 abbrev pub Finishes : Token → Turn → Token → Type 0
 Finishes before Idle after = ⊥
-Finishes before (Answered at count) after = (at ≡ length before.seen) × (1 ≤ count) × Gave before count (Served at) after
+Finishes before (Answered at count) after = (at ≡ length before.seen) × (1 ≤ count)
+    × Gave before count (Served at) after
 Finishes before (Unserved count cause) after = (1 ≤ count) × Gave before count (GivenUp cause) after
 
 -- from the grabbed requests on
@@ -30,9 +31,17 @@ pub record Grows (before : Token) (count : ℕ) (outcome : Outcome) (after : Tok
   pub some : 1 ≤ count
   pub outcomes : All (λ (given : Given). given.outcome ≡ outcome) more
   pub fresh : All IsFresh more
-  pub now : after ≡ record before { seen = after.seen; beside = []; mark = Some (length after.seen); version = Some (length after.seen); given = before.given ++ more; did = after.did }
+  pub now : after ≡ record before {
+    seen = after.seen;
+    beside = [];
+    mark = Some (length after.seen);
+    version = Some (length after.seen);
+    given = before.given ++ more;
+    did = after.did;
+  }
 
--- a turn: nothing was asked, and nothing changed; or all that was asked was answered at the length of what is then seen; or given up
+-- a turn: nothing was asked, and nothing changed; or all that was asked was answered at the length of what is then
+-- seen; or given up
 abbrev pub Turned : Token → Turn → Token → Type 0
 Turned before Idle after = after ≡ before
 Turned before (Answered at count) after = (at ≡ length after.seen) × Grows before count (Served at) after

@@ -33,14 +33,25 @@ pub record HoldsNothing (t : Token) : Type 0 where
 
 -- the token has the requests of the hand, and where there is none it is as before
 pub record HasGrabbed (before : Token) (hand : Hand) (after : Token) : Type 0 where
-  pub now : after ≡ record before { mark = after.mark; version = after.version; grabbed = after.grabbed; did = after.did }
+  pub now : after ≡ record before {
+    mark = after.mark;
+    version = after.version;
+    grabbed = after.grabbed;
+    did = after.did;
+  }
   pub hand_is : Keeps hand after.grabbed
   pub none : hand.clients ≡ [] → after ≡ before
 
 -- the token has given both parts back, with the length of what it sees as mark and version
 pub record HasFetched (before after : Token) : Type 0 where
   pub begins : IsPrefix before.seen after.seen
-  pub now : after ≡ record before { seen = after.seen; beside = []; mark = Some (length after.seen); version = Some (length after.seen); did = after.did }
+  pub now : after ≡ record before {
+    seen = after.seen;
+    beside = [];
+    mark = Some (length after.seen);
+    version = Some (length after.seen);
+    did = after.did;
+  }
 
 -- a reader over this base was told a beginning of the history
 pub record Knows (base : Tables) (history : List CommitRecord) (reader : Known) : Type 0 where
@@ -53,7 +64,8 @@ pub record StandsAt (base : Tables) (history : List CommitRecord) (guard : Enter
   pub stands : StandsFor guard.state history
   pub told : IsPrefix guard.told history
 
--- the token has looked at the rows and given them back: its mark is the length of what it sees, which begins with what it had beside
+-- the token has looked at the rows and given them back: its mark is the length of what it sees, which begins with what
+-- it had beside
 pub record Fetches (before after : Token) : Type 0 where
   pub begins : IsPrefix before.seen after.seen
   pub beside : All (λ list. IsPrefix list after.seen) before.beside
@@ -74,7 +86,8 @@ pub record AppendsFirst (before : Writing) (commits : List CommitRecord) (after 
 
 -- the writer has these commits pending too, or, where memory was wanting, the first of them
 abbrev pub Appends : Writing → List CommitRecord → Result (Unit {0}) AllocError → Writing → Type 0
-Appends before commits result after = MatchResult result (λ _. after ≡ record before { pending = before.pending ++ commits }) (λ _. AppendsFirst before commits after)
+Appends before commits result after = MatchResult result
+    (λ _. after ≡ record before { pending = before.pending ++ commits }) (λ _. AppendsFirst before commits after)
 
 -- the writer is over this base, and has taken a beginning of the history
 pub record Follows (base : Tables) (history : List CommitRecord) (writer : Writing) : Type 0 where
@@ -108,7 +121,8 @@ pub record HasInHand (grabbed : List Grabbed) (client : ℕ) (question : Query �
 
 -- each question with its rows after a history
 abbrev pub answers_after : Tables → List CommitRecord → List (Query × List Value) → List Rows
-answers_after base history questions = map (λ question. record { query = question; list = rows_after base question history }) questions
+answers_after base history questions = map (λ question.
+    record { query = question; list = rows_after base question history }) questions
 
 -- the rows answer the question after this history
 abbrev pub Answered : Tables → List CommitRecord → Rows → Type 0

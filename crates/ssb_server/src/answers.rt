@@ -6,7 +6,8 @@ ghost use Rattle.history.specs.declared.request.Outcome.TheVariants.{Served, Giv
 ghost use Rattle.fact_columns.specs.Stored.{columns_state};
 ghost use Rattle.history.specs.Words.{IsCause};
 ghost use Rattle.ssb_server.specs.Hand.{Keeps, no_hand};
-ghost use Rattle.ssb_server.specs.Turns.{answers_after, IsDispatcher, HoldsNothing, IsCopy, HasInHand, Answered, GaveOne, Gave};
+ghost use Rattle.ssb_server.specs.Turns.{answers_after, IsDispatcher, HoldsNothing, IsCopy, HasInHand, Answered};
+ghost use Rattle.ssb_server.specs.Turns.{GaveOne, Gave};
 
 use crate::batch::Batch;
 use crate::server::{Pass, Server};
@@ -30,7 +31,8 @@ pub(crate) fn scan_batch<R: Threads + Sync>(
     requires few { length questions.now ≤ 16 }
     requires base { index.now.value ≡ columns.now.base }
     requires copy { IsCopy columns.now }
-    ensures { (history : List CommitRecord) → StandsFor (columns_state columns.now) history → IfOk result (λ rows. rows.items ≡ answers_after columns.now.base history questions.now) }
+    ensures { (history : List CommitRecord) → StandsFor (columns_state columns.now) history
+        → IfOk result (λ rows. rows.items ≡ answers_after columns.now.base history questions.now) }
 {
     let _ = columns.rows();
     let index = Arc::try_clone(index)?;

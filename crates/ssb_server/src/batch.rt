@@ -23,7 +23,8 @@ impl Model for Batch {
 
     ghost view = { λ b. record { clients = b.clients.items; questions = b.questions.items } };
 
-    ghost invariant = { λ b. (vec_len b.clients ≡ vec_len b.questions) × (16 ≤ vec_capacity b.clients) × (16 ≤ vec_capacity b.questions) };
+    ghost invariant = { λ b. (vec_len b.clients ≡ vec_len b.questions) × (16 ≤ vec_capacity b.clients)
+        × (16 ≤ vec_capacity b.questions) };
 }
 
 impl Batch {
@@ -55,7 +56,11 @@ impl Batch {
     /// One request more.
     pub fn push(&mut self, client: u32, question: Question)
         requires { length self.old.clients < 16 }
-        ensures { self.new ≡ record { clients = self.old.clients ++ client ∷ []; questions = self.old.questions ++ question ∷ [] } }
+        ensures { self.new ≡ record {
+          clients = self.old.clients ++ client ∷ [];
+          questions = self.old.questions
+              ++ question ∷ [];
+        } }
     {
         self.clients.push_reserved(client);
         self.questions.push_reserved(question);
@@ -63,7 +68,12 @@ impl Batch {
 
     /// The request that came last, which leaves.
     pub fn pop(&mut self) -> Option<(u32, Question)>
-        ensures { MatchOption result ((self.old ≡ no_hand) × (self.new ≡ no_hand)) (λ last. self.old ≡ record { clients = self.new.clients ++ last.0 ∷ []; questions = self.new.questions ++ last.1 ∷ [] }) }
+        ensures { MatchOption result ((self.old ≡ no_hand) × (self.new ≡ no_hand))
+            (λ last. self.old ≡ record {
+              clients = self.new.clients ++ last.0 ∷ [];
+              questions = self.new.questions
+                  ++ last.1 ∷ [];
+            }) }
     {
         let client = self.clients.pop()?;
         let question = self.questions.pop()?;

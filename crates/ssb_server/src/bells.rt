@@ -3,9 +3,10 @@
 use std::alloc::{AllocError, Global};
 use std::sync::Wait;
 use std::thread::Parker;
+use std::time::Duration;
 
-/// A parker for each client and each dispatcher, by number. A ring before the sleep lets the sleep end at once, so none is
-/// lost. At most one thread at a time sleeps at each, since it has the token.
+/// A parker for each client and each dispatcher, by number. A ring before the sleep lets the sleep end at once, so none
+/// is lost. At most one thread at a time sleeps at each, since it has the token.
 #[derive(Drop)]
 pub(crate) struct Bells {
     clients: Vec<Parker>,
@@ -47,10 +48,24 @@ impl Bells {
         }
     }
 
+    /// Wakes every client.
+    pub(crate) fn ring_clients(&self) {
+        for parker in &self.clients {
+            parker.unpark();
+        }
+    }
+
     /// Sleeps until the client is woken. It may return for no reason.
     pub(crate) fn await_client<R: Wait>(&self, rt: &R, number: u32) {
         if let Some(parker) = parker_of(self.clients.as_slice(), number) {
             parker.park(rt);
+        }
+    }
+
+    /// Sleeps until the client is woken, or for so long. It may return for no reason.
+    pub(crate) fn await_client_for<R: Wait>(&self, rt: &R, number: u32, longest: Duration) {
+        if let Some(parker) = parker_of(self.clients.as_slice(), number) {
+            parker.park_timeout(rt, longest);
         }
     }
 

@@ -146,10 +146,17 @@ impl<W: Wait + Drop> Client<W> {
         refresh: Arc<Refresh>,
     ) -> Result<Receipt, RefreshError>
         requires { self.old.hall ≡ server.now }
-        ensures refreshed { (number : ℕ) → self.old.who ≡ IsNumbered number → Refreshed self.old number refresh.value result self.new }
+        ensures refreshed { (number : ℕ) → self.old.who ≡ IsNumbered number
+            → Refreshed self.old number refresh.value result self.new }
         ensures sound { IsSound self.new }
     {
-        apply(rt, &server.hall, &mut self.pass, self.number, refresh)
+        let applied = apply(rt, &server.hall, &mut self.pass, self.number, refresh);
+        if let Ok(receipt) = &applied {
+            server
+                .pace
+                .keep(rt, &server.bells, self.number, receipt.number);
+        }
+        applied
     }
 
     /// Asks a question. Its floor is the number of commits that the client sees then.

@@ -52,11 +52,13 @@ impl<W: Wait + Drop> Server<W> {
         requires dispatchers { All (IsOf self) dispatchers.items }
         ensures whole { OnOk result (AreAllThere self clients.items dispatchers.items) }
         ensures missing { OnErr result (¬ AreAllThere self clients.items dispatchers.items) }
-        ensures back { IfErr result (λ error. (error.server ≡ self) × (error.clients ≡ clients) × (error.dispatchers ≡ dispatchers)) }
+        ensures back { IfErr result (λ error. (error.server ≡ self) × (error.clients ≡ clients)
+            × (error.dispatchers ≡ dispatchers)) }
         ensures base { IfOk result (λ closed. closed.base.value ≡ self.base) }
         ensures legal { IfOk result (λ closed. IsLegal self.base closed.log.items) }
         ensures named { IfOk result (λ closed. IsOfClients self.clients closed.log.items) }
-        ensures seen { IfOk result (λ closed. All (λ t. IsPrefix t.seen closed.log.items) clients.items × All (λ t. IsPrefix t.seen closed.log.items) dispatchers.items) }
+        ensures seen { IfOk result (λ closed. All (λ t. IsPrefix t.seen closed.log.items) clients.items
+            × All (λ t. IsPrefix t.seen closed.log.items) dispatchers.items) }
         ensures true_log { IfOk result (λ closed. IsLogOf self clients.items dispatchers.items closed.log.items) }
         ensures owns { IfOk result (λ closed. All (λ t. Owns t.who t.mine closed.log.items) clients.items) }
     {
@@ -75,6 +77,7 @@ impl<W: Wait + Drop> Server<W> {
             clients: _,
             dispatchers: _,
             bells: _,
+            pace: _,
             alloc: _,
             room,
         } = self;

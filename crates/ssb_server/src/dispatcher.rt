@@ -18,8 +18,8 @@ use std::sync::Wait;
 use std::thread::Threads;
 use twin_cell::TwinReader;
 
-/// A dispatcher's token, with its reader of the columns and room for a batch. Contracts see the token; between two turns
-/// it holds nothing.
+/// A dispatcher's token, with its reader of the columns and room for a batch. Contracts see the token; between two
+/// turns it holds nothing.
 #[derive(Drop)]
 pub struct Dispatcher<W: Wait + Drop> {
     pass: Pass<W>,
@@ -73,7 +73,8 @@ impl<W: Wait + Drop> Dispatcher<W> {
         pass
     }
 
-    /// Sleeps until something was posted since the last turn began, or until `Server::ring`. It may return for no reason.
+    /// Sleeps until something was posted since the last turn began, or until `Server::ring`. It may return for no
+    /// reason.
     pub fn rest<R: Wait>(&self, rt: &R, server: &Server<W>) {
         server.bells.await_dispatcher(rt, self.number);
     }

@@ -1,21 +1,25 @@
-//! The live server: clients refresh the warehouse and ask it while it changes, and dispatchers answer their questions in
-//! batches, each batch over one snapshot that was brought up to date before it.
+//! The live server: clients refresh the warehouse and ask it while it changes, and dispatchers answer their questions
+//! in batches, each batch over one snapshot that was brought up to date before it.
 //!
-//! **The headline.** There is one list of commits. Every client sees a beginning of it, which only grows; its own commits
-//! are in what it sees as soon as it is told of them, and every answer is what its question means after the first `at`
-//! commits of the list, for an `at` no less than the number of commits that the client had seen when it asked.
+//! **The headline.** There is one list of commits. Every client sees a beginning of it, which only grows; its own
+//! commits are in what it sees as soon as it is told of them, and every answer is what its question means after the
+//! first `at` commits of the list, for an `at` no less than the number of commits that the client had seen when it
+//! asked.
 //!
-//! Contracts see each client and dispatcher as a token (`specs/Clients.antt`, `specs/Ends.antt`); what a call does not name
-//! of it stays. Which clause says which part:
+//! Contracts see each client and dispatcher as a token (`specs/Clients.antt`, `specs/Ends.antt`); what a call does not
+//! name of it stays. Which clause says which part:
 //!
-//! - one list, and legal: `sound` of every call (`IsSound`: the history that the token has seen is legal, its own commits are
-//!   those of its number); it only grows: `begins` in what `refresh`, `ask`, `poll`, `meet` and `turn` say;
-//! - own commits: `Client::refresh`, clause `refreshed`: a receipt's number is the length of what is then seen, which ends
-//!   with the commit; a refusal is the one-thread warehouse's after what is then seen, and tells its length;
-//! - floors: `Client::ask`, clause `asked`; answers: `Client::poll` and `Client::await_answer`, clause `polled` (`IsRight`);
+//! - one list, and legal: `sound` of every call (`IsSound`: the history that the token has seen is legal, its own
+//!   commits are those of its number); it only grows: `begins` in what `refresh`, `ask`, `poll`, `meet` and `turn` say;
+//! - own commits: `Client::refresh`, clause `refreshed`: a receipt's number is the length of what is then seen, which
+//!   ends with the commit; a refusal is the one-thread warehouse's after what is then seen, and tells its length;
+//! - floors: `Client::ask`, clause `asked`; answers: `Client::poll` and `Client::await_answer`, clause `polled`
+//!   (`IsRight`);
 //! - what others have seen: `Client::meet`, clause `met`;
-//! - batches: `Dispatcher::turn`, clauses `turned` (idle, answered at the length of what is then seen, or given up) and `free`;
-//! - the beginning and the end: `open`, clauses `clients` and `dispatchers`; `Server::close`, clauses `whole`, `legal`, `seen`.
+//! - batches: `Dispatcher::turn`, clauses `turned` (idle, answered at the length of what is then seen, or given up) and
+//!   `free`;
+//! - the beginning and the end: `open`, clauses `clients` and `dispatchers`; `Server::close`, clauses `whole`, `legal`,
+//!   `seen`.
 //!
 //! ```text
 //! client ── refresh ─▶ row store ── log ─▶ copies of the columns ── scan ─▶ dispatcher ── answer ─▶ client
@@ -35,6 +39,7 @@ mod closing;
 mod dispatcher;
 mod grabbing;
 mod opening;
+mod pace;
 mod room;
 mod server;
 mod snapshot;

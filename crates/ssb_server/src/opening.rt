@@ -9,6 +9,7 @@ use crate::batch::{Batch, MOST_CLIENTS};
 use crate::bells::Bells;
 use crate::client::Client;
 use crate::dispatcher::Dispatcher;
+use crate::pace::Pace;
 use crate::room::Room;
 use crate::server::{Hall, Pass, Server};
 use crate::tickets::clients_of;
@@ -104,6 +105,7 @@ fn server_over<W: Wait + Drop>(
         clients,
         dispatchers,
         bells: Bells::new(alloc, clients, dispatchers)?,
+        pace: Pace::new(),
         alloc,
         room: Mutex::new(Room::new(alloc)?),
     })
@@ -198,9 +200,9 @@ fn build<W: Wait + Drop>(
     Ok(made)
 }
 
-/// Opens a server over a base, for 1 to 16 clients and 1 to 4 dispatchers. `rt` is the handle by which the writer of the
-/// columns waits, and `hashing` keys the map of orders. The client count is looked at first, then the dispatcher count; any
-/// fault hands the base back.
+/// Opens a server over a base, for 1 to 16 clients and 1 to 4 dispatchers. `rt` is the handle by which the writer of
+/// the columns waits, and `hashing` keys the map of orders. The client count is looked at first, then the dispatcher
+/// count; any fault hands the base back.
 pub fn open<W: Wait + Drop>(
     alloc: Global,
     rt: W,

@@ -2,6 +2,7 @@
 ghost use Rattle.std.specs.Prelude.{◌≡◌};
 
 use crate::bells::Bells;
+use crate::pace::Pace;
 use crate::room::Room;
 use dim_index::DimIndex;
 use fact_columns::Columns;
@@ -16,9 +17,9 @@ pub(crate) type Hall<W> = history::Shared<TwinWriter<Columns, W>>;
 /// The pass of a client or dispatcher to that table.
 pub(crate) type Pass<W> = history::Pass<TwinWriter<Columns, W>>;
 
-/// What clients and dispatchers share: the table, the index that the columns are coded by, and the places where they sleep.
-/// Contracts see the table: its name, the base, and how many clients and dispatchers there are. `W` is the handle by which
-/// the writer of the columns waits.
+/// What clients and dispatchers share: the table, the index that the columns are coded by, and the places where they
+/// sleep. Contracts see the table: its name, the base, and how many clients and dispatchers there are. `W` is the
+/// handle by which the writer of the columns waits.
 #[derive(Drop)]
 pub struct Server<W: Wait + Drop> {
     pub(crate) hall: Hall<W>,
@@ -26,6 +27,7 @@ pub struct Server<W: Wait + Drop> {
     pub(crate) clients: u32,
     pub(crate) dispatchers: u32,
     pub(crate) bells: Bells,
+    pub(crate) pace: Pace,
     pub(crate) alloc: Global,
     // For `close`. Passes may not be shared between threads, and behind a lock they are not; nobody takes it.
     pub(crate) room: Mutex<Room<W>>,

@@ -4,8 +4,11 @@ ghost use Rattle.row_store.specs.History.{IsPrefix, lines_after};
 ghost use Rattle.row_store.specs.State.{StandsFor};
 ghost use Rattle.history.specs.Tokens.{IsSound};
 ghost use Rattle.history.specs.Words.{IsCause};
-ghost use Rattle.ssb_server.specs.Turns.{IsDispatcher, HoldsNothing, HasFetched, Knows, StandsAt, Fetches, HasBeside, HasTaken, Appends, Follows, Misses};
+ghost use Rattle.ssb_server.specs.Turns.{IsDispatcher, HoldsNothing, HasFetched, Knows, StandsAt, Fetches, HasBeside};
+ghost use Rattle.ssb_server.specs.Turns.{HasTaken, Appends, Follows, Misses};
 
+use crate::bells::Bells;
+use crate::pace::Pace;
 use crate::server::{Hall, Pass};
 use fact_columns::Columns;
 use row_store::{Commit, Follower, Replica};
@@ -27,11 +30,14 @@ fn copy_of(alloc: Global, commits: &[Commit]) -> Result<Vec<Commit>, AllocError>
     Ok(copies)
 }
 
-// Takes the rows, copies the commits that the writer lacks, and gives the rows back as they were.
+// Takes the rows, copies the commits that the writer lacks, and gives the rows back as they were. Clients let it pass,
+// and keep near to these commits from then on.
 fn fetch<W: Wait + Drop, R: Wait>(
     rt: &R,
     alloc: Global,
     hall: &Hall<W>,
+    pace: &Pace,
+    bells: &Bells,
     pass: &mut Pass<W>,
     taken: u64,
 ) -> Result<Vec<Commit>, AllocError>
@@ -43,10 +49,13 @@ fn fetch<W: Wait + Drop, R: Wait>(
     ensures sound { IsSound pass.new }
     ensures few { length (lines_after pass.new.hall.base pass.new.seen) ≤ pass.new.hall.base.limits.lines }
 {
+    pace.hold();
     let rows = hall.take_rows(rt, pass);
+    pace.begin(rows.len() as u64);
     let commits = copy_of(alloc, rows.log_from(taken as usize));
     let _ = rows.line_count();
     hall.put_rows(pass, rows);
+    bells.ring_clients();
     commits
 }
 
@@ -70,7 +79,12 @@ fn append_all<W: Wait + Drop>(
 fn publish_pending<W: Wait + Drop>(
     writer: TwinWriter<Columns, W>,
 ) -> (TwinWriter<Columns, W>, Result<(), AllocError>)
-    ensures { MatchResult result.1 (λ _. result.0 ≡ record { base = writer.base; published = writer.published ++ writer.pending; pending = [] }) (λ _. result.0 ≡ writer) }
+    ensures { MatchResult result.1 (λ _. result.0 ≡ record {
+      base = writer.base;
+      published = writer.published
+          ++ writer.pending;
+      pending = [];
+    }) (λ _. result.0 ≡ writer) }
 {
     if writer.pending() == 0 {
         return (writer, Ok(()));
@@ -86,7 +100,8 @@ fn enter<W: Wait + Drop, R: Wait>(
 ) -> Result<Guard<Columns>, Missed>
     requires { Knows writer.old.base writer.old.published reader }
     ensures kept { writer.new ≡ writer.old }
-    ensures entered { MatchResult result (StandsAt writer.old.base writer.old.published) (Misses writer.old.base writer.old.published) }
+    ensures entered { MatchResult result (StandsAt writer.old.base writer.old.published)
+        (Misses writer.old.base writer.old.published) }
 {
     let told = writer.told();
     let Ok(note) = writer.tell() else {
@@ -107,7 +122,8 @@ fn renew<W: Wait + Drop>(
     commits: Vec<Commit>,
 ) -> (TwinWriter<Columns, W>, Result<(), AllocError>)
     ensures { let all = writer.published ++ writer.pending ++ commits.items in
-        MatchResult result.1 (λ _. result.0 ≡ record { base = writer.base; published = all; pending = [] }) (λ _. Follows writer.base all result.0) }
+        MatchResult result.1 (λ _. result.0 ≡ record { base = writer.base; published = all; pending = [] })
+        (λ _. Follows writer.base all result.0) }
 {
     match append_all(&mut writer, commits) {
         Ok(()) => publish_pending(writer),
@@ -124,7 +140,8 @@ fn catch_up<W: Wait + Drop, R: Wait>(
 ) -> (TwinWriter<Columns, W>, Result<Guard<Columns>, Missed>)
     requires { Knows writer.base (writer.published ++ writer.pending ++ commits.items) reader }
     ensures writer { Follows writer.base (writer.published ++ writer.pending ++ commits.items) result.0 }
-    ensures entered { let all = writer.published ++ writer.pending ++ commits.items in MatchResult result.1 (StandsAt writer.base all) (Misses writer.base all) }
+    ensures entered { let all = writer.published ++ writer.pending ++ commits.items in
+        MatchResult result.1 (StandsAt writer.base all) (Misses writer.base all) }
 {
     let (mut writer, renewed) = renew(writer, commits);
     if renewed.is_err() {
@@ -139,6 +156,8 @@ fn bring_up<W: Wait + Drop, R: Wait>(
     rt: &R,
     alloc: Global,
     hall: &Hall<W>,
+    pace: &Pace,
+    bells: &Bells,
     pass: &mut Pass<W>,
     writer: TwinWriter<Columns, W>,
     reader: TwinReader<Columns>,
@@ -151,10 +170,11 @@ fn bring_up<W: Wait + Drop, R: Wait>(
     ensures sound { IsSound pass.new }
     ensures few { length (lines_after pass.new.hall.base pass.new.seen) ≤ pass.new.hall.base.limits.lines }
     ensures writer { Follows pass.new.hall.base pass.new.seen result.0 }
-    ensures entered { MatchResult result.1 (StandsAt pass.new.hall.base pass.new.seen) (Misses pass.new.hall.base pass.new.seen) }
+    ensures entered { MatchResult result.1 (StandsAt pass.new.hall.base pass.new.seen)
+        (Misses pass.new.hall.base pass.new.seen) }
 {
     let taken = writer.taken();
-    match fetch(rt, alloc, hall, pass, taken) {
+    match fetch(rt, alloc, hall, pace, bells, pass, taken) {
         Ok(commits) => catch_up(rt, writer, commits, reader),
         Err(_) => (writer, Err((reader, Unserved::OutOfMemory))),
     }
@@ -165,6 +185,8 @@ pub(crate) fn snapshot<W: Wait + Drop, R: Wait>(
     rt: &R,
     alloc: Global,
     hall: &Hall<W>,
+    pace: &Pace,
+    bells: &Bells,
     pass: &mut Pass<W>,
     reader: TwinReader<Columns>,
 ) -> Result<Guard<Columns>, Missed>
@@ -174,10 +196,11 @@ pub(crate) fn snapshot<W: Wait + Drop, R: Wait>(
     ensures fetched { HasFetched pass.old pass.new }
     ensures sound { IsSound pass.new }
     ensures few { length (lines_after pass.new.hall.base pass.new.seen) ≤ pass.new.hall.base.limits.lines }
-    ensures entered { MatchResult result (StandsAt pass.new.hall.base pass.new.seen) (Misses pass.new.hall.base pass.new.seen) }
+    ensures entered { MatchResult result (StandsAt pass.new.hall.base pass.new.seen)
+        (Misses pass.new.hall.base pass.new.seen) }
 {
     let writer = hall.take_writer(rt, pass);
-    let (writer, entered) = bring_up(rt, alloc, hall, pass, writer, reader);
+    let (writer, entered) = bring_up(rt, alloc, hall, pace, bells, pass, writer, reader);
     hall.put_writer(pass, writer);
     entered
 }

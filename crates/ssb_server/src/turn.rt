@@ -55,7 +55,8 @@ fn finish<W: Wait + Drop>(
     requires hand { Keeps batch.old pass.old.grabbed }
     requires some { 0 < length batch.old.clients }
     requires at { (at ≡ length pass.old.seen) × (pass.old.version ≡ Some at) }
-    requires rows { IfOk scanned (λ rows. rows.items ≡ answers_after pass.old.hall.base pass.old.seen batch.old.questions) }
+    requires rows { IfOk scanned (λ rows. rows.items ≡ answers_after pass.old.hall.base pass.old.seen
+        batch.old.questions) }
     ensures finished { Finishes pass.old result pass.new }
     ensures empty { batch.new ≡ no_hand }
     ensures hand { Keeps no_hand pass.new.grabbed }
@@ -93,7 +94,15 @@ fn serve<W: Wait + Drop, R: Wait + Threads + Sync, G: ScanGate>(
     ensures empty { batch.new ≡ no_hand }
     ensures hand { Keeps no_hand pass.new.grabbed }
 {
-    match snapshot(rt, server.alloc, &server.hall, pass, reader) {
+    match snapshot(
+        rt,
+        server.alloc,
+        &server.hall,
+        &server.pace,
+        &server.bells,
+        pass,
+        reader,
+    ) {
         Ok(guard) => {
             let at = pass.seen_len();
             gate.scanning(at);
@@ -140,5 +149,7 @@ pub(crate) fn take_turn<W: Wait + Drop, R: Wait + Threads + Sync, G: ScanGate>(
     if batch.len() == 0 {
         return (reader, Turn::Idle);
     }
-    serve(rt, server, gate, pass, batch, reader)
+    let served = serve(rt, server, gate, pass, batch, reader);
+    server.pace.end(&server.bells);
+    served
 }

@@ -1,5 +1,35 @@
 -- A client alone: what it has made is what it sees, so its replies are the one-thread warehouse's.
-use Rattle.std.proofs.Common.{◌≡◌, ◌≢◌, ℕ, ◌+◌, ◌==◌, not, true, false, suc, List, [], ◌∷◌, ◌++◌, length, take, Some, None, Result, Ok, Err, refl, sym, ◌∙◌, ap, subst, inl, inr, length-append, arith}
+use Rattle.std.proofs.Common.{
+  ◌≡◌,
+  ◌≢◌,
+  ℕ,
+  ◌+◌,
+  ◌==◌,
+  not,
+  true,
+  false,
+  suc,
+  List,
+  [],
+  ◌∷◌,
+  ◌++◌,
+  length,
+  take,
+  Some,
+  None,
+  Result,
+  Ok,
+  Err,
+  refl,
+  sym,
+  ◌∙◌,
+  ap,
+  subst,
+  inl,
+  inr,
+  length-append,
+  arith,
+}
 use Rattle.std.proofs.lemmas.Bool.Decides.{nat_tests}
 use Rattle.std.proofs.lemmas.List.{append_cancel_right, take_all}
 use Rattle.ssb_schema.specs.declared.refresh.Action.{Action}
@@ -37,7 +67,8 @@ all_of_one [] named = refl
 all_of_one (commit ∷ history) named =
     let bounds = named.named 0 commit refl in
     let is : (commit.client == 1) ≡ true = grind (arith, nat_tests, bounds.0, bounds.1) in
-    rw is (ap (λ t. commit ∷ t) (all_of_one history (record { named = λ place other at. named.named (suc place) other at })))
+    rw is (ap (λ t. commit ∷ t) (all_of_one history (record
+    { named = λ place other at. named.named (suc place) other at })))
 
 -- what it has made is what it sees
 pub alone_sees : (t : Token) → IsAlone t → IsSound t → t.mine ≡ t.seen
@@ -46,44 +77,63 @@ alone_sees t alone sound =
     ∙ all_of_one t.seen (subst (λ clients. IsOfClients clients t.seen) alone.clients sound.named)
 
 pub alone_still : (before after : Token) → AreAlike before after → IsAlone before → IsAlone after
-alone_still before after alike alone = record { who = alike.who ∙ alone.who; clients = ap (λ hall. hall.clients) alike.hall ∙ alone.clients }
+alone_still before after alike alone = record {
+  who = alike.who ∙ alone.who;
+  clients = ap (λ hall. hall.clients) alike.hall ∙ alone.clients;
+}
 
 -- a receipt tells the number of commits then
-committed_reply : (number : ℕ) (history : List CommitRecord) (actions : List Action) (receipt : Receipt) → receipt.number ≡ length history + 1
+committed_reply : (number : ℕ) (history : List CommitRecord) (actions : List Action) (receipt : Receipt)
+    → receipt.number ≡ length history + 1
     → Ok receipt ≡ reply_at (length history) None
 committed_reply number history actions receipt is = ap (λ n. Ok (record { number = n })) is
 
 -- the reply to a refresh
 pub refreshed_reply : (before after : Token) (actions : List Action) (reply : Result Receipt RefreshError)
-    → client.Refreshed before 1 actions reply after → IsAlone after → IsSound after → IsRefreshReply before.hall.base before.mine actions reply
+    → client.Refreshed before 1 actions reply after → IsAlone after → IsSound after
+    → IsRefreshReply before.hall.base before.mine actions reply
 refreshed_reply before after actions (Ok receipt) refreshed alone sound =
     let commit : CommitRecord = record { client = 1; actions = actions } in
     let same : before.mine ++ commit ∷ [] ≡ refreshed.history ++ commit ∷ [] =
-    sym (ap (λ (t : Token). t.mine) refreshed.now) ∙ alone_sees after alone sound ∙ ap (λ (t : Token). t.seen) refreshed.now in
-    let history : before.mine ≡ refreshed.history = append_cancel_right before.mine refreshed.history (commit ∷ []) same in
+    sym (ap (λ (t : Token). t.mine) refreshed.now) ∙ alone_sees after alone sound
+    ∙ ap (λ (t : Token). t.seen) refreshed.now in
+    let history : before.mine ≡ refreshed.history = append_cancel_right before.mine refreshed.history (commit ∷ []) same
+    in
     let number : receipt.number ≡ length before.mine + 1 =
-    refreshed.number_is ∙ ap (λ (t : Token). length t.seen) refreshed.now ∙ ap length (sym same) ∙ length-append before.mine (commit ∷ []) in
-    let accepted : refusal_of before.hall.base before.mine actions ≡ None = ap (λ h. refusal_of before.hall.base h actions) history ∙ refreshed.accepted in
-    inl (committed_reply receipt.number before.mine actions receipt number ∙ ap (λ r. reply_at (length before.mine) r) (sym accepted))
+    refreshed.number_is ∙ ap (λ (t : Token). length t.seen) refreshed.now ∙ ap length (sym same)
+    ∙ length-append before.mine (commit ∷ []) in
+    let accepted : refusal_of before.hall.base before.mine actions ≡ None =
+    ap (λ h. refusal_of before.hall.base h actions) history ∙ refreshed.accepted in
+    inl (committed_reply receipt.number before.mine actions receipt number
+    ∙ ap (λ r. reply_at (length before.mine) r) (sym accepted))
 refreshed_reply before after actions (Err (refusal.Refused at action cause)) refreshed alone sound =
     let looks = refreshed.2 in
     let seen : after.seen ≡ before.mine = sym (alone_sees after alone sound) ∙ ap (λ (t : Token). t.mine) looks.now in
     let base : after.hall.base ≡ before.hall.base = ap (λ (t : Token). t.hall.base) looks.now in
     let refused : refusal_of before.hall.base before.mine actions ≡ Some (record { action = action; cause = cause }) =
-    ap (λ b. refusal_of b before.mine actions) (sym base) ∙ ap (λ h. refusal_of after.hall.base h actions) (sym seen) ∙ refreshed.1 in
-    inl (ap (λ n. Err (refusal.Refused n action cause)) (refreshed.0 ∙ ap length seen) ∙ ap (λ r. reply_at (length before.mine) r) (sym refused))
+    ap (λ b. refusal_of b before.mine actions) (sym base) ∙ ap (λ h. refusal_of after.hall.base h actions) (sym seen)
+    ∙ refreshed.1 in
+    inl (ap (λ n. Err (refusal.Refused n action cause)) (refreshed.0 ∙ ap length seen)
+    ∙ ap (λ r. reply_at (length before.mine) r) (sym refused))
 refreshed_reply before after actions (Err refusal.OutOfMemory) refreshed alone sound =
     let looks = refreshed.1 in
     let seen : after.seen ≡ before.mine = sym (alone_sees after alone sound) ∙ ap (λ (t : Token). t.mine) looks.now in
     let base : after.hall.base ≡ before.hall.base = ap (λ (t : Token). t.hall.base) looks.now in
-    inr (refl, ap (λ b. refusal_of b before.mine actions) (sym base) ∙ ap (λ h. refusal_of after.hall.base h actions) (sym seen) ∙ refreshed.0)
+    inr (
+      refl,
+      ap (λ b. refusal_of b before.mine actions) (sym base)
+          ∙ ap (λ h. refusal_of after.hall.base h actions) (sym seen) ∙ refreshed.0,
+    )
 
 -- its own commits then
 pub refreshed_own : (before after : Token) (actions : List Action) (reply : Result Receipt RefreshError)
-    → client.Refreshed before 1 actions reply after → own after ≡ with_commits (own before) (committed_by 1 (Refresh actions) (Refreshed reply))
+    → client.Refreshed before 1 actions reply after → own after ≡ with_commits (own before)
+    (committed_by 1 (Refresh actions) (Refreshed reply))
 refreshed_own before after actions (Ok receipt) refreshed = ap own refreshed.now
-refreshed_own before after actions (Err (refusal.Refused at action cause)) refreshed = ap own refreshed.2.now ∙ sym (with_none (own before))
-refreshed_own before after actions (Err refusal.OutOfMemory) refreshed = ap own refreshed.1.now ∙ sym (with_none (own before))
+refreshed_own before after actions (Err (refusal.Refused at action cause)) refreshed =
+    ap own refreshed.2.now ∙ sym (with_none (own before))
+refreshed_own before after actions (Err refusal.OutOfMemory) refreshed =
+    ap own refreshed.1.now ∙ sym (with_none (own before))
 
 -- a cause that a dispatcher may tell
 told_apart : (told found : ℕ) → told ≢ found → not (told == found) ≡ true
@@ -99,42 +149,66 @@ record Stays (before asking after : Token) : Type 0 where
   asked : asking.seen ≡ before.mine
   answered : after.seen ≡ before.mine
 
-stays : (before asking after : Token) (question : Named × List Value) (answer : Answer) → client.Asks before question asking → client.Polls asking answer after
+stays : (before asking after : Token) (question : Named × List Value) (answer : Answer)
+    → client.Asks before question asking → client.Polls asking answer after
     → IsAlone before → IsSound asking → IsSound after → Stays before asking after
 stays before asking after question answer asked polled alone sound ended =
-    let one : IsAlone asking = record { who = ap (λ (t : Token). t.who) asked.now ∙ alone.who; clients = ap (λ (t : Token). t.hall.clients) asked.now ∙ alone.clients } in
-    let two : IsAlone after = record { who = ap (λ (t : Token). t.who) polled.now ∙ one.who; clients = ap (λ (t : Token). t.hall.clients) polled.now ∙ one.clients } in
+    let one : IsAlone asking = record {
+      who = ap (λ (t : Token). t.who) asked.now ∙ alone.who;
+      clients = ap (λ (t : Token). t.hall.clients) asked.now ∙ alone.clients;
+    } in
+    let two : IsAlone after = record {
+      who = ap (λ (t : Token). t.who) polled.now ∙ one.who;
+      clients = ap (λ (t : Token). t.hall.clients) polled.now ∙ one.clients;
+    } in
     record {
       base = ap (λ (t : Token). t.hall.base) asked.now;
       asked = sym (alone_sees asking one sound) ∙ ap (λ (t : Token). t.mine) asked.now;
-      answered = sym (alone_sees after two ended) ∙ ap (λ (t : Token). t.mine) polled.now ∙ ap (λ (t : Token). t.mine) asked.now;
+      answered = sym (alone_sees after two ended) ∙ ap (λ (t : Token). t.mine) polled.now
+          ∙ ap (λ (t : Token). t.mine) asked.now;
     }
 
 -- an answer that is right within the floor and the whole history is the warehouse's
-right_answer : (before asking after : Token) (question : Named × List Value) (answer : Answer) (asked : Asked) → Stays before asking after
-    → asked ≡ request question (length asking.seen) → IsRight asking.hall.base after.seen asked answer → IsAnswer may_be_told (own before) question answer
+right_answer : (before asking after : Token) (question : Named × List Value) (answer : Answer) (asked : Asked)
+    → Stays before asking after
+    → asked ≡ request question (length asking.seen) → IsRight asking.hall.base after.seen asked answer
+    → IsAnswer may_be_told (own before) question answer
 right_answer before asking after question (Rows query at rows) asked stays was right =
     let query_is : query ≡ question = right.0 ∙ ap (λ (a : Asked). a.query) was in
-    let at_is : at ≡ length before.mine = omega (arith, right.1, right.2, ap (λ (a : Asked). a.floor) was, ap length stays.asked, ap length stays.answered) in
-    let all : take at after.seen ≡ before.mine = take_all at after.seen (omega (arith, at_is, ap length stays.answered)) ∙ stays.answered in
+    let at_is : at ≡ length before.mine = omega (
+      arith,
+      right.1,
+      right.2,
+      ap (λ (a : Asked). a.floor) was,
+      ap length stays.asked,
+      ap length stays.answered,
+    ) in
+    let all : take at after.seen ≡ before.mine = take_all at after.seen (omega (arith, at_is, ap length stays.answered))
+    ∙ stays.answered in
     let rows_are : rows ≡ rows_after before.hall.base question before.mine =
     right.3 ∙ ap (λ h. rows_after asking.hall.base query h) all ∙ ap (λ b. rows_after b query before.mine) stays.base
     ∙ ap (λ q. rows_after before.hall.base q before.mine) query_is in
-    ap (λ q. Rows q at rows) query_is ∙ ap (λ n. Rows question n rows) at_is ∙ ap (λ r. Rows question (length before.mine) r) rows_are
+    ap (λ q. Rows q at rows) query_is ∙ ap (λ n. Rows question n rows) at_is
+    ∙ ap (λ r. Rows question (length before.mine) r) rows_are
 right_answer before asking after question (Unserved query cause) asked stays was right =
     (right.0 ∙ ap (λ (a : Asked). a.query) was, cause_may cause right.1)
 
 -- the answer to a question
-pub answered_reply : (before asking after : Token) (question : Named × List Value) (answer : Answer) → client.Asks before question asking → client.Polls asking answer after
+pub answered_reply : (before asking after : Token) (question : Named × List Value) (answer : Answer)
+    → client.Asks before question asking → client.Polls asking answer after
     → IsAlone before → IsSound asking → IsSound after → IsAnswer may_be_told (own before) question answer
 answered_reply before asking after question answer asked polled alone sound ended =
     let was : polled.asked ≡ request question (length asking.seen) =
-    some_injective polled.asked (request question (length asking.seen)) (sym polled.was ∙ ap (λ (t : Token). t.asked) asked.now) in
-    right_answer before asking after question answer polled.asked (stays before asking after question answer asked polled alone sound ended) was polled.right
+    some_injective polled.asked (request question (length asking.seen))
+    (sym polled.was ∙ ap (λ (t : Token). t.asked) asked.now) in
+    right_answer before asking after question answer polled.asked
+    (stays before asking after question answer asked polled alone sound ended) was polled.right
 
-pub answered_own : (before asking after : Token) (question : Named × List Value) (answer : Answer) → client.Asks before question asking → client.Polls asking answer after
+pub answered_own : (before asking after : Token) (question : Named × List Value) (answer : Answer)
+    → client.Asks before question asking → client.Polls asking answer after
     → own after ≡ with_commits (own before) (committed_by 1 (Ask question) (Answered answer))
-answered_own before asking after question answer asked polled = ap own polled.now ∙ ap own asked.now ∙ sym (with_none (own before))
+answered_own before asking after question answer asked polled =
+    ap own polled.now ∙ ap own asked.now ∙ sym (with_none (own before))
 
 -- a turn leaves a dispatcher at its table
 pub turn_stays : (before after : Token) (turn : Turn) → Turned before turn after → after.hall ≡ before.hall

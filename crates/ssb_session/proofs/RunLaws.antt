@@ -1,5 +1,32 @@
 -- What clients were told is a legal trace.
-use Rattle.std.proofs.Common.{◌≡◌, ◌≢◌, ℕ, ◌≤◌, zero, suc, List, [], ◌∷◌, ◌++◌, length, take, flat_map, Some, None, Result, Ok, Err, refl, sym, ◌∙◌, ap, subst, append-nil, length-append, arith}
+use Rattle.std.proofs.Common.{
+  ◌≡◌,
+  ◌≢◌,
+  ℕ,
+  ◌≤◌,
+  zero,
+  suc,
+  List,
+  [],
+  ◌∷◌,
+  ◌++◌,
+  length,
+  take,
+  flat_map,
+  Some,
+  None,
+  Result,
+  Ok,
+  Err,
+  refl,
+  sym,
+  ◌∙◌,
+  ap,
+  subst,
+  append-nil,
+  length-append,
+  arith,
+}
 use Rattle.std.specs.Prelude.{slice_get}
 use Rattle.std.specs.List.{AllByRecursion}
 use Rattle.std.proofs.lemmas.List.{take-append-le}
@@ -28,10 +55,12 @@ use Rattle.ssb_session.specs.Served.{IsAnswered, IsServed, AreServed, told_of}
 use Rattle.ssb_session.specs.Runs.{IsTold, AreTold, RunsAreLegal}
 
 -- what is true of the first commits is true of all
-true_longer : (base : Tables) (shorter longer : List CommitRecord) (told : Told) → IsPrefix shorter longer → IsTrueOf base shorter told → IsTrueOf base longer told
+true_longer : (base : Tables) (shorter longer : List CommitRecord) (told : Told) → IsPrefix shorter longer
+    → IsTrueOf base shorter told → IsTrueOf base longer told
 true_longer base shorter longer told begins is = record {
   within = omega (arith, is.within, ap length begins.whole, length-append shorter begins.rest);
-  rows = is.rows ∙ ap (λ h. rows_after base h told) (sym (ap (take told.at) begins.whole ∙ take-append-le told.at shorter begins.rest is.within));
+  rows = is.rows ∙ ap (λ h. rows_after base h told) (sym
+      (ap (take told.at) begins.whole ∙ take-append-le told.at shorter begins.rest is.within));
 }
 
 longer_length : (shorter longer : List CommitRecord) → IsPrefix shorter longer → length shorter ≤ length longer
@@ -43,7 +72,10 @@ record Goes (before after : Token) : Type 0 where
   begins : IsPrefix before.seen after.seen
 
 goes_on : (a b c : Token) → Goes a b → Goes b c → Goes a c
-goes_on a b c first second = record { hall = second.hall ∙ first.hall; begins = prefix_trans a.seen b.seen c.seen first.begins second.begins }
+goes_on a b c first second = record {
+  hall = second.hall ∙ first.hall;
+  begins = prefix_trans a.seen b.seen c.seen first.begins second.begins;
+}
 
 goes_nowhere : (a : Token) → Goes a a
 goes_nowhere a = record { hall = refl; begins = record { rest = []; whole = sym (append-nil a.seen) } }
@@ -54,28 +86,35 @@ record IsBetween (base : Tables) (number : ℕ) (before after : Token) (told : T
   since : length before.seen ≤ told.at
   is_true : IsTrueOf base after.seen told
 
-refreshed_goes : (before : Token) (number : ℕ) (actions : List Action) (reply : Result Receipt RefreshError) (after : Token)
+refreshed_goes : (before : Token) (number : ℕ) (actions : List Action) (reply : Result Receipt RefreshError)
+    (after : Token)
     → client.Refreshed before number actions reply after → Goes before after
 refreshed_goes before number actions (Ok receipt) after refreshed = record {
   hall = ap (λ (t : Token). t.hall) refreshed.now;
-  begins = subst (IsPrefix before.seen) (sym (ap (λ (t : Token). t.seen) refreshed.now)) (prefix_longer before.seen refreshed.history _ refreshed.begins);
+  begins = subst (IsPrefix before.seen) (sym (ap (λ (t : Token). t.seen) refreshed.now))
+      (prefix_longer before.seen refreshed.history _ refreshed.begins);
 }
-refreshed_goes before number actions (Err (refusal.Refused at action cause)) after refreshed = record { hall = ap (λ (t : Token). t.hall) refreshed.2.now; begins = refreshed.2.begins }
-refreshed_goes before number actions (Err refusal.OutOfMemory) after refreshed = record { hall = ap (λ (t : Token). t.hall) refreshed.1.now; begins = refreshed.1.begins }
+refreshed_goes before number actions (Err (refusal.Refused at action cause)) after refreshed =
+    record { hall = ap (λ (t : Token). t.hall) refreshed.2.now; begins = refreshed.2.begins }
+refreshed_goes before number actions (Err refusal.OutOfMemory) after refreshed =
+    record { hall = ap (λ (t : Token). t.hall) refreshed.1.now; begins = refreshed.1.begins }
 
-answered_goes : (before : Token) (question : Query × List Value) (answer : Answer) (after : Token) → IsAnswered before question answer after → Goes before after
+answered_goes : (before : Token) (question : Query × List Value) (answer : Answer) (after : Token)
+    → IsAnswered before question answer after → Goes before after
 answered_goes before question answer after answered = goes_on before answered.asking after
     (record { hall = ap (λ (t : Token). t.hall) answered.asked.now; begins = answered.asked.begins })
     (record { hall = ap (λ (t : Token). t.hall) answered.polled.now; begins = answered.polled.begins })
 
 -- rows that a client was told
-rows_between : (base : Tables) (number : ℕ) (before : Token) (question asked_for : Query × List Value) (at : ℕ) (rows : _) (after : Token) → before.hall.base ≡ base
+rows_between : (base : Tables) (number : ℕ) (before : Token) (question asked_for : Query × List Value) (at : ℕ)
+    (rows : _) (after : Token) → before.hall.base ≡ base
     → IsAnswered before question (Rows asked_for at rows) after
     → IsBetween base number before after (record { client = number; at = at; question = asked_for; rows = rows })
 rows_between base number before question asked_for at rows after over answered =
     let asking = answered.asking in
     let right = answered.polled.right in
-    let was : Some answered.polled.asked ≡ Some (request question (length asking.seen)) = sym answered.polled.was ∙ ap (λ (t : Token). t.asked) answered.asked.now in
+    let was : Some answered.polled.asked ≡ Some (request question (length asking.seen)) =
+    sym answered.polled.was ∙ ap (λ (t : Token). t.asked) answered.asked.now in
     let floor : answered.polled.asked.floor ≡ length asking.seen = floor_of was in
     let over_asking : asking.hall.base ≡ base = ap (λ (t : Token). t.hall.base) answered.asked.now ∙ over in
     record {
@@ -83,7 +122,8 @@ rows_between base number before question asked_for at rows after over answered =
       since = omega (arith, right.1, floor, longer_length before.seen asking.seen answered.asked.begins);
       is_true = record {
         within = right.2;
-        rows = subst (λ b. rows ≡ rows_after b (take at after.seen) (record { client = number; at = at; question = asked_for; rows = rows })) over_asking right.3;
+        rows = subst (λ b. rows ≡ rows_after b (take at after.seen)
+            (record { client = number; at = at; question = asked_for; rows = rows })) over_asking right.3;
       };
     }
   where
@@ -91,30 +131,37 @@ rows_between base number before question asked_for at rows after over answered =
     floor_of e = cc
 
 -- a request goes on, and what it told is between
-one_goes : (number : ℕ) (before : Token) (request : Request) (reply : Reply) (after : Token) → IsServed number before request reply after → Goes before after
-one_goes number before (Refresh actions) (Refreshed reply) after served = refreshed_goes before number actions reply after served
+one_goes : (number : ℕ) (before : Token) (request : Request) (reply : Reply) (after : Token)
+    → IsServed number before request reply after → Goes before after
+one_goes number before (Refresh actions) (Refreshed reply) after served =
+    refreshed_goes before number actions reply after served
 one_goes number before (Ask question) (Answered answer) after served = answered_goes before question answer after served
 one_goes number before (Refresh actions) (Answered answer) after served = absurd served
 one_goes number before (Ask question) (Refreshed reply) after served = absurd served
 
-one_told : (base : Tables) (number : ℕ) (before : Token) (request : Request) (reply : Reply) (after : Token) → before.hall.base ≡ base → IsServed number before request reply after
+one_told : (base : Tables) (number : ℕ) (before : Token) (request : Request) (reply : Reply) (after : Token)
+    → before.hall.base ≡ base → IsServed number before request reply after
     → AllByRecursion (IsBetween base number before after) (told_of number reply)
 one_told base number before (Refresh actions) (Refreshed reply) after over served = tt
-one_told base number before (Ask question) (Answered (Rows asked_for at rows)) after over served = (rows_between base number before question asked_for at rows after over served, tt)
+one_told base number before (Ask question) (Answered (Rows asked_for at rows)) after over served =
+    (rows_between base number before question asked_for at rows after over served, tt)
 one_told base number before (Ask question) (Answered (Unserved asked_for cause)) after over served = tt
 one_told base number before (Refresh actions) (Answered answer) after over served = absurd served
 one_told base number before (Ask question) (Refreshed reply) after over served = absurd served
 
 -- lists of answers
-all_append : {X : Type 0} (P : X → Type 0) (xs ys : List X) → AllByRecursion P xs → AllByRecursion P ys → AllByRecursion P (xs ++ ys)
+all_append : {X : Type 0} (P : X → Type 0) (xs ys : List X) → AllByRecursion P xs → AllByRecursion P ys
+    → AllByRecursion P (xs ++ ys)
 all_append P [] ys first second = second
 all_append P (x ∷ xs) ys first second = (first.0, all_append P xs ys first.1 second)
 
-all_weaken : {X : Type 0} (P Q : X → Type 0) (xs : List X) → ((x : X) → P x → Q x) → AllByRecursion P xs → AllByRecursion Q xs
+all_weaken : {X : Type 0} (P Q : X → Type 0) (xs : List X) → ((x : X) → P x → Q x) → AllByRecursion P xs
+    → AllByRecursion Q xs
 all_weaken P Q [] more all = tt
 all_weaken P Q (x ∷ xs) more all = (more x all.0, all_weaken P Q xs more all.1)
 
-all_at : {X : Type 0} (P : X → Type 0) (xs : List X) (i : ℕ) (x : X) → AllByRecursion P xs → slice_get xs i ≡ Some x → P x
+all_at : {X : Type 0} (P : X → Type 0) (xs : List X) (i : ℕ) (x : X) → AllByRecursion P xs → slice_get xs i ≡ Some x
+    → P x
 all_at P [] i x all at = absurd (cc_none at)
   where
     cc_none : None ≡ Some x → ⊥
@@ -133,9 +180,13 @@ abbrev Orderly : List Told → Type 0
 Orderly [] = Unit {0}
 Orderly (told ∷ later) = AllByRecursion (IsNoEarlier told) later × Orderly later
 
-orderly_append : (xs ys : List Told) → Orderly xs → Orderly ys → AllByRecursion (λ x. AllByRecursion (IsNoEarlier x) ys) xs → Orderly (xs ++ ys)
+orderly_append : (xs ys : List Told) → Orderly xs → Orderly ys
+    → AllByRecursion (λ x. AllByRecursion (IsNoEarlier x) ys) xs → Orderly (xs ++ ys)
 orderly_append [] ys first second across = second
-orderly_append (x ∷ xs) ys first second across = (all_append (IsNoEarlier x) xs ys first.0 across.0, orderly_append xs ys first.1 second across.1)
+orderly_append (x ∷ xs) ys first second across = (
+  all_append (IsNoEarlier x) xs ys first.0 across.0,
+  orderly_append xs ys first.1 second across.1,
+)
 
 never_back : (answers : List Told) → Orderly answers → NeverGoBack answers
 never_back [] orderly i j earlier later lt at_i at_j same = absurd (cc_none at_i)
@@ -144,7 +195,8 @@ never_back [] orderly i j earlier later lt at_i at_j same = absurd (cc_none at_i
     cc_none e = cc
 never_back (told ∷ answers) orderly i zero earlier later lt at_i at_j same = absurd (omega (arith, lt))
 never_back (told ∷ answers) orderly zero (suc j) earlier later lt at_i at_j same =
-    all_at (IsNoEarlier earlier) answers j later (subst (λ t. AllByRecursion (IsNoEarlier t) answers) (some_is at_i) orderly.0) at_j same
+    all_at (IsNoEarlier earlier) answers j later (subst (λ t. AllByRecursion (IsNoEarlier t) answers) (some_is at_i)
+    orderly.0) at_j same
   where
     some_is : Some told ≡ Some earlier → told ≡ earlier
     some_is e = cc
@@ -162,9 +214,12 @@ record AreBetween (base : Tables) (number : ℕ) (before after : Token) (told : 
   each : AllByRecursion (IsBetween base number before after) told
   orderly : Orderly told
 
-are_between : (base : Tables) (number : ℕ) (before after : Token) (requests : List Request) (replies : List Reply) → before.hall.base ≡ base
-    → AreServed number before requests replies after → AreBetween base number before after (flat_map (told_of number) replies)
-are_between base number before after [] [] over served = record { goes = subst (Goes before) (sym served) (goes_nowhere before); each = tt; orderly = tt }
+are_between : (base : Tables) (number : ℕ) (before after : Token) (requests : List Request) (replies : List Reply)
+    → before.hall.base ≡ base
+    → AreServed number before requests replies after → AreBetween base number before after
+    (flat_map (told_of number) replies)
+are_between base number before after [] [] over served =
+    record { goes = subst (Goes before) (sym served) (goes_nowhere before); each = tt; orderly = tt }
 are_between base number before after [] (reply ∷ replies) over served = absurd served
 are_between base number before after (request ∷ requests) [] over served = absurd served
 are_between base number before after (request ∷ requests) (reply ∷ replies) over served =
@@ -177,12 +232,21 @@ are_between base number before after (request ∷ requests) (reply ∷ replies) 
       goes = goes_on before between after first rest.goes;
       each = all_append (IsBetween base number before after) (told_of number reply) (flat_map (told_of number) replies)
           (all_weaken (IsBetween base number before between) (IsBetween base number before after) (told_of number reply)
-          (λ told is. record { client = is.client; since = is.since; is_true = true_longer base between.seen after.seen told rest.goes.begins is.is_true }) head)
-          (all_weaken (IsBetween base number between after) (IsBetween base number before after) (flat_map (told_of number) replies)
-          (λ told is. record { client = is.client; since = omega (arith, earlier, is.since); is_true = is.is_true }) rest.each);
-      orderly = orderly_append (told_of number reply) (flat_map (told_of number) replies) (one_orderly number reply) rest.orderly
-          (all_weaken (IsBetween base number before between) (λ x. AllByRecursion (IsNoEarlier x) (flat_map (told_of number) replies)) (told_of number reply)
-          (λ told is. all_weaken (IsBetween base number between after) (IsNoEarlier told) (flat_map (told_of number) replies)
+          (λ told is. record {
+            client = is.client;
+            since = is.since;
+            is_true = true_longer base between.seen after.seen told rest.goes.begins is.is_true;
+          }) head)
+          (all_weaken (IsBetween base number between after) (IsBetween base number before after)
+          (flat_map (told_of number) replies)
+          (λ told is. record { client = is.client; since = omega (arith, earlier, is.since); is_true = is.is_true })
+          rest.each);
+      orderly = orderly_append (told_of number reply) (flat_map (told_of number) replies) (one_orderly number reply)
+          rest.orderly
+          (all_weaken (IsBetween base number before between)
+          (λ x. AllByRecursion (IsNoEarlier x) (flat_map (told_of number) replies)) (told_of number reply)
+          (λ told is. all_weaken (IsBetween base number between after) (IsNoEarlier told)
+          (flat_map (told_of number) replies)
           (λ later after_it same. omega (arith, is.is_true.within, after_it.since)) rest.each) head);
     }
 
@@ -192,17 +256,21 @@ record AreOfRun (base : Tables) (log : List CommitRecord) (number : ℕ) (told :
   are_true : AllByRecursion (IsTrueOf base log) told
   orderly : Orderly told
 
-are_of_run : (base : Tables) (log : List CommitRecord) (number : ℕ) (told : List Told) → IsTold base log number told → AreOfRun base log number told
+are_of_run : (base : Tables) (log : List CommitRecord) (number : ℕ) (told : List Told) → IsTold base log number told
+    → AreOfRun base log number told
 are_of_run base log number told run =
     let between = are_between base number run.opened run.closed run.requests run.replies run.over run.served in
     subst (AreOfRun base log number) (sym run.all) (record {
-      own = all_weaken (IsBetween base number run.opened run.closed) (λ (t : Told). t.client ≡ number) _ (λ t is. is.client) between.each;
-      are_true = all_weaken (IsBetween base number run.opened run.closed) (IsTrueOf base log) _ (λ t is. true_longer base run.closed.seen log t run.begins is.is_true) between.each;
+      own = all_weaken (IsBetween base number run.opened run.closed) (λ (t : Told). t.client ≡ number) _
+          (λ t is. is.client) between.each;
+      are_true = all_weaken (IsBetween base number run.opened run.closed) (IsTrueOf base log) _
+          (λ t is. true_longer base run.closed.seen log t run.begins is.is_true) between.each;
       orderly = between.orderly;
     })
 
 -- the clients after the first
-rest_told : (base : Tables) (log : List CommitRecord) (first : ℕ × List Told) (told : List (ℕ × List Told)) → AreTold base log (first ∷ told) → AreTold base log told
+rest_told : (base : Tables) (log : List CommitRecord) (first : ℕ × List Told) (told : List (ℕ × List Told))
+    → AreTold base log (first ∷ told) → AreTold base log told
 rest_told base log first told are = record {
   each = λ i c at. are.each (suc i) c at;
   once = λ i j a b lt at_i at_j. are.once (suc i) (suc j) a b (omega (arith, lt)) at_i at_j;
@@ -215,7 +283,8 @@ all_other : (base : Tables) (log : List CommitRecord) (number : ℕ) (told : Lis
 all_other base log number [] are other = tt
 all_other base log number (first ∷ told) are other =
     all_append (λ (t : Told). number ≢ t.client) first.1 (flat_map (λ c. c.1) told)
-    (all_weaken (λ (t : Told). t.client ≡ first.0) (λ (t : Told). number ≢ t.client) first.1 (λ t is same. other 0 first refl (same ∙ is))
+    (all_weaken (λ (t : Told). t.client ≡ first.0) (λ (t : Told). number ≢ t.client) first.1
+    (λ t is same. other 0 first refl (same ∙ is))
     (are_of_run base log first.0 first.1 (are.each 0 first refl)).own)
     (all_other base log number told (rest_told base log first told are) (λ i c at. other (suc i) c at))
 
@@ -223,7 +292,8 @@ record AreLegal (base : Tables) (log : List CommitRecord) (answers : List Told) 
   are_true : AllByRecursion (IsTrueOf base log) answers
   orderly : Orderly answers
 
-all_legal : (base : Tables) (log : List CommitRecord) (told : List (ℕ × List Told)) → AreTold base log told → AreLegal base log (flat_map (λ c. c.1) told)
+all_legal : (base : Tables) (log : List CommitRecord) (told : List (ℕ × List Told)) → AreTold base log told
+    → AreLegal base log (flat_map (λ c. c.1) told)
 all_legal base log [] are = record { are_true = tt; orderly = tt }
 all_legal base log (first ∷ told) are =
     let own = are_of_run base log first.0 first.1 (are.each 0 first refl) in
@@ -233,8 +303,10 @@ all_legal base log (first ∷ told) are =
     record {
       are_true = all_append (IsTrueOf base log) first.1 (flat_map (λ c. c.1) told) own.are_true rest.are_true;
       orderly = orderly_append first.1 (flat_map (λ c. c.1) told) own.orderly rest.orderly
-          (all_weaken (λ (t : Told). t.client ≡ first.0) (λ x. AllByRecursion (IsNoEarlier x) (flat_map (λ c. c.1) told)) first.1
-          (λ t is. all_weaken (λ (u : Told). first.0 ≢ u.client) (IsNoEarlier t) (flat_map (λ c. c.1) told) (λ later apart_from same. absurd (apart_from (sym is ∙ same))) apart)
+          (all_weaken (λ (t : Told). t.client ≡ first.0)
+          (λ x. AllByRecursion (IsNoEarlier x) (flat_map (λ c. c.1) told)) first.1
+          (λ t is. all_weaken (λ (u : Told). first.0 ≢ u.client) (IsNoEarlier t) (flat_map (λ c. c.1) told)
+          (λ later apart_from same. absurd (apart_from (sym is ∙ same))) apart)
           own.own);
     }
 

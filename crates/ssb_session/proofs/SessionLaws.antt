@@ -1,5 +1,34 @@
 -- Serving one request after another.
-use Rattle.std.proofs.Common.{◌≡◌, ℕ, ◌+◌, ◌<◌, suc, false, List, [], ◌∷◌, ◌++◌, length, take, flat_map, Option, Some, None, Result, Ok, Err, refl, sym, ◌∙◌, ap, subst, append_assoc, append-nil, length-append, arith}
+use Rattle.std.proofs.Common.{
+  ◌≡◌,
+  ℕ,
+  ◌+◌,
+  ◌<◌,
+  suc,
+  false,
+  List,
+  [],
+  ◌∷◌,
+  ◌++◌,
+  length,
+  take,
+  flat_map,
+  Option,
+  Some,
+  None,
+  Result,
+  Ok,
+  Err,
+  refl,
+  sym,
+  ◌∙◌,
+  ap,
+  subst,
+  append_assoc,
+  append-nil,
+  length-append,
+  arith,
+}
 use Rattle.std.proofs.Math.Seq.{take-append-add, take-append_seam}
 use Rattle.std.proofs.lemmas.List.Concat.{flat_map-append}
 use Rattle.std.specs.Option.{is_some}
@@ -29,7 +58,8 @@ asks_nothing None none = refl
 asks_nothing (Some x) none = absurd cc
 
 -- a refresh leaves the client what it is
-pub refreshed_alike : (before : Token) (number : ℕ) (actions : List Action) (reply : Result Receipt RefreshError) (after : Token)
+pub refreshed_alike : (before : Token) (number : ℕ) (actions : List Action) (reply : Result Receipt RefreshError)
+    (after : Token)
     → client.Refreshed before number actions reply after → is_some before.asked ≡ false → AreAlike before after
 refreshed_alike before number actions (Ok receipt) after refreshed quiet = record {
   hall = ap (λ (t : Token). t.hall) refreshed.now;
@@ -52,7 +82,8 @@ keeps_same : (a : Option (List ℕ)) → Keeps a a
 keeps_same None = tt
 keeps_same (Some xs) = refl
 
-pub stops_before : (number : ℕ) (old : Token) (request : Request) (told : List Told) (a : Option (List ℕ)) → StopsIn OutOfMemory number old old request told told a a
+pub stops_before : (number : ℕ) (old : Token) (request : Request) (told : List Told) (a : Option (List ℕ))
+    → StopsIn OutOfMemory number old old request told told a a
 stops_before number old request told a = (refl, refl, keeps_same a)
 
 pub alike_itself : (old : Token) → is_some old.asked ≡ false → AreAlike old old
@@ -60,17 +91,23 @@ alike_itself old quiet = record { hall = refl; who = refl; quiet = asks_nothing 
 
 -- one client after another call
 pub alike_both : (a b c : Token) → AreAlike a b → AreAlike b c → AreAlike a c
-alike_both a b c first second = record { hall = second.hall ∙ first.hall; who = second.who ∙ first.who; quiet = second.quiet }
+alike_both a b c first second = record {
+  hall = second.hall ∙ first.hall;
+  who = second.who ∙ first.who;
+  quiet = second.quiet;
+}
 
 pub asked_nothing : {X : Type 0} (asked : Option X) → asked ≡ None → is_some asked ≡ false
 asked_nothing asked none = ap is_some none
 
 -- a question, and its answer
-pub answered : (before asking after : Token) (question : Named × List Value) (answer : Answer) → client.Asks before question asking → client.Polls asking answer after
+pub answered : (before asking after : Token) (question : Named × List Value) (answer : Answer)
+    → client.Asks before question asking → client.Polls asking answer after
     → IsAnswered before question answer after
 answered before asking after question answer asked polled = record { asking = asking; asked = asked; polled = polled }
 
-pub answered_alike : (before asking after : Token) (question : Named × List Value) (answer : Answer) → client.Asks before question asking → client.Polls asking answer after → AreAlike before after
+pub answered_alike : (before asking after : Token) (question : Named × List Value) (answer : Answer)
+    → client.Asks before question asking → client.Polls asking answer after → AreAlike before after
 answered_alike before asking after question answer asked polled = record {
   hall = ap (λ (t : Token). t.hall) polled.now ∙ ap (λ (t : Token). t.hall) asked.now;
   who = ap (λ (t : Token). t.who) polled.now ∙ ap (λ (t : Token). t.who) asked.now;
@@ -78,17 +115,21 @@ answered_alike before asking after question answer asked polled = record {
 }
 
 -- as many replies as requests
-same_count : (number : ℕ) (old new : Token) (requests : List Request) (replies : List Reply) → AreServed number old requests replies new → length replies ≡ length requests
+same_count : (number : ℕ) (old new : Token) (requests : List Request) (replies : List Reply)
+    → AreServed number old requests replies new → length replies ≡ length requests
 same_count number old new [] [] are = refl
 same_count number old new [] (reply ∷ replies) are = absurd are
 same_count number old new (request ∷ requests) [] are = absurd are
-same_count number old new (request ∷ requests) (reply ∷ replies) are = ap suc (same_count number are.0 new requests replies are.2)
+same_count number old new (request ∷ requests) (reply ∷ replies) are =
+    ap suc (same_count number are.0 new requests replies are.2)
 
 -- one request more
-served_more : (number : ℕ) (old mid new : Token) (requests : List Request) (replies : List Reply) (request : Request) (reply : Reply)
+served_more : (number : ℕ) (old mid new : Token) (requests : List Request) (replies : List Reply) (request : Request)
+    (reply : Reply)
     → AreServed number old requests replies mid → IsServed number mid request reply new
     → AreServed number old (requests ++ request ∷ []) (replies ++ reply ∷ []) new
-served_more number old mid new [] [] request reply are next = (new, subst (λ t. IsServed number t request reply new) are next, refl)
+served_more number old mid new [] [] request reply are next =
+    (new, subst (λ t. IsServed number t request reply new) are next, refl)
 served_more number old mid new [] (other ∷ replies) request reply are next = absurd are
 served_more number old mid new (other ∷ requests) [] request reply are next = absurd are
 served_more number old mid new (first ∷ requests) (answer ∷ replies) request reply are next =
@@ -99,15 +140,24 @@ kept_more : (number : ℕ) (replies : List Reply) (reply : Reply) (told_old told
     → told_mid ≡ told_old ++ flat_map (told_of number) replies → told_new ≡ told_mid ++ told_of number reply
     → told_new ≡ told_old ++ flat_map (told_of number) (replies ++ reply ∷ [])
 kept_more number replies reply told_old told_mid told_new so_far more =
-    more ∙ ap (λ t. t ++ told_of number reply) so_far ∙ append_assoc told_old (flat_map (told_of number) replies) (told_of number reply)
-    ∙ ap (λ t. told_old ++ t) (sym (flat_map-append (told_of number) replies (reply ∷ []) ∙ ap (λ t. flat_map (told_of number) replies ++ t) (append-nil (told_of number reply))))
+    more ∙ ap (λ t. t ++ told_of number reply) so_far ∙ append_assoc told_old (flat_map (told_of number) replies)
+    (told_of number reply)
+    ∙ ap (λ t. told_old ++ t) (sym (flat_map-append (told_of number) replies (reply ∷ [])
+    ∙ ap (λ t. flat_map (told_of number) replies ++ t) (append-nil (told_of number reply))))
 
 -- no request
-pub serves_none : (number : ℕ) (old : Token) (told : List Told) (before : Option (List ℕ)) → Serves number old old [] told told before before
-serves_none number old told before = record { replies = []; served = refl; kept = sym (append-nil told); written = appends_none before }
+pub serves_none : (number : ℕ) (old : Token) (told : List Told) (before : Option (List ℕ))
+    → Serves number old old [] told told before before
+serves_none number old told before = record {
+  replies = [];
+  served = refl;
+  kept = sym (append-nil told);
+  written = appends_none before;
+}
 
 -- one request more
-pub serves_more : (number : ℕ) (old mid new : Token) (requests : List Request) (request : Request) (told_old told_mid told_new : List Told) (a b c : Option (List ℕ))
+pub serves_more : (number : ℕ) (old mid new : Token) (requests : List Request) (request : Request)
+    (told_old told_mid told_new : List Told) (a b c : Option (List ℕ))
     → Serves number old mid requests told_old told_mid a b → ServesOne number mid new request told_mid told_new b c
     → Serves number old new (requests ++ request ∷ []) told_old told_new a c
 serves_more number old mid new requests request told_old told_mid told_new a b c served next =
@@ -116,15 +166,18 @@ serves_more number old mid new requests request told_old told_mid told_new a b c
       replies = replies ++ next.reply ∷ [];
       served = served_more number old mid new requests replies request next.reply served.served next.served;
       kept = kept_more number replies next.reply told_old told_mid told_new served.kept next.kept;
-      written = subst (Appends a c) (sym (flat_map-append reply_text replies (next.reply ∷ []) ∙ ap (λ t. report_of replies ++ t) (append-nil (reply_text next.reply))))
+      written = subst (Appends a c) (sym (flat_map-append reply_text replies (next.reply ∷ [])
+          ∙ ap (λ t. report_of replies ++ t) (append-nil (reply_text next.reply))))
           (appends_both a b c (report_of replies) (reply_text next.reply) served.written next.written);
     }
 
 -- the first requests and one that follows
-take_next : (front rest : List Request) (request : Request) → take (length front + 1) (front ++ request ∷ rest) ≡ front ++ request ∷ []
+take_next : (front rest : List Request) (request : Request) → take (length front + 1) (front ++ request ∷ rest) ≡ front
+    ++ request ∷ []
 take_next front rest request = take-append-add front (request ∷ rest) 1
 
-stops_there : (number : ℕ) (old mid new : Token) (front rest : List Request) (request : Request) (told_old told_mid told_new : List Told) (a b c : Option (List ℕ))
+stops_there : (number : ℕ) (old mid new : Token) (front rest : List Request) (request : Request)
+    (told_old told_mid told_new : List Told) (a b c : Option (List ℕ))
     → Serves number old mid front told_old told_mid a b → ServesInPart number mid new request told_mid told_new b c
     → StopsAfter (length front) number old new (front ++ request ∷ rest) told_old told_new a c
 stops_there number old mid new front rest request told_old told_mid told_new a b c served next =
@@ -144,9 +197,12 @@ stops_there number old mid new front rest request told_old told_mid told_new a b
     }
 
 -- serving stops before a request
-stops_short : (number : ℕ) (old mid new : Token) (front rest : List Request) (request : Request) (told_old told_mid told_new : List Told) (a b c : Option (List ℕ))
-    → Serves number old mid front told_old told_mid a b → StopsIn OutOfMemory number mid new request told_mid told_new b c
-    → (length front < length (front ++ request ∷ rest)) × Serves number old new (take (length front) (front ++ request ∷ rest)) told_old told_new a c
+stops_short : (number : ℕ) (old mid new : Token) (front rest : List Request) (request : Request)
+    (told_old told_mid told_new : List Told) (a b c : Option (List ℕ))
+    → Serves number old mid front told_old told_mid a b
+    → StopsIn OutOfMemory number mid new request told_mid told_new b c
+    → (length front < length (front ++ request ∷ rest))
+    × Serves number old new (take (length front) (front ++ request ∷ rest)) told_old told_new a c
 stops_short number old mid new front rest request told_old told_mid told_new a b c served stopped = (
   omega (arith, length-append front (request ∷ rest)),
   rw (take-append_seam front (request ∷ rest)) (record {
@@ -164,7 +220,8 @@ stops_short number old mid new front rest request told_old told_mid told_new a b
     kept_written (Some xs) (Some ys) (Some zs) x first same = same ∙ first
 
 -- how a run ends at a request
-pub ends_there : (stop : Stop) (number : ℕ) (old mid new : Token) (front rest : List Request) (request : Request) (told_old told_mid told_new : List Told) (a b c : Option (List ℕ))
+pub ends_there : (stop : Stop) (number : ℕ) (old mid new : Token) (front rest : List Request) (request : Request)
+    (told_old told_mid told_new : List Told) (a b c : Option (List ℕ))
     → Serves number old mid front told_old told_mid a b → StopsIn stop number mid new request told_mid told_new b c
     → Ends (error_after stop (length front)) number old new (front ++ request ∷ rest) told_old told_new a c
 ends_there Write number old mid new front rest request told_old told_mid told_new a b c served stopped =

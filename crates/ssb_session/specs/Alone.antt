@@ -29,31 +29,38 @@ may_be_told OutOfMemory = true
 may_be_told (Twin told found) = not (told == found)
 
 -- all requests of the script were answered by a report, as client 1
-pub record ServesScript (remaining : Option (List ℕ)) (done : ℕ) (old new : Token) (before after : Option (List ℕ)) : Type 0 where
+pub record ServesScript (remaining : Option (List ℕ)) (done : ℕ) (old new : Token) (before after : Option (List ℕ)) :
+    Type 0 where
   pub requests : List Request
   pub asked : AreAsked remaining requests
   pub count : length requests ≡ done
   pub served : Serves may_be_told 1 (own old) (own new) requests before after
 
 -- the script could not be read: nothing was served and nothing written
-pub record IsUnread (remaining : Option (List ℕ)) (fault : ScriptError) (old new other_old other_new : Token) (before after : Option (List ℕ)) : Type 0 where
+pub record IsUnread (remaining : Option (List ℕ)) (fault : ScriptError) (old new other_old other_new : Token)
+    (before after : Option (List ℕ)) : Type 0 where
   pub fault_told : (text : List ℕ) → remaining ≡ Some text → IsScriptFault most_records text fault
   pub client : new ≡ old
   pub dispatcher : other_new ≡ other_old
   pub written : Keeps before after
 
 -- a write failed in the report of the reply after the first ones
-pub record ServesPart (remaining : Option (List ℕ)) (done : ℕ) (old new : Token) (before after : Option (List ℕ)) : Type 0 where
+pub record ServesPart (remaining : Option (List ℕ)) (done : ℕ) (old new : Token) (before after : Option (List ℕ)) :
+    Type 0 where
   pub requests : List Request
   pub asked : AreAsked remaining requests
   pub stopped : StopsAfter may_be_told done 1 (own old) (own new) requests before after
 
 -- how a run ends with an error
-abbrev pub EndsAlone : Option (List ℕ) → RunError → Token → Token → Token → Token → Option (List ℕ) → Option (List ℕ) → Type 0
-EndsAlone remaining (Script fault) old new other_old other_new before after = IsUnread remaining fault old new other_old other_new before after
-EndsAlone remaining (Write done) old new other_old other_new before after = ServesPart remaining done old new before after
+abbrev pub EndsAlone : Option (List ℕ) → RunError → Token → Token → Token → Token → Option (List ℕ) → Option (List ℕ)
+    → Type 0
+EndsAlone remaining (Script fault) old new other_old other_new before after =
+    IsUnread remaining fault old new other_old other_new before after
+EndsAlone remaining (Write done) old new other_old other_new before after =
+    ServesPart remaining done old new before after
 
 -- serving stops only where a write fails
 abbrev pub StopsAlone : RunError → Token → Token → List Request → Option (List ℕ) → Option (List ℕ) → Type 0
 StopsAlone (Script fault) old new requests before after = ⊥
-StopsAlone (Write done) old new requests before after = StopsAfter may_be_told done 1 (own old) (own new) requests before after
+StopsAlone (Write done) old new requests before after =
+    StopsAfter may_be_told done 1 (own old) (own new) requests before after

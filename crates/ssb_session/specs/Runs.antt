@@ -24,9 +24,11 @@ pub record IsTold (base : Tables) (log : List CommitRecord) (number : ℕ) (told
 -- what each client was told, the clients by number; no number twice
 pub record AreTold (base : Tables) (log : List CommitRecord) (told : List (ℕ × List Told)) : Type 0 where
   pub each : (i : ℕ) (client : ℕ × List Told) → slice_get told i ≡ Some client → IsTold base log client.0 client.1
-  pub once : (i j : ℕ) (first second : ℕ × List Told) → i < j → slice_get told i ≡ Some first → slice_get told j ≡ Some second → first.0 ≢ second.0
+  pub once : (i j : ℕ) (first second : ℕ × List Told) → i < j → slice_get told i ≡ Some first
+      → slice_get told j ≡ Some second → first.0 ≢ second.0
 
 -- a legal log, and what its clients were told, one client after another, are a legal trace
 abbrev pub RunsAreLegal : Type 0
-RunsAreLegal = (base : Tables) (log : List CommitRecord) (told : List (ℕ × List Told)) → IsLegal base log → AreTold base log told
+RunsAreLegal = (base : Tables) (log : List CommitRecord) (told : List (ℕ × List Told)) → IsLegal base log
+    → AreTold base log told
     → IsLegalTrace base (record { commits = log; answers = flat_map (λ client. client.1) told })

@@ -38,7 +38,12 @@ AreServed number before (request ∷ requests) [] after = ⊥
 
 -- the answer with rows that a reply is
 abbrev pub told_of : ℕ → Reply → List Told
-told_of client (Answered (Rows question at rows)) = record { client = client; at = at; question = question; rows = rows } ∷ []
+told_of client (Answered (Rows question at rows)) = record {
+  client = client;
+  at = at;
+  question = question;
+  rows = rows;
+} ∷ []
 told_of client reply = []
 
 -- all requests were served: what was written is the report of the replies, and the answers with rows are kept
@@ -49,7 +54,8 @@ pub record Serves (number : ℕ) (old new : Token) (requests : List Request) (to
   pub kept : told_new ≡ told_old ++ flat_map (told_of number) replies
   pub written : Appends before after (report_of replies)
 
--- the first requests and one more were served: what was written is the report of the first ones and a part of that of the
+-- the first requests and one more were served: what was written is the report of the first ones and a part of that of
+-- the
 -- last reply, of which something is left
 pub record StopsAfter (done number : ℕ) (old new : Token) (requests : List Request) (told_old told_new : List Told)
     (before after : Option (List ℕ)) : Type 0 where
@@ -65,7 +71,8 @@ pub record StopsAfter (done number : ℕ) (old new : Token) (requests : List Req
   pub written : Appends before after (report_of replies ++ part)
 
 -- how serving ends early: a report failed, or the next question was not asked for want of memory
-abbrev pub Ends : BlocksError → ℕ → Token → Token → List Request → List Told → List Told → Option (List ℕ) → Option (List ℕ) → Type 0
+abbrev pub Ends : BlocksError → ℕ → Token → Token → List Request → List Told → List Told → Option (List ℕ)
+    → Option (List ℕ) → Type 0
 Ends (Write done) number old new requests told_old told_new before after =
     StopsAfter done number old new requests told_old told_new before after
 Ends (OutOfMemory done) number old new requests told_old told_new before after =

@@ -29,7 +29,8 @@ pub record ServesInPart (number : ℕ) (old new : Token) (request : Request) (to
   pub written : StopsShort before after (reply_text reply)
 
 -- where serving stops: at a report, or before the request, with everything as it was
-abbrev pub StopsIn : Stop → ℕ → Token → Token → Request → List Told → List Told → Option (List ℕ) → Option (List ℕ) → Type 0
+abbrev pub StopsIn : Stop → ℕ → Token → Token → Request → List Told → List Told → Option (List ℕ) → Option (List ℕ)
+    → Type 0
 StopsIn Write number old new request told_old told_new before after =
     ServesInPart number old new request told_old told_new before after
 StopsIn OutOfMemory number old new request told_old told_new before after =

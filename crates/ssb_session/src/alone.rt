@@ -28,8 +28,10 @@ fn refresh_alone<W: Wait + Drop, R: Wait, O: Write>(
     requires hall { client.old.hall ≡ server.now }
     requires alone { IsAlone client.old }
     requires quiet { is_some client.old.asked ≡ false }
-    ensures reply { OnOk result (Answers may_be_told 1 (own client.old) (own client.new) (request.Refresh refresh.value) (O.contents writer.old) (O.contents writer.new)) }
-    ensures fault { OnErr result (AnswersInPart may_be_told 1 (own client.old) (own client.new) (request.Refresh refresh.value) (O.contents writer.old) (O.contents writer.new)) }
+    ensures reply { OnOk result (Answers may_be_told 1 (own client.old) (own client.new) (request.Refresh refresh.value)
+        (O.contents writer.old) (O.contents writer.new)) }
+    ensures fault { OnErr result (AnswersInPart may_be_told 1 (own client.old) (own client.new)
+        (request.Refresh refresh.value) (O.contents writer.old) (O.contents writer.new)) }
     ensures same { AreAlike client.old client.new }
 {
     write_reply(writer, &client.refresh(rt, server, refresh))
@@ -48,8 +50,10 @@ fn ask_alone<W: Wait + Drop, R: Wait + Threads + Sync, O: Write>(
     requires other { dispatcher.old.hall ≡ server.now }
     requires alone { IsAlone client.old }
     requires quiet { is_some client.old.asked ≡ false }
-    ensures reply { OnOk result (Answers may_be_told 1 (own client.old) (own client.new) (request.Ask question) (O.contents writer.old) (O.contents writer.new)) }
-    ensures fault { OnErr result (AnswersInPart may_be_told 1 (own client.old) (own client.new) (request.Ask question) (O.contents writer.old) (O.contents writer.new)) }
+    ensures reply { OnOk result (Answers may_be_told 1 (own client.old) (own client.new) (request.Ask question)
+        (O.contents writer.old) (O.contents writer.new)) }
+    ensures fault { OnErr result (AnswersInPart may_be_told 1 (own client.old) (own client.new) (request.Ask question)
+        (O.contents writer.old) (O.contents writer.new)) }
     ensures same { AreAlike client.old client.new }
     ensures other { dispatcher.new.hall ≡ dispatcher.old.hall }
 {
@@ -71,8 +75,10 @@ fn serve_alone<W: Wait + Drop, R: Wait + Threads + Sync, O: Write>(
     requires other { dispatcher.old.hall ≡ server.now }
     requires alone { IsAlone client.old }
     requires quiet { is_some client.old.asked ≡ false }
-    ensures reply { OnOk result (Answers may_be_told 1 (own client.old) (own client.new) (request.request_of block) (O.contents writer.old) (O.contents writer.new)) }
-    ensures fault { OnErr result (AnswersInPart may_be_told 1 (own client.old) (own client.new) (request.request_of block) (O.contents writer.old) (O.contents writer.new)) }
+    ensures reply { OnOk result (Answers may_be_told 1 (own client.old) (own client.new) (request.request_of block)
+        (O.contents writer.old) (O.contents writer.new)) }
+    ensures fault { OnErr result (AnswersInPart may_be_told 1 (own client.old) (own client.new)
+        (request.request_of block) (O.contents writer.old) (O.contents writer.new)) }
     ensures same { AreAlike client.old client.new }
     ensures other { dispatcher.new.hall ≡ dispatcher.old.hall }
 {
@@ -96,8 +102,10 @@ fn serve_blocks<W: Wait + Drop, R: Wait + Threads + Sync, O: Write>(
     requires alone { IsAlone client.old }
     requires quiet { is_some client.old.asked ≡ false }
     ensures count { IfOk result (λ done. done ≡ length (request.requests_of script)) }
-    ensures served { OnOk result (Serves may_be_told 1 (own client.old) (own client.new) (request.requests_of script) (O.contents writer.old) (O.contents writer.new)) }
-    ensures stopped { IfErr result (λ error. StopsAlone error client.old client.new (request.requests_of script) (O.contents writer.old) (O.contents writer.new)) }
+    ensures served { OnOk result (Serves may_be_told 1 (own client.old) (own client.new) (request.requests_of script)
+        (O.contents writer.old) (O.contents writer.new)) }
+    ensures stopped { IfErr result (λ error. StopsAlone error client.old client.new (request.requests_of script)
+        (O.contents writer.old) (O.contents writer.new)) }
     ensures same { AreAlike client.old client.new }
 {
     let mut blocks = script.blocks.into_iter();
@@ -111,12 +119,12 @@ fn serve_blocks<W: Wait + Drop, R: Wait + Threads + Sync, O: Write>(
     Ok(done)
 }
 
-/// Reads a whole script, and then serves its blocks in order as the only client of a server, with its only dispatcher; it
-/// gives their number.
+/// Reads a whole script, and then serves its blocks in order as the only client of a server, with its only dispatcher;
+/// it gives their number.
 ///
-/// Before the answer to a question is awaited the dispatcher takes its turn, all in this thread. Each reply is written before
-/// the next block is served. A script that can't be read changes and writes nothing. A failed write ends the run: the blocks
-/// before it and its own have been served. In each case nothing is outstanding then.
+/// Before the answer to a question is awaited the dispatcher takes its turn, all in this thread. Each reply is written
+/// before the next block is served. A script that can't be read changes and writes nothing. A failed write ends the
+/// run: the blocks before it and its own have been served. In each case nothing is outstanding then.
 pub fn run_script<W: Wait + Drop, T: Wait + Threads + Sync, R: Read + Drop, O: Write>(
     alloc: Global,
     rt: &T,
@@ -130,8 +138,10 @@ pub fn run_script<W: Wait + Drop, T: Wait + Threads + Sync, R: Read + Drop, O: W
     requires other { dispatcher.old.hall ≡ server.now }
     requires alone { IsAlone client.old }
     requires quiet { is_some client.old.asked ≡ false }
-    ensures served { IfOk result (λ done. ServesScript (R.remaining source) done client.old client.new (O.contents writer.old) (O.contents writer.new)) }
-    ensures ended { IfErr result (λ error. EndsAlone (R.remaining source) error client.old client.new dispatcher.old dispatcher.new (O.contents writer.old) (O.contents writer.new)) }
+    ensures served { IfOk result (λ done. ServesScript (R.remaining source) done client.old client.new
+        (O.contents writer.old) (O.contents writer.new)) }
+    ensures ended { IfErr result (λ error. EndsAlone (R.remaining source) error client.old client.new dispatcher.old
+        dispatcher.new (O.contents writer.old) (O.contents writer.new)) }
     ensures same { AreAlike client.old client.new }
 {
     match read_script(alloc, source, MOST_RECORDS) {

@@ -49,8 +49,12 @@ fn serve_refresh<W: Wait + Drop, R: Wait, O: Write>(
     requires hall { client.old.hall ≡ server.now }
     requires who { client.old.who ≡ IsNumbered number }
     requires quiet { is_some client.old.asked ≡ false }
-    ensures served { (told : List PlainTold) → OnOk result (ServesOne number client.old client.new (request.Refresh refresh.value) told told (O.contents writer.old) (O.contents writer.new)) }
-    ensures stopped { (told : List PlainTold) → IfErr result (λ stop. StopsIn stop number client.old client.new (request.Refresh refresh.value) told told (O.contents writer.old) (O.contents writer.new)) }
+    ensures served { (told : List PlainTold) → OnOk result
+        (ServesOne number client.old client.new (request.Refresh refresh.value) told told (O.contents writer.old)
+        (O.contents writer.new)) }
+    ensures stopped { (told : List PlainTold) → IfErr result
+        (λ stop. StopsIn stop number client.old client.new (request.Refresh refresh.value) told told
+        (O.contents writer.old) (O.contents writer.new)) }
     ensures same { AreAlike client.old client.new }
     ensures sound { IsSound client.new }
 {
@@ -73,8 +77,10 @@ fn serve_question<W: Wait + Drop, R: Wait, O: Write>(
     requires hall { client.old.hall ≡ server.now }
     requires who { client.old.who ≡ IsNumbered number }
     requires quiet { is_some client.old.asked ≡ false }
-    ensures served { OnOk result (ServesOne number client.old client.new (request.Ask question) told.old.items told.new.items (O.contents writer.old) (O.contents writer.new)) }
-    ensures stopped { IfErr result (λ stop. StopsIn stop number client.old client.new (request.Ask question) told.old.items told.new.items (O.contents writer.old) (O.contents writer.new)) }
+    ensures served { OnOk result (ServesOne number client.old client.new (request.Ask question) told.old.items
+        told.new.items (O.contents writer.old) (O.contents writer.new)) }
+    ensures stopped { IfErr result (λ stop. StopsIn stop number client.old client.new (request.Ask question)
+        told.old.items told.new.items (O.contents writer.old) (O.contents writer.new)) }
     ensures same { AreAlike client.old client.new }
     ensures sound { IsSound client.old → IsSound client.new }
 {
@@ -104,8 +110,10 @@ fn serve_block<W: Wait + Drop, R: Wait, O: Write>(
     requires hall { client.old.hall ≡ server.now }
     requires who { client.old.who ≡ IsNumbered number }
     requires quiet { is_some client.old.asked ≡ false }
-    ensures served { OnOk result (ServesOne number client.old client.new (request.request_of block) told.old.items told.new.items (O.contents writer.old) (O.contents writer.new)) }
-    ensures stopped { IfErr result (λ stop. StopsIn stop number client.old client.new (request.request_of block) told.old.items told.new.items (O.contents writer.old) (O.contents writer.new)) }
+    ensures served { OnOk result (ServesOne number client.old client.new (request.request_of block) told.old.items
+        told.new.items (O.contents writer.old) (O.contents writer.new)) }
+    ensures stopped { IfErr result (λ stop. StopsIn stop number client.old client.new (request.request_of block)
+        told.old.items told.new.items (O.contents writer.old) (O.contents writer.new)) }
     ensures same { AreAlike client.old client.new }
     ensures sound { IsSound client.old → IsSound client.new }
 {
@@ -115,11 +123,12 @@ fn serve_block<W: Wait + Drop, R: Wait, O: Write>(
     }
 }
 
-/// Serves the blocks of a client's script in order, and writes their report. The answers with rows are kept behind what was
-/// told before. It waits for the rows and for answers; a dispatcher has to take its turns meanwhile.
+/// Serves the blocks of a client's script in order, and writes their report. The answers with rows are kept behind what
+/// was told before. It waits for the rows and for answers; a dispatcher has to take its turns meanwhile.
 ///
-/// A failed write ends it: the blocks before it and its own have been served. Want of memory for keeping an answer ends it
-/// before its question is asked. In each case nothing is outstanding then. The meter is told when each block begins and ends.
+/// A failed write ends it: the blocks before it and its own have been served. Want of memory for keeping an answer ends
+/// it before its question is asked. In each case nothing is outstanding then. The meter is told when each block begins
+/// and ends.
 pub fn run_blocks<W: Wait + Drop, R: Wait, O: Write, M: Meter>(
     rt: &R,
     server: &Server<W>,
@@ -131,8 +140,10 @@ pub fn run_blocks<W: Wait + Drop, R: Wait, O: Write, M: Meter>(
 ) -> Result<(), BlocksError>
     requires hall { client.old.hall ≡ server.now }
     requires quiet { is_some client.old.asked ≡ false }
-    ensures served { OnOk result (Serves (number_of client.old.who) client.old client.new (request.requests_of script) told.old.items told.new.items (O.contents writer.old) (O.contents writer.new)) }
-    ensures ended { IfErr result (λ error. Ends error (number_of client.old.who) client.old client.new (request.requests_of script) told.old.items told.new.items (O.contents writer.old) (O.contents writer.new)) }
+    ensures served { OnOk result (Serves (number_of client.old.who) client.old client.new (request.requests_of script)
+        told.old.items told.new.items (O.contents writer.old) (O.contents writer.new)) }
+    ensures ended { IfErr result (λ error. Ends error (number_of client.old.who) client.old client.new
+        (request.requests_of script) told.old.items told.new.items (O.contents writer.old) (O.contents writer.new)) }
     ensures same { AreAlike client.old client.new }
     ensures sound { IsSound client.old → IsSound client.new }
 {

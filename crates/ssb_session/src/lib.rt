@@ -1,13 +1,14 @@
-//! A client's script over the live server: its requests one after another, their report, and the answers that it was told.
+//! A client's script over the live server: its requests one after another, their report, and the answers that it was
+//! told.
 //!
 //! ```text
 //! script ── block ─▶ client ── refresh, or ask and await ─▶ reply ── report ─▶ writer
 //!                                                             └── rows ─▶ told
 //! ```
 //!
-//! The contract of [`run_blocks`]: block by block one reply, true as the server's contracts say (`specs/Served.antt`), whose
-//! report is written; the answers with rows are kept, in order; the client's own commits grew by the refreshes that were
-//! told a receipt. Whatever ends it, nothing is outstanding then.
+//! The contract of [`run_blocks`]: block by block one reply, true as the server's contracts say (`specs/Served.antt`),
+//! whose report is written; the answers with rows are kept, in order; the client's own commits grew by the refreshes
+//! that were told a receipt. Whatever ends it, nothing is outstanding then.
 //!
 //! ```text
 //! let script = read_script(alloc, file, MOST_RECORDS)?;

@@ -17,8 +17,8 @@ pub(crate) fn kind_of(block: &Block) -> Kind {
     }
 }
 
-/// Is told when each block begins and ends, as a clock that takes the times. It promises nothing, and what is served is the
-/// same with any of them.
+/// Is told when each block begins and ends, as a clock that takes the times. It promises nothing, and what is served is
+/// the same with any of them.
 pub trait Meter {
     /// The next block is served from here on.
     fn begin(&mut self);

@@ -55,7 +55,8 @@ written_constants question = if question_eq question (question.0, standard_const
 -- an answer: its client, its number of commits, its query, how many rows it has, and its constants
 abbrev pub count_text : Told → List ℕ
 count_text told =
-    codes "answer" ++ 124 ∷ (decimal told.client ++ 124 ∷ (decimal told.at ++ 124 ∷ (name_of told.question.0 ++ 124 ∷ (decimal (length told.rows)))))
+    codes "answer" ++ 124 ∷ (decimal told.client ++ 124 ∷
+    (decimal told.at ++ 124 ∷ (name_of told.question.0 ++ 124 ∷ (decimal (length told.rows)))))
 
 abbrev pub head_text : Told → List ℕ
 head_text told = (count_text told ++ flat_map after_bar (written_constants told.question)) ++ line_feed

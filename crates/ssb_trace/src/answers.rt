@@ -13,7 +13,8 @@ use std::io::Write;
 
 // The constants of a question, each behind a bar, where they are not those that its query has where none are given.
 fn write_constants<W: Write>(writer: &mut W, question: &Question) -> Result<(), WriteFault>
-    ensures { Writes (W.contents writer.old) (W.contents writer.new) result (flat_map after_bar (written_constants question.now)) }
+    ensures { Writes (W.contents writer.old) (W.contents writer.new) result
+        (flat_map after_bar (written_constants question.now)) }
 {
     if question.is_standard() {
         return Ok(());

@@ -65,7 +65,8 @@ fn write_lines<W: Write>(writer: &mut W, lines: &[Line]) -> Result<(), WriteFaul
 
 // The record that begins an order, and its lines.
 fn write_order<W: Write>(writer: &mut W, word: &str, lines: &[Line]) -> Result<(), WriteFault>
-    ensures { Writes (W.contents writer.old) (W.contents writer.new) result (record_text word.now [] ++ flat_map line_text lines.now) }
+    ensures { Writes (W.contents writer.old) (W.contents writer.new) result
+        (record_text word.now [] ++ flat_map line_text lines.now) }
 {
     write_pieces(writer, &[Piece::Text(word), Piece::Text("\n")])?;
     write_lines(writer, lines)

@@ -1,11 +1,11 @@
 //! The text of a trace: what a run leaves in a file, so that an audit can be made of it later.
 //!
-//! A trace is written as records, one a line, fields parted by `|`: a commit with its client and then the actions of its
-//! refresh in a script's own words, and an answer with its client, its number of commits, its question and its rows, which
-//! stand as in a report.
+//! A trace is written as records, one a line, fields parted by `|`: a commit with its client and then the actions of
+//! its refresh in a script's own words, and an answer with its client, its number of commits, its question and its
+//! rows, which stand as in a report.
 //!
-//! The one contract, of [`write_trace`]: on `Ok` the bytes added are the trace's text, and after a failed write a part of it
-//! from its beginning. It takes no memory. The definition stands in `specs/TraceText.antt`.
+//! The one contract, of [`write_trace`]: on `Ok` the bytes added are the trace's text, and after a failed write a part
+//! of it from its beginning. It takes no memory. The definition stands in `specs/TraceText.antt`.
 //!
 //! ```text
 //! commit|1

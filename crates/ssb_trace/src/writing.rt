@@ -18,8 +18,8 @@ fn write_all<W: Write>(writer: &mut W, trace: &Trace) -> Result<(), WriteFault>
     write_answers(writer, trace.answers.as_slice())
 }
 
-/// Writes the text of a trace: its commits in order, and then its answers in order. Each piece of a record is one `write`,
-/// so a caller buffers. It takes no memory.
+/// Writes the text of a trace: its commits in order, and then its answers in order. Each piece of a record is one
+/// `write`, so a caller buffers. It takes no memory.
 pub fn write_trace<W: Write>(writer: &mut W, trace: &Trace) -> Result<(), WriteFault>
     ensures text { OnOk result (Appends (W.contents writer.old) (W.contents writer.new) (trace_text trace.now)) }
     ensures fault { OnErr result (StopsShort (W.contents writer.old) (W.contents writer.new) (trace_text trace.now)) }

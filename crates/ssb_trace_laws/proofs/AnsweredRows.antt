@@ -1,5 +1,32 @@
 -- The rows of an answer over dimensions that the schema takes may stand in an allowed trace.
-use Rattle.std.proofs.Common.{◌≡◌, Bool, true, false, cond, List, [], ◌∷◌, ◌++◌, map, filter, Option, Some, None, ℤ, IfSome, FitsSigned, refl, sym, ap, ◌∙◌, subst, arith, inl, inr, ◌⊎◌}
+use Rattle.std.proofs.Common.{
+  ◌≡◌,
+  Bool,
+  true,
+  false,
+  cond,
+  List,
+  [],
+  ◌∷◌,
+  ◌++◌,
+  map,
+  filter,
+  Option,
+  Some,
+  None,
+  ℤ,
+  IfSome,
+  FitsSigned,
+  refl,
+  sym,
+  ap,
+  ◌∙◌,
+  subst,
+  arith,
+  inl,
+  inr,
+  ◌⊎◌,
+}
 use Rattle.std.specs.Int.{w64}
 use Rattle.std.specs.List.{AllByRecursion, AllZip, flat_map}
 use Rattle.std.specs.Ordering.{is_eq}
@@ -38,7 +65,8 @@ record IsTaken (c : Combination) : Type 0 where
   part : IsTakenRow table.Part (part_values c.part)
   date : IsTakenRow table.Date (date_values c.date)
 
-all-filter : {X : Type 0} (P : X → Type 0) (p : X → Bool) (xs : List X) → AllByRecursion P xs → AllByRecursion P (filter p xs)
+all-filter : {X : Type 0} (P : X → Type 0) (p : X → Bool) (xs : List X) → AllByRecursion P xs
+    → AllByRecursion P (filter p xs)
 all-filter P p [] all = tt
 all-filter P p (x ∷ xs) all =
     elim (p x) as (λ b. AllByRecursion P (cond b (x ∷ filter p xs) (filter p xs))) [
@@ -46,26 +74,33 @@ all-filter P p (x ∷ xs) all =
       | false ↦ all-filter P p xs all.1
     ]
 
-all-append : {X : Type 0} (P : X → Type 0) (xs ys : List X) → AllByRecursion P xs → AllByRecursion P ys → AllByRecursion P (xs ++ ys)
+all-append : {X : Type 0} (P : X → Type 0) (xs ys : List X) → AllByRecursion P xs → AllByRecursion P ys
+    → AllByRecursion P (xs ++ ys)
 all-append P [] ys a b = b
 all-append P (x ∷ xs) ys a b = (a.0, all-append P xs ys a.1 b)
 
-all-flat : {X Y : Type 0} (Q : X → Type 0) (P : Y → Type 0) (f : X → List Y) (xs : List X) → AllByRecursion Q xs → ((x : X) → Q x → AllByRecursion P (f x))
+all-flat : {X Y : Type 0} (Q : X → Type 0) (P : Y → Type 0) (f : X → List Y) (xs : List X) → AllByRecursion Q xs
+    → ((x : X) → Q x → AllByRecursion P (f x))
     → AllByRecursion P (flat_map f xs)
 all-flat Q P f [] all each = tt
 all-flat Q P f (x ∷ xs) all each = all-append P (f x) (flat_map f xs) (each x all.0) (all-flat Q P f xs all.1 each)
 
-all-map : {X Y : Type 0} (Q : X → Type 0) (P : Y → Type 0) (f : X → Y) (xs : List X) → AllByRecursion Q xs → ((x : X) → Q x → P (f x)) → AllByRecursion P (map f xs)
+all-map : {X Y : Type 0} (Q : X → Type 0) (P : Y → Type 0) (f : X → Y) (xs : List X) → AllByRecursion Q xs
+    → ((x : X) → Q x → P (f x)) → AllByRecursion P (map f xs)
 all-map Q P f [] all each = tt
 all-map Q P f (x ∷ xs) all each = (each x all.0, all-map Q P f xs all.1 each)
 
 module _ (dimensions : Dimensions) (taken : AreTakenDimensions dimensions) where
   joined-taken : (fact : Fact) → AllByRecursion IsTaken (joined_with dimensions fact)
   joined-taken fact =
-      all-flat (λ row. IsTakenRow table.Customer (customer_values row)) IsTaken _ _ (all-filter _ (λ row. nat_eq row.key fact.customer) dimensions.customers taken.customers) (λ customer a.
-      all-flat (λ row. IsTakenRow table.Supplier (supplier_values row)) IsTaken _ _ (all-filter _ (λ row. nat_eq row.key fact.supplier) dimensions.suppliers taken.suppliers) (λ supplier b.
-      all-flat (λ row. IsTakenRow table.Part (part_values row)) IsTaken _ _ (all-filter _ (λ row. nat_eq row.key fact.part) dimensions.parts taken.parts) (λ part c.
-      all-map (λ row. IsTakenRow table.Date (date_values row)) IsTaken _ _ (all-filter _ (λ row. nat_eq row.key fact.date) dimensions.dates taken.dates) (λ date d.
+      all-flat (λ row. IsTakenRow table.Customer (customer_values row)) IsTaken _ _
+      (all-filter _ (λ row. nat_eq row.key fact.customer) dimensions.customers taken.customers) (λ customer a.
+      all-flat (λ row. IsTakenRow table.Supplier (supplier_values row)) IsTaken _ _
+      (all-filter _ (λ row. nat_eq row.key fact.supplier) dimensions.suppliers taken.suppliers) (λ supplier b.
+      all-flat (λ row. IsTakenRow table.Part (part_values row)) IsTaken _ _
+      (all-filter _ (λ row. nat_eq row.key fact.part) dimensions.parts taken.parts) (λ part c.
+      all-map (λ row. IsTakenRow table.Date (date_values row)) IsTaken _ _
+      (all-filter _ (λ row. nat_eq row.key fact.date) dimensions.dates taken.dates) (λ date d.
       record { customer = a; supplier = b; part = c; date = d }))))
 
   all-facts : (facts : List Fact) → AllByRecursion (λ fact. Unit {0}) facts
@@ -75,7 +110,8 @@ module _ (dimensions : Dimensions) (taken : AreTakenDimensions dimensions) where
   found-taken : (plan : Plan) (facts : List Fact) → AllByRecursion IsTaken (combinations plan dimensions facts)
   found-taken plan facts =
       all-filter IsTaken (passes plan) (joined dimensions facts)
-      (all-flat (λ fact. Unit {0}) IsTaken (joined_with dimensions) facts (all-facts facts) (λ fact any. joined-taken fact))
+      (all-flat (λ fact. Unit {0}) IsTaken (joined_with dimensions) facts (all-facts facts)
+      (λ fact any. joined-taken fact))
 
 -- what a combination has in a group column
 abbrev IsIn : Combination → Column → Type 0
@@ -103,7 +139,8 @@ in-year : (c : Combination) → IsTaken c → IsIn c D_YEAR
 in-year c taken = let within = (date_fits c.date taken.date).1.1.1.1.0.0 in omega (arith, within)
 
 -- the group columns of a query do not depend on its constants, and a combination has what they hold
-groups-fit : (query : Query) (constants : List Value) (c : Combination) → IsTaken c → AllZip IsGroup (group_kinds query) (group_of (plan_over query constants) c)
+groups-fit : (query : Query) (constants : List Value) (c : Combination) → IsTaken c
+    → AllZip IsGroup (group_kinds query) (group_of (plan_over query constants) c)
 groups-fit Q1_1 constants c taken = tt
 groups-fit Q1_2 constants c taken = tt
 groups-fit Q1_3 constants c taken = tt
@@ -139,25 +176,29 @@ module _ (group : Combination → List Value) (found : List Combination) where
   Comes columns groups =
       ((columns ≡ []) × (groups ≡ [])) ⊎ ((c : Combination) × Has found c × (groups ≡ group c))
 
-  group-comes : (columns : List Column) (groups : List Value) → Has (groups_among columns group found) groups → Comes columns groups
+  group-comes : (columns : List Column) (groups : List Value) → Has (groups_among columns group found) groups
+      → Comes columns groups
   unfolding Comes
   group-comes [] groups (inl e) = inl (refl, e)
   group-comes [] groups (inr none) = absurd none
   group-comes (column ∷ columns) groups has = inr (has_from_map group found groups has)
 
 -- the row of a group
-some-sum-allowed : (query : Query) (sum : Option ℤ) (z : ℤ) → sum ≡ Some z → IfSome sum (FitsSigned w64) → IsAllowedSum query sum
+some-sum-allowed : (query : Query) (sum : Option ℤ) (z : ℤ) → sum ≡ Some z → IfSome sum (FitsSigned w64)
+    → IsAllowedSum query sum
 some-sum-allowed query None z e fits = absurd (none-some z e)
 some-sum-allowed query (Some sum) z e fits = fits
 
-total-allowed : (query : Query) (sum : Option ℤ) → has_no_groups (group_kinds query) ≡ true → IfSome sum (FitsSigned w64) → IsAllowedSum query sum
+total-allowed : (query : Query) (sum : Option ℤ) → has_no_groups (group_kinds query) ≡ true
+    → IfSome sum (FitsSigned w64) → IsAllowedSum query sum
 total-allowed query None none fits = none
 total-allowed query (Some sum) none fits = fits
 
 no-kinds : (query : Query) → (plan_of query).groups ≡ [] → group_kinds query ≡ []
 no-kinds query e = ap (map (λ column. kind_in column (column_kind column))) e
 
-module _ (question : Query × List Value) (dimensions : Dimensions) (facts : List Fact) (taken : AreTakenDimensions dimensions) where
+module _ (question : Query × List Value) (dimensions : Dimensions) (facts : List Fact)
+    (taken : AreTakenDimensions dimensions) where
   plan : Plan
   plan = plan_over question.0 question.1
 
@@ -165,29 +206,40 @@ module _ (question : Query × List Value) (dimensions : Dimensions) (facts : Lis
   unfolding plan
   found = combinations plan dimensions facts
 
-  row-allowed : (groups : List Value) → Comes (group_of plan) found plan.groups groups → IfSome (row_of plan found groups).sum (FitsSigned w64)
+  row-allowed : (groups : List Value) → Comes (group_of plan) found plan.groups groups
+      → IfSome (row_of plan found groups).sum (FitsSigned w64)
       → IsAllowedRow question.0 (row_of plan found groups)
   unfolding Comes found plan
   row-allowed groups (inl (none, e)) fits =
       let kinds : group_kinds question.0 ≡ [] = no-kinds question.0 (same-groups question.0 question.1 ∙ none) in
-      record { groups = rw (kinds, e) tt; sum = total-allowed question.0 (row_of plan found groups).sum (rw kinds refl) fits }
+      record {
+        groups = rw (kinds, e) tt;
+        sum = total-allowed question.0 (row_of plan found groups).sum (rw kinds refl)
+            fits;
+      }
   row-allowed groups (inr (c, has, e)) fits =
       let fit : AllZip IsGroup (group_kinds question.0) (group_of plan c)
       = groups-fit question.0 question.1 c (all_at IsTaken found c (found-taken dimensions taken plan facts) has) in
-      let same : is_eq (groups_cmp (group_of plan c) groups) ≡ true = rw e (ap is_eq (tied_itself groups_cmp_total (group_of plan c))) in
-      let sum = some_sum plan.measure (in_group plan groups found) c (has_filter (λ other. is_eq (groups_cmp (group_of plan other) groups)) found c same has) in
+      let same : is_eq (groups_cmp (group_of plan c) groups) ≡ true =
+      rw e (ap is_eq (tied_itself groups_cmp_total (group_of plan c))) in
+      let sum = some_sum plan.measure (in_group plan groups found) c
+      (has_filter (λ other. is_eq (groups_cmp (group_of plan other) groups)) found c same has) in
       record {
         groups = subst (AllZip IsGroup (group_kinds question.0)) (sym e) fit;
         sum = some-sum-allowed question.0 (row_of plan found groups).sum sum.0 sum.1 fits;
       }
 
-  answered : (row : ResultRow) → Has (rows_over plan found) row → IfSome row.sum (FitsSigned w64) → IsAllowedRow question.0 row
+  answered : (row : ResultRow) → Has (rows_over plan found) row → IfSome row.sum (FitsSigned w64)
+      → IsAllowedRow question.0 row
   answered row has fits =
-      let target = has_from_map (row_of plan found) (groups_among plan.groups (group_of plan) found) row (has_from_in_order (row_cmp plan.order) _ row has) in
-      let comes : Comes (group_of plan) found plan.groups target.0 = group-comes (group_of plan) found plan.groups target.0 target.1 in
+      let target = has_from_map (row_of plan found) (groups_among plan.groups (group_of plan) found) row
+      (has_from_in_order (row_cmp plan.order) _ row has) in
+      let comes : Comes (group_of plan) found plan.groups target.0 =
+      group-comes (group_of plan) found plan.groups target.0 target.1 in
       subst (IsAllowedRow question.0) (sym target.2)
       (row-allowed target.0 comes (subst (λ (r : ResultRow). IfSome r.sum (FitsSigned w64)) target.2 fits))
 
 pub answers_have_allowed_rows : AnswersHaveAllowedRows
 unfolding found plan
-answers_have_allowed_rows question dimensions facts row taken has fits = answered question dimensions facts taken row has fits
+answers_have_allowed_rows question dimensions facts row taken has fits =
+    answered question dimensions facts taken row has fits

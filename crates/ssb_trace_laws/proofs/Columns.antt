@@ -1,5 +1,40 @@
 -- The columns of a line are read back.
-use Rattle.std.proofs.Common.{ltb-true, ltb-false, ◌&&◌, ◌≡◌, ℕ, ◌+◌, ◌^◌, ◌<◌, ◌≤◌, Bool, true, false, ◌||◌, nat_lt, List, [], ◌∷◌, ◌++◌, length, map, get_or, Option, Some, None, Ok, refl, sym, ap, ◌∙◌, append_assoc, length-append, arith, inl, inr}
+use Rattle.std.proofs.Common.{
+  ltb-true,
+  ltb-false,
+  ◌&&◌,
+  ◌≡◌,
+  ℕ,
+  ◌+◌,
+  ◌^◌,
+  ◌<◌,
+  ◌≤◌,
+  Bool,
+  true,
+  false,
+  ◌||◌,
+  nat_lt,
+  List,
+  [],
+  ◌∷◌,
+  ◌++◌,
+  length,
+  map,
+  get_or,
+  Option,
+  Some,
+  None,
+  Ok,
+  refl,
+  sym,
+  ap,
+  ◌∙◌,
+  append_assoc,
+  length-append,
+  arith,
+  inl,
+  inr,
+}
 use Rattle.std.specs.List.{AllByRecursion, AllZip}
 use Rattle.std.specs.Str.{IsUtf8}
 use Rattle.std.proofs.Math.Seq.{get_or-append_seam}
@@ -40,17 +75,21 @@ value-read column kind.Text (Text bytes) fits = rw ((text_kept bytes fits.0).kep
 value-read column (kind.Number least most) (Text bytes) fits = absurd fits
 value-read column kind.Text (Number n) fits = absurd fits
 
-values-read : (t : Table) (front : List (List ℕ)) (kinds : List Kind) (values : List Value) → AllZip IsColumn kinds values
+values-read : (t : Table) (front : List (List ℕ)) (kinds : List Kind) (values : List Value)
+    → AllZip IsColumn kinds values
     → values_from t (length front) kinds (front ++ map column_text values) ≡ Ok values
 unfolding values_from
 values-read t front [] [] fit = refl
 values-read t front [] (v ∷ values) fit = absurd fit
 values-read t front (k ∷ kinds) [] fit = absurd fit
 values-read t front (k ∷ kinds) (v ∷ values) fit =
-    let there : get_or (front ++ column_text v ∷ map column_text values) (length front) [] ≡ column_text v = get_or-append_seam front (column_text v) (map column_text values) [] in
+    let there : get_or (front ++ column_text v ∷ map column_text values) (length front) [] ≡ column_text v =
+    get_or-append_seam front (column_text v) (map column_text values) [] in
     let later : values_from t (length front + 1) kinds (front ++ column_text v ∷ map column_text values) ≡ Ok values
-    = ap (λ n. values_from t n kinds (front ++ column_text v ∷ map column_text values)) (sym (length-append front (column_text v ∷ [])))
-    ∙ (ap (values_from t (length (front ++ column_text v ∷ [])) kinds) (sym (append_assoc front (column_text v ∷ []) (map column_text values)))
+    = ap (λ n. values_from t n kinds (front ++ column_text v ∷ map column_text values))
+    (sym (length-append front (column_text v ∷ [])))
+    ∙ (ap (values_from t (length (front ++ column_text v ∷ [])) kinds)
+    (sym (append_assoc front (column_text v ∷ []) (map column_text values)))
     ∙ values-read t (front ++ column_text v ∷ []) kinds values fit.1) in
     rw (there, value-read (record { table = t; place = length front + 1 }) k v fit.0, later) refl
 
@@ -72,13 +111,15 @@ or-right : (a b : Bool) → (a || b) ≡ false → b ≡ false
 or-right false b e = e
 or-right true b e = absurd cc
 
-number-fits : (column : Column) (least most n : ℕ) → column_fault column (kind.Number least most) (Number n) ≡ None → n ≤ most
+number-fits : (column : Column) (least most n : ℕ) → column_fault column (kind.Number least most) (Number n) ≡ None
+    → n ≤ most
 number-fits column least most n none = elim (cases_Bool (nat_lt n least || nat_lt most n)) [
   | inl outside ↦ absurd (none-some _ (sym (rw outside at none)))
   | inr within ↦ ltb-false most n (or-right (nat_lt n least) (nat_lt most n) within)
 ]
 
-text-fits : (column : Column) (bytes : List ℕ) → column_fault column kind.Text (Text bytes) ≡ None → is_plain bytes ≡ true
+text-fits : (column : Column) (bytes : List ℕ) → column_fault column kind.Text (Text bytes) ≡ None
+    → is_plain bytes ≡ true
 text-fits column bytes none = elim (cases_Bool (is_plain bytes)) [
   | inl plain ↦ plain
   | inr other ↦ elim (cases_Bool (nat_lt 64 (length bytes))) [
@@ -90,7 +131,8 @@ text-fits column bytes none = elim (cases_Bool (is_plain bytes)) [
 false-true : false ≡ true → ⊥
 false-true e = cc
 
-column-fits : (column : Column) (k : Kind) (v : Value) → matches k v ≡ true → IsColumnText v → column_fault column k v ≡ None → IsColumn k v
+column-fits : (column : Column) (k : Kind) (v : Value) → matches k v ≡ true → IsColumnText v
+    → column_fault column k v ≡ None → IsColumn k v
 unfolding matches
 column-fits column (kind.Number least most) (Number n) match text none =
     let within : n ≤ most = number-fits column least most n none in
@@ -107,7 +149,8 @@ no-other : (f other : Option SchemaFault) → or_else f other ≡ None → other
 no-other None other e = e
 no-other (Some f) other e = absurd cc
 
-columns-fit : (t : Table) (place : ℕ) (kinds : List Kind) (values : List Value) → all_match kinds values ≡ true → AllByRecursion IsColumnText values
+columns-fit : (t : Table) (place : ℕ) (kinds : List Kind) (values : List Value) → all_match kinds values ≡ true
+    → AllByRecursion IsColumnText values
     → first_fault t place kinds values ≡ None → AllZip IsColumn kinds values
 unfolding first_fault all_match
 columns-fit t place [] [] match texts none = tt
@@ -121,7 +164,8 @@ columns-fit t place (k ∷ kinds) (v ∷ values) match texts none =
           (no-other (column_fault column k v) (first_fault t (place + 1) kinds values) none),
     )
 
-row-fits : (t : Table) (values : List Value) → all_match (kinds_of t) values ≡ true → IsTakenRow t values → AllZip IsColumn (kinds_of t) values
+row-fits : (t : Table) (values : List Value) → all_match (kinds_of t) values ≡ true → IsTakenRow t values
+    → AllZip IsColumn (kinds_of t) values
 row-fits t values match taken = columns-fit t 1 (kinds_of t) values match taken.texts taken.taken
 
 line-fits : (line : LineFields) → IsAllowedLine line → AllZip IsColumn (kinds_of table.Lineorder) (line_values line)
@@ -129,27 +173,33 @@ unfolding all_match matches
 line-fits line allowed = row-fits table.Lineorder (line_values line) refl allowed
 
 -- the columns of the dimensions
-pub customer_fits : (row : CustomerFields) → IsTakenRow table.Customer (customer_values row) → AllZip IsColumn (kinds_of table.Customer) (customer_values row)
+pub customer_fits : (row : CustomerFields) → IsTakenRow table.Customer (customer_values row)
+    → AllZip IsColumn (kinds_of table.Customer) (customer_values row)
 unfolding all_match matches
 customer_fits row taken = row-fits table.Customer (customer_values row) refl taken
 
-pub supplier_fits : (row : SupplierFields) → IsTakenRow table.Supplier (supplier_values row) → AllZip IsColumn (kinds_of table.Supplier) (supplier_values row)
+pub supplier_fits : (row : SupplierFields) → IsTakenRow table.Supplier (supplier_values row)
+    → AllZip IsColumn (kinds_of table.Supplier) (supplier_values row)
 unfolding all_match matches
 supplier_fits row taken = row-fits table.Supplier (supplier_values row) refl taken
 
-pub part_fits : (row : PartFields) → IsTakenRow table.Part (part_values row) → AllZip IsColumn (kinds_of table.Part) (part_values row)
+pub part_fits : (row : PartFields) → IsTakenRow table.Part (part_values row)
+    → AllZip IsColumn (kinds_of table.Part) (part_values row)
 unfolding all_match matches
 part_fits row taken = row-fits table.Part (part_values row) refl taken
 
-pub date_fits : (row : DateFields) → IsTakenRow table.Date (date_values row) → AllZip IsColumn (kinds_of table.Date) (date_values row)
+pub date_fits : (row : DateFields) → IsTakenRow table.Date (date_values row)
+    → AllZip IsColumn (kinds_of table.Date) (date_values row)
 unfolding all_match matches
 date_fits row taken = row-fits table.Date (date_values row) refl taken
 
 -- the values of a line
-pub line_read : (line : LineFields) → IsAllowedLine line → row.row_of table.Lineorder (map column_text (line_values line)) ≡ Ok (line_values line)
+pub line_read : (line : LineFields) → IsAllowedLine line
+    → row.row_of table.Lineorder (map column_text (line_values line)) ≡ Ok (line_values line)
 unfolding row.row_of
 line_read line allowed =
-    let values : values_from table.Lineorder 0 (kinds_of table.Lineorder) (map column_text (line_values line)) ≡ Ok (line_values line)
+    let values : values_from table.Lineorder 0 (kinds_of table.Lineorder) (map column_text (line_values line)) ≡ Ok
+    (line_values line)
     = values-read table.Lineorder [] (kinds_of table.Lineorder) (line_values line) (line-fits line allowed) in
     rw (values, allowed.taken) refl
 
@@ -160,11 +210,13 @@ value-plain kind.Text (Text bytes) fits = (text_kept bytes fits.0).plain
 value-plain (kind.Number least most) (Text bytes) fits = absurd fits
 value-plain kind.Text (Number n) fits = absurd fits
 
-values-plain : (kinds : List Kind) (values : List Value) → AllZip IsColumn kinds values → AllByRecursion IsPlainField (map column_text values)
+values-plain : (kinds : List Kind) (values : List Value) → AllZip IsColumn kinds values
+    → AllByRecursion IsPlainField (map column_text values)
 values-plain [] [] fit = tt
 values-plain [] (v ∷ values) fit = absurd fit
 values-plain (k ∷ kinds) [] fit = absurd fit
 values-plain (k ∷ kinds) (v ∷ values) fit = (value-plain k v fit.0, values-plain kinds values fit.1)
 
-pub line_plain : (line : LineFields) → IsAllowedLine line → AllByRecursion IsPlainField (map column_text (line_values line))
+pub line_plain : (line : LineFields) → IsAllowedLine line
+    → AllByRecursion IsPlainField (map column_text (line_values line))
 line_plain line allowed = values-plain (kinds_of table.Lineorder) (line_values line) (line-fits line allowed)

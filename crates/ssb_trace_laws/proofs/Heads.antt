@@ -1,11 +1,37 @@
 -- The text of an answer's first record spells the answer's head.
-use Rattle.std.proofs.Common.{eq-eqb, ne_eqb, ◌≡◌, ℕ, ◌+◌, ◌≤◌, true, false, List, [], ◌∷◌, ◌++◌, length, map, decimal, codes, Some, refl, sym, ap, ◌∙◌, append_assoc, arith, inl, inr}
+use Rattle.std.proofs.Common.{
+  eq-eqb,
+  ne_eqb,
+  ◌≡◌,
+  ℕ,
+  ◌+◌,
+  ◌≤◌,
+  true,
+  false,
+  List,
+  [],
+  ◌∷◌,
+  ◌++◌,
+  length,
+  map,
+  decimal,
+  codes,
+  Some,
+  refl,
+  sym,
+  ap,
+  ◌∙◌,
+  append_assoc,
+  arith,
+  inl,
+  inr,
+}
 use Rattle.std.specs.List.{AllByRecursion, AllZip, flat_map}
 use Rattle.std.proofs.lemmas.Bool.{cases_Bool}
 use Rattle.std.proofs.lemmas.List.{append-nil}
 use Rattle.ssb_audit.specs.declared.trace.Told.{Told}
-use Rattle.ssb_load.specs.Records.{has_columns}
-use Rattle.ssb_load.specs.Spelling.{without_spaces}
+use Rattle.ssb_records.specs.Records.{has_columns}
+use Rattle.ssb_records.specs.Spelling.{without_spaces}
 use Rattle.ssb_plans.proofs.QuestionLemmas.{question_Decides}
 use Rattle.ssb_plans.specs.Kind.{constant_kinds}
 use Rattle.ssb_plans.specs.Queries.{standard_constants}
@@ -111,8 +137,10 @@ given-read question a b c d e allowed =
     let many : length (map value_text question.1) ≡ length kinds = as_many_values kinds question.1 fit in
     let fields : List (List ℕ) = a ∷ b ∷ c ∷ d ∷ e ∷ map value_text question.1 in
     let some : has_columns 5 fields ≡ false = columns-more 5 fields (omega (arith, many, two-constants question.0)) in
-    let all : has_columns (5 + length kinds) fields ≡ true = columns_exact (5 + length kinds) fields (omega (arith, many)) in
-    let end : a ∷ b ∷ c ∷ d ∷ e ∷ (map value_text question.1 ++ []) ≡ fields = ap (λ more. a ∷ b ∷ c ∷ d ∷ e ∷ more) (append-nil (map value_text question.1)) in
+    let all : has_columns (5 + length kinds) fields ≡ true =
+    columns_exact (5 + length kinds) fields (omega (arith, many)) in
+    let end : a ∷ b ∷ c ∷ d ∷ e ∷ (map value_text question.1 ++ []) ≡ fields =
+    ap (λ more. a ∷ b ∷ c ∷ d ∷ e ∷ more) (append-nil (map value_text question.1)) in
     let read : constants_from 5 kinds fields ≡ Some question.1
     = ap (constants_from 5 kinds) (sym end) ∙ values_read (a ∷ b ∷ c ∷ d ∷ e ∷ []) kinds question.1 [] fit in
     rw (some, all, read, allowed.taken) refl
@@ -120,15 +148,19 @@ given-read question a b c d e allowed =
 constants-read : (question : Query × List Value) (a b c d e : List ℕ) → IsAllowedQuestion question
     → constants_at 5 question.0 (a ∷ b ∷ c ∷ d ∷ e ∷ map value_text (written_constants question)) ≡ Some question.1
 unfolding constants_at
-constants-read question a b c d e allowed = elim (cases_Bool (question_eq question (question.0, standard_constants question.0))) [
-  | inl standard ↦
-      let same : question ≡ (question.0, standard_constants question.0) = (question_Decides question (question.0, standard_constants question.0)).0 standard in
-      let constants : standard_constants question.0 ≡ question.1 = sym (ap (λ (q : Query × List Value). q.1) same) in
-      rw standard (ap Some constants)
-  | inr own ↦ rw own (given-read question a b c d e allowed)
-]
+constants-read question a b c d e allowed = elim (cases_Bool
+    (question_eq question (question.0, standard_constants question.0))) [
+      | inl standard ↦
+          let same : question ≡ (question.0, standard_constants question.0) =
+          (question_Decides question (question.0, standard_constants question.0)).0 standard in
+          let constants : standard_constants question.0 ≡ question.1 =
+          sym (ap (λ (q : Query × List Value). q.1) same) in
+          rw standard (ap Some constants)
+      | inr own ↦ rw own (given-read question a b c d e allowed)
+    ]
 
-constants-plain : (question : Query × List Value) → IsAllowedQuestion question → AllByRecursion IsPlainField (map value_text (written_constants question))
+constants-plain : (question : Query × List Value) → IsAllowedQuestion question
+    → AllByRecursion IsPlainField (map value_text (written_constants question))
 constants-plain question allowed = elim (cases_Bool (question_eq question (question.0, standard_constants question.0))) [
   | inl standard ↦ rw standard tt
   | inr own ↦ rw own (values_plain (constant_kinds question.0) question.1 (constants_fit question allowed))
@@ -137,7 +169,8 @@ constants-plain question allowed = elim (cases_Bool (question_eq question (quest
 -- the fields of the record
 head_fields : Told → List (List ℕ)
 head_fields told =
-    codes "answer" ∷ decimal told.client ∷ decimal told.at ∷ name_of told.question.0 ∷ decimal (length told.rows) ∷ map value_text (written_constants told.question)
+    codes "answer" ∷ decimal told.client ∷ decimal told.at ∷ name_of told.question.0 ∷ decimal (length told.rows) ∷ map
+    value_text (written_constants told.question)
 
 says-head : (told : Told) → HasAllowedHead told → Says (head_fields told) (Answer (head_of_told told))
 unfolding head_fields word_of without_spaces
@@ -149,7 +182,8 @@ says-head told allowed =
       number_read told.at allowed.at,
       name-kept told.question.0,
       name-read told.question.0,
-      constants-read told.question (codes "answer") (decimal told.client) (decimal told.at) (name_of told.question.0) (decimal (length told.rows)) allowed.question,
+      constants-read told.question (codes "answer") (decimal told.client) (decimal told.at) (name_of told.question.0)
+          (decimal (length told.rows)) allowed.question,
       (number_kept (length told.rows) allowed.count).kept,
       number_read (length told.rows) allowed.count,
     ) refl
@@ -161,13 +195,16 @@ bars (v ∷ values) =
     append_assoc (after_bar v) (flat_map after_bar values) line_feed
     ∙ ap (λ rest. after_bar v ++ rest) (bars values)
 
-head-written : (told : Told) → record_text (codes "answer") (decimal told.client ∷ decimal told.at ∷ name_of told.question.0 ∷ decimal (length told.rows) ∷ map value_text (written_constants told.question)) ≡ head_text told
+head-written : (told : Told) → record_text (codes "answer")
+    (decimal told.client ∷ decimal told.at ∷ name_of told.question.0 ∷ decimal (length told.rows) ∷ map value_text
+    (written_constants told.question)) ≡ head_text told
 head-written told = rw (← bars (written_constants told.question)) (simp append_assoc refl)
 
 pub written_head : (told : Told) → HasAllowedHead told → Written (head_text told) (Answer (head_of_told told) ∷ [])
 unfolding head_fields
 written_head told allowed =
-    written_as (text_of_record (head_fields told)) (head_text told) (Answer (head_of_told told) ∷ []) (Answer (head_of_told told) ∷ []) (head-written told) refl
+    written_as (text_of_record (head_fields told)) (head_text told) (Answer (head_of_told told) ∷ [])
+    (Answer (head_of_told told) ∷ []) (head-written told) refl
     (written_one (head_fields told) (Answer (head_of_told told)) (
       refl,
       refl,

@@ -1,5 +1,22 @@
 -- A legal trace is allowed, where its parts are: its answers' rows are those of their questions.
-use Rattle.std.proofs.Common.{◌≡◌, ℕ, List, [], ◌∷◌, Some, IfSome, FitsSigned, refl, suc, zero, subst, inl, inr, slice_get, take}
+use Rattle.std.proofs.Common.{
+  ◌≡◌,
+  ℕ,
+  List,
+  [],
+  ◌∷◌,
+  Some,
+  IfSome,
+  FitsSigned,
+  refl,
+  suc,
+  zero,
+  subst,
+  inl,
+  inr,
+  slice_get,
+  take,
+}
 use Rattle.std.specs.Int.{w64}
 use Rattle.std.specs.List.{AllByRecursion}
 use Rattle.row_store.specs.History.{CommitRecord, lines_after}
@@ -17,12 +34,14 @@ all-from : {X : Type 0} (P : X → Type 0) (xs : List X) → ((x : X) → Has xs
 all-from P [] each = tt
 all-from P (x ∷ xs) each = (each x (inl refl), all-from P xs (λ y has. each y (inr has)))
 
-told-allowed : (base : Tables) (commits : List CommitRecord) (told : Told) → AreTakenDimensions base.dimensions → IsTrueOf base commits told
+told-allowed : (base : Tables) (commits : List CommitRecord) (told : Told) → AreTakenDimensions base.dimensions
+    → IsTrueOf base commits told
     → HasAllowedHead told → HasSums told → IsAllowedTold told
 told-allowed base commits told taken true_of head sums = record {
   head = head;
   rows = all-from (IsAllowedRow told.question.0) told.rows (λ row has.
-      answers_have_allowed_rows told.question base.dimensions (facts_of (lines_after base (take told.at commits))) row taken
+      answers_have_allowed_rows told.question base.dimensions (facts_of (lines_after base (take told.at commits))) row
+      taken
       (subst (λ rows. Has rows row) true_of.rows has)
       (all_at (λ r. IfSome r.sum (FitsSigned w64)) told.rows row sums has));
 }

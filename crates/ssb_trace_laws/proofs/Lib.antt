@@ -11,4 +11,5 @@ pub mod Rows
 pub mod TraceLaws
 pub mod AnsweredRows
 pub mod LegalTraces
+pub mod EachLaws
 pub mod HeldLaws

@@ -112,3 +112,15 @@ pub record AreTakenDimensions (dimensions : Dimensions) : Type 0 where
 -- the sums of an answer have 64 bits
 abbrev pub HasSums : Told → Type 0
 HasSums told = AllByRecursion (λ row. IfSome row.sum (FitsSigned w64)) told.rows
+
+-- an answer whose numbers and sums have 64 bits, and whose question its query takes
+pub record IsHeld (told : Told) : Type 0 where
+  pub at : told.at < 2 ^ 64
+  pub question : IsAllowedQuestion told.question
+  pub count : length told.rows < 2 ^ 64
+  pub sums : HasSums told
+
+-- its commits and its answers are those of at most 16 clients
+pub record HasClients (trace : Trace) : Type 0 where
+  pub commits : AllByRecursion (λ (commit : CommitRecord). IsClient commit.client) trace.commits
+  pub answers : AllByRecursion (λ (told : Told). IsClient told.client) trace.answers

@@ -40,3 +40,8 @@ LegalTracesAreAllowed =
     (base : Tables) (trace : Trace) → AreTakenDimensions base.dimensions → IsLegalTrace base trace
     → AllByRecursion IsAllowedCommit trace.commits → AllByRecursion HasAllowedHead trace.answers
     → AllByRecursion HasSums trace.answers → IsAllowed trace
+
+-- the text of a trace is read as that trace, wherever so many records may be read, and as no other
+pub record IsReadBack (trace : Trace) : Type 0 where
+  pub spells : (most : ℕ) → length (lines_of_trace trace) ≤ most → SpellsTrace most (trace_text trace) trace
+  pub no_other : (most : ℕ) (other : Trace) → SpellsTrace most (trace_text trace) other → other ≡ trace

@@ -5,9 +5,16 @@ use Rattle.std.proofs.lemmas.List.Elements.{All-from_recursion}
 use Rattle.row_store.specs.History.{CommitRecord}
 use Rattle.ssb_audit.specs.declared.trace.Told.{Told}
 use Rattle.ssb_audit.specs.declared.trace.Trace.{Trace}
-use Rattle.ssb_load.specs.Records.{HasRecords}
+use Rattle.ssb_records.specs.Records.{HasRecords}
 use Rattle.ssb_script.specs.Requests.{IsWholeRequest, Refresh}
-use Rattle.ssb_trace_read.specs.Blocks.{IsWholeBlock, answers_in, commits_in, lines_of_blocks, lines_of_commit, lines_of_told}
+use Rattle.ssb_trace_read.specs.Blocks.{
+  IsWholeBlock,
+  answers_in,
+  commits_in,
+  lines_of_blocks,
+  lines_of_commit,
+  lines_of_told,
+}
 use Rattle.ssb_trace_read.specs.Lines.{AreLines}
 use Rattle.ssb_trace_read.specs.Traces.{SpellsTrace}
 use Rattle.ssb_trace_read.specs.declared.block.Block.{Block}
@@ -40,14 +47,16 @@ lines-of (commit ∷ commits) answers =
     append_assoc (lines_of_commit commit) (flat_map lines_of_commit commits) (flat_map lines_of_told answers)
     ∙ ap (λ rest. lines_of_commit commit ++ rest) (lines-of commits answers)
 
-all-whole : (commits : List CommitRecord) (answers : List Told) → AllByRecursion (λ commit. IsWholeRequest (Refresh commit.actions)) commits
+all-whole : (commits : List CommitRecord) (answers : List Told)
+    → AllByRecursion (λ commit. IsWholeRequest (Refresh commit.actions)) commits
     → AllByRecursion IsWholeBlock (in_order commits answers)
 unfolding in_order
 all-whole [] [] whole = tt
 all-whole [] (told ∷ answers) whole = (tt, all-whole [] answers whole)
 all-whole (commit ∷ commits) answers whole = (whole.0, all-whole commits answers whole.1)
 
-pub spells_in_order : (most : ℕ) (text : List ℕ) (records : List (List (List ℕ))) (trace : Trace) → HasRecords text records → length records ≤ most
+pub spells_in_order : (most : ℕ) (text : List ℕ) (records : List (List (List ℕ))) (trace : Trace)
+    → HasRecords text records → length records ≤ most
     → AreLines records (flat_map lines_of_commit trace.commits ++ flat_map lines_of_told trace.answers)
     → AllByRecursion (λ commit. IsWholeRequest (Refresh commit.actions)) trace.commits
     → SpellsTrace most text trace
@@ -57,7 +66,8 @@ spells_in_order most text records trace all few said whole = record {
   few = few;
   blocks = in_order trace.commits trace.answers;
   spelled = subst (AreLines records) (lines-of trace.commits trace.answers) said;
-  whole = All-from_recursion IsWholeBlock (in_order trace.commits trace.answers) (all-whole trace.commits trace.answers whole);
+  whole = All-from_recursion IsWholeBlock (in_order trace.commits trace.answers)
+      (all-whole trace.commits trace.answers whole);
   commits = commits-of trace.commits trace.answers;
   answers = answers-of trace.commits trace.answers;
 }

@@ -68,5 +68,6 @@ lines_of_unfinished (unfinished.Answer answer) = Answer answer.head ∷ map (Row
 abbrev pub IsUnfinished : ℕ → Unfinished → Type 0
 IsUnfinished count unfinished.Nothing = Unit {0}
 IsUnfinished count (unfinished.Commit commit) =
-    (is_outside (begun_in commit.begun) ≡ false) × HasRoom count (begun_in commit.begun) × IsSettled (begun_in commit.begun)
+    (is_outside (begun_in commit.begun) ≡ false) × HasRoom count (begun_in commit.begun)
+    × IsSettled (begun_in commit.begun)
 IsUnfinished count (unfinished.Answer answer) = length answer.rows < answer.head.count

@@ -1,9 +1,9 @@
 -- What a `commit` record and an `answer` record of a trace spell.
 use Rattle.std.specs.Prelude.{ℕ, ◌&&◌, List, Option, Some, None, option_map, nat_le, if◌then◌else◌}
 use Rattle.std.specs.Option.{option_and_then}
-use Rattle.ssb_load.specs.Records.{has_columns}
-use Rattle.ssb_load.specs.Spelling.{number_of}
-use Rattle.ssb_script.specs.Lines.{field, question_at}
+use Rattle.ssb_records.specs.Records.{has_columns}
+use Rattle.ssb_records.specs.Spelling.{field, number_of}
+use Rattle.ssb_script.specs.Lines.{question_at}
 use Rattle.ssb_trace_read.specs.declared.heads.AnswerHead.{AnswerHead}
 
 -- the number of a client, 1 to 16

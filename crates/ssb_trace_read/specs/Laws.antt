@@ -5,4 +5,5 @@ use Rattle.ssb_trace_read.specs.Traces.{SpellsTrace}
 
 -- a text has one reading: it spells no two traces, whatever the bounds of records
 abbrev pub HasOneReading : List ℕ → Type 0
-HasOneReading text = (most more : ℕ) (one other : Trace) → SpellsTrace most text one → SpellsTrace more text other → one ≡ other
+HasOneReading text = (most more : ℕ) (one other : Trace) → SpellsTrace most text one → SpellsTrace more text other
+    → one ≡ other

@@ -1,11 +1,43 @@
 -- What one record of a trace spells.
-use Rattle.std.specs.Prelude.{◌≡◌, ℕ, Bool, true, false, List, [], ◌∷◌, drop, find, codes, Option, Some, None, option_map, Result, Ok, Err, nat_eq}
+use Rattle.std.specs.Prelude.{
+  ◌≡◌,
+  ℕ,
+  Bool,
+  true,
+  false,
+  List,
+  [],
+  ◌∷◌,
+  drop,
+  find,
+  codes,
+  Option,
+  Some,
+  None,
+  option_map,
+  Result,
+  Ok,
+  Err,
+  nat_eq,
+}
 use Rattle.std.specs.Cmp.Lexicographic.{pointwise}
 use Rattle.ssb_plans.specs.declared.query.Query.{Query}
 use Rattle.ssb_queries.specs.declared.answer.ResultRow.{ResultRow}
 use Rattle.ssb_load.specs.Row as row
+use Rattle.ssb_records.specs.Spelling.{field}
 use Rattle.ssb_schema.specs.declared.table.Table.TheVariants as table
-use Rattle.ssb_script.specs.Lines.{ScriptLine, RecordFault, Open, Withdraw, Commit, Bad, alone, field, key_of, line_or_bad, line_or_refusal}
+use Rattle.ssb_script.specs.Lines.{
+  ScriptLine,
+  RecordFault,
+  Open,
+  Withdraw,
+  Commit,
+  Bad,
+  alone,
+  key_of,
+  line_or_bad,
+  line_or_refusal,
+}
 use Rattle.ssb_script.specs.declared.control.Opening.TheVariants.{Add, Amend}
 use Rattle.ssb_trace_read.specs.Heads.{commit_of, head_of}
 use Rattle.ssb_trace_read.specs.Rows.{row_of}

@@ -1,20 +1,45 @@
 -- What a `row` record of a trace spells.
-use Rattle.std.specs.Prelude.{ℤ, pos, ◌-ℤ◌, ℕ, ◌+◌, ◌^◌, Bool, true, false, List, [], ◌∷◌, map, length, codes, Option, Some, None, option_map, nat_eq, nat_lt, nat_le, ◌==◌, if◌then◌else◌}
+use Rattle.std.specs.Prelude.{
+  ℤ,
+  pos,
+  ◌-ℤ◌,
+  ℕ,
+  ◌+◌,
+  ◌^◌,
+  Bool,
+  true,
+  false,
+  List,
+  [],
+  ◌∷◌,
+  map,
+  length,
+  codes,
+  Option,
+  Some,
+  None,
+  option_map,
+  nat_eq,
+  nat_lt,
+  nat_le,
+  ◌==◌,
+  if◌then◌else◌,
+}
 use Rattle.std.specs.Option.{option_and_then}
 use Rattle.std.specs.Cmp.Lexicographic.{pointwise}
 use Rattle.ssb_schema.specs.Columns.{column_kind}
 use Rattle.ssb_schema.specs.declared.column.Column.{Column}
 use Rattle.ssb_schema.specs.declared.kind.Kind.{Kind}
 use Rattle.ssb_schema.specs.declared.kind.Kind.TheVariants as kind
-use Rattle.ssb_load.specs.Records.{has_columns}
-use Rattle.ssb_load.specs.Spelling.{number_of}
+use Rattle.ssb_records.specs.Records.{has_columns}
+use Rattle.ssb_records.specs.Spelling.{field, number_of}
 use Rattle.ssb_plans.specs.Queries.{plan_of}
 use Rattle.ssb_plans.specs.Query.{sum_first}
 use Rattle.ssb_plans.specs.declared.kind.ConstantKind.{ConstantKind}
 use Rattle.ssb_plans.specs.declared.kind.ConstantKind.TheVariants.{Text, Number}
 use Rattle.ssb_plans.specs.declared.query.Query.{Query}
 use Rattle.ssb_queries.specs.declared.answer.ResultRow.{ResultRow}
-use Rattle.ssb_script.specs.Lines.{field, constants_from}
+use Rattle.ssb_script.specs.Lines.{constants_from}
 
 -- what a group column holds: a number of 32 bits, or a text
 abbrev pub kind_in : Column → Option Kind → ConstantKind
@@ -39,7 +64,8 @@ negative n = if nat_le n (2 ^ 63) then Some (pos 0 -ℤ pos n) else None
 -- the number that an optional minus (byte 45) and digits spell
 abbrev pub signed_of : List ℕ → Option ℤ
 signed_of [] = None
-signed_of (b ∷ bytes) = if b == 45 then option_and_then negative (amount_of bytes) else option_and_then positive (amount_of (b ∷ bytes))
+signed_of (b ∷ bytes) = if b == 45 then option_and_then negative (amount_of bytes) else option_and_then positive
+    (amount_of (b ∷ bytes))
 
 -- a query without group columns has one row, whose sum may be NULL
 abbrev pub has_no_groups : List ConstantKind → Bool
@@ -52,12 +78,14 @@ null_of false = None
 
 -- the sum that bytes spell in a row of the query
 abbrev pub sum_of : Query → List ℕ → Option (Option ℤ)
-sum_of query bytes = if pointwise nat_eq bytes (codes "NULL") then null_of (has_no_groups (group_kinds query)) else option_map Some (signed_of bytes)
+sum_of query bytes = if pointwise nat_eq bytes (codes "NULL") then null_of (has_no_groups (group_kinds query)) else
+    option_map Some (signed_of bytes)
 
 -- the row whose sum stands at one place, and whose group columns from another on
 abbrev pub row_at : Query → ℕ → ℕ → List (List ℕ) → Option ResultRow
 row_at query sum_place groups_place fields =
-    option_and_then (λ sum. option_map (λ groups. record { groups = groups; sum = sum }) (constants_from groups_place (group_kinds query) fields)) (sum_of query (field fields sum_place))
+    option_and_then (λ sum. option_map (λ groups. record { groups = groups; sum = sum })
+    (constants_from groups_place (group_kinds query) fields)) (sum_of query (field fields sum_place))
 
 -- the row of the query that a record spells behind its word: its printed columns
 abbrev pub row_of : Query → List (List ℕ) → Option ResultRow

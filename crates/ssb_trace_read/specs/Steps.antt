@@ -40,5 +40,7 @@ StandsInside _ = Unit {0}
 
 -- a step in a refresh of a script is this one in a commit of the client
 abbrev pub CommitStep : ℕ → ScriptStep → Step → Type 0
-CommitStep client inside step = (number : ℕ) (old : Begun) (line : ScriptLine) → is_outside old ≡ false → StandsInside line
-    → FollowsInScript number old line inside → Takes number (map (in_commit client) (lines_of_begun old ++ line ∷ [])) step
+CommitStep client inside step = (number : ℕ) (old : Begun) (line : ScriptLine) → is_outside old ≡ false
+    → StandsInside line
+    → FollowsInScript number old line inside → Takes number (map (in_commit client) (lines_of_begun old ++ line ∷ []))
+    step

@@ -1,20 +1,44 @@
 -- What the text of a trace spells, and its first fault.
-use Rattle.std.specs.Prelude.{◌≡◌, ℕ, ◌+◌, ◌≤◌, ◌⊎◌, ◌++◌, List, [], ◌∷◌, length, All, Option, Some, None, if◌then◌else◌}
+use Rattle.std.specs.Prelude.{
+  ◌≡◌,
+  ℕ,
+  ◌+◌,
+  ◌≤◌,
+  ◌⊎◌,
+  ◌++◌,
+  List,
+  [],
+  ◌∷◌,
+  length,
+  All,
+  Option,
+  Some,
+  None,
+  if◌then◌else◌,
+}
 use Rattle.ssb_audit.specs.declared.trace.Trace.{Trace}
-use Rattle.ssb_load.specs.Records.{BeginsWith, HasRecords}
+use Rattle.ssb_records.specs.Records.{BeginsWith, HasRecords}
 use Rattle.ssb_script.specs.Begun.{Begun}
 use Rattle.ssb_script.specs.Scripts.{checks_in, first_of, refusal_at_end, too_long}
 use Rattle.ssb_script.specs.Steps.{begun_in}
 use Rattle.ssb_script.specs.declared.error.ScriptError.{ScriptError}
 use Rattle.ssb_script.specs.declared.error.ScriptError.TheVariants as error
-use Rattle.ssb_trace_read.specs.Blocks.{IsUnfinished, IsWholeBlock, answers_in, commits_in, lines_of_blocks, lines_of_unfinished}
+use Rattle.ssb_trace_read.specs.Blocks.{
+  IsUnfinished,
+  IsWholeBlock,
+  answers_in,
+  commits_in,
+  lines_of_blocks,
+  lines_of_unfinished,
+}
 use Rattle.ssb_trace_read.specs.Lines.{AreLines, block_begun, is_line, line_inside, row_after, word_of}
 use Rattle.ssb_trace_read.specs.declared.block.Block.{Block}
 use Rattle.ssb_trace_read.specs.declared.unfinished.Unfinished.{Unfinished}
 use Rattle.ssb_trace_read.specs.declared.unfinished.Unfinished.TheVariants as unfinished
 use Rattle.ssb_trace_read.specs.declared.word.Word.{Word}
 
--- a text spells this trace: its records, at most so many, spell the lines of commits and answers and nothing else, and these
+-- a text spells this trace: its records, at most so many, spell the lines of commits and answers and nothing else, and
+-- these
 -- are the trace's, each in order
 pub record SpellsTrace (most : ℕ) (text : List ℕ) (trace : Trace) : Type 0 where
   pub records : List (List (List ℕ))
@@ -46,7 +70,8 @@ abbrev pub checks_after : ℕ → Unfinished → Option Word → List (List ℕ)
 checks_after number unfinished.Nothing word fields = bad_unless number (block_begun word fields) ∷ []
 checks_after number (unfinished.Commit commit) word fields =
     order_refused (begun_in commit.begun) word ∷ checks_in number (begun_in commit.begun) (line_inside word fields)
-checks_after number (unfinished.Answer answer) word fields = bad_unless number (row_after answer.head.question.0 word fields) ∷ []
+checks_after number (unfinished.Answer answer) word fields =
+    bad_unless number (row_after answer.head.question.0 word fields) ∷ []
 
 -- first of all, a record is not past the bound
 abbrev pub fault_of : ℕ → ℕ → Unfinished → List (List ℕ) → Option ScriptError
@@ -82,4 +107,5 @@ pub record EndsInBlock (most : ℕ) (text : List ℕ) : Type 0 where
 -- an error tells the first fault of a text; two tell nothing of it: that its reader failed, and that memory ran out
 abbrev pub IsTraceFault : ℕ → List ℕ → ScriptError → Type 0
 IsTraceFault most text e =
-    (e ≡ error.Read) ⊎ ((e ≡ error.OutOfMemory) ⊎ (IsFirstFault most text e ⊎ ((e ≡ error.NoCommit) × EndsInBlock most text)))
+    (e ≡ error.Read) ⊎ ((e ≡ error.OutOfMemory) ⊎ (IsFirstFault most text e
+    ⊎ ((e ≡ error.NoCommit) × EndsInBlock most text)))

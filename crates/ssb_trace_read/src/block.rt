@@ -6,6 +6,8 @@ use ssb_audit::Told;
 /// A commit, or an answer.
 #[derive(Drop)]
 pub(crate) enum Block {
+    /// `commit|CLIENT` .. `end`.
     Commit(Commit),
+    /// `answer|..` and its rows.
     Answer(Told),
 }

@@ -4,17 +4,21 @@ ghost use Rattle.csv.specs.Records.{fields_of};
 ghost use Rattle.ssb_trace_read.specs.Heads as spec;
 
 use csv::ByteRecord;
-use ssb_load::{has_columns, number};
 use ssb_plans::Question;
-use ssb_script::{question_at, trimmed_at};
+use ssb_records::{has_columns, number, trimmed_at};
+use ssb_script::question_at;
 use std::alloc::{AllocError, Global};
 
 /// The first record of an answer: its client, its number of commits, its question, and how many rows follow.
 #[derive(Drop)]
 pub struct AnswerHead {
+    /// Whom it was given to, 1 to 16.
     pub client: u32,
+    /// How many commits it stands after.
     pub at: u64,
+    /// What was asked.
     pub question: Question,
+    /// How many rows follow.
     pub count: u64,
 }
 

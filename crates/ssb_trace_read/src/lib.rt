@@ -3,9 +3,10 @@
 //! A trace is text, one record a line, fields parted by `|`: `commit|CLIENT` .. `end` is a commit, whose actions stand
 //! between as in a script's refresh; `answer|CLIENT|AT|NAME|COUNT` is an answer, and COUNT `row` records follow it.
 //!
-//! The one contract, of [`read_trace`]: it gives exactly the trace that the text's records spell, and an error is the first
-//! fault that they have, record by record and check by check; only a failed read and want of memory may come before it.
-//! What is said inside a commit are the lines of a script's refresh, by `ssb_script`'s own definitions and reading.
+//! The one contract, of [`read_trace`]: it gives exactly the trace that the text's records spell, and an error is the
+//! first fault that they have, record by record and check by check; only a failed read and want of memory may come
+//! before it. What is said inside a commit are the lines of a script's refresh, by `ssb_script`'s own definitions and
+//! reading.
 //!
 //! The definitions stand in `specs/`: `Heads` and `Rows` (what a `commit`, an `answer` and a `row` record say), `Lines`
 //! (what one record says), `Traces` (what a text spells, and its first fault).

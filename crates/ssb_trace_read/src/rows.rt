@@ -1,16 +1,16 @@
 //! The `row` records of a trace.
-ghost use Rattle.std.specs.Prelude.{◌≡◌, ◌≤◌, length, IfOk};
+ghost use Rattle.std.specs.Prelude.{◌≡◌, ◌<◌, ◌≤◌, ◌^◌, length, IfOk};
 ghost use Rattle.csv.specs.Records.{fields_of};
 ghost use Rattle.ssb_trace_read.specs.Rows as spec;
 
 use crate::sums::signed_of;
 use csv::ByteRecord;
-use ssb_load::has_columns;
 use ssb_plans::ConstantKind::{Number, Text};
 use ssb_plans::{ConstantKind, Query};
 use ssb_queries::ResultRow;
+use ssb_records::{has_columns, trimmed_at};
 use ssb_schema::{C_CITY, C_NATION, Items, P_BRAND1, P_CATEGORY, S_CITY, S_NATION};
-use ssb_script::{constants_from, trimmed_at};
+use ssb_script::constants_from;
 use std::alloc::{AllocError, Global};
 
 // What each group column of a query holds, in printed order.
@@ -50,7 +50,7 @@ fn row_at(
     groups_place: usize,
     fields: &ByteRecord,
 ) -> Result<Option<ResultRow>, AllocError>
-    requires { groups_place ≤ 2 }
+    requires { groups_place < 2 ^ 32 }
     ensures { IfOk result (λ row. row ≡ spec.row_at query sum_place groups_place (fields_of fields.now)) }
 {
     let Some(sum) = sum_of(query, trimmed_at(fields, sum_place)) else {
@@ -65,8 +65,8 @@ fn row_at(
     }))
 }
 
-/// The row of an answer to the query that a record spells behind its word: the printed columns, each a number of 32 bits
-/// or a text of any length, and the sum where a report has it.
+/// The row of an answer to the query that a record spells behind its word: the printed columns, each a number of 32
+/// bits or a text of any length, and the sum where a report has it.
 pub fn row_of(
     alloc: Global,
     query: Query,

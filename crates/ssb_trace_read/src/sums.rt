@@ -2,7 +2,7 @@
 ghost use Rattle.std.specs.Prelude.{◌≡◌};
 ghost use Rattle.ssb_trace_read.specs.Rows as spec;
 
-use ssb_load::number;
+use ssb_records::number;
 
 // The number that 1 to 19 digits spell.
 fn amount_of(digits: &[u8]) -> Option<u64>

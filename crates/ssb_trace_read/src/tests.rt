@@ -1,8 +1,8 @@
 use super::*;
 use csv::ByteRecord;
-use ssb_load::{next_record, record_reader};
 use ssb_plans::{Query, Question, Value};
 use ssb_queries::ResultRow;
+use ssb_records::{next_record, record_reader};
 use ssb_schema::{Items, Text};
 use std::alloc::Global;
 use std::process::Abort;

@@ -11,7 +11,7 @@ use crate::unfinished::{Step, Unfinished};
 use csv::ByteRecord;
 use row_store::Commit;
 use ssb_audit::{Told, Trace};
-use ssb_load::{next_record, record_reader};
+use ssb_records::{next_record, record_reader};
 use ssb_schema::Items;
 use ssb_script::ScriptError;
 use std::alloc::{AllocError, Global};
@@ -40,7 +40,8 @@ fn trace_of(
     answers: Vec<Told>,
     begun: Unfinished,
 ) -> Result<Trace, ScriptError>
-    ensures trace { IfOk result (λ trace. (begun ≡ unfinished.Nothing) × (trace ≡ record { commits = commits.items; answers = answers.items })) }
+    ensures trace { IfOk result (λ trace. (begun ≡ unfinished.Nothing)
+        × (trace ≡ record { commits = commits.items; answers = answers.items })) }
     ensures fault { IfErr result (λ e. (e ≡ error.NoCommit) × IsBegun begun) }
 {
     match begun {
@@ -57,16 +58,18 @@ fn trace_of(
 ///
 /// Its commits and its answers may stand in any order, each in one piece; the trace has them in the order in which they
 /// stand. The error is the first that the records have, in their order, and within a record in the order of the checks:
-/// a trace of too many records is told at the first one past the bound, and one that ends inside a commit, or before the
-/// last row of an answer, at its end. It reads `max_records` + 1 records at most, and reserves room only for what it has
-/// read.
+/// a trace of too many records is told at the first one past the bound, and one that ends inside a commit, or before
+/// the last row of an answer, at its end. It reads `max_records` + 1 records at most, and reserves room only for what
+/// it has read.
 pub fn read_trace<R: Read + Drop>(
     alloc: Global,
     source: R,
     max_records: u64,
 ) -> Result<Trace, ScriptError>
-    ensures trace { IfOk result (λ trace. (text : List ℕ) → R.remaining source ≡ Some text → SpellsTrace max_records text trace) }
-    ensures fault { IfErr result (λ e. (text : List ℕ) → R.remaining source ≡ Some text → IsTraceFault max_records text e) }
+    ensures trace { IfOk result (λ trace. (text : List ℕ) → R.remaining source ≡ Some text
+        → SpellsTrace max_records text trace) }
+    ensures fault { IfErr result (λ e. (text : List ℕ) → R.remaining source ≡ Some text
+        → IsTraceFault max_records text e) }
 {
     let mut reader = record_reader(alloc, source);
     let mut fields = ByteRecord::new(alloc);

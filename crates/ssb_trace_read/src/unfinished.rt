@@ -1,5 +1,6 @@
 //! What the records of a trace have begun and not ended, and what one more record does to it.
-ghost use Rattle.std.specs.Prelude.{◌≡◌, ℕ, ◌+◌, ◌-◌, ◌<◌, ◌≤◌, ◌^◌, ◌++◌, ◌∷◌, [], Ok, Some, false, length, IfOk, IfErr};
+ghost use Rattle.std.specs.Prelude.{◌≡◌, ℕ, ◌+◌, ◌-◌, ◌<◌, ◌≤◌, ◌^◌, ◌++◌, ◌∷◌, [], Ok, Some, false, length, IfOk};
+ghost use Rattle.std.specs.Prelude.{IfErr};
 ghost use Rattle.csv.specs.Records.{fields_of};
 ghost use Rattle.ssb_script.specs.Lines.{ScriptLine};
 ghost use Rattle.ssb_script.specs.Scripts.{HasRoom, checks_in, is_outside};
@@ -30,6 +31,7 @@ use std::alloc::{AllocError, Global};
 /// A commit whose actions are being read.
 #[derive(Drop)]
 pub(crate) struct UnfinishedCommit {
+    /// Whose commit it is.
     pub client: u32,
     /// What its records have begun, as a refresh of a script.
     pub begun: Begun,
@@ -38,6 +40,7 @@ pub(crate) struct UnfinishedCommit {
 /// An answer whose rows are being read.
 #[derive(Drop)]
 pub(crate) struct UnfinishedAnswer {
+    /// What its first record says.
     pub head: AnswerHead,
     /// Its rows so far.
     pub rows: Items<ResultRow>,
@@ -46,22 +49,28 @@ pub(crate) struct UnfinishedAnswer {
 /// What is begun and not ended: nothing, a commit, or an answer.
 #[derive(Drop)]
 pub(crate) enum Unfinished {
+    /// The next record begins a block.
     Nothing,
+    /// A commit whose `end` is to come.
     Commit(UnfinishedCommit),
+    /// An answer of which rows are to come.
     Answer(UnfinishedAnswer),
 }
 
 /// What comes of one record: the block that it ends, if it ends one, and what is begun after it.
 #[derive(Drop)]
 pub(crate) struct Step {
+    /// The block that the record ended, if it ended one.
     pub block: Option<Block>,
+    /// What is begun after the record.
     pub unfinished: Unfinished,
 }
 
 // The record of a number begins a commit.
 fn begin_commit(alloc: Global, number: u64, fields: &ByteRecord) -> Result<Step, ScriptError>
     ensures step { IfOk result (TakesRecord number unfinished.Nothing (Some words.Commit) (fields_of fields.now)) }
-    ensures fault { IfErr result (IsFoundBy (checks_after number unfinished.Nothing (Some words.Commit) (fields_of fields.now))) }
+    ensures fault { IfErr result (IsFoundBy (checks_after number unfinished.Nothing (Some words.Commit)
+        (fields_of fields.now))) }
 {
     match client_of_commit(fields) {
         Some(client) => Ok(Step {
@@ -78,7 +87,8 @@ fn begin_commit(alloc: Global, number: u64, fields: &ByteRecord) -> Result<Step,
 // The record of a number begins an answer.
 fn begin_answer(alloc: Global, number: u64, fields: &ByteRecord) -> Result<Step, ScriptError>
     ensures step { IfOk result (TakesRecord number unfinished.Nothing (Some words.Answer) (fields_of fields.now)) }
-    ensures fault { IfErr result (IsFoundBy (checks_after number unfinished.Nothing (Some words.Answer) (fields_of fields.now))) }
+    ensures fault { IfErr result (IsFoundBy (checks_after number unfinished.Nothing (Some words.Answer)
+        (fields_of fields.now))) }
 {
     match head_of(alloc, fields)? {
         Some(head) => {
@@ -116,8 +126,10 @@ fn after_in_refresh(
 ) -> Result<ssb_script::Step, ScriptError>
     requires counted { before < 2 ^ 64 - 1 }
     requires room { HasRoom before (begun_in begun) }
-    ensures step { IfOk result (λ step. (line : ScriptLine) × (line_inside word (fields_of fields.now) ≡ Ok line) × FollowsInScript (before + 1) (begun_in begun) line step) }
-    ensures fault { IfErr result (IsFoundBy (order_refused (begun_in begun) word ∷ checks_in (before + 1) (begun_in begun) (line_inside word (fields_of fields.now)))) }
+    ensures step { IfOk result (λ step. (line : ScriptLine) × (line_inside word (fields_of fields.now) ≡ Ok line)
+        × FollowsInScript (before + 1) (begun_in begun) line step) }
+    ensures fault { IfErr result (IsFoundBy (order_refused (begun_in begun) word ∷ checks_in (before + 1)
+        (begun_in begun) (line_inside word (fields_of fields.now)))) }
 {
     if is_line(word) {
         let row = OrderLine::of(alloc, fields)?;
@@ -171,7 +183,8 @@ impl UnfinishedCommit {
         requires inside { is_outside (begun_in self.begun) ≡ false }
         requires room { HasRoom before (begun_in self.begun) }
         ensures step { IfOk result (TakesRecord (before + 1) (unfinished.Commit self) word (fields_of fields.now)) }
-        ensures fault { IfErr result (IsFoundBy (checks_after (before + 1) (unfinished.Commit self) word (fields_of fields.now))) }
+        ensures fault { IfErr result (IsFoundBy (checks_after (before + 1) (unfinished.Commit self) word
+            (fields_of fields.now))) }
     {
         let step = after_in_refresh(self.begun, alloc, before, word, fields)?;
         Ok(step_of_commit(self.client, step))
@@ -205,7 +218,8 @@ impl UnfinishedAnswer {
     // One more row.
     fn with(self, row: ResultRow) -> Result<Step, ScriptError>
         requires { length self.rows < self.head.count }
-        ensures step { IfOk result (λ step. (number : ℕ) → Follows number (unfinished.Answer self) (spec.Row self.head.question.0 row) step) }
+        ensures step { IfOk result (λ step. (number : ℕ)
+            → Follows number (unfinished.Answer self) (spec.Row self.head.question.0 row) step) }
         ensures fault { IfErr result (λ e. e ≡ OutOfMemory) }
     {
         let mut rows = self.rows.into_vec();
@@ -228,7 +242,8 @@ impl UnfinishedAnswer {
     ) -> Result<Step, ScriptError>
         requires { length self.rows < self.head.count }
         ensures step { IfOk result (TakesRecord number (unfinished.Answer self) word (fields_of fields.now)) }
-        ensures fault { IfErr result (IsFoundBy (checks_after number (unfinished.Answer self) word (fields_of fields.now))) }
+        ensures fault { IfErr result (IsFoundBy (checks_after number (unfinished.Answer self) word
+            (fields_of fields.now))) }
     {
         match row_in(alloc, self.head.question.query(), word, fields)? {
             Some(row) => self.with(row),
@@ -247,8 +262,10 @@ impl Unfinished {
     ) -> Result<Step, ScriptError>
         requires counted { before < 2 ^ 64 - 1 }
         requires unfinished { IsUnfinished before self }
-        ensures step { IfOk result (TakesRecord (before + 1) self (spec.word_of (fields_of fields.now)) (fields_of fields.now)) }
-        ensures fault { IfErr result (IsFoundBy (checks_after (before + 1) self (spec.word_of (fields_of fields.now)) (fields_of fields.now))) }
+        ensures step { IfOk result (TakesRecord (before + 1) self (spec.word_of (fields_of fields.now))
+            (fields_of fields.now)) }
+        ensures fault { IfErr result (IsFoundBy (checks_after (before + 1) self (spec.word_of (fields_of fields.now))
+            (fields_of fields.now))) }
     {
         let word = Word::of(fields);
         match self {

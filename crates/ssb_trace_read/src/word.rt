@@ -5,7 +5,7 @@ ghost use Rattle.ssb_trace_read.specs.Lines as spec;
 ghost use Rattle.ssb_trace_read.specs.Lines.{spelling_of, word_spelled};
 
 use csv::ByteRecord;
-use ssb_script::trimmed_at;
+use ssb_records::trimmed_at;
 
 /// The first field of a record.
 #[derive(Clone, Copy, Debug, PartialEq, Eq)]
@@ -20,6 +20,7 @@ pub(crate) enum Word {
     Row,
 }
 
+/// All words.
 pub(crate) const WORDS: [Word; 8] = [
     Word::Commit,
     Word::Add,

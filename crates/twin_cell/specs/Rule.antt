@@ -15,14 +15,16 @@ newcomer = record { base = None; told = []; seen = [] }
 abbrev pub IsOver : Tables → View → Type 0
 IsOver base view = (named : Tables) → view.base ≡ Some named → named ≡ base
 
--- the published replica stands for a list of commits, which begins with what each seat was told, over the base that each names
+-- the published replica stands for a list of commits, which begins with what each seat was told, over the base that
+-- each names
 pub record Follows (state : State) (views : List View) : Type 0 where
   pub list : List CommitRecord
   pub stands : state ≡ state_of state.base list
   pub told : (seat : ℕ) (view : View) → get_elem? views seat ≡ some view → IsPrefix view.told list
   pub over : (seat : ℕ) (view : View) → get_elem? views seat ≡ some view → IsOver state.base view
 
--- a seat has entered a copy in this state: it knows the list that the copy stands for, which begins with what it was told
+-- a seat has entered a copy in this state: it knows the list that the copy stands for, which begins with what it was
+-- told
 pub record HasSeen (before : View) (state : State) (after : View) : Type 0 where
   pub stands : state ≡ state_of state.base after.seen
   pub begins : IsPrefix before.told after.seen

@@ -70,7 +70,8 @@ fn new_readers<R: Replica + Drop, W: Wait + Drop>(
 ) -> Result<Vec<TwinReader<R>>, TwinError>
     ensures kept { writer.new ≡ writer.old }
     ensures count { IfOk result (λ readers. vec_len readers ≡ count) }
-    ensures known { IfOk result (λ readers. All (λ reader. reader ≡ record { base = writer.old.base; told = writer.old.published }) readers.items) }
+    ensures known { IfOk result (λ readers. All (λ reader.
+        reader ≡ record { base = writer.old.base; told = writer.old.published }) readers.items) }
 {
     let mut readers = Vec::new(alloc);
     for _ in 0..count {
@@ -85,9 +86,9 @@ fn new_readers<R: Replica + Drop, W: Wait + Drop>(
     Ok(readers)
 }
 
-/// Two copies of the replica, which has no commits, with a writer and so many readers. `NoReader` where no place is free for
-/// one of them; then, and where memory runs out, `first` is dropped. Each reader and each note has a place of its own, and
-/// there are twice as many places as readers.
+/// Two copies of the replica, which has no commits, with a writer and so many readers. `NoReader` where no place is
+/// free for one of them; then, and where memory runs out, `first` is dropped. Each reader and each note has a place of
+/// its own, and there are twice as many places as readers.
 pub fn twin<R: Replica + Drop, W: Wait + Drop>(
     alloc: Global,
     rt: W,
@@ -96,9 +97,11 @@ pub fn twin<R: Replica + Drop, W: Wait + Drop>(
 ) -> Result<(TwinWriter<R, W>, Vec<TwinReader<R>>), TwinError>
     requires readers { (0 < readers) × (readers ≤ 4) }
     requires fresh { StandsFor (R.state first) [] }
-    ensures writer { IfOk result (λ made. made.0 ≡ record { base = (R.state first).base; published = []; pending = [] }) }
+    ensures writer { IfOk result (λ made. made.0
+        ≡ record { base = (R.state first).base; published = []; pending = [] }) }
     ensures count { IfOk result (λ made. vec_len made.1 ≡ readers) }
-    ensures known { IfOk result (λ made. All (λ reader. reader ≡ record { base = (R.state first).base; told = [] }) made.1.items) }
+    ensures known { IfOk result (λ made. All (λ reader. reader ≡ record { base = (R.state first).base; told = [] })
+        made.1.items) }
 {
     let Ok(second) = first.copy() else {
         return Err(TwinError::OutOfMemory);

@@ -8,8 +8,8 @@ use left_right::reader::Reading;
 use row_store::Replica;
 use std::marker::Model;
 
-/// A reader with a copy in hand. Contracts see the copy's state, a list of commits that it stands for, and those that the
-/// reader was told. A writer that goes waits for it, so it is not to outlive the writer in one thread.
+/// A reader with a copy in hand. Contracts see the copy's state, a list of commits that it stands for, and those that
+/// the reader was told. A writer that goes waits for it, so it is not to outlive the writer in one thread.
 pub struct Guard<R: Replica + Drop> {
     pub(crate) reading: Reading<Side<R>, View, Published>,
 }

@@ -10,8 +10,8 @@ use row_store::Replica;
 use std::alloc::AllocError;
 use std::marker::Model;
 
-/// What the writer told: the commits that were published then. It has a seat of its own, which the reader that learns it
-/// takes over. Contracts see the base and those commits.
+/// What the writer told: the commits that were published then. It has a seat of its own, which the reader that learns
+/// it takes over. Contracts see the base and those commits.
 #[derive(Drop)]
 pub struct Note<R: Replica + Drop> {
     pub(crate) seat: Seat<R>,

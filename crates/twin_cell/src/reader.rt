@@ -55,8 +55,8 @@ impl<R: Replica + Drop> TwinReader<R> {
         self.seat = seat;
     }
 
-    /// Takes the copy that is published. It tries until the copies give one, as they do while there is a writer: a reader that
-    /// enters after the writer has gone waits for ever.
+    /// Takes the copy that is published. It tries until the copies give one, as they do while there is a writer: a
+    /// reader that enters after the writer has gone waits for ever.
     pub fn enter<W: Wait>(self, rt: &W) -> Guard<R>
         ensures base { result.state.base ≡ self.base }
         ensures told { result.told ≡ self.told }

@@ -303,8 +303,8 @@ fn write_all<W: Wait + Drop>(
     writer
 }
 
-// Enters again and again, and once more after the writer is done. It gives the last number of commits, and how many copies
-// were no state of the history or older than the one before.
+// Enters again and again, and once more after the writer is done. It gives the last number of commits, and how many
+// copies were no state of the history or older than the one before.
 fn read_all<W: Wait>(rt: &W, mut reader: TwinReader<PlainLines>, done: &AtomicBool) -> (u64, u32) {
     let (mut last, mut wrong) = (0, 0u32);
     for _ in rt.forever() {
@@ -322,8 +322,8 @@ fn read_all<W: Wait>(rt: &W, mut reader: TwinReader<PlainLines>, done: &AtomicBo
     (last, wrong)
 }
 
-// The writer after it has published, and what each of the readers beside it has seen. A writer that went before its readers
-// would let them wait for ever.
+// The writer after it has published, and what each of the readers beside it has seen. A writer that went before its
+// readers would let them wait for ever.
 fn race<R: Threads + Wait + Sync, W: Wait + Drop + Send>(
     rt: &R,
     writer: TwinWriter<PlainLines, W>,

@@ -17,8 +17,8 @@ use std::sync::Wait;
 /// The two copies, as `left_right` has them.
 pub(crate) type Copies<R> = Writer<Side<R>, Commit, View, Published>;
 
-/// Takes commits, and publishes them together. Contracts see the base and two lists of commits: those that readers take,
-/// and those that are pending. When it goes, it waits for every reader that holds a copy.
+/// Takes commits, and publishes them together. Contracts see the base and two lists of commits: those that readers
+/// take, and those that are pending. When it goes, it waits for every reader that holds a copy.
 pub struct TwinWriter<R: Replica + Drop, W: Wait + Drop>
 where
     Side<R>: Absorb<Commit, State = SideState>,
@@ -39,9 +39,11 @@ where
 
     ghost Value = { Writing };
 
-    ghost view = { λ writer. writing (R.state writer.copies.desk.shown.value.replica) (view_of writer.copies.desk.place) (drop writer.copies.behind writer.copies.log.items) };
+    ghost view = { λ writer. writing (R.state writer.copies.desk.shown.value.replica) (view_of writer.copies.desk.place)
+        (drop writer.copies.behind writer.copies.log.items) };
 
-    ghost invariant = { λ writer. IsWriting (R.state writer.copies.desk.shown.value.replica) (view_of writer.copies.desk.place) (drop writer.copies.behind writer.copies.log.items) writer.taken };
+    ghost invariant = { λ writer. IsWriting (R.state writer.copies.desk.shown.value.replica)
+        (view_of writer.copies.desk.place) (drop writer.copies.behind writer.copies.log.items) writer.taken };
 }
 
 impl<R: Replica + Drop, W: Wait + Drop> Drop for TwinWriter<R, W> {
@@ -62,10 +64,13 @@ fn publish_list<R: Replica + Drop, K: Pending, W: Wait>(
 ) -> (Copies<R>, Result<(), AllocError>)
     requires pending { drop copies.behind copies.log.items ≡ K.list }
     requires stands { StandsFor (R.state copies.desk.shown.value.replica) (view_of copies.desk.place).told }
-    ensures told { OnOk result.1 (HasPublished K.list (view_of copies.desk.place) (R.state result.0.desk.shown.value.replica) (view_of result.0.desk.place)) }
-    ensures state { OnOk result.1 (R.state result.0.desk.shown.value.replica ≡ fold state_after (R.state copies.desk.shown.value.replica) K.list) }
+    ensures told { OnOk result.1 (HasPublished K.list (view_of copies.desk.place)
+        (R.state result.0.desk.shown.value.replica) (view_of result.0.desk.place)) }
+    ensures state { OnOk result.1 (R.state result.0.desk.shown.value.replica ≡ fold state_after
+        (R.state copies.desk.shown.value.replica) K.list) }
     ensures emptied { OnOk result.1 (drop result.0.behind result.0.log.items ≡ []) }
-    ensures kept { OnErr result.1 ((view_of result.0.desk.place ≡ view_of copies.desk.place) × (result.0.desk.shown.value ≡ copies.desk.shown.value)) }
+    ensures kept { OnErr result.1 ((view_of result.0.desk.place ≡ view_of copies.desk.place)
+        × (result.0.desk.shown.value ≡ copies.desk.shown.value)) }
     ensures pending { OnErr result.1 (drop result.0.behind result.0.log.items ≡ drop copies.behind copies.log.items) }
 {
     copies.publish_as::<Adds<K>, W>(rt)
@@ -77,10 +82,13 @@ pub(crate) fn publish_pending<R: Replica + Drop, W: Wait>(
     rt: &W,
 ) -> (Copies<R>, Result<(), AllocError>)
     requires { StandsFor (R.state copies.desk.shown.value.replica) (view_of copies.desk.place).told }
-    ensures told { OnOk result.1 (HasPublished (drop copies.behind copies.log.items) (view_of copies.desk.place) (R.state result.0.desk.shown.value.replica) (view_of result.0.desk.place)) }
-    ensures state { OnOk result.1 (R.state result.0.desk.shown.value.replica ≡ fold state_after (R.state copies.desk.shown.value.replica) (drop copies.behind copies.log.items)) }
+    ensures told { OnOk result.1 (HasPublished (drop copies.behind copies.log.items) (view_of copies.desk.place)
+        (R.state result.0.desk.shown.value.replica) (view_of result.0.desk.place)) }
+    ensures state { OnOk result.1 (R.state result.0.desk.shown.value.replica ≡ fold state_after
+        (R.state copies.desk.shown.value.replica) (drop copies.behind copies.log.items)) }
     ensures emptied { OnOk result.1 (drop result.0.behind result.0.log.items ≡ []) }
-    ensures kept { OnErr result.1 ((view_of result.0.desk.place ≡ view_of copies.desk.place) × (result.0.desk.shown.value ≡ copies.desk.shown.value)) }
+    ensures kept { OnErr result.1 ((view_of result.0.desk.place ≡ view_of copies.desk.place)
+        × (result.0.desk.shown.value ≡ copies.desk.shown.value)) }
     ensures pending { OnErr result.1 (drop result.0.behind result.0.log.items ≡ drop copies.behind copies.log.items) }
 {
     publish_list::<R, Brand, W>(rt, copies)
@@ -121,7 +129,8 @@ impl<R: Replica + Drop, W: Wait + Drop> TwinWriter<R, W> {
     /// Readers that enter from now on take the pending commits too. It waits for those that still hold the other copy.
     /// At `Err` a commit could not be absorbed, and what readers take is as it was.
     pub fn publish(self) -> (TwinWriter<R, W>, Result<(), AllocError>)
-        ensures published { OnOk result.1 (result.0 ≡ record self { published = self.published ++ self.pending; pending = [] }) }
+        ensures published { OnOk result.1 (result.0 ≡ record self
+            { published = self.published ++ self.pending; pending = [] }) }
         ensures unchanged { OnErr result.1 (result.0 ≡ self) }
     {
         let TwinWriter { copies, taken, rt } = self;

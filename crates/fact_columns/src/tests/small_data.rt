@@ -14,6 +14,16 @@ use std::test::Fail;
 /// price, discount, revenue and cost.
 pub type Told = (u64, (u64, u64, u64, u64), (u64, u64, u64, u64, u64));
 
+// By key, from 1 on. In each dimension two rows are alike in all that queries read.
+const CUSTOMER_CITIES: [&str; 3] = ["LIMA", "OSLO", "LIMA"];
+
+const SUPPLIER_CITIES: [&str; 3] = ["ROME", "OSLO", "OSLO"];
+
+const PART_BRANDS: [&str; 4] = ["MFGR#121", "MFGR#2221", "MFGR#222", "MFGR#121"];
+
+// Keys of dates, and their weeks.
+const DATE_WEEKS: [(u64, u64); 4] = [(19930101, 1), (19940105, 1), (19940208, 6), (19971215, 50)];
+
 // The value, or its refusal as a failure of the test.
 fn made<T, F: Drop>(built: Result<T, Refused<F>>) -> Result<T, Fail> {
     match built {
@@ -52,12 +62,17 @@ pub fn line(alloc: Global, order_key: u64, told: Told) -> Result<Line, Fail> {
     }))
 }
 
-fn customer(alloc: Global, key: u64) -> Result<Customer, Fail> {
+fn text(alloc: Global, text: &str) -> Result<Text, Fail> {
+    Ok(Text::from_str(alloc, text)?)
+}
+
+fn customer(alloc: Global, key: u64, city: &str) -> Result<Customer, Fail> {
+    let city = text(alloc, city)?;
     made(Customer::new(CustomerFields {
         key,
         name: blank(alloc),
         address: blank(alloc),
-        city: blank(alloc),
+        city,
         nation: blank(alloc),
         region: blank(alloc),
         phone: blank(alloc),
@@ -65,25 +80,27 @@ fn customer(alloc: Global, key: u64) -> Result<Customer, Fail> {
     }))
 }
 
-fn supplier(alloc: Global, key: u64) -> Result<Supplier, Fail> {
+fn supplier(alloc: Global, key: u64, city: &str) -> Result<Supplier, Fail> {
+    let city = text(alloc, city)?;
     made(Supplier::new(SupplierFields {
         key,
         name: blank(alloc),
         address: blank(alloc),
-        city: blank(alloc),
+        city,
         nation: blank(alloc),
         region: blank(alloc),
         phone: blank(alloc),
     }))
 }
 
-fn part(alloc: Global, key: u64) -> Result<Part, Fail> {
+fn part(alloc: Global, key: u64, brand: &str) -> Result<Part, Fail> {
+    let brand = text(alloc, brand)?;
     made(Part::new(PartFields {
         key,
         name: blank(alloc),
         manufacturer: blank(alloc),
         category: blank(alloc),
-        brand: blank(alloc),
+        brand,
         color: blank(alloc),
         part_type: blank(alloc),
         size: blank(alloc),
@@ -91,7 +108,7 @@ fn part(alloc: Global, key: u64) -> Result<Part, Fail> {
     }))
 }
 
-fn date(alloc: Global, key: u64) -> Result<DateRow, Fail> {
+fn date(alloc: Global, key: u64, week: u64) -> Result<DateRow, Fail> {
     made(DateRow::new(DateFields {
         key,
         field2: blank(alloc),
@@ -104,7 +121,7 @@ fn date(alloc: Global, key: u64) -> Result<DateRow, Fail> {
         field9: blank(alloc),
         field10: blank(alloc),
         field11: blank(alloc),
-        week: 50,
+        week,
         field13: blank(alloc),
         field14: blank(alloc),
         field15: blank(alloc),
@@ -135,15 +152,17 @@ fn parts(alloc: Global, lines: Vec<Line>) -> Result<BaseParts, Fail> {
         dates: Vec::new(alloc),
         lines,
     };
-    for key in 1..4 {
-        parts.customers.push(customer(alloc, key)?)?;
-        parts.suppliers.push(supplier(alloc, key)?)?;
+    for (key, city) in (1..4).zip(CUSTOMER_CITIES) {
+        parts.customers.push(customer(alloc, key, city)?)?;
     }
-    for key in 1..5 {
-        parts.parts.push(part(alloc, key)?)?;
+    for (key, city) in (1..4).zip(SUPPLIER_CITIES) {
+        parts.suppliers.push(supplier(alloc, key, city)?)?;
     }
-    for key in [19930101, 19940105, 19940208, 19971215] {
-        parts.dates.push(date(alloc, key)?)?;
+    for (key, brand) in (1..5).zip(PART_BRANDS) {
+        parts.parts.push(part(alloc, key, brand)?)?;
+    }
+    for (key, week) in DATE_WEEKS {
+        parts.dates.push(date(alloc, key, week)?)?;
     }
     Ok(parts)
 }

@@ -108,8 +108,8 @@ pub fn made_up(
     warehouse_after(rt, alloc, base_of(alloc, tables)?, commits)
 }
 
-/// The warehouse of so many lines after these commits, over 200 customers and suppliers of as many cities, and 200 parts of
-/// as many brands.
+/// The warehouse of so many lines after these commits, over 200 customers and suppliers of as many cities, and 200
+/// parts of as many brands.
 pub fn of_many_cities(
     rt: &impl RandomSource,
     alloc: Global,

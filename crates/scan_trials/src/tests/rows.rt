@@ -171,8 +171,8 @@ fn batches_of_none_and_of_sixteen(rt: HostRuntime) -> Result<(), Fail> {
     Ok(())
 }
 
-// Questions of which two have more groups than there are numbers for: 200 cities by 200 by six years, and two years by 200
-// cities by 200 brands.
+// Questions of which two have more groups than there are numbers for: 200 cities by 200 by six years, and two years by
+// 200 cities by 200 brands.
 fn of_many_groups(alloc: Global) -> Result<Vec<Question>, Fail> {
     let given: [(Query, &[Given]); 4] = [
         (Query::Q2_1, &[Name("MFGR#14"), Name("ASIA")]),

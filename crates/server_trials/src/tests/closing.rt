@@ -1,87 +1,11 @@
-//! Servers that are closed, and those that are not.
-ghost use Rattle.std.specs.Prelude.{◌≡◌, All, IfOk};
-ghost use Rattle.ssb_server.specs.Tickets.{IsOf, IsQuiet};
+//! Servers that are not closed, and those that are.
 
-use crate::tests::data::ORDER_NINE;
-use crate::tests::opening::{next_client, opened};
-use crate::tests::steps::adds;
-use ssb_server::{Client, CloseError, Closed, Dispatcher, Server};
-use std::alloc::AllocError;
+use server_steps::closing::{closes_with_client, closes_with_dispatcher, commits_of, stays_open};
+use server_steps::data::ORDER_NINE;
+use server_steps::opening::{next_client, next_dispatcher, opened};
+use server_steps::steps::adds;
 use std::hash::RandomState;
-use std::sync::Wait;
 use std::test::Fail;
-
-// Closes the server.
-fn closes<W: Wait + Drop>(
-    server: Server<W>,
-    clients: Vec<Client<W>>,
-    dispatchers: Vec<Dispatcher<W>>,
-) -> Result<Closed, Fail>
-    requires clients { All (IsQuiet server) clients.items }
-    requires dispatchers { All (IsOf server) dispatchers.items }
-{
-    match server.close(clients, dispatchers) {
-        Ok(closed) => Ok(closed),
-        Err(_) => Err("not closed")?,
-    }
-}
-
-// Does not close the server, and gives all back.
-fn stays_open<W: Wait + Drop>(
-    server: Server<W>,
-    clients: Vec<Client<W>>,
-    dispatchers: Vec<Dispatcher<W>>,
-) -> Result<CloseError<W>, Fail>
-    requires clients { All (IsQuiet server) clients.items }
-    requires dispatchers { All (IsOf server) dispatchers.items }
-    ensures server { IfOk result (λ back. back.server ≡ server) }
-    ensures clients { IfOk result (λ back. All (IsQuiet back.server) back.clients.items) }
-    ensures dispatchers { IfOk result (λ back. All (IsOf back.server) back.dispatchers.items) }
-{
-    match server.close(clients, dispatchers) {
-        Ok(_) => Err("closed")?,
-        Err(back) => Ok(back),
-    }
-}
-
-// These clients, and one more.
-fn with_client<W: Wait + Drop>(
-    server: &Server<W>,
-    mut clients: Vec<Client<W>>,
-    client: Client<W>,
-) -> Result<Vec<Client<W>>, AllocError>
-    requires clients { All (IsQuiet server.now) clients.items }
-    requires client { IsQuiet server.now client }
-    ensures { IfOk result (λ all. All (IsQuiet server.now) all.items) }
-{
-    let _ = server;
-    clients.push(client)?;
-    Ok(clients)
-}
-
-// Closes the server that was given back, with this client too.
-fn closes_with<W: Wait + Drop>(back: CloseError<W>, client: Client<W>) -> Result<Closed, Fail>
-    requires clients { All (IsQuiet back.server) back.clients.items }
-    requires client { IsQuiet back.server client }
-    requires dispatchers { All (IsOf back.server) back.dispatchers.items }
-{
-    let CloseError {
-        server,
-        clients,
-        dispatchers,
-    } = back;
-    let clients = with_client(&server, clients, client)?;
-    closes(server, clients, dispatchers)
-}
-
-// How many of the commits are the client's.
-fn commits_of(closed: &Closed, client: u32) -> usize {
-    closed
-        .log
-        .iter()
-        .filter(|commit| commit.client == client)
-        .count()
-}
 
 #[test]
 fn missing_client_keeps_the_server_open(rt: HostRuntime) -> Result<(), Fail> {
@@ -92,8 +16,22 @@ fn missing_client_keeps_the_server_open(rt: HostRuntime) -> Result<(), Fail> {
     assert_eq!(rt; adds(&rt, alloc, &server, &mut second, ORDER_NINE)?, 1);
     let back = stays_open(server, made.clients, made.dispatchers)?;
     assert_eq!(rt; format!(in alloc; "{back}")?.as_str(), "63 TokenMissing");
-    let closed = closes_with(back, second)?;
+    let closed = closes_with_client(back, second)?;
     assert_eq!(rt; (closed.base.lines().len(), closed.log.len()), (4, 1));
     assert_eq!(rt; commits_of(&closed, 2), 1);
+    Ok(())
+}
+
+#[test]
+fn missing_dispatcher_keeps_the_server_open(rt: HostRuntime) -> Result<(), Fail> {
+    let alloc = rt.alloc();
+    let mut made = opened(alloc, &rt, RandomState::new(&rt)?, 1, 2)?;
+    let server = made.server;
+    let second = next_dispatcher(&server, &mut made.dispatchers).ok_or("no dispatcher")?;
+    let back = stays_open(server, made.clients, made.dispatchers)?;
+    assert_eq!(rt; format!(in alloc; "{back}")?.as_str(), "63 TokenMissing");
+    assert_eq!(rt; (back.clients.len(), back.dispatchers.len()), (1, 1));
+    let closed = closes_with_dispatcher(back, second)?;
+    assert_eq!(rt; (closed.base.lines().len(), closed.log.len()), (4, 0));
     Ok(())
 }

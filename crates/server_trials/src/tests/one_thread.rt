@@ -1,9 +1,9 @@
 //! Clients and a dispatcher in one thread.
 
-use crate::tests::data::{ORDER_NINE, adding_and_withdrawing_another, told};
-use crate::tests::opening::for_one_client;
-use crate::tests::steps::{adds, asks, asks_and_is_answered, polls, refreshes, turns};
 use row_store::{Cause, RefreshError};
+use server_steps::data::{ORDER_NINE, adding_and_withdrawing_another, told};
+use server_steps::opening::for_one_client;
+use server_steps::steps::{adds, asks, asks_and_is_answered, polls, refreshes, turns};
 use ssb_plans::Query;
 use ssb_server::{OpenGate, Turn};
 use std::hash::RandomState;

@@ -1,12 +1,8 @@
 //! Command lines of `run` and `audit`, over files that the tests make.
 
-use crate::audit::run_audit;
-use crate::scripts::{RunSettings, run_scripts};
-use crate::small_data::tables;
+use crate::tests::Told;
 use crate::tests::command::{run_with, write_small};
-use crate::tests::{Full, Told};
 use std::fs;
-use std::hash::RandomState;
 use std::process::Abort;
 use std::random::RandomSource;
 use std::rt::Files;
@@ -15,8 +11,8 @@ use std::test::Fail;
 use std::thread::Threads;
 use std::time::Clock;
 
-// A folder of one test, with the small data set in it.
-fn folder_of(rt: &HostRuntime, name: &str) -> Result<String, Fail> {
+/// A folder of one test, with the small data set in it.
+pub fn folder_of(rt: &HostRuntime, name: &str) -> Result<String, Fail> {
     let above = std::env::temp_dir(rt)?;
     let id = std::process::id(rt.process());
     let folder = format!(in rt.alloc(); "{}/ssb_live_{name}_{id}", above.display())?;
@@ -24,8 +20,8 @@ fn folder_of(rt: &HostRuntime, name: &str) -> Result<String, Fail> {
     Ok(folder)
 }
 
-// A file of this text in a folder, by its path.
-fn put(rt: &HostRuntime, folder: &str, name: &str, text: &str) -> Result<String, Fail> {
+/// A file of this text in a folder, by its path.
+pub fn put(rt: &HostRuntime, folder: &str, name: &str, text: &str) -> Result<String, Fail> {
     let path = format!(in rt.alloc(); "{folder}/{name}")?;
     fs::write(rt, path.as_str(), text)?;
     Ok(path)
@@ -73,8 +69,8 @@ answer|1|1|Q4.1|1
 row|1997|UNITED STATES|-1330
 ";
 
-// A run of the words `run --data DIR` and these others.
-fn serve<R>(rt: &R, folder: &str, words: &[&str]) -> Result<Told, Fail>
+/// A run of the words `run --data DIR` and these others.
+pub fn serve<R>(rt: &R, folder: &str, words: &[&str]) -> Result<Told, Fail>
 where
     R: Files + Clock + RandomSource + Threads + Sync + Wait + AllocGlobal,
 {
@@ -84,8 +80,8 @@ where
     run_with(rt, line.as_slice(), "")
 }
 
-// A run of the words `audit --data DIR TRACE`.
-fn audited<R>(rt: &R, folder: &str, trace: &str) -> Result<Told, Fail>
+/// A run of the words `audit --data DIR TRACE`.
+pub fn audited<R>(rt: &R, folder: &str, trace: &str) -> Result<Told, Fail>
 where
     R: Files + Clock + RandomSource + Threads + Sync + Wait + AllocGlobal,
 {
@@ -249,94 +245,5 @@ fn wrong_words_of_run_and_audit_end_with_status_2(rt: HostRuntime) -> Result<(),
         assert!(rt; told.out.is_empty());
         assert!(rt; told.err.as_slice().starts_with(b"error: "));
     }
-    Ok(())
-}
-
-// The stored run over the small data set, with this file for its trace.
-fn stored_run<R>(rt: &R, times: bool, file: Option<Full>) -> Result<Told, Fail>
-where
-    R: Clock + RandomSource + Threads + Sync + Wait + AllocGlobal,
-{
-    let settings = RunSettings {
-        hashing: RandomState::new(rt)?,
-        dispatchers: 1,
-        times,
-    };
-    let mut sources = Vec::new(rt.alloc());
-    sources.push(STORED_SCRIPT.as_bytes())?;
-    let mut file = file;
-    let mut out = Vec::new(rt.alloc());
-    let mut err = Vec::new(rt.alloc());
-    let status = run_scripts(
-        rt,
-        settings,
-        tables(),
-        sources,
-        &mut out,
-        &mut file,
-        &mut err,
-    );
-    Ok(Told { status, out, err })
-}
-
-#[test]
-fn where_the_traces_file_fails_the_output_stands_whole(rt: HostRuntime) -> Result<(), Fail> {
-    let told = stored_run(&rt, false, Some(Full))?;
-    assert_eq!(rt; told.status, 4);
-    assert_eq!(rt; std::str::from_utf8(told.out.as_slice())?, STORED_RUN);
-    assert_eq!(rt; told.err.as_slice(), b"ssb_live: write failed\n".as_slice());
-    Ok(())
-}
-
-#[test]
-fn the_pace_of_a_run_is_told_after_it(rt: HostRuntime) -> Result<(), Fail> {
-    let told = stored_run(&rt, true, None)?;
-    assert_eq!(rt; told.status, 0);
-    assert_eq!(rt; std::str::from_utf8(told.out.as_slice())?, STORED_RUN);
-    let pace = std::str::from_utf8(told.err.as_slice())?;
-    for begin in [
-        "ssb_live: load ",
-        "ssb_live: serving ",
-        "ssb_live: commits 1, ",
-        "ssb_live: answers 3, ",
-        "ssb_live: batches 3, 1.00 questions each\n",
-        "ssb_live: refreshes 2, middle ",
-        "ssb_live: questions 3, middle ",
-    ] {
-        assert!(rt; pace.contains(begin));
-    }
-    Ok(())
-}
-
-#[test]
-fn a_failed_write_of_a_run_or_a_verdict_is_told(rt: HostRuntime) -> Result<(), Fail> {
-    let settings = RunSettings {
-        hashing: RandomState::new(&rt)?,
-        dispatchers: 1,
-        times: false,
-    };
-    let mut sources = Vec::new(rt.alloc());
-    sources.push("query|Q1.1\n".as_bytes())?;
-    let mut none = None::<Full>;
-    let mut err = Vec::new(rt.alloc());
-    let status = run_scripts(
-        &rt,
-        settings,
-        tables(),
-        sources,
-        &mut Full,
-        &mut none,
-        &mut err,
-    );
-    assert_eq!(rt; status, 4);
-    assert_eq!(rt; err.as_slice(), b"ssb_live: write failed\n".as_slice());
-    let hashing = RandomState::new(&rt)?;
-    let mut err = Vec::new(rt.alloc());
-    let trace = STORED_TRACE.as_bytes();
-    assert_eq!(rt;
-        run_audit(&rt, hashing, tables(), trace, &mut Full, &mut err),
-        4
-    );
-    assert_eq!(rt; err.as_slice(), b"ssb_live: write failed\n".as_slice());
     Ok(())
 }

@@ -88,7 +88,8 @@ fn question(alloc: Global) -> Result<Question, AllocError> {
     Question::standard(alloc, Query::Q4_1)
 }
 
-/// A script that adds so many orders, one after another and each under a key of its own after this one, and then asks Q4.1.
+/// A script that adds so many orders, one after another and each under a key of its own after this one, and then asks
+/// Q4.1.
 pub fn adding_script(alloc: Global, after: u64, orders: u64) -> Result<Script, Fail> {
     let mut blocks = Vec::new(alloc);
     for before in 0..orders {

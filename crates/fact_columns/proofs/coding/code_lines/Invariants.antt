@@ -5,4 +5,5 @@ use Rattle.fact_columns.specs.Coded.{AreCodesOf}
 use Rattle.fact_columns.proofs.coding.code_lines.Given as goal
 
 abbrev pub invariant-loop-line : goal.invariant-loop-line
-invariant-loop-line l = (before : List Fact) → AreCodesOf l.index.dimensions before l.initial.fresh.items → AreCodesOf l.index.dimensions (before ++ facts_of (take l.line-index l.lines)) l.fresh.items
+invariant-loop-line l = (before : List Fact) → AreCodesOf l.index.dimensions before l.initial.fresh.items
+    → AreCodesOf l.index.dimensions (before ++ facts_of (take l.line-index l.lines)) l.fresh.items

@@ -4,7 +4,8 @@ use Rattle.fact_columns.proofs.loading.table_of.Goals as goal
 
 pub loop-line-preserved : goal.loop-line-preserved
 loop-line-preserved c = record {
-  codes = codes_more c.args.index.now.dimensions [] c.args.lines.now c.loop-line.line-index c.line-item.result c.loop-line.table.places c.push.new.self.places c.in_ok-coded.field-0
+  codes = codes_more c.args.index.now.dimensions [] c.args.lines.now c.loop-line.line-index c.line-item.result
+      c.loop-line.table.places c.push.new.self.places c.in_ok-coded.field-0
       c.loop-line-test.true c.line-item.is c.push.ensures.places c.loop-line.invariant.codes c.in_ok-coded.ensures;
   room = omega (arith, c.push.ensures.room, c.loop-line.invariant.room);
 }

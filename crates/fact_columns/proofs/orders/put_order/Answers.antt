@@ -5,5 +5,7 @@ use Rattle.fact_columns.proofs.orders.put_order.Goals as goal
 
 pub returns-clause-spanned : goal.returns-clause-spanned
 returns-clause-spanned c =
-    spanned_put (get nat_eq c.args.spans.now) (get nat_eq c.widen.new.spans) c.args.table.now.places c.put_all.new.table.places c.args.first c.args.key c.args.lines.now
-    c.put_all.ensures.mine c.requires.own c.put_all.ensures.below c.put_all.ensures.above c.widen.ensures.own c.widen.ensures.grows c.requires.spanned
+    spanned_put (get nat_eq c.args.spans.now) (get nat_eq c.widen.new.spans) c.args.table.now.places
+    c.put_all.new.table.places c.args.first c.args.key c.args.lines.now
+    c.put_all.ensures.mine c.requires.own c.put_all.ensures.below c.put_all.ensures.above c.widen.ensures.own
+    c.widen.ensures.grows c.requires.spanned

@@ -13,14 +13,18 @@ loop-place-preserved c =
     let mid = c.loop-place.table.places in
     let so_far = c.loop-place.invariant in
     let place = c.loop-place.place in
-    let asked : option_eq eqb (option_map (λ (line : Place). line.order) (live_at mid place)) (Some key) ≡ c.eq.result = ap (λ (o : Option ℕ). option_eq eqb o (Some key)) (sym c.live_order.ensures) ∙ sym c.eq.ensures in
+    let asked : option_eq eqb (option_map (λ (line : Place). line.order) (live_at mid place)) (Some key) ≡ c.eq.result =
+    ap (λ (o : Option ℕ). option_eq eqb o (Some key)) (sym c.live_order.ensures) ∙ sym c.eq.ensures in
     elim c.if-eq.branch [
       | then-eq w ↦
           let later = w.free.new.table.places in
-          let here : live_at later place ≡ kept (is_of_other key) (live_at mid place) = w.free.ensures.here ∙ sym (goes key (live_at mid place) (is_of_key key (live_at mid place) (asked ∙ w.if-eq.true))) in
+          let here : live_at later place ≡ kept (is_of_other key) (live_at mid place) =
+          w.free.ensures.here ∙ sym (goes key (live_at mid place)
+          (is_of_key key (live_at mid place) (asked ∙ w.if-eq.true))) in
           rw (w.table-is, w.freed-is) (record {
             done = gone_more key place old mid later so_far.done so_far.left here w.free.ensures.others;
-            left = λ other le. w.free.ensures.others other (λ e. omega (arith, le, e)) ∙ so_far.left other (omega (arith, le));
+            left = λ other le. w.free.ensures.others other (λ e. omega (arith, le, e))
+                ∙ so_far.left other (omega (arith, le));
             count = omega (arith, w.free.ensures.count, so_far.count);
             most = omega (arith, so_far.most);
             inside = λ dimensions all. w.free.ensures.inside dimensions (so_far.inside dimensions all);
@@ -28,7 +32,8 @@ loop-place-preserved c =
             room = w.free.ensures.room ∙ so_far.room;
           })
       | else-eq w ↦
-          let here : live_at mid place ≡ kept (is_of_other key) (live_at mid place) = sym (stays key (live_at mid place) (is_of_none key (live_at mid place) (asked ∙ w.if-eq.false))) in
+          let here : live_at mid place ≡ kept (is_of_other key) (live_at mid place) =
+          sym (stays key (live_at mid place) (is_of_none key (live_at mid place) (asked ∙ w.if-eq.false))) in
           rw (w.table-is, w.freed-is) (record {
             done = gone_more key place old mid mid so_far.done so_far.left here (λ k differ. refl);
             left = λ other le. so_far.left other (omega (arith, le));

@@ -6,7 +6,21 @@ use Rattle.fact_columns.proofs.placing.put_all.Goals as goal
 
 -- what is read past the end
 abbrev none : Place
-none = record { order = 0; customer = 0; supplier = 0; part = 0; date = 0; terms = 0; price = 0; revenue = 0; cost = 0 }
+none = record {
+  order = 0;
+  customer = 0;
+  supplier = 0;
+  part = 0;
+  date = 0;
+  terms = 0;
+  price = 0;
+  revenue = 0;
+  cost = 0;
+  customer_class = 0;
+  supplier_class = 0;
+  part_class = 0;
+  date_class = 0;
+}
 
 pub loop-i-preserved : goal.loop-i-preserved
 loop-i-preserved c =
@@ -17,12 +31,17 @@ loop-i-preserved c =
     let i = c.loop-i.i in
     let lines = c.args.lines.now in
     record {
-      mine = mine_more mid later c.args.first i lines none c.loop-i-test.true c.put.ensures.here c.put.ensures.others so_far.mine;
+      mine = mine_more mid later c.args.first i lines none c.loop-i-test.true c.put.ensures.here c.put.ensures.others
+          so_far.mine;
       below = λ place lt. c.put.ensures.others place (λ e. omega (arith, lt, e)) ∙ so_far.below place lt;
-      above = λ place le. c.put.ensures.others place (λ e. omega (arith, le, e)) ∙ so_far.above place (omega (arith, le));
-      counts = λ dimensions. with_more dimensions (counts_at dimensions old) (counts_at dimensions mid) (counts_at dimensions later) lines i none c.loop-i-test.true (so_far.counts dimensions) (c.put.ensures.counts dimensions);
+      above = λ place le. c.put.ensures.others place (λ e. omega (arith, le, e))
+          ∙ so_far.above place (omega (arith, le));
+      counts = λ dimensions. with_more dimensions (counts_at dimensions old) (counts_at dimensions mid)
+          (counts_at dimensions later) lines i none c.loop-i-test.true (so_far.counts dimensions)
+          (c.put.ensures.counts dimensions);
       count = omega (arith, c.put.ensures.count, so_far.count);
-      inside = λ dimensions fresh all. c.put.ensures.inside dimensions (fresh i none c.loop-i-test.true) (so_far.inside dimensions fresh all);
+      inside = λ dimensions fresh all. c.put.ensures.inside dimensions (fresh i none c.loop-i-test.true)
+          (so_far.inside dimensions fresh all);
       least = omega (arith, c.put.ensures.len, so_far.least);
       most = omega (arith, c.put.ensures.len, so_far.most);
       reach = omega (arith, c.put.ensures.reach);

@@ -9,14 +9,22 @@ use Rattle.history.proofs.RowSteps.{puts_back}
 use Rattle.history.proofs.steps.put_back.Goals as goal
 
 pub fetch_sub-requires : goal.fetch_sub-requires
-fetch_sub-requires g c = let base_of = g.W.Follower.base in let taken = g.W.Follower.commits in let key = terms_of c.args.board.now.shared.key in let slots = c.args.board.now.shared.table_id.slots in let token = c.requires.token in
-    let me : Me (Slot g.row.W.Denot) View = (c.args.seat.now.me.0, (0, Some (Rows c.args.rows)) ∷ rest c.args.seat.now.me.1) in
+fetch_sub-requires g c = let base_of = g.W.Follower.base in let taken = g.W.Follower.commits in let key =
+    terms_of c.args.board.now.shared.key in let slots = c.args.board.now.shared.table_id.slots in let token =
+    c.requires.token in
+    let me : Me (Slot g.row.W.Denot) View = (
+      c.args.seat.now.me.0,
+      (0, Some (Rows c.args.rows)) ∷ rest c.args.seat.now.me.1,
+    ) in
     let now : c.exchange.new.seat.me ≡ me = c.exchange.ensures.3 in (
       search rules,
       search rules,
-      subst (λ m. Allows (ShowsWorld base_of taken key) slots c.exchange.new.seat.id m 0 (λ n. (n + (2 ^ 64 - 1)) % 2 ^ 64) (PutsRows (step slots 0 1 0 none) m))
-          (sym now) (puts_back base_of taken key _ _ me token.0.0 (rest c.args.seat.now.me.1) token.0.1 token.1 (ap (λ r. (0, Some (Rows r)) ∷ rest c.args.seat.now.me.1) c.requires.rows)),
+      subst (λ m. Allows (ShowsWorld base_of taken key) slots c.exchange.new.seat.id m 0
+          (λ n. (n + (2 ^ 64 - 1)) % 2 ^ 64) (PutsRows (step slots 0 1 0 none) m))
+          (sym now) (puts_back base_of taken key _ _ me token.0.0 (rest c.args.seat.now.me.1) token.0.1 token.1
+          (ap (λ r. (0, Some (Rows r)) ∷ rest c.args.seat.now.me.1) c.requires.rows)),
     )
 
 pub returns : goal.returns
-returns g c = let did = c.fetch_sub.ensures in let put = c.exchange.ensures in (did.0 ∙ put.0, did.1 ∙ put.1, did.2 ∙ ap (λ m. (gave_back m.0 (log_carried m.1), rest m.1)) put.3)
+returns g c = let did = c.fetch_sub.ensures in let put = c.exchange.ensures in
+    (did.0 ∙ put.0, did.1 ∙ put.1, did.2 ∙ ap (λ m. (gave_back m.0 (log_carried m.1), rest m.1)) put.3)

@@ -5,8 +5,12 @@ use Rattle.history.proofs.Splitting.{in_front}
 use Rattle.history.proofs.steps.take_rows.Goals as goal
 
 pub fetch_or-found-requires : goal.fetch_or-found-requires
-fetch_or-found-requires g c = let base_of = g.W.Follower.base in
-    (search rules, search rules, tries_rows base_of g.W.Follower.commits (terms_of c.args.board.now.shared.key) _ _ _ c.requires.token.0 (ap (λ m. m.0.role) c.loop.invariant.2 ∙ c.requires.token.1))
+fetch_or-found-requires g c = let base_of = g.W.Follower.base in (
+  search rules,
+  search rules,
+  tries_rows base_of g.W.Follower.commits (terms_of c.args.board.now.shared.key) _ _ _
+      c.requires.token.0 (ap (λ m. m.0.role) c.loop.invariant.2 ∙ c.requires.token.1),
+)
 
 pub exchange-value-requires : goal.exchange-value-requires
 exchange-value-requires g c = let took = c.fetch_or-found.ensures.2.0 c.if-found-eq0.true in

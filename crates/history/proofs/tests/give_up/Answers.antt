@@ -3,4 +3,8 @@ use Rattle.history.specs.Tokens.{Token}
 use Rattle.history.proofs.tests.give_up.Goals as goal
 
 pub returns-clause-dispatcher : goal.returns-clause-dispatcher
-returns-clause-dispatcher c = (c.requires.dispatcher.0, ap (λ (t : Token). t.who) c.answer.ensures.answers.now ∙ c.requires.dispatcher.1)
+returns-clause-dispatcher c = (
+  c.requires.dispatcher.0,
+  ap (λ (t : Token). t.who) c.answer.ensures.answers.now
+      ∙ c.requires.dispatcher.1,
+)

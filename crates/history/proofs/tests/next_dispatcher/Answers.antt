@@ -5,12 +5,14 @@ use Rattle.history.proofs.tests.next_dispatcher.Goals as goal
 
 pub returns-then-eq-clause-left : goal.returns-then-eq-clause-left
 returns-then-eq-clause-left c =
-    left_have (IsDispatcherOf c.args.shared.now) c.args.passes.now.items c.pop.new.self.items c.in_ok-pass.pass c.requires
+    left_have (IsDispatcherOf c.args.shared.now) c.args.passes.now.items c.pop.new.self.items c.in_ok-pass.pass
+    c.requires
     c.in_ok-pass.ensures.items
 
 pub returns-else-eq-clause-left : goal.returns-else-eq-clause-left
 returns-else-eq-clause-left c =
-    left_have (IsDispatcherOf c.args.shared.now) c.args.passes.now.items c.pop.new.self.items c.in_ok-pass.pass c.requires
+    left_have (IsDispatcherOf c.args.shared.now) c.args.passes.now.items c.pop.new.self.items c.in_ok-pass.pass
+    c.requires
     c.in_ok-pass.ensures.items
 
 pub returns-then-eq-clause-next : goal.returns-then-eq-clause-next

@@ -5,7 +5,9 @@ use Rattle.history.proofs.Tickets.{fresh_clients, fresh_dispatchers}
 use Rattle.history.proofs.tests.opened.Goals as goal
 
 pub returns-clause-clients : goal.returns-clause-clients
-returns-clause-clients c = let hall = c.in_ok-new.field-0.shared in subst (All (IsClientOf hall)) (sym c.in_ok-new.ensures.clients) (fresh_clients hall)
+returns-clause-clients c = let hall = c.in_ok-new.field-0.shared in
+    subst (All (IsClientOf hall)) (sym c.in_ok-new.ensures.clients) (fresh_clients hall)
 
 pub returns-clause-dispatchers : goal.returns-clause-dispatchers
-returns-clause-dispatchers c = let hall = c.in_ok-new.field-0.shared in subst (All (IsDispatcherOf hall)) (sym c.in_ok-new.ensures.dispatchers) (fresh_dispatchers hall)
+returns-clause-dispatchers c = let hall = c.in_ok-new.field-0.shared in
+    subst (All (IsDispatcherOf hall)) (sym c.in_ok-new.ensures.dispatchers) (fresh_dispatchers hall)

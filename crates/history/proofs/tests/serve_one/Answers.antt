@@ -2,4 +2,5 @@ use Rattle.history.proofs.Tickets.{may_give_up}
 use Rattle.history.proofs.tests.serve_one.Goals as goal
 
 pub answer-requires-clause-request : goal.answer-requires-clause-request
-answer-requires-clause-request c = may_give_up c.args.pass.now c.grab.new.pass c.args.client c.in-Some.query c.in-Some.ensures.grabs
+answer-requires-clause-request c = may_give_up c.args.pass.now c.grab.new.pass c.args.client c.in-Some.query
+    c.in-Some.ensures.grabs

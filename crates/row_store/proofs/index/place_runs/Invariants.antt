@@ -7,8 +7,10 @@ use Rattle.row_store.proofs.index.place_runs.Given as goal
 abbrev pub invariant-loop-first : goal.invariant-loop-first
 invariant-loop-first l = record {
   within : l.first ≤ length l.index;
-  located : (log : List CommitRecord) → Located (record { loaded = l.lines; index = l.index; log = log }) (get nat_eq l.orders) (lines_at l.lines (take l.first l.index));
-  apart : (i j : ℕ) → i < l.first → l.first ≤ j → j < length l.index → key_at l.lines (slice_index l.index i) < key_at l.lines (slice_index l.index j);
+  located : (log : List CommitRecord) → Located (record { loaded = l.lines; index = l.index; log = log })
+      (get nat_eq l.orders) (lines_at l.lines (take l.first l.index));
+  apart : (i j : ℕ) → i < l.first → l.first ≤ j → j < length l.index
+      → key_at l.lines (slice_index l.index i) < key_at l.lines (slice_index l.index j);
 }
 
 abbrev pub decreases-loop-first : goal.decreases-loop-first

@@ -1,4 +1,9 @@
-use Rattle.row_store.proofs.Prefixes.{begins_with_itself, beginnings_chain, as_long_is_the_whole, beginnings_are_shorter}
+use Rattle.row_store.proofs.Prefixes.{
+  begins_with_itself,
+  beginnings_chain,
+  as_long_is_the_whole,
+  beginnings_are_shorter,
+}
 use Rattle.row_store.proofs.laws.beginnings_are_an_order.Goals as goal
 
 pub returns-clause-itself : goal.returns-clause-itself

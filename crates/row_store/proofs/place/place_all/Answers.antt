@@ -1,4 +1,23 @@
-use Rattle.std.proofs.Common.{rules, ◌≡◌, ℕ, ◌+◌, ◌<◌, List, take, drop, length, slice_get, get_or, nat_eq, refl, sym, ap, ◌∙◌, subst, arith}
+use Rattle.std.proofs.Common.{
+  rules,
+  ◌≡◌,
+  ℕ,
+  ◌+◌,
+  ◌<◌,
+  List,
+  take,
+  drop,
+  length,
+  slice_get,
+  get_or,
+  nat_eq,
+  refl,
+  sym,
+  ap,
+  ◌∙◌,
+  subst,
+  arith,
+}
 use Rattle.std.specs.HashMap.{get}
 use Rattle.std.proofs.lemmas.List.Sums.{fold_more}
 use Rattle.std.proofs.lemmas.Grind.{common_steps}
@@ -23,14 +42,18 @@ loop-i-preserved c = record {
       let item : action ≡ get_or actions i action = c.index-actions-i.is in
       let now : List LineFields = lines_after_refresh lines (take i actions) in
       let two = none_refused-next base (number + i) lines actions i action here item was.1 in
-      let next : lines_after_refresh lines (take (i + 1) actions) ≡ lines_after_action now action = fold_more lines_after_action lines actions i action here ∙ ap (lines_after_action now) (sym item) in
+      let next : lines_after_refresh lines (take (i + 1) actions) ≡ lines_after_action now action =
+      fold_more lines_after_action lines actions i action here ∙ ap (lines_after_action now) (sym item) in
       let found : order_at sources.log c.args.commit i ≡ added_by action =
-      order_at-action sources.log c.args.commit i made action there (ap (λ a. slice_get a i) same ∙ slice_get_read actions (length actions) i action refl here item) in
+      order_at-action sources.log c.args.commit i made action there
+      (ap (λ a. slice_get a i) same ∙ slice_get_read actions (length actions) i action refl here item) in
       let known : c.args.commit < length sources.log = slice_get_within sources.log c.args.commit made there in
-      let located : Located sources (get nat_eq c.put.new.orders) (lines_after_action now action) = c.put.ensures.each base sources now found known was.0 two.0 in
+      let located : Located sources (get nat_eq c.put.new.orders) (lines_after_action now action) =
+      c.put.ensures.each base sources now found known was.0 two.0 in
       let more : (number + i) + 1 ≡ number + (i + 1) = omega arith in (
         λ key. subst (λ s. Lies sources (get nat_eq c.put.new.orders key) (lines_of key s)) (sym next) (located key),
-        ap (λ n. first_refusal base n (lines_after_refresh lines (take (i + 1) actions)) (drop (i + 1) actions)) (sym more) ∙ ap (λ s. first_refusal base ((number + i) + 1) s (drop (i + 1) actions)) next ∙ two.1,
+        ap (λ n. first_refusal base n (lines_after_refresh lines (take (i + 1) actions)) (drop (i + 1) actions))
+            (sym more) ∙ ap (λ s. first_refusal base ((number + i) + 1) s (drop (i + 1) actions)) next ∙ two.1,
       );
   room = search rules;
 }
@@ -39,4 +62,5 @@ pub returns : goal.returns
 returns c base sources lines made number there same before none key =
     let actions : List Action = c.args.actions.now in
     let whole : take c.loop-i.i actions ≡ actions = grind (arith, common_steps) in
-    subst (λ a. Lies sources (get nat_eq c.loop-i.orders key) (lines_of key (lines_after_refresh lines a))) whole ((c.loop-i.invariant.each base sources lines made number there same before none).0 key)
+    subst (λ a. Lies sources (get nat_eq c.loop-i.orders key) (lines_of key (lines_after_refresh lines a))) whole
+    ((c.loop-i.invariant.each base sources lines made number there same before none).0 key)

@@ -10,8 +10,11 @@ use Rattle.row_store.proofs.place.place_all.Given as goal
 
 abbrev pub invariant-loop-i : goal.invariant-loop-i
 invariant-loop-i l = record {
-  each : (base : Tables) (sources : Sources) (lines : List LineFields) (made : CommitRecord) (number : ℕ) → slice_get sources.log l.commit ≡ Some made → made.actions ≡ l.actions
+  each : (base : Tables) (sources : Sources) (lines : List LineFields) (made : CommitRecord) (number : ℕ)
+      → slice_get sources.log l.commit ≡ Some made → made.actions ≡ l.actions
       → Located sources (get nat_eq l.initial.orders) lines → first_refusal base number lines l.actions ≡ None
-      → Located sources (get nat_eq l.orders) (lines_after_refresh lines (take l.i l.actions)) × (first_refusal base (number + l.i) (lines_after_refresh lines (take l.i l.actions)) (drop l.i l.actions) ≡ None);
+      → Located sources (get nat_eq l.orders) (lines_after_refresh lines (take l.i l.actions))
+      × (first_refusal base (number + l.i) (lines_after_refresh lines (take l.i l.actions))
+      (drop l.i l.actions) ≡ None);
   room : length l.actions ≤ spare l.orders + l.i;
 }

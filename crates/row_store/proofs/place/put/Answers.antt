@@ -1,4 +1,24 @@
-use Rattle.std.proofs.Common.{◌≡◌, ℕ, ◌<◌, ◌≤◌, cond, eqb, List, [], ◌++◌, Result, Ok, Err, Some, nat_eq, ap, sym, ◌∙◌, length, subst}
+use Rattle.std.proofs.Common.{
+  ◌≡◌,
+  ℕ,
+  ◌<◌,
+  ◌≤◌,
+  cond,
+  eqb,
+  List,
+  [],
+  ◌++◌,
+  Result,
+  Ok,
+  Err,
+  Some,
+  nat_eq,
+  ap,
+  sym,
+  ◌∙◌,
+  length,
+  subst,
+}
 use Rattle.std.specs.Result.{IsOk, OnOk}
 use Rattle.std.specs.HashMap.{get}
 use Rattle.ssb_schema.specs.declared.line.LineFields.{LineFields}
@@ -32,13 +52,16 @@ returns-in-Add-clause-each c base sources lines found within each none =
     } in
     let key : c.key.result ≡ order_key order = c.key.ensures in
     let alike : HaveKey c.key.result order = λ k d h. c.lines.ensures.order.alike k d h ∙ sym key in
-    let absent : lines_of c.key.result lines ≡ [] = ap (λ k. lines_of k lines) key ∙ new_key base lines order (rw c.in-Add.is at none) in
-    λ q. rw c.in-Add.is (located_more sources (get nat_eq c.args.orders.now) (get nat_eq c.insert.new.self) lines order c.key.result place updates.0 at alike absent each q)
+    let absent : lines_of c.key.result lines ≡ [] = ap (λ k. lines_of k lines) key
+    ∙ new_key base lines order (rw c.in-Add.is at none) in
+    λ q. rw c.in-Add.is (located_more sources (get nat_eq c.args.orders.now) (get nat_eq c.insert.new.self) lines order
+    c.key.result place updates.0 at alike absent each q)
 
 pub returns-in-Amend-clause-each : goal.returns-in-Amend-clause-each
 returns-in-Amend-clause-each c base sources lines found within each none =
     let order : List LineFields = c.in-Amend.order in
-    let updates = on_ok c.insert-in-Amend.result _ (c.insert-in-Amend.ensures.succeeds c.requires) c.insert-in-Amend.ensures.updates in
+    let updates = on_ok c.insert-in-Amend.result _ (c.insert-in-Amend.ensures.succeeds c.requires)
+    c.insert-in-Amend.ensures.updates in
     let there : lines_from sources (length order) c.args.source ≡ order = rw c.in-Amend.is at found in
     let inside : IsWithin sources (length order) c.args.source = rw c.in-Amend.is at within in
     let count : length c.lines-in-Amend.result.now ≡ length order = ap length c.lines-in-Amend.ensures.lines in
@@ -52,10 +75,16 @@ returns-in-Amend-clause-each c base sources lines found within each none =
     } in
     let key : c.key-in-Amend.result ≡ order_key order = c.key-in-Amend.ensures in
     let alike : HaveKey c.key-in-Amend.result order = λ k d h. c.lines-in-Amend.ensures.order.alike k d h ∙ sym key in
-    let amended : (key : ℕ) → key ≡ order_key order → HaveKey key order → ((q : ℕ) → get nat_eq c.insert-in-Amend.new.self q ≡ cond (eqb key q) (Some place) (get nat_eq c.args.orders.now q)) → Located sources (get nat_eq c.insert-in-Amend.new.self) (lines_without (order_key order) lines ++ order) =
-    λ key same alike now. subst (λ k. Located sources (get nat_eq c.insert-in-Amend.new.self) (lines_without k lines ++ order)) same (located_amended sources (get nat_eq c.args.orders.now) (get nat_eq c.insert-in-Amend.new.self) lines order key place now at alike each) in
+    let amended : (key : ℕ) → key ≡ order_key order → HaveKey key order
+    → ((q : ℕ) → get nat_eq c.insert-in-Amend.new.self q ≡ cond (eqb key q) (Some place)
+    (get nat_eq c.args.orders.now q)) → Located sources (get nat_eq c.insert-in-Amend.new.self)
+    (lines_without (order_key order) lines ++ order) =
+    λ key same alike now. subst (λ k. Located sources (get nat_eq c.insert-in-Amend.new.self)
+    (lines_without k lines ++ order)) same (located_amended sources (get nat_eq c.args.orders.now)
+    (get nat_eq c.insert-in-Amend.new.self) lines order key place now at alike each) in
     λ q. rw c.in-Amend.is (amended c.key-in-Amend.result key alike updates.0 q)
 
 pub returns-in-Withdraw-clause-each : goal.returns-in-Withdraw-clause-each
 returns-in-Withdraw-clause-each c base sources lines found within each none =
-    λ q. rw c.in-Withdraw.is (located_withdrawn sources (get nat_eq c.args.orders.now) (get nat_eq c.remove.new.self) lines c.in-Withdraw.key c.remove.ensures.updates.0 each q)
+    λ q. rw c.in-Withdraw.is (located_withdrawn sources (get nat_eq c.args.orders.now) (get nat_eq c.remove.new.self)
+    lines c.in-Withdraw.key c.remove.ensures.updates.0 each q)

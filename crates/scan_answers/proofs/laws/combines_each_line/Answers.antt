@@ -4,4 +4,5 @@ use Rattle.scan_answers.proofs.CombinedLemmas.{combines_each_line}
 use Rattle.scan_answers.proofs.laws.combines_each_line.Goals as goal
 
 pub returns : goal.returns
-returns c = λ blank plan base lines sound known. combines_each_line blank plan base lines sound (recursion_from_All (IsKnown base.dimensions) lines known)
+returns c = λ blank plan base lines sound known. combines_each_line blank plan base lines sound
+    (recursion_from_All (IsKnown base.dimensions) lines known)

@@ -5,4 +5,5 @@ use Rattle.scan_answers.proofs.laws.scan_makes_totals.Goals as goal
 
 pub returns : goal.returns
 returns c = λ blank plan base lines columns count sum sound known apart codes counts sums.
-    scan_makes_totals blank plan base lines columns count sum sound (recursion_from_All (IsKnown base.dimensions) lines known) apart codes counts sums
+    scan_makes_totals blank plan base lines columns count sum sound
+    (recursion_from_All (IsKnown base.dimensions) lines known) apart codes counts sums

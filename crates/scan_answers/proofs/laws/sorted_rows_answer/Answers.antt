@@ -2,4 +2,5 @@ use Rattle.scan_answers.proofs.DenseLemmas.{sorted_rows_answer}
 use Rattle.scan_answers.proofs.laws.sorted_rows_answer.Goals as goal
 
 pub returns : goal.returns
-returns c = λ plan found number size groups count sum rows orders grouped dense moved sorted. sorted_rows_answer plan found number size groups count sum dense orders rows grouped moved sorted
+returns c = λ plan found number size groups count sum rows orders grouped dense moved sorted. sorted_rows_answer plan
+    found number size groups count sum dense orders rows grouped moved sorted

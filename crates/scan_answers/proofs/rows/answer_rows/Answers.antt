@@ -24,9 +24,11 @@ returns-then-len-eq0 c =
     let fits : FitsSigned w64 c.sum_at.result = search rules in
     let none : plan.groups ≡ [] = empty plan.groups (sym c.len.ensures ∙ c.if-len-eq0.true) in
     let no_columns : c.args.columns.now ≡ [] = empty c.args.columns.now (c.requires.columns ∙ ap length none) in
-    let one : length c.args.counts.now ≡ 1 = c.requires.counts ∙ ap (λ (cs : List (List Value)). size_of (counts_of cs)) no_columns in
+    let one : length c.args.counts.now ≡ 1 = c.requires.counts
+    ∙ ap (λ (cs : List (List Value)). size_of (counts_of cs)) no_columns in
     IfOk-weaker c.total_row.result _ _ (λ rows is found number dense.
-    is ∙ ap (λ (s : ℤ). record { groups = []; sum = cond (nat_lt 0 (count 0)) (Some s) None } ∷ []) (to_z-of_z w64 c.sum_at.result fits ∙ c.sum_at.ensures)
+    is ∙ ap (λ (s : ℤ). record { groups = []; sum = cond (nat_lt 0 (count 0)) (Some s) None } ∷ [])
+    (to_z-of_z w64 c.sum_at.result fits ∙ c.sum_at.ensures)
     ∙ one_row_of_dense plan found number (length c.args.counts.now) groups count sum none one dense) c.total_row.ensures
 
 pub returns : goal.returns
@@ -36,5 +38,8 @@ returns c = λ found number dense.
     let sum : ℕ → ℤ = λ g. slice_index_or c.args.sums.now g (pos 0) in
     let plan = c.args.plan.now in
     let some = non_empty plan.groups (λ none. c.if-len-eq0.false (c.len.ensures ∙ none)) in
-    let moved = subst (λ (rows : List ResultRow). IsPermutation rows c.sort_rows.new.rows.items) c.in_ok-rows.ensures c.in_ok-sort_rows.ensures.same_rows in
-    sorted_rows_answer plan found number (length c.args.counts.now) groups count sum dense c.requires.ordered c.sort_rows.new.rows.items (record { first = some.0; others = some.1; are = some.2 }) moved c.in_ok-sort_rows.ensures.sorted
+    let moved = subst (λ (rows : List ResultRow). IsPermutation rows c.sort_rows.new.rows.items) c.in_ok-rows.ensures
+    c.in_ok-sort_rows.ensures.same_rows in
+    sorted_rows_answer plan found number (length c.args.counts.now) groups count sum dense c.requires.ordered
+    c.sort_rows.new.rows.items (record { first = some.0; others = some.1; are = some.2 }) moved
+    c.in_ok-sort_rows.ensures.sorted

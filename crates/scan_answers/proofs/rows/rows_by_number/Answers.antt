@@ -9,7 +9,10 @@ use Rattle.ssb_queries.specs.declared.answer.ResultRow.{ResultRow}
 use Rattle.scan_answers.specs.Groups.{group_values}
 use Rattle.scan_answers.proofs.RowsLemmas.{rows_push, rows_stay}
 use Rattle.scan_answers.proofs.rows.rows_by_number.Goals as goal
-use Rattle.scan_answers.proofs.rows.rows_by_number.Goals.{then-counts-number-gt0+in_ok-groups+in_ok-push, else-counts-number-gt0}
+use Rattle.scan_answers.proofs.rows.rows_by_number.Goals.{
+  then-counts-number-gt0+in_ok-groups+in_ok-push,
+  else-counts-number-gt0,
+}
 
 pub loop-number-preserved : goal.loop-number-preserved
 loop-number-preserved c =
@@ -18,9 +21,14 @@ loop-number-preserved c =
     let sum : ℕ → ℤ = λ g. slice_index_or c.args.sums.now g (pos 0) in
     let n = c.loop-number.number in
     elim c.if-counts-number-gt0.branch [
-      | then-counts-number-gt0+in_ok-groups+in_ok-push w ↦ let fits : FitsSigned w64 w.sum_at.result = search rules in rw w.rows-is (w.in_ok-push.ensures.items
+      | then-counts-number-gt0+in_ok-groups+in_ok-push w ↦ let fits : FitsSigned w64 w.sum_at.result = search rules in
+          rw w.rows-is (w.in_ok-push.ensures.items
           ∙ ap (λ (r : ResultRow). c.loop-number.rows.items ++ r ∷ []) w.row.ensures
-          ∙ (λ i. c.loop-number.invariant i ++ record { groups = w.in_ok-groups.ensures i; sum = Some ((to_z-of_z w64 w.sum_at.result fits ∙ w.sum_at.ensures) i) } ∷ [])
+          ∙ (λ i. c.loop-number.invariant i ++ record {
+            groups = w.in_ok-groups.ensures i;
+            sum = Some ((to_z-of_z w64 w.sum_at.result fits ∙ w.sum_at.ensures) i);
+          } ∷ [])
           ∙ sym (rows_push groups count sum n (lt-ltb 0 (count n) w.if-counts-number-gt0.true)))
-      | else-counts-number-gt0 w ↦ rw w.rows-is (c.loop-number.invariant ∙ sym (rows_stay groups count sum n (le-ltb 0 (count n) w.if-counts-number-gt0.false)))
+      | else-counts-number-gt0 w ↦ rw w.rows-is (c.loop-number.invariant
+          ∙ sym (rows_stay groups count sum n (le-ltb 0 (count n) w.if-counts-number-gt0.false)))
     ]

@@ -5,4 +5,5 @@ use Rattle.scan_answers.specs.Dense.{dense_rows}
 use Rattle.scan_answers.proofs.rows.rows_by_number.Given as goal
 
 abbrev pub invariant-loop-number : goal.invariant-loop-number
-invariant-loop-number l = l.rows.items ≡ dense_rows l.number (group_values l.columns) (λ g. slice_index l.counts g) (λ g. slice_index_or l.sums g (pos 0))
+invariant-loop-number l = l.rows.items ≡ dense_rows l.number (group_values l.columns) (λ g. slice_index l.counts g)
+    (λ g. slice_index_or l.sums g (pos 0))

@@ -12,4 +12,5 @@ returns c =
     let count : ℕ → ℕ = count_of c.args.numbers.now c.args.counts.now in
     let sum : ℕ → ℤ = sum_of c.args.numbers.now c.args.sums.now in
     IfOk-weaker c.scattered_answer.result _ _ (λ rows all.
-    answers_lines c.args.question.now c.in_ok-plan.plan c.args.columns.now (size_of (counts_of c.args.columns.now)) count sum rows.items c.in_ok-plan.ensures.plan refl all) c.scattered_answer.ensures
+    answers_lines c.args.question.now c.in_ok-plan.plan c.args.columns.now (size_of (counts_of c.args.columns.now))
+    count sum rows.items c.in_ok-plan.ensures.plan refl all) c.scattered_answer.ensures

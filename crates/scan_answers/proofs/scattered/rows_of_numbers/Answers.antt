@@ -9,7 +9,10 @@ use Rattle.ssb_queries.specs.declared.answer.ResultRow.{ResultRow}
 use Rattle.scan_answers.specs.Groups.{group_values}
 use Rattle.scan_answers.proofs.ScatteredLemmas.{row_more, row_same}
 use Rattle.scan_answers.proofs.scattered.rows_of_numbers.Goals as goal
-use Rattle.scan_answers.proofs.scattered.rows_of_numbers.Goals.{then-counts-at-gt0+in_ok-groups+in_ok-push, else-counts-at-gt0}
+use Rattle.scan_answers.proofs.scattered.rows_of_numbers.Goals.{
+  then-counts-at-gt0+in_ok-groups+in_ok-push,
+  else-counts-at-gt0,
+}
 
 pub loop-at-preserved : goal.loop-at-preserved
 loop-at-preserved c =
@@ -19,10 +22,16 @@ loop-at-preserved c =
     let groups : ℕ → List Value = group_values c.args.columns.now in
     let n = c.loop-at.at in
     elim c.if-counts-at-gt0.branch [
-      | then-counts-at-gt0+in_ok-groups+in_ok-push w ↦ let fits : FitsSigned w64 w.sum_at.result = search rules in rw w.rows-is (w.in_ok-push.ensures.items
+      | then-counts-at-gt0+in_ok-groups+in_ok-push w ↦ let fits : FitsSigned w64 w.sum_at.result = search rules in
+          rw w.rows-is (w.in_ok-push.ensures.items
           ∙ ap (λ (r : ResultRow). c.loop-at.rows.items ++ r ∷ []) w.row.ensures
-          ∙ (λ i. c.loop-at.invariant i ++ record { groups = w.in_ok-groups.ensures i; sum = Some ((to_z-of_z w64 w.sum_at.result fits ∙ w.sum_at.ensures) i) } ∷ [])
-          ∙ sym (row_more numbers counts sums c.requires.apart c.requires.counts c.requires.sums groups n c.loop-at-test.true (lt-ltb 0 (get_or counts n 0) w.if-counts-at-gt0.true)))
+          ∙ (λ i. c.loop-at.invariant i ++ record {
+            groups = w.in_ok-groups.ensures i;
+            sum = Some ((to_z-of_z w64 w.sum_at.result fits ∙ w.sum_at.ensures) i);
+          } ∷ [])
+          ∙ sym (row_more numbers counts sums c.requires.apart c.requires.counts c.requires.sums groups n
+          c.loop-at-test.true (lt-ltb 0 (get_or counts n 0) w.if-counts-at-gt0.true)))
       | else-counts-at-gt0 w ↦ rw w.rows-is (c.loop-at.invariant
-          ∙ sym (row_same numbers counts sums c.requires.apart c.requires.counts c.requires.sums groups n c.loop-at-test.true (le-ltb 0 (get_or counts n 0) w.if-counts-at-gt0.false)))
+          ∙ sym (row_same numbers counts sums c.requires.apart c.requires.counts c.requires.sums groups n
+          c.loop-at-test.true (le-ltb 0 (get_or counts n 0) w.if-counts-at-gt0.false)))
     ]

@@ -1,5 +1,27 @@
 -- The rows of the groups with combinations, sorted, are the answer; without groups it is the one row.
-use Rattle.std.proofs.Common.{ℕ, zero, suc, false, ◌≡◌, ◌<◌, ◌∙◌, List, [], ◌∷◌, length, get_or, cond, Some, None, sym, ap, subst, arith, refl, rules}
+use Rattle.std.proofs.Common.{
+  ℕ,
+  zero,
+  suc,
+  false,
+  ◌≡◌,
+  ◌<◌,
+  ◌∙◌,
+  List,
+  [],
+  ◌∷◌,
+  length,
+  get_or,
+  cond,
+  Some,
+  None,
+  sym,
+  ap,
+  subst,
+  arith,
+  refl,
+  rules,
+}
 use Rattle.std.specs.Prelude.{ℤ, pos, FitsSigned, IsPermutation, nat_eq, nat_lt}
 use Rattle.std.specs.Cmp.{unsigned_Decides}
 use Rattle.std.specs.Int.{w64}
@@ -30,13 +52,16 @@ returns-then-is_empty c =
     let plan = c.args.plan.now in
     let none : plan.groups ≡ [] = empty plan.groups (sym c.len.ensures ∙ c.if-len-eq0.true) in
     let no_columns : c.args.columns.now ≡ [] = empty c.args.columns.now (c.requires.columns ∙ ap length none) in
-    let one : size_of (counts_of c.args.columns.now) ≡ 1 = ap (λ (cs : List (List Value)). size_of (counts_of cs)) no_columns in
-    let no_numbers : c.args.numbers.now ≡ [] = empty c.args.numbers.now ((unsigned_Decides (length c.args.numbers.now) 0).0 (sym c.is_empty.ensures ∙ c.if-is_empty.true)) in
+    let one : size_of (counts_of c.args.columns.now) ≡ 1 =
+    ap (λ (cs : List (List Value)). size_of (counts_of cs)) no_columns in
+    let no_numbers : c.args.numbers.now ≡ [] = empty c.args.numbers.now
+    ((unsigned_Decides (length c.args.numbers.now) 0).0 (sym c.is_empty.ensures ∙ c.if-is_empty.true)) in
     let no_count : 0 ≡ count 0 = sym (ap (λ (ns : List ℕ). count_of ns c.args.counts.now 0) no_numbers) in
     let no_sum : pos 0 ≡ sum 0 = sym (ap (λ (ns : List ℕ). sum_of ns c.args.sums.now 0) no_numbers) in
     IfOk-weaker c.total_row.result _ _ (λ rows is found number dense.
     is ∙ (λ i. record { groups = []; sum = cond (nat_lt 0 (no_count i)) (Some (no_sum i)) None } ∷ [])
-    ∙ one_row_of_dense plan found number (size_of (counts_of c.args.columns.now)) groups count sum none one dense) c.total_row.ensures
+    ∙ one_row_of_dense plan found number (size_of (counts_of c.args.columns.now)) groups count sum none one dense)
+    c.total_row.ensures
 
 pub returns-then-len-eq0 : goal.returns-then-len-eq0
 returns-then-len-eq0 c =
@@ -50,14 +75,22 @@ returns-then-len-eq0 c =
     let fits : FitsSigned w64 c.sum_at.result = search rules in
     let none : plan.groups ≡ [] = empty plan.groups (sym c.len.ensures ∙ c.if-len-eq0.true) in
     let no_columns : c.args.columns.now ≡ [] = empty c.args.columns.now (c.requires.columns ∙ ap length none) in
-    let one : size_of (counts_of c.args.columns.now) ≡ 1 = ap (λ (cs : List (List Value)). size_of (counts_of cs)) no_columns in
+    let one : size_of (counts_of c.args.columns.now) ≡ 1 =
+    ap (λ (cs : List (List Value)). size_of (counts_of cs)) no_columns in
     let some : 0 < length numbers = positive (length numbers) (sym c.is_empty.ensures ∙ c.if-is_empty.false) in
     let zero : get_or numbers 0 0 ≡ 0 = omega (arith, one, c.requires.below 0 0 some) in
-    let count_is : get_or counts 0 0 ≡ count 0 = sym (beside_at 0 numbers counts 0 c.requires.apart c.requires.counts some) ∙ ap count zero in
-    let sum_is : get_or sums 0 (pos 0) ≡ sum 0 = sym (beside_at (pos 0) numbers sums 0 c.requires.apart c.requires.sums some) ∙ ap sum zero in
+    let count_is : get_or counts 0 0 ≡ count 0 = sym (beside_at 0 numbers counts 0 c.requires.apart c.requires.counts
+    some) ∙ ap count zero in
+    let sum_is : get_or sums 0 (pos 0) ≡ sum 0 = sym (beside_at (pos 0) numbers sums 0 c.requires.apart c.requires.sums
+    some) ∙ ap sum zero in
     IfOk-weaker c.total_row-then-len-eq0.result _ _ (λ rows is found number dense.
-    is ∙ (λ i. record { groups = []; sum = cond (nat_lt 0 (count_is i)) (Some ((to_z-of_z w64 c.sum_at.result fits ∙ c.sum_at.ensures ∙ sum_is) i)) None } ∷ [])
-    ∙ one_row_of_dense plan found number (size_of (counts_of c.args.columns.now)) groups count sum none one dense) c.total_row-then-len-eq0.ensures
+    is ∙ (λ i. record {
+      groups = [];
+      sum = cond (nat_lt 0 (count_is i))
+          (Some ((to_z-of_z w64 c.sum_at.result fits ∙ c.sum_at.ensures ∙ sum_is) i)) None;
+    } ∷ [])
+    ∙ one_row_of_dense plan found number (size_of (counts_of c.args.columns.now)) groups count sum none one dense)
+    c.total_row-then-len-eq0.ensures
 
 pub returns : goal.returns
 returns c = λ found number dense.
@@ -67,6 +100,9 @@ returns c = λ found number dense.
     let sum : ℕ → ℤ = sum_of numbers c.args.sums.now in
     let plan = c.args.plan.now in
     let some = non_empty plan.groups (λ none. c.if-len-eq0.false (c.len.ensures ∙ none)) in
-    let moved = subst (λ (rows : List ResultRow). IsPermutation rows c.sort_rows.new.rows.items) c.in_ok-rows.ensures c.in_ok-sort_rows.ensures.same_rows in
-    scattered_rows_answer numbers c.args.counts.now c.args.sums.now c.requires.apart c.requires.counts c.requires.sums plan found number (size_of (counts_of c.args.columns.now)) groups
-    c.requires.below dense c.requires.ordered (record { first = some.0; others = some.1; are = some.2 }) c.sort_rows.new.rows.items moved c.in_ok-sort_rows.ensures.sorted
+    let moved = subst (λ (rows : List ResultRow). IsPermutation rows c.sort_rows.new.rows.items) c.in_ok-rows.ensures
+    c.in_ok-sort_rows.ensures.same_rows in
+    scattered_rows_answer numbers c.args.counts.now c.args.sums.now c.requires.apart c.requires.counts c.requires.sums
+    plan found number (size_of (counts_of c.args.columns.now)) groups
+    c.requires.below dense c.requires.ordered (record { first = some.0; others = some.1; are = some.2 })
+    c.sort_rows.new.rows.items moved c.in_ok-sort_rows.ensures.sorted

@@ -5,5 +5,7 @@ use Rattle.scan_kernel.proofs.adding.add_discounts.Given as goal
 abbrev pub invariant-loop-at : goal.invariant-loop-at
 invariant-loop-at l = record {
   len : length l.sums ≡ length l.initial.sums;
-  added : (group : ℕ → ℕ) → l.groups ≡ map group l.places → Adds (λ place. get_or l.price place 0 * (get_or l.terms place 0 % 16)) group (take l.at l.places) l.initial.sums l.sums;
+  added : (group : ℕ → ℕ) → l.groups ≡ map group l.places
+      → Adds (λ place. get_or l.price place 0 * (get_or l.terms place 0 % 16)) group (take l.at l.places) l.initial.sums
+      l.sums;
 }

@@ -2,7 +2,8 @@ use Rattle.scan_kernel.proofs.AddsLemmas.{adds_zeros}
 use Rattle.scan_kernel.proofs.adding.add_losses.Goals as goal
 
 pub returns-in-PriceTimesDiscount : goal.returns-in-PriceTimesDiscount
-returns-in-PriceTimesDiscount c = λ group are. rw c.in-PriceTimesDiscount.is (adds_zeros group c.args.places.now c.args.losses.now)
+returns-in-PriceTimesDiscount c = λ group are. rw c.in-PriceTimesDiscount.is
+    (adds_zeros group c.args.places.now c.args.losses.now)
 
 pub returns-in-Revenue : goal.returns-in-Revenue
 returns-in-Revenue c = λ group are. rw c.in-Revenue.is (adds_zeros group c.args.places.now c.args.losses.now)

@@ -10,6 +10,8 @@ invariant-loop-number l = record {
   room : length l.selected ≡ length l.initial.selected;
   numbers : length l.groups ≡ length l.initial.groups;
   all : length l.totals ≡ length l.groupings;
-  done : (k : ℕ) (q : Grouping) (t : Totals) → k < l.number → AddsPlaces l.lines (get_or l.groupings k q) (taken l.lines l.masks k (range_with_len l.from (l.to - l.from))) (get_or l.initial.totals k t) (get_or l.totals k t);
+  done : (k : ℕ) (q : Grouping) (t : Totals) → k < l.number
+      → AddsPlaces l.lines (get_or l.groupings k q) (taken l.lines l.masks k (range_with_len l.from (l.to - l.from)))
+      (get_or l.initial.totals k t) (get_or l.totals k t);
   left : (k : ℕ) (t : Totals) → l.number ≤ k → get_or l.totals k t ≡ get_or l.initial.totals k t;
 }

@@ -14,9 +14,11 @@ add_places-requires-clause-places c =
     let range = range_with_len c.args.from (c.args.to - c.args.from) in
     let rows = length lines.customer.now in
     let are : take c.select_places-count.result c.select_places-count.new.selected ≡ filter bit range =
-    c.select_places-count.ensures.selected mask c.requires.masks ∙ ap (filter bit) c.requires.found ∙ found_are_all mask c.args.number range in
+    c.select_places-count.ensures.selected mask c.requires.masks ∙ ap (filter bit) c.requires.found
+    ∙ found_are_all mask c.args.number range in
     let P : List ℕ → Type 0 = λ xs. All (λ i. i < rows) xs in
-    subst P (sym are) (filter_all (λ i. i < rows) (λ i. i < rows) bit (λ i h e. h) range (all_in_range c.args.from (c.args.to - c.args.from) rows (omega arith)))
+    subst P (sym are) (filter_all (λ i. i < rows) (λ i. i < rows) bit (λ i h e. h) range
+    (all_in_range c.args.from (c.args.to - c.args.from) rows (omega arith)))
 
 pub add_places-requires-clause-groups : goal.add_places-requires-clause-groups
 add_places-requires-clause-groups c =
@@ -28,9 +30,12 @@ add_places-requires-clause-groups c =
     let columns = c.args.grouping.now.columns.items in
     let groups = vec_len c.args.totals.now.counts in
     let are : take c.select_places-count.result c.select_places-count.new.selected ≡ filter bit range =
-    c.select_places-count.ensures.selected mask c.requires.masks ∙ ap (filter bit) c.requires.found ∙ found_are_all mask c.args.number range in
+    c.select_places-count.ensures.selected mask c.requires.masks ∙ ap (filter bit) c.requires.found
+    ∙ found_are_all mask c.args.number range in
     let P : List ℕ → Type 0 = λ xs. All (λ i. group_at columns i < groups) xs in
-    subst P (sym are) (filter_all (λ i. i < rows) (λ i. group_at columns i < groups) bit (λ i h e. omega (arith, c.requires.can_sum.groups i h e, c.requires.size)) range (all_in_range c.args.from (c.args.to - c.args.from) rows (omega arith)))
+    subst P (sym are) (filter_all (λ i. i < rows) (λ i. group_at columns i < groups) bit
+    (λ i h e. omega (arith, c.requires.can_sum.groups i h e, c.requires.size)) range
+    (all_in_range c.args.from (c.args.to - c.args.from) rows (omega arith)))
 
 pub returns-clause-added : goal.returns-clause-added
 returns-clause-added c =
@@ -39,6 +44,7 @@ returns-clause-added c =
     let bit = has_bit lines c.args.masks.now c.args.number in
     let range = range_with_len c.args.from (c.args.to - c.args.from) in
     let are : take c.select_places-count.result c.select_places-count.new.selected ≡ filter bit range =
-    c.select_places-count.ensures.selected mask c.requires.masks ∙ ap (filter bit) c.requires.found ∙ found_are_all mask c.args.number range in
+    c.select_places-count.ensures.selected mask c.requires.masks ∙ ap (filter bit) c.requires.found
+    ∙ found_are_all mask c.args.number range in
     let P : List ℕ → Type 0 = λ xs. AddsPlaces lines c.args.grouping.now xs c.args.totals.now c.add_places.new.totals in
     subst P are c.add_places.ensures.added

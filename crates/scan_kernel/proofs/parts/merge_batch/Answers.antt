@@ -15,7 +15,8 @@ merge-requires c =
     let in_old : n < length c.args.into.now = omega (arith, c.loop-number.invariant.all) in
     let P : Totals → Type 0 = λ t. vec_len t.counts ≡ vec_len (get_or c.args.into.now n mine).counts in
     let R : Totals → Type 0 = λ t. vec_len theirs.counts ≡ vec_len t.counts in
-    subst R (sym (c.loop-number.invariant.left n mine own)) (subst P (sym c.index-from-number.is) (c.requires.sizes n theirs mine in_old))
+    subst R (sym (c.loop-number.invariant.left n mine own))
+    (subst P (sym c.index-from-number.is) (c.requires.sizes n theirs mine in_old))
 
 pub loop-number-preserved : goal.loop-number-preserved
 loop-number-preserved c =
@@ -30,8 +31,10 @@ loop-number-preserved c =
     let in_from : n < length c.args.from.now = omega (arith, in_old, c.requires.all) in
     record {
       all = length-set c.loop-number.into n c.merge.new.into ∙ c.loop-number.invariant.all;
-      done = written_more merges c.args.from.now c.args.into.now c.loop-number.into n theirs mine c.merge.new.into in_from in_mid in_old c.loop-number.invariant.done c.loop-number.invariant.left here;
-      left = λ k t h. get_or-set_other c.loop-number.into n k c.merge.new.into t (λ e. absurd (omega (arith, h, e))) ∙ c.loop-number.invariant.left k t (omega (arith, h));
+      done = written_more merges c.args.from.now c.args.into.now c.loop-number.into n theirs mine c.merge.new.into
+          in_from in_mid in_old c.loop-number.invariant.done c.loop-number.invariant.left here;
+      left = λ k t h. get_or-set_other c.loop-number.into n k c.merge.new.into t (λ e. absurd (omega (arith, h, e)))
+          ∙ c.loop-number.invariant.left k t (omega (arith, h));
     }
 
 pub returns-clause-merged : goal.returns-clause-merged

@@ -10,25 +10,30 @@ loop-at-preserved c =
     let at = c.loop-at.at in
     let end = c.if-to-at-gt-CHUNK.end in
     let old = c.loop-at.invariant in
-    let inside : end ≤ c.args.to = elim c.if-to-at-gt-CHUNK.branch [ then-to-at-gt-CHUNK w ↦ omega arith | else-to-at-gt-CHUNK w ↦ omega arith ] in
-    let order : at ≤ end = elim c.if-to-at-gt-CHUNK.branch [ then-to-at-gt-CHUNK w ↦ omega arith | else-to-at-gt-CHUNK w ↦ omega arith ] in
+    let inside : end ≤ c.args.to = elim c.if-to-at-gt-CHUNK.branch
+    [ then-to-at-gt-CHUNK w ↦ omega arith | else-to-at-gt-CHUNK w ↦ omega arith ] in
+    let order : at ≤ end = elim c.if-to-at-gt-CHUNK.branch
+    [ then-to-at-gt-CHUNK w ↦ omega arith | else-to-at-gt-CHUNK w ↦ omega arith ] in
     record {
       order = omega (arith, old.order);
       within = inside;
       room = c.add_chunk.ensures.room 2048 old.room;
       sizes = c.add_chunk.ensures.sizes;
-      added = batch_on c.args.lines.now c.args.masks.now c.args.groupings.now c.args.from at end c.args.totals.now c.loop-at.totals c.add_chunk.new.totals old.order order old.added c.add_chunk.ensures.added;
+      added = batch_on c.args.lines.now c.args.masks.now c.args.groupings.now c.args.from at end c.args.totals.now
+          c.loop-at.totals c.add_chunk.new.totals old.order order old.added c.add_chunk.ensures.added;
     }
 
 pub returns-clause-added : goal.returns-clause-added
 returns-clause-added c =
-    let P : ℕ → Type 0 = λ e. AddsBatch c.args.lines.now c.args.masks.now c.args.groupings.now (range_with_len c.args.from (e - c.args.from)) c.args.totals.now c.loop-at.totals in
+    let P : ℕ → Type 0 = λ e. AddsBatch c.args.lines.now c.args.masks.now c.args.groupings.now
+    (range_with_len c.args.from (e - c.args.from)) c.args.totals.now c.loop-at.totals in
     let at_end : c.loop-at.at ≡ c.args.to = omega (arith, c.loop-at.invariant.within) in
     subst P at_end c.loop-at.invariant.added
 
 pub loop-at-init : goal.loop-at-init
 loop-at-init c =
-    let P : ℕ → Type 0 = λ n. AddsBatch c.args.lines.now c.args.masks.now c.args.groupings.now (range_with_len c.args.from n) c.args.totals.now c.args.totals.now in
+    let P : ℕ → Type 0 = λ n. AddsBatch c.args.lines.now c.args.masks.now c.args.groupings.now
+    (range_with_len c.args.from n) c.args.totals.now c.args.totals.now in
     let none : 0 ≡ c.args.from - c.args.from = omega arith in
     record {
       order = omega arith;

@@ -13,5 +13,6 @@ invariant-loop-at l = record {
   within : l.at ≤ l.to;
   room : HasRoom 2048 l.room;
   sizes : HaveSizes l.groupings l.totals;
-  added : AddsBatch l.lines l.masks l.groupings (range_with_len l.initial.at (l.at - l.initial.at)) l.initial.totals l.totals;
+  added : AddsBatch l.lines l.masks l.groupings (range_with_len l.initial.at (l.at - l.initial.at)) l.initial.totals
+      l.totals;
 }

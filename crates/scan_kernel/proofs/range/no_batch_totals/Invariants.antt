@@ -7,5 +7,6 @@ use Rattle.scan_kernel.proofs.range.no_batch_totals.Given as goal
 abbrev pub invariant-loop-grouping : goal.invariant-loop-grouping
 invariant-loop-grouping l = record {
   all : length l.all.items ≡ l.grouping-index;
-  each : (k : ℕ) (q : Grouping) (t : Totals) → k < l.grouping-index → AreZeros (get_or l.groupings k q).size (get_or l.all.items k t);
+  each : (k : ℕ) (q : Grouping) (t : Totals) → k < l.grouping-index
+      → AreZeros (get_or l.groupings k q).size (get_or l.all.items k t);
 }

@@ -9,7 +9,8 @@ use Rattle.scan_kernel.proofs.range.range_totals.Goals as goal
 pub add_range-requires-clause-sizes : goal.add_range-requires-clause-sizes
 add_range-requires-clause-sizes c =
     let P : List Totals → Type 0 = λ ts. HaveSizes c.args.groupings.now ts in
-    subst P (sym c.deref_mut.ensures.value) (zeros_sized c.args.groupings.now c.in_ok-totals.totals.items c.in_ok-totals.ensures.all c.in_ok-totals.ensures.each)
+    subst P (sym c.deref_mut.ensures.value) (zeros_sized c.args.groupings.now c.in_ok-totals.totals.items
+    c.in_ok-totals.ensures.all c.in_ok-totals.ensures.each)
 
 pub returns : goal.returns
 returns c =
@@ -20,6 +21,9 @@ returns c =
     let new = c.add_range.new.totals in
     let P : List Totals → Type 0 = λ ts. AddsBatch lines masks groupings range ts new in
     let added = subst P c.deref_mut.ensures.value c.add_range.ensures.added in
-    let as_long : length new ≡ c.in_ok-totals.totals.len = omega (arith, c.add_range.ensures.sizes.all, c.in_ok-totals.ensures.all, c.in_ok-totals.totals.ok) in
+    let as_long : length new ≡ c.in_ok-totals.totals.len =
+    omega (arith, c.add_range.ensures.sizes.all, c.in_ok-totals.ensures.all, c.in_ok-totals.totals.ok) in
     let R : List Totals → Type 0 = λ ts. AreBatchTotals lines masks groupings range ts in
-    subst R (sym (with_items_is c.in_ok-totals.totals new as_long)) (from_zeros lines masks groupings range c.in_ok-totals.totals.items new c.in_ok-totals.ensures.each c.add_range.ensures.sizes added)
+    subst R (sym (with_items_is c.in_ok-totals.totals new as_long))
+    (from_zeros lines masks groupings range c.in_ok-totals.totals.items new c.in_ok-totals.ensures.each
+    c.add_range.ensures.sizes added)

@@ -4,4 +4,5 @@ use Rattle.scan_kernel.specs.Totals.{taken}
 use Rattle.scan_kernel.proofs.scattered.scattered_totals.Given as goal
 
 abbrev pub invariant-loop-place : goal.invariant-loop-place
-invariant-loop-place l = AreScatteredTotals l.lines l.measure (as_group_columns l.columns) (taken l.lines l.masks l.number (range_with_len 0 l.place)) l.size l.totals
+invariant-loop-place l = AreScatteredTotals l.lines l.measure (as_group_columns l.columns)
+    (taken l.lines l.masks l.number (range_with_len 0 l.place)) l.size l.totals

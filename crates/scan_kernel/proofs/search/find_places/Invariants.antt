@@ -9,4 +9,5 @@ abbrev is : ℕ → Bool
 is parameter = not (eqb parameter 0)
 
 abbrev pub invariant-loop-at : goal.invariant-loop-at
-invariant-loop-at g l = FoundUpTo (mask_at l.lines (masks_of (is g.row.C) (is g.row.S) (is g.row.P) (is g.row.D) l.tables)) l.initial.at l.at l.count l.places l.found
+invariant-loop-at g l = FoundUpTo (mask_at l.lines (masks_of (is g.row.C) (is g.row.S) (is g.row.P) (is g.row.D)
+    l.tables)) l.initial.at l.at l.count l.places l.found

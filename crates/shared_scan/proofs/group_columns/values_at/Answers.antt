@@ -11,5 +11,9 @@ loop-code-preserved c =
     let codes = c.args.codes.now in
     let i = c.loop-code.code-index in
     let code = get_or codes i 0 in
-    let value : c.in_ok-clone.field-0 ≡ value_of code = c.in_ok-clone.ensures.cases ∙ sym (get_or_from_slice_get c.args.dictionary.now code c.value.result.now (Number 0) (sym c.value.ensures)) in
-    c.in_ok-push.ensures.items ∙ (λ j. c.loop-code.invariant j ++ value j ∷ []) ∙ sym (map_push value_of (take i codes) code) ∙ ap (map value_of) (sym (take_more codes i 0 c.loop-code-test.true))
+    let value : c.in_ok-clone.field-0 ≡ value_of code =
+    c.in_ok-clone.ensures.cases ∙ sym (get_or_from_slice_get c.args.dictionary.now code c.value.result.now
+    (Number 0) (sym c.value.ensures)) in
+    c.in_ok-push.ensures.items ∙ (λ j. c.loop-code.invariant j ++ value j ∷ [])
+    ∙ sym (map_push value_of (take i codes) code) ∙ ap (map value_of)
+    (sym (take_more codes i 0 c.loop-code-test.true))

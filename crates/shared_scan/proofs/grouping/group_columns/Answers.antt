@@ -20,10 +20,16 @@ loop-place-preserved c =
     let group = c.group_column.result in
     let in_parts : i < length parts = omega (arith, c.requires, c.loop-place-test.true) in
     let one : IsGroupColumn base lines column part group = c.group_column.ensures in
-    let all = group_columns_more base lines (take i columns) (take i parts) c.loop-place.groups.items column part group c.loop-place.invariant one in
-    let parts_is : take i parts ++ part ∷ [] ≡ take (i + 1) parts = ap (λ (p : List ℕ). take i parts ++ p ∷ []) c.index-parts-place.is ∙ sym (take_more parts i part in_parts) in
-    let columns_is : take i columns ++ column ∷ [] ≡ take (i + 1) columns = sym (take_more columns i any c.loop-place-test.true) in
-    let P : List (List ℕ) → Type 0 = λ ps. AreGroupColumns base lines (take i columns ++ column ∷ []) ps (c.loop-place.groups.items ++ group ∷ []) in
-    let R : List Column → Type 0 = λ cs. AreGroupColumns base lines cs (take (i + 1) parts) (c.loop-place.groups.items ++ group ∷ []) in
-    let S : List GroupColumn → Type 0 = λ gs. AreGroupColumns base lines (take (i + 1) columns) (take (i + 1) parts) gs in
+    let all = group_columns_more base lines (take i columns) (take i parts) c.loop-place.groups.items column part group
+    c.loop-place.invariant one in
+    let parts_is : take i parts ++ part ∷ [] ≡ take (i + 1) parts =
+    ap (λ (p : List ℕ). take i parts ++ p ∷ []) c.index-parts-place.is ∙ sym (take_more parts i part in_parts) in
+    let columns_is : take i columns ++ column ∷ [] ≡ take (i + 1) columns =
+    sym (take_more columns i any c.loop-place-test.true) in
+    let P : List (List ℕ) → Type 0 = λ ps. AreGroupColumns base lines (take i columns ++ column ∷ []) ps
+    (c.loop-place.groups.items ++ group ∷ []) in
+    let R : List Column → Type 0 = λ cs. AreGroupColumns base lines cs (take (i + 1) parts)
+    (c.loop-place.groups.items ++ group ∷ []) in
+    let S : List GroupColumn → Type 0 = λ gs. AreGroupColumns base lines (take (i + 1) columns) (take (i + 1) parts) gs
+    in
     subst S (sym c.in_ok-push.ensures.items) (subst R columns_is (subst P parts_is all))

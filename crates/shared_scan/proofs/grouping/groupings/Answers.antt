@@ -16,7 +16,9 @@ loop-ready-preserved c =
     let one : Grouping = c.in_ok-grouping.field-0 in
     let items : c.push.new.self.items ≡ done ++ one ∷ [] = c.in_ok-push.ensures.items in
     let P : ℕ → Grouping → Type 0 = λ k g. (ready : Ready) → IsReadyGrouping base lines (get_or all k ready) g in
-    let here : P n one = λ r. subst (λ (v : Ready). IsReadyGrouping base lines v one) (c.ready-item.is ∙ get_or_default all n c.ready-item.result r c.loop-ready-test.true) c.in_ok-grouping.ensures in
+    let here : P n one = λ r. subst (λ (v : Ready). IsReadyGrouping base lines v one)
+    (c.ready-item.is ∙ get_or_default all n c.ready-item.result r c.loop-ready-test.true) c.in_ok-grouping.ensures
+    in
     let R : List Grouping → Type 0 = λ gs. (k : ℕ) (g : Grouping) → k < n + 1 → P k (get_or gs k g) in
     record {
       len = ap length items ∙ length-append done (one ∷ []) ∙ ap (λ (m : ℕ). m + 1) c.loop-ready.invariant.len;
@@ -25,7 +27,8 @@ loop-ready-preserved c =
 
 pub returns : goal.returns
 returns c =
-    let all : c.loop-ready.ready-index ≡ length c.args.all.now = omega (arith, c.loop-ready-test.false, c.loop-ready.auto) in
+    let all : c.loop-ready.ready-index ≡ length c.args.all.now =
+    omega (arith, c.loop-ready-test.false, c.loop-ready.auto) in
     record {
       len = c.loop-ready.invariant.len ∙ all;
       each = λ k ready grouping below. c.loop-ready.invariant.each k grouping (omega (arith, below, all)) ready;

@@ -7,5 +7,6 @@ use Rattle.shared_scan.proofs.grouping.groupings.Given as goal
 abbrev pub invariant-loop-ready : goal.invariant-loop-ready
 invariant-loop-ready l = record {
   len : length l.groupings.items ≡ l.ready-index;
-  each : (k : ℕ) (grouping : Grouping) → k < l.ready-index → (ready : Ready) → IsReadyGrouping l.index l.lines (get_or l.all k ready) (get_or l.groupings.items k grouping);
+  each : (k : ℕ) (grouping : Grouping) → k < l.ready-index → (ready : Ready)
+      → IsReadyGrouping l.index l.lines (get_or l.all k ready) (get_or l.groupings.items k grouping);
 }

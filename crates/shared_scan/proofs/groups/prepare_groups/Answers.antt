@@ -26,15 +26,25 @@ loop-column-preserved c =
     let parts = c.loop-column.parts.items in
     let made = c.in_ok-made.made in
     let old = c.loop-column.size in
-    let step : old ≡ 1 * size_of (counts_of columns) = c.loop-column.invariant.size ∙ sym (one-mul (size_of (counts_of columns))) in
-    let here : IsPreparedColumn (values_of base column) (masks_in column.table masks) question (1 * size_of (counts_of columns)) made.values made.parts.items =
+    let step : old ≡ 1 * size_of (counts_of columns) =
+    c.loop-column.invariant.size ∙ sym (one-mul (size_of (counts_of columns))) in
+    let here : IsPreparedColumn (values_of base column) (masks_in column.table masks) question
+    (1 * size_of (counts_of columns)) made.values made.parts.items =
     rw (c.masks_of-of_table.ensures, step) at c.in_ok-made.ensures.prepared in
-    let all = prepared_more base masks question column made.values made.parts.items (take i c.args.columns.now) columns 1 parts c.loop-column.invariant.prepared here in
+    let all = prepared_more base masks question column made.values made.parts.items (take i c.args.columns.now) columns
+    1 parts c.loop-column.invariant.prepared here in
     let count : c.len.result ≡ length made.values = c.len.ensures in
     let few : c.len.result ≤ 2 ^ 20 = omega (arith, count, c.in_ok-made.ensures.few) in
     record {
-      prepared = rw (take_more c.args.columns.now i any c.loop-column-test.true, c.in_ok-push.ensures.items, c.in_ok-push-2.ensures.items, c.from_vec.ensures) all;
-      size = ap (λ (n : ℕ). n * old) count ∙ ap (λ (n : ℕ). length made.values * n) c.loop-column.invariant.size ∙ sym (size_more columns made.values) ∙ ap (λ (cs : List (List Value)). size_of (counts_of cs)) (sym c.in_ok-push.ensures.items);
+      prepared = rw (
+        take_more c.args.columns.now i any c.loop-column-test.true,
+        c.in_ok-push.ensures.items,
+        c.in_ok-push-2.ensures.items,
+        c.from_vec.ensures,
+      ) all;
+      size = ap (λ (n : ℕ). n * old) count ∙ ap (λ (n : ℕ). length made.values * n) c.loop-column.invariant.size
+          ∙ sym (size_more columns made.values) ∙ ap (λ (cs : List (List Value)). size_of (counts_of cs))
+          (sym c.in_ok-push.ensures.items);
       none = λ h. absurd (omega (arith, h));
       one = λ h. omega (arith, mul-le-mul few (c.loop-column.invariant.none (omega (arith, h))));
       two = λ h. omega (arith, mul-le-mul few (c.loop-column.invariant.one (omega (arith, h))));

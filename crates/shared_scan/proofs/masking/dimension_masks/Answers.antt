@@ -11,7 +11,8 @@ returns-then-is_empty c =
     let places = c.in_ok-places.places in
     let zero : vec_len places ≡ 0 = eqb-true (vec_len places) 0 (sym c.is_empty.ensures ∙ c.if-is_empty.true) in
     let none : places.items ≡ [] = nil_from_length places.items (omega (arith, zero, places.ok)) in
-    untested c.args.index.now c.args.table c.args.plans.now c.requires.few (subst (CoverTests c.args.table c.args.plans.now) none c.in_ok-places.ensures)
+    untested c.args.index.now c.args.table c.args.plans.now c.requires.few
+    (subst (CoverTests c.args.table c.args.plans.now) none c.in_ok-places.ensures)
 
 pub returns : goal.returns
 returns c =
@@ -21,4 +22,5 @@ returns c =
     let places = c.in_ok-places.places.items in
     let masks = c.in_ok-masks.masks.items in
     let are : AreRowMasks base t plans places masks = rw c.deref.ensures.value at c.in_ok-masks.ensures in
-    subst (λ (ms : List ℕ). TellDimension base t plans (Some ms)) (sym c.from_vec.ensures) (row_masks_tell base t plans places masks c.in_ok-places.ensures are)
+    subst (λ (ms : List ℕ). TellDimension base t plans (Some ms)) (sym c.from_vec.ensures)
+    (row_masks_tell base t plans places masks c.in_ok-places.ensures are)

@@ -5,5 +5,6 @@ use Rattle.shared_scan.proofs.numbering.mark.Given as goal
 abbrev pub invariant-loop-row : goal.invariant-loop-row
 invariant-loop-row l = record {
   len : length l.seen ≡ length l.initial.seen;
-  each : (p k : ℕ) → p < l.row → bit_at (get_or l.masks p 0) k ≡ 1 → bit_at (get_or l.seen (get_or l.codes p 0) 0) k ≡ 1;
+  each : (p k : ℕ) → p < l.row → bit_at (get_or l.masks p 0) k ≡ 1
+      → bit_at (get_or l.seen (get_or l.codes p 0) 0) k ≡ 1;
 }

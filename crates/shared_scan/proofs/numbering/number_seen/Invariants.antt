@@ -9,5 +9,6 @@ invariant-loop-code l = record {
   len : vec_len l.numbering.numbers ≡ length l.seen;
   few : vec_len l.numbering.kept ≤ l.code;
   numbered : AreNumbered l.numbering.numbers.items l.numbering.kept.items;
-  each : (code : ℕ) → code < l.code → bit_at (get_or l.seen code 0) l.question ≡ 1 → get_or l.numbering.numbers.items code 0 ≢ 4294967295;
+  each : (code : ℕ) → code < l.code → bit_at (get_or l.seen code 0) l.question ≡ 1
+      → get_or l.numbering.numbers.items code 0 ≢ 4294967295;
 }

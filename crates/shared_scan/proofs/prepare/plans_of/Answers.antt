@@ -14,4 +14,6 @@ loop-question-preserved c =
     let item = c.question-item.result in
     let question = get_or questions i item in
     let plan : c.in_ok-plan.field-0 ≡ plan_of question = c.in_ok-plan.ensures.plan ∙ ap plan_of c.question-item.is in
-    c.in_ok-push.ensures.items ∙ (λ j. c.loop-question.invariant j ++ plan j ∷ []) ∙ sym (map_push plan_of (take i questions) question) ∙ ap (map plan_of) (sym (take_more questions i item c.loop-question-test.true))
+    c.in_ok-push.ensures.items ∙ (λ j. c.loop-question.invariant j ++ plan j ∷ [])
+    ∙ sym (map_push plan_of (take i questions) question)
+    ∙ ap (map plan_of) (sym (take_more questions i item c.loop-question-test.true))

@@ -5,4 +5,9 @@ use Rattle.shared_scan.proofs.prepare.prepare_question.Goals as goal
 
 pub prepare_groups-requires-clause-three : goal.prepare_groups-requires-clause-three
 prepare_groups-requires-clause-three c =
-    omega (arith, ap length c.as_slice.ensures, ap (λ (plan : Plan). length plan.groups) c.in_ok-plan.ensures.plan, three_alone c.args.question.now.0 c.args.question.now.1)
+    omega (
+      arith,
+      ap length c.as_slice.ensures,
+      ap (λ (plan : Plan). length plan.groups) c.in_ok-plan.ensures.plan,
+      three_alone c.args.question.now.0 c.args.question.now.1,
+    )

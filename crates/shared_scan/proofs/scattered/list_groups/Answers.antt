@@ -19,9 +19,13 @@ loop-at-preserved c =
           let at : slice_get entries i ≡ Some (n, g) = sym w.in-Some.ensures.entry in
           let fits : FitsSigned w64 w.difference.result = search rules in
           record {
-            numbers = rw w.numbers-is (w.in_ok-push.ensures.items ∙ ap (λ (ns : List ℕ). ns ++ n ∷ []) old.numbers ∙ sym (entry_more (λ p. p.0) entries i (n, g) at));
-            counts = rw w.counts-is (w.in_ok-push-2.ensures.items ∙ ap (λ (ns : List ℕ). ns ++ g.count ∷ []) old.counts ∙ sym (value_more (λ s. s.count) entries i (n, g) at));
-            sums = rw w.sums-is (w.in_ok-push-3.ensures.items ∙ (λ j. old.sums j ++ (to_z-of_z w64 w.difference.result fits ∙ w.difference.ensures) j ∷ []) ∙ sym (value_more net entries i (n, g) at));
+            numbers = rw w.numbers-is (w.in_ok-push.ensures.items ∙ ap (λ (ns : List ℕ). ns ++ n ∷ []) old.numbers
+                ∙ sym (entry_more (λ p. p.0) entries i (n, g) at));
+            counts = rw w.counts-is (w.in_ok-push-2.ensures.items ∙ ap (λ (ns : List ℕ). ns ++ g.count ∷ []) old.counts
+                ∙ sym (value_more (λ s. s.count) entries i (n, g) at));
+            sums = rw w.sums-is (w.in_ok-push-3.ensures.items
+                ∙ (λ j. old.sums j ++ (to_z-of_z w64 w.difference.result fits ∙ w.difference.ensures) j ∷ [])
+                ∙ sym (value_more net entries i (n, g) at));
           }
       | in_default w ↦
           let below : i < length entries = omega (arith, c.loop-at-test.true, c.len-at-end.ensures.len) in

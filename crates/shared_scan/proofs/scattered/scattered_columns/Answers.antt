@@ -21,12 +21,20 @@ loop-place-preserved c =
     let group = as_group_column c.scattered_column.result in
     let in_parts : i < length parts = omega (arith, c.requires, c.loop-place-test.true) in
     let one : IsGroupColumn base lines column part group = c.scattered_column.ensures in
-    let all = group_columns_more base lines (take i columns) (take i parts) (as_group_columns c.loop-place.groups.items) column part group c.loop-place.invariant one in
-    let parts_is : take i parts ++ part ∷ [] ≡ take (i + 1) parts = ap (λ (p : List ℕ). take i parts ++ p ∷ []) c.index-parts-place.is ∙ sym (take_more parts i part in_parts) in
-    let columns_is : take i columns ++ column ∷ [] ≡ take (i + 1) columns = sym (take_more columns i any c.loop-place-test.true) in
-    let P : List (List ℕ) → Type 0 = λ ps. AreGroupColumns base lines (take i columns ++ column ∷ []) ps ((as_group_columns c.loop-place.groups.items) ++ group ∷ []) in
-    let R : List Column → Type 0 = λ cs. AreGroupColumns base lines cs (take (i + 1) parts) ((as_group_columns c.loop-place.groups.items) ++ group ∷ []) in
-    let S : List GroupColumn → Type 0 = λ gs. AreGroupColumns base lines (take (i + 1) columns) (take (i + 1) parts) gs in
-    let groups_is : as_group_columns c.push.new.self.items ≡ (as_group_columns c.loop-place.groups.items) ++ group ∷ [] =
-    ap as_group_columns c.in_ok-push.ensures.items ∙ map-append as_group_column c.loop-place.groups.items (c.scattered_column.result ∷ []) in
+    let all = group_columns_more base lines (take i columns) (take i parts) (as_group_columns c.loop-place.groups.items)
+    column part group c.loop-place.invariant one in
+    let parts_is : take i parts ++ part ∷ [] ≡ take (i + 1) parts =
+    ap (λ (p : List ℕ). take i parts ++ p ∷ []) c.index-parts-place.is ∙ sym (take_more parts i part in_parts) in
+    let columns_is : take i columns ++ column ∷ [] ≡ take (i + 1) columns =
+    sym (take_more columns i any c.loop-place-test.true) in
+    let P : List (List ℕ) → Type 0 = λ ps. AreGroupColumns base lines (take i columns ++ column ∷ []) ps
+    ((as_group_columns c.loop-place.groups.items) ++ group ∷ []) in
+    let R : List Column → Type 0 = λ cs. AreGroupColumns base lines cs (take (i + 1) parts)
+    ((as_group_columns c.loop-place.groups.items) ++ group ∷ []) in
+    let S : List GroupColumn → Type 0 = λ gs. AreGroupColumns base lines (take (i + 1) columns) (take (i + 1) parts) gs
+    in
+    let groups_is : as_group_columns c.push.new.self.items ≡ (as_group_columns c.loop-place.groups.items)
+    ++ group ∷ [] =
+    ap as_group_columns c.in_ok-push.ensures.items ∙ map-append as_group_column c.loop-place.groups.items
+    (c.scattered_column.result ∷ []) in
     subst S (sym groups_is) (subst R columns_is (subst P parts_is all))

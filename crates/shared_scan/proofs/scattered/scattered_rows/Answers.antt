@@ -26,19 +26,26 @@ scattered_totals-requires-clause-columns c =
     let ready = c.args.ready.now in
     let of = c.requires.scanned in
     let groups = as_group_columns c.in_ok-columns.columns.items in
-    let P : List (List ℕ) → Type 0 = λ ps. AreGroupColumns c.args.index.now c.args.lines.now ready.plan.groups ps groups in
+    let P : List (List ℕ) → Type 0 = λ ps. AreGroupColumns c.args.index.now c.args.lines.now ready.plan.groups ps groups
+    in
     let made : P c.args.parts.now = rw c.as_slice.ensures at c.in_ok-columns.ensures in
-    let can = can_group c.args.index.now c.args.masks.now c.args.number of.places c.args.lines.now of.plans ready.question ready groups of.sound of.within of.are of.at_k of.tell of.is_ready (subst P (sym c.requires.parts) made) in
-    rw c.deref.ensures.value (all_unmapped (CanNumber (length c.args.lines.now.customer.now)) c.in_ok-columns.columns.items can.0)
+    let can = can_group c.args.index.now c.args.masks.now c.args.number of.places c.args.lines.now of.plans
+    ready.question ready groups of.sound of.within of.are of.at_k of.tell of.is_ready
+    (subst P (sym c.requires.parts) made) in
+    rw c.deref.ensures.value (all_unmapped (CanNumber (length c.args.lines.now.customer.now))
+    c.in_ok-columns.columns.items can.0)
 
 pub scattered_totals-requires-clause-groups : goal.scattered_totals-requires-clause-groups
 scattered_totals-requires-clause-groups c =
     let ready = c.args.ready.now in
     let of = c.requires.scanned in
     let groups = as_group_columns c.in_ok-columns.columns.items in
-    let P : List (List ℕ) → Type 0 = λ ps. AreGroupColumns c.args.index.now c.args.lines.now ready.plan.groups ps groups in
+    let P : List (List ℕ) → Type 0 = λ ps. AreGroupColumns c.args.index.now c.args.lines.now ready.plan.groups ps groups
+    in
     let made : P c.args.parts.now = rw c.as_slice.ensures at c.in_ok-columns.ensures in
-    let can = can_group c.args.index.now c.args.masks.now c.args.number of.places c.args.lines.now of.plans ready.question ready groups of.sound of.within of.are of.at_k of.tell of.is_ready (subst P (sym c.requires.parts) made) in
+    let can = can_group c.args.index.now c.args.masks.now c.args.number of.places c.args.lines.now of.plans
+    ready.question ready groups of.sound of.within of.are of.at_k of.tell of.is_ready
+    (subst P (sym c.requires.parts) made) in
     rw c.deref.ensures.value can.1
 
 pub list_groups-requires : goal.list_groups-requires
@@ -53,30 +60,43 @@ list_groups-requires c = λ g sums at.
     let groups = as_group_columns c.in_ok-columns.columns.items in
     let P : List (List ℕ) → Type 0 = λ ps. AreGroupColumns base lines ready.plan.groups ps groups in
     let made : P c.args.parts.now = rw c.as_slice.ensures at c.in_ok-columns.ensures in
-    let grouped = is_grouping base masks k lines ready.question ready groups of.is_ready (subst P (sym c.requires.parts) made) in
-    let are : AreScatteredTotals lines ready.plan.measure groups (taken lines masks k (range_with_len 0 (length lines.customer.now))) ready.groups.size totals = rw c.deref.ensures.value at c.in_ok-totals.ensures in
+    let grouped = is_grouping base masks k lines ready.question ready groups of.is_ready
+    (subst P (sym c.requires.parts) made) in
+    let are : AreScatteredTotals lines ready.plan.measure groups
+    (taken lines masks k (range_with_len 0 (length lines.customer.now))) ready.groups.size totals =
+    rw c.deref.ensures.value at c.in_ok-totals.ensures in
     let count : ℕ → ℕ = λ h. (sums_in totals h).count in
     let gain : ℕ → ℕ = λ h. (sums_in totals h).gain in
     let loss : ℕ → ℕ = λ h. (sums_in totals h).loss in
-    let R : ℕ → Type 0 = λ n. AreSummed lines masks k ready.plan.measure groups ready.groups.size (range_with_len 0 n) count gain loss in
-    let summed : R (length of.places) = subst R (line_count of.places lines of.are) (summed_scattered totals ready.groups.size lines masks k ready.plan.measure groups (range_with_len 0 (length lines.customer.now)) are) in
+    let R : ℕ → Type 0 = λ n. AreSummed lines masks k ready.plan.measure groups ready.groups.size (range_with_len 0 n)
+    count gain loss in
+    let summed : R (length of.places) = subst R (line_count of.places lines of.are)
+    (summed_scattered totals ready.groups.size lines masks k ready.plan.measure groups
+    (range_with_len 0 (length lines.customer.now)) are) in
     let dims = dimensions_alone ready.question.0 ready.question.1 in
     let is : sums_in totals g ≡ sums = ap (λ o. unwrap_or o nothing) at in
-    let more = gains_small base ready.question of.plans k of.places lines masks ready.groups.columns.items ready.plan.measure groups ready.groups.size of.sound of.within of.are of.at_k of.tell grouped dims count gain loss of.few_live summed g in
-    let less = losses_small base ready.question of.plans k of.places lines masks ready.groups.columns.items ready.plan.measure groups ready.groups.size of.sound of.within of.are of.at_k of.tell grouped dims count gain loss of.few_live summed g in
+    let more = gains_small base ready.question of.plans k of.places lines masks ready.groups.columns.items
+    ready.plan.measure groups ready.groups.size of.sound of.within of.are of.at_k of.tell grouped dims count gain
+    loss of.few_live summed g in
+    let less = losses_small base ready.question of.plans k of.places lines masks ready.groups.columns.items
+    ready.plan.measure groups ready.groups.size of.sound of.within of.are of.at_k of.tell grouped dims count gain
+    loss of.few_live summed g in
     (subst (λ (s : GroupSums). s.gain < 2 ^ 62) is more, subst (λ (s : GroupSums). s.loss < 2 ^ 62) is less)
 
 pub answer_scattered-requires-clause-columns : goal.answer_scattered-requires-clause-columns
 answer_scattered-requires-clause-columns c =
     let ready = c.args.ready.now in
     let is = c.requires.scanned.is_ready in
-    ap length c.deref-2.ensures.value ∙ (prepared_lengths c.args.index.now c.args.masks.now c.args.number ready.plan.groups ready.groups.columns.items 1 _ is.prepared).0 ∙ ap (λ (plan : Plan). length plan.groups) is.plan_is
+    ap length c.deref-2.ensures.value ∙ (prepared_lengths c.args.index.now c.args.masks.now c.args.number
+    ready.plan.groups ready.groups.columns.items 1 _ is.prepared).0
+    ∙ ap (λ (plan : Plan). length plan.groups) is.plan_is
 
 pub answer_scattered-requires-clause-below : goal.answer_scattered-requires-clause-below
 answer_scattered-requires-clause-below c =
     let ready = c.args.ready.now in
     let totals = c.in_ok-totals.totals in
-    let all : All (λ n. n < ready.groups.size) (keys totals) = keys_below totals ready.groups.size nat_eq_equiv c.in_ok-totals.ensures.unique c.in_ok-totals.ensures.below in
+    let all : All (λ n. n < ready.groups.size) (keys totals) =
+    keys_below totals ready.groups.size nat_eq_equiv c.in_ok-totals.ensures.unique c.in_ok-totals.ensures.below in
     let S : ℕ → Type 0 = λ size. All (λ n. n < size) (keys totals) in
     let own : S (size_of (counts_of ready.groups.columns.items)) = subst S c.requires.scanned.is_ready.size_is all in
     rw (c.deref-3.ensures.value, c.deref-2.ensures.value, c.in_ok-list.ensures.numbers) own
@@ -94,10 +114,23 @@ returns c =
     let groups = as_group_columns c.in_ok-columns.columns.items in
     let P : List (List ℕ) → Type 0 = λ ps. AreGroupColumns base lines ready.plan.groups ps groups in
     let made : P c.args.parts.now = rw c.as_slice.ensures at c.in_ok-columns.ensures in
-    let grouped = is_grouping base masks k lines ready.question ready groups of.is_ready (subst P (sym c.requires.parts) made) in
-    let are : AreScatteredTotals lines ready.plan.measure groups (taken lines masks k (range_with_len 0 (length lines.customer.now))) ready.groups.size totals = rw c.deref.ensures.value at c.in_ok-totals.ensures in
-    let summed = summed_scattered totals ready.groups.size lines masks k ready.plan.measure groups (range_with_len 0 (length lines.customer.now)) are in
-    let right = rw (c.deref-2.ensures.value, c.deref-3.ensures.value, c.deref-4.ensures.value, c.deref-5.ensures.value, c.in_ok-list.ensures.numbers, c.in_ok-list.ensures.counts, c.in_ok-list.ensures.sums) at c.answer_scattered.ensures in
+    let grouped = is_grouping base masks k lines ready.question ready groups of.is_ready
+    (subst P (sym c.requires.parts) made) in
+    let are : AreScatteredTotals lines ready.plan.measure groups
+    (taken lines masks k (range_with_len 0 (length lines.customer.now))) ready.groups.size totals =
+    rw c.deref.ensures.value at c.in_ok-totals.ensures in
+    let summed = summed_scattered totals ready.groups.size lines masks k ready.plan.measure groups
+    (range_with_len 0 (length lines.customer.now)) are in
+    let right = rw (
+      c.deref-2.ensures.value,
+      c.deref-3.ensures.value,
+      c.deref-4.ensures.value,
+      c.deref-5.ensures.value,
+      c.in_ok-list.ensures.numbers,
+      c.in_ok-list.ensures.counts,
+      c.in_ok-list.ensures.sums,
+    ) at
+    c.answer_scattered.ensures in
     IfOk-weaker c.answer_scattered.result _ _ (λ rows own. record {
       groups = groups;
       count = λ g. (sums_in totals g).count;
@@ -106,5 +139,6 @@ returns c =
       grouped = grouped;
       summed = summed;
       right = λ blank base lines sound known apart lists counts sums. own blank base lines sound known apart lists
-          (λ g below. beside_is (λ (s : GroupSums). s.count) totals.entries g ∙ counts g below) (λ g below. beside_is net totals.entries g ∙ sums g below);
+          (λ g below. beside_is (λ (s : GroupSums). s.count) totals.entries g ∙ counts g below)
+          (λ g below. beside_is net totals.entries g ∙ sums g below);
     }) right

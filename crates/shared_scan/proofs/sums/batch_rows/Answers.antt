@@ -19,10 +19,14 @@ loop-number-preserved c =
     let one : Rows = c.in_ok-question_rows.field-0 in
     let items : c.push.new.self.items ≡ done ++ one ∷ [] = c.in_ok-push.ensures.items in
     let in_totals : n < length totals = omega (arith, c.loop-number-test.true, c.requires.len) in
-    let P : ℕ → Rows → Type 0 = λ k rows. (ready : Ready) (t : Totals) → AreRowsOf base lines masks k (get_or all k ready) (get_or totals k t) rows in
+    let P : ℕ → Rows → Type 0 = λ k rows. (ready : Ready) (t : Totals)
+    → AreRowsOf base lines masks k (get_or all k ready) (get_or totals k t) rows in
     let here : P n one = λ r t.
-    let of_ready = subst (λ (v : Ready). AreRowsOf base lines masks n v c.index-totals-number.result one) (c.index-all-number.is ∙ get_or_default all n c.index-all-number.result r c.loop-number-test.true) c.in_ok-question_rows.ensures in
-    subst (λ (v : Totals). AreRowsOf base lines masks n (get_or all n r) v one) (c.index-totals-number.is ∙ get_or_default totals n c.index-totals-number.result t in_totals) of_ready in
+    let of_ready = subst (λ (v : Ready). AreRowsOf base lines masks n v c.index-totals-number.result one)
+    (c.index-all-number.is ∙ get_or_default all n c.index-all-number.result r c.loop-number-test.true)
+    c.in_ok-question_rows.ensures in
+    subst (λ (v : Totals). AreRowsOf base lines masks n (get_or all n r) v one)
+    (c.index-totals-number.is ∙ get_or_default totals n c.index-totals-number.result t in_totals) of_ready in
     let R : List Rows → Type 0 = λ list. (k : ℕ) (rows : Rows) → k < n + 1 → P k (get_or list k rows) in
     record {
       len = ap length items ∙ length-append done (one ∷ []) ∙ ap (λ (m : ℕ). m + 1) c.loop-number.invariant.len;
@@ -31,7 +35,8 @@ loop-number-preserved c =
 
 pub returns : goal.returns
 returns c =
-    let all : c.loop-number.number ≡ length c.args.all.now = omega (arith, c.loop-number-test.false, c.loop-number.auto) in
+    let all : c.loop-number.number ≡ length c.args.all.now =
+    omega (arith, c.loop-number-test.false, c.loop-number.auto) in
     record {
       len = c.loop-number.invariant.len ∙ all;
       each = λ k ready t rows below. c.loop-number.invariant.each k rows (omega (arith, below, all)) ready t;
@@ -47,4 +52,5 @@ question_rows-requires-clause-can c =
     let t = c.index-totals-number.result in
     let P : Ready → Type 0 = λ r. CanAnswer base lines masks n r t in
     let R : Totals → Type 0 = λ v. CanAnswer base lines masks n (get_or c.args.all.now n ready) v in
-    subst P (sym c.index-all-number.is) (subst R (sym c.index-totals-number.is) (c.requires.can n ready t c.loop-number-test.true))
+    subst P (sym c.index-all-number.is) (subst R (sym c.index-totals-number.is)
+    (c.requires.can n ready t c.loop-number-test.true))

@@ -8,5 +8,7 @@ use Rattle.shared_scan.proofs.sums.batch_rows.Given as goal
 abbrev pub invariant-loop-number : goal.invariant-loop-number
 invariant-loop-number l = record {
   len : length l.rows.items ≡ l.number;
-  each : (k : ℕ) (rows : Rows) → k < l.number → (ready : Ready) (t : Totals) → AreRowsOf l.scan.index.now l.scan.lines l.scan.masks.now k (get_or l.all k ready) (get_or l.totals k t) (get_or l.rows.items k rows);
+  each : (k : ℕ) (rows : Rows) → k < l.number → (ready : Ready) (t : Totals)
+      → AreRowsOf l.scan.index.now l.scan.lines l.scan.masks.now k (get_or l.all k ready) (get_or l.totals k t)
+      (get_or l.rows.items k rows);
 }

@@ -6,4 +6,5 @@ use Rattle.ssb_audit.proofs.visits.batch_end.Given as goal
 
 -- the visits so far are after as many commits as the first of them
 abbrev pub invariant-loop-end : goal.invariant-loop-end
-invariant-loop-end l = (first : Visit) → AllWithin (λ visit. visit.at ≡ (slice_index_or l.visits l.begin first).at) l.visits l.begin l.end
+invariant-loop-end l = (first : Visit) → AllWithin (λ visit. visit.at ≡ (slice_index_or l.visits l.begin first).at)
+    l.visits l.begin l.end

@@ -8,8 +8,10 @@ pub loop-place-preserved : goal.loop-place-preserved
 loop-place-preserved c =
     let answers = c.args.answers.now in
     let told = c.index-answers-place.result in
-    c.in_ok-push.ensures.items ∙ ap (λ visits. visits ++ record { at = told.at; place = c.loop-place.place } ∷ []) c.loop-place.invariant
+    c.in_ok-push.ensures.items ∙ ap (λ visits. visits ++ record { at = told.at; place = c.loop-place.place } ∷ [])
+    c.loop-place.invariant
     ∙ sym (visits_more answers c.loop-place.place told c.loop-place-test.true c.index-answers-place.is)
 
 pub returns-clause-sorted : goal.returns-clause-sorted
-returns-clause-sorted c = IsNonDecreasingBy-from_sort_by_key (λ (visit : Visit). visit.at) _ c.in_ok-sort_by_key.ensures.sorted (λ a r q k. search rules)
+returns-clause-sorted c = IsNonDecreasingBy-from_sort_by_key (λ (visit : Visit). visit.at) _
+    c.in_ok-sort_by_key.ensures.sorted (λ a r q k. search rules)

@@ -9,6 +9,9 @@ returns g c history stands =
     let answers = c.args.answers.now in
     let visits = c.args.visits.now in
     let found = c.in_ok-found.found.items in
-    let first = subst (λ rows. IsFirstOther answers visits rows (length visits) c.args.limit c.first_other.result) c.as_slice-2.ensures.value c.first_other.ensures in
-    wrong_from_other c.args.columns.now.base history answers visits c.in_ok-questions.questions.items found c.args.limit c.first_other.result c.in_ok-questions.ensures
-    (c.in_ok-found.ensures history stands ∙ ap (answers_after c.args.columns.now.base history) c.as_slice.ensures.value) first
+    let first = subst (λ rows. IsFirstOther answers visits rows (length visits) c.args.limit c.first_other.result)
+    c.as_slice-2.ensures.value c.first_other.ensures in
+    wrong_from_other c.args.columns.now.base history answers visits c.in_ok-questions.questions.items found c.args.limit
+    c.first_other.result c.in_ok-questions.ensures
+    (c.in_ok-found.ensures history stands ∙ ap (answers_after c.args.columns.now.base history) c.as_slice.ensures.value)
+    first

@@ -17,7 +17,10 @@ loop-k-preserved c =
     let told = c.index-answers-visit.result in
     let rows = c.index-found-k.result in
     let is_in = c.requires.answers k (record { at = 0; place = 0 }) c.loop-k-test.true in
-    let there = slice_get_read answers (length answers) visit.place told refl (slice_get_within answers visit.place is_in.told is_in.there) c.index-answers-visit.is in
+    let there = slice_get_read answers (length answers) visit.place told refl
+    (slice_get_within answers visit.place is_in.told is_in.there) c.index-answers-visit.is in
     let within : k < length found = omega (arith, c.requires.each, c.loop-k-test.true) in
-    other_more answers visits found k c.args.limit c.loop-k.first c.earlier-first.result visit told rows (slice_get-get_or visits k (record { at = 0; place = 0 }) c.loop-k-test.true) there
-    (slice_get_read found (length found) k rows refl within c.index-found-k.is) c.earlier-first.ensures c.loop-k.invariant
+    other_more answers visits found k c.args.limit c.loop-k.first c.earlier-first.result visit told rows
+    (slice_get-get_or visits k (record { at = 0; place = 0 }) c.loop-k-test.true) there
+    (slice_get_read found (length found) k rows refl within c.index-found-k.is) c.earlier-first.ensures
+    c.loop-k.invariant

@@ -8,6 +8,7 @@ use Rattle.ssb_audit.proofs.walk.questions_of.Given as goal
 abbrev pub invariant-loop-visit : goal.invariant-loop-visit
 invariant-loop-visit l = record {
   len : length l.questions.items ≡ l.visit-index;
-  each : (k : ℕ) (visit : Visit) (told : Told) → k < l.visit-index → slice_get l.visits k ≡ Some visit → slice_get l.answers visit.place ≡ Some told
+  each : (k : ℕ) (visit : Visit) (told : Told) → k < l.visit-index → slice_get l.visits k ≡ Some visit
+      → slice_get l.answers visit.place ≡ Some told
       → slice_get l.questions.items k ≡ Some told.question;
 }

@@ -6,7 +6,8 @@ use Rattle.ssb_audit.specs.declared.visits.Visit.{Visit}
 use Rattle.ssb_audit.proofs.WalkLaws.{IsWalked}
 use Rattle.ssb_audit.proofs.walk.walk.Given as goal
 
--- the columns are those after as many commits as they took, which the next visit has not passed, and the answers so far were looked at
+-- the columns are those after as many commits as they took, which the next visit has not passed, and the answers so far
+-- were looked at
 abbrev pub invariant-loop-begin : goal.invariant-loop-begin
 invariant-loop-begin g l = record {
   within : l.begin ≤ length l.visits;

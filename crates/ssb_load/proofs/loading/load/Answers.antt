@@ -9,19 +9,21 @@ use Rattle.ssb_load.proofs.loading.load.Goals as goal
 pub returns-in_err-read_parts-clause-fault : goal.returns-in_err-read_parts-clause-fault
 returns-in_err-read_parts-clause-fault g c =
     let is : c.from_residual.result ≡ Err c.in_err-read_parts.field-0.0 = search rules in
-    let here : (texts : Table → List ℕ) → AreTexts g.R.Read.remaining c.args.tables texts → IsLoadFault c.args.limits texts c.in_err-read_parts.field-0.0
-    = λ texts are. inl (c.in_err-read_parts.ensures.stops texts are) in
+    let here : (texts : Table → List ℕ) → AreTexts g.R.Read.remaining c.args.tables texts
+    → IsLoadFault c.args.limits texts c.in_err-read_parts.field-0.0
+    = λ texts known. inl (c.in_err-read_parts.ensures.stops texts known) in
     rw is here
 
 pub returns-in-Some-clause-fault : goal.returns-in-Some-clause-fault
-returns-in-Some-clause-fault g c = λ texts are.
+returns-in-Some-clause-fault g c = λ texts known.
     let parts = c.in_ok-read_parts.field-0 in
     let why = c.in-Err-Refused.refused.fault in
-    let first : base_fault (tables_of c.args.limits parts) ≡ Some why = rw c.in-Err-Refused.field-0-is at c.in-Err-Refused.ensures.fault in
+    let first : base_fault (tables_of c.args.limits parts) ≡ Some why =
+    rw c.in-Err-Refused.field-0-is at c.in-Err-Refused.ensures.fault in
     inr (inl (record {
       base = tables_of c.args.limits parts;
       limited = refl;
-      spelled = c.in_ok-read_parts.ensures.spelled texts are;
+      spelled = c.in_ok-read_parts.ensures.spelled texts known;
       why = why;
       first = first;
       told = sym c.in_base.ensures ∙ c.in-Some.is;
@@ -31,5 +33,6 @@ pub unreachable-requires : goal.unreachable-requires
 unreachable-requires g c =
     let parts = c.in_ok-read_parts.field-0 in
     let why = c.in-Err-Refused.refused.fault in
-    let first : base_fault (tables_of c.args.limits parts) ≡ Some why = rw c.in-Err-Refused.field-0-is at c.in-Err-Refused.ensures.fault in
+    let first : base_fault (tables_of c.args.limits parts) ≡ Some why =
+    rw c.in-Err-Refused.field-0-is at c.in-Err-Refused.ensures.fault in
     base_fault_told (tables_of c.args.limits parts) why first (sym c.in_base.ensures ∙ c.in-None.is)

@@ -10,7 +10,7 @@ use Rattle.ssb_load.proofs.LoadLaws.{at_known, each_table, table_stops, table_wh
 use Rattle.ssb_load.proofs.loading.read_parts.Goals as goal
 
 pub returns-clause-spelled : goal.returns-clause-spelled
-returns-clause-spelled g c = λ texts are.
+returns-clause-spelled g c = λ texts known.
     let rem = g.R.Read.remaining in
     let tables = c.args.tables in
     let limits = c.args.limits in
@@ -22,11 +22,19 @@ returns-clause-spelled g c = λ texts are.
       lines = c.in_ok-read_table-5.field-0;
     } in
     each_table (λ t. SpellsRows t (limit_of limits t) (texts t) (values_in (tables_of limits parts) t))
-    (at_known (rem tables.customer) (texts table.Customer) (λ text. SpellsRows table.Customer limits.dimension_rows text (map customer_values parts.customers.items)) (are table.Customer) c.in_ok-read_table.ensures.rows)
-    (at_known (rem tables.supplier) (texts table.Supplier) (λ text. SpellsRows table.Supplier limits.dimension_rows text (map supplier_values parts.suppliers.items)) (are table.Supplier) c.in_ok-read_table-2.ensures.rows)
-    (at_known (rem tables.part) (texts table.Part) (λ text. SpellsRows table.Part limits.dimension_rows text (map part_values parts.parts.items)) (are table.Part) c.in_ok-read_table-3.ensures.rows)
-    (at_known (rem tables.date) (texts table.Date) (λ text. SpellsRows table.Date limits.dimension_rows text (map date_values parts.dates.items)) (are table.Date) c.in_ok-read_table-4.ensures.rows)
-    (at_known (rem tables.lineorder) (texts table.Lineorder) (λ text. SpellsRows table.Lineorder limits.lines text (map line_values parts.lines.items)) (are table.Lineorder) c.in_ok-read_table-5.ensures.rows)
+    (at_known (rem tables.customer) (texts table.Customer)
+    (λ text. SpellsRows table.Customer limits.dimension_rows text (map customer_values parts.customers.items))
+    (known table.Customer) c.in_ok-read_table.ensures.rows)
+    (at_known (rem tables.supplier) (texts table.Supplier)
+    (λ text. SpellsRows table.Supplier limits.dimension_rows text (map supplier_values parts.suppliers.items))
+    (known table.Supplier) c.in_ok-read_table-2.ensures.rows)
+    (at_known (rem tables.part) (texts table.Part) (λ text. SpellsRows table.Part limits.dimension_rows text
+    (map part_values parts.parts.items)) (known table.Part) c.in_ok-read_table-3.ensures.rows)
+    (at_known (rem tables.date) (texts table.Date) (λ text. SpellsRows table.Date limits.dimension_rows text
+    (map date_values parts.dates.items)) (known table.Date) c.in_ok-read_table-4.ensures.rows)
+    (at_known (rem tables.lineorder) (texts table.Lineorder)
+    (λ text. SpellsRows table.Lineorder limits.lines text (map line_values parts.lines.items))
+    (known table.Lineorder) c.in_ok-read_table-5.ensures.rows)
 
 pub returns-in_err-read_table-clause-stops : goal.returns-in_err-read_table-clause-stops
 returns-in_err-read_table-clause-stops g c =
@@ -34,8 +42,9 @@ returns-in_err-read_table-clause-stops g c =
     let tables = c.args.tables in
     let limits = c.args.limits in
     let e = c.in_err-read_table.field-0.0 in
-    let here : (texts : Table → List ℕ) → AreTexts rem tables texts → StopsIn limits texts all_tables e = λ texts are.
-    inl (table_stops limits texts table.Customer (rem tables.customer) e (are table.Customer) c.in_err-read_table.ensures.fault) in
+    let here : (texts : Table → List ℕ) → AreTexts rem tables texts → StopsIn limits texts all_tables e = λ texts known.
+    inl (table_stops limits texts table.Customer (rem tables.customer) e (known table.Customer)
+    c.in_err-read_table.ensures.fault) in
     search rules
 
 pub returns-in_err-read_table-2-clause-stops : goal.returns-in_err-read_table-2-clause-stops
@@ -44,10 +53,12 @@ returns-in_err-read_table-2-clause-stops g c =
     let tables = c.args.tables in
     let limits = c.args.limits in
     let e = c.in_err-read_table-2.field-0.0 in
-    let here : (texts : Table → List ℕ) → AreTexts rem tables texts → StopsIn limits texts all_tables e = λ texts are.
+    let here : (texts : Table → List ℕ) → AreTexts rem tables texts → StopsIn limits texts all_tables e = λ texts known.
     inr (
-      table_whole limits texts table.Customer (rem tables.customer) (map customer_values c.in_ok-read_table.field-0.items) (are table.Customer) c.in_ok-read_table.ensures.rows,
-      inl (table_stops limits texts table.Supplier (rem tables.supplier) e (are table.Supplier) c.in_err-read_table-2.ensures.fault),
+      table_whole limits texts table.Customer (rem tables.customer)
+          (map customer_values c.in_ok-read_table.field-0.items) (known table.Customer) c.in_ok-read_table.ensures.rows,
+      inl (table_stops limits texts table.Supplier (rem tables.supplier) e (known table.Supplier)
+          c.in_err-read_table-2.ensures.fault),
     ) in
     search rules
 
@@ -57,12 +68,16 @@ returns-in_err-read_table-3-clause-stops g c =
     let tables = c.args.tables in
     let limits = c.args.limits in
     let e = c.in_err-read_table-3.field-0.0 in
-    let here : (texts : Table → List ℕ) → AreTexts rem tables texts → StopsIn limits texts all_tables e = λ texts are.
+    let here : (texts : Table → List ℕ) → AreTexts rem tables texts → StopsIn limits texts all_tables e = λ texts known.
     inr (
-      table_whole limits texts table.Customer (rem tables.customer) (map customer_values c.in_ok-read_table.field-0.items) (are table.Customer) c.in_ok-read_table.ensures.rows,
+      table_whole limits texts table.Customer (rem tables.customer)
+          (map customer_values c.in_ok-read_table.field-0.items) (known table.Customer) c.in_ok-read_table.ensures.rows,
       inr (
-        table_whole limits texts table.Supplier (rem tables.supplier) (map supplier_values c.in_ok-read_table-2.field-0.items) (are table.Supplier) c.in_ok-read_table-2.ensures.rows,
-        inl (table_stops limits texts table.Part (rem tables.part) e (are table.Part) c.in_err-read_table-3.ensures.fault),
+        table_whole limits texts table.Supplier (rem tables.supplier)
+            (map supplier_values c.in_ok-read_table-2.field-0.items) (known table.Supplier)
+            c.in_ok-read_table-2.ensures.rows,
+        inl (table_stops limits texts table.Part (rem tables.part) e (known table.Part)
+            c.in_err-read_table-3.ensures.fault),
       ),
     ) in
     search rules
@@ -73,14 +88,19 @@ returns-in_err-read_table-4-clause-stops g c =
     let tables = c.args.tables in
     let limits = c.args.limits in
     let e = c.in_err-read_table-4.field-0.0 in
-    let here : (texts : Table → List ℕ) → AreTexts rem tables texts → StopsIn limits texts all_tables e = λ texts are.
+    let here : (texts : Table → List ℕ) → AreTexts rem tables texts → StopsIn limits texts all_tables e = λ texts known.
     inr (
-      table_whole limits texts table.Customer (rem tables.customer) (map customer_values c.in_ok-read_table.field-0.items) (are table.Customer) c.in_ok-read_table.ensures.rows,
+      table_whole limits texts table.Customer (rem tables.customer)
+          (map customer_values c.in_ok-read_table.field-0.items) (known table.Customer) c.in_ok-read_table.ensures.rows,
       inr (
-        table_whole limits texts table.Supplier (rem tables.supplier) (map supplier_values c.in_ok-read_table-2.field-0.items) (are table.Supplier) c.in_ok-read_table-2.ensures.rows,
+        table_whole limits texts table.Supplier (rem tables.supplier)
+            (map supplier_values c.in_ok-read_table-2.field-0.items) (known table.Supplier)
+            c.in_ok-read_table-2.ensures.rows,
         inr (
-          table_whole limits texts table.Part (rem tables.part) (map part_values c.in_ok-read_table-3.field-0.items) (are table.Part) c.in_ok-read_table-3.ensures.rows,
-          inl (table_stops limits texts table.Date (rem tables.date) e (are table.Date) c.in_err-read_table-4.ensures.fault),
+          table_whole limits texts table.Part (rem tables.part) (map part_values c.in_ok-read_table-3.field-0.items)
+              (known table.Part) c.in_ok-read_table-3.ensures.rows,
+          inl (table_stops limits texts table.Date (rem tables.date) e (known table.Date)
+              c.in_err-read_table-4.ensures.fault),
         ),
       ),
     ) in
@@ -92,16 +112,22 @@ returns-in_err-read_table-5-clause-stops g c =
     let tables = c.args.tables in
     let limits = c.args.limits in
     let e = c.in_err-read_table-5.field-0.0 in
-    let here : (texts : Table → List ℕ) → AreTexts rem tables texts → StopsIn limits texts all_tables e = λ texts are.
+    let here : (texts : Table → List ℕ) → AreTexts rem tables texts → StopsIn limits texts all_tables e = λ texts known.
     inr (
-      table_whole limits texts table.Customer (rem tables.customer) (map customer_values c.in_ok-read_table.field-0.items) (are table.Customer) c.in_ok-read_table.ensures.rows,
+      table_whole limits texts table.Customer (rem tables.customer)
+          (map customer_values c.in_ok-read_table.field-0.items) (known table.Customer) c.in_ok-read_table.ensures.rows,
       inr (
-        table_whole limits texts table.Supplier (rem tables.supplier) (map supplier_values c.in_ok-read_table-2.field-0.items) (are table.Supplier) c.in_ok-read_table-2.ensures.rows,
+        table_whole limits texts table.Supplier (rem tables.supplier)
+            (map supplier_values c.in_ok-read_table-2.field-0.items) (known table.Supplier)
+            c.in_ok-read_table-2.ensures.rows,
         inr (
-          table_whole limits texts table.Part (rem tables.part) (map part_values c.in_ok-read_table-3.field-0.items) (are table.Part) c.in_ok-read_table-3.ensures.rows,
+          table_whole limits texts table.Part (rem tables.part) (map part_values c.in_ok-read_table-3.field-0.items)
+              (known table.Part) c.in_ok-read_table-3.ensures.rows,
           inr (
-            table_whole limits texts table.Date (rem tables.date) (map date_values c.in_ok-read_table-4.field-0.items) (are table.Date) c.in_ok-read_table-4.ensures.rows,
-            inl (table_stops limits texts table.Lineorder (rem tables.lineorder) e (are table.Lineorder) c.in_err-read_table-5.ensures.fault),
+            table_whole limits texts table.Date (rem tables.date) (map date_values c.in_ok-read_table-4.field-0.items)
+                (known table.Date) c.in_ok-read_table-4.ensures.rows,
+            inl (table_stops limits texts table.Lineorder (rem tables.lineorder) e (known table.Lineorder)
+                c.in_err-read_table-5.ensures.fault),
           ),
         ),
       ),

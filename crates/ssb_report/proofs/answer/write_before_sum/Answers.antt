@@ -7,7 +7,10 @@ use Rattle.ssb_report.proofs.answer.write_before_sum.Goals as goal
 pub returns-in_err-write_pieces : goal.returns-in_err-write_pieces
 returns-in_err-write_pieces g c =
     let contents = g.W.Write.contents in
-    writes_stopped _ c.from_residual.result (contents c.args.writer.now) (contents c.write_pieces.new.writer) _ c.from_residual.ensures.1
-    (part_item with_bar c.args.groups.now c.loop-value.value-index c.value-item.result c.value-item.result (contents c.args.writer.now) (contents c.loop-value.writer) (contents c.write_pieces.new.writer)
+    writes_stopped _ c.from_residual.result (contents c.args.writer.now) (contents c.write_pieces.new.writer) _
+    c.from_residual.ensures.1
+    (part_item with_bar c.args.groups.now c.loop-value.value-index c.value-item.result c.value-item.result
+    (contents c.args.writer.now) (contents c.loop-value.writer) (contents c.write_pieces.new.writer)
     (search rules) c.value-item.is c.loop-value.invariant
-    (subst (StopsShort (contents c.loop-value.writer) (contents c.write_pieces.new.writer)) (ap (λ t. t ++ 124 ∷ []) c.piece_of.ensures) c.in_err-write_pieces.ensures))
+    (subst (StopsShort (contents c.loop-value.writer) (contents c.write_pieces.new.writer))
+    (ap (λ t. t ++ 124 ∷ []) c.piece_of.ensures) c.in_err-write_pieces.ensures))

@@ -5,4 +5,5 @@ use Rattle.ssb_report.proofs.answer.write_before_sum.Given as goal
 
 abbrev pub invariant-loop-value : goal.invariant-loop-value
 invariant-loop-value g l =
-    Appends (g.W.Write.contents l.fn.writer) (g.W.Write.contents l.writer) (flat_map with_bar (take l.value-index l.groups))
+    Appends (g.W.Write.contents l.fn.writer) (g.W.Write.contents l.writer)
+    (flat_map with_bar (take l.value-index l.groups))

@@ -9,7 +9,8 @@ returns-in_err-write_head g c =
     let a = contents c.args.writer.now in
     let b = contents c.write_head.new.writer in
     writes_stopped _ c.from_residual.result a b _ c.from_residual.ensures.1
-    (part_longer a b (head_text c.args.query c.args.at (length c.args.rows.now)) (flat_map (row_text c.args.query) c.args.rows.now) c.in_err-write_head.ensures)
+    (part_longer a b (head_text c.args.query c.args.at (length c.args.rows.now))
+    (flat_map (row_text c.args.query) c.args.rows.now) c.in_err-write_head.ensures)
 
 pub returns : goal.returns
 returns g c =

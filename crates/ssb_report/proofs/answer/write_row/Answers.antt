@@ -27,7 +27,8 @@ returns-in_err-write_barred g c =
     writes_stopped _ c.from_residual-in_err-write_barred.result a d _ c.from_residual-in_err-write_barred.ensures.1
     (rw (row_sum_first c.args.query c.args.row.now (sym c.sum_stands_first.ensures ∙ c.if-sum_stands_first.true))
     (part_longer a d (sum ++ groups) (line_feed ++ [])
-    (appends_part a b d sum groups c.in_ok-write_pieces.ensures (rw c.as_slice-groups.ensures at c.in_err-write_barred.ensures))))
+    (appends_part a b d sum groups c.in_ok-write_pieces.ensures
+    (rw c.as_slice-groups.ensures at c.in_err-write_barred.ensures))))
 
 pub returns-in_err-write_before_sum : goal.returns-in_err-write_before_sum
 returns-in_err-write_before_sum g c =
@@ -35,9 +36,11 @@ returns-in_err-write_before_sum g c =
     let a = contents c.args.writer.now in
     let b = contents c.write_before_sum.new.writer in
     let groups = flat_map with_bar c.args.row.now.groups in
-    writes_stopped _ c.from_residual-in_err-write_before_sum.result a b _ c.from_residual-in_err-write_before_sum.ensures.1
+    writes_stopped _ c.from_residual-in_err-write_before_sum.result a b _
+    c.from_residual-in_err-write_before_sum.ensures.1
     (rw (row_sum_last c.args.query c.args.row.now (sym c.sum_stands_first.ensures ∙ c.if-sum_stands_first.false))
-    (part_longer a b groups (sum_text c.args.row.now.sum ++ (line_feed ++ [])) (rw c.as_slice-groups.ensures at c.in_err-write_before_sum.ensures)))
+    (part_longer a b groups (sum_text c.args.row.now.sum ++ (line_feed ++ []))
+    (rw c.as_slice-groups.ensures at c.in_err-write_before_sum.ensures)))
 
 pub returns-in_ok-write_barred : goal.returns-in_ok-write_barred
 returns-in_ok-write_barred g c =
@@ -49,7 +52,8 @@ returns-in_ok-write_barred g c =
     let groups = flat_map after_bar c.args.row.now.groups in
     rw (row_sum_first c.args.query c.args.row.now (sym c.sum_stands_first.ensures ∙ c.if-sum_stands_first.true))
     (writes_next a d _ (sum ++ groups) (line_feed ++ []) c.write_pieces-then-sum_stands_first.result
-    (appends_both a b d sum groups c.in_ok-write_pieces.ensures (rw c.as_slice-groups.ensures at c.in_ok-write_barred.ensures))
+    (appends_both a b d sum groups c.in_ok-write_pieces.ensures
+    (rw c.as_slice-groups.ensures at c.in_ok-write_barred.ensures))
     c.write_pieces-then-sum_stands_first.ensures)
 
 pub returns-in_ok-write_before_sum : goal.returns-in_ok-write_before_sum
@@ -58,5 +62,6 @@ returns-in_ok-write_before_sum g c =
     let a = contents c.args.writer.now in
     let b = contents c.write_before_sum.new.writer in
     rw (row_sum_last c.args.query c.args.row.now (sym c.sum_stands_first.ensures ∙ c.if-sum_stands_first.false))
-    (writes_next a b _ (flat_map with_bar c.args.row.now.groups) (sum_text c.args.row.now.sum ++ (line_feed ++ [])) c.write_pieces-else-sum_stands_first.result
+    (writes_next a b _ (flat_map with_bar c.args.row.now.groups) (sum_text c.args.row.now.sum ++ (line_feed ++ []))
+    c.write_pieces-else-sum_stands_first.result
     (rw c.as_slice-groups.ensures at c.in_ok-write_before_sum.ensures) c.write_pieces-else-sum_stands_first.ensures)

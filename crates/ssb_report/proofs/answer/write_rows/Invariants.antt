@@ -5,4 +5,5 @@ use Rattle.ssb_report.proofs.answer.write_rows.Given as goal
 
 abbrev pub invariant-loop-row : goal.invariant-loop-row
 invariant-loop-row g l =
-    Appends (g.W.Write.contents l.fn.writer) (g.W.Write.contents l.writer) (flat_map (row_text l.query) (take l.row-index l.rows))
+    Appends (g.W.Write.contents l.fn.writer) (g.W.Write.contents l.writer)
+    (flat_map (row_text l.query) (take l.row-index l.rows))

@@ -5,4 +5,5 @@ use Rattle.ssb_report.proofs.piece.write_pieces.Given as goal
 
 abbrev pub invariant-loop-piece : goal.invariant-loop-piece
 invariant-loop-piece g l =
-    Appends (g.W.Write.contents l.fn.writer) (g.W.Write.contents l.writer) (flat_map piece_text (take l.piece-index l.pieces))
+    Appends (g.W.Write.contents l.fn.writer) (g.W.Write.contents l.writer)
+    (flat_map piece_text (take l.piece-index l.pieces))

@@ -10,7 +10,8 @@ returns-in_err-write_pieces g c =
     let contents = g.W.Write.contents in
     let a = contents c.args.writer.now in
     let b = contents c.write_pieces.new.writer in
-    let head = concat (codes "refused at " ∷ decimal c.args.at ∷ codes " action " ∷ decimal c.args.action ∷ codes ": " ∷ []) in
+    let head = concat (codes "refused at " ∷ decimal c.args.at ∷ codes " action " ∷ decimal c.args.action ∷ codes ": " ∷
+    []) in
     let cause = cause_text c.args.cause in
     writes_stopped _ c.from_residual.result a b _ c.from_residual.ensures.1
     (part_longer a b (head ++ cause) line_feed (part_longer a b head cause c.in_err-write_pieces.ensures))
@@ -20,19 +21,23 @@ returns-in_err-write_cause g c =
     let contents = g.W.Write.contents in
     let a = contents c.args.writer.now in
     let d = contents c.write_cause.new.writer in
-    let head = concat (codes "refused at " ∷ decimal c.args.at ∷ codes " action " ∷ decimal c.args.action ∷ codes ": " ∷ []) in
+    let head = concat (codes "refused at " ∷ decimal c.args.at ∷ codes " action " ∷ decimal c.args.action ∷ codes ": " ∷
+    []) in
     let cause = cause_text c.args.cause in
     writes_stopped _ c.from_residual-in_err-write_cause.result a d _ c.from_residual-in_err-write_cause.ensures.1
     (part_longer a d (head ++ cause) line_feed
-    (appends_part a (contents c.write_pieces.new.writer) d head cause c.in_ok-write_pieces.ensures c.in_err-write_cause.ensures))
+    (appends_part a (contents c.write_pieces.new.writer) d head cause c.in_ok-write_pieces.ensures
+    c.in_err-write_cause.ensures))
 
 pub returns : goal.returns
 returns g c =
     let contents = g.W.Write.contents in
     let a = contents c.args.writer.now in
     let d = contents c.write_cause.new.writer in
-    let head = concat (codes "refused at " ∷ decimal c.args.at ∷ codes " action " ∷ decimal c.args.action ∷ codes ": " ∷ []) in
+    let head = concat (codes "refused at " ∷ decimal c.args.at ∷ codes " action " ∷ decimal c.args.action ∷ codes ": " ∷
+    []) in
     let cause = cause_text c.args.cause in
     writes_next a d _ (head ++ cause) line_feed c.write_pieces-2.result
-    (appends_both a (contents c.write_pieces.new.writer) d head cause c.in_ok-write_pieces.ensures c.in_ok-write_cause.ensures)
+    (appends_both a (contents c.write_pieces.new.writer) d head cause c.in_ok-write_pieces.ensures
+    c.in_ok-write_cause.ensures)
     c.write_pieces-2.ensures

@@ -9,8 +9,11 @@ plain-requires c =
     let lines = c.args.lines.now in
     let store = c.args.store.now in
     let caught : c.absorb_all.new.lines ≡ store =
-    c.in_ok-absorb_all.ensures.all ∙ ap (with_commits lines) (c.log_from.ensures.commits ∙ ap (λ n. drop n store.log) c.commits-taken.ensures) ∙ caught_up lines store c.requires in
+    c.in_ok-absorb_all.ensures.all ∙ ap (with_commits lines)
+    (c.log_from.ensures.commits ∙ ap (λ n. drop n store.log) c.commits-taken.ensures)
+    ∙ caught_up lines store c.requires in
     let counted : length c.lines.result.now ≡ c.line_count-count.result =
     ap length (c.lines.ensures ∙ ap (λ w. lines_after w.base w.log) caught) ∙ sym c.line_count-count.ensures.count in
-    let limit : c.limits-limits.result.lines ≡ store.base.limits.lines = ap (λ limits. limits.lines) c.limits-limits.ensures ∙ ap (λ base. base.limits.lines) c.base-base.ensures in
+    let limit : c.limits-limits.result.lines ≡ store.base.limits.lines =
+    ap (λ limits. limits.lines) c.limits-limits.ensures ∙ ap (λ base. base.limits.lines) c.base-base.ensures in
     omega (arith, counted, limit, c.line_count-count.ensures.few, c.limits-limits.result.lines_range)

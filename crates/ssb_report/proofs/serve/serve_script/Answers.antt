@@ -1,4 +1,25 @@
-use Rattle.std.proofs.Common.{◌≡◌, [], ◌∷◌, ◌++◌, length, map, Result, Ok, Err, OnOk, OnErr, true, false, refl, ap, sym, ◌∙◌, append_assoc, length-append, arith}
+use Rattle.std.proofs.Common.{
+  ◌≡◌,
+  [],
+  ◌∷◌,
+  ◌++◌,
+  length,
+  map,
+  Result,
+  Ok,
+  Err,
+  OnOk,
+  OnErr,
+  true,
+  false,
+  refl,
+  ap,
+  sym,
+  ◌∙◌,
+  append_assoc,
+  length-append,
+  arith,
+}
 use Rattle.std.proofs.lemmas.List.{length-map}
 use Rattle.std.specs.Result.{is_err}
 use Rattle.std.specs.Vec.Iter.{into_iter_items}
@@ -16,7 +37,13 @@ err_of (Ok v) P is fact = cc
 err_of (Err e) P is fact = fact
 
 pub loop-block-init : goal.loop-block-init
-loop-block-init g c = ([], ap (map request_of) (sym c.into_iter-blocks.ensures.rest), refl, serves_none memory_alone 1 _ _, c.requires)
+loop-block-init g c = (
+  [],
+  ap (map request_of) (sym c.into_iter-blocks.ensures.rest),
+  refl,
+  serves_none memory_alone 1 _ _,
+  c.requires,
+)
 
 pub overflow_add-done : goal.overflow_add-done
 overflow_add-done g c =
@@ -24,8 +51,18 @@ overflow_add-done g c =
     let blocks = c.args.script.blocks in
     let request = request_of c.in-Some.block in
     let left = map request_of (into_iter_items c.next.new.self) in
-    let whole : requests_of c.args.script ≡ inv.0 ++ request ∷ left = inv.1 ∙ ap (λ t. inv.0 ++ map request_of t) c.in-Some.ensures.items in
-    omega (arith, blocks.ok.0, blocks.ok.1, blocks.small, length-map blocks.items request_of, ap length whole, length-append inv.0 (request ∷ left), inv.2)
+    let whole : requests_of c.args.script ≡ inv.0 ++ request ∷ left =
+    inv.1 ∙ ap (λ t. inv.0 ++ map request_of t) c.in-Some.ensures.items in
+    omega (
+      arith,
+      blocks.ok.0,
+      blocks.ok.1,
+      blocks.small,
+      length-map blocks.items request_of,
+      ap length whole,
+      length-append inv.0 (request ∷ left),
+      inv.2,
+    )
 
 pub loop-block-preserved : goal.loop-block-preserved
 loop-block-preserved g c =
@@ -33,9 +70,11 @@ loop-block-preserved g c =
     let request = request_of c.in-Some.block in
     let left = into_iter_items c.next.new.self in (
       inv.0 ++ request ∷ [],
-      inv.1 ∙ ap (λ t. inv.0 ++ map request_of t) c.in-Some.ensures.items ∙ sym (append_assoc inv.0 (request ∷ []) (map request_of left)),
+      inv.1 ∙ ap (λ t. inv.0 ++ map request_of t) c.in-Some.ensures.items
+          ∙ sym (append_assoc inv.0 (request ∷ []) (map request_of left)),
       omega (arith, length-append inv.0 (request ∷ []), inv.2),
-      serves_more memory_alone 1 c.args.store.now c.loop-block.store c.serve_block.new.store inv.0 request _ _ _ inv.3 (ok_of c.serve_block.result _ (sym c.is_err.ensures.value ∙ c.if-is_err.false) c.serve_block.ensures.reply),
+      serves_more memory_alone 1 c.args.store.now c.loop-block.store c.serve_block.new.store inv.0 request _ _ _ inv.3
+          (ok_of c.serve_block.result _ (sym c.is_err.ensures.value ∙ c.if-is_err.false) c.serve_block.ensures.reply),
       c.serve_block.ensures.behind,
     )
 
@@ -45,6 +84,9 @@ returns-then-is_err-clause-stopped g c =
     let contents = g.W.Write.contents in
     let request = request_of c.in-Some.block in
     let left = map request_of (into_iter_items c.next.new.self) in
-    let whole : requests_of c.args.script ≡ inv.0 ++ request ∷ left = inv.1 ∙ ap (λ t. inv.0 ++ map request_of t) c.in-Some.ensures.items in
+    let whole : requests_of c.args.script ≡ inv.0 ++ request ∷ left =
+    inv.1 ∙ ap (λ t. inv.0 ++ map request_of t) c.in-Some.ensures.items in
     rw (sym inv.2, whole)
-    (stops_there memory_alone 1 c.args.store.now c.loop-block.store c.serve_block.new.store inv.0 left request _ _ _ inv.3 (err_of c.serve_block.result _ (sym c.is_err.ensures.value ∙ c.if-is_err.true) c.serve_block.ensures.fault))
+    (stops_there memory_alone 1 c.args.store.now c.loop-block.store c.serve_block.new.store inv.0 left request _ _ _
+    inv.3 (err_of c.serve_block.result _ (sym c.is_err.ensures.value ∙ c.if-is_err.true)
+    c.serve_block.ensures.fault))

@@ -12,4 +12,5 @@ unfolding fresh
 returns c =
     let base = c.in_ok-base.base.value in
     let shared : c.in_ok-try_clone.field-0.value ≡ base = search rules in
-    behind_at_start c.in_ok-lines.lines c.in_ok-store.store base c.in_ok-lines.ensures (c.in_ok-store.ensures ∙ ap fresh shared)
+    behind_at_start c.in_ok-lines.lines c.in_ok-store.store base c.in_ok-lines.ensures
+    (c.in_ok-store.ensures ∙ ap fresh shared)

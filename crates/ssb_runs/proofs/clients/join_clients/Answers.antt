@@ -8,5 +8,6 @@ loop-thread-preserved-in-Ok g c =
     let inv = c.loop-thread.invariant in
     let pushed = c.push_reserved.ensures in record {
       room = omega (arith, inv.room, pushed.len, pushed.capacity, ap length c.in-Some.ensures.steps.0);
-      joined = served_push c.loop-thread.all _ _ _ _ _ _ inv.joined c.in-Ok.ensures (map-append _ c.loop-thread.yielded (c.in-Some.thread ∷ [])) pushed.items;
+      joined = served_push c.loop-thread.all _ _ _ _ _ _ inv.joined c.in-Ok.ensures
+          (map-append _ c.loop-thread.yielded (c.in-Some.thread ∷ [])) pushed.items;
     }

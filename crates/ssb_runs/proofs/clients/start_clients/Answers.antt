@@ -25,7 +25,8 @@ loop-job-preserved g c =
       tasks = All-tail at c.in-Some.job rest (subst (All at) c.in-Some.ensures.steps.0 inv.tasks);
       count = omega (arith, inv.count, c.push_reserved.ensures.len, ap length c.in-Some.ensures.steps.0);
       capacity = c.push_reserved.ensures.capacity ∙ inv.capacity;
-      started = map_push _ _ _ _ _ _ _ inv.started c.push_reserved.ensures.items (ap (λ p. p.job.value) c.in_ok-thread.ensures.ok ∙ c.of.ensures);
+      started = map_push _ _ _ _ _ _ _ inv.started c.push_reserved.ensures.items
+          (ap (λ p. p.job.value) c.in_ok-thread.ensures.ok ∙ c.of.ensures);
     }
 
 pub returns-in_err-thread-clause-room : goal.returns-in_err-thread-clause-room
@@ -34,7 +35,13 @@ returns-in_err-thread-clause-room g c =
 
 pub push_reserved-requires : goal.push_reserved-requires
 push_reserved-requires g c =
-    let inv = c.loop-job.invariant in omega (arith, inv.count, inv.capacity, c.requires.room, ap length c.in-Some.ensures.steps.0)
+    let inv = c.loop-job.invariant in omega (
+      arith,
+      inv.count,
+      inv.capacity,
+      c.requires.room,
+      ap length c.in-Some.ensures.steps.0,
+    )
 
 pub returns-clause-room : goal.returns-clause-room
 returns-clause-room g c =
@@ -44,5 +51,7 @@ pub returns-clause-started : goal.returns-clause-started
 returns-clause-started g c =
     let gives = c.into_iter-job-iterator.ensures.into_iter_gives in
     let all = YieldsList-from_vec c.args.jobs.items gives.0 (omega (arith, gives.1)) in
-    let end = YieldsList-end all c.loop-job.yielded c.loop-job.job-iterator c.loop-job.yielded_by c.next.result c.next.new.self c.in-None.is c.next.ensures.steps in
-    to_the_end _ _ c.loop-job.yielded c.args.jobs.items c.loop-job.invariant.started (sym (map-id c.loop-job.yielded) ∙ end.0)
+    let end = YieldsList-end all c.loop-job.yielded c.loop-job.job-iterator c.loop-job.yielded_by c.next.result
+    c.next.new.self c.in-None.is c.next.ensures.steps in
+    to_the_end _ _ c.loop-job.yielded c.args.jobs.items c.loop-job.invariant.started
+    (sym (map-id c.loop-job.yielded) ∙ end.0)

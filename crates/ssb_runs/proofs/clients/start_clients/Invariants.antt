@@ -8,5 +8,6 @@ invariant-loop-job g l = record {
   tasks : All (IsTaskAt l.server) l.job-iterator.rest.items;
   count : vec_len l.serving + length l.job-iterator.rest.items ≡ vec_len l.initial.serving + vec_len l.fn.jobs;
   capacity : vec_capacity l.serving ≡ vec_capacity l.initial.serving;
-  started : map (λ h. h.promise.job.value) l.serving.items ≡ map (λ h. h.promise.job.value) l.initial.serving.items ++ l.yielded;
+  started : map (λ h. h.promise.job.value) l.serving.items ≡ map (λ h. h.promise.job.value) l.initial.serving.items
+      ++ l.yielded;
 }

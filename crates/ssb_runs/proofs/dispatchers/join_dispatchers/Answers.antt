@@ -8,5 +8,6 @@ loop-thread-preserved g c =
     let inv = c.loop-thread.invariant in
     let pushed = c.push_reserved.ensures in record {
       room = omega (arith, inv.room, pushed.len, pushed.capacity, ap length c.in-Some.ensures.steps.0);
-      joined = still_longer _ _ _ _ _ _ inv.joined (search rules) (map-append _ c.loop-thread.yielded (c.in-Some.thread ∷ [])) pushed.items;
+      joined = still_longer _ _ _ _ _ _ inv.joined (search rules)
+          (map-append _ c.loop-thread.yielded (c.in-Some.thread ∷ [])) pushed.items;
     }

@@ -25,7 +25,7 @@ loop-dispatcher-preserved g c =
       tasks = All-tail at c.in-Some.dispatcher rest (subst (All at) c.in-Some.ensures.steps.0 inv.tasks);
       count = omega (arith, inv.count, c.push_reserved.ensures.len, ap length c.in-Some.ensures.steps.0);
       capacity = c.push_reserved.ensures.capacity ∙ inv.capacity;
-      started = map_push _ _ _ _ _ _ _ inv.started c.push_reserved.ensures.items (ap (λ p. p.dispatcher.value) c.in_ok-thread.ensures.ok ∙ c.of.ensures);
+      started = map_push _ _ _ _ _ _ _ inv.started c.push_reserved.ensures.items c.in_ok-thread.ensures;
     }
 
 pub returns-in_err-thread-clause-room : goal.returns-in_err-thread-clause-room
@@ -34,7 +34,13 @@ returns-in_err-thread-clause-room g c =
 
 pub push_reserved-requires : goal.push_reserved-requires
 push_reserved-requires g c =
-    let inv = c.loop-dispatcher.invariant in omega (arith, inv.count, inv.capacity, c.requires.room, ap length c.in-Some.ensures.steps.0)
+    let inv = c.loop-dispatcher.invariant in omega (
+      arith,
+      inv.count,
+      inv.capacity,
+      c.requires.room,
+      ap length c.in-Some.ensures.steps.0,
+    )
 
 pub returns-clause-room : goal.returns-clause-room
 returns-clause-room g c =
@@ -44,5 +50,7 @@ pub returns-clause-started : goal.returns-clause-started
 returns-clause-started g c =
     let gives = c.into_iter-dispatcher-iterator.ensures.into_iter_gives in
     let all = YieldsList-from_vec c.args.dispatchers.items gives.0 (omega (arith, gives.1)) in
-    let end = YieldsList-end all c.loop-dispatcher.yielded c.loop-dispatcher.dispatcher-iterator c.loop-dispatcher.yielded_by c.next.result c.next.new.self c.in-None.is c.next.ensures.steps in
-    to_the_end _ _ c.loop-dispatcher.yielded c.args.dispatchers.items c.loop-dispatcher.invariant.started (sym (map-id c.loop-dispatcher.yielded) ∙ end.0)
+    let end = YieldsList-end all c.loop-dispatcher.yielded c.loop-dispatcher.dispatcher-iterator
+    c.loop-dispatcher.yielded_by c.next.result c.next.new.self c.in-None.is c.next.ensures.steps in
+    to_the_end _ _ c.loop-dispatcher.yielded c.args.dispatchers.items c.loop-dispatcher.invariant.started
+    (sym (map-id c.loop-dispatcher.yielded) ∙ end.0)

@@ -5,7 +5,10 @@ use Rattle.ssb_runs.proofs.run.gather.Goals as goal
 pub loop-session-preserved : goal.loop-session-preserved
 loop-session-preserved g c =
     let inv = c.loop-session.invariant in record {
-      clients = push_made _ c.loop-session.yielded _ _ c.in-Some.session _ inv.clients c.in_ok-push.ensures.items (search rules);
-      reports = push_read _ _ c.loop-session.yielded _ _ c.in-Some.session _ inv.reports c.in_ok-push-2.ensures.items (search rules);
-      told = push_flat _ c.loop-session.yielded _ _ c.in-Some.session _ inv.told c.in_ok-append.ensures.items (search rules);
+      clients = push_made _ c.loop-session.yielded _ _ c.in-Some.session _ inv.clients c.in_ok-push.ensures.items
+          (search rules);
+      reports = push_read _ _ c.loop-session.yielded _ _ c.in-Some.session _ inv.reports c.in_ok-push-2.ensures.items
+          (search rules);
+      told = push_flat _ c.loop-session.yielded _ _ c.in-Some.session _ inv.told c.in_ok-append.ensures.items
+          (search rules);
     }

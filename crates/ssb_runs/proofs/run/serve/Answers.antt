@@ -9,21 +9,29 @@ use Rattle.ssb_runs.proofs.run.serve.Goals as goal
 pub jobs_of-requires : goal.jobs_of-requires
 jobs_of-requires g c =
     let clients = c.args.opened.clients in
-    let each : length clients.items ≡ c.args.opened.server.clients = ap length c.requires.clients ∙ length-map-range_with_len _ 1 c.args.opened.server.clients in
+    let each : length clients.items ≡ c.args.opened.server.clients =
+    ap length c.requires.clients ∙ length-map-range_with_len _ 1 c.args.opened.server.clients in
     omega (arith, clients.ok.0, clients.ok.1, each, c.requires.scripts)
 
 pub run_threads-requires-clause-jobs : goal.run_threads-requires-clause-jobs
-run_threads-requires-clause-jobs g c κs within = new_tasks c.args.opened.server c.in_ok-jobs.jobs.items (c.in_ok-jobs.ensures.clients ∙ c.requires.clients)
+run_threads-requires-clause-jobs g c κs within = new_tasks c.args.opened.server c.in_ok-jobs.jobs.items
+    (c.in_ok-jobs.ensures.clients ∙ c.requires.clients)
 
 pub run_threads-requires-clause-dispatchers : goal.run_threads-requires-clause-dispatchers
-run_threads-requires-clause-dispatchers g c κs within = subst (All (IsOf c.args.opened.server)) (sym c.requires.dispatchers) (new_dispatchers_of c.args.opened.server)
+run_threads-requires-clause-dispatchers g c κs within =
+    subst (All (IsOf c.args.opened.server)) (sym c.requires.dispatchers) (new_dispatchers_of c.args.opened.server)
 
 pub close-requires : goal.close-requires
 close-requires g c =
-    ready c.args.opened.server c.in_ok-jobs.jobs.items c.in_ok-ended.ended.sessions.items c.args.opened.dispatchers.items c.in_ok-ended.ended.dispatchers.items
-    (c.in_ok-jobs.ensures.clients ∙ c.requires.clients) c.in_ok-ended.ensures.sessions c.requires.dispatchers c.in_ok-ended.ensures.dispatchers
+    ready c.args.opened.server c.in_ok-jobs.jobs.items c.in_ok-ended.ended.sessions.items
+    c.args.opened.dispatchers.items c.in_ok-ended.ended.dispatchers.items
+    (c.in_ok-jobs.ensures.clients ∙ c.requires.clients) c.in_ok-ended.ensures.sessions c.requires.dispatchers
+    c.in_ok-ended.ensures.dispatchers
 
 pub returns : goal.returns
 returns g c =
-    run_where c.close.result (λ run. map (λ report. report.items) run.reports.items) (λ run. run.trace) c.args.opened.server c.args.scripts.items c.in_ok-jobs.jobs.items c.in_ok-ended.ended.sessions.items
-    c.in_ok-ended.ended.dispatchers.items (omega (arith, c.requires.scripts, c.args.scripts.ok.0, c.args.scripts.ok.1)) (c.in_ok-jobs.ensures.clients ∙ c.requires.clients) c.in_ok-jobs.ensures.scripts c.in_ok-ended.ensures.sessions c.close.ensures
+    run_where c.close.result (λ run. map (λ report. report.items) run.reports.items) (λ run. run.trace)
+    c.args.opened.server c.args.scripts.items c.in_ok-jobs.jobs.items c.in_ok-ended.ended.sessions.items
+    c.in_ok-ended.ended.dispatchers.items (omega (arith, c.requires.scripts, c.args.scripts.ok.0, c.args.scripts.ok.1))
+    (c.in_ok-jobs.ensures.clients ∙ c.requires.clients) c.in_ok-jobs.ensures.scripts c.in_ok-ended.ensures.sessions
+    c.close.ensures

@@ -5,4 +5,5 @@ use Rattle.ssb_runs.proofs.run.serve_scripts.Goals as goal
 
 pub returns-in_ok-serve-in-Ok-clause-legal : goal.returns-in_ok-serve-in-Ok-clause-legal
 returns-in_ok-serve-in-Ok-clause-legal g c =
-    subst (λ b. IsLegalTrace b c.in_ok-serve-in-Ok.field-0.trace) c.in-Ok.ensures.base (trace_is_legal _ _ _ _ c.in_ok-serve-in-Ok.field-0.trace c.in_ok-serve-in-Ok.ensures)
+    subst (λ b. IsLegalTrace b c.in_ok-serve-in-Ok.field-0.trace) c.in-Ok.ensures.base
+    (trace_is_legal _ _ _ _ c.in_ok-serve-in-Ok.field-0.trace c.in_ok-serve-in-Ok.ensures)

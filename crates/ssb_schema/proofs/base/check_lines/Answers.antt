@@ -39,7 +39,8 @@ loop-i-preserved c =
           ∙ or_else_absent _ _
           (line_good dimensions (take c.loop-i.i lines) line absent (sym (c.unknown.ensures dimensions indexed)
           ∙ c.in_default.is))) ∙ c.loop-i.invariant.rest dimensions indexed;
-      new = λ q above. new_next lines c.loop-i.i line q at (omega (arith, above)) (c.loop-i.invariant.new q (omega (arith, above, later)));
+      new = λ q above. new_next lines c.loop-i.i line q at (omega (arith, above))
+          (c.loop-i.invariant.new q (omega (arith, above, later)));
     }
 
 pub returns : goal.returns

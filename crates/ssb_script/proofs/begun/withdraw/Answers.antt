@@ -16,6 +16,9 @@ returns-clause-step c =
     record {
       lines = rw (more, flat_map-append lines_of_action c.args.actions (Withdraw c.args.key ∷ [])) (search rules);
       whole = All-nil IsWholeRequest;
-      room = (rw (more, length_push c.args.actions (Withdraw c.args.key)) few, rw more (All-push IsWholeAction c.args.actions (Withdraw c.args.key) c.requires.1 tt));
+      room = (
+        rw (more, length_push c.args.actions (Withdraw c.args.key)) few,
+        rw more (All-push IsWholeAction c.args.actions (Withdraw c.args.key) c.requires.1 tt),
+      );
       settled = rw more (ends_withdrawn c.args.actions c.args.key);
     }

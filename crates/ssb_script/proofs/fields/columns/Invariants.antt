@@ -4,4 +4,5 @@ use Rattle.ssb_script.proofs.fields.columns.Given as goal
 
 -- the columns so far, and the fields not yet read, are those after the first
 abbrev pub invariant-loop-place : goal.invariant-loop-place
-invariant-loop-place l = map (λ column. column.now) l.columns.items ++ drop l.place (fields_of l.fields) ≡ drop 1 (fields_of l.fields)
+invariant-loop-place l = map (λ column. column.now) l.columns.items
+    ++ drop l.place (fields_of l.fields) ≡ drop 1 (fields_of l.fields)

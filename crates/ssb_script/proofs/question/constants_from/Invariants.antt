@@ -6,4 +6,6 @@ use Rattle.ssb_script.proofs.question.constants_from.Given as goal
 
 -- the constants so far, and those of the fields not yet read, are all
 abbrev pub invariant-loop-i : goal.invariant-loop-i
-invariant-loop-i l = option_map (λ rest. l.constants.items ++ rest) (constants_from (l.place + l.i) (drop l.i l.kinds) (fields_of l.fields)) ≡ constants_from l.place l.kinds (fields_of l.fields)
+invariant-loop-i l = option_map (λ rest. l.constants.items ++ rest)
+    (constants_from (l.place + l.i) (drop l.i l.kinds) (fields_of l.fields)) ≡ constants_from l.place l.kinds
+    (fields_of l.fields)

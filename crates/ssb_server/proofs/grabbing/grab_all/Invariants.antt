@@ -3,4 +3,8 @@ use Rattle.ssb_server.specs.Turns.{HasGrabbed}
 use Rattle.ssb_server.proofs.grabbing.grab_all.Given as goal
 
 abbrev pub invariant-loop-before : goal.invariant-loop-before
-invariant-loop-before g l = record { grabbed : HasGrabbed l.initial.pass l.batch l.pass; few : length l.batch.clients ≤ l.before }
+invariant-loop-before g l = record {
+  grabbed : HasGrabbed l.initial.pass l.batch l.pass;
+  few :
+      length l.batch.clients ≤ l.before;
+}

@@ -9,6 +9,8 @@ returns-in-Err g c =
     let gives = c.into_iter-commit-iterator.ensures.into_iter_gives in
     record {
       kept = c.loop-commit.yielded;
-      first = prefix_yielded c.args.commits.items c.loop-commit.yielded (YieldsList-so_far (YieldsList-from_vec c.args.commits.items gives.0 (omega (arith, gives.1))) c.loop-commit.yielded _ c.loop-commit.yielded_by);
+      first = prefix_yielded c.args.commits.items c.loop-commit.yielded
+          (YieldsList-so_far (YieldsList-from_vec c.args.commits.items gives.0 (omega (arith, gives.1)))
+          c.loop-commit.yielded _ c.loop-commit.yielded_by);
       now = c.in-Err.ensures.unchanged ∙ c.loop-commit.invariant;
     }

@@ -13,7 +13,8 @@ returns-then-not-has_once g c = (
   (λ (h : IsTrue false). absurd (cc)),
   λ (are : AreNumbered c.args.count c.args.clients.now).
       let one = are.each c.loop-before.before (omega arith) in
-      let yes : (count_by (λ (t : Token). number_of t.who == c.loop-before.before + 1) c.args.clients.now == 1) ≡ true = eq-eqb (count_by (λ (t : Token). number_of t.who == c.loop-before.before + 1) c.args.clients.now) 1 one in
+      let yes : (count_by (λ (t : Token). number_of t.who == c.loop-before.before + 1) c.args.clients.now == 1) ≡ true =
+      eq-eqb (count_by (λ (t : Token). number_of t.who == c.loop-before.before + 1) c.args.clients.now) 1 one in
       let made = c.has_once.ensures in let was = c.if-not-has_once.true in absurd (cc),
 )
 
@@ -21,8 +22,16 @@ pub loop-before-preserved : goal.loop-before-preserved
 loop-before-preserved g c =
     let P : ℕ → Type 0 = λ k. count_by (λ (t : Token). number_of t.who == k + 1) c.args.clients.now ≡ 1 in
     let made = c.has_once.ensures in let was = c.if-not-has_once.false in
-    let here : count_by (λ (t : Token). number_of t.who == c.loop-before.before + 1) c.args.clients.now ≡ 1 = grind (arith, nat_tests) in
+    let here : count_by (λ (t : Token). number_of t.who == c.loop-before.before + 1) c.args.clients.now ≡ 1 =
+    grind (arith, nat_tests) in
     below_more P c.loop-before.before c.loop-before.invariant here
 
 pub returns : goal.returns
-returns g c = ((λ (h : IsTrue true). record { count_is = let same = c.if-clients-count.false in omega arith; each = λ k low. c.loop-before.invariant k (omega arith) }), λ (are : AreNumbered c.args.count c.args.clients.now). refl)
+returns g c = (
+  (λ (h : IsTrue true). record {
+    count_is = let same = c.if-clients-count.false in
+        omega arith;
+    each = λ k low. c.loop-before.invariant k (omega arith);
+  }),
+  λ (are : AreNumbered c.args.count c.args.clients.now). refl,
+)

@@ -5,4 +5,5 @@ use Rattle.history.specs.World.{number_of}
 use Rattle.ssb_server.proofs.tickets.are_dispatchers_numbered.Given as goal
 
 abbrev pub invariant-loop-before : goal.invariant-loop-before
-invariant-loop-before g l = (k : ℕ) → k < l.before → count_by (λ (t : Token). number_of t.who == k + 1) l.dispatchers ≡ 1
+invariant-loop-before g l = (k : ℕ) → k < l.before → count_by (λ (t : Token). number_of t.who == k + 1)
+    l.dispatchers ≡ 1

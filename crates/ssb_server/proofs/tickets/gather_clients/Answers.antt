@@ -8,15 +8,25 @@ use Rattle.ssb_server.proofs.tickets.gather_clients.Goals as goal
 
 pub loop-client-preserved : goal.loop-client-preserved
 loop-client-preserved g c = record {
-  items = c.push_reserved.ensures.items ∙ (ap (λ t. c.loop-client.passes.items ++ t ∷ []) c.into_pass.ensures.pass ∙ (ap (λ xs. xs ++ c.in-Some.client ∷ []) c.loop-client.invariant.items ∙ append_assoc c.args.passes.now.items c.loop-client.yielded (c.in-Some.client ∷ [])));
-  len = omega (arith, length_push c.loop-client.yielded c.in-Some.client, c.push_reserved.ensures.len, c.loop-client.invariant.len);
+  items = c.push_reserved.ensures.items ∙ (ap (λ t. c.loop-client.passes.items ++ t ∷ []) c.into_pass.ensures.pass
+      ∙ (ap (λ xs. xs ++ c.in-Some.client ∷ []) c.loop-client.invariant.items
+      ∙ append_assoc c.args.passes.now.items c.loop-client.yielded (c.in-Some.client ∷ [])));
+  len = omega (
+    arith,
+    length_push c.loop-client.yielded c.in-Some.client,
+    c.push_reserved.ensures.len,
+    c.loop-client.invariant.len,
+  );
   capacity = c.push_reserved.ensures.capacity ∙ c.loop-client.invariant.capacity;
-  rest = All-push IsResting c.loop-client.yielded c.in-Some.client c.loop-client.invariant.rest c.into_pass.ensures.rest;
+  rest = All-push IsResting c.loop-client.yielded c.in-Some.client c.loop-client.invariant.rest
+      c.into_pass.ensures.rest;
 }
 
 pub returns-clause-items : goal.returns-clause-items
 returns-clause-items g c =
     let gives = c.into_iter-client-iterator.ensures.into_iter_gives in
     let all = YieldsList-from_vec c.args.clients.items gives.0 (omega (arith, gives.1)) in
-    let end = YieldsList-end all c.loop-client.yielded c.loop-client.client-iterator c.loop-client.yielded_by c.next.result c.next.new.self c.in-None.is c.next.ensures.steps in
-    c.loop-client.invariant.items ∙ ap (λ ys. c.args.passes.now.items ++ ys) (sym (map-id c.loop-client.yielded) ∙ end.0)
+    let end = YieldsList-end all c.loop-client.yielded c.loop-client.client-iterator c.loop-client.yielded_by
+    c.next.result c.next.new.self c.in-None.is c.next.ensures.steps in
+    c.loop-client.invariant.items ∙ ap (λ ys. c.args.passes.now.items ++ ys)
+    (sym (map-id c.loop-client.yielded) ∙ end.0)

@@ -12,7 +12,8 @@ invariant-loop-block g l =
     (front : List Request)
     × (requests_of l.fn.script ≡ front ++ map request_of (into_iter_items l.blocks))
     × (length front ≡ l.done)
-    × Serves may_be_told 1 (own l.fn.client) (own l.client) front (g.O.Write.contents l.fn.writer) (g.O.Write.contents l.writer)
+    × Serves may_be_told 1 (own l.fn.client) (own l.client) front (g.O.Write.contents l.fn.writer)
+    (g.O.Write.contents l.writer)
     × AreAlike l.fn.client l.client
     × (l.dispatcher.hall ≡ l.fn.dispatcher.hall)
 

@@ -6,7 +6,14 @@ use Rattle.ssb_session.proofs.SessionLaws.{serves_none, serves_more, ends_there,
 use Rattle.ssb_session.proofs.blocks.run_blocks.Goals as goal
 
 pub loop-block-init : goal.loop-block-init
-loop-block-init g c = ([], ap (map request_of) (sym c.into_iter-blocks.ensures.rest), refl, serves_none _ _ _ _, alike_itself _ c.requires.quiet, λ sound. sound)
+loop-block-init g c = (
+  [],
+  ap (map request_of) (sym c.into_iter-blocks.ensures.rest),
+  refl,
+  serves_none _ _ _ _,
+  alike_itself _ c.requires.quiet,
+  λ sound. sound,
+)
 
 pub overflow_add-done : goal.overflow_add-done
 overflow_add-done g c =
@@ -14,8 +21,18 @@ overflow_add-done g c =
     let blocks = c.args.script.blocks in
     let request = request_of c.in-Some.block in
     let left = map request_of (into_iter_items c.next.new.self) in
-    let whole : requests_of c.args.script ≡ inv.0 ++ request ∷ left = inv.1 ∙ ap (λ t. inv.0 ++ map request_of t) c.in-Some.ensures.items in
-    omega (arith, blocks.ok.0, blocks.ok.1, blocks.small, length-map blocks.items request_of, ap length whole, length-append inv.0 (request ∷ left), inv.2)
+    let whole : requests_of c.args.script ≡ inv.0 ++ request ∷ left =
+    inv.1 ∙ ap (λ t. inv.0 ++ map request_of t) c.in-Some.ensures.items in
+    omega (
+      arith,
+      blocks.ok.0,
+      blocks.ok.1,
+      blocks.small,
+      length-map blocks.items request_of,
+      ap length whole,
+      length-append inv.0 (request ∷ left),
+      inv.2,
+    )
 
 pub loop-block-preserved : goal.loop-block-preserved
 loop-block-preserved g c =
@@ -23,7 +40,8 @@ loop-block-preserved g c =
     let request = request_of c.in-Some.block in
     let left = into_iter_items c.next.new.self in (
       inv.0 ++ request ∷ [],
-      inv.1 ∙ ap (λ t. inv.0 ++ map request_of t) c.in-Some.ensures.items ∙ sym (append_assoc inv.0 (request ∷ []) (map request_of left)),
+      inv.1 ∙ ap (λ t. inv.0 ++ map request_of t) c.in-Some.ensures.items
+          ∙ sym (append_assoc inv.0 (request ∷ []) (map request_of left)),
       omega (arith, length-append inv.0 (request ∷ []), inv.2),
       serves_more _ _ _ _ inv.0 request _ _ _ _ _ _ inv.3 c.in-Ok.ensures.served,
       alike_both _ _ _ inv.4 c.serve_block.ensures.same,
@@ -35,6 +53,7 @@ returns-in-Err-clause-ended g c =
     let inv = c.loop-block.invariant in
     let request = request_of c.in-Some.block in
     let left = map request_of (into_iter_items c.next.new.self) in
-    let whole : requests_of c.args.script ≡ inv.0 ++ request ∷ left = inv.1 ∙ ap (λ t. inv.0 ++ map request_of t) c.in-Some.ensures.items in
+    let whole : requests_of c.args.script ≡ inv.0 ++ request ∷ left =
+    inv.1 ∙ ap (λ t. inv.0 ++ map request_of t) c.in-Some.ensures.items in
     rw (c.after.ensures, sym inv.2, whole, sym c.number-number.ensures.value)
     (ends_there c.in-Err.stop _ _ _ _ inv.0 left request _ _ _ _ _ _ inv.3 c.in-Err.ensures.stopped)

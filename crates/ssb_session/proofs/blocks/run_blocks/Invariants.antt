@@ -12,7 +12,8 @@ invariant-loop-block g l =
     (front : List Request)
     × (requests_of l.fn.script ≡ front ++ map request_of (into_iter_items l.blocks))
     × (length front ≡ l.done)
-    × Serves l.number l.fn.client l.client front l.fn.told.items l.told.items (g.O.Write.contents l.fn.writer) (g.O.Write.contents l.writer)
+    × Serves l.number l.fn.client l.client front l.fn.told.items l.told.items (g.O.Write.contents l.fn.writer)
+    (g.O.Write.contents l.writer)
     × AreAlike l.fn.client l.client
     × (IsSound l.fn.client → IsSound l.client)
 

@@ -8,7 +8,8 @@ pub returns-in-Ok-clause-served : goal.returns-in-Ok-clause-served
 returns-in-Ok-clause-served g c = record {
   reply = Answered c.await_answer-answer.result;
   served = answered _ _ _ _ _ c.ask.ensures.asked c.await_answer-answer.ensures.polled;
-  kept = c.keep.ensures ∙ ap (λ told. told ++ told_of c.args.number (Answered c.await_answer-answer.result)) c.reserve.ensures.items;
+  kept = c.keep.ensures ∙ ap (λ told. told ++ told_of c.args.number (Answered c.await_answer-answer.result))
+      c.reserve.ensures.items;
   written = c.in-Ok.ensures.report;
 }
 
@@ -16,6 +17,7 @@ pub returns-in-Err-clause-stopped : goal.returns-in-Err-clause-stopped
 returns-in-Err-clause-stopped g c = record {
   reply = Answered c.await_answer-answer.result;
   served = answered _ _ _ _ _ c.ask.ensures.asked c.await_answer-answer.ensures.polled;
-  kept = c.keep.ensures ∙ ap (λ told. told ++ told_of c.args.number (Answered c.await_answer-answer.result)) c.reserve.ensures.items;
+  kept = c.keep.ensures ∙ ap (λ told. told ++ told_of c.args.number (Answered c.await_answer-answer.result))
+      c.reserve.ensures.items;
   written = c.in-Err.ensures.fault;
 }

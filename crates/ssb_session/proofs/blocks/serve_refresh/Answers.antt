@@ -20,7 +20,9 @@ returns-in-Err-clause-stopped g c = λ told. record {
 }
 
 pub returns-in-Ok-clause-same : goal.returns-in-Ok-clause-same
-returns-in-Ok-clause-same g c = refreshed_alike _ _ _ _ _ (c.refresh.ensures.refreshed c.args.number c.requires.who) c.requires.quiet
+returns-in-Ok-clause-same g c = refreshed_alike _ _ _ _ _ (c.refresh.ensures.refreshed c.args.number c.requires.who)
+    c.requires.quiet
 
 pub returns-in-Err-clause-same : goal.returns-in-Err-clause-same
-returns-in-Err-clause-same g c = refreshed_alike _ _ _ _ _ (c.refresh.ensures.refreshed c.args.number c.requires.who) c.requires.quiet
+returns-in-Err-clause-same g c = refreshed_alike _ _ _ _ _ (c.refresh.ensures.refreshed c.args.number c.requires.who)
+    c.requires.quiet

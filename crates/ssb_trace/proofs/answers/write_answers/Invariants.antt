@@ -5,4 +5,5 @@ use Rattle.ssb_trace.proofs.answers.write_answers.Given as goal
 
 abbrev pub invariant-loop-told : goal.invariant-loop-told
 invariant-loop-told g l =
-    Appends (g.W.Write.contents l.fn.writer) (g.W.Write.contents l.writer) (flat_map told_text (take l.told-index l.answers))
+    Appends (g.W.Write.contents l.fn.writer) (g.W.Write.contents l.writer)
+    (flat_map told_text (take l.told-index l.answers))

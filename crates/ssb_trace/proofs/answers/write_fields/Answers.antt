@@ -10,7 +10,8 @@ returns-in_err-write_counts g c =
     let a = contents c.args.writer.now in
     let b = contents c.write_counts.new.writer in
     writes_stopped _ c.from_residual.result a b _ c.from_residual.ensures.1
-    (part_longer a b (count_text c.args.told.now) (flat_map after_bar (written_constants c.args.told.now.question)) (c.in_err-write_counts.ensures))
+    (part_longer a b (count_text c.args.told.now) (flat_map after_bar (written_constants c.args.told.now.question))
+    (c.in_err-write_counts.ensures))
 
 pub returns : goal.returns
 returns g c =

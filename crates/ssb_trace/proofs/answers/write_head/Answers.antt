@@ -11,7 +11,8 @@ returns-in_err-write_fields g c =
     let a = contents c.args.writer.now in
     let b = contents c.write_fields.new.writer in
     writes_stopped _ c.from_residual.result a b _ c.from_residual.ensures.1
-    (part_longer a b (count_text c.args.told.now ++ flat_map after_bar (written_constants c.args.told.now.question)) (line_feed) (c.in_err-write_fields.ensures))
+    (part_longer a b (count_text c.args.told.now ++ flat_map after_bar (written_constants c.args.told.now.question))
+    (line_feed) (c.in_err-write_fields.ensures))
 
 pub returns : goal.returns
 returns g c =

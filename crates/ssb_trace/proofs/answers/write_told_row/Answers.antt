@@ -9,7 +9,8 @@ returns-in_err-write_pieces g c =
     let a = contents c.args.writer.now in
     let b = contents c.write_pieces.new.writer in
     writes_stopped _ c.from_residual.result a b _ c.from_residual.ensures.1
-    (part_longer a b (114 ∷ 111 ∷ 119 ∷ 124 ∷ []) (row_text c.args.query c.args.row.now) (c.in_err-write_pieces.ensures))
+    (part_longer a b (114 ∷ 111 ∷ 119 ∷ 124 ∷ []) (row_text c.args.query c.args.row.now)
+    (c.in_err-write_pieces.ensures))
 
 pub returns : goal.returns
 returns g c =

@@ -5,4 +5,5 @@ use Rattle.ssb_trace.proofs.answers.write_told_rows.Given as goal
 
 abbrev pub invariant-loop-row : goal.invariant-loop-row
 invariant-loop-row g l =
-    Appends (g.W.Write.contents l.fn.writer) (g.W.Write.contents l.writer) (flat_map (told_row_text l.query) (take l.row-index l.rows))
+    Appends (g.W.Write.contents l.fn.writer) (g.W.Write.contents l.writer)
+    (flat_map (told_row_text l.query) (take l.row-index l.rows))

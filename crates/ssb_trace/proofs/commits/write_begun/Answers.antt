@@ -10,7 +10,8 @@ returns-in_err-write_pieces g c =
     let a = contents c.args.writer.now in
     let b = contents c.write_pieces.new.writer in
     writes_stopped _ c.from_residual.result a b _ c.from_residual.ensures.1
-    (part_longer a b (record_text (codes "commit") (decimal c.args.client ∷ [])) (flat_map action_text c.args.actions.now) (rw c.from.ensures at c.in_err-write_pieces.ensures))
+    (part_longer a b (record_text (codes "commit") (decimal c.args.client ∷ []))
+    (flat_map action_text c.args.actions.now) (rw c.from.ensures at c.in_err-write_pieces.ensures))
 
 pub returns : goal.returns
 returns g c =

@@ -11,16 +11,19 @@ returns-in_err-write_begun g c =
     let a = contents c.args.writer.now in
     let b = contents c.write_begun.new.writer in
     let commit = c.args.commit.now in
-    let actions : c.actions.result.now ≡ commit.actions = c.actions.ensures.actions ∙ c.deref.ensures ∙ ap (λ (r : CommitRecord). r.actions) c.commit.view_is in
+    let actions : c.actions.result.now ≡ commit.actions =
+    c.actions.ensures.actions ∙ c.deref.ensures ∙ ap (λ (r : CommitRecord). r.actions) c.commit.view_is in
     let client : c.commit.inside.client ≡ commit.client = ap (λ (r : CommitRecord). r.client) c.commit.view_is in
     writes_stopped _ c.from_residual.result a b _ c.from_residual.ensures.1
-    (part_longer a b (begun_text commit.client commit.actions) (record_text (codes "end") []) (rw (actions, client) at c.in_err-write_begun.ensures))
+    (part_longer a b (begun_text commit.client commit.actions) (record_text (codes "end") [])
+    (rw (actions, client) at c.in_err-write_begun.ensures))
 
 pub returns : goal.returns
 returns g c =
     let contents = g.W.Write.contents in
     let commit = c.args.commit.now in
-    let actions : c.actions.result.now ≡ commit.actions = c.actions.ensures.actions ∙ c.deref.ensures ∙ ap (λ (r : CommitRecord). r.actions) c.commit.view_is in
+    let actions : c.actions.result.now ≡ commit.actions =
+    c.actions.ensures.actions ∙ c.deref.ensures ∙ ap (λ (r : CommitRecord). r.actions) c.commit.view_is in
     let client : c.commit.inside.client ≡ commit.client = ap (λ (r : CommitRecord). r.client) c.commit.view_is in
     writes_next (contents c.args.writer.now) (contents c.write_begun.new.writer) _
     (begun_text commit.client commit.actions) (record_text (codes "end") [])

@@ -5,4 +5,5 @@ use Rattle.ssb_trace.proofs.commits.write_commits.Given as goal
 
 abbrev pub invariant-loop-commit : goal.invariant-loop-commit
 invariant-loop-commit g l =
-    Appends (g.W.Write.contents l.fn.writer) (g.W.Write.contents l.writer) (flat_map commit_text (take l.commit-index l.commits))
+    Appends (g.W.Write.contents l.fn.writer) (g.W.Write.contents l.writer)
+    (flat_map commit_text (take l.commit-index l.commits))

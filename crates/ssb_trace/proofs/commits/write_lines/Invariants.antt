@@ -5,4 +5,5 @@ use Rattle.ssb_trace.proofs.commits.write_lines.Given as goal
 
 abbrev pub invariant-loop-line : goal.invariant-loop-line
 invariant-loop-line g l =
-    Appends (g.W.Write.contents l.fn.writer) (g.W.Write.contents l.writer) (flat_map line_text (take l.line-index l.lines))
+    Appends (g.W.Write.contents l.fn.writer) (g.W.Write.contents l.writer)
+    (flat_map line_text (take l.line-index l.lines))

@@ -9,4 +9,5 @@ returns-in_err-write_commits g c =
     let a = contents c.args.writer.now in
     let b = contents c.write_commits.new.writer in
     writes_stopped _ c.from_residual.result a b _ c.from_residual.ensures.1
-    (part_longer a b (flat_map commit_text c.args.trace.now.commits) (flat_map told_text c.args.trace.now.answers) (rw c.as_slice.ensures at c.in_err-write_commits.ensures))
+    (part_longer a b (flat_map commit_text c.args.trace.now.commits) (flat_map told_text c.args.trace.now.answers)
+    (rw c.as_slice.ensures at c.in_err-write_commits.ensures))

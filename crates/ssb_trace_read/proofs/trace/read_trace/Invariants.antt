@@ -1,4 +1,4 @@
-use Rattle.ssb_load.specs.Records.{IsRecordReader}
+use Rattle.ssb_records.specs.Records.{IsRecordReader}
 use Rattle.ssb_trace_read.specs.Blocks.{IsUnfinished}
 use Rattle.ssb_trace_read.proofs.Reading.{HasReadKnown}
 use Rattle.ssb_trace_read.proofs.trace.read_trace.Given as goal
@@ -7,5 +7,6 @@ abbrev pub invariant-loop-before : goal.invariant-loop-before
 invariant-loop-before g l = record {
   ready : IsRecordReader l.reader;
   unfinished : IsUnfinished l.before l.begun;
-  so_far : HasReadKnown g.R.Read.remaining (g.R.Read.remaining l.fn.source) l.reader l.before l.commits.items l.answers.items l.begun;
+  so_far : HasReadKnown g.R.Read.remaining (g.R.Read.remaining l.fn.source) l.reader l.before l.commits.items
+      l.answers.items l.begun;
 }

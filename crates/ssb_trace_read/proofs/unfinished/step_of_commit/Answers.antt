@@ -9,5 +9,6 @@ use Rattle.ssb_trace_read.proofs.unfinished.step_of_commit.Goals as goal
 pub returns-in-Some-Refresh : goal.returns-in-Some-Refresh
 returns-in-Some-Refresh c = λ number old line inside stands follows.
     let arm = c.in-Some-Refresh in
-    let one : asked c.args.step ≡ Refresh arm.refresh.value ∷ [] = ap (λ (b : Option Block). map request_of (option_to_list b)) (arm.is ∙ ap Some arm.field-0-is) in
+    let one : asked c.args.step ≡ Refresh arm.refresh.value ∷ [] =
+    ap (λ (b : Option Block). map request_of (option_to_list b)) (arm.is ∙ ap Some arm.field-0-is) in
     takes_refresh number old line c.args.step inside stands follows c.args.client arm.refresh.value one

@@ -8,7 +8,8 @@ use Rattle.twin_cell.proofs.tests.cell.Goals as goal
 pub returns-clause-told : goal.returns-clause-told
 returns-clause-told g c =
     let new : Known → Type 0 = λ r. r ≡ record { base = (g.R.Replica.state c.args.first).base; told = [] } in
-    let last : IfSome c.pop.result new = (All-pop new c.in_ok-writer.readers.items c.pop.new.self.items c.pop.result c.pop.ensures.items c.in_ok-writer.ensures.known).1 in
+    let last : IfSome c.pop.result new = (All-pop new c.in_ok-writer.readers.items c.pop.new.self.items c.pop.result
+    c.pop.ensures.items c.in_ok-writer.ensures.known).1 in
     let is : c.pop.result ≡ Some c.in_ok-reader.reader = search rules in
     let is_new : new c.in_ok-reader.reader = subst (λ (o : Option Known). IfSome o new) is last in
     prefix_moved (ap (λ (r : Known). r.told) is_new) refl (prefix_empty c.in_ok-writer.writer.published)

@@ -6,7 +6,8 @@ use Rattle.twin_cell.proofs.tests.cell_for_two.Goals as goal
 pub returns-clause-base : goal.returns-clause-base
 returns-clause-base g c =
     let new : Known → Type 0 = λ r. r ≡ record { base = (g.R.Replica.state c.args.first).base; told = [] } in
-    let first = All-pop new c.in_ok-writer.readers.items c.pop.new.self.items c.pop.result c.pop.ensures.items c.in_ok-writer.ensures.known in
+    let first = All-pop new c.in_ok-writer.readers.items c.pop.new.self.items c.pop.result c.pop.ensures.items
+    c.in_ok-writer.ensures.known in
     let second = All-pop new c.pop.new.self.items c.pop-2.new.self.items c.pop-2.result c.pop-2.ensures.items first.0 in
     let one_is : c.pop.result ≡ Some c.in_ok-one.one = search rules in
     let other_is : c.pop-2.result ≡ Some c.in_ok-other.other = search rules in
@@ -18,7 +19,8 @@ returns-clause-base g c =
 pub returns-clause-told : goal.returns-clause-told
 returns-clause-told g c =
     let new : Known → Type 0 = λ r. r ≡ record { base = (g.R.Replica.state c.args.first).base; told = [] } in
-    let first = All-pop new c.in_ok-writer.readers.items c.pop.new.self.items c.pop.result c.pop.ensures.items c.in_ok-writer.ensures.known in
+    let first = All-pop new c.in_ok-writer.readers.items c.pop.new.self.items c.pop.result c.pop.ensures.items
+    c.in_ok-writer.ensures.known in
     let second = All-pop new c.pop.new.self.items c.pop-2.new.self.items c.pop-2.result c.pop-2.ensures.items first.0 in
     let one_is : c.pop.result ≡ Some c.in_ok-one.one = search rules in
     let other_is : c.pop-2.result ≡ Some c.in_ok-other.other = search rules in

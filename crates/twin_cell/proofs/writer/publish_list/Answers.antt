@@ -7,4 +7,5 @@ pub publish_as-requires : goal.publish_as-requires
 publish_as-requires g c next is =
     let state = g.R.Replica.state in
     let now = c.args.copies.desk.shown.value in
-    publishes (λ side. state side.replica) _ _ now next g.K.Pending.list c.requires.stands (is ∙ ap (fold state_after (state now.replica)) c.requires.pending)
+    publishes (λ side. state side.replica) _ _ now next g.K.Pending.list c.requires.stands
+    (is ∙ ap (fold state_after (state now.replica)) c.requires.pending)

@@ -6,7 +6,8 @@ use Rattle.dim_index.proofs.CodeLaws.{coded_none, coded_more}
 use Rattle.dim_index.proofs.coded.CodedColumn.of.Goals as goal
 
 pub loop-row-init : goal.loop-row-init
-loop-row-init g c = coded_none (map (g.T.DimensionRow.value_of c.args.place) c.args.rows.now) c.new-dictionary.result c.reserve.new.self.items c.new-dictionary.ensures (c.reserve.ensures.items ∙ c.new-codes.ensures.items)
+loop-row-init g c = coded_none (map (g.T.DimensionRow.value_of c.args.place) c.args.rows.now) c.new-dictionary.result
+    c.reserve.new.self.items c.new-dictionary.ensures (c.reserve.ensures.items ∙ c.new-codes.ensures.items)
 
 pub loop-row-preserved : goal.loop-row-preserved
 loop-row-preserved g c =
@@ -15,5 +16,8 @@ loop-row-preserved g c =
     let i = c.loop-row.row-index in
     let v : Value = column_value c.value.result in
     let inside : i < length (map value rows) = omega (arith, c.loop-row-test.true, length-map rows value) in
-    let is : v ≡ get_or (map value rows) i v = c.value.ensures ∙ ap value c.row-item.is ∙ sym (get_or-map value rows i c.row-item.result v c.loop-row-test.true) in
-    rw c.in_ok-push.ensures.items (coded_more (map value rows) i v v c.loop-row.dictionary c.enter.new.self c.loop-row.codes.items c.in_ok-code.code inside is c.in_ok-code.ensures.values c.in_ok-code.ensures.code c.loop-row.invariant)
+    let is : v ≡ get_or (map value rows) i v = c.value.ensures ∙ ap value c.row-item.is
+    ∙ sym (get_or-map value rows i c.row-item.result v c.loop-row-test.true) in
+    rw c.in_ok-push.ensures.items (coded_more (map value rows) i v v c.loop-row.dictionary c.enter.new.self
+    c.loop-row.codes.items c.in_ok-code.code inside is c.in_ok-code.ensures.values c.in_ok-code.ensures.code
+    c.loop-row.invariant)

@@ -18,6 +18,9 @@ loop-test-preserved c =
     let holds_of : List Value → List Bool = map (holds test.cond) in
     with_items_is c.loop-test.bits c.narrow.new.rows (omega (arith, c.narrow.auto.rows, c.as_mut_slice.ensures.len))
     ∙ c.in_ok-narrow.ensures
-    ∙ ap (λ (l : List Bool). narrowed l (holds_of c.column-column.result.now)) (c.as_mut_slice.ensures.value ∙ c.loop-test.invariant)
-    ∙ ap (λ (l : List Value). narrowed (bits_of c.args.self.now c.args.table (take c.loop-test.test-index c.args.tests.now)) (holds_of l)) c.column-column.ensures
-    ∙ bits_more c.args.self.now c.args.table c.args.tests.now c.loop-test.test-index test c.loop-test-test.true c.test-item.is
+    ∙ ap (λ (l : List Bool). narrowed l (holds_of c.column-column.result.now))
+    (c.as_mut_slice.ensures.value ∙ c.loop-test.invariant)
+    ∙ ap (λ (l : List Value). narrowed (bits_of c.args.self.now c.args.table
+    (take c.loop-test.test-index c.args.tests.now)) (holds_of l)) c.column-column.ensures
+    ∙ bits_more c.args.self.now c.args.table c.args.tests.now c.loop-test.test-index test c.loop-test-test.true
+    c.test-item.is

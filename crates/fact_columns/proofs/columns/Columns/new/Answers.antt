@@ -16,8 +16,10 @@ invariant_of-result c =
     let lines : List LineFields = c.lines-lines.result.now in
     let places = c.in_ok-table.table.places in
     let same : c.deref-2.result.now.dimensions ≡ dimensions = search rules in
-    let codes : AreCodesOf dimensions (facts_of lines) places = subst (λ (d : Dimensions). AreCodesOf d (facts_of lines) places) same c.in_ok-table.ensures in
-    let count : length places ≡ length lines = codes_length dimensions (facts_of lines) places codes ∙ length-map lines fact_of in
+    let codes : AreCodesOf dimensions (facts_of lines) places =
+    subst (λ (d : Dimensions). AreCodesOf d (facts_of lines) places) same c.in_ok-table.ensures in
+    let count : length places ≡ length lines = codes_length dimensions (facts_of lines) places codes
+    ∙ length-map lines fact_of in
     let limit = c.base-base.result.now.limits.lines_range in
     let few = c.lines-lines.ensures.sound.few in
     let own = ap length c.lines-lines.ensures.lines in
@@ -34,7 +36,8 @@ returns c =
     let lines : List LineFields = c.lines-lines.result.now in
     let places = c.in_ok-table.table.places in
     let same : c.deref-2.result.now.dimensions ≡ dimensions = search rules in
-    let codes : AreCodesOf dimensions (facts_of lines) places = subst (λ (d : Dimensions). AreCodesOf d (facts_of lines) places) same c.in_ok-table.ensures in
+    let codes : AreCodesOf dimensions (facts_of lines) places =
+    subst (λ (d : Dimensions). AreCodesOf d (facts_of lines) places) same c.in_ok-table.ensures in
     let loaded : lines ≡ c.args.index.value.lines = search rules in
     let facts = loaded_facts dimensions (facts_of lines) places codes ∙ ap facts_of loaded in
     λ i. record { base = c.args.index.value; commits = 0; counts = fact_counts (facts i) }

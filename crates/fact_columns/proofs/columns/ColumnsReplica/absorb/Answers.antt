@@ -2,7 +2,7 @@ use Rattle.std.proofs.Common.{rules, ◌≡◌, length, ap, arith}
 use Rattle.std.specs.List.{All}
 use Rattle.std.proofs.lemmas.List.Elements.{All-same}
 use Rattle.ssb_schema.specs.Base.{Dimensions}
-use Rattle.fact_table.specs.Places.{IsWithin}
+use Rattle.fact_columns.specs.Classed.{IsPlaceOf}
 use Rattle.fact_columns.specs.Spans.{live_count}
 use Rattle.fact_columns.proofs.PlaceLaws.{live_few}
 use Rattle.fact_columns.proofs.columns.ColumnsReplica.absorb.Goals as goal
@@ -13,9 +13,11 @@ overflow_add-self c = omega (arith, c.self.invariant.counted, c.self.invariant.f
 pub invariant_of-self-2 : goal.invariant_of-self-2
 invariant_of-self-2 c =
     let dimensions : Dimensions = c.self.inside.index.value.dimensions in
-    let before : live_count c.reserve.new.self.places ≡ live_count c.self.inside.table.places = ap live_count c.reserve.ensures.places in
-    let fresh : All (IsWithin dimensions) c.as_slice.result.now = search rules in
-    let old : All (IsWithin dimensions) c.reserve.new.self.places = All-same (IsWithin dimensions) _ _ c.reserve.ensures.places c.self.invariant.within in
+    let before : live_count c.reserve.new.self.places ≡ live_count c.self.inside.table.places =
+    ap live_count c.reserve.ensures.places in
+    let fresh : All (IsPlaceOf dimensions) c.as_slice.result.now = search rules in
+    let old : All (IsPlaceOf dimensions) c.reserve.new.self.places =
+    All-same (IsPlaceOf dimensions) _ _ c.reserve.ensures.places c.self.invariant.within in
     record {
       spanned = c.act_all-freed.ensures.spanned;
       counted = omega (arith, before, c.self.invariant.counted, c.act_all-freed.ensures.count);

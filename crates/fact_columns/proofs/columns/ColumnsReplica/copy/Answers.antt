@@ -4,7 +4,7 @@ use Rattle.std.specs.Map.{lookup}
 use Rattle.std.proofs.lemmas.Map.Entries.{entries_from_clone}
 use Rattle.ssb_schema.specs.Base.{Tables}
 use Rattle.fact_table.specs.declared.place.Place.{Place}
-use Rattle.fact_table.specs.Places.{IsWithin}
+use Rattle.fact_columns.specs.Classed.{IsPlaceOf}
 use Rattle.fact_columns.specs.declared.span.Span.{Span}
 use Rattle.fact_columns.specs.Spans.{Spanned, live_count}
 use Rattle.fact_columns.proofs.columns.ColumnsReplica.copy.Goals as goal
@@ -14,10 +14,13 @@ invariant_of-result c =
     let inside = c.self.inside in
     let places : c.in_ok-copy.field-0.places ≡ inside.table.places = search rules in
     let base : c.in_ok-try_clone.field-0.value ≡ inside.index.value = search rules in
-    let entries : c.in_ok-clone.field-0.entries ≡ inside.spans.entries = entries_from_clone _ _ (λ x y s. s) (λ v w s. s) _ _ c.in_ok-clone.ensures.cases in
+    let entries : c.in_ok-clone.field-0.entries ≡ inside.spans.entries =
+    entries_from_clone _ _ (λ x y s. s) (λ v w s. s) _ _ c.in_ok-clone.ensures.cases in
     record {
-      spanned = subst (λ (p : List Place × List (ℕ × Span)). Spanned (λ k. lookup (nat_eq k) p.1) p.0) (λ i. (sym places i, sym entries i)) c.self.invariant.spanned;
+      spanned = subst (λ (p : List Place × List (ℕ × Span)). Spanned (λ k. lookup (nat_eq k) p.1) p.0)
+          (λ i. (sym places i, sym entries i)) c.self.invariant.spanned;
       counted = c.self.invariant.counted ∙ ap live_count (sym places);
-      within = subst (λ (p : List Place × Tables). All (IsWithin p.1.dimensions) p.0) (λ i. (sym places i, sym base i)) c.self.invariant.within;
+      within = subst (λ (p : List Place × Tables). All (IsPlaceOf p.1.dimensions) p.0) (λ i. (sym places i, sym base i))
+          c.self.invariant.within;
       few = omega (arith, c.self.invariant.few, ap length places);
     }

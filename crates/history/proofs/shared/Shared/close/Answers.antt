@@ -7,13 +7,26 @@ use Rattle.history.specs.Seats.{members_of, AreAll, IsClosed}
 use Rattle.history.specs.Tokens.{Hall, Token}
 use Rattle.history.specs.Closing.{IsClientOf, IsDispatcherOf, members_in, terms_in}
 use Rattle.history.specs.Passes.{hall_of}
-use Rattle.history.proofs.Handing.{none_left, handed_first, handed_more, last_has, left_have, all_there, clients_saw, dispatchers_saw, clients_own, log_is_true}
+use Rattle.history.proofs.Handing.{
+  none_left,
+  handed_first,
+  handed_more,
+  last_has,
+  left_have,
+  all_there,
+  clients_saw,
+  dispatchers_saw,
+  clients_own,
+  log_is_true,
+}
 use Rattle.history.proofs.shared.Shared.close.Goals as goal
 
 pub loop-pass-init : goal.loop-pass-init
-loop-pass-init g c = let seat = c.into_seat-seat.ensures in let left = c.pop.new.self.items in let last : Token = c.in-Some.last in
+loop-pass-init g c = let seat = c.into_seat-seat.ensures in let left = c.pop.new.self.items in let last : Token =
+    c.in-Some.last in
     let all : c.args.dispatchers.items ≡ left ++ last ∷ [] = c.in-Some.ensures.items in
-    let mine = last_has (IsDispatcherOf c.args.self) c.args.dispatchers.items left last c.requires.dispatchers.left all in record {
+    let mine = last_has (IsDispatcherOf c.args.self) c.args.dispatchers.items left last c.requires.dispatchers.left all
+    in record {
       table = seat.hall ∙ mine.hall_is;
       token = seat.role;
       nothing = (seat.rows ∙ mine.free.rows, seat.writer ∙ mine.free.writer, seat.dispatcher mine.dispatcher);
@@ -22,73 +35,128 @@ loop-pass-init g c = let seat = c.into_seat-seat.ensures in let left = c.pop.new
     }
 
 pub gather-requires-clause-table : goal.gather-requires-clause-table
-gather-requires-clause-table g c = let inv = c.loop-pass.invariant in let here = ap (λ (h : Hall). h.table) c.self.view_is in let words = c.self.invariant.words in
-    let mine = last_has (IsDispatcherOf c.args.self) c.loop-pass.dispatchers.items c.pop-in-loop-pass.new.self.items c.in-Some-pop.pass inv.left c.in-Some-pop.ensures.items in
-    (omega arith, ap (λ (h : Hall). h.table) inv.table ∙ sym here, ap (λ (h : Hall). h.table) (c.into_seat.ensures.hall ∙ mine.hall_is) ∙ sym here)
+gather-requires-clause-table g c = let inv = c.loop-pass.invariant in let here =
+    ap (λ (h : Hall). h.table) c.self.view_is in let words = c.self.invariant.words in
+    let mine = last_has (IsDispatcherOf c.args.self) c.loop-pass.dispatchers.items c.pop-in-loop-pass.new.self.items
+    c.in-Some-pop.pass inv.left c.in-Some-pop.ensures.items in (
+      omega arith,
+      ap (λ (h : Hall). h.table) inv.table ∙ sym here,
+      ap (λ (h : Hall). h.table) (c.into_seat.ensures.hall ∙ mine.hall_is) ∙ sym here,
+    )
 
 pub gather-requires-clause-other : goal.gather-requires-clause-other
 gather-requires-clause-other g c = let inv = c.loop-pass.invariant in let seat = c.into_seat.ensures in
-    let mine = last_has (IsDispatcherOf c.args.self) c.loop-pass.dispatchers.items c.pop-in-loop-pass.new.self.items c.in-Some-pop.pass inv.left c.in-Some-pop.ensures.items in
-    record { token = seat.role; rows = seat.rows ∙ mine.free.rows; writer = seat.writer ∙ mine.free.writer; asked = seat.dispatcher mine.dispatcher; gathered = seat.gathered }
+    let mine = last_has (IsDispatcherOf c.args.self) c.loop-pass.dispatchers.items c.pop-in-loop-pass.new.self.items
+    c.in-Some-pop.pass inv.left c.in-Some-pop.ensures.items in
+    record {
+      token = seat.role;
+      rows = seat.rows ∙ mine.free.rows;
+      writer = seat.writer ∙ mine.free.writer;
+      asked = seat.dispatcher mine.dispatcher;
+      gathered = seat.gathered;
+    }
 
 pub loop-pass-preserved : goal.loop-pass-preserved
-loop-pass-preserved g c = let inv = c.loop-pass.invariant in let did = c.gather.ensures in let left = c.pop-in-loop-pass.new.self.items in let next : Token = c.in-Some-pop.pass in
+loop-pass-preserved g c = let inv = c.loop-pass.invariant in let did = c.gather.ensures in let left =
+    c.pop-in-loop-pass.new.self.items in let next : Token = c.in-Some-pop.pass in
     let all : c.loop-pass.dispatchers.items ≡ left ++ next ∷ [] = c.in-Some-pop.ensures.items in record {
       table = (λ i. hall_of (did.0 i) (did.2 i).0.terms) ∙ inv.table;
       token = (inv.token.0, ap (λ m. m.0.role) did.2 ∙ inv.token.1);
-      nothing = (ap (λ m. m.0.holds_rows) did.2 ∙ inv.nothing.0, ap (λ m. m.0.holds_writer) did.2 ∙ inv.nothing.1, ap (λ m. m.0.asked) did.2 ∙ inv.nothing.2);
+      nothing = (
+        ap (λ m. m.0.holds_rows) did.2 ∙ inv.nothing.0,
+        ap (λ m. m.0.holds_writer) did.2 ∙ inv.nothing.1,
+        ap (λ m. m.0.asked) did.2 ∙ inv.nothing.2,
+      );
       left = left_have (IsDispatcherOf c.args.self) c.loop-pass.dispatchers.items left next inv.left all;
-      members = inv.members ∙ (ap (λ ts. members_in ts ++ members_of c.loop-pass.seat.me.0) all ∙ (handed_more left next c.loop-pass.seat.me.0 c.into_seat.result.me.0 c.into_seat.ensures.member ∙ ap (λ m. members_in left ++ members_of m.0) (sym did.2)));
+      members = inv.members ∙ (ap (λ ts. members_in ts ++ members_of c.loop-pass.seat.me.0) all
+          ∙ (handed_more left next c.loop-pass.seat.me.0 c.into_seat.result.me.0 c.into_seat.ensures.member
+          ∙ ap (λ m. members_in left ++ members_of m.0) (sym did.2)));
     }
 
 pub loop-pass-2-init : goal.loop-pass-2-init
-loop-pass-2-init g c = let inv = c.loop-pass.invariant in let none : c.loop-pass.dispatchers.items ≡ [] = none_left _ (first_of (search rules, grind (arith, common_steps))) in record {
-  table = inv.table;
-  token = inv.token;
-  nothing = inv.nothing;
-  left = c.requires.clients.left;
-  members = ap (λ ms. members_in c.args.clients.items ++ ms) (inv.members ∙ ap (λ ts. members_in ts ++ members_of c.loop-pass.seat.me.0) none);
-}
+loop-pass-2-init g c = let inv = c.loop-pass.invariant in let none : c.loop-pass.dispatchers.items ≡ [] =
+    none_left _ (first_of (search rules, grind (arith, common_steps))) in record {
+      table = inv.table;
+      token = inv.token;
+      nothing = inv.nothing;
+      left = c.requires.clients.left;
+      members = ap (λ ms. members_in c.args.clients.items ++ ms)
+          (inv.members ∙ ap (λ ts. members_in ts ++ members_of c.loop-pass.seat.me.0) none);
+    }
 
 pub gather-requires-in-Some-pop-2-clause-table : goal.gather-requires-in-Some-pop-2-clause-table
-gather-requires-in-Some-pop-2-clause-table g c = let inv = c.loop-pass-2.invariant in let here = ap (λ (h : Hall). h.table) c.self.view_is in let words = c.self.invariant.words in
-    let mine = last_has (IsClientOf c.args.self) c.loop-pass-2.clients.items c.pop-in-loop-pass-2.new.self.items c.in-Some-pop-2.pass inv.left c.in-Some-pop-2.ensures.items in
-    (omega arith, ap (λ (h : Hall). h.table) inv.table ∙ sym here, ap (λ (h : Hall). h.table) (c.into_seat-in-Some-pop-2.ensures.hall ∙ mine.hall_is) ∙ sym here)
+gather-requires-in-Some-pop-2-clause-table g c = let inv = c.loop-pass-2.invariant in let here =
+    ap (λ (h : Hall). h.table) c.self.view_is in let words = c.self.invariant.words in
+    let mine = last_has (IsClientOf c.args.self) c.loop-pass-2.clients.items c.pop-in-loop-pass-2.new.self.items
+    c.in-Some-pop-2.pass inv.left c.in-Some-pop-2.ensures.items in (
+      omega arith,
+      ap (λ (h : Hall). h.table) inv.table ∙ sym here,
+      ap (λ (h : Hall). h.table) (c.into_seat-in-Some-pop-2.ensures.hall ∙ mine.hall_is) ∙ sym here,
+    )
 
 pub gather-requires-in-Some-pop-2-clause-other : goal.gather-requires-in-Some-pop-2-clause-other
-gather-requires-in-Some-pop-2-clause-other g c = let inv = c.loop-pass-2.invariant in let seat = c.into_seat-in-Some-pop-2.ensures in
-    let mine = last_has (IsClientOf c.args.self) c.loop-pass-2.clients.items c.pop-in-loop-pass-2.new.self.items c.in-Some-pop-2.pass inv.left c.in-Some-pop-2.ensures.items in
-    record { token = seat.role; rows = seat.rows ∙ mine.rows; writer = seat.client mine.client; asked = seat.asked ∙ mine.quiet; gathered = seat.gathered }
+gather-requires-in-Some-pop-2-clause-other g c = let inv = c.loop-pass-2.invariant in let seat =
+    c.into_seat-in-Some-pop-2.ensures in
+    let mine = last_has (IsClientOf c.args.self) c.loop-pass-2.clients.items c.pop-in-loop-pass-2.new.self.items
+    c.in-Some-pop-2.pass inv.left c.in-Some-pop-2.ensures.items in
+    record {
+      token = seat.role;
+      rows = seat.rows ∙ mine.rows;
+      writer = seat.client mine.client;
+      asked = seat.asked ∙ mine.quiet;
+      gathered = seat.gathered;
+    }
 
 pub loop-pass-2-preserved : goal.loop-pass-2-preserved
-loop-pass-2-preserved g c = let inv = c.loop-pass-2.invariant in let did = c.gather-in-Some-pop-2.ensures in let left = c.pop-in-loop-pass-2.new.self.items in let next : Token = c.in-Some-pop-2.pass in
+loop-pass-2-preserved g c = let inv = c.loop-pass-2.invariant in let did = c.gather-in-Some-pop-2.ensures in let left =
+    c.pop-in-loop-pass-2.new.self.items in let next : Token = c.in-Some-pop-2.pass in
     let all : c.loop-pass-2.clients.items ≡ left ++ next ∷ [] = c.in-Some-pop-2.ensures.items in record {
       table = (λ i. hall_of (did.0 i) (did.2 i).0.terms) ∙ inv.table;
       token = (inv.token.0, ap (λ m. m.0.role) did.2 ∙ inv.token.1);
-      nothing = (ap (λ m. m.0.holds_rows) did.2 ∙ inv.nothing.0, ap (λ m. m.0.holds_writer) did.2 ∙ inv.nothing.1, ap (λ m. m.0.asked) did.2 ∙ inv.nothing.2);
+      nothing = (
+        ap (λ m. m.0.holds_rows) did.2 ∙ inv.nothing.0,
+        ap (λ m. m.0.holds_writer) did.2 ∙ inv.nothing.1,
+        ap (λ m. m.0.asked) did.2 ∙ inv.nothing.2,
+      );
       left = left_have (IsClientOf c.args.self) c.loop-pass-2.clients.items left next inv.left all;
-      members = inv.members ∙ (ap (λ ts. members_in ts ++ members_of c.loop-pass-2.seat.me.0) all ∙ (handed_more left next c.loop-pass-2.seat.me.0 c.into_seat-in-Some-pop-2.result.me.0 c.into_seat-in-Some-pop-2.ensures.member ∙ ap (λ m. members_in left ++ members_of m.0) (sym did.2)));
+      members = inv.members ∙ (ap (λ ts. members_in ts ++ members_of c.loop-pass-2.seat.me.0) all
+          ∙ (handed_more left next c.loop-pass-2.seat.me.0 c.into_seat-in-Some-pop-2.result.me.0
+          c.into_seat-in-Some-pop-2.ensures.member ∙ ap (λ m. members_in left ++ members_of m.0) (sym did.2)));
     }
 
 pub finish-requires-clause-all : goal.finish-requires-clause-all
-finish-requires-clause-all g c = let inv = c.loop-pass-2.invariant in let none : c.loop-pass-2.clients.items ≡ [] = none_left _ (first_of (search rules, grind (arith, common_steps))) in
-    let members = inv.members ∙ ap (λ ts. members_in ts ++ members_of c.loop-pass-2.seat.me.0) none in let terms = ap terms_in inv.table in
-    subst (λ (x : Terms × List Member). AreAll x.0 x.1) (λ i. (sym terms i, members i)) (all_there c.args.self c.args.clients.items c.args.dispatchers.items c.requires.clients c.requires.dispatchers)
+finish-requires-clause-all g c = let inv = c.loop-pass-2.invariant in let none : c.loop-pass-2.clients.items ≡ [] =
+    none_left _ (first_of (search rules, grind (arith, common_steps))) in
+    let members = inv.members ∙ ap (λ ts. members_in ts ++ members_of c.loop-pass-2.seat.me.0) none in let terms =
+    ap terms_in inv.table in
+    subst (λ (x : Terms × List Member). AreAll x.0 x.1) (λ i. (sym terms i, members i))
+    (all_there c.args.self c.args.clients.items c.args.dispatchers.items c.requires.clients c.requires.dispatchers)
 
 pub returns-clause-seen : goal.returns-clause-seen
-returns-clause-seen g c = let inv = c.loop-pass-2.invariant in let none : c.loop-pass-2.clients.items ≡ [] = none_left _ (first_of (search rules, grind (arith, common_steps))) in
-    let members = inv.members ∙ ap (λ ts. members_in ts ++ members_of c.loop-pass-2.seat.me.0) none in let terms = ap terms_in inv.table in
-    let closed = subst (λ (x : Terms × List Member). IsClosed x.0 x.1 c.finish.result) (λ i. (terms i, sym members i)) c.finish.ensures in
-    (clients_saw c.args.self c.args.clients.items c.args.dispatchers.items c.finish.result closed, dispatchers_saw c.args.self c.args.clients.items c.args.dispatchers.items c.finish.result closed)
+returns-clause-seen g c = let inv = c.loop-pass-2.invariant in let none : c.loop-pass-2.clients.items ≡ [] =
+    none_left _ (first_of (search rules, grind (arith, common_steps))) in
+    let members = inv.members ∙ ap (λ ts. members_in ts ++ members_of c.loop-pass-2.seat.me.0) none in let terms =
+    ap terms_in inv.table in
+    let closed = subst (λ (x : Terms × List Member). IsClosed x.0 x.1 c.finish.result) (λ i. (terms i, sym members i))
+    c.finish.ensures in (
+      clients_saw c.args.self c.args.clients.items c.args.dispatchers.items c.finish.result closed,
+      dispatchers_saw c.args.self c.args.clients.items c.args.dispatchers.items c.finish.result closed,
+    )
 
 pub returns-clause-owns : goal.returns-clause-owns
-returns-clause-owns g c = let inv = c.loop-pass-2.invariant in let none : c.loop-pass-2.clients.items ≡ [] = none_left _ (first_of (search rules, grind (arith, common_steps))) in
-    let members = inv.members ∙ ap (λ ts. members_in ts ++ members_of c.loop-pass-2.seat.me.0) none in let terms = ap terms_in inv.table in
-    let closed = subst (λ (x : Terms × List Member). IsClosed x.0 x.1 c.finish.result) (λ i. (terms i, sym members i)) c.finish.ensures in
+returns-clause-owns g c = let inv = c.loop-pass-2.invariant in let none : c.loop-pass-2.clients.items ≡ [] =
+    none_left _ (first_of (search rules, grind (arith, common_steps))) in
+    let members = inv.members ∙ ap (λ ts. members_in ts ++ members_of c.loop-pass-2.seat.me.0) none in let terms =
+    ap terms_in inv.table in
+    let closed = subst (λ (x : Terms × List Member). IsClosed x.0 x.1 c.finish.result) (λ i. (terms i, sym members i))
+    c.finish.ensures in
     clients_own c.args.self c.args.clients.items c.args.dispatchers.items c.finish.result closed
 
 pub returns-clause-true_log : goal.returns-clause-true_log
-returns-clause-true_log g c = let inv = c.loop-pass-2.invariant in let none : c.loop-pass-2.clients.items ≡ [] = none_left _ (first_of (search rules, grind (arith, common_steps))) in
-    let members = inv.members ∙ ap (λ ts. members_in ts ++ members_of c.loop-pass-2.seat.me.0) none in let terms = ap terms_in inv.table in
-    let closed = subst (λ (x : Terms × List Member). IsClosed x.0 x.1 c.finish.result) (λ i. (terms i, sym members i)) c.finish.ensures in
+returns-clause-true_log g c = let inv = c.loop-pass-2.invariant in let none : c.loop-pass-2.clients.items ≡ [] =
+    none_left _ (first_of (search rules, grind (arith, common_steps))) in
+    let members = inv.members ∙ ap (λ ts. members_in ts ++ members_of c.loop-pass-2.seat.me.0) none in let terms =
+    ap terms_in inv.table in
+    let closed = subst (λ (x : Terms × List Member). IsClosed x.0 x.1 c.finish.result) (λ i. (terms i, sym members i))
+    c.finish.ensures in
     log_is_true c.args.self c.args.clients.items c.args.dispatchers.items c.finish.result closed

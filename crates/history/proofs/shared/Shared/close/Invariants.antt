@@ -24,7 +24,8 @@ invariant-loop-pass-2 g l = record {
   token : IsToken l.seat;
   nothing : HoldsNothing l.seat.me.0;
   left : All (IsClientOf l.fn.self) l.clients.items;
-  members : members_in l.fn.clients.items ++ members_in l.fn.dispatchers.items ≡ members_in l.clients.items ++ members_of l.seat.me.0;
+  members : members_in l.fn.clients.items ++ members_in l.fn.dispatchers.items ≡ members_in l.clients.items
+      ++ members_of l.seat.me.0;
 }
 
 abbrev pub decreases-loop-pass-2 : goal.decreases-loop-pass-2

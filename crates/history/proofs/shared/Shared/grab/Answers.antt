@@ -7,11 +7,19 @@ use Rattle.history.proofs.shared.Shared.grab.Goals as goal
 
 pub insert-requires : goal.insert-requires
 insert-requires g c = let p = c.pass.inside in let low = c.requires.client.0 in let high = c.requires.client.1 in
-    let clients = ap (λ (t : Token). t.hall.clients) c.pass.view_is ∙ ap (λ (h : Hall). h.clients) c.requires.hall in
-    (omega arith, (omega arith, has_room p (c.args.client - 1) c.in_ok-request.request c.pass.invariant (omega arith) c.in_ok-request.ensures.1))
+    let clients = ap (λ (t : Token). t.hall.clients) c.pass.view_is ∙ ap (λ (h : Hall). h.clients) c.requires.hall in (
+      omega arith,
+      (
+        omega arith,
+        has_room p (c.args.client - 1) c.in_ok-request.request c.pass.invariant (omega arith)
+            c.in_ok-request.ensures.1,
+      ),
+    )
 
 pub returns : goal.returns
 returns g c = let p = c.pass.inside in let low = c.requires.client.0 in record {
-  grabs = subst (λ t. Grabs t c.args.client c.in_ok-request.request.query (token (passed p c.insert.new.self c.grab.new.seat p.seen_len))) c.pass.view_is
-      (grabbed_token p c.insert.new.self c.grab.new.seat (c.args.client - 1) c.args.client c.in_ok-request.request _ (omega arith) c.in_ok-request.ensures.0.0 c.in_ok-request.ensures.0.2);
+  grabs = subst (λ t. Grabs t c.args.client c.in_ok-request.request.query
+      (token (passed p c.insert.new.self c.grab.new.seat p.seen_len))) c.pass.view_is
+      (grabbed_token p c.insert.new.self c.grab.new.seat (c.args.client - 1) c.args.client c.in_ok-request.request _
+      (omega arith) c.in_ok-request.ensures.0.0 c.in_ok-request.ensures.0.2);
 }

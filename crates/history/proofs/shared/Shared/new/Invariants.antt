@@ -11,12 +11,14 @@ abbrev pub invariant-loop-place : goal.invariant-loop-place
 invariant-loop-place g l = let terms = terms_of l.board.shared.key in record {
   table : l.dealer.table_id ≡ l.board.shared.table_id;
   dealer : IsDealer l.dealer terms l.place;
-  dealt : l.first.items ≡ map (λ number. new_token (hall_of l.board.shared.table_id terms) (Client number)) (range_with_len 1 l.place);
+  dealt : l.first.items ≡ map (λ number. new_token (hall_of l.board.shared.table_id terms) (Client number))
+      (range_with_len 1 l.place);
 }
 
 abbrev pub invariant-loop-number : goal.invariant-loop-number
 invariant-loop-number g l = let terms = terms_of l.board.shared.key in record {
   table : l.dealer.table_id ≡ l.board.shared.table_id;
   dealer : IsDealer l.dealer terms (l.clients + l.number);
-  dealt : l.second.items ≡ map (λ number. new_token (hall_of l.board.shared.table_id terms) (Dispatcher number)) (range_with_len 1 l.number);
+  dealt : l.second.items ≡ map (λ number. new_token (hall_of l.board.shared.table_id terms) (Dispatcher number))
+      (range_with_len 1 l.number);
 }

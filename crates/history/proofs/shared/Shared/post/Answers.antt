@@ -9,28 +9,43 @@ use Rattle.history.proofs.Passing.{is_before, box_in_front, posted_seated, poste
 use Rattle.history.proofs.shared.Shared.post.Goals as goal
 
 pub post-requires-clause-table : goal.post-requires-clause-table
-post-requires-clause-table g c = let is = c.pass.invariant in let near = is_before c.pass.inside c.args.pass.now c.pass.view_is is c.requires.client in let few = is.few in
-    let hall = ap (λ (t : Token). t.hall) c.pass.view_is ∙ (c.requires.hall ∙ sym c.self.view_is) in let clients = ap (λ (h : Hall). h.clients) hall in let words = c.self.invariant.words in
+post-requires-clause-table g c = let is = c.pass.invariant in let near =
+    is_before c.pass.inside c.args.pass.now c.pass.view_is is c.requires.client in let few = is.few in
+    let hall = ap (λ (t : Token). t.hall) c.pass.view_is ∙ (c.requires.hall ∙ sym c.self.view_is) in let clients =
+    ap (λ (h : Hall). h.clients) hall in let words = c.self.invariant.words in
     (omega arith, omega arith, c.turn.ensures.0 ∙ ap (λ (h : Hall). h.table) hall)
 
 pub post-requires-clause-token : goal.post-requires-clause-token
-post-requires-clause-token g c = let is = c.pass.invariant in let near = is_before c.pass.inside c.args.pass.now c.pass.view_is is c.requires.client in
-    (ap (λ m. m.0.role) c.turn.ensures.2 ∙ is.role, subst (λ m. c.pass.inside.place < m.0.terms.clients) (sym c.turn.ensures.2) near)
+post-requires-clause-token g c = let is = c.pass.invariant in let near =
+    is_before c.pass.inside c.args.pass.now c.pass.view_is is c.requires.client in (
+      ap (λ m. m.0.role) c.turn.ensures.2 ∙ is.role,
+      subst (λ m. c.pass.inside.place < m.0.terms.clients)
+          (sym c.turn.ensures.2) near,
+    )
 
 pub post-requires-clause-mailbox : goal.post-requires-clause-mailbox
-post-requires-clause-mailbox g c = let is = c.pass.invariant in let near = is_before c.pass.inside c.args.pass.now c.pass.view_is is c.requires.client in let quiet = ap (λ (t : Token). t.asked) c.pass.view_is ∙ c.requires.mailbox in
-    (ap (λ m. m.0.has_box) c.turn.ensures.2 ∙ (is.in_hand.0 near).0, ap (λ m. m.0.asked) c.turn.ensures.2 ∙ quiet, in_front _ _ _ (ap (λ m. m.1) c.turn.ensures.2 ∙ box_in_front c.pass.inside is near quiet))
+post-requires-clause-mailbox g c = let is = c.pass.invariant in let near =
+    is_before c.pass.inside c.args.pass.now c.pass.view_is is c.requires.client in let quiet =
+    ap (λ (t : Token). t.asked) c.pass.view_is ∙ c.requires.mailbox in (
+      ap (λ m. m.0.has_box) c.turn.ensures.2 ∙ (is.in_hand.0 near).0,
+      ap (λ m. m.0.asked) c.turn.ensures.2 ∙ quiet,
+      in_front _ _ _ (ap (λ m. m.1) c.turn.ensures.2 ∙ box_in_front c.pass.inside is near quiet),
+    )
 
 pub post-requires-clause-floor : goal.post-requires-clause-floor
 post-requires-clause-floor g c = c.pass.invariant.seen_len ∙ ap (λ m. length m.0.member.seen) (sym c.turn.ensures.2)
 
 pub invariant_of-pass : goal.invariant_of-pass
-invariant_of-pass g c = let is = c.pass.invariant in let p = c.pass.inside in let near = is_before p c.args.pass.now c.pass.view_is is c.requires.client in let quiet = ap (λ (t : Token). t.asked) c.pass.view_is ∙ c.requires.mailbox in
+invariant_of-pass g c = let is = c.pass.invariant in let p = c.pass.inside in let near =
+    is_before p c.args.pass.now c.pass.view_is is c.requires.client in let quiet =
+    ap (λ (t : Token). t.asked) c.pass.view_is ∙ c.requires.mailbox in
     posted_seated p c.post.new.seat (request c.args.question p.seen_len) is near
-    (c.post.ensures.2 ∙ (ap (λ m. (posted m.0 (request c.args.question p.seen_len), rest m.1)) c.turn.ensures.2 ∙ ap (λ cs. (posted p.seat.me.0 (request c.args.question p.seen_len), rest cs)) (box_in_front p is near quiet)))
+    (c.post.ensures.2 ∙ (ap (λ m. (posted m.0 (request c.args.question p.seen_len), rest m.1)) c.turn.ensures.2
+    ∙ ap (λ cs. (posted p.seat.me.0 (request c.args.question p.seen_len), rest cs)) (box_in_front p is near quiet)))
 
 pub returns : goal.returns
 returns g c = let p = c.pass.inside in record {
-  posted = posted_token p c.post.new.seat c.args.question _ c.pass.invariant (c.post.ensures.0 ∙ c.turn.ensures.0) (c.post.ensures.2 ∙ ap (λ m. (posted m.0 (request c.args.question p.seen_len), rest m.1)) c.turn.ensures.2)
+  posted = posted_token p c.post.new.seat c.args.question _ c.pass.invariant (c.post.ensures.0 ∙ c.turn.ensures.0)
+      (c.post.ensures.2 ∙ ap (λ m. (posted m.0 (request c.args.question p.seen_len), rest m.1)) c.turn.ensures.2)
       ∙ ap (λ t. public.posted t c.args.question) c.pass.view_is;
 }

@@ -6,24 +6,37 @@ use Rattle.history.proofs.shared.Shared.put_rows.Goals.{then-length-pass, else-l
 use Rattle.history.proofs.shared.Shared.put_rows.Goals as goal
 
 pub put_commit-requires-clause-rows : goal.put_commit-requires-clause-rows
-put_commit-requires-clause-rows g c = let may : MayPut (token c.pass.inside) c.args.rows = subst (λ t. MayPut t c.args.rows) (sym c.pass.view_is) c.requires.rows in
-    (may.0, put_adds c.pass.inside c.args.rows c.pass.invariant may (λ e. c.if-length-pass.false (c.len-length.ensures.count ∙ e)))
+put_commit-requires-clause-rows g c = let may : MayPut (token c.pass.inside) c.args.rows =
+    subst (λ t. MayPut t c.args.rows) (sym c.pass.view_is) c.requires.rows in (
+      may.0,
+      put_adds c.pass.inside c.args.rows c.pass.invariant may
+          (λ e. c.if-length-pass.false (c.len-length.ensures.count ∙ e)),
+    )
 
 pub invariant_of-pass : goal.invariant_of-pass
-invariant_of-pass g c = let may : MayPut (token c.pass.inside) c.args.rows = subst (λ t. MayPut t c.args.rows) (sym c.pass.view_is) c.requires.rows in let held : c.pass.inside.seat.me.0.holds_rows ≡ true = ap (λ t. t.has_rows) c.pass.view_is ∙ c.requires.taken in
+invariant_of-pass g c = let may : MayPut (token c.pass.inside) c.args.rows =
+    subst (λ t. MayPut t c.args.rows) (sym c.pass.view_is) c.requires.rows in let held :
+    c.pass.inside.seat.me.0.holds_rows ≡ true = ap (λ t. t.has_rows) c.pass.view_is ∙ c.requires.taken in
     elim c.if-length-pass.branch [
       | then-length-pass w ↦ subst (λ p. IsSeated (passed p p.hand p.seat c.len-length.result)) (sym w.pass-inside-is)
-          (put_seated c.pass.inside w.put_back.new.seat c.args.rows c.len-length.result c.pass.invariant held may c.len-length.ensures.count w.put_back.ensures.2)
+          (put_seated c.pass.inside w.put_back.new.seat c.args.rows c.len-length.result c.pass.invariant held may
+          c.len-length.ensures.count w.put_back.ensures.2)
       | else-length-pass w ↦ subst (λ p. IsSeated (passed p p.hand p.seat c.len-length.result)) (sym w.pass-inside-is)
-          (put_seated c.pass.inside w.put_commit.new.seat c.args.rows c.len-length.result c.pass.invariant held may c.len-length.ensures.count w.put_commit.ensures.2)
+          (put_seated c.pass.inside w.put_commit.new.seat c.args.rows c.len-length.result c.pass.invariant held may
+          c.len-length.ensures.count w.put_commit.ensures.2)
     ]
 
 pub returns-clause-put : goal.returns-clause-put
 returns-clause-put g c = let p = c.pass.inside in elim c.if-length-pass.branch [
-  | then-length-pass w ↦ subst (λ q. Put c.args.pass.now c.args.rows (token (passed q q.hand q.seat c.len-length.result))) (sym w.pass-inside-is)
-      (subst (λ t. Put t c.args.rows (token (passed p p.hand w.put_back.new.seat c.len-length.result))) c.pass.view_is (put_token p w.put_back.new.seat c.args.rows c.len-length.result _ w.put_back.ensures.0 w.put_back.ensures.2))
-  | else-length-pass w ↦ subst (λ q. Put c.args.pass.now c.args.rows (token (passed q q.hand q.seat c.len-length.result))) (sym w.pass-inside-is)
-      (subst (λ t. Put t c.args.rows (token (passed p p.hand w.put_commit.new.seat c.len-length.result))) c.pass.view_is (put_token p w.put_commit.new.seat c.args.rows c.len-length.result _ w.put_commit.ensures.0 w.put_commit.ensures.2))
+  | then-length-pass w ↦ subst (λ q. Put c.args.pass.now c.args.rows
+      (token (passed q q.hand q.seat c.len-length.result))) (sym w.pass-inside-is)
+      (subst (λ t. Put t c.args.rows (token (passed p p.hand w.put_back.new.seat c.len-length.result))) c.pass.view_is
+      (put_token p w.put_back.new.seat c.args.rows c.len-length.result _ w.put_back.ensures.0 w.put_back.ensures.2))
+  | else-length-pass w ↦ subst (λ q. Put c.args.pass.now c.args.rows
+      (token (passed q q.hand q.seat c.len-length.result))) (sym w.pass-inside-is)
+      (subst (λ t. Put t c.args.rows (token (passed p p.hand w.put_commit.new.seat c.len-length.result))) c.pass.view_is
+      (put_token p w.put_commit.new.seat c.args.rows c.len-length.result _ w.put_commit.ensures.0
+      w.put_commit.ensures.2))
 ]
 
 pub returns-clause-sound : goal.returns-clause-sound

@@ -6,15 +6,19 @@ use Rattle.history.proofs.Passing.{passed, took_seated, took_token}
 use Rattle.history.proofs.shared.Shared.take_rows.Goals as goal
 
 pub invariant_of-pass : goal.invariant_of-pass
-invariant_of-pass g c = let took = c.take_rows-rows.ensures in let free : c.pass.inside.seat.me.0.holds_rows ≡ false = ap (λ t. t.has_rows) c.pass.view_is ∙ c.requires.free in
-    took_seated c.pass.inside c.take_rows-rows.new.seat took.0 c.len.result c.pass.invariant free (c.len.ensures.count ∙ ap (λ s. length s.log) took.1) took.3 took.2.2
+invariant_of-pass g c = let took = c.take_rows-rows.ensures in let free : c.pass.inside.seat.me.0.holds_rows ≡ false =
+    ap (λ t. t.has_rows) c.pass.view_is ∙ c.requires.free in
+    took_seated c.pass.inside c.take_rows-rows.new.seat took.0 c.len.result c.pass.invariant free
+    (c.len.ensures.count ∙ ap (λ s. length s.log) took.1) took.3 took.2.2
 
 pub returns-clause-rows : goal.returns-clause-rows
-returns-clause-rows g c = let took = c.take_rows-rows.ensures in took.1 ∙ ap (λ m. store m.0.terms.base m.0.member.seen) (sym took.2.2)
+returns-clause-rows g c = let took = c.take_rows-rows.ensures in
+    took.1 ∙ ap (λ m. store m.0.terms.base m.0.member.seen) (sym took.2.2)
 
 pub returns-clause-took : goal.returns-clause-took
 returns-clause-took g c = let took = c.take_rows-rows.ensures in let p = c.pass.inside in
-    subst (λ t. Took t (token (passed p p.hand c.take_rows-rows.new.seat c.len.result))) c.pass.view_is (took_token p c.take_rows-rows.new.seat took.0 c.len.result took.3 took.2.0 took.2.2)
+    subst (λ t. Took t (token (passed p p.hand c.take_rows-rows.new.seat c.len.result))) c.pass.view_is
+    (took_token p c.take_rows-rows.new.seat took.0 c.len.result took.3 took.2.0 took.2.2)
 
 pub returns-clause-sound : goal.returns-clause-sound
 returns-clause-sound g c = (invariant_of-pass g c).sound

@@ -10,5 +10,6 @@ invariant-loop-i l = record {
   lines : l.lines ≡ length (lines_after_refresh (lines_after l.self.base l.self.log) (take l.i l.actions));
   few : l.lines ≤ l.self.base.limits.lines;
   rest : first_refusal l.self.base 1 (lines_after l.self.base l.self.log) l.actions
-      ≡ first_refusal l.self.base (l.number + 1) (lines_after_refresh (lines_after l.self.base l.self.log) (take l.i l.actions)) (drop l.i l.actions);
+      ≡ first_refusal l.self.base (l.number + 1) (lines_after_refresh (lines_after l.self.base l.self.log)
+      (take l.i l.actions)) (drop l.i l.actions);
 }

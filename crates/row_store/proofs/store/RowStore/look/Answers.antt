@@ -6,13 +6,24 @@ use Rattle.ssb_schema.specs.Base.{Tables}
 use Rattle.row_store.specs.Lines.{lines_without, lines_after_refresh}
 use Rattle.row_store.specs.History.{lines_after}
 use Rattle.row_store.proofs.Counted.{length_kept}
-use Rattle.row_store.proofs.Causes.{Joined, cause_present, cause_added, cause_amend_absent, cause_amended, cause_absent, cause_withdrawn, joined}
+use Rattle.row_store.proofs.Causes.{
+  Joined,
+  cause_present,
+  cause_added,
+  cause_amend_absent,
+  cause_amended,
+  cause_absent,
+  cause_withdrawn,
+  joined,
+}
 use Rattle.row_store.proofs.store.RowStore.look.Goals as goal
 
 pub returns-then-count-gt0 : goal.returns-then-count-gt0
 returns-then-count-gt0 c =
-    let now : List LineFields = lines_after_refresh (lines_after c.args.self.now.base c.args.self.now.log) c.args.earlier.now in
-    rw c.in-Add.is (cause_present c.args.self.now.base now c.in-Add.order c.key-key.result c.count-count.result c.key-key.ensures c.count-count.ensures c.if-count-gt0.true)
+    let now : List LineFields = lines_after_refresh (lines_after c.args.self.now.base c.args.self.now.log)
+    c.args.earlier.now in
+    rw c.in-Add.is (cause_present c.args.self.now.base now c.in-Add.order c.key-key.result c.count-count.result
+    c.key-key.ensures c.count-count.ensures c.if-count-gt0.true)
 
 pub returns-else-count-gt0 : goal.returns-else-count-gt0
 returns-else-count-gt0 c =
@@ -21,16 +32,21 @@ returns-else-count-gt0 c =
     let order : List LineFields = c.in-Add.order in
     let held : c.deref.result.now ≡ base = search rules in
     rw c.in-Add.is (joined base c.join.result now (Add order) now order
-    (cause_added base now order c.key-key.result c.count-count.result c.key-key.ensures c.count-count.ensures c.if-count-gt0.false) refl (subst (λ b. Joined c.join.result b now order) held (c.join.ensures now (sym c.requires.live))))
+    (cause_added base now order c.key-key.result c.count-count.result c.key-key.ensures c.count-count.ensures
+    c.if-count-gt0.false) refl (subst (λ b. Joined c.join.result b now order) held
+    (c.join.ensures now (sym c.requires.live))))
 
 pub returns-then-count-eq0 : goal.returns-then-count-eq0
 returns-then-count-eq0 c =
-    let now : List LineFields = lines_after_refresh (lines_after c.args.self.now.base c.args.self.now.log) c.args.earlier.now in
-    rw c.in-Amend.is (cause_amend_absent c.args.self.now.base now c.in-Amend.order c.key-key-in-Amend.result c.count-count-in-Amend.result c.key-key-in-Amend.ensures c.count-count-in-Amend.ensures c.if-count-eq0.true)
+    let now : List LineFields = lines_after_refresh (lines_after c.args.self.now.base c.args.self.now.log)
+    c.args.earlier.now in
+    rw c.in-Amend.is (cause_amend_absent c.args.self.now.base now c.in-Amend.order c.key-key-in-Amend.result
+    c.count-count-in-Amend.result c.key-key-in-Amend.ensures c.count-count-in-Amend.ensures c.if-count-eq0.true)
 
 pub overflow_sub-live : goal.overflow_sub-live
 overflow_sub-live c =
-    let now : List LineFields = lines_after_refresh (lines_after c.args.self.now.base c.args.self.now.log) c.args.earlier.now in
+    let now : List LineFields = lines_after_refresh (lines_after c.args.self.now.base c.args.self.now.log)
+    c.args.earlier.now in
     omega (arith, length_kept c.key-key-in-Amend.result now, c.count-count-in-Amend.ensures, c.requires.live)
 
 pub returns-else-count-eq0 : goal.returns-else-count-eq0
@@ -40,26 +56,35 @@ returns-else-count-eq0 c =
     let order : List LineFields = c.in-Amend.order in
     let key : c.key-key-in-Amend.result ≡ order_key order = c.key-key-in-Amend.ensures in
     let kept : length (lines_without (order_key order) now) ≡ c.args.live - c.count-count-in-Amend.result =
-    ap (λ k. length (lines_without k now)) (sym key) ∙ omega (arith, length_kept c.key-key-in-Amend.result now, c.count-count-in-Amend.ensures, c.requires.live) in
+    ap (λ k. length (lines_without k now)) (sym key) ∙ omega
+    (arith, length_kept c.key-key-in-Amend.result now, c.count-count-in-Amend.ensures, c.requires.live) in
     let held : c.deref-in-Amend.result.now ≡ base = search rules in
     rw c.in-Amend.is (joined base c.join-in-Amend.result now (Amend order) (lines_without (order_key order) now) order
-    (cause_amended base now order c.key-key-in-Amend.result c.count-count-in-Amend.result c.key-key-in-Amend.ensures c.count-count-in-Amend.ensures c.if-count-eq0.false) refl (subst (λ b. Joined c.join-in-Amend.result b (lines_without (order_key order) now) order) held (c.join-in-Amend.ensures (lines_without (order_key order) now) kept)))
+    (cause_amended base now order c.key-key-in-Amend.result c.count-count-in-Amend.result c.key-key-in-Amend.ensures
+    c.count-count-in-Amend.ensures c.if-count-eq0.false) refl
+    (subst (λ b. Joined c.join-in-Amend.result b (lines_without (order_key order) now) order) held
+    (c.join-in-Amend.ensures (lines_without (order_key order) now) kept)))
 
 pub returns-then-count-eq0-2 : goal.returns-then-count-eq0-2
 returns-then-count-eq0-2 c =
-    let now : List LineFields = lines_after_refresh (lines_after c.args.self.now.base c.args.self.now.log) c.args.earlier.now in
-    rw c.in-Withdraw.is (cause_absent c.args.self.now.base now c.in-Withdraw.key c.count-count-in-Withdraw.result c.count-count-in-Withdraw.ensures c.if-count-eq0-2.true)
+    let now : List LineFields = lines_after_refresh (lines_after c.args.self.now.base c.args.self.now.log)
+    c.args.earlier.now in
+    rw c.in-Withdraw.is (cause_absent c.args.self.now.base now c.in-Withdraw.key c.count-count-in-Withdraw.result
+    c.count-count-in-Withdraw.ensures c.if-count-eq0-2.true)
 
 pub overflow_sub-result : goal.overflow_sub-result
 overflow_sub-result c =
-    let now : List LineFields = lines_after_refresh (lines_after c.args.self.now.base c.args.self.now.log) c.args.earlier.now in
+    let now : List LineFields = lines_after_refresh (lines_after c.args.self.now.base c.args.self.now.log)
+    c.args.earlier.now in
     omega (arith, length_kept c.in-Withdraw.key now, c.count-count-in-Withdraw.ensures, c.requires.live)
 
 pub returns-else-count-eq0-2 : goal.returns-else-count-eq0-2
 returns-else-count-eq0-2 c =
-    let now : List LineFields = lines_after_refresh (lines_after c.args.self.now.base c.args.self.now.log) c.args.earlier.now in
+    let now : List LineFields = lines_after_refresh (lines_after c.args.self.now.base c.args.self.now.log)
+    c.args.earlier.now in
     rw c.in-Withdraw.is (
-      cause_withdrawn c.args.self.now.base now c.in-Withdraw.key c.count-count-in-Withdraw.result c.count-count-in-Withdraw.ensures c.if-count-eq0-2.false,
+      cause_withdrawn c.args.self.now.base now c.in-Withdraw.key c.count-count-in-Withdraw.result
+          c.count-count-in-Withdraw.ensures c.if-count-eq0-2.false,
       omega (arith, length_kept c.in-Withdraw.key now, c.count-count-in-Withdraw.ensures, c.requires.live),
       omega (arith, c.requires.limit),
     )

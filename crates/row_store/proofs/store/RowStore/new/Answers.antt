@@ -8,12 +8,15 @@ use Rattle.row_store.proofs.Sevens.{at_most_seven}
 use Rattle.row_store.proofs.store.RowStore.new.Goals as goal
 
 pub place_runs-requires-clause-sorted : goal.place_runs-requires-clause-sorted
-place_runs-requires-clause-sorted c = subst (IsNonDecreasingBy (key_at c.lines-lines.result.now)) (sym c.deref-2.ensures.value) c.in_ok-index.ensures.sorted
+place_runs-requires-clause-sorted c = subst (IsNonDecreasingBy (key_at c.lines-lines.result.now))
+    (sym c.deref-2.ensures.value) c.in_ok-index.ensures.sorted
 
 pub place_runs-requires-clause-orders : goal.place_runs-requires-clause-orders
 place_runs-requires-clause-orders c key =
     let lines = c.lines-lines.result.now in
-    let same : lines_of key (lines_at lines c.deref-2.result.now) ≡ lines_of key lines = ap (λ index. lines_of key (lines_at lines index)) c.deref-2.ensures.value ∙ c.in_ok-index.ensures.same key in
-    let apart : AreDistinct is_same_line lines = subst (AreDistinct is_same_line) (sym c.lines-lines.ensures.lines) c.lines-lines.ensures.sound.numbered in
+    let same : lines_of key (lines_at lines c.deref-2.result.now) ≡ lines_of key lines =
+    ap (λ index. lines_of key (lines_at lines index)) c.deref-2.ensures.value ∙ c.in_ok-index.ensures.same key in
+    let apart : AreDistinct is_same_line lines = subst (AreDistinct is_same_line) (sym c.lines-lines.ensures.lines)
+    c.lines-lines.ensures.sound.numbered in
     let few = at_most_seven lines apart c.look_through.ensures key in
     omega (arith, few, ap length same)

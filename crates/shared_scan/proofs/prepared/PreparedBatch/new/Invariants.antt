@@ -1,5 +1,6 @@
 use Rattle.std.proofs.Common.{◌≡◌, ℕ, ◌<◌, List, length, get_or, Some}
 use Rattle.std.specs.Prelude.{slice_get}
+use Rattle.dim_index.specs.Classes.{reduced}
 use Rattle.ssb_plans.specs.declared.query.Query.{Query}
 use Rattle.ssb_plans.specs.declared.value.Value.{Value}
 use Rattle.shared_scan.specs.Batch.{IsReady}
@@ -9,5 +10,6 @@ use Rattle.shared_scan.proofs.prepared.PreparedBatch.new.Given as goal
 abbrev pub invariant-loop-number : goal.invariant-loop-number
 invariant-loop-number l = record {
   len : length l.all.items ≡ l.number;
-  ready : (k : ℕ) (question : Query × List Value) (r : Ready) → k < l.number → slice_get l.questions k ≡ Some question → IsReady l.index.value l.masks k question (get_or l.all.items k r);
+  ready : (k : ℕ) (question : Query × List Value) (r : Ready) → k < l.number → slice_get l.questions k ≡ Some question
+      → IsReady (reduced l.fn.index.value) l.masks k question (get_or l.all.items k r);
 }

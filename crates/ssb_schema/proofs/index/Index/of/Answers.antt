@@ -37,7 +37,8 @@ loop-i-preserved g c =
     let at : slice_get rows c.loop-i.i ≡ Some row
     = slice_get_read rows (length rows) c.loop-i.i row refl c.loop-i-test.true c.index-rows-i.is in
     let fresh = rw c.row_key.ensures at c.in-Ok-true.ensures.fresh in
-    let none : is_some (place_in c.loop-i.places (key row)) ≡ false = not_is _ _ (sym c.in-Ok-true.field-0-test ∙ fresh) in
+    let none : is_some (place_in c.loop-i.places (key row)) ≡ false =
+    not_is _ _ (sym c.in-Ok-true.field-0-test ∙ fresh) in
     let absent : has_key key (take c.loop-i.i rows) (key row) ≡ false
     = sym (c.loop-i.invariant.index.contains (key row)) ∙ none in
     record {
@@ -57,4 +58,5 @@ returns-clause-fault g c =
 pub returns-clause-index : goal.returns-clause-index
 returns-clause-index g c =
     let rows = c.args.rows.now in
-    subst (λ first. IsIndexOf g.T.Keyed.key_of first rows (place_in c.loop-i.places)) (take_all c.loop-i.i rows c.loop-i-test.false) c.loop-i.invariant.index
+    subst (λ first. IsIndexOf g.T.Keyed.key_of first rows (place_in c.loop-i.places))
+    (take_all c.loop-i.i rows c.loop-i-test.false) c.loop-i.invariant.index

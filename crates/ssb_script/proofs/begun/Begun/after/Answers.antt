@@ -11,26 +11,33 @@ pub returns-then-is_line-clause-step : goal.returns-then-is_line-clause-step
 returns-then-is_line-clause-step c =
     let fields = fields_of c.args.fields.now in
     let is_one = sym c.is_line.ensures ∙ c.if-is_line.true in
-    let spelled : line_of fields ≡ line_of_row c.in_ok-of.field-0 = line_of-row fields c.word_of-word.result c.in_ok-of.field-0 c.word_of-word.ensures is_one c.in_ok-of.ensures in
+    let spelled : line_of fields ≡ line_of_row c.in_ok-of.field-0 =
+    line_of-row fields c.word_of-word.result c.in_ok-of.field-0 c.word_of-word.ensures is_one c.in_ok-of.ensures in
     rw spelled c.with_row.ensures.step
 
 pub returns-then-is_line-clause-fault : goal.returns-then-is_line-clause-fault
 returns-then-is_line-clause-fault c =
     let fields = fields_of c.args.fields.now in
     let is_one = sym c.is_line.ensures ∙ c.if-is_line.true in
-    let spelled : line_of fields ≡ line_of_row c.in_ok-of.field-0 = line_of-row fields c.word_of-word.result c.in_ok-of.field-0 c.word_of-word.ensures is_one c.in_ok-of.ensures in
+    let spelled : line_of fields ≡ line_of_row c.in_ok-of.field-0 =
+    line_of-row fields c.word_of-word.result c.in_ok-of.field-0 c.word_of-word.ensures is_one c.in_ok-of.ensures in
     let is_one_here : is_line (word_of fields) ≡ true = rw (← c.word_of-word.ensures) is_one in
-    rw spelled (refused_later c.with_row.result (begun_in c.args.self) (word_of fields) (checks_in (c.args.before + 1) (begun_in c.args.self) (line_of_row c.in_ok-of.field-0)) (line_not_refused (begun_in c.args.self) (word_of fields) is_one_here) c.with_row.ensures.fault)
+    rw spelled (refused_later c.with_row.result (begun_in c.args.self) (word_of fields)
+    (checks_in (c.args.before + 1) (begun_in c.args.self) (line_of_row c.in_ok-of.field-0))
+    (line_not_refused (begun_in c.args.self) (word_of fields) is_one_here) c.with_row.ensures.fault)
 
 pub returns-clause-step : goal.returns-clause-step
 returns-clause-step c =
     let fields = fields_of c.args.fields.now in
-    let spelled = line_of-control fields c.word_of-word.result c.in_ok-control.control c.word_of-word.ensures c.in_ok-control.ensures in
+    let spelled = line_of-control fields c.word_of-word.result c.in_ok-control.control c.word_of-word.ensures
+    c.in_ok-control.ensures in
     rw spelled c.with_control.ensures.step
 
 pub returns-clause-fault : goal.returns-clause-fault
 returns-clause-fault c =
     let fields = fields_of c.args.fields.now in
-    let spelled = line_of-control fields c.word_of-word.result c.in_ok-control.control c.word_of-word.ensures c.in_ok-control.ensures in
-    let is_other : is_line (word_of fields) ≡ false = rw (← c.word_of-word.ensures) (sym c.is_line.ensures ∙ c.if-is_line.false) in
+    let spelled = line_of-control fields c.word_of-word.result c.in_ok-control.control c.word_of-word.ensures
+    c.in_ok-control.ensures in
+    let is_other : is_line (word_of fields) ≡ false = rw (← c.word_of-word.ensures)
+    (sym c.is_line.ensures ∙ c.if-is_line.false) in
     rw (spelled, is_other) c.with_control.ensures.fault

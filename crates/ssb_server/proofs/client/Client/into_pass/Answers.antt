@@ -3,4 +3,10 @@ use Rattle.ssb_server.specs.Tickets.{IsResting}
 use Rattle.ssb_server.proofs.client.Client.into_pass.Goals as goal
 
 pub returns-clause-rest : goal.returns-clause-rest
-returns-clause-rest g c = subst IsResting c.self.view_is record { number = c.self.inside.number; who_is = c.self.invariant.who_is; rows = c.self.invariant.rows; sound = c.self.invariant.sound }
+returns-clause-rest g c = subst IsResting c.self.view_is
+    record {
+      number = c.self.inside.number;
+      who_is = c.self.invariant.who_is;
+      rows = c.self.invariant.rows;
+      sound = c.self.invariant.sound;
+    }

@@ -8,6 +8,9 @@ invariant_of-result g c = record {
   sound = c.requires.pass.sound;
   known = c.args.reader;
   reader_is = refl;
-  knows = record { base_is = sym c.requires.pass.base_is; told = record { rest = c.args.pass.seen; whole = ap (λ told. told ++ c.args.pass.seen) (sym c.requires.reader) } };
+  knows = record {
+    base_is = sym c.requires.pass.base_is;
+    told = record { rest = c.args.pass.seen; whole = ap (λ told. told ++ c.args.pass.seen) (sym c.requires.reader) };
+  };
   hand_is = c.requires.batch;
 }

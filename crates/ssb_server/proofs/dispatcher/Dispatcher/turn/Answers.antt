@@ -4,8 +4,10 @@ use Rattle.ssb_server.proofs.dispatcher.Dispatcher.turn.Goals as goal
 
 pub invariant_of-self : goal.invariant_of-self
 invariant_of-self g c = record {
-  who_is = turned_who c.self.inside.pass c.take_turn-reader.new.pass c.take_turn-reader.result.1 c.take_turn-reader.ensures.turned ∙ c.self.invariant.who_is;
-  free = turned_free c.self.inside.pass c.take_turn-reader.new.pass c.take_turn-reader.result.1 c.take_turn-reader.ensures.turned c.self.invariant.free;
+  who_is = turned_who c.self.inside.pass c.take_turn-reader.new.pass c.take_turn-reader.result.1
+      c.take_turn-reader.ensures.turned ∙ c.self.invariant.who_is;
+  free = turned_free c.self.inside.pass c.take_turn-reader.new.pass c.take_turn-reader.result.1
+      c.take_turn-reader.ensures.turned c.self.invariant.free;
   sound = c.take_turn-reader.ensures.sound;
   known = c.take_turn-reader.result.0;
   reader_is = refl;

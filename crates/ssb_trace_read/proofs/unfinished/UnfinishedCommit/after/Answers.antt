@@ -14,6 +14,7 @@ returns-clause-step c =
     let stands = stands_inside c.args.word (fields_of c.args.fields.now) step.0 step.1 in (
       Inside step.0,
       step.1,
-      subst (λ lines. Takes (c.args.before + 1) lines c.step_of_commit.result) (lines-inside c.args.self.client (lines_of_begun begun) step.0 stands)
+      subst (λ lines. Takes (c.args.before + 1) lines c.step_of_commit.result)
+          (lines-inside c.args.self.client (lines_of_begun begun) step.0 stands)
           (c.step_of_commit.ensures (c.args.before + 1) begun step.0 c.requires.inside stands step.2),
     )

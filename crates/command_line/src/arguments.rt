@@ -1,0 +1,216 @@
+//! The words of the command line.
+
+use clap::error::ErrorKind;
+use clap::{Arg, ArgAction, ArgMatches, Command, Error, value_parser};
+use ssb_faults::Fault;
+use std::alloc::{AllocError, Global};
+use std::env::Env;
+use std::io;
+use std::io::Write;
+
+const VERSION: &str = "0.1.0";
+
+const QUERY_HELP: &str = "\
+Loads the five table files of a folder and prints the report of one question: a line with the query's name, the number
+of commits (0) and the number of rows, and then the rows. With --all it prints those of the thirteen queries with the
+benchmark's constants, in order, answered in one pass over the lines.
+
+The queries are Q1.1, Q1.2, Q1.3, Q2.1, Q2.2, Q2.3, Q3.1, Q3.2, Q3.3, Q3.4, Q4.1, Q4.2 and Q4.3. Without constants a
+query has those of the benchmark; else all of its constants are given, in this order:
+
+  Q1.1        year; discount from, to; quantity from, to
+  Q1.2        year and month, as 199401; discount from, to; quantity from, to
+  Q1.3        week; year; discount from, to; quantity from, to
+  Q2.1        category; supplier region
+  Q2.2        brand from, to; supplier region
+  Q2.3        brand; supplier region
+  Q3.1        customer region; supplier region; year from, to
+  Q3.2        customer nation; supplier nation; year from, to
+  Q3.3        two customer cities; two supplier cities; year from, to
+  Q3.4        two customer cities; two supplier cities; year and month, as Dec1997
+  Q4.1        customer region; supplier region; two manufacturers
+  Q4.2        as Q4.1; two years
+  Q4.3        customer region; supplier nation; two years; category
+
+Examples:
+  ssb_live query --data tables Q4.1
+  ssb_live query --data tables Q2.1 'MFGR#12' EUROPE
+  ssb_live query --data tables --all --times";
+
+const RUN_HELP: &str = "\
+Serves 1 to 16 scripts at once over the five table files of a folder: each script is a client of the live server in a
+thread of its own, and the dispatchers answer the clients' questions in batches. When all have ended it prints for each
+script, in the order given, the line 'client K' and the report of its records, and at the end the line 'commits C'. With
+--trace it then writes the commits and the answers into FILE, which 'ssb_live audit' checks.
+
+A script has one record a line: 'query|NAME' or 'query|NAME|CONSTANT..' asks; 'begin', then 'add' or 'amend' with
+'line|..' records and 'withdraw|KEY', then 'commit' is one refresh, which is taken whole or refused whole.
+
+Examples:
+  ssb_live run --data tables morning.txt
+  ssb_live run --data tables --dispatchers 2 --trace run.trace orders.txt questions.txt";
+
+const AUDIT_HELP: &str = "\
+Reads a trace that 'ssb_live run --trace' wrote, and checks it over the five table files of a folder: each commit is
+accepted after those before it, each answer has the rows of its question after its number of commits, and no client is
+taken back. It prints 'ok C A', the numbers of commits and of answers, or tells what speaks against the trace (status
+3).
+
+Example:
+  ssb_live audit --data tables run.trace";
+
+// The folder of the five table files.
+fn data_argument<'a>(alloc: Global) -> Arg<'a> {
+    Arg::new(alloc, "data")
+        .long("data")
+        .value_name("DIR")
+        .help("The folder of customer.tbl, supplier.tbl, part.tbl, date.tbl and lineorder.tbl")
+        .required(true)
+        .action(ArgAction::Set)
+}
+
+// Whether times are told.
+fn times_argument<'a>(alloc: Global, help: &'a str) -> Arg<'a> {
+    Arg::new(alloc, "times")
+        .long("times")
+        .help(help)
+        .action(ArgAction::SetTrue)
+}
+
+// Whether nothing is shown while the data is read.
+fn quiet_argument<'a>(alloc: Global) -> Arg<'a> {
+    Arg::new(alloc, "quiet")
+        .long("quiet")
+        .help(
+            "Shows no progress of a long load; without it a terminal shows it, and a pipe never gets it",
+        )
+        .action(ArgAction::SetTrue)
+}
+
+// The words of `query`.
+fn query_command<'a>(alloc: Global) -> Result<Command<'a>, AllocError> {
+    let all = Arg::new(alloc, "all")
+        .long("all")
+        .help("All thirteen queries with the benchmark's constants, in place of one")
+        .action(ArgAction::SetTrue);
+    let times = times_argument(
+        alloc,
+        "Tells on standard error how many seconds each step took",
+    );
+    let name = Arg::new(alloc, "name")
+        .value_name("NAME")
+        .help("The query, as Q4.1")
+        .required_unless_present("all")?
+        .conflicts_with("all")?
+        .action(ArgAction::Set);
+    let constants = Arg::new(alloc, "constants")
+        .value_name("CONSTANT")
+        .help("All constants of the query; without them it has the benchmark's")
+        .num_args(0..)
+        .action(ArgAction::Append);
+    Command::new(alloc, "query")
+        .about("Prints the report of one question, or of all, over table files")
+        .long_about(QUERY_HELP)
+        .arg(data_argument(alloc))?
+        .arg(all)?
+        .arg(times)?
+        .arg(quiet_argument(alloc))?
+        .arg(name)?
+        .arg(constants)
+}
+
+// The words of `run`.
+fn run_command<'a>(alloc: Global) -> Result<Command<'a>, AllocError> {
+    let dispatchers = Arg::new(alloc, "dispatchers")
+        .long("dispatchers")
+        .value_name("N")
+        .help("How many dispatchers answer the questions, each in a thread of its own: 1 to 4")
+        .value_parser(value_parser!(u32).range(1..5))
+        .default_value("1")
+        .action(ArgAction::Set);
+    let trace = Arg::new(alloc, "trace")
+        .long("trace")
+        .value_name("FILE")
+        .help("Where the commits and the answers are written; the file is made anew")
+        .action(ArgAction::Set);
+    let times = times_argument(
+        alloc,
+        "Tells on standard error how many seconds loading and serving took, how much was served a second, \
+         and how long a refresh and an answer took",
+    );
+    let scripts = Arg::new(alloc, "scripts")
+        .value_name("SCRIPT")
+        .help("The scripts, 1 to 16: client K serves the Kth")
+        .num_args(1..)
+        .required(true)
+        .action(ArgAction::Append);
+    Command::new(alloc, "run")
+        .about("Serves scripts at once, a client each, and prints their reports")
+        .long_about(RUN_HELP)
+        .arg(data_argument(alloc))?
+        .arg(dispatchers)?
+        .arg(trace)?
+        .arg(times)?
+        .arg(quiet_argument(alloc))?
+        .arg(scripts)
+}
+
+// The words of `audit`.
+fn audit_command<'a>(alloc: Global) -> Result<Command<'a>, AllocError> {
+    let trace = Arg::new(alloc, "trace")
+        .value_name("TRACE")
+        .help("The trace of a run over these tables")
+        .required(true)
+        .action(ArgAction::Set);
+    Command::new(alloc, "audit")
+        .about("Checks the trace of a run: its commits, and the rows of its answers")
+        .long_about(AUDIT_HELP)
+        .arg(data_argument(alloc))?
+        .arg(quiet_argument(alloc))?
+        .arg(trace)
+}
+
+// All words of the program.
+fn command<'a>(alloc: Global) -> Result<Command<'a>, AllocError> {
+    Command::new(alloc, "ssb_live")
+        .version(VERSION)
+        .about(
+            "A warehouse of the Star Schema Benchmark. Without words: serves the script on standard input \
+             over a small built-in data set, and prints the report",
+        )
+        .subcommand(query_command(alloc)?)?
+        .subcommand(run_command(alloc)?)?
+        .subcommand(audit_command(alloc)?)
+}
+
+/// The words of the command line, the program's name first.
+pub fn words<R: Env + AllocGlobal>(rt: &R) -> Result<Vec<String>, Fault> {
+    match std::env::args(rt) {
+        Ok(words) => Ok(words.collect(rt.alloc())?),
+        Err(error) => Err(match error.kind() {
+            io::ErrorKind::OutOfMemory => Fault::OutOfMemory,
+            _ => Fault::BadWord,
+        }),
+    }
+}
+
+/// What the words ask for, or clap's own fault or help.
+pub fn matches<'a>(alloc: Global, words: &'a [String]) -> Result<ArgMatches<'a>, Error> {
+    command(alloc)?.try_get_matches_from(words)
+}
+
+/// Writes what clap answers in place of matches, and gives the exit status. A fault of the words goes to `err`, with
+/// status 2 whether or not `err` takes it; help and the version go to `out`, which has to take them.
+pub fn tell<W: Write, E: Write>(answer: &Error, out: &mut W, err: &mut E) -> u8 {
+    if answer.kind() == ErrorKind::OutOfMemory {
+        return Fault::OutOfMemory.tell(err);
+    }
+    if answer.use_stderr() {
+        let _ = write!(err, "{answer}");
+        return 2;
+    }
+    if write!(out, "{answer}").is_err() || out.flush().is_err() {
+        return Fault::WriteFailed.tell(err);
+    }
+    0
+}

@@ -1,0 +1,151 @@
+//! Servers that are opened, with their clients and dispatchers.
+ghost use Rattle.std.specs.Prelude.{◌≡◌, All, IfOk, IfSome};
+ghost use Rattle.ssb_server.specs.Tickets.{IsOf, IsQuiet};
+
+use crate::data::base;
+use ssb_schema::Base;
+use ssb_server::{Client, Dispatcher, OpenError, Opened, Server, open};
+use std::alloc::Global;
+use std::hash::RandomState;
+use std::sync::{Arc, Wait};
+use std::test::Fail;
+
+/// A server over this base.
+#[tactic(auto, using(ssb_server::proofs::Staying::new_clients_are_quiet, ssb_server::proofs::Staying::new_dispatchers_are_of_it))]
+pub fn opened_over<W: Wait + Drop>(
+    alloc: Global,
+    rt: W,
+    hashing: RandomState,
+    base: Arc<Base>,
+    counts: (u32, u32),
+) -> Result<Opened<W>, OpenError>
+    ensures clients { IfOk result (λ made. All (IsQuiet made.server) made.clients.items) }
+    ensures dispatchers { IfOk result (λ made. All (IsOf made.server) made.dispatchers.items) }
+{
+    let (clients, dispatchers) = counts;
+    open(alloc, rt, hashing, base, clients, dispatchers)
+}
+
+/// A server over the small data set, for so many clients and dispatchers.
+pub fn opened<W: Wait + Drop>(
+    alloc: Global,
+    rt: W,
+    hashing: RandomState,
+    clients: u32,
+    dispatchers: u32,
+) -> Result<Opened<W>, Fail>
+    ensures clients { IfOk result (λ made. All (IsQuiet made.server) made.clients.items) }
+    ensures dispatchers { IfOk result (λ made. All (IsOf made.server) made.dispatchers.items) }
+{
+    match opened_over(alloc, rt, hashing, base(alloc)?, (clients, dispatchers)) {
+        Ok(made) => Ok(made),
+        Err(error) => Err(error.fault)?,
+    }
+}
+
+/// A server that was opened for one client and one dispatcher, and these two.
+pub fn only_two<W: Wait + Drop>(
+    mut made: Opened<W>,
+) -> Result<(Server<W>, Client<W>, Dispatcher<W>), Fail>
+    requires clients { All (IsQuiet made.server) made.clients.items }
+    requires dispatchers { All (IsOf made.server) made.dispatchers.items }
+    ensures client { IfOk result (λ two. IsQuiet two.0 two.1) }
+    ensures dispatcher { IfOk result (λ two. IsOf two.0 two.2) }
+{
+    let server = made.server;
+    let client = next_client(&server, &mut made.clients).ok_or("no client")?;
+    let dispatcher = next_dispatcher(&server, &mut made.dispatchers).ok_or("no dispatcher")?;
+    Ok((server, client, dispatcher))
+}
+
+/// The last client, which leaves.
+pub fn next_client<W: Wait + Drop>(
+    server: &Server<W>,
+    clients: &mut Vec<Client<W>>,
+) -> Option<Client<W>>
+    requires { All (IsQuiet server.now) clients.old.items }
+    ensures left { All (IsQuiet server.now) clients.new.items }
+    ensures next { IfSome result (IsQuiet server.now) }
+{
+    let _ = server;
+    clients.pop()
+}
+
+/// The last dispatcher, which leaves.
+pub fn next_dispatcher<W: Wait + Drop>(
+    server: &Server<W>,
+    dispatchers: &mut Vec<Dispatcher<W>>,
+) -> Option<Dispatcher<W>>
+    requires { All (IsOf server.now) dispatchers.old.items }
+    ensures left { All (IsOf server.now) dispatchers.new.items }
+    ensures next { IfSome result (IsOf server.now) }
+{
+    let _ = server;
+    dispatchers.pop()
+}
+
+/// A server with one client and one dispatcher.
+pub fn for_one_client<W: Wait + Drop>(
+    alloc: Global,
+    rt: W,
+    hashing: RandomState,
+) -> Result<(Server<W>, Client<W>, Dispatcher<W>), Fail>
+    ensures client { IfOk result (λ made. IsQuiet made.0 made.1) }
+    ensures dispatcher { IfOk result (λ made. IsOf made.0 made.2) }
+{
+    only_two(opened(alloc, rt, hashing, 1, 1)?)
+}
+
+/// The last two clients, which leave: the last but one, and the last.
+pub fn next_two_clients<W: Wait + Drop>(
+    server: &Server<W>,
+    clients: &mut Vec<Client<W>>,
+) -> Result<(Client<W>, Client<W>), Fail>
+    requires { All (IsQuiet server.now) clients.old.items }
+    ensures left { All (IsQuiet server.now) clients.new.items }
+    ensures first { IfOk result (λ two. IsQuiet server.now two.0) }
+    ensures second { IfOk result (λ two. IsQuiet server.now two.1) }
+{
+    let second = next_client(server, clients).ok_or("no second client")?;
+    let first = next_client(server, clients).ok_or("no client")?;
+    Ok((first, second))
+}
+
+/// A server with two clients and one dispatcher.
+pub fn for_two_clients<W: Wait + Drop>(
+    alloc: Global,
+    rt: W,
+    hashing: RandomState,
+) -> Result<(Server<W>, (Client<W>, Client<W>), Dispatcher<W>), Fail>
+    ensures first { IfOk result (λ made. IsQuiet made.0 made.1.0) }
+    ensures second { IfOk result (λ made. IsQuiet made.0 made.1.1) }
+    ensures dispatcher { IfOk result (λ made. IsOf made.0 made.2) }
+{
+    let mut made = opened(alloc, rt, hashing, 2, 1)?;
+    let server = made.server;
+    let clients = next_two_clients(&server, &mut made.clients)?;
+    let dispatcher = next_dispatcher(&server, &mut made.dispatchers).ok_or("no dispatcher")?;
+    Ok((server, clients, dispatcher))
+}
+
+/// Three clients, the first and the two others.
+pub type ThreeClients<W> = (Client<W>, (Client<W>, Client<W>));
+
+/// A server with three clients and so many dispatchers.
+pub fn for_three_clients<W: Wait + Drop>(
+    alloc: Global,
+    rt: W,
+    hashing: RandomState,
+    dispatchers: u32,
+) -> Result<(Server<W>, ThreeClients<W>, Vec<Dispatcher<W>>), Fail>
+    ensures first { IfOk result (λ made. IsQuiet made.0 made.1.0) }
+    ensures second { IfOk result (λ made. IsQuiet made.0 made.1.1.0) }
+    ensures third { IfOk result (λ made. IsQuiet made.0 made.1.1.1) }
+    ensures dispatchers { IfOk result (λ made. All (IsOf made.0) made.2.items) }
+{
+    let mut made = opened(alloc, rt, hashing, 3, dispatchers)?;
+    let server = made.server;
+    let others = next_two_clients(&server, &mut made.clients)?;
+    let first = next_client(&server, &mut made.clients).ok_or("no client")?;
+    Ok((server, (first, others), made.dispatchers))
+}

@@ -1,0 +1,175 @@
+//! What trials do with a server's clients and dispatchers, and what stays then: whose they are.
+ghost use Rattle.std.specs.Prelude.{◌≡◌, OnOk, true};
+ghost use Rattle.std.specs.Option.{is_some};
+ghost use Rattle.ssb_server.specs.Tickets.{IsOf, IsQuiet};
+
+use crate::data::{adding, question, told};
+use row_store::{Receipt, RefreshError};
+use ssb_plans::{Query, Question};
+use ssb_queries::Answer;
+use ssb_schema::Refresh;
+use ssb_server::{Client, Dispatcher, OpenGate, ScanGate, Server, Turn};
+use std::alloc::Global;
+use std::sync::{Arc, Wait};
+use std::test::Fail;
+use std::thread::Threads;
+
+/// A client's refresh.
+pub fn refreshes<W: Wait + Drop, R: Wait>(
+    rt: &R,
+    server: &Server<W>,
+    client: &mut Client<W>,
+    refresh: Arc<Refresh>,
+) -> Result<Receipt, RefreshError>
+    requires { IsQuiet server.now client.old }
+    ensures { IsQuiet server.now client.new }
+{
+    let _ = client.number();
+    client.refresh(rt, server, refresh)
+}
+
+/// A client adds an order, and is told the number of its commit.
+pub fn adds<W: Wait + Drop, R: Wait>(
+    rt: &R,
+    alloc: Global,
+    server: &Server<W>,
+    client: &mut Client<W>,
+    order: u64,
+) -> Result<u64, Fail>
+    requires { IsQuiet server.now client.old }
+    ensures { IsQuiet server.now client.new }
+{
+    match refreshes(rt, server, client, adding(alloc, order)?) {
+        Ok(receipt) => Ok(receipt.number),
+        Err(error) => Err(error)?,
+    }
+}
+
+/// A turn of a dispatcher.
+#[tactic(auto, using(ssb_server::proofs::Staying::turned_stays))]
+pub fn turns<W: Wait + Drop, R: Wait + Threads + Sync, G: ScanGate>(
+    rt: &R,
+    server: &Server<W>,
+    dispatcher: &mut Dispatcher<W>,
+    gate: &G,
+) -> Turn
+    requires { IsOf server.now dispatcher.old }
+    ensures { IsOf server.now dispatcher.new }
+{
+    dispatcher.turn(rt, server, gate)
+}
+
+/// A client asks a query with the benchmark's constants.
+#[tactic(auto, using(ssb_server::proofs::Staying::asks_stays))]
+pub fn asks<W: Wait + Drop>(
+    alloc: Global,
+    server: &Server<W>,
+    client: &mut Client<W>,
+    query: Query,
+) -> Result<(), Fail>
+    requires { IsQuiet server.now client.old }
+    ensures hall { client.new.hall ≡ server.now }
+    ensures asking { OnOk result (is_some client.new.asked ≡ true) }
+{
+    client.ask(server, question(alloc, query)?);
+    Ok(())
+}
+
+/// A client polls the answer, which is there.
+#[tactic(auto, using(ssb_server::proofs::Staying::polls_stays))]
+pub fn polls<W: Wait + Drop>(server: &Server<W>, client: &mut Client<W>) -> Result<Answer, Fail>
+    requires { client.old.hall ≡ server.now }
+    ensures { OnOk result (IsQuiet server.now client.new) }
+{
+    match client.poll(server) {
+        Some(answer) => Ok(answer),
+        None => Err("no answer")?,
+    }
+}
+
+/// A client asks, a dispatcher takes a turn that answers it alone, and the client polls.
+pub fn asks_and_is_answered<W: Wait + Drop, R: Wait + Threads + Sync>(
+    rt: &R,
+    alloc: Global,
+    server: &Server<W>,
+    client: &mut Client<W>,
+    dispatcher: &mut Dispatcher<W>,
+    query: Query,
+) -> Result<Answer, Fail>
+    requires client { IsQuiet server.now client.old }
+    requires dispatcher { IsOf server.now dispatcher.old }
+    ensures client { OnOk result (IsQuiet server.now client.new) }
+    ensures dispatcher { IsOf server.now dispatcher.new }
+{
+    asks(alloc, server, client, query)?;
+    match turns(rt, server, dispatcher, &OpenGate) {
+        Turn::Answered { count: 1, .. } => polls(server, client),
+        other => Err(other)?,
+    }
+}
+
+/// A client asks, a dispatcher takes a turn that answers it alone, and the client polls: its answer as text.
+pub fn asks_and_is_told<W: Wait + Drop, R: Wait + Threads + Sync>(
+    rt: &R,
+    alloc: Global,
+    server: &Server<W>,
+    client: &mut Client<W>,
+    dispatcher: &mut Dispatcher<W>,
+    query: Query,
+) -> Result<String, Fail>
+    requires client { IsQuiet server.now client.old }
+    requires dispatcher { IsOf server.now dispatcher.old }
+    ensures client { OnOk result (IsQuiet server.now client.new) }
+    ensures dispatcher { IsOf server.now dispatcher.new }
+{
+    let answer = asks_and_is_answered(rt, alloc, server, client, dispatcher, query)?;
+    told(alloc, &answer)
+}
+
+/// A client meets another one, and is told how many commits it then sees.
+#[tactic(auto, using(ssb_server::proofs::Staying::looks_stays))]
+pub fn meets<W: Wait + Drop>(
+    server: &Server<W>,
+    client: &mut Client<W>,
+    other: &mut Client<W>,
+) -> u64
+    requires client { IsQuiet server.now client.old }
+    requires other { IsQuiet server.now other.old }
+    ensures client { IsQuiet server.now client.new }
+    ensures other { IsQuiet server.now other.new }
+{
+    client.meet(server, other)
+}
+
+/// A client asks this question.
+#[tactic(auto, using(ssb_server::proofs::Staying::asks_stays))]
+pub fn asks_this<W: Wait + Drop>(server: &Server<W>, client: &mut Client<W>, question: Question)
+    requires { IsQuiet server.now client.old }
+    ensures hall { client.new.hall ≡ server.now }
+    ensures asking { is_some client.new.asked ≡ true }
+{
+    client.ask(server, question);
+}
+
+/// A client awaits the answer.
+#[tactic(auto, using(ssb_server::proofs::Staying::polls_stays))]
+pub fn awaits<W: Wait + Drop, R: Wait>(rt: &R, server: &Server<W>, client: &mut Client<W>) -> Answer
+    requires hall { client.old.hall ≡ server.now }
+    requires asking { is_some client.old.asked ≡ true }
+    ensures { IsQuiet server.now client.new }
+{
+    client.await_answer(rt, server)
+}
+
+/// A client polls the answer, which is there, as text.
+pub fn polls_text<W: Wait + Drop>(
+    alloc: Global,
+    server: &Server<W>,
+    client: &mut Client<W>,
+) -> Result<String, Fail>
+    requires { client.old.hall ≡ server.now }
+    ensures { OnOk result (IsQuiet server.now client.new) }
+{
+    let answer = polls(server, client)?;
+    told(alloc, &answer)
+}

@@ -1,0 +1,3 @@
+//! The server's calls, run by several threads and compared.
+mod flags;
+mod waking;

@@ -1,0 +1,3 @@
+pub mod Flushed
+pub mod Results
+pub mod ScriptLaws

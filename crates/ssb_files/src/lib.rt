@@ -1,0 +1,29 @@
+//! What the program reads: files that are opened in the order in which faults are told, the base that five tables
+//! spell, the scripts that sources spell, and the line on a terminal that shows how far a long load is.
+//!
+//! ```text
+//! paths ── open_tables, open_files ─▶ readers ── watch_tables ─▶ readers that show progress
+//!     readers ── base_of ─▶ base          readers ── read_scripts ─▶ scripts
+//! ```
+//!
+//! The contracts: [`base_of`] gives the base that the texts spell, within the greatest limits, or a fault that they
+//! have (`specs/Loaded.antt`); [`read_scripts`] the scripts, or the first fault (`specs/Scripts.antt`); a reader that
+//! is watched gives the bytes of the reader in it. That a file is opened, and what a terminal shows, is only tested.
+//!
+//! ```text
+//! let tables = open_tables(rt, "tables")?;
+//! let base = base_of(alloc, watch_tables(screen.as_ref(), tables))?;
+//! ```
+#![tactic(auto)]
+
+mod loading;
+mod opening;
+mod progress;
+mod reading;
+#[cfg(test)]
+mod tests;
+
+pub use loading::base_of;
+pub use opening::{make_file, open_file, open_files, open_tables};
+pub use progress::{Screen, Source, Watched, watch, watch_scripts, watch_tables};
+pub use reading::read_scripts;

@@ -1,0 +1,28 @@
+//! The base that five tables spell.
+
+ghost use Rattle.std.specs.Prelude.{◌≡◌, ◌≢◌, ℕ, List, IfOk, IfErr};
+ghost use Rattle.ssb_files.specs.Loaded.{AreRefused, IsLoaded};
+ghost use Rattle.ssb_faults.specs.Status.{status_of};
+ghost use Rattle.ssb_load.specs.Load.{AreTexts};
+ghost use Rattle.ssb_schema.specs.declared.table.Table.{Table};
+
+use ssb_faults::Fault;
+use ssb_load::{Tables, load};
+use ssb_schema::{Base, Limits};
+use std::alloc::Global;
+use std::io::Read;
+
+/// The base that the tables spell, within the greatest limits.
+pub fn base_of<I: Read + Drop>(alloc: Global, tables: Tables<I>) -> Result<Base, Fault>
+    ensures base { IfOk result (λ base. (texts : Table → List ℕ)
+        → AreTexts I.remaining tables texts → IsLoaded texts base) }
+    ensures data { IfErr result (λ fault. status_of fault ≡ 1 → (texts : Table → List ℕ)
+        → AreTexts I.remaining tables texts → AreRefused texts) }
+    ensures later { IfErr result (λ fault. status_of fault ≢ 2) }
+    ensures earlier { IfErr result (λ fault. status_of fault ≢ 3) }
+{
+    match load(alloc, Limits::standard(), tables) {
+        Ok(base) => Ok(base),
+        Err(fault) => Err(Fault::Data(fault)),
+    }
+}

@@ -1,0 +1,52 @@
+//! The files that the words name, opened in the order in which faults are told.
+
+use ssb_faults::Fault;
+use ssb_load::Tables;
+use std::fs;
+use std::io::BufWriter;
+use std::rt::Files;
+
+// The file of a table, or the fault that names its path.
+fn open_table<R: Files + AllocGlobal>(rt: &R, folder: &str, name: &str) -> Result<R::File, Fault> {
+    let path = format!(in rt.alloc(); "{folder}/{name}.tbl")?;
+    open_file(rt, path.as_str())
+}
+
+/// The five table files of a folder, or the first that cannot be opened, in the order in which they are loaded.
+pub fn open_tables<R: Files + AllocGlobal>(rt: &R, folder: &str) -> Result<Tables<R::File>, Fault> {
+    Ok(Tables {
+        customer: open_table(rt, folder, "customer")?,
+        supplier: open_table(rt, folder, "supplier")?,
+        part: open_table(rt, folder, "part")?,
+        date: open_table(rt, folder, "date")?,
+        lineorder: open_table(rt, folder, "lineorder")?,
+    })
+}
+
+/// The file of this path, or the fault that names it.
+pub fn open_file<R: Files + AllocGlobal>(rt: &R, path: &str) -> Result<R::File, Fault> {
+    match fs::open(rt, path) {
+        Ok(file) => Ok(file),
+        Err(_) => Err(Fault::CannotRead(String::from_str(rt.alloc(), path)?)),
+    }
+}
+
+/// The files of these paths, or the first that cannot be opened.
+pub fn open_files<R: Files + AllocGlobal>(rt: &R, paths: &[&str]) -> Result<Vec<R::File>, Fault> {
+    let mut files = Vec::new(rt.alloc());
+    for path in paths {
+        files.push(open_file(rt, path)?)?;
+    }
+    Ok(files)
+}
+
+/// A new file of this path, in place of any that was there, to be written in large pieces.
+pub fn make_file<R: Files + AllocGlobal>(rt: &R, path: &str) -> Result<BufWriter<R::File>, Fault> {
+    let Ok(file) = fs::create(rt, path) else {
+        return Err(Fault::WriteFailed);
+    };
+    match BufWriter::new(rt.alloc(), file) {
+        Ok(file) => Ok(file),
+        Err(_) => Err(Fault::OutOfMemory),
+    }
+}

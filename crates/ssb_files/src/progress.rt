@@ -1,0 +1,203 @@
+//! What a long load shows on a terminal: how far it is, in one line that is rewritten, and cleared where a source ends.
+//!
+//! ```text
+//! file ── Watched ── bytes as they are ─▶ load
+//!            └─ a few times a second ─▶ terminal:  ssb_live: lineorder 1830000 rows, 2.4 s
+//! ```
+//!
+//! A reader that is watched gives the same bytes as the reader in it (the contract of `Read`, and `watch`). What a
+//! terminal shows is in no contract.
+ghost use Rattle.std.specs.Prelude.{◌≡◌};
+
+use ssb_load::Tables;
+use std::alloc::{AllocError, Global};
+use std::io::{Print, Read};
+use std::time::{Clock, Duration, Instant};
+use std::{fmt, io};
+
+// A load that ends before so many milliseconds shows nothing, and then a line stands at least so long.
+const BETWEEN: u64 = 250;
+
+// Takes the cursor to the line's beginning, and empties it to its end.
+const CLEARED: &str = "\r\x1b[K";
+
+/// What is read.
+#[derive(Clone, Copy)]
+pub enum Source {
+    Table(&'static str),
+    /// By its number from 1.
+    Script(u64),
+    Trace,
+}
+
+impl fmt::Display for Source {
+    fn fmt<W: fmt::Write>(&self, f: &mut fmt::Formatter<W>) -> fmt::Result {
+        match self {
+            Source::Table(name) => f.write_str(name),
+            Source::Script(number) => write!(f, "script {number}"),
+            Source::Trace => f.write_str("trace"),
+        }
+    }
+}
+
+// The line on the terminal.
+#[derive(Clone, Copy)]
+struct Line {
+    source: Source,
+    rows: u64,
+    since_start: Duration,
+}
+
+impl fmt::Display for Line {
+    fn fmt<W: fmt::Write>(&self, f: &mut fmt::Formatter<W>) -> fmt::Result {
+        let Line { source, rows, .. } = self;
+        let seconds = self.since_start.as_secs();
+        let tenth = self.since_start.subsec_millis() / 100;
+        write!(
+            f,
+            "{CLEARED}ssb_live: {source} {rows} rows, {seconds}.{tenth} s"
+        )
+    }
+}
+
+/// A terminal that shows progress, and when the load began.
+#[derive(Drop)]
+pub struct Screen<'a, C: Clock, P: Print> {
+    clock: &'a C,
+    terminal: &'a P,
+    start: Instant,
+}
+
+impl<'a, C: Clock, P: Print> Screen<'a, C, P> {
+    /// The terminal, where there is one and the clock goes. The load begins now.
+    pub fn start(clock: &'a C, terminal: Option<&'a P>) -> Option<Screen<'a, C, P>> {
+        let terminal = terminal?;
+        let start = Instant::now(clock).ok()?;
+        Some(Screen {
+            clock,
+            terminal,
+            start,
+        })
+    }
+
+    // How long ago the load began.
+    fn since_start(&self) -> Option<Duration> {
+        let now = Instant::now(self.clock).ok()?;
+        Some(now.duration_since(self.start))
+    }
+}
+
+// How far a source is read, and whether a line of it stands on the screen.
+struct Progress<'a, C: Clock, P: Print> {
+    screen: Option<&'a Screen<'a, C, P>>,
+    source: Source,
+    rows: u64,
+    // When the line may be written again, since the load began.
+    due: Duration,
+    shown: bool,
+}
+
+impl<'a, C: Clock, P: Print> Progress<'a, C, P> {
+    // Counts the rows that end in these bytes, and rewrites the line where it is due.
+    fn count(&mut self, bytes: &[u8]) {
+        let Some(screen) = self.screen else {
+            return;
+        };
+        let ends = bytes.iter().filter(|byte| **byte == b'\n').count();
+        self.rows = self.rows.saturating_add(ends as u64);
+        if let Some(since_start) = screen.since_start() {
+            if since_start >= self.due {
+                self.show(screen, since_start);
+            }
+        }
+    }
+
+    fn show(&mut self, screen: &Screen<'a, C, P>, since_start: Duration) {
+        let line = Line {
+            source: self.source,
+            rows: self.rows,
+            since_start,
+        };
+        self.due = since_start.saturating_add(Duration::from_millis(BETWEEN));
+        self.shown = true;
+        let _ = screen.terminal.print(line);
+    }
+}
+
+impl<'a, C: Clock, P: Print> Drop for Progress<'a, C, P> {
+    fn drop(self) {
+        if let (Some(screen), true) = (self.screen, self.shown) {
+            let _ = screen.terminal.print(CLEARED);
+        }
+        let Progress {
+            screen: _,
+            source: _,
+            rows: _,
+            due: _,
+            shown: _,
+        } = self;
+    }
+}
+
+/// A reader whose progress is shown, where there is a screen. It gives the bytes of the reader in it.
+#[derive(Drop)]
+pub struct Watched<'a, I: Drop, C: Clock, P: Print> {
+    reader: I,
+    progress: Progress<'a, C, P>,
+}
+
+/// The reader, watched.
+pub fn watch<'a, I: Read + Drop, C: Clock, P: Print>(
+    screen: Option<&'a Screen<'a, C, P>>,
+    source: Source,
+    reader: I,
+) -> Watched<'a, I, C, P>
+    ensures { result.reader ≡ reader }
+{
+    let progress = Progress {
+        screen,
+        source,
+        rows: 0,
+        due: Duration::from_millis(BETWEEN),
+        shown: false,
+    };
+    Watched { reader, progress }
+}
+
+/// The readers of the five tables, each watched.
+pub fn watch_tables<'a, I: Read + Drop, C: Clock, P: Print>(
+    screen: Option<&'a Screen<'a, C, P>>,
+    tables: Tables<I>,
+) -> Tables<Watched<'a, I, C, P>> {
+    Tables {
+        customer: watch(screen, Source::Table("customer"), tables.customer),
+        supplier: watch(screen, Source::Table("supplier"), tables.supplier),
+        part: watch(screen, Source::Table("part"), tables.part),
+        date: watch(screen, Source::Table("date"), tables.date),
+        lineorder: watch(screen, Source::Table("lineorder"), tables.lineorder),
+    }
+}
+
+/// The readers of scripts, each watched, by their numbers from 1.
+pub fn watch_scripts<'a, I: Read + Drop, C: Clock, P: Print>(
+    alloc: Global,
+    screen: Option<&'a Screen<'a, C, P>>,
+    scripts: Vec<I>,
+) -> Result<Vec<Watched<'a, I, C, P>>, AllocError> {
+    let mut readers = Vec::new(alloc);
+    for script in scripts {
+        let source = Source::Script(readers.len() as u64 + 1);
+        readers.push(watch(screen, source, script))?;
+    }
+    Ok(readers)
+}
+
+impl<'a, I: Read + Drop, C: Clock, P: Print> Read for Watched<'a, I, C, P> {
+    ghost remaining = { λ w. I.remaining w.reader };
+
+    fn read(&mut self, buf: &mut [u8]) -> io::Result<usize> {
+        let count = self.reader.read(buf)?;
+        self.progress.count(&buf[..count]);
+        Ok(count)
+    }
+}

@@ -1,5 +1,0 @@
-use Rattle.ssb_live.proofs.OpeningLaws.{small_columns}
-use Rattle.ssb_live.proofs.opening.columns_of.Goals as goal
-
-pub returns-clause-small : goal.returns-clause-small
-returns-clause-small c = small_columns c.in_ok-columns.columns c.args.index.value c.rows-lines.result c.in_ok-columns.ensures (rw (c.base.ensures, c.deref.ensures) at c.soundness.ensures) c.rows-lines.ensures.rows c.rows-lines.ensures.lines

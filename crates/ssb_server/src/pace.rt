@@ -1,0 +1,57 @@
+//! How far clients run ahead of a batch.
+
+use crate::bells::Bells;
+use std::sync::Wait;
+use std::sync::atomic::{AtomicU64, Ordering};
+use std::time::Duration;
+
+/// How many commits follow those that a batch is brought up to before clients wait for its end. A dispatcher takes that
+/// many into a copy in some 10 ms.
+const MOST_AHEAD: u64 = 8_192;
+
+/// The longest wait of a refresh for a dispatcher, in milliseconds.
+const LONGEST_WAIT: u64 = 2;
+
+/// The flow of refreshes beside a batch. A client commits faster than a dispatcher takes commits into both copies, so
+/// each batch would have more to take over than the one before it, and its answers would come later. So a refresh that is
+/// far ahead of the batch that is being served waits for its end; and since a client that commits without a pause leaves
+/// the row store home for moments only, a refresh waits while a dispatcher wants it. None waits for more than two
+/// milliseconds. No contract tells of it: it changes when a refresh returns, and never what it does.
+#[derive(Drop)]
+pub(crate) struct Pace {
+    // Refreshes up to this commit do not wait.
+    limit: AtomicU64,
+}
+
+impl Pace {
+    /// No batch is being served.
+    pub(crate) fn new() -> Pace {
+        Pace {
+            limit: AtomicU64::new(u64::MAX),
+        }
+    }
+
+    /// A dispatcher wants the row store: each client waits behind its next commit.
+    pub(crate) fn hold(&self) {
+        self.limit.store(0, Ordering::Relaxed);
+    }
+
+    /// A batch is being served that is brought up to so many commits.
+    pub(crate) fn begin(&self, commits: u64) {
+        self.limit
+            .store(commits.saturating_add(MOST_AHEAD), Ordering::Relaxed);
+    }
+
+    /// The batch has been served.
+    pub(crate) fn end(&self, bells: &Bells) {
+        self.limit.store(u64::MAX, Ordering::Relaxed);
+        bells.ring_clients();
+    }
+
+    /// Lets the client wait that has made this commit, if a dispatcher wants the row store or it is far ahead of a batch.
+    pub(crate) fn keep<R: Wait>(&self, rt: &R, bells: &Bells, number: u32, commit: u64) {
+        if commit > self.limit.load(Ordering::Relaxed) {
+            bells.await_client_for(rt, number, Duration::from_millis(LONGEST_WAIT));
+        }
+    }
+}

@@ -1,0 +1,132 @@
+//! How fast a run of scripts was. What a clock says is in no contract.
+
+use ssb_runs::{Batches, Latencies, Latency, Run};
+use std::fmt;
+use std::io::Write;
+use std::time::{Clock, Duration, Instant};
+
+/// The times of a run's two steps, where the clock told them, and what was served. A pace that is not asked for reads
+/// no clock.
+#[derive(Drop)]
+pub struct Pace {
+    // When the step began that is going on.
+    since: Option<Instant>,
+    load: Option<Duration>,
+    serving: Option<Duration>,
+    threads: Option<Duration>,
+    commits: u64,
+    answers: u64,
+    batches: Batches,
+    latencies: Latencies,
+}
+
+// How many there were a second, rounded down; none where no time passed.
+fn a_second(count: u64, time: Duration) -> Option<u128> {
+    (u128::from(count) * 1_000_000).checked_div(time.as_micros())
+}
+
+// Microseconds with one decimal, rounded down.
+#[derive(Clone, Copy)]
+struct Micros(Duration);
+
+impl fmt::Display for Micros {
+    fn fmt<W: fmt::Write>(&self, f: &mut fmt::Formatter<W>) -> fmt::Result {
+        let tenths = self.0.as_nanos() / 100;
+        write!(f, "{}.{} us", tenths / 10, tenths % 10)
+    }
+}
+
+// How long requests of one kind took, where there were any.
+fn tell_latency<E: Write>(err: &mut E, name: &str, times: Latency) {
+    if times.count == 0 {
+        return;
+    }
+    let _ = writeln!(
+        err,
+        "ssb_live: {name} {}, middle {}, 99th percentile {}, greatest {}",
+        times.count,
+        Micros(times.middle),
+        Micros(times.ninety_ninth),
+        Micros(times.greatest)
+    );
+}
+
+impl Pace {
+    /// A pace that stands still, or that begins now.
+    pub fn start<C: Clock>(clock: &C, runs: bool) -> Pace {
+        let since = if runs { Instant::now(clock).ok() } else { None };
+        Pace {
+            since,
+            load: None,
+            serving: None,
+            threads: None,
+            commits: 0,
+            answers: 0,
+            batches: Batches::default(),
+            latencies: Latencies::default(),
+        }
+    }
+
+    // The time of the step that ends now, where the next begins.
+    fn lap<C: Clock>(&mut self, clock: &C) -> Option<Duration> {
+        let since = self.since?;
+        let now = Instant::now(clock).ok();
+        self.since = now;
+        now.map(|now| now.duration_since(since))
+    }
+
+    /// All tables and scripts are read.
+    pub fn end_load<C: Clock>(&mut self, clock: &C) {
+        self.load = self.lap(clock);
+    }
+
+    /// The server is closed, and left this run.
+    pub fn end_serving<C: Clock>(&mut self, clock: &C, run: &Run) {
+        self.serving = self.lap(clock);
+        self.threads = run.threads;
+        self.commits = run.trace.commits.as_slice().len() as u64;
+        self.answers = run.trace.answers.as_slice().len() as u64;
+        self.batches = run.batches;
+        self.latencies = run.latencies;
+    }
+
+    /// Writes the seconds of both steps and of the threads, the commits and the answers with how many there were a second
+    /// of the threads, the batches with the mean number of questions in one, and the times of a refresh and of a question,
+    /// as far as the writer takes them.
+    pub fn tell<E: Write>(&self, err: &mut E) {
+        for (name, time) in [
+            ("load", self.load),
+            ("serving", self.serving),
+            ("threads", self.threads),
+        ] {
+            if let Some(time) = time {
+                let seconds = time.as_secs();
+                let micros = time.subsec_micros();
+                let _ = writeln!(err, "ssb_live: {name} {seconds}.{micros:06} s");
+            }
+        }
+        for (name, count) in [("commits", self.commits), ("answers", self.answers)] {
+            let rate = self.threads.and_then(|time| a_second(count, time));
+            if let Some(rate) = rate {
+                let _ = writeln!(err, "ssb_live: {name} {count}, {rate} a second");
+            }
+        }
+        self.tell_batches(err);
+        tell_latency(err, "refreshes", self.latencies.refreshes);
+        tell_latency(err, "questions", self.latencies.answers);
+    }
+
+    // The mean is told in hundredths, rounded down.
+    fn tell_batches<E: Write>(&self, err: &mut E) {
+        let Batches { count, questions } = self.batches;
+        let hundredths = (u128::from(questions) * 100).checked_div(u128::from(count));
+        if let Some(hundredths) = hundredths {
+            let whole = hundredths / 100;
+            let rest = hundredths % 100;
+            let _ = writeln!(
+                err,
+                "ssb_live: batches {count}, {whole}.{rest:02} questions each"
+            );
+        }
+    }
+}

@@ -1,0 +1,11 @@
+use Rattle.std.proofs.Common.{take, All}
+use Rattle.ssb_schema.specs.Rows.{customer_values}
+use Rattle.ssb_schema.specs.declared.customer.CustomerFields.{CustomerFields}
+use Rattle.ssb_schema.specs.declared.table.Table.TheVariants as table
+use Rattle.ssb_trace_laws.specs.Allowed.{IsTakenRow}
+use Rattle.ssb_trace_laws.proofs.taken.customers_are_taken.Given as goal
+
+abbrev pub invariant-loop-row : goal.invariant-loop-row
+invariant-loop-row l =
+    All (λ (row : CustomerFields). IsTakenRow table.Customer (customer_values row))
+    (take l.row-index l.rows)

@@ -1,0 +1,11 @@
+use Rattle.std.proofs.Common.{take, All}
+use Rattle.ssb_schema.specs.Rows.{part_values}
+use Rattle.ssb_schema.specs.declared.part.PartFields.{PartFields}
+use Rattle.ssb_schema.specs.declared.table.Table.TheVariants as table
+use Rattle.ssb_trace_laws.specs.Allowed.{IsTakenRow}
+use Rattle.ssb_trace_laws.proofs.taken.parts_are_taken.Given as goal
+
+abbrev pub invariant-loop-row : goal.invariant-loop-row
+invariant-loop-row l =
+    All (λ (row : PartFields). IsTakenRow table.Part (part_values row))
+    (take l.row-index l.rows)
