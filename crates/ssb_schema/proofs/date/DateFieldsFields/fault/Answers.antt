@@ -1,4 +1,4 @@
-use Rattle.ssb_schema.proofs.date.DateFields.fault.Goals as goal
+use Rattle.ssb_schema.proofs.date.DateFieldsFields.fault.Goals as goal
 
 pub returns : goal.returns
 returns c = rw (
