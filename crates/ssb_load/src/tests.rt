@@ -126,20 +126,20 @@ fn assert_small(rt: &impl Abort, base: &Base) {
     };
     assert_eq!(rt; lines[2].fact(), third);
     assert_eq!(rt; lines[3].ship_mode().as_str(), "AIR");
-    let customers = base.customers();
+    let customers = base.customers().rows();
     assert_eq!(rt; customers.len(), 3);
-    assert_eq!(rt; customers[1].city().as_str(), "CHINA    0");
-    assert_eq!(rt; customers[2].market_segment().as_str(), "m");
-    let suppliers = base.suppliers();
+    assert_eq!(rt; customers[1].fields().city.as_str(), "CHINA    0");
+    assert_eq!(rt; customers[2].fields().market_segment.as_str(), "m");
+    let suppliers = base.suppliers().rows();
     assert_eq!(rt; suppliers.len(), 3);
-    assert_eq!(rt; suppliers[2].phone().as_str(), "p");
-    let parts = base.parts();
+    assert_eq!(rt; suppliers[2].fields().phone.as_str(), "p");
+    let parts = base.parts().rows();
     assert_eq!(rt; parts.len(), 4);
-    assert_eq!(rt; parts[3].container().as_str(), "b");
-    let dates = base.dates();
+    assert_eq!(rt; parts[3].fields().container.as_str(), "b");
+    let dates = base.dates().rows();
     assert_eq!(rt; dates.len(), 4);
     assert_eq!(rt; dates[3].week(), 50);
-    assert_eq!(rt; dates[3].field17().as_str(), "1");
+    assert_eq!(rt; dates[3].fields().field17.as_str(), "1");
 }
 
 // The small data set with another end of each record.
@@ -184,7 +184,7 @@ fn byte_order_mark_and_spaces_at_ends_are_dropped(rt: HostRuntime) -> Result<(),
 fn empty_lineorder_file_makes_a_base(rt: HostRuntime) -> Result<(), Fail> {
     let base = load(rt.alloc(), limits()?, with_lines(File::Bytes(b"")))?;
     assert_eq!(rt; base.lines().len(), 0);
-    assert_eq!(rt; base.dates().len(), 4);
+    assert_eq!(rt; base.dates().rows().len(), 4);
     Ok(())
 }
 
@@ -211,8 +211,8 @@ fn name_may_have_64_bytes(rt: HostRuntime) -> Result<(), Fail> {
     let customers = CUSTOMERS.replace(alloc, "C2", name)?;
     let tables = with_customers(File::Bytes(customers.as_bytes()));
     let base = load(alloc, limits()?, tables)?;
-    assert_eq!(rt; base.customers().len(), 3);
-    assert_eq!(rt; base.customers()[1].name().as_str(), name);
+    assert_eq!(rt; base.customers().rows().len(), 3);
+    assert_eq!(rt; base.customers().rows()[1].fields().name.as_str(), name);
     let longer = format!(in alloc; "{name}4")?;
     let fault = customer_fault(alloc, "C2", longer.as_str())?;
     assert_eq!(rt; fault.as_str(), "24 Row customer 2 11 FieldTooLong C_NAME");
