@@ -32,10 +32,7 @@ mod totals;
 
 pub use answer::{Answer, ResultRow, Rows, Unserved, same_rows};
 pub use evaluator::plain;
-pub use row_values::{
-    customer_passes, customer_value, date_passes, date_value, is_within, part_passes, part_value,
-    supplier_passes, supplier_value,
-};
+pub use row_values::{QueryFields, is_within};
 pub use sort::sort_rows;
 pub use ssb_plans::{
     ColumnValue, Cond, ConstantKind, ConstantsFault, Measure, NoSuchQuery, NumberRange, OrderKey,
