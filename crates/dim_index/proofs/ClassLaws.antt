@@ -41,6 +41,7 @@ use Rattle.ssb_schema.specs.declared.table.Table.{Table}
 use Rattle.ssb_schema.specs.declared.table.Table.TheVariants as table
 use Rattle.ssb_plans.specs.declared.value.Value.{Value}
 use Rattle.ssb_plans.specs.declared.value.Value.TheVariants.{Number}
+use Rattle.ssb_queries.specs.RowValues.{customer_value, supplier_value, part_value, date_value}
 use Rattle.dim_index.specs.Codes.{codes_of, is_same}
 use Rattle.dim_index.specs.Keys.{keys_of}
 use Rattle.dim_index.specs.Classes.{are_alike, class_at, classes_by, classes_of, read_columns, rows_in}
@@ -197,6 +198,21 @@ classes_told a b c d like_b like_c like_d =
 pub classes_length : (d : Dimensions) (t : Table) → length (classes_of d t) ≡ rows_in d t
 unfolding classes_of
 classes_length d t = length-map-range_with_len (class_at (read_columns d t) (rows_in d t)) 0 (rows_in d t)
+
+four_lengths : {R : Type 0} (value : ℕ → R → Value) (rows : List R) (k l m n : ℕ)
+    → map length (map (value k) rows ∷ map (value l) rows ∷ map (value m) rows ∷ map (value n) rows ∷ [])
+    ≡ length rows ∷ length rows ∷ length rows ∷ length rows ∷ []
+four_lengths value rows k l m n = λ i. length-map rows (value k) i ∷ length-map rows (value l) i
+    ∷ length-map rows (value m) i ∷ length-map rows (value n) i ∷ []
+
+-- each of the columns that queries read has a value in each row
+pub columns_long : (d : Dimensions) (t : Table)
+    → map length (read_columns d t) ≡ rows_in d t ∷ rows_in d t ∷ rows_in d t ∷ rows_in d t ∷ []
+columns_long d table.Customer = four_lengths customer_value d.customers 4 5 6 0
+columns_long d table.Supplier = four_lengths supplier_value d.suppliers 4 5 6 0
+columns_long d table.Part = four_lengths part_value d.parts 3 4 5 0
+columns_long d table.Date = four_lengths date_value d.dates 5 6 7 12
+columns_long d table.Lineorder = refl
 
 -- there are as many classes as keys
 pub classes_keys : (base : Tables) (t : Table) → length (classes_of base.dimensions t) ≡ length (keys_of base t)

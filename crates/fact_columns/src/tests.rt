@@ -72,10 +72,10 @@ fn fact(columns: &Columns, i: usize) -> Option<Fact> {
     }
     Some(Fact {
         order_key: line.order,
-        customer: base.customers().get(line.customer as usize)?.key(),
-        supplier: base.suppliers().get(line.supplier as usize)?.key(),
-        part: base.parts().get(line.part as usize)?.key(),
-        date: base.dates().get(line.date as usize)?.key(),
+        customer: base.customers().rows().get(line.customer as usize)?.key(),
+        supplier: base.suppliers().rows().get(line.supplier as usize)?.key(),
+        part: base.parts().rows().get(line.part as usize)?.key(),
+        date: base.dates().rows().get(line.date as usize)?.key(),
         quantity: u8::try_from(line.quantity()).ok()?,
         discount: line.discount(),
         price: line.price,

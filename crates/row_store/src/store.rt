@@ -51,7 +51,7 @@ fn lacks_customer(base: &Base, lines: &[Line]) -> bool
 {
     lines
         .iter()
-        .any(|line| !base.has_customer(line.customer_key()))
+        .any(|line| !base.customers().contains(line.customer_key()))
 }
 
 // Whether some line names a supplier that the base lacks.
@@ -60,21 +60,25 @@ fn lacks_supplier(base: &Base, lines: &[Line]) -> bool
 {
     lines
         .iter()
-        .any(|line| !base.has_supplier(line.supplier_key()))
+        .any(|line| !base.suppliers().contains(line.supplier_key()))
 }
 
 // Whether some line names a part that the base lacks.
 fn lacks_part(base: &Base, lines: &[Line]) -> bool
     ensures { result ≡ list_any (lacks_part base.now.dimensions) lines.now }
 {
-    lines.iter().any(|line| !base.has_part(line.part_key()))
+    lines
+        .iter()
+        .any(|line| !base.parts().contains(line.part_key()))
 }
 
 // Whether some line names a date that the base lacks.
 fn lacks_date(base: &Base, lines: &[Line]) -> bool
     ensures { result ≡ list_any (lacks_date base.now.dimensions) lines.now }
 {
-    lines.iter().any(|line| !base.has_date(line.order_date()))
+    lines
+        .iter()
+        .any(|line| !base.dates().contains(line.order_date()))
 }
 
 // The first of customer, supplier, part and date that some line names and the base lacks.
