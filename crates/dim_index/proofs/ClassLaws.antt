@@ -1,5 +1,6 @@
 -- The classes of rows, from their codes.
-use Rattle.std.proofs.Common.{◌≡◌, ℕ, ◌+◌, ◌<◌, Bool, true, false, cond, List, [], ◌∷◌, ◌++◌, length, map, get_or, Option, Some, None, zero, suc, sym, refl, ap, ◌∙◌, arith, unwrap_or, take}
+use Rattle.std.proofs.Common.{◌≡◌, ℕ, ◌+◌, ◌<◌, Bool, true, false, cond, List, [], ◌∷◌, ◌++◌, length, map, get_or}
+use Rattle.std.proofs.Common.{Option, Some, None, zero, suc, sym, refl, ap, ◌∙◌, arith, unwrap_or, take}
 use Rattle.std.specs.Prelude.{nat_eq, ◌&&◌, if◌then◌else◌}
 use Rattle.std.specs.List.{position, position_from, range_with_len}
 use Rattle.std.specs.Option.{option_or}
@@ -15,7 +16,7 @@ use Rattle.ssb_plans.specs.declared.value.Value.TheVariants.{Number}
 use Rattle.ssb_queries.specs.RowValues.{customer_value, supplier_value, part_value, date_value}
 use Rattle.dim_index.specs.Codes.{codes_of, is_same}
 use Rattle.dim_index.specs.Keys.{keys_of}
-use Rattle.dim_index.specs.Classes.{are_alike, class_at, classes_by, classes_of, columns_read, read_columns, rows_in}
+use Rattle.dim_index.specs.Classes.{are_alike, class_at, classes_by, classes_of, telling_columns, read_columns, rows_in}
 use Rattle.dim_index.specs.Values.{values_of}
 use Rattle.ssb_schema.specs.declared.column.Column.{Column}
 use Rattle.dim_index.specs.Told.{Told, same_told, told_at, told_rows, first_in, noted}
@@ -179,7 +180,7 @@ four_of base columns d =
     ∷ values_of base (get_or columns 3 d) ∷ []
 
 classes_read : (base : Tables) (t : Table) (d : Column)
-    → classes_by (four_of base (columns_read t) d) (length (values_of base (get_or (columns_read t) 0 d)))
+    → classes_by (four_of base (telling_columns t) d) (length (values_of base (get_or (telling_columns t) 0 d)))
     ≡ classes_of base.dimensions t
 unfolding classes_of
 classes_read base table.Customer d = ap (classes_by (read_columns base.dimensions table.Customer))
@@ -193,7 +194,7 @@ classes_read base table.Date d = ap (classes_by (read_columns base.dimensions ta
 classes_read base table.Lineorder d = refl
 
 -- the columns that queries read tell the classes
-pub classes_kept : (base : Tables) (t : Table) (columns : List Column) (d : Column) → columns ≡ columns_read t
+pub classes_kept : (base : Tables) (t : Table) (columns : List Column) (d : Column) → columns ≡ telling_columns t
     → classes_by (four_of base columns d) (length (values_of base (get_or columns 0 d))) ≡ classes_of base.dimensions t
 classes_kept base t columns d is =
     ap (λ l. classes_by (four_of base l d) (length (values_of base (get_or l 0 d)))) is ∙ classes_read base t d

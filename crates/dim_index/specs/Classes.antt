@@ -29,19 +29,19 @@ use Rattle.dim_index.specs.Kept.{unread}
 use Rattle.dim_index.specs.Values.{values_in}
 use Rattle.dim_index.specs.declared.first_rows.Extents.{Extents}
 
--- the columns of a dimension that queries read; where there are three, with the one at place 0, which stands for all
--- others and tells no rows apart
-abbrev pub columns_read : Table → List Column
-columns_read table.Customer = C_CITY ∷ C_NATION ∷ C_REGION ∷ unread table.Customer ∷ []
-columns_read table.Supplier = S_CITY ∷ S_NATION ∷ S_REGION ∷ unread table.Supplier ∷ []
-columns_read table.Part = P_MFGR ∷ P_CATEGORY ∷ P_BRAND1 ∷ unread table.Part ∷ []
-columns_read table.Date = D_YEAR ∷ D_YEARMONTHNUM ∷ D_YEARMONTH ∷ D_WEEKNUMINYEAR ∷ []
-columns_read table.Lineorder =
+-- the columns by which queries tell a dimension's rows apart; where there are three, with the one at place 0, which
+-- stands for all others and tells none apart
+abbrev pub telling_columns : Table → List Column
+telling_columns table.Customer = C_CITY ∷ C_NATION ∷ C_REGION ∷ unread table.Customer ∷ []
+telling_columns table.Supplier = S_CITY ∷ S_NATION ∷ S_REGION ∷ unread table.Supplier ∷ []
+telling_columns table.Part = P_MFGR ∷ P_CATEGORY ∷ P_BRAND1 ∷ unread table.Part ∷ []
+telling_columns table.Date = D_YEAR ∷ D_YEARMONTHNUM ∷ D_YEARMONTH ∷ D_WEEKNUMINYEAR ∷ []
+telling_columns table.Lineorder =
     unread table.Lineorder ∷ unread table.Lineorder ∷ unread table.Lineorder ∷ unread table.Lineorder ∷ []
 
 -- each as its values row by row
 abbrev pub read_columns : Dimensions → Table → List (List Value)
-read_columns d t = map (λ column. values_in d column.table column.place) (columns_read t)
+read_columns d t = map (λ column. values_in d column.table column.place) (telling_columns t)
 
 -- how many rows a dimension has; the fact table is no dimension
 abbrev pub rows_in : Dimensions → Table → ℕ

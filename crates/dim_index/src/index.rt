@@ -7,7 +7,7 @@ ghost use Rattle.dim_index.specs.Keys.{position_in, position_of, keys_of};
 ghost use Rattle.dim_index.specs.Values.{values_of};
 ghost use Rattle.dim_index.specs.Codes.{distinct, codes_of};
 ghost use Rattle.dim_index.specs.Bitmaps.{bits_of};
-ghost use Rattle.dim_index.specs.Classes.{classes_of, columns_read, reduced};
+ghost use Rattle.dim_index.specs.Classes.{classes_of, telling_columns, reduced};
 ghost use Rattle.dim_index.specs.Kept.{kept_columns, unread};
 
 use crate::bitmap::Bitmap;
@@ -102,9 +102,9 @@ fn unread(table: Table) -> Column
     Column { table, place: 0 }
 }
 
-// The columns of a dimension that queries read: where there are three, with the one that they do not.
-fn read_columns(table: Table) -> [Column; 4]
-    ensures { result ≡ columns_read table }
+// The columns by which queries tell a dimension's rows apart: where there are three, with one that tells none apart.
+fn telling_columns(table: Table) -> [Column; 4]
+    ensures { result ≡ telling_columns table }
 {
     match table {
         Table::Customer => [C_CITY, C_NATION, C_REGION, unread(table)],
@@ -126,7 +126,7 @@ fn table_classes(
     ensures { IfOk result (λ classes. classes.items ≡ classes_of base.now.dimensions table) }
 {
     base.soundness();
-    let [first, second, third, fourth] = read_columns(table);
+    let [first, second, third, fourth] = telling_columns(table);
     classes_by(
         alloc,
         kept(base, columns, first),

@@ -11,9 +11,13 @@ overflow_cast-result g c = omega (
 )
 
 pub returns-in-Some : goal.returns-in-Some
-returns-in-Some g c = sym c.in-Some.is ∙ position_found g.F.Keyed.key_of c.args.dimension.now c.args.key c.position.result
-    c.requires.distinct c.position.ensures.row c.position.ensures.found
+returns-in-Some g c =
+    sym c.in-Some.is
+    ∙ position_found g.F.Keyed.key_of c.args.dimension.now c.args.key c.position.result c.requires.distinct
+    c.position.ensures.row c.position.ensures.found
 
 pub returns-in-None : goal.returns-in-None
-returns-in-None g c = sym c.in-None.is ∙ position_found g.F.Keyed.key_of c.args.dimension.now c.args.key c.position.result
-    c.requires.distinct c.position.ensures.row c.position.ensures.found
+returns-in-None g c =
+    sym c.in-None.is
+    ∙ position_found g.F.Keyed.key_of c.args.dimension.now c.args.key c.position.result c.requires.distinct
+    c.position.ensures.row c.position.ensures.found

@@ -13,5 +13,5 @@ returns c =
     (length c.kept.result.now) ≡ classes_of base.dimensions c.args.table =
     (λ i. classes_by (c.kept.ensures i ∷ c.kept-2.ensures i ∷ c.kept-3.ensures i ∷ c.kept-4.ensures i ∷ [])
     (length (c.kept.ensures i)))
-    ∙ classes_kept base c.args.table c.read_columns.result other c.read_columns.ensures in
+    ∙ classes_kept base c.args.table c.telling_columns.result other c.telling_columns.ensures in
     subst (λ (l : List ℕ). IfOk c.classes_by.result (λ v. v.items ≡ l)) same c.classes_by.ensures
