@@ -1,6 +1,6 @@
 //! Audits over the small data set, and the texts of their faults.
 
-use crate::fault::AuditingFault;
+use crate::fault::{Against, AuditingFault};
 use crate::run_audit;
 use small_data::tables;
 use ssb_audit::AuditFault;
@@ -69,7 +69,7 @@ fn each_fault_of_an_audit_has_its_text(rt: HostRuntime) -> Result<(), Fail> {
         (AuditFault::WrongRows(1, 2), 3, "audit: 81 WrongRows 1 2"),
         (AuditFault::OutOfMemory, 4, "out of memory"),
     ] {
-        let fault = AuditingFault::Audit(fault);
+        let fault = AuditingFault::Found(Against(fault));
         assert_eq!(rt; fault.to_string(rt.alloc())?.as_str(), text);
         assert_eq!(rt; fault.status(), status);
     }

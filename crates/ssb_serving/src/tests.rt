@@ -1,6 +1,6 @@
 //! Runs of scripts over the small data set, and the texts of their faults.
 
-use crate::fault::ServingFault;
+use crate::fault::{NotRun, ServingFault};
 use crate::{RunSettings, run_scripts};
 use small_data::tables;
 use ssb_runs::RunFault;
@@ -148,7 +148,7 @@ fn a_failed_write_of_a_run_is_told(rt: HostRuntime) -> Result<(), Fail> {
 
 #[test]
 fn a_fault_of_a_run_is_told_as_it_stands(rt: HostRuntime) -> Result<(), Fail> {
-    let fault = ServingFault::Run(RunFault::OutOfMemory);
+    let fault = ServingFault::Found(NotRun(RunFault::OutOfMemory));
     assert_eq!(rt; fault.to_string(rt.alloc())?.as_str(), "out of memory");
     assert_eq!(rt; fault.status(), 4);
     Ok(())
