@@ -1,4 +1,6 @@
 //! The server's calls, run and compared.
 mod closing;
-mod one_thread;
+mod one_client;
+mod memory;
 mod opening;
+mod two_clients;
