@@ -1,6 +1,6 @@
 //! The server's calls, run and compared.
 mod closing;
-mod one_client;
 mod memory;
+mod one_client;
 mod opening;
 mod two_clients;
