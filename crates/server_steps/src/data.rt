@@ -98,10 +98,10 @@ pub fn adding(alloc: Global, key: u64) -> Result<Arc<Refresh>, Fail> {
     refresh(alloc, vec![in alloc; adding_order(alloc, key)?]?)
 }
 
-/// Adds order 9, and withdraws order 77, which is not there.
-pub fn adding_and_withdrawing_another(alloc: Global) -> Result<Arc<Refresh>, Fail> {
-    let adding = adding_order(alloc, ORDER_NINE)?;
-    refresh(alloc, vec![in alloc; adding, Action::Withdraw(77)]?)
+/// Adds an order of one line under this key, and withdraws the other order.
+pub fn adding_and_withdrawing(alloc: Global, key: u64, other: u64) -> Result<Arc<Refresh>, Fail> {
+    let adding = adding_order(alloc, key)?;
+    refresh(alloc, vec![in alloc; adding, Action::Withdraw(other)]?)
 }
 
 /// The query with the benchmark's constants.

@@ -111,23 +111,6 @@ pub fn next_two_clients<W: Wait + Drop>(
     Ok((first, second))
 }
 
-/// A server with two clients and one dispatcher.
-pub fn for_two_clients<W: Wait + Drop>(
-    alloc: Global,
-    rt: W,
-    hashing: RandomState,
-) -> Result<(Server<W>, (Client<W>, Client<W>), Dispatcher<W>), Fail>
-    ensures first { IfOk result (λ made. IsQuiet made.0 made.1.0) }
-    ensures second { IfOk result (λ made. IsQuiet made.0 made.1.1) }
-    ensures dispatcher { IfOk result (λ made. IsOf made.0 made.2) }
-{
-    let mut made = opened(alloc, rt, hashing, 2, 1)?;
-    let server = made.server;
-    let clients = next_two_clients(&server, &mut made.clients)?;
-    let dispatcher = next_dispatcher(&server, &mut made.dispatchers).ok_or("no dispatcher")?;
-    Ok((server, clients, dispatcher))
-}
-
 /// Three clients, the first and the two others.
 pub type ThreeClients<W> = (Client<W>, (Client<W>, Client<W>));
 
