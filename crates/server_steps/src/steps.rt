@@ -59,9 +59,9 @@ pub fn turns<W: Wait + Drop, R: Wait + Threads + Sync, G: ScanGate>(
     dispatcher.turn(rt, server, gate)
 }
 
-/// A client asks a query with the benchmark's constants.
+// A client asks a query with the benchmark's constants.
 #[tactic(auto, using(ssb_server::proofs::Staying::asks_stays))]
-pub fn asks<W: Wait + Drop>(
+fn asks<W: Wait + Drop>(
     alloc: Global,
     server: &Server<W>,
     client: &mut Client<W>,
@@ -75,9 +75,9 @@ pub fn asks<W: Wait + Drop>(
     Ok(())
 }
 
-/// A client polls the answer, which is there.
+// A client polls the answer, which is there.
 #[tactic(auto, using(ssb_server::proofs::Staying::polls_stays))]
-pub fn polls<W: Wait + Drop>(server: &Server<W>, client: &mut Client<W>) -> Result<Answer, Fail>
+fn polls<W: Wait + Drop>(server: &Server<W>, client: &mut Client<W>) -> Result<Answer, Fail>
     requires { client.old.hall ≡ server.now }
     ensures { OnOk result (IsQuiet server.now client.new) }
 {
