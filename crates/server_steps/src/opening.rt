@@ -43,8 +43,8 @@ pub fn opened<W: Wait + Drop>(
     }
 }
 
-/// A server that was opened for one client and one dispatcher, and these two.
-pub fn only_two<W: Wait + Drop>(
+// A server that was opened for one client and one dispatcher, and these two.
+fn only_two<W: Wait + Drop>(
     mut made: Opened<W>,
 ) -> Result<(Server<W>, Client<W>, Dispatcher<W>), Fail>
     requires clients { All (IsQuiet made.server) made.clients.items }
@@ -96,8 +96,8 @@ pub fn for_one_client<W: Wait + Drop>(
     only_two(opened(alloc, rt, hashing, 1, 1)?)
 }
 
-/// The last two clients, which leave: the last but one, and the last.
-pub fn next_two_clients<W: Wait + Drop>(
+// The last two clients, which leave: the last but one, and the last.
+fn next_two_clients<W: Wait + Drop>(
     server: &Server<W>,
     clients: &mut Vec<Client<W>>,
 ) -> Result<(Client<W>, Client<W>), Fail>

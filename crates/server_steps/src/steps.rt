@@ -59,25 +59,9 @@ pub fn turns<W: Wait + Drop, R: Wait + Threads + Sync, G: ScanGate>(
     dispatcher.turn(rt, server, gate)
 }
 
-/// A client asks a query with the benchmark's constants.
-#[tactic(auto, using(ssb_server::proofs::Staying::asks_stays))]
-pub fn asks<W: Wait + Drop>(
-    alloc: Global,
-    server: &Server<W>,
-    client: &mut Client<W>,
-    query: Query,
-) -> Result<(), Fail>
-    requires { IsQuiet server.now client.old }
-    ensures hall { client.new.hall ≡ server.now }
-    ensures asking { OnOk result (is_some client.new.asked ≡ true) }
-{
-    client.ask(server, question(alloc, query)?);
-    Ok(())
-}
-
-/// A client polls the answer, which is there.
+// A client polls the answer, which is there.
 #[tactic(auto, using(ssb_server::proofs::Staying::polls_stays))]
-pub fn polls<W: Wait + Drop>(server: &Server<W>, client: &mut Client<W>) -> Result<Answer, Fail>
+fn polls<W: Wait + Drop>(server: &Server<W>, client: &mut Client<W>) -> Result<Answer, Fail>
     requires { client.old.hall ≡ server.now }
     ensures { OnOk result (IsQuiet server.now client.new) }
 {
@@ -101,7 +85,7 @@ pub fn asks_and_is_told<W: Wait + Drop, R: Wait + Threads + Sync>(
     ensures client { OnOk result (IsQuiet server.now client.new) }
     ensures dispatcher { IsOf server.now dispatcher.new }
 {
-    asks(alloc, server, client, query)?;
+    asks_this(server, client, question(alloc, query)?);
     match turns(rt, server, dispatcher, &OpenGate) {
         Turn::Answered { count: 1, .. } => told(alloc, &polls(server, client)?),
         other => Err(other)?,

@@ -199,8 +199,8 @@ impl<'s, W: Wait + Drop> Trial<'s, W> {
         })
     }
 
-    /// Takes a step. What its client is told, or what the dispatcher did.
-    pub fn takes<R: Wait + Threads + Sync>(
+    // Takes a step. What its client is told, or what the dispatcher did.
+    fn takes<R: Wait + Threads + Sync>(
         &mut self,
         rt: &R,
         alloc: Global,
