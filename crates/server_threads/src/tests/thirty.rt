@@ -1,7 +1,6 @@
 //! Three clients that refresh at once, each in a thread of its own.
-ghost use Rattle.std.specs.Prelude.{◌≡◌, All};
 ghost use Rattle.std.specs.Thread.{IsSync};
-ghost use Rattle.ssb_server.specs.Tickets.{IsOf, IsQuiet};
+ghost use Rattle.ssb_server.specs.Tickets.{IsQuiet};
 
 use crate::tests::parties::Refreshes;
 use server_steps::closing::{closes_three, commits_of};
