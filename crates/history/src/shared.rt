@@ -175,9 +175,14 @@ impl<W: Follower + Drop> Shared<W> {
         rows
     }
 
+    /// Wakes all who wait for the row store: a client that is about to pause lets the others go on.
+    pub fn wake_waiting(&self) {
+        steps::wake_waiting(&self.board);
+    }
+
     /// Gives the row store back, as it was taken or with one commit more of the pass's client. One that waits for it is
-    /// woken where it was given back as it was, and by each 1,024th commit, so that clients that commit side by side do
-    /// so in runs; nobody sleeps for it for more than a millisecond at a time.
+    /// woken where it was given back as it was, and by each 4,096th commit, so that clients that commit side by side do
+    /// so in runs; nobody sleeps for it for more than four milliseconds at a time, and `wake_waiting` ends these sleeps.
     pub fn put_rows(&self, pass: &mut Pass<W>, rows: RowStore)
         requires hall { pass.old.hall ≡ self.now }
         requires taken { pass.old.has_rows ≡ true }

@@ -20,10 +20,10 @@ use std::sync::Wait;
 use std::time::Duration;
 
 /// The longest sleep of one that waits for the row store, in microseconds: then it tries again, though nobody woke it.
-const LONGEST_SLEEP: u64 = 1_000;
+const LONGEST_SLEEP: u64 = 4_000;
 
 /// One that waits for the row store is woken by each commit whose number this divides.
-const COMMITS_A_RUN: u64 = 1_024;
+const COMMITS_A_RUN: u64 = 4_096;
 
 /// Waits until the row store is home, and takes it.
 pub(crate) fn take_rows<W: Follower + Drop, R: Wait>(
@@ -73,6 +73,13 @@ pub(crate) fn wake_by_runs<W: Follower + Drop>(board: &Board<W>, commit: u64)
     if commit % COMMITS_A_RUN == 0 {
         board.shared.wake_one(0);
     }
+}
+
+/// Wakes all who wait for the row store.
+pub(crate) fn wake_waiting<W: Follower + Drop>(board: &Board<W>)
+    requires { Has board.now.shared.table_id 0 }
+{
+    board.shared.wake_all(0);
 }
 
 /// Gives the row store back with one commit more, and wakes nobody.

@@ -1,4 +1,3 @@
 //! The scan beside the plain evaluator.
 mod data;
 mod rows;
-mod small_data;

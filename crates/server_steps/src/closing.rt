@@ -8,8 +8,8 @@ use std::alloc::{AllocError, Global};
 use std::sync::Wait;
 use std::test::Fail;
 
-/// Closes the server.
-pub fn closes<W: Wait + Drop>(
+// Closes the server.
+fn closes<W: Wait + Drop>(
     server: Server<W>,
     clients: Vec<Client<W>>,
     dispatchers: Vec<Dispatcher<W>>,
@@ -41,8 +41,8 @@ pub fn stays_open<W: Wait + Drop>(
     }
 }
 
-/// These clients, and one more.
-pub fn with_client<W: Wait + Drop>(
+// These clients, and one more.
+fn with_client<W: Wait + Drop>(
     server: &Server<W>,
     mut clients: Vec<Client<W>>,
     client: Client<W>,
@@ -57,8 +57,8 @@ pub fn with_client<W: Wait + Drop>(
     Ok(clients)
 }
 
-/// These dispatchers, and one more.
-pub fn with_dispatcher<W: Wait + Drop>(
+// These dispatchers, and one more.
+fn with_dispatcher<W: Wait + Drop>(
     server: &Server<W>,
     mut dispatchers: Vec<Dispatcher<W>>,
     dispatcher: Dispatcher<W>,

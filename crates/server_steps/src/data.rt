@@ -98,10 +98,14 @@ pub fn adding(alloc: Global, key: u64) -> Result<Arc<Refresh>, Fail> {
     refresh(alloc, vec![in alloc; adding_order(alloc, key)?]?)
 }
 
-/// Adds order 9, and withdraws order 77, which is not there.
-pub fn adding_and_withdrawing_another(alloc: Global) -> Result<Arc<Refresh>, Fail> {
-    let adding = adding_order(alloc, ORDER_NINE)?;
-    refresh(alloc, vec![in alloc; adding, Action::Withdraw(77)]?)
+/// Adds an order of one line under this key, and withdraws the other order.
+pub(crate) fn adding_and_withdrawing(
+    alloc: Global,
+    key: u64,
+    other: u64,
+) -> Result<Arc<Refresh>, Fail> {
+    let adding = adding_order(alloc, key)?;
+    refresh(alloc, vec![in alloc; adding, Action::Withdraw(other)]?)
 }
 
 /// The query with the benchmark's constants.
@@ -125,7 +129,7 @@ fn tell_row(alloc: Global, told: String, row: &ResultRow) -> Result<String, Fail
 }
 
 /// The answer in one line: the query, and the number of commits with the rows, or the cause.
-pub fn told(alloc: Global, answer: &Answer) -> Result<String, Fail> {
+pub(crate) fn told(alloc: Global, answer: &Answer) -> Result<String, Fail> {
     match answer {
         Answer::Rows { query, at, rows } => {
             let mut told = format!(in alloc; "{} at {at}:", query.query())?;

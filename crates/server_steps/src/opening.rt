@@ -1,5 +1,5 @@
 //! Servers that are opened, with their clients and dispatchers.
-ghost use Rattle.std.specs.Prelude.{◌≡◌, All, IfOk, IfSome};
+ghost use Rattle.std.specs.Prelude.{All, IfOk, IfSome};
 ghost use Rattle.ssb_server.specs.Tickets.{IsOf, IsQuiet};
 
 use crate::data::base;
@@ -43,8 +43,8 @@ pub fn opened<W: Wait + Drop>(
     }
 }
 
-/// A server that was opened for one client and one dispatcher, and these two.
-pub fn only_two<W: Wait + Drop>(
+// A server that was opened for one client and one dispatcher, and these two.
+fn only_two<W: Wait + Drop>(
     mut made: Opened<W>,
 ) -> Result<(Server<W>, Client<W>, Dispatcher<W>), Fail>
     requires clients { All (IsQuiet made.server) made.clients.items }
@@ -96,8 +96,8 @@ pub fn for_one_client<W: Wait + Drop>(
     only_two(opened(alloc, rt, hashing, 1, 1)?)
 }
 
-/// The last two clients, which leave: the last but one, and the last.
-pub fn next_two_clients<W: Wait + Drop>(
+// The last two clients, which leave: the last but one, and the last.
+fn next_two_clients<W: Wait + Drop>(
     server: &Server<W>,
     clients: &mut Vec<Client<W>>,
 ) -> Result<(Client<W>, Client<W>), Fail>
@@ -109,23 +109,6 @@ pub fn next_two_clients<W: Wait + Drop>(
     let second = next_client(server, clients).ok_or("no second client")?;
     let first = next_client(server, clients).ok_or("no client")?;
     Ok((first, second))
-}
-
-/// A server with two clients and one dispatcher.
-pub fn for_two_clients<W: Wait + Drop>(
-    alloc: Global,
-    rt: W,
-    hashing: RandomState,
-) -> Result<(Server<W>, (Client<W>, Client<W>), Dispatcher<W>), Fail>
-    ensures first { IfOk result (λ made. IsQuiet made.0 made.1.0) }
-    ensures second { IfOk result (λ made. IsQuiet made.0 made.1.1) }
-    ensures dispatcher { IfOk result (λ made. IsOf made.0 made.2) }
-{
-    let mut made = opened(alloc, rt, hashing, 2, 1)?;
-    let server = made.server;
-    let clients = next_two_clients(&server, &mut made.clients)?;
-    let dispatcher = next_dispatcher(&server, &mut made.dispatchers).ok_or("no dispatcher")?;
-    Ok((server, clients, dispatcher))
 }
 
 /// Three clients, the first and the two others.

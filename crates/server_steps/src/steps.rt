@@ -59,52 +59,15 @@ pub fn turns<W: Wait + Drop, R: Wait + Threads + Sync, G: ScanGate>(
     dispatcher.turn(rt, server, gate)
 }
 
-/// A client asks a query with the benchmark's constants.
-#[tactic(auto, using(ssb_server::proofs::Staying::asks_stays))]
-pub fn asks<W: Wait + Drop>(
-    alloc: Global,
-    server: &Server<W>,
-    client: &mut Client<W>,
-    query: Query,
-) -> Result<(), Fail>
-    requires { IsQuiet server.now client.old }
-    ensures hall { client.new.hall ≡ server.now }
-    ensures asking { OnOk result (is_some client.new.asked ≡ true) }
-{
-    client.ask(server, question(alloc, query)?);
-    Ok(())
-}
-
-/// A client polls the answer, which is there.
+// A client polls the answer, which is there.
 #[tactic(auto, using(ssb_server::proofs::Staying::polls_stays))]
-pub fn polls<W: Wait + Drop>(server: &Server<W>, client: &mut Client<W>) -> Result<Answer, Fail>
+fn polls<W: Wait + Drop>(server: &Server<W>, client: &mut Client<W>) -> Result<Answer, Fail>
     requires { client.old.hall ≡ server.now }
     ensures { OnOk result (IsQuiet server.now client.new) }
 {
     match client.poll(server) {
         Some(answer) => Ok(answer),
         None => Err("no answer")?,
-    }
-}
-
-/// A client asks, a dispatcher takes a turn that answers it alone, and the client polls.
-pub fn asks_and_is_answered<W: Wait + Drop, R: Wait + Threads + Sync>(
-    rt: &R,
-    alloc: Global,
-    server: &Server<W>,
-    client: &mut Client<W>,
-    dispatcher: &mut Dispatcher<W>,
-    query: Query,
-) -> Result<Answer, Fail>
-    requires client { IsQuiet server.now client.old }
-    requires dispatcher { IsOf server.now dispatcher.old }
-    ensures client { OnOk result (IsQuiet server.now client.new) }
-    ensures dispatcher { IsOf server.now dispatcher.new }
-{
-    asks(alloc, server, client, query)?;
-    match turns(rt, server, dispatcher, &OpenGate) {
-        Turn::Answered { count: 1, .. } => polls(server, client),
-        other => Err(other)?,
     }
 }
 
@@ -122,23 +85,11 @@ pub fn asks_and_is_told<W: Wait + Drop, R: Wait + Threads + Sync>(
     ensures client { OnOk result (IsQuiet server.now client.new) }
     ensures dispatcher { IsOf server.now dispatcher.new }
 {
-    let answer = asks_and_is_answered(rt, alloc, server, client, dispatcher, query)?;
-    told(alloc, &answer)
-}
-
-/// A client meets another one, and is told how many commits it then sees.
-#[tactic(auto, using(ssb_server::proofs::Staying::looks_stays))]
-pub fn meets<W: Wait + Drop>(
-    server: &Server<W>,
-    client: &mut Client<W>,
-    other: &mut Client<W>,
-) -> u64
-    requires client { IsQuiet server.now client.old }
-    requires other { IsQuiet server.now other.old }
-    ensures client { IsQuiet server.now client.new }
-    ensures other { IsQuiet server.now other.new }
-{
-    client.meet(server, other)
+    asks_this(server, client, question(alloc, query)?);
+    match turns(rt, server, dispatcher, &OpenGate) {
+        Turn::Answered { count: 1, .. } => told(alloc, &polls(server, client)?),
+        other => Err(other)?,
+    }
 }
 
 /// A client asks this question.
@@ -159,17 +110,4 @@ pub fn awaits<W: Wait + Drop, R: Wait>(rt: &R, server: &Server<W>, client: &mut 
     ensures { IsQuiet server.now client.new }
 {
     client.await_answer(rt, server)
-}
-
-/// A client polls the answer, which is there, as text.
-pub fn polls_text<W: Wait + Drop>(
-    alloc: Global,
-    server: &Server<W>,
-    client: &mut Client<W>,
-) -> Result<String, Fail>
-    requires { client.old.hall ≡ server.now }
-    ensures { OnOk result (IsQuiet server.now client.new) }
-{
-    let answer = polls(server, client)?;
-    told(alloc, &answer)
 }

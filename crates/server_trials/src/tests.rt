@@ -1,4 +1,6 @@
 //! The server's calls, run and compared.
 mod closing;
-mod one_thread;
+mod memory;
+mod one_client;
 mod opening;
+mod two_clients;

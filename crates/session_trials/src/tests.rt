@@ -2,5 +2,6 @@
 mod blocks;
 mod data;
 mod ends;
+mod growths;
 mod reports;
 mod serving;

@@ -8,6 +8,8 @@
 //! ```
 #![tactic(auto)]
 
+pub mod stored;
+
 ghost use Rattle.std.specs.Prelude.{Some};
 ghost use Rattle.ssb_load.specs.Load.{AreTexts};
 ghost use Rattle.small_data.specs.SmallTexts.{small_texts};

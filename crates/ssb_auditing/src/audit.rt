@@ -13,7 +13,7 @@ ghost use Rattle.ssb_report.specs.Written.{AppendsPart};
 ghost use Rattle.ssb_schema.specs.declared.table.Table.{Table};
 ghost use Rattle.ssb_trace_read.specs.Traces.{SpellsTrace};
 
-use crate::fault::AuditingFault;
+use crate::fault::{Against, AuditingFault};
 use ssb_audit::{Trace, audit};
 use ssb_faults::Fault;
 use ssb_files::base_of;
@@ -58,7 +58,7 @@ fn check<R: Threads + Sync + AllocGlobal>(
     let base = Arc::new(rt.alloc(), base)?;
     match audit(rt, rt.alloc(), base, hashing, trace) {
         Ok(()) => Ok(()),
-        Err(fault) => Err(AuditingFault::Audit(fault)),
+        Err(fault) => Err(AuditingFault::Found(Against(fault))),
     }
 }
 

@@ -9,7 +9,8 @@ use Rattle.ssb_files.specs.Scripts.{IsRefusedScript}
 use Rattle.ssb_files.specs.Loaded.{IsLoaded}
 use Rattle.small_data.specs.SmallTexts.{small_texts}
 use Rattle.ssb_demo.specs.Status.{demo_status}
-use Rattle.ssb_demo.specs.declared.fault.DemoFault.{DemoFault}
+use Rattle.ssb_demo.specs.declared.fault.NotOpened.{NotOpened}
+use Rattle.ssb_faults.specs.declared.job.JobFault.{JobFault}
 use Rattle.ssb_files.proofs.Flushed.{appended_kept}
 use Rattle.ssb_schema.specs.Base.{Tables}
 use Rattle.ssb_session.specs.Alone.{ServesScript, ServesPart, own}
@@ -52,7 +53,7 @@ ended_small (Err e) base remaining before after loaded (inl kept) = inl kept
 ended_small (Err e) base remaining before after loaded (inr stopped) = inr
     (inl (record { base = base; loaded = loaded; stopped = stopped }))
 
-pub refused_small : {X : Type 0} (r : Result X DemoFault) (remaining : Option (List ℕ))
+pub refused_small : {X : Type 0} (r : Result X (JobFault NotOpened)) (remaining : Option (List ℕ))
     → IfErr r (λ fault. demo_status fault ≡ 1 → IsRefusedScript remaining)
     → IfErr r (λ fault. demo_status fault ≡ 1 → IsOfScript remaining)
 refused_small (Ok x) remaining refused = tt

@@ -8,7 +8,7 @@ ghost use Rattle.ssb_files.specs.Scripts.{IsRefusedScript};
 ghost use Rattle.small_data.specs.SmallTexts.{small_texts};
 ghost use Rattle.ssb_demo.specs.Status.{demo_status};
 
-use crate::fault::DemoFault;
+use crate::fault::{DemoFault, NotOpened};
 use small_data::tables;
 use ssb_faults::Fault;
 use ssb_files::base_of;
@@ -94,7 +94,7 @@ fn serve_small<T: Wait + Threads + Sync + AllocGlobal, R: Read + Drop, O: Write>
     let base = small_base(rt.alloc())?;
     match open(rt.alloc(), rt, hashing, base, 1, 1) {
         Ok(opened) => serve_alone(rt, opened, input, out),
-        Err(error) => Err(DemoFault::Open(error.fault)),
+        Err(error) => Err(DemoFault::Found(NotOpened(error.fault))),
     }
 }
 

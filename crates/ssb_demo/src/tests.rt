@@ -1,7 +1,7 @@
 //! The fault lines of a script over the small data set, and the texts of refusals in its report.
 
 use crate::demo;
-use crate::fault::DemoFault;
+use crate::fault::{DemoFault, NotOpened};
 use row_store::Cause;
 use ssb_server::OpenFault;
 use std::hash::RandomState;
@@ -56,7 +56,7 @@ fn why_no_server_was_opened_is_told(rt: HostRuntime) -> Result<(), Fail> {
         (OpenFault::NoReader, "open: 62 NoReader"),
         (OpenFault::OutOfMemory, "out of memory"),
     ] {
-        let fault = DemoFault::Open(fault);
+        let fault = DemoFault::Found(NotOpened(fault));
         assert_eq!(rt; fault.to_string(rt.alloc())?.as_str(), text);
         assert_eq!(rt; fault.status(), 4);
     }

@@ -6,6 +6,8 @@ use Rattle.ssb_script.specs.declared.error.ScriptError.{ScriptError}
 use Rattle.ssb_script.specs.declared.error.ScriptError.TheVariants as script
 use Rattle.ssb_faults.specs.declared.fault.Fault.{Fault}
 use Rattle.ssb_faults.specs.declared.fault.Fault.TheVariants as fault
+use Rattle.ssb_faults.specs.declared.job.JobFault.{JobFault}
+use Rattle.ssb_faults.specs.declared.job.JobFault.TheVariants as job
 
 -- 1: the data, the script or the trace is refused; 4: it could not be read
 abbrev pub data_status : LoadError → ℕ
@@ -31,3 +33,8 @@ status_of (fault.CannotRead path) = 4
 status_of fault.NoRandomness = 4
 status_of fault.WriteFailed = 4
 status_of fault.OutOfMemory = 4
+
+-- that of a job: of the program's fault, or of what only this job finds
+abbrev pub job_status : {F : Type 0} → (F → ℕ) → JobFault F → ℕ
+job_status found (job.Program why) = status_of why
+job_status found (job.Found what) = found what

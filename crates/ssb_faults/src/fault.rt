@@ -34,7 +34,7 @@ pub enum Fault {
 }
 
 /// Writes a fault line, if the writer takes it: the program's name, and then what the fault says of itself.
-pub fn write_fault<F: fmt::Display, E: Write>(err: &mut E, fault: &F) {
+pub(crate) fn write_fault<F: fmt::Display, E: Write>(err: &mut E, fault: &F) {
     let _ = writeln!(err, "ssb_live: {fault}");
 }
 

@@ -7,7 +7,7 @@
 //!
 //! The contract of [`Fault::status`] and [`Fault::tell`] (`specs/Status.antt`): the status is that of the fault. What
 //! speaks against a trace, and what keeps a server from being opened, are told by the crates that audit and serve, each
-//! by a fault of its own round this one; [`write_fault`] writes their lines too.
+//! as the [`Finding`] of a [`JobFault`].
 //!
 //! ```text
 //! Err(fault) => fault.tell(&mut err)      // ssb_live: data: 21 FieldCount lineorder 2
@@ -15,7 +15,9 @@
 #![tactic(auto)]
 
 mod fault;
+mod job;
 #[cfg(test)]
 mod tests;
 
-pub use fault::{Fault, write_fault};
+pub use fault::Fault;
+pub use job::{Finding, JobFault};

@@ -44,20 +44,6 @@ Q4.3 at 0 rows 1
 1997|UNITED ST7|MFGR#1440|660
 ";
 
-// A writer that takes nothing.
-#[derive(Drop)]
-struct Full;
-
-impl Write for Full {
-    fn write(&mut self, _buf: &[u8]) -> io::Result<usize> {
-        Ok(0)
-    }
-
-    fn flush(&mut self) -> io::Result<()> {
-        Ok(())
-    }
-}
-
 // A writer that takes all and hands nothing on.
 #[derive(Drop)]
 struct Holding;

@@ -152,9 +152,7 @@ impl<W: Wait + Drop> Client<W> {
     {
         let applied = apply(rt, &server.hall, &mut self.pass, self.number, refresh);
         if let Ok(receipt) = &applied {
-            server
-                .pace
-                .keep(rt, &server.bells, self.number, receipt.number);
+            server.pace.keep(rt, &server.hall, &server.bells, self.number, receipt.number);
         }
         applied
     }

@@ -1,13 +1,14 @@
 //! How far clients run ahead of a batch.
 
 use crate::bells::Bells;
+use crate::server::Hall;
 use std::sync::Wait;
 use std::sync::atomic::{AtomicU64, Ordering};
 use std::time::Duration;
 
 /// How many commits follow those that a batch is brought up to before clients wait for its end. A dispatcher takes that
-/// many into a copy in some 10 ms.
-const MOST_AHEAD: u64 = 8_192;
+/// many into a copy in some 3 ms.
+const MOST_AHEAD: u64 = 2_048;
 
 /// The longest wait of a refresh for a dispatcher, in milliseconds.
 const LONGEST_WAIT: u64 = 2;
@@ -49,8 +50,17 @@ impl Pace {
     }
 
     /// Lets the client wait that has made this commit, if a dispatcher wants the row store or it is far ahead of a batch.
-    pub(crate) fn keep<R: Wait>(&self, rt: &R, bells: &Bells, number: u32, commit: u64) {
+    /// Whoever waits for the row store then goes on, since nobody else would wake them.
+    pub(crate) fn keep<W: Wait + Drop, R: Wait>(
+        &self,
+        rt: &R,
+        hall: &Hall<W>,
+        bells: &Bells,
+        number: u32,
+        commit: u64,
+    ) {
         if commit > self.limit.load(Ordering::Relaxed) {
+            hall.wake_waiting();
             bells.await_client_for(rt, number, Duration::from_millis(LONGEST_WAIT));
         }
     }

@@ -15,7 +15,7 @@ ghost use Rattle.ssb_runs.specs.Run.{IsRun};
 ghost use Rattle.ssb_schema.specs.declared.table.Table.{Table};
 ghost use Rattle.ssb_trace.specs.TraceText.{trace_text};
 
-use crate::fault::ServingFault;
+use crate::fault::{NotRun, ServingFault};
 use crate::pace::Pace;
 use crate::printing::write_run;
 use ssb_faults::Fault;
@@ -62,7 +62,7 @@ fn serve<R: Threads + Sync + Wait + Clock + AllocGlobal>(
     let base = Arc::new(rt.alloc(), base)?;
     match serve_scripts(rt, rt.alloc(), hashing, base, scripts, dispatchers, times) {
         Ok(run) => Ok(run),
-        Err(fault) => Err(ServingFault::Run(fault)),
+        Err(fault) => Err(ServingFault::Found(NotRun(fault))),
     }
 }
 

@@ -107,6 +107,7 @@ fn serve_blocks<W: Wait + Drop, R: Wait + Threads + Sync, O: Write>(
     ensures stopped { IfErr result (λ error. StopsAlone error client.old client.new (request.requests_of script)
         (O.contents writer.old) (O.contents writer.new)) }
     ensures same { AreAlike client.old client.new }
+    ensures other { dispatcher.new.hall ≡ dispatcher.old.hall }
 {
     let mut blocks = script.blocks.into_iter();
     let mut done = 0;
@@ -124,7 +125,8 @@ fn serve_blocks<W: Wait + Drop, R: Wait + Threads + Sync, O: Write>(
 ///
 /// Before the answer to a question is awaited the dispatcher takes its turn, all in this thread. Each reply is written
 /// before the next block is served. A script that can't be read changes and writes nothing. A failed write ends the
-/// run: the blocks before it and its own have been served. In each case nothing is outstanding then.
+/// run: the blocks before it and its own have been served. In each case nothing is outstanding then, and the client and
+/// the dispatcher can be handed another script.
 pub fn run_script<W: Wait + Drop, T: Wait + Threads + Sync, R: Read + Drop, O: Write>(
     alloc: Global,
     rt: &T,
@@ -143,6 +145,7 @@ pub fn run_script<W: Wait + Drop, T: Wait + Threads + Sync, R: Read + Drop, O: W
     ensures ended { IfErr result (λ error. EndsAlone (R.remaining source) error client.old client.new dispatcher.old
         dispatcher.new (O.contents writer.old) (O.contents writer.new)) }
     ensures same { AreAlike client.old client.new }
+    ensures other { dispatcher.new.hall ≡ dispatcher.old.hall }
 {
     match read_script(alloc, source, MOST_RECORDS) {
         Ok(script) => serve_blocks(rt, server, client, dispatcher, script, writer),

@@ -1,7 +1,6 @@
 //! Warehouses to try.
 ghost use Rattle.std.specs.Prelude.{◌≡◌};
 
-use crate::tests::small_data::small_tables;
 use crate::{
     CUSTOMER, DATE, PART, SUPPLIER, brands_of_parts, cities_of_customers, cities_of_suppliers,
     lineorder,
@@ -132,7 +131,7 @@ pub fn of_many_cities(
 
 /// The warehouse of the small data set, of which the worked rows are known.
 pub fn small(rt: &impl RandomSource, alloc: Global) -> Result<Warehouse, Fail> {
-    warehouse_after(rt, alloc, base_of(alloc, small_tables())?, &[])
+    warehouse_after(rt, alloc, base_of(alloc, small_data::tables())?, &[])
 }
 
 /// A constant of a question.

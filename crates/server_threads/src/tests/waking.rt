@@ -1,5 +1,4 @@
 //! Threads that sleep, and are woken.
-ghost use Rattle.std.specs.Prelude.{◌≡◌};
 ghost use Rattle.std.specs.Thread.{IsSync};
 ghost use Rattle.ssb_server.specs.Tickets.{IsOf, IsQuiet};
 

@@ -34,8 +34,8 @@ fn live<T: Wait + Threads + Sync>(
     Ok((done, out))
 }
 
-// The one-thread warehouse over the small data set.
-fn warehouse(alloc: Global, hashing: RandomState) -> Result<(RowStore, PlainLines), Fail>
+/// The one-thread warehouse over the small data set.
+pub fn warehouse(alloc: Global, hashing: RandomState) -> Result<(RowStore, PlainLines), Fail>
     ensures { IfOk result (λ made. IsBehind made.1 made.0) }
 {
     let base = base(alloc)?;

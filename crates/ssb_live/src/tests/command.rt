@@ -2,7 +2,7 @@
 
 use crate::command::run;
 use crate::tests::progress::Screened;
-use crate::tests::{ALL, Full, Holding, Told};
+use crate::tests::{ALL, Holding, Told};
 use small_data::{CUSTOMER, DATE, LINEORDER, PART, SUPPLIER};
 use std::alloc::Global;
 use std::fs;
@@ -131,9 +131,10 @@ fn help_and_version_go_to_standard_output(rt: HostRuntime) -> Result<(), Fail> {
         assert!(rt; text.contains("Usage: ssb_live"));
         let words = listed(rt.alloc(), words)?;
         let script = "".as_bytes();
+        let mut full: &mut [u8] = &mut [];
         let mut err = Vec::new(rt.alloc());
         assert_eq!(rt;
-            run(&rt, words.as_slice(), script, NONE, &mut Full, &mut err),
+            run(&rt, words.as_slice(), script, NONE, &mut full, &mut err),
             4
         );
         assert_eq!(rt; err.as_slice(), b"ssb_live: write failed\n".as_slice());
@@ -174,9 +175,10 @@ fn wrong_words_end_with_status_2_whether_or_not_they_are_told(rt: HostRuntime) -
         assert!(rt; told.err.as_slice().starts_with(b"error: "));
         let words = listed(rt.alloc(), words)?;
         let mut out = Vec::new(rt.alloc());
+        let mut full: &mut [u8] = &mut [];
         let script = "".as_bytes();
         assert_eq!(rt;
-            run(&rt, words.as_slice(), script, NONE, &mut out, &mut Full),
+            run(&rt, words.as_slice(), script, NONE, &mut out, &mut full),
             2
         );
     }

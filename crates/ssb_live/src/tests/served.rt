@@ -2,6 +2,7 @@
 
 use crate::tests::Told;
 use crate::tests::command::{run_with, write_small};
+use small_data::stored;
 use std::fs;
 use std::process::Abort;
 use std::random::RandomSource;
@@ -26,48 +27,6 @@ pub fn put(rt: &HostRuntime, folder: &str, name: &str, text: &str) -> Result<Str
     fs::write(rt, path.as_str(), text)?;
     Ok(path)
 }
-
-// The script and the report of the stored run.
-const STORED_SCRIPT: &str = "\
-query|Q4.1
-begin
-add
-line|9|1|3|4|3|19971215|o|0|1|10|10|0|10|2000|0|19971215|AIR
-withdraw|77
-commit
-query|Q4.1
-begin
-add
-line|9|1|3|4|3|19971215|o|0|1|10|10|0|10|2000|0|19971215|AIR
-commit
-query|Q4.1
-";
-
-const STORED_RUN: &str = "\
-client 1
-Q4.1 at 0 rows 1
-1997|UNITED STATES|660
-refused at 0 action 2: 47 Absent 77
-Q4.1 at 0 rows 1
-1997|UNITED STATES|660
-committed 1
-Q4.1 at 1 rows 1
-1997|UNITED STATES|-1330
-commits 1
-";
-
-const STORED_TRACE: &str = "\
-commit|1
-add
-line|9|1|3|4|3|19971215|o|0|1|10|10|0|10|2000|0|19971215|AIR
-end
-answer|1|0|Q4.1|1
-row|1997|UNITED STATES|660
-answer|1|0|Q4.1|1
-row|1997|UNITED STATES|660
-answer|1|1|Q4.1|1
-row|1997|UNITED STATES|-1330
-";
 
 /// A run of the words `run --data DIR` and these others.
 pub fn serve<R>(rt: &R, folder: &str, words: &[&str]) -> Result<Told, Fail>
@@ -103,7 +62,7 @@ where
 #[test]
 fn the_stored_run_is_served_traced_and_audited(rt: HostRuntime) -> Result<(), Fail> {
     let folder = folder_of(&rt, "stored")?;
-    let script = put(&rt, folder.as_str(), "script", STORED_SCRIPT)?;
+    let script = put(&rt, folder.as_str(), "script", stored::SCRIPT)?;
     let trace = put(&rt, folder.as_str(), "trace", "an older trace, which goes")?;
     let words = ["--trace", trace.as_str(), script.as_str()];
     let told = serve(&rt, folder.as_str(), &words)?;
@@ -113,14 +72,14 @@ fn the_stored_run_is_served_traced_and_audited(rt: HostRuntime) -> Result<(), Fa
         &rt,
         folder.as_str(),
         "short",
-        STORED_TRACE.get(..95).unwrap_or(""),
+        stored::TRACE.get(..95).unwrap_or(""),
     )?;
     let cut = audited(&rt, folder.as_str(), short.as_str())?;
     fs::remove_dir_all(&rt, folder.as_str())?;
-    assert_eq!(rt; std::str::from_utf8(told.out.as_slice())?, STORED_RUN);
+    assert_eq!(rt; std::str::from_utf8(told.out.as_slice())?, stored::RUN);
     assert_eq!(rt; told.status, 0);
     assert!(rt; told.err.is_empty());
-    assert_eq!(rt; kept.as_str(), STORED_TRACE);
+    assert_eq!(rt; kept.as_str(), stored::TRACE);
     assert_eq!(rt; verdict.out.as_slice(), b"ok 1 3\n".as_slice());
     assert_eq!(rt; verdict.status, 0);
     assert!(rt; verdict.err.is_empty());

@@ -2,7 +2,7 @@ use Rattle.std.proofs.Common.{◌≡◌, ◌⊎◌, Err, List, Some, inl, inr, r
 use Rattle.ssb_auditing.specs.Audited.{IsRefusedTrace, SpeaksAgainst}
 use Rattle.ssb_files.specs.Loaded.{AreRefused}
 use Rattle.ssb_auditing.specs.Status.{auditing_status}
-use Rattle.ssb_auditing.specs.declared.fault.AuditingFault.TheVariants.{Program}
+use Rattle.ssb_faults.specs.declared.job.JobFault.TheVariants.{Program}
 use Rattle.ssb_load.specs.Load.{AreTexts}
 use Rattle.ssb_schema.specs.declared.table.Table.{Table}
 use Rattle.ssb_auditing.proofs.audit.legal_trace.Goals as goal

@@ -2,7 +2,7 @@ use Rattle.std.proofs.Common.{◌≡◌, Err, rules}
 use Rattle.ssb_files.specs.Loaded.{AreRefused}
 use Rattle.small_data.specs.SmallTexts.{small_texts}
 use Rattle.ssb_demo.specs.Status.{demo_status}
-use Rattle.ssb_demo.specs.declared.fault.DemoFault.TheVariants.{Program}
+use Rattle.ssb_faults.specs.declared.job.JobFault.TheVariants.{Program}
 use Rattle.ssb_demo.proofs.serving.small_base.Goals as goal
 
 pub returns-in_err-base-clause-data : goal.returns-in_err-base-clause-data

@@ -1,7 +1,7 @@
 use Rattle.std.proofs.Common.{◌≡◌, ◌⊎◌, Err, List, inl, inr, map, rules, ℕ}
 use Rattle.ssb_files.specs.Loaded.{AreRefused}
 use Rattle.ssb_files.specs.Scripts.{HasRefused}
-use Rattle.ssb_serving.specs.declared.fault.ServingFault.TheVariants.{Program}
+use Rattle.ssb_faults.specs.declared.job.JobFault.TheVariants.{Program}
 use Rattle.ssb_serving.specs.Status.{serving_status}
 use Rattle.ssb_load.specs.Load.{AreTexts}
 use Rattle.ssb_schema.specs.declared.table.Table.{Table}
