@@ -1,37 +1,8 @@
 -- A row and the first of its class have the same values.
-use Rattle.std.proofs.Common.{
-  ◌≡◌,
-  ℕ,
-  ◌+◌,
-  ◌<◌,
-  ◌≤◌,
-  ◌⊎◌,
-  inl,
-  inr,
-  Bool,
-  true,
-  false,
-  cond,
-  List,
-  [],
-  ◌∷◌,
-  length,
-  map,
-  fold,
-  get_or,
-  Option,
-  Some,
-  zero,
-  suc,
-  sym,
-  refl,
-  ap,
-  ◌∙◌,
-  arith,
-  unwrap_or,
-}
+use Rattle.std.proofs.Common.{◌≡◌, ℕ, ◌+◌, ◌<◌, ◌≤◌, ◌⊎◌, inl, inr, Bool, true, false, cond, List, [], ◌∷◌, length, map}
+use Rattle.std.proofs.Common.{fold, get_or, Some, zero, suc, sym, refl, ap, ◌∙◌, arith, unwrap_or}
 use Rattle.std.specs.Prelude.{nat_eq, nat_lt, ◌&&◌, if◌then◌else◌, slice_get}
-use Rattle.std.specs.List.{list_all, position, position_from, range_with_len}
+use Rattle.std.specs.List.{position_from, range_with_len}
 use Rattle.std.proofs.lemmas.Bool.{ltb-false, ltb-true}
 use Rattle.std.proofs.lemmas.List.{get_or-map}
 use Rattle.std.proofs.lemmas.List.FromFn.{get_or-map-range_with_len}
@@ -41,15 +12,14 @@ use Rattle.ssb_schema.specs.declared.customer.CustomerFields.{CustomerFields}
 use Rattle.ssb_schema.specs.declared.supplier.SupplierFields.{SupplierFields}
 use Rattle.ssb_schema.specs.declared.part.PartFields.{PartFields}
 use Rattle.ssb_schema.specs.declared.date.DateFields.{DateFields}
-use Rattle.ssb_schema.specs.declared.table.Table.{Table}
 use Rattle.ssb_schema.specs.declared.table.Table.TheVariants as table
 use Rattle.ssb_schema.specs.Base.{Dimensions}
 use Rattle.ssb_plans.specs.declared.value.Value.{Value}
 use Rattle.ssb_plans.specs.declared.value.Value.TheVariants.{Number}
-use Rattle.ssb_plans.proofs.ValueLemmas.{value_Decides}
+use Rattle.ssb_plans.proofs.ValueLaws.{value_Decides}
 use Rattle.ssb_queries.specs.RowValues.{customer_value, supplier_value, part_value, date_value}
 use Rattle.dim_index.specs.Codes.{is_same}
-use Rattle.dim_index.specs.Classes.{are_alike, class_at, classes_by, classes_of, read_columns, rows_in, extent_of}
+use Rattle.dim_index.specs.Classes.{are_alike, class_at, classes_by, classes_of, read_columns, extent_of}
 
 apart : {X : Type 0} → true ≡ false → X
 apart e = absurd (cc)

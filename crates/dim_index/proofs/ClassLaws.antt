@@ -1,34 +1,6 @@
 -- The classes of rows, from their codes.
-use Rattle.std.proofs.Common.{
-  ◌≡◌,
-  ℕ,
-  ◌+◌,
-  ◌<◌,
-  ◌≤◌,
-  Bool,
-  true,
-  false,
-  cond,
-  List,
-  [],
-  ◌∷◌,
-  ◌++◌,
-  length,
-  map,
-  get_or,
-  Option,
-  Some,
-  None,
-  zero,
-  suc,
-  sym,
-  refl,
-  ap,
-  ◌∙◌,
-  arith,
-  unwrap_or,
-  take,
-}
+use Rattle.std.proofs.Common.{◌≡◌, ℕ, ◌+◌, ◌<◌, Bool, true, false, cond, List, [], ◌∷◌, ◌++◌, length, map, get_or}
+use Rattle.std.proofs.Common.{Option, Some, None, zero, suc, sym, refl, ap, ◌∙◌, arith, unwrap_or, take}
 use Rattle.std.specs.Prelude.{nat_eq, ◌&&◌, if◌then◌else◌}
 use Rattle.std.specs.List.{position, position_from, range_with_len}
 use Rattle.std.specs.Option.{option_or}
@@ -41,9 +13,12 @@ use Rattle.ssb_schema.specs.declared.table.Table.{Table}
 use Rattle.ssb_schema.specs.declared.table.Table.TheVariants as table
 use Rattle.ssb_plans.specs.declared.value.Value.{Value}
 use Rattle.ssb_plans.specs.declared.value.Value.TheVariants.{Number}
+use Rattle.ssb_queries.specs.RowValues.{customer_value, supplier_value, part_value, date_value}
 use Rattle.dim_index.specs.Codes.{codes_of, is_same}
 use Rattle.dim_index.specs.Keys.{keys_of}
-use Rattle.dim_index.specs.Classes.{are_alike, class_at, classes_by, classes_of, read_columns, rows_in}
+use Rattle.dim_index.specs.Classes.{are_alike, class_at, classes_by, classes_of, telling_columns, read_columns, rows_in}
+use Rattle.dim_index.specs.Values.{values_of}
+use Rattle.ssb_schema.specs.declared.column.Column.{Column}
 use Rattle.dim_index.specs.Told.{Told, same_told, told_at, told_rows, first_in, noted}
 use Rattle.dim_index.proofs.CodeLaws.{same_codes}
 
@@ -197,6 +172,32 @@ classes_told a b c d like_b like_c like_d =
 pub classes_length : (d : Dimensions) (t : Table) → length (classes_of d t) ≡ rows_in d t
 unfolding classes_of
 classes_length d t = length-map-range_with_len (class_at (read_columns d t) (rows_in d t)) 0 (rows_in d t)
+
+-- the values of four columns of a base
+abbrev four_of : Tables → List Column → Column → List (List Value)
+four_of base columns d =
+    values_of base (get_or columns 0 d) ∷ values_of base (get_or columns 1 d) ∷ values_of base (get_or columns 2 d)
+    ∷ values_of base (get_or columns 3 d) ∷ []
+
+classes_read : (base : Tables) (t : Table) (d : Column)
+    → classes_by (four_of base (telling_columns t) d) (length (values_of base (get_or (telling_columns t) 0 d)))
+    ≡ classes_of base.dimensions t
+unfolding classes_of
+classes_read base table.Customer d = ap (classes_by (read_columns base.dimensions table.Customer))
+    (length-map base.dimensions.customers (customer_value 4))
+classes_read base table.Supplier d = ap (classes_by (read_columns base.dimensions table.Supplier))
+    (length-map base.dimensions.suppliers (supplier_value 4))
+classes_read base table.Part d = ap (classes_by (read_columns base.dimensions table.Part))
+    (length-map base.dimensions.parts (part_value 3))
+classes_read base table.Date d = ap (classes_by (read_columns base.dimensions table.Date))
+    (length-map base.dimensions.dates (date_value 5))
+classes_read base table.Lineorder d = refl
+
+-- the columns that queries read tell the classes
+pub classes_kept : (base : Tables) (t : Table) (columns : List Column) (d : Column) → columns ≡ telling_columns t
+    → classes_by (four_of base columns d) (length (values_of base (get_or columns 0 d))) ≡ classes_of base.dimensions t
+classes_kept base t columns d is =
+    ap (λ l. classes_by (four_of base l d) (length (values_of base (get_or l 0 d)))) is ∙ classes_read base t d
 
 -- there are as many classes as keys
 pub classes_keys : (base : Tables) (t : Table) → length (classes_of base.dimensions t) ≡ length (keys_of base t)

@@ -44,7 +44,7 @@ use Rattle.std.proofs.lemmas.Grind.{same_number_lists}
 use Rattle.indexmap.specs.IndexSet.{insert_key}
 use Rattle.ssb_plans.specs.declared.value.Value.{Value}
 use Rattle.ssb_plans.specs.declared.value.Value.TheVariants.{Number}
-use Rattle.ssb_plans.proofs.ValueLemmas.{value_Decides}
+use Rattle.ssb_plans.proofs.ValueLaws.{value_Decides}
 use Rattle.dim_index.specs.Codes.{is_same, distinct, code_in, codes_of}
 use Rattle.dim_index.specs.CodedColumns.{values_in, IsCoded}
 

@@ -1,30 +1,6 @@
 -- The base finds a row where its key stands.
-use Rattle.std.proofs.Common.{
-  ◌≡◌,
-  ℕ,
-  ◌<◌,
-  ◌^◌,
-  Bool,
-  true,
-  false,
-  cond,
-  List,
-  [],
-  ◌∷◌,
-  length,
-  map,
-  get_or,
-  Option,
-  Some,
-  None,
-  zero,
-  suc,
-  sym,
-  refl,
-  ap,
-  ◌∙◌,
-  arith,
-}
+use Rattle.std.proofs.Common.{◌≡◌, ℕ, ◌<◌, Bool, true, false, cond, List, [], ◌∷◌, length, map, get_or, Option, Some}
+use Rattle.std.proofs.Common.{None, zero, suc, sym, refl, ap, ◌∙◌, arith}
 use Rattle.std.specs.Prelude.{nat_lt, nat_eq, ◌||◌, is_some}
 use Rattle.std.specs.Option.{option_and_then}
 use Rattle.std.specs.List.{slice_get, position_or_len}
@@ -32,10 +8,9 @@ use Rattle.std.proofs.lemmas.List.{get_or-map, length-map}
 use Rattle.std.proofs.lemmas.List.Sums.{position_or_len_is}
 use Rattle.std.proofs.lemmas.Bool.{eqb-true, eq-eqb, ne_eqb, lt-ltb, le-ltb}
 use Rattle.std.proofs.lemmas.Bool.Decides.{nat_tests}
-use Rattle.std.proofs.lemmas.Option.{slice_get-get_or, slice_get_within, get_or_from_slice_get, same_Some}
+use Rattle.std.proofs.lemmas.Option.{slice_get-get_or, slice_get_within, get_or_from_slice_get}
 use Rattle.ssb_schema.specs.FirstFault.{AreDistinct}
-use Rattle.ssb_schema.specs.Base.{has_key_of, has_key, row_with, IsDimension}
-use Rattle.ssb_schema.specs.declared.limits.Limits.{Limits}
+use Rattle.ssb_schema.specs.Base.{has_key_of, has_key, row_with}
 use Rattle.dim_index.specs.Keys.{position_in}
 
 -- a key that no earlier one equals stands first where it stands
@@ -113,10 +88,3 @@ pub position_within : {R : Type 0} (key : R → ℕ) (rows : List R) (k i : ℕ)
     → i < length rows
 position_within key rows k i row found = let there = found_has key rows k (sym found) in
     slice_get_within rows i there.0 (row ∙ there.1)
-
-pub position_small : {R : Type 0} (limits : Limits) (key : R → ℕ) (rows : List R) (k : ℕ) (place : Option ℕ)
-    → IsDimension limits key rows → option_and_then (slice_get rows) place ≡ row_with key rows k
-    → is_some place ≡ has_key key rows k → (i : ℕ) → place ≡ Some i → i < 2 ^ 32
-position_small limits key rows k None is row found i at = absurd (cc)
-position_small limits key rows k (Some j) is row found i at =
-    omega (arith, position_within key rows k j row found, is.few, limits.dimension_rows_range, same_Some j i at)

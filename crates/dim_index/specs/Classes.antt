@@ -18,30 +18,30 @@ use Rattle.std.specs.Prelude.{
 use Rattle.std.specs.List.{list_all, position, range_with_len}
 use Rattle.ssb_schema.specs.declared.table.Table.{Table}
 use Rattle.ssb_schema.specs.declared.table.Table.TheVariants as table
+use Rattle.ssb_schema.specs.declared.column.Column.{Column}
 use Rattle.ssb_schema.specs.Base.{Dimensions, Tables}
+use Rattle.ssb_schema.specs.Columns.{C_CITY, C_NATION, C_REGION, S_CITY, S_NATION, S_REGION, P_MFGR, P_CATEGORY}
+use Rattle.ssb_schema.specs.Columns.{P_BRAND1, D_YEAR, D_YEARMONTHNUM, D_YEARMONTH, D_WEEKNUMINYEAR}
 use Rattle.ssb_plans.specs.declared.value.Value.{Value}
 use Rattle.ssb_plans.specs.declared.value.Value.TheVariants.{Number}
-use Rattle.ssb_queries.specs.RowValues.{customer_value, supplier_value, part_value, date_value}
 use Rattle.dim_index.specs.Codes.{is_same}
+use Rattle.dim_index.specs.Kept.{unread}
+use Rattle.dim_index.specs.Values.{values_in}
 use Rattle.dim_index.specs.declared.first_rows.Extents.{Extents}
 
--- a dimension's columns that queries read, each as its values row by row; where there are three, with the one at place
--- 0,
--- which stands for all others and tells no rows apart
+-- the columns by which queries tell a dimension's rows apart; where there are three, with the one at place 0, which
+-- stands for all others and tells none apart
+abbrev pub telling_columns : Table → List Column
+telling_columns table.Customer = C_CITY ∷ C_NATION ∷ C_REGION ∷ unread table.Customer ∷ []
+telling_columns table.Supplier = S_CITY ∷ S_NATION ∷ S_REGION ∷ unread table.Supplier ∷ []
+telling_columns table.Part = P_MFGR ∷ P_CATEGORY ∷ P_BRAND1 ∷ unread table.Part ∷ []
+telling_columns table.Date = D_YEAR ∷ D_YEARMONTHNUM ∷ D_YEARMONTH ∷ D_WEEKNUMINYEAR ∷ []
+telling_columns table.Lineorder =
+    unread table.Lineorder ∷ unread table.Lineorder ∷ unread table.Lineorder ∷ unread table.Lineorder ∷ []
+
+-- each as its values row by row
 abbrev pub read_columns : Dimensions → Table → List (List Value)
-read_columns d table.Customer =
-    map (customer_value 4) d.customers ∷ map (customer_value 5) d.customers ∷ map (customer_value 6) d.customers
-    ∷ map (customer_value 0) d.customers ∷ []
-read_columns d table.Supplier =
-    map (supplier_value 4) d.suppliers ∷ map (supplier_value 5) d.suppliers ∷ map (supplier_value 6) d.suppliers
-    ∷ map (supplier_value 0) d.suppliers ∷ []
-read_columns d table.Part =
-    map (part_value 3) d.parts ∷ map (part_value 4) d.parts ∷ map (part_value 5) d.parts
-    ∷ map (part_value 0) d.parts ∷ []
-read_columns d table.Date =
-    map (date_value 5) d.dates ∷ map (date_value 6) d.dates ∷ map (date_value 7) d.dates
-    ∷ map (date_value 12) d.dates ∷ []
-read_columns d table.Lineorder = []
+read_columns d t = map (λ column. values_in d column.table column.place) (telling_columns t)
 
 -- how many rows a dimension has; the fact table is no dimension
 abbrev pub rows_in : Dimensions → Table → ℕ

@@ -1,17 +1,27 @@
 -- What the index of a base keeps.
-use Rattle.std.specs.Prelude.{◌≡◌, map}
-use Rattle.ssb_schema.specs.Base.{Tables}
+use Rattle.std.specs.Prelude.{◌≡◌, ℕ, List, [], map}
+use Rattle.ssb_schema.specs.Base.{Dimensions, Tables}
+use Rattle.ssb_schema.specs.declared.table.Table.{Table}
 use Rattle.ssb_schema.specs.declared.table.Table.TheVariants as table
 use Rattle.dim_index.specs.Classes.{classes_of, reduced}
 use Rattle.dim_index.specs.Values.{values_of}
 use Rattle.dim_index.specs.Kept.{kept_columns}
+use Rattle.dim_index.specs.declared.index.Classes.{Classes}
 use Rattle.dim_index.specs.declared.index.DimIndex.TheInside.{Inside}
+
+-- the classes that are kept of a dimension's rows; the fact table has none
+abbrev pub classes_in : Classes → Table → List ℕ
+classes_in classes table.Customer = classes.customers.items
+classes_in classes table.Supplier = classes.suppliers.items
+classes_in classes table.Part = classes.parts.items
+classes_in classes table.Date = classes.dates.items
+classes_in classes table.Lineorder = []
+
+abbrev pub AreClasses : Dimensions → Classes → Type 0
+AreClasses d classes = (t : Table) → classes_in classes t ≡ classes_of d t
 
 -- the kept columns, one by one; the classes of the rows; and the rows that begin a class
 pub record IsIndexOf (base : Tables) (index : Inside) : Type 0 where
   pub columns_are : index.columns.items ≡ map (values_of base) kept_columns
-  pub customers_are : index.classes.customers.items ≡ classes_of base.dimensions table.Customer
-  pub suppliers_are : index.classes.suppliers.items ≡ classes_of base.dimensions table.Supplier
-  pub parts_are : index.classes.parts.items ≡ classes_of base.dimensions table.Part
-  pub dates_are : index.classes.dates.items ≡ classes_of base.dimensions table.Date
+  pub classes_are : AreClasses base.dimensions index.classes
   pub first_are : index.first_rows ≡ reduced base

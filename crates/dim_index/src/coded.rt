@@ -5,8 +5,8 @@ ghost use Rattle.dim_index.specs.Codes.{distinct, codes_of};
 ghost use Rattle.dim_index.specs.Bitmaps.{narrowed};
 
 use crate::dictionary::Dictionary;
-use crate::row::DimensionRow;
-use ssb_queries::{Cond, Value};
+use ssb_queries::{Cond, QueryFields, Value};
+use ssb_schema::Row;
 use std::alloc::{AllocError, Global};
 use std::marker::Model;
 
@@ -32,19 +32,19 @@ impl Model for CodedColumn {
 
 impl CodedColumn {
     /// The column at a place of the rows.
-    pub(crate) fn of<T: DimensionRow>(
+    pub(crate) fn of<F: QueryFields>(
         alloc: Global,
-        rows: &[T],
+        rows: &[Row<F>],
         place: usize,
     ) -> Result<CodedColumn, AllocError>
         requires { length rows.now < 2 ^ 32 }
-        ensures { IfOk result (λ column. column ≡ map (T.value_of place) rows.now) }
+        ensures { IfOk result (λ column. column ≡ map (F.value_of place) rows.now) }
     {
         let mut dictionary = Dictionary::new(alloc);
         let mut codes = Vec::new(alloc);
         codes.reserve(rows.len())?;
         for row in rows {
-            let code = dictionary.enter(row.value(place))?;
+            let code = dictionary.enter(F::value(row, place))?;
             codes.push(code)?;
         }
         Ok(CodedColumn { dictionary, codes })

@@ -65,16 +65,16 @@ fn coded(
     match column.table {
         Table::Customer => CodedColumn::of(
             alloc,
-            first(base.customers(), extents.customers),
+            first(base.customers().rows(), extents.customers),
             place,
         ),
         Table::Supplier => CodedColumn::of(
             alloc,
-            first(base.suppliers(), extents.suppliers),
+            first(base.suppliers().rows(), extents.suppliers),
             place,
         ),
-        Table::Part => CodedColumn::of(alloc, first(base.parts(), extents.parts), place),
-        Table::Date => CodedColumn::of(alloc, first(base.dates(), extents.dates), place),
+        Table::Part => CodedColumn::of(alloc, first(base.parts().rows(), extents.parts), place),
+        Table::Date => CodedColumn::of(alloc, first(base.dates().rows(), extents.dates), place),
         Table::Lineorder => Ok(CodedColumn::none(alloc)),
     }
 }

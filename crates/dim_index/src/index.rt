@@ -1,13 +1,14 @@
 //! The index of the dimensions.
-ghost use Rattle.std.specs.Prelude.{◌≡◌, ℕ, ◌<◌, ◌^◌, ◌++◌, Some, IfOk, OnOk, length, map, slice_get, slice_index};
+ghost use Rattle.std.specs.Prelude.{◌≡◌, ◌<◌, ◌^◌, ◌++◌, IfOk, OnOk, length, map, slice_get, slice_index};
+ghost use Rattle.ssb_schema.specs.Base.{has_key_of};
+ghost use Rattle.ssb_schema.specs.FirstFault.{AreDistinct};
 ghost use Rattle.ssb_plans.specs.Queries.{number_of, text_of};
-ghost use Rattle.dim_index.specs.Keys.{position_of, keys_of};
+ghost use Rattle.dim_index.specs.Keys.{position_in, position_of, keys_of};
 ghost use Rattle.dim_index.specs.Values.{values_of};
 ghost use Rattle.dim_index.specs.Codes.{distinct, codes_of};
 ghost use Rattle.dim_index.specs.Bitmaps.{bits_of};
-ghost use Rattle.dim_index.specs.Classes.{classes_of, reduced};
+ghost use Rattle.dim_index.specs.Classes.{classes_of, telling_columns, reduced};
 ghost use Rattle.dim_index.specs.Kept.{kept_columns, unread};
-ghost use Rattle.ssb_schema.specs.declared.table.Table.TheVariants as table;
 
 use crate::bitmap::Bitmap;
 use crate::classes::{classes_by, extent_of};
@@ -18,7 +19,8 @@ use crate::kept::{kept_at, unread_columns};
 use ssb_queries::Test;
 use ssb_schema::{
     Base, C_CITY, C_NATION, C_REGION, Column, D_WEEKNUMINYEAR, D_YEAR, D_YEARMONTH, D_YEARMONTHNUM,
-    P_BRAND1, P_CATEGORY, P_MFGR, S_CITY, S_NATION, S_REGION, Table, query_columns,
+    Dimension, Keyed, P_BRAND1, P_CATEGORY, P_MFGR, S_CITY, S_NATION, S_REGION, Table,
+    query_columns,
 };
 use std::alloc::{AllocError, Global};
 use std::marker::Model;
@@ -54,17 +56,6 @@ impl Model for DimIndex {
     ghost invariant = { λ index. IsIndexOf index.base.value index };
 }
 
-// A position in 32 bits.
-fn short(position: Option<usize>) -> Option<u32>
-    requires { (place : ℕ) → position ≡ Some place → place < 2 ^ 32 }
-    ensures { result ≡ position }
-{
-    match position {
-        Some(place) => Some(place as u32),
-        None => None,
-    }
-}
-
 // The column of a base, in codes.
 fn coded(alloc: Global, base: &Base, column: Column) -> Result<CodedColumn, AllocError>
     ensures { IfOk result (λ coded. coded ≡ values_of base.now column) }
@@ -72,10 +63,10 @@ fn coded(alloc: Global, base: &Base, column: Column) -> Result<CodedColumn, Allo
     base.soundness();
     let place = column.place;
     match column.table {
-        Table::Customer => CodedColumn::of(alloc, base.customers(), place),
-        Table::Supplier => CodedColumn::of(alloc, base.suppliers(), place),
-        Table::Part => CodedColumn::of(alloc, base.parts(), place),
-        Table::Date => CodedColumn::of(alloc, base.dates(), place),
+        Table::Customer => CodedColumn::of(alloc, base.customers().rows(), place),
+        Table::Supplier => CodedColumn::of(alloc, base.suppliers().rows(), place),
+        Table::Part => CodedColumn::of(alloc, base.parts().rows(), place),
+        Table::Date => CodedColumn::of(alloc, base.dates().rows(), place),
         Table::Lineorder => Ok(CodedColumn::none(alloc)),
     }
 }
@@ -111,90 +102,80 @@ fn unread(table: Table) -> Column
     Column { table, place: 0 }
 }
 
-// The classes of the customers.
-fn customer_classes(
+// The columns by which queries tell a dimension's rows apart: where there are three, with one that tells none apart.
+fn telling_columns(table: Table) -> [Column; 4]
+    ensures { result ≡ telling_columns table }
+{
+    match table {
+        Table::Customer => [C_CITY, C_NATION, C_REGION, unread(table)],
+        Table::Supplier => [S_CITY, S_NATION, S_REGION, unread(table)],
+        Table::Part => [P_MFGR, P_CATEGORY, P_BRAND1, unread(table)],
+        Table::Date => [D_YEAR, D_YEARMONTHNUM, D_YEARMONTH, D_WEEKNUMINYEAR],
+        Table::Lineorder => [unread(table), unread(table), unread(table), unread(table)],
+    }
+}
+
+// The classes of the rows of a dimension.
+fn table_classes(
     alloc: Global,
     base: &Base,
     columns: &[CodedColumn],
+    table: Table,
 ) -> Result<Vec<u32>, AllocError>
     requires { columns.now ≡ map (values_of base.now) kept_columns }
-    ensures { IfOk result (λ classes. classes.items ≡ classes_of base.now.dimensions table.Customer) }
+    ensures { IfOk result (λ classes. classes.items ≡ classes_of base.now.dimensions table) }
 {
     base.soundness();
+    let [first, second, third, fourth] = telling_columns(table);
     classes_by(
         alloc,
-        kept(base, columns, C_CITY),
-        kept(base, columns, C_NATION),
-        kept(base, columns, C_REGION),
-        kept(base, columns, unread(Table::Customer)),
+        kept(base, columns, first),
+        kept(base, columns, second),
+        kept(base, columns, third),
+        kept(base, columns, fourth),
     )
 }
 
-// The classes of the suppliers.
-fn supplier_classes(
-    alloc: Global,
-    base: &Base,
-    columns: &[CodedColumn],
-) -> Result<Vec<u32>, AllocError>
-    requires { columns.now ≡ map (values_of base.now) kept_columns }
-    ensures { IfOk result (λ classes. classes.items ≡ classes_of base.now.dimensions table.Supplier) }
-{
-    base.soundness();
-    classes_by(
-        alloc,
-        kept(base, columns, S_CITY),
-        kept(base, columns, S_NATION),
-        kept(base, columns, S_REGION),
-        kept(base, columns, unread(Table::Supplier)),
-    )
+impl Classes {
+    ghost use Rattle.dim_index.specs.Indexed.{AreClasses, classes_in};
+
+    // The classes of the rows of all dimensions.
+    fn new(alloc: Global, base: &Base, columns: &[CodedColumn]) -> Result<Classes, AllocError>
+        requires { columns.now ≡ map (values_of base.now) kept_columns }
+        ensures { IfOk result (AreClasses base.now.dimensions) }
+    {
+        Ok(Classes {
+            customers: table_classes(alloc, base, columns, Table::Customer)?,
+            suppliers: table_classes(alloc, base, columns, Table::Supplier)?,
+            parts: table_classes(alloc, base, columns, Table::Part)?,
+            dates: table_classes(alloc, base, columns, Table::Date)?,
+        })
+    }
+
+    // The classes of the rows of a dimension; the fact table has none.
+    fn of(&self, table: Table) -> &[u32]
+        ensures { result.now ≡ classes_in self.now table }
+    {
+        match table {
+            Table::Customer => &self.customers,
+            Table::Supplier => &self.suppliers,
+            Table::Part => &self.parts,
+            Table::Date => &self.dates,
+            Table::Lineorder => &[],
+        }
+    }
 }
 
-// The classes of the parts.
-fn part_classes(alloc: Global, base: &Base, columns: &[CodedColumn]) -> Result<Vec<u32>, AllocError>
-    requires { columns.now ≡ map (values_of base.now) kept_columns }
-    ensures { IfOk result (λ classes. classes.items ≡ classes_of base.now.dimensions table.Part) }
+// The position of the row that has the key, in 32 bits.
+fn position<F: Keyed>(dimension: &Dimension<F>, key: u64) -> Option<u32>
+    requires few { length dimension.now < 2 ^ 32 }
+    requires distinct { AreDistinct (has_key_of F.key_of) dimension.now }
+    ensures { result ≡ position_in (map F.key_of dimension.now) key }
 {
-    base.soundness();
-    classes_by(
-        alloc,
-        kept(base, columns, P_MFGR),
-        kept(base, columns, P_CATEGORY),
-        kept(base, columns, P_BRAND1),
-        kept(base, columns, unread(Table::Part)),
-    )
-}
-
-// The classes of the dates.
-fn date_classes(alloc: Global, base: &Base, columns: &[CodedColumn]) -> Result<Vec<u32>, AllocError>
-    requires { columns.now ≡ map (values_of base.now) kept_columns }
-    ensures { IfOk result (λ classes. classes.items ≡ classes_of base.now.dimensions table.Date) }
-{
-    base.soundness();
-    classes_by(
-        alloc,
-        kept(base, columns, D_YEAR),
-        kept(base, columns, D_YEARMONTHNUM),
-        kept(base, columns, D_YEARMONTH),
-        kept(base, columns, D_WEEKNUMINYEAR),
-    )
-}
-
-// The classes of the rows of all dimensions.
-fn base_classes(alloc: Global, base: &Base, columns: &[CodedColumn]) -> Result<Classes, AllocError>
-    requires { columns.now ≡ map (values_of base.now) kept_columns }
-    ensures customers { IfOk result (λ classes. classes.customers.items ≡ classes_of base.now.dimensions
-        table.Customer) }
-    ensures suppliers { IfOk result (λ classes. classes.suppliers.items ≡ classes_of base.now.dimensions
-        table.Supplier) }
-    ensures parts { IfOk result (λ classes. classes.parts.items ≡ classes_of base.now.dimensions table.Part) }
-    ensures dates { IfOk result (λ classes. classes.dates.items ≡ classes_of base.now.dimensions table.Date) }
-{
-    Ok(Classes {
-        customers: customer_classes(alloc, base, columns)?,
-        suppliers: supplier_classes(alloc, base, columns)?,
-        parts: part_classes(alloc, base, columns)?,
-        dates: date_classes(alloc, base, columns)?,
-    })
+    match dimension.position(key) {
+        Some(place) => Some(place as u32),
+        None => None,
+    }
 }
 
 impl DimIndex {
@@ -205,7 +186,7 @@ impl DimIndex {
         let mut columns = Vec::new(alloc);
         push_coded(alloc, &base, query_columns(), &mut columns)?;
         push_coded(alloc, &base, unread_columns(), &mut columns)?;
-        let classes = base_classes(alloc, &base, &columns)?;
+        let classes = Classes::new(alloc, &base, &columns)?;
         let extents = Extents {
             customers: extent_of(&classes.customers),
             suppliers: extent_of(&classes.suppliers),
@@ -235,10 +216,10 @@ impl DimIndex {
         let base = self.base();
         base.soundness();
         match table {
-            Table::Customer => short(base.customer_position(key)),
-            Table::Supplier => short(base.supplier_position(key)),
-            Table::Part => short(base.part_position(key)),
-            Table::Date => short(base.date_position(key)),
+            Table::Customer => position(base.customers(), key),
+            Table::Supplier => position(base.suppliers(), key),
+            Table::Part => position(base.parts(), key),
+            Table::Date => position(base.dates(), key),
             Table::Lineorder => None,
         }
     }
@@ -248,10 +229,10 @@ impl DimIndex {
         ensures { result ≡ length (keys_of self.now table) }
     {
         match table {
-            Table::Customer => self.base.customers().len(),
-            Table::Supplier => self.base.suppliers().len(),
-            Table::Part => self.base.parts().len(),
-            Table::Date => self.base.dates().len(),
+            Table::Customer => self.base.customers().rows().len(),
+            Table::Supplier => self.base.suppliers().rows().len(),
+            Table::Part => self.base.parts().rows().len(),
+            Table::Date => self.base.dates().rows().len(),
             Table::Lineorder => 0,
         }
     }
@@ -269,13 +250,8 @@ impl DimIndex {
         requires { position < length (keys_of self.now table) }
         ensures { result ≡ slice_index (classes_of self.now.dimensions table) position }
     {
-        match table {
-            Table::Customer => self.classes.customers[position as usize],
-            Table::Supplier => self.classes.suppliers[position as usize],
-            Table::Part => self.classes.parts[position as usize],
-            Table::Date => self.classes.dates[position as usize],
-            Table::Lineorder => 0,
-        }
+        let classes = self.classes.of(table);
+        classes[position as usize]
     }
 
     /// The index of the rows that begin a class, and of those between them: all that a scan by class looks at.

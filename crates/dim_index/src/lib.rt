@@ -40,7 +40,6 @@ mod dictionary;
 mod first_rows;
 mod index;
 mod kept;
-mod row;
 #[cfg(test)]
 mod tests;
 

@@ -1,216 +1,67 @@
 //! Worked examples over the dimensions of the small data set, with answers that were written by hand.
 
 use crate::{Bitmap, DimIndex};
+use small_rows::{base, customer, date, dimensions, part};
 use ssb_queries::{Cond, Test};
 use ssb_schema::{
-    Base, BaseParts, C_CITY, C_NATION, C_REGION, Column, Customer, CustomerFields, D_WEEKNUMINYEAR,
-    D_YEAR, D_YEARMONTH, D_YEARMONTHNUM, DateFields, DateRow, Items, Limits, P_BRAND1, P_CATEGORY,
-    P_MFGR, Part, PartFields, S_CITY, S_NATION, S_REGION, Supplier, SupplierFields, Table, Text,
-    query_columns,
+    BaseParts, C_CITY, C_NATION, C_REGION, Column, Customer, D_WEEKNUMINYEAR, D_YEAR, D_YEARMONTH,
+    D_YEARMONTHNUM, DateRow, Items, Limits, P_BRAND1, P_CATEGORY, P_MFGR, Part, S_CITY, S_NATION,
+    S_REGION, Table, Text, query_columns,
 };
-use std::alloc::{AllocError, Global};
-use std::sync::Arc;
+use std::alloc::Global;
 use std::test::Fail;
 
-fn text(alloc: Global, text: &str) -> Result<Text, AllocError> {
-    Text::from_str(alloc, text)
+fn index_of(alloc: Global, parts: BaseParts) -> Result<DimIndex, Fail> {
+    let base = base(alloc, Limits::standard(), parts)?;
+    Ok(DimIndex::new(alloc, base)?)
 }
 
-// What stands in a column that no query reads.
-fn blank(alloc: Global) -> Text {
-    Text::new(String::new(alloc))
+fn small_index(alloc: Global) -> Result<DimIndex, Fail> {
+    index_of(alloc, dimensions(alloc)?)
 }
 
-// A city, nation and region.
-#[derive(Clone, Copy)]
-struct Place(&'static str, &'static str, &'static str);
+const BRITON: [&str; 3] = ["UNITED KI1", "UNITED KINGDOM", "EUROPE"];
 
-const CUSTOMERS: [Place; 3] = [
-    Place("UNITED KI1", "UNITED KINGDOM", "EUROPE"),
-    Place("CHINA    0", "CHINA", "ASIA"),
-    Place("UNITED ST4", "UNITED STATES", "AMERICA"),
-];
+const CHINESE: [&str; 3] = ["CHINA    0", "CHINA", "ASIA"];
 
-const SUPPLIERS: [Place; 3] = [
-    Place("UNITED KI5", "UNITED KINGDOM", "EUROPE"),
-    Place("JAPAN    3", "JAPAN", "ASIA"),
-    Place("UNITED ST7", "UNITED STATES", "AMERICA"),
-];
-
-// A part's manufacturer, category and brand.
-const PARTS: [[&str; 3]; 4] = [
-    ["MFGR#1", "MFGR#12", "MFGR#121"],
-    ["MFGR#2", "MFGR#22", "MFGR#2221"],
-    ["MFGR#2", "MFGR#22", "MFGR#222"],
-    ["MFGR#1", "MFGR#14", "MFGR#1440"],
-];
-
-// A date's key, month and week.
-const DATES: [(u64, u64, &str, u64); 4] = [
-    (19930101, 199301, "Jan1993", 1),
-    (19940105, 199401, "Jan1994", 1),
-    (19940208, 199402, "Feb1994", 6),
-    (19971215, 199712, "Dec1997", 50),
-];
-
-fn customer(alloc: Global, key: u64, place: Place) -> Result<Customer, Fail> {
-    let city = text(alloc, place.0)?;
-    let nation = text(alloc, place.1)?;
-    let region = text(alloc, place.2)?;
-    let made = Customer::new(CustomerFields {
-        key,
-        name: blank(alloc),
-        address: blank(alloc),
-        city,
-        nation,
-        region,
-        phone: blank(alloc),
-        market_segment: blank(alloc),
-    });
-    Ok(made.ok().ok_or("customer")?)
-}
-
-fn supplier(alloc: Global, key: u64, place: Place) -> Result<Supplier, Fail> {
-    let city = text(alloc, place.0)?;
-    let nation = text(alloc, place.1)?;
-    let region = text(alloc, place.2)?;
-    let made = Supplier::new(SupplierFields {
-        key,
-        name: blank(alloc),
-        address: blank(alloc),
-        city,
-        nation,
-        region,
-        phone: blank(alloc),
-    });
-    Ok(made.ok().ok_or("supplier")?)
-}
-
-fn part(alloc: Global, key: u64, kinds: [&str; 3]) -> Result<Part, Fail> {
-    let manufacturer = text(alloc, kinds[0])?;
-    let category = text(alloc, kinds[1])?;
-    let brand = text(alloc, kinds[2])?;
-    let made = Part::new(PartFields {
-        key,
-        name: blank(alloc),
-        manufacturer,
-        category,
-        brand,
-        color: blank(alloc),
-        part_type: blank(alloc),
-        size: blank(alloc),
-        container: blank(alloc),
-    });
-    Ok(made.ok().ok_or("part")?)
-}
-
-fn date(alloc: Global, key: u64, month: u64, name: &str, week: u64) -> Result<DateRow, Fail> {
-    let year_month = text(alloc, name)?;
-    let made = DateRow::new(DateFields {
-        key,
-        field2: blank(alloc),
-        field3: blank(alloc),
-        field4: blank(alloc),
-        year: month / 100,
-        year_month_number: month,
-        year_month,
-        field8: blank(alloc),
-        field9: blank(alloc),
-        field10: blank(alloc),
-        field11: blank(alloc),
-        week,
-        field13: blank(alloc),
-        field14: blank(alloc),
-        field15: blank(alloc),
-        field16: blank(alloc),
-        field17: blank(alloc),
-    });
-    Ok(made.ok().ok_or("date")?)
-}
-
-fn customers(alloc: Global, places: &[Place]) -> Result<Vec<Customer>, Fail> {
+fn like_customers(alloc: Global) -> Result<Vec<Customer>, Fail> {
     let mut customers = Vec::new(alloc);
-    for (key, place) in (1..9).zip(places) {
-        customers.push(customer(alloc, key, *place)?)?;
+    for (key, names) in (1..6).zip([BRITON, BRITON, CHINESE, BRITON, CHINESE]) {
+        customers.push(customer(alloc, key, names)?)?;
     }
     Ok(customers)
 }
 
-fn suppliers(alloc: Global) -> Result<Vec<Supplier>, Fail> {
-    let mut suppliers = Vec::new(alloc);
-    for (key, place) in (1..4).zip(&SUPPLIERS) {
-        suppliers.push(supplier(alloc, key, *place)?)?;
-    }
-    Ok(suppliers)
-}
+const BRAND: [&str; 3] = ["MFGR#2", "MFGR#22", "MFGR#2221"];
 
-fn parts(alloc: Global, rows: &[[&str; 3]]) -> Result<Vec<Part>, Fail> {
+const OTHER_BRAND: [&str; 3] = ["MFGR#2", "MFGR#22", "MFGR#222"];
+
+fn like_parts(alloc: Global) -> Result<Vec<Part>, Fail> {
     let mut parts = Vec::new(alloc);
-    for (key, kinds) in (1..9).zip(rows) {
-        parts.push(part(alloc, key, *kinds)?)?;
+    for (key, names) in (1..4).zip([BRAND, OTHER_BRAND, BRAND]) {
+        parts.push(part(alloc, key, names)?)?;
     }
     Ok(parts)
 }
 
-fn dates(alloc: Global, rows: &[(u64, u64, &str, u64)]) -> Result<Vec<DateRow>, Fail> {
+// Days of January 1994, with their weeks.
+const LIKE_DATES: [(u64, u64); 4] = [(19940105, 1), (19940106, 1), (19940108, 2), (19940107, 1)];
+
+fn like_dates(alloc: Global) -> Result<Vec<DateRow>, Fail> {
     let mut dates = Vec::new(alloc);
-    for (key, month, name, week) in rows {
-        dates.push(date(alloc, *key, *month, name, *week)?)?;
+    for (key, week) in LIKE_DATES {
+        dates.push(date(alloc, key, 199401, "Jan1994", week)?)?;
     }
     Ok(dates)
 }
 
-fn index_of(alloc: Global, parts: BaseParts) -> Result<DimIndex, Fail> {
-    let base = Base::new(alloc, Limits::standard(), parts)
-        .ok()
-        .ok_or("base")?;
-    Ok(DimIndex::new(alloc, Arc::new(alloc, base)?)?)
-}
-
-fn small_index(alloc: Global) -> Result<DimIndex, Fail> {
-    let customers = customers(alloc, &CUSTOMERS)?;
-    let suppliers = suppliers(alloc)?;
-    let parts = parts(alloc, &PARTS)?;
-    let dates = dates(alloc, &DATES)?;
-    index_of(
-        alloc,
-        BaseParts {
-            customers,
-            suppliers,
-            parts,
-            dates,
-            lines: Vec::new(alloc),
-        },
-    )
-}
-
-// Days of two weeks of a month.
-const LIKE_DATES: [(u64, u64, &str, u64); 4] = [
-    (19940105, 199401, "Jan1994", 1),
-    (19940106, 199401, "Jan1994", 1),
-    (19940108, 199401, "Jan1994", 2),
-    (19940107, 199401, "Jan1994", 1),
-];
-
-// The index of dimensions in which some rows cannot be told apart by any query: the small data set's first customer
-// three times and its second twice, and its second part, another brand of the same category, and the second part again.
+// The index of dimensions in which some rows cannot be told apart by any query. The suppliers are the small data set's.
 fn index_of_like_rows(alloc: Global) -> Result<DimIndex, Fail> {
-    let [first, second, _] = CUSTOMERS;
-    let customers = customers(alloc, &[first, first, second, first, second])?;
-    let suppliers = suppliers(alloc)?;
-    let [_, part, other_brand, _] = PARTS;
-    let parts = parts(alloc, &[part, other_brand, part])?;
-    let dates = dates(alloc, &LIKE_DATES)?;
-    index_of(
-        alloc,
-        BaseParts {
-            customers,
-            suppliers,
-            parts,
-            dates,
-            lines: Vec::new(alloc),
-        },
-    )
+    let mut parts = dimensions(alloc)?;
+    parts.customers = like_customers(alloc)?;
+    parts.parts = like_parts(alloc)?;
+    parts.dates = like_dates(alloc)?;
+    index_of(alloc, parts)
 }
 
 // The index of dimensions without rows.
@@ -344,11 +195,12 @@ fn left(index: &DimIndex, alloc: Global, column: Column, cond: Cond) -> Result<B
 fn bitmaps_tell_the_rows_that_pass(rt: HostRuntime) -> Result<(), Fail> {
     let alloc = rt.alloc();
     let index = small_index(alloc)?;
-    let asia = left(&index, alloc, C_REGION, Cond::TextIs(text(alloc, "ASIA")?))?;
+    let asia = Cond::TextIs(Text::from_str(alloc, "ASIA")?);
+    let asia = left(&index, alloc, C_REGION, asia)?;
     assert_eq!(rt; asia.as_slice(), [false, true, false].as_slice());
     let mut nations = Vec::new(alloc);
-    nations.push(text(alloc, "JAPAN")?)?;
-    nations.push(text(alloc, "UNITED STATES")?)?;
+    nations.push(Text::from_str(alloc, "JAPAN")?)?;
+    nations.push(Text::from_str(alloc, "UNITED STATES")?)?;
     let nations = left(
         &index,
         alloc,
@@ -356,7 +208,10 @@ fn bitmaps_tell_the_rows_that_pass(rt: HostRuntime) -> Result<(), Fail> {
         Cond::TextOneOf(Items::from_vec(nations)),
     )?;
     assert_eq!(rt; nations.as_slice(), [false, true, true].as_slice());
-    let brands = Cond::TextFromTo(text(alloc, "MFGR#2221")?, text(alloc, "MFGR#2228")?);
+    let brands = Cond::TextFromTo(
+        Text::from_str(alloc, "MFGR#2221")?,
+        Text::from_str(alloc, "MFGR#2228")?,
+    );
     let brands = left(&index, alloc, P_BRAND1, brands)?;
     assert_eq!(rt; brands.as_slice(), [false, true, false, false].as_slice());
     let years = left(&index, alloc, D_YEAR, Cond::NumberFromTo(1993, 1994))?;
@@ -463,7 +318,8 @@ fn a_dimension_may_have_no_rows(rt: HostRuntime) -> Result<(), Fail> {
         assert_eq!(rt; index.position(table, 1), None, "{}", table.name());
         assert_eq!(rt; index.first_rows().positions(table), 0, "{}", table.name());
     }
-    let asia = left(&index, alloc, C_REGION, Cond::TextIs(text(alloc, "ASIA")?))?;
+    let asia = Cond::TextIs(Text::from_str(alloc, "ASIA")?);
+    let asia = left(&index, alloc, C_REGION, asia)?;
     assert_eq!(rt; asia.len(), 0);
     Ok(())
 }

@@ -5,7 +5,7 @@ use Rattle.std.proofs.lemmas.List.Sorted.{length_permutation}
 use Rattle.ssb_schema.specs.Facts.{fact_of, facts_of}
 use Rattle.row_store.specs.History.{CommitRecord, lines_after}
 use Rattle.row_store.specs.State.{StandsFor}
-use Rattle.row_store.proofs.Rearranged.{equal_counts_rearrange}
+use Rattle.row_store.proofs.RearrangedLaws.{equal_counts_rearrange}
 use Rattle.fact_columns.specs.Stored.{Stored, columns_state}
 use Rattle.fact_columns.specs.Laws.{LiveFactsAreTheLines}
 

@@ -1,4 +1,4 @@
-pub mod FactCounts
+pub mod FactCountLaws
 pub mod PlaceLaws
 pub mod CodingLaws
 pub mod LoadingLaws

@@ -58,8 +58,8 @@ use Rattle.fact_columns.specs.Classed.{IsPlaceOf}
 use Rattle.fact_columns.specs.Spans.{if_live, live_at, live_count, kept, is_of_other, Covers, Spanned}
 use Rattle.fact_columns.specs.Coded.{counts_at, with_places}
 use Rattle.fact_columns.specs.declared.span.Span.{Span}
-use Rattle.row_store.proofs.FactCounts.{counted_last}
-use Rattle.fact_columns.proofs.FactCounts.{counts_without_order}
+use Rattle.row_store.proofs.FactCountLaws.{counted_last}
+use Rattle.fact_columns.proofs.FactCountLaws.{counts_without_order}
 
 abbrev lives : List Place → List Place
 lives places = filter is_live places
@@ -262,6 +262,18 @@ live_at_pushed_other [] line (suc other) differ = refl
 live_at_pushed_other (first ∷ places) line zero differ = refl
 live_at_pushed_other (first ∷ places) line (suc other) differ =
     live_at_pushed_other places line other (λ e. differ (ap suc e))
+
+-- what a line that is put into a place changes, and what it leaves
+pub ruleset putting = (
+  pushed,
+  written,
+  count_pushed,
+  count_written,
+  live_at_end,
+  live_at_pushed_other,
+  live_at_written,
+  live_at_set_other,
+)
 
 -- nothing is live past the end
 pub live_at_past : (places : List Place) (place : ℕ) → length places ≤ place → live_at places place ≡ None

@@ -1,8 +1,10 @@
 //! Lines in codes.
-ghost use Rattle.std.specs.Prelude.{◌++◌, List, flat_map, IfOk, OnOk};
+ghost use Rattle.std.specs.Prelude.{◌≡◌, ◌++◌, List, Some, flat_map, slice_index, IfOk, OnOk};
 ghost use Rattle.ssb_schema.specs.declared.fact.Fact.{Fact as PlainFact};
 ghost use Rattle.ssb_schema.specs.Facts.{fact_of, facts_of};
 ghost use Rattle.row_store.specs.Lines.{added_by};
+ghost use Rattle.dim_index.specs.Classes.{classes_of};
+ghost use Rattle.dim_index.specs.Keys.{position_of};
 ghost use Rattle.fact_columns.specs.Coded.{IsCodeOf, AreCodesOf};
 
 use crate::action::added;
@@ -11,23 +13,29 @@ use fact_table::{Place, terms};
 use ssb_schema::{Action, Line, Table};
 use std::alloc::{AllocError, Global};
 
+// The position of the row of a dimension that has the key, and its class; an error where there is none. Inlined, since
+// each line asks for four.
+#[inline(always)]
+fn found(index: &DimIndex, table: Table, key: u64) -> Result<(u32, u32), AllocError>
+    ensures position { IfOk result (λ (position, class). position_of index.now table key ≡ Some position) }
+    ensures class { IfOk result (λ (position, class).
+        class ≡ slice_index (classes_of index.now.dimensions table) position) }
+{
+    match index.position(table, key) {
+        Some(position) => Ok((position, index.class(table, position))),
+        None => Err(AllocError),
+    }
+}
+
 /// A line in codes; an error where the base lacks a row that it names.
 pub fn coded(index: &DimIndex, line: &Line) -> Result<Place, AllocError>
     ensures { IfOk result (IsCodeOf index.now.dimensions (fact_of line.now)) }
 {
     let fact = line.fact();
-    let Some(customer) = index.position(Table::Customer, fact.customer) else {
-        return Err(AllocError);
-    };
-    let Some(supplier) = index.position(Table::Supplier, fact.supplier) else {
-        return Err(AllocError);
-    };
-    let Some(part) = index.position(Table::Part, fact.part) else {
-        return Err(AllocError);
-    };
-    let Some(date) = index.position(Table::Date, fact.date) else {
-        return Err(AllocError);
-    };
+    let (customer, customer_class) = found(index, Table::Customer, fact.customer)?;
+    let (supplier, supplier_class) = found(index, Table::Supplier, fact.supplier)?;
+    let (part, part_class) = found(index, Table::Part, fact.part)?;
+    let (date, date_class) = found(index, Table::Date, fact.date)?;
     Ok(Place {
         order: fact.order_key,
         customer,
@@ -38,10 +46,10 @@ pub fn coded(index: &DimIndex, line: &Line) -> Result<Place, AllocError>
         price: fact.price,
         revenue: fact.revenue,
         cost: fact.cost,
-        customer_class: index.class(Table::Customer, customer),
-        supplier_class: index.class(Table::Supplier, supplier),
-        part_class: index.class(Table::Part, part),
-        date_class: index.class(Table::Date, date),
+        customer_class,
+        supplier_class,
+        part_class,
+        date_class,
     })
 }
 

@@ -9,7 +9,7 @@ ghost use Rattle.fact_columns.specs.Stored.{Stored, IsRead, columns_state};
 use crate::coding::coded_actions;
 use crate::hints::Hints;
 use crate::loading::{count_orders, span_all, table_of};
-use crate::orders::act_all;
+use crate::orders::apply_actions;
 use crate::span::Spans;
 use dim_index::DimIndex;
 use fact_table::{Place, Slices, Table};
@@ -90,6 +90,15 @@ impl Columns {
         self.rows
     }
 
+    /// Columns are sound: as many lines are live as the history leaves that they stand for. The law alone: it does
+    /// nothing.
+    pub fn soundness(&self)
+        ensures { (history : List CommitRecord) → StandsFor (columns_state self.now) history
+            → length self.now.facts ≡ length (lines_after self.now.base history) }
+    {
+        let _rows = self.rows();
+    }
+
     /// What stands at a place.
     pub fn at(&self, place: usize) -> Place
         requires { place < length self.now.places }
@@ -134,7 +143,7 @@ impl Replica for Columns {
         self.table.reserve(fresh.len())?;
         self.spans.reserve(actions.len())?;
         self.hints.reserve(actions.len())?;
-        let freed = act_all(
+        let freed = apply_actions(
             &mut self.table,
             &mut self.spans,
             &mut self.hints,

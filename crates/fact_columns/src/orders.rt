@@ -124,7 +124,7 @@ fn withdraw(table: &mut Table, spans: &mut Spans, hints: &mut Hints, key: u64) -
 }
 
 // Does what the action says; these are the lines that it adds, in codes. It answers how many lines went.
-fn act(
+fn apply_action(
     table: &mut Table,
     spans: &mut Spans,
     hints: &mut Hints,
@@ -163,7 +163,7 @@ fn act(
 }
 
 /// Does what the actions say; these are the lines that they add, in codes. It answers how many lines went.
-pub fn act_all(
+pub fn apply_actions(
     table: &mut Table,
     spans: &mut Spans,
     hints: &mut Hints,
@@ -190,7 +190,7 @@ pub fn act_all(
     let mut freed = 0;
     for action in actions {
         let (lines, later) = rest.split_at(added(action).len());
-        freed += act(table, spans, hints, action, lines);
+        freed += apply_action(table, spans, hints, action, lines);
         rest = later;
     }
     freed

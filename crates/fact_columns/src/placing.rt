@@ -45,7 +45,7 @@ pub fn are_free(table: &Table, first: usize, count: usize) -> bool
 }
 
 // Puts a line into a free place, or into a new one at the end.
-#[tactic(auto, using(crate::proofs::PlaceLaws::pushed, crate::proofs::PlaceLaws::written, crate::proofs::PlaceLaws::count_pushed, crate::proofs::PlaceLaws::count_written, crate::proofs::PlaceLaws::live_at_end, crate::proofs::PlaceLaws::live_at_pushed_other, crate::proofs::PlaceLaws::live_at_written, crate::proofs::PlaceLaws::live_at_set_other))]
+#[tactic(auto, using(crate::proofs::PlaceLaws::putting))]
 fn put(table: &mut Table, place: usize, line: Place)
     requires within { place ≤ length table.old.places }
     requires free { live_at table.old.places place ≡ None }

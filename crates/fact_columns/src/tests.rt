@@ -4,31 +4,31 @@ mod small_data;
 
 use crate::Columns;
 use row_store::{Commit, PlainLines, Replica};
-use small_data::{Step, Told, base, commit, index, lines};
+use small_data::{Step, base_of, commit, index};
+use small_rows::{Sale, lines, loaded, order_nine};
 use ssb_schema::{Fact, Line};
 use std::alloc::Global;
 use std::hash::RandomState;
 use std::test::Fail;
 
-// The line of order 9.
-const NINE: Told = (1, (3, 3, 4, 19971215), (1, 10, 0, 10, 2000));
-
 // Three lines of an order.
-const THREE: &[Told] = &[
-    (1, (1, 2, 3, 19940105), (5, 100, 2, 98, 50)),
-    (2, (2, 3, 4, 19940208), (6, 200, 3, 194, 60)),
-    (3, (3, 1, 1, 19930101), (7, 300, 4, 288, 70)),
-];
+fn three() -> [Sale; 3] {
+    [
+        Sale::of([7, 1, 1, 3, 2, 19940105, 5, 100, 2, 98, 50]),
+        Sale::of([7, 2, 2, 4, 3, 19940208, 6, 200, 3, 194, 60]),
+        Sale::of([7, 3, 3, 1, 1, 19930101, 7, 300, 4, 288, 70]),
+    ]
+}
 
 // The columns over a base of these lines.
 fn columns_of(rt: &HostRuntime, alloc: Global, lines: Vec<Line>) -> Result<Columns, Fail> {
-    let base = base(alloc, lines)?;
+    let base = base_of(alloc, lines)?;
     Ok(Columns::new(alloc, index(alloc, &base)?, RandomState::new(rt)?)?)
 }
 
 // Those over the small data set.
 fn columns(rt: &HostRuntime, alloc: Global) -> Result<Columns, Fail> {
-    columns_of(rt, alloc, lines(alloc)?)
+    columns_of(rt, alloc, lines(alloc, &loaded())?)
 }
 
 // Takes in a commit. Where memory is wanting the rows, places and commits are as they were, and it is tried once more.
@@ -52,14 +52,6 @@ fn all(alloc: Global, script: &[&[Step<'_>]]) -> Result<Vec<Commit>, Fail> {
     Ok(commits)
 }
 
-// Takes in a commit of each of these lists of actions.
-fn take_all(alloc: Global, columns: &mut Columns, script: &[&[Step<'_>]]) -> Result<(), Fail> {
-    for steps in script {
-        take(columns, &commit(alloc, steps)?)?;
-    }
-    Ok(())
-}
-
 // The fact of a live line, its keys read back; None where the place is free, or there is none.
 fn fact(columns: &Columns, i: usize) -> Option<Fact> {
     if i >= columns.places() {
@@ -72,10 +64,10 @@ fn fact(columns: &Columns, i: usize) -> Option<Fact> {
     }
     Some(Fact {
         order_key: line.order,
-        customer: base.customers().get(line.customer as usize)?.key(),
-        supplier: base.suppliers().get(line.supplier as usize)?.key(),
-        part: base.parts().get(line.part as usize)?.key(),
-        date: base.dates().get(line.date as usize)?.key(),
+        customer: base.customers().rows().get(line.customer as usize)?.key(),
+        supplier: base.suppliers().rows().get(line.supplier as usize)?.key(),
+        part: base.parts().rows().get(line.part as usize)?.key(),
+        date: base.dates().rows().get(line.date as usize)?.key(),
         quantity: u8::try_from(line.quantity()).ok()?,
         discount: line.discount(),
         price: line.price,
@@ -113,15 +105,18 @@ fn told(alloc: Global, columns: &Columns) -> Result<String, Fail> {
     Ok(told)
 }
 
-const WITHDRAW_ONE: &[Step<'static>] = &[Step::Withdraw(1)];
-
-const ADD_NINE: &[Step<'static>] = &[Step::Add(9, &[NINE])];
+// Takes in the commit that withdraws order 1, and the one that adds order 9.
+fn replace_one(alloc: Global, columns: &mut Columns) -> Result<(), Fail> {
+    let nine = [order_nine()];
+    take(columns, &commit(alloc, &[Step::Withdraw(1)])?)?;
+    take(columns, &commit(alloc, &[Step::Add(9, &nine)])?)
+}
 
 #[test]
 fn a_withdrawn_place_is_used_again(rt: HostRuntime) -> Result<(), Fail> {
     let alloc = rt.alloc();
     let mut columns = columns(&rt, alloc)?;
-    take_all(alloc, &mut columns, &[WITHDRAW_ONE, ADD_NINE])?;
+    replace_one(alloc, &mut columns)?;
     assert_eq!(rt; columns.rows(), 3);
     assert_eq!(rt; columns.places(), 4);
     assert_eq!(rt; columns.commits(), 2);
@@ -164,7 +159,7 @@ fn each_place_has_the_classes_of_its_rows(rt: HostRuntime) -> Result<(), Fail> {
 fn a_reused_place_has_the_classes_of_its_new_rows(rt: HostRuntime) -> Result<(), Fail> {
     let alloc = rt.alloc();
     let mut columns = columns(&rt, alloc)?;
-    take_all(alloc, &mut columns, &[WITHDRAW_ONE, ADD_NINE])?;
+    replace_one(alloc, &mut columns)?;
     let reused = classes(alloc, &columns)?;
     let wanted = [(0, 1, 0, 3), (1, 1, 2, 0), (0, 0, 0, 3), (0, 1, 0, 3)];
     assert_eq!(rt; reused.as_slice(), wanted.as_slice());
@@ -175,7 +170,8 @@ fn a_reused_place_has_the_classes_of_its_new_rows(rt: HostRuntime) -> Result<(),
 fn an_amended_order_has_its_new_lines_alone(rt: HostRuntime) -> Result<(), Fail> {
     let alloc = rt.alloc();
     let mut columns = columns(&rt, alloc)?;
-    take_all(alloc, &mut columns, &[&[Step::Amend(1, &[NINE])]])?;
+    let nine = [order_nine()];
+    take(&mut columns, &commit(alloc, &[Step::Amend(1, &nine)])?)?;
     assert_eq!(rt; (columns.rows(), columns.places()), (3, 4));
     let told = told(alloc, &columns)?;
     assert_eq!(rt;
@@ -190,7 +186,7 @@ fn an_empty_base_grows(rt: HostRuntime) -> Result<(), Fail> {
     let alloc = rt.alloc();
     let mut columns = columns_of(&rt, alloc, Vec::new(alloc))?;
     assert_eq!(rt; (columns.rows(), columns.places()), (0, 0));
-    take_all(alloc, &mut columns, &[WITHDRAW_ONE, ADD_NINE])?;
+    replace_one(alloc, &mut columns)?;
     let told = told(alloc, &columns)?;
     assert_eq!(rt; told.as_str(), "9 3 3 4 19971215 1 0 10 10 2000\n");
     assert_eq!(rt; columns.commits(), 2);
@@ -198,18 +194,24 @@ fn an_empty_base_grows(rt: HostRuntime) -> Result<(), Fail> {
 }
 
 // Commits that are accepted, and some that no store accepts.
-const MIXED: &[&[Step<'static>]] = &[
-    &[Step::Add(9, &[NINE]), Step::Withdraw(2)],
-    &[Step::Amend(1, THREE), Step::Add(4, THREE)],
-    &[Step::Add(4, THREE), Step::Withdraw(77)],
-    &[
-        Step::Withdraw(9),
-        Step::Add(9, THREE),
-        Step::Amend(9, &[NINE]),
-    ],
-    &[Step::Amend(88, THREE), Step::Withdraw(4)],
-    &[Step::Add(3, &[NINE]), Step::Add(3, THREE)],
-];
+fn mixed(alloc: Global) -> Result<Vec<Commit>, Fail> {
+    let (nine, three) = ([order_nine()], three());
+    all(
+        alloc,
+        &[
+            &[Step::Add(9, &nine), Step::Withdraw(2)],
+            &[Step::Amend(1, &three), Step::Add(4, &three)],
+            &[Step::Add(4, &three), Step::Withdraw(77)],
+            &[
+                Step::Withdraw(9),
+                Step::Add(9, &three),
+                Step::Amend(9, &nine),
+            ],
+            &[Step::Amend(88, &three), Step::Withdraw(4)],
+            &[Step::Add(3, &nine), Step::Add(3, &three)],
+        ],
+    )
+}
 
 // How often a fact stands in a list.
 fn count(facts: &[Fact], fact: Fact) -> usize {
@@ -233,8 +235,8 @@ fn has_the_lines(alloc: Global, columns: &Columns, plain: &PlainLines) -> Result
 fn the_rows_are_the_lines_of_a_plain_list(rt: HostRuntime) -> Result<(), Fail> {
     let alloc = rt.alloc();
     let mut columns = columns(&rt, alloc)?;
-    let mut plain = PlainLines::new(alloc, base(alloc, lines(alloc)?)?)?;
-    let commits = all(alloc, MIXED)?;
+    let mut plain = PlainLines::new(alloc, base_of(alloc, lines(alloc, &loaded())?)?)?;
+    let commits = mixed(alloc)?;
     for round in 0..17 {
         for commit in &commits {
             take(&mut columns, commit)?;
@@ -247,30 +249,27 @@ fn the_rows_are_the_lines_of_a_plain_list(rt: HostRuntime) -> Result<(), Fail> {
     Ok(())
 }
 
-const ADD_BOTH: &[Step<'static>] = &[Step::Add(7, THREE), Step::Add(9, &[NINE])];
-
-// The same orders with other numbers of lines.
-const ADD_OTHERS: &[Step<'static>] = &[Step::Add(7, &[NINE]), Step::Add(9, THREE)];
-
-const WITHDRAW_NINE: &[Step<'static>] = &[Step::Withdraw(9)];
-
-const WITHDRAW_SEVEN: &[Step<'static>] = &[Step::Withdraw(7)];
+// Commits that add two orders and withdraw them, and then the same orders with other numbers of lines.
+fn turnover(alloc: Global) -> Result<Vec<Commit>, Fail> {
+    let (nine, three) = ([order_nine()], three());
+    all(
+        alloc,
+        &[
+            &[Step::Add(7, &three), Step::Add(9, &nine)],
+            &[Step::Withdraw(9)],
+            &[Step::Withdraw(7)],
+            &[Step::Add(7, &nine), Step::Add(9, &three)],
+            &[Step::Withdraw(9)],
+            &[Step::Withdraw(7)],
+        ],
+    )
+}
 
 #[test]
 fn places_do_not_grow_with_turnover(rt: HostRuntime) -> Result<(), Fail> {
     let alloc = rt.alloc();
     let mut columns = columns(&rt, alloc)?;
-    let commits = all(
-        alloc,
-        &[
-            ADD_BOTH,
-            WITHDRAW_NINE,
-            WITHDRAW_SEVEN,
-            ADD_OTHERS,
-            WITHDRAW_NINE,
-            WITHDRAW_SEVEN,
-        ],
-    )?;
+    let commits = turnover(alloc)?;
     for _ in 0..10_000 {
         for commit in &commits {
             take(&mut columns, commit)?;
@@ -280,15 +279,19 @@ fn places_do_not_grow_with_turnover(rt: HostRuntime) -> Result<(), Fail> {
     Ok(())
 }
 
-// A line of a supplier that the base lacks.
-const UNKNOWN: Told = (2, (3, 8, 4, 19971215), (1, 10, 0, 10, 2000));
-
 #[test]
 fn an_unknown_key_changes_nothing(rt: HostRuntime) -> Result<(), Fail> {
     let alloc = rt.alloc();
     let mut columns = columns(&rt, alloc)?;
     let before = told(alloc, &columns)?;
-    let commit = commit(alloc, &[Step::Withdraw(1), Step::Add(9, &[NINE, UNKNOWN])])?;
+    // The base lacks the second line's supplier.
+    let unknown = Sale {
+        number: 2,
+        supplier: 8,
+        ..order_nine()
+    };
+    let sales = [order_nine(), unknown];
+    let commit = commit(alloc, &[Step::Withdraw(1), Step::Add(9, &sales)])?;
     assert!(rt; columns.absorb(&commit).is_err());
     let after = told(alloc, &columns)?;
     assert_eq!(rt; after.as_str(), before.as_str());

@@ -1,2 +1,2 @@
 pub mod FilterLaws
-pub mod PlaceLists
+pub mod PlaceListLaws

@@ -20,7 +20,7 @@
 //! | try at word 0, which sets its lowest bit; a miss changes nothing | TakeRows |
 //! | word 0 grows by 1 with a commit, shrinks by 1 without | PutRows |
 //! | load of word 0 | Look |
-//! | a mailbox's word becomes 1; from 1 to 2; 3; from 3 to 0. A miss changes nothing | Post; Grab; Answer, GiveUp; Collect |
+//! | a mailbox's word becomes 1; from 1 to 2; 3; from 3 to 0. a miss: no change | Post; Grab; Answer, GiveUp; Collect |
 //! | try at word 1; word 1 becomes 0 | TakeWriter; PutWriter |
 //! | a value into or out of a slot in hand; cutting and joining passes; a client's first hold of its mailbox | none |
 //!

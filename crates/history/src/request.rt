@@ -18,7 +18,9 @@ pub struct Grabbed {
 /// What became of a request: rows after so many commits, or none, for a cause.
 #[derive(Clone, Copy, Debug, PartialEq, Eq)]
 pub enum Outcome {
+    /// Rows after so many commits.
     Served(u64),
+    /// No rows, for this cause.
     GivenUp(Unserved),
 }
 

@@ -20,8 +20,10 @@ impl<W: Follower> TableRule<Slot<W>, View, Opening> for OneHistory {
     ghost first = { λ key. dealer (terms_of key) };
 }
 
+/// The table under its rule.
 pub type Board<W> = Table<Slot<W>, View, Opening, OneHistory, Global>;
 
+/// A seat at it.
 pub type Place<W> = Seat<Slot<W>, View>;
 
 /// Takes the row store where it is home.

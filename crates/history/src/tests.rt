@@ -7,15 +7,13 @@ ghost use Rattle.history.specs.Words.{request};
 ghost use Rattle.history.specs.Tokens.{IsDispatcher, MayAnswer, without};
 ghost use Rattle.history.specs.Closing.{IsClientOf, IsDispatcherOf};
 
-mod data;
-
 use crate::{Opened, Pass, Shared};
-use data::{adding, base};
 use history_core::Who;
 use row_store::{PlainLines, RowStore};
+use small_rows::{adding, base_of_lines};
 use ssb_plans::{Query, Question};
 use ssb_queries::{Answer, Unserved};
-use ssb_schema::Refresh;
+use ssb_schema::{Limits, Refresh};
 use std::alloc::{AllocError, Global};
 use std::hash::RandomState;
 use std::sync::atomic::{AtomicU64, Ordering};
@@ -66,7 +64,7 @@ fn opened(alloc: Global, hashing: RandomState) -> Result<Opened<PlainLines>, Fai
     ensures clients { IfOk result (λ r. All (IsClientOf r.shared) r.clients.items) }
     ensures dispatchers { IfOk result (λ r. All (IsDispatcherOf r.shared) r.dispatchers.items) }
 {
-    let base = base(alloc)?;
+    let base = base_of_lines(alloc, Limits::standard(), Vec::new(alloc))?;
     let store = RowStore::new(alloc, Arc::try_clone(&base)?, hashing)?;
     let lines = PlainLines::new(alloc, base)?;
     Ok(Shared::new(alloc, store, lines, 3, 2)?)

@@ -43,6 +43,7 @@ pub enum Role {
     Token(u32),
     /// It carries what another has seen.
     Note,
+    /// It is done with.
     Spent,
 }
 
@@ -76,8 +77,12 @@ pub struct Opening {
 /// What a slot of the table has.
 #[derive(Drop)]
 pub enum SlotValue<W> {
+    /// The row store, at home.
     Rows(RowStore),
+    /// The writer of the secondary replica, at home.
     Writer(W),
+    /// A request that no dispatcher has in hand.
     Asked(Request),
+    /// An answer that its client has not collected.
     Answered(Answer),
 }

@@ -14,6 +14,7 @@ use std::marker::Model;
 pub enum Outcome {
     /// Rows after so many commits.
     Served(u64),
+    /// No rows, for this cause.
     Failed(Unserved),
 }
 
@@ -41,6 +42,7 @@ impl Model for GivenList {
 }
 
 impl GivenList {
+    /// No answers.
     pub fn new(alloc: Global) -> GivenList
         ensures { result ≡ [] }
     {

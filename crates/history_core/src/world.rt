@@ -494,9 +494,7 @@ impl World {
         requires { at ≤ length self.now.history }
         ensures { IfOk result (λ rows. rows ≡ rows_after self.now.base question.now (take at self.now.history)) }
     {
-        // What a base keeps is told where it is read.
-        let _loaded = self.base.lines();
-        let _limits = self.base.limits();
+        self.base.soundness();
         let lines = self.lines_after(at)?;
         let rows = plain(self.alloc, &self.base, lines.lines(), question)?;
         Ok(rows.list)

@@ -33,7 +33,7 @@ use Rattle.row_store.specs.History.{CommitRecord}
 use Rattle.row_store.specs.Refusals.{refusal_of}
 use Rattle.row_store.specs.Legal.{reply_at, unless_refused}
 use Rattle.row_store.specs.Laws.{BeginningsAreLegal, AcceptedStaysLegal, AcceptedIsCommitted, RefusedChangesNothing}
-use Rattle.row_store.proofs.Placed.{get-push, get-last}
+use Rattle.row_store.proofs.PlacedLaws.{get-push, get-last}
 
 pub beginnings_are_legal : BeginningsAreLegal
 beginnings_are_legal base shorter longer is legal = record {

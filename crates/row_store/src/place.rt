@@ -56,7 +56,7 @@ pub(crate) fn order_at(log: &[Commit], commit: u32, action: u32) -> &[Line]
 }
 
 // How many lines the order has after the action, where it had so many before it.
-#[tactic(auto, using(crate::proofs::Counted::count_more, crate::proofs::Counted::count_other, crate::proofs::Counted::count_replaced, crate::proofs::Counted::count_other_replaced, crate::proofs::Counted::count_gone, crate::proofs::Counted::count_kept))]
+#[tactic(auto, using(crate::proofs::CountedLaws::counting))]
 fn count_with(count: u64, action: &Action, key: u64) -> u64
     requires { count < 2 ^ 48 }
     ensures value { (lines : List LineFields) → length (lines_of key lines) ≡ count

@@ -44,13 +44,17 @@ pub struct Refusal {
 /// Why a refresh was not applied.
 #[derive(Clone, Copy, Debug, PartialEq, Eq)]
 pub enum ApplyError {
+    /// The refresh is refused.
     Refused(Refusal),
+    /// Memory ran out; the refresh would be accepted.
     OutOfMemory,
 }
 
 /// What a client is told of a refresh that was not applied: the refusal with the number of commits at that time.
 #[derive(Clone, Copy, Debug, PartialEq, Eq)]
 pub enum RefreshError {
+    /// The refresh is refused after so many commits, for the cause of this action, counted from 1.
     Refused { at: u64, action: u32, cause: Cause },
+    /// Memory ran out; the refresh would be accepted.
     OutOfMemory,
 }

@@ -51,7 +51,7 @@ fn lacks_customer(base: &Base, lines: &[Line]) -> bool
 {
     lines
         .iter()
-        .any(|line| !base.has_customer(line.customer_key()))
+        .any(|line| !base.customers().contains(line.customer_key()))
 }
 
 // Whether some line names a supplier that the base lacks.
@@ -60,21 +60,25 @@ fn lacks_supplier(base: &Base, lines: &[Line]) -> bool
 {
     lines
         .iter()
-        .any(|line| !base.has_supplier(line.supplier_key()))
+        .any(|line| !base.suppliers().contains(line.supplier_key()))
 }
 
 // Whether some line names a part that the base lacks.
 fn lacks_part(base: &Base, lines: &[Line]) -> bool
     ensures { result ≡ list_any (lacks_part base.now.dimensions) lines.now }
 {
-    lines.iter().any(|line| !base.has_part(line.part_key()))
+    lines
+        .iter()
+        .any(|line| !base.parts().contains(line.part_key()))
 }
 
 // Whether some line names a date that the base lacks.
 fn lacks_date(base: &Base, lines: &[Line]) -> bool
     ensures { result ≡ list_any (lacks_date base.now.dimensions) lines.now }
 {
-    lines.iter().any(|line| !base.has_date(line.order_date()))
+    lines
+        .iter()
+        .any(|line| !base.dates().contains(line.order_date()))
 }
 
 // The first of customer, supplier, part and date that some line names and the base lacks.
@@ -97,7 +101,7 @@ fn unknown_key(base: &Base, lines: &[Line]) -> Option<Cause>
 }
 
 // Looks at an order's lines where so many lines are live. It answers how many are live with them.
-fn join(base: &Base, order: &Order, live: usize) -> Result<usize, Cause>
+fn lines_after_joining(base: &Base, order: &Order, live: usize) -> Result<usize, Cause>
     requires { live ≤ base.now.limits.lines }
     ensures { (lines : List LineFields) → length lines ≡ live →
         MatchResult result
@@ -135,6 +139,16 @@ impl RowStore {
             line_count,
             log: Vec::new(alloc),
         })
+    }
+
+    /// Every row store is sound: its log is a legal history, and its live lines are no more than the limits allow. The
+    /// law alone: it does nothing.
+    pub fn soundness(&self)
+        ensures legal { IsLegal self.now.base self.now.log }
+        ensures few { length (lines_after self.now.base self.now.log) ≤ self.now.base.limits.lines }
+    {
+        let _log = self.log_from(0);
+        let _count = self.line_count();
     }
 
     /// The commits from the one after the first `n` on. `n` is at most `len()`.
@@ -313,7 +327,7 @@ impl RowStore {
                 if count > 0 {
                     return Err(Cause::Present(key));
                 }
-                join(&self.base, order, live)
+                lines_after_joining(&self.base, order, live)
             }
             Action::Amend(order) => {
                 let key = order.key();
@@ -321,7 +335,7 @@ impl RowStore {
                 if count == 0 {
                     return Err(Cause::AmendAbsent(key));
                 }
-                join(&self.base, order, live - count)
+                lines_after_joining(&self.base, order, live - count)
             }
             Action::Withdraw(key) => {
                 let count = self.count(earlier, *key);

@@ -1,10 +1,8 @@
 //! Worked examples of the rules, with answers that were written by hand.
 
 use crate::{ApplyError, Cause, Follower, PlainLines, Replica, RowStore};
-use ssb_schema::{
-    Action, Base, BaseError, BaseParts, Customer, CustomerFields, DateFields, DateRow, Limits,
-    Line, LineFields, Order, Part, PartFields, Refresh, Refused, Supplier, SupplierFields, Text,
-};
+use small_rows::{Sale, base_of_lines, lines, order_nine, small_base};
+use ssb_schema::{Action, Limits, Line, Order, Refresh};
 use std::alloc::{AllocError, Global};
 use std::hash::{BuildHasher, BuildHasherDefault, FoldHasher, RandomState};
 use std::sync::Arc;
@@ -31,173 +29,26 @@ enum Step<'a> {
     Withdraw(u64),
 }
 
-// The value, or its refusal as a failure of the test.
-fn made<T, F: Drop>(built: Result<T, Refused<F>>) -> Result<T, Fail> {
-    match built {
-        Ok(value) => Ok(value),
-        Err(refused) => Err(refused.fault)?,
+// A line like that of order 9, for these keys.
+fn sale(order: u64, number: u64, keys: Keys) -> Sale {
+    let (customer, supplier, part, date) = keys;
+    Sale {
+        order,
+        number,
+        customer,
+        part,
+        supplier,
+        date,
+        ..order_nine()
     }
-}
-
-fn blank(alloc: Global) -> Text {
-    Text::new(String::new(alloc))
-}
-
-fn line(alloc: Global, order_key: u64, line_number: u64, keys: Keys) -> Result<Line, Fail> {
-    let (customer_key, supplier_key, part_key, order_date) = keys;
-    made(Line::new(LineFields {
-        order_key,
-        line_number,
-        customer_key,
-        part_key,
-        supplier_key,
-        order_date,
-        order_priority: blank(alloc),
-        ship_priority: blank(alloc),
-        quantity: 1,
-        extended_price: 10,
-        order_total_price: 10,
-        discount: 0,
-        revenue: 10,
-        supply_cost: 2000,
-        tax: 0,
-        commit_date: 19971215,
-        ship_mode: blank(alloc),
-    }))
-}
-
-fn customer(alloc: Global, key: u64) -> Result<Customer, Fail> {
-    made(Customer::new(CustomerFields {
-        key,
-        name: blank(alloc),
-        address: blank(alloc),
-        city: blank(alloc),
-        nation: blank(alloc),
-        region: blank(alloc),
-        phone: blank(alloc),
-        market_segment: blank(alloc),
-    }))
-}
-
-fn supplier(alloc: Global, key: u64) -> Result<Supplier, Fail> {
-    made(Supplier::new(SupplierFields {
-        key,
-        name: blank(alloc),
-        address: blank(alloc),
-        city: blank(alloc),
-        nation: blank(alloc),
-        region: blank(alloc),
-        phone: blank(alloc),
-    }))
-}
-
-fn part(alloc: Global, key: u64) -> Result<Part, Fail> {
-    made(Part::new(PartFields {
-        key,
-        name: blank(alloc),
-        manufacturer: blank(alloc),
-        category: blank(alloc),
-        brand: blank(alloc),
-        color: blank(alloc),
-        part_type: blank(alloc),
-        size: blank(alloc),
-        container: blank(alloc),
-    }))
-}
-
-fn date(alloc: Global, key: u64) -> Result<DateRow, Fail> {
-    made(DateRow::new(DateFields {
-        key,
-        field2: blank(alloc),
-        field3: blank(alloc),
-        field4: blank(alloc),
-        year: 1997,
-        year_month_number: 199712,
-        year_month: blank(alloc),
-        field8: blank(alloc),
-        field9: blank(alloc),
-        field10: blank(alloc),
-        field11: blank(alloc),
-        week: 50,
-        field13: blank(alloc),
-        field14: blank(alloc),
-        field15: blank(alloc),
-        field16: blank(alloc),
-        field17: blank(alloc),
-    }))
-}
-
-// Customers 1 to 3, suppliers 1 to 3, parts 1 to 4, and four dates.
-fn customers(alloc: Global) -> Result<Vec<Customer>, Fail> {
-    let mut rows = Vec::new(alloc);
-    for key in 1..4 {
-        rows.push(customer(alloc, key)?)?;
-    }
-    Ok(rows)
-}
-
-fn suppliers(alloc: Global) -> Result<Vec<Supplier>, Fail> {
-    let mut rows = Vec::new(alloc);
-    for key in 1..4 {
-        rows.push(supplier(alloc, key)?)?;
-    }
-    Ok(rows)
-}
-
-fn parts(alloc: Global) -> Result<Vec<Part>, Fail> {
-    let mut rows = Vec::new(alloc);
-    for key in 1..5 {
-        rows.push(part(alloc, key)?)?;
-    }
-    Ok(rows)
-}
-
-fn dates(alloc: Global) -> Result<Vec<DateRow>, Fail> {
-    let mut rows = Vec::new(alloc);
-    for key in [19930101, 19940105, 19940208, 19971215] {
-        rows.push(date(alloc, key)?)?;
-    }
-    Ok(rows)
-}
-
-// The rows of the small data set, with these lines.
-fn base_of(alloc: Global, limits: Limits, lines: Vec<Line>) -> Result<Arc<Base>, Fail> {
-    let parts = BaseParts {
-        customers: customers(alloc)?,
-        suppliers: suppliers(alloc)?,
-        parts: parts(alloc)?,
-        dates: dates(alloc)?,
-        lines,
-    };
-    match Base::new(alloc, limits, parts) {
-        Ok(base) => Ok(Arc::new(alloc, base).map_err(AllocError::from)?),
-        Err(BaseError::Refused(refused)) => Err(refused.fault)?,
-        Err(BaseError::OutOfMemory(_)) => Err(AllocError)?,
-    }
-}
-
-// The small data set: order 1 of two lines, and orders 2 and 3 of one each.
-fn small(alloc: Global, limits: Limits) -> Result<Arc<Base>, Fail> {
-    let mut lines = Vec::new(alloc);
-    for (key, number, keys) in [
-        (1, 1, (2, 2, 2, 19930101)),
-        (1, 2, (2, 2, 3, 19930101)),
-        (2, 1, (1, 1, 1, 19971215)),
-        (3, 1, KNOWN),
-    ] {
-        lines.push(line(alloc, key, number, keys)?)?;
-    }
-    base_of(alloc, limits, lines)
 }
 
 fn order(alloc: Global, key: u64, keys: &[Keys]) -> Result<Order, Fail> {
-    let mut lines = Vec::new(alloc);
-    let mut number = 0u64;
-    for named in keys {
-        number = number.wrapping_add(1);
-        lines.push(line(alloc, key, number, *named)?)?;
+    let mut sales = Vec::new(alloc);
+    for (number, named) in (1..).zip(keys) {
+        sales.push(sale(key, number, *named))?;
     }
-    made(Order::new(lines))
+    small_rows::order(alloc, sales.as_slice())
 }
 
 fn refresh(alloc: Global, steps: &[Step<'_>]) -> Result<Arc<Refresh>, Fail> {
@@ -210,8 +61,7 @@ fn refresh(alloc: Global, steps: &[Step<'_>]) -> Result<Arc<Refresh>, Fail> {
         };
         actions.push(action)?;
     }
-    let refresh = made(Refresh::new(actions))?;
-    Ok(Arc::new(alloc, refresh).map_err(AllocError::from)?)
+    small_rows::refresh(alloc, actions)
 }
 
 // What a store replies to a refresh by client 1, as a line. Where memory is wanting, the store is as it was, and the
@@ -239,6 +89,13 @@ fn reply(store: &mut RowStore, told: &mut String, refresh: Arc<Refresh>) -> Resu
     Ok(())
 }
 
+// A store of the small data set within these limits.
+fn opened(rt: &HostRuntime, limits: Limits) -> Result<RowStore, Fail> {
+    let alloc = rt.alloc();
+    let base = small_base(alloc, limits)?;
+    Ok(RowStore::new(alloc, base, RandomState::new(rt)?)?)
+}
+
 // The replies of a store of the small data set to these refreshes in turn, and how many lines are live then.
 fn replies(
     rt: &HostRuntime,
@@ -247,7 +104,7 @@ fn replies(
 ) -> Result<String, Fail> {
     let alloc = rt.alloc();
     let limits = limits.unwrap_or(Limits::standard());
-    let mut store = RowStore::new(alloc, small(alloc, limits)?, RandomState::new(rt)?)?;
+    let mut store = opened(rt, limits)?;
     let mut told = String::new(alloc);
     for steps in script {
         reply(&mut store, &mut told, refresh(alloc, steps)?)?;
@@ -284,7 +141,11 @@ fn withdrawn_order_is_added_again_in_one_refresh(rt: HostRuntime) -> Result<(), 
     let told = replies(&rt, None, AGAIN)?;
     assert_eq!(rt;
         told.as_str(),
-        "refused 1: 41 Present 1\ncommitted 1\nlines 3\n"
+        "\
+refused 1: 41 Present 1
+committed 1
+lines 3
+"
     );
     Ok(())
 }
@@ -296,7 +157,11 @@ fn absent_order_refuses_the_whole_refresh(rt: HostRuntime) -> Result<(), Fail> {
     let told = replies(&rt, None, ABSENT)?;
     assert_eq!(rt;
         told.as_str(),
-        "refused 2: 47 Absent 77\ncommitted 1\nlines 5\n"
+        "\
+refused 2: 47 Absent 77
+committed 1
+lines 5
+"
     );
     Ok(())
 }
@@ -317,7 +182,17 @@ fn each_cause_is_told(rt: HostRuntime) -> Result<(), Fail> {
     let told = replies(&rt, None, CAUSES)?;
     assert_eq!(rt;
         told.as_str(),
-        "refused 1: 41 Present 1\nrefused 1: 42 UnknownCustomer\nrefused 1: 43 UnknownSupplier\nrefused 1: 44 UnknownPart\nrefused 1: 45 UnknownDate\nrefused 1: 47 Absent 77\nrefused 1: 48 AmendAbsent 9\nrefused 1: 42 UnknownCustomer\nlines 4\n"
+        "\
+refused 1: 41 Present 1
+refused 1: 42 UnknownCustomer
+refused 1: 43 UnknownSupplier
+refused 1: 44 UnknownPart
+refused 1: 45 UnknownDate
+refused 1: 47 Absent 77
+refused 1: 48 AmendAbsent 9
+refused 1: 42 UnknownCustomer
+lines 4
+"
     );
     Ok(())
 }
@@ -338,7 +213,17 @@ fn the_first_of_several_causes_is_told(rt: HostRuntime) -> Result<(), Fail> {
     let told = replies(&rt, Limits::new(4, 4, 1), PAIRS)?;
     assert_eq!(rt;
         told.as_str(),
-        "refused 1: 41 Present 1\nrefused 1: 42 UnknownCustomer\nrefused 1: 45 UnknownDate\nrefused 1: 48 AmendAbsent 9\nrefused 1: 46 LinesFull\nrefused 1: 47 Absent 77\nrefused 3: 41 Present 9\nrefused 2: 48 AmendAbsent 1\nlines 4\n"
+        "\
+refused 1: 41 Present 1
+refused 1: 42 UnknownCustomer
+refused 1: 45 UnknownDate
+refused 1: 48 AmendAbsent 9
+refused 1: 46 LinesFull
+refused 1: 47 Absent 77
+refused 3: 41 Present 9
+refused 2: 48 AmendAbsent 1
+lines 4
+"
     );
     Ok(())
 }
@@ -356,7 +241,14 @@ fn four_lines_and_one_commit_are_the_limits(rt: HostRuntime) -> Result<(), Fail>
     let told = replies(&rt, Limits::new(4, 4, 1), FULL)?;
     assert_eq!(rt;
         told.as_str(),
-        "refused 1: 46 LinesFull\nrefused 2: 46 LinesFull\nrefused 1: 46 LinesFull\ncommitted 1\nrefused 0: 40 LogFull\nlines 4\n"
+        "\
+refused 1: 46 LinesFull
+refused 2: 46 LinesFull
+refused 1: 46 LinesFull
+committed 1
+refused 0: 40 LogFull
+lines 4
+"
     );
     Ok(())
 }
@@ -373,11 +265,7 @@ fn amended_orders_do_not_count_their_old_lines(rt: HostRuntime) -> Result<(), Fa
 #[test]
 fn order_nine_is_committed(rt: HostRuntime) -> Result<(), Fail> {
     let alloc = rt.alloc();
-    let mut store = RowStore::new(
-        alloc,
-        small(alloc, Limits::standard())?,
-        RandomState::new(&rt)?,
-    )?;
+    let mut store = opened(&rt, Limits::standard())?;
     let mut told = lines_told(alloc, &store, 9)?;
     reply(&mut store, &mut told, refresh(alloc, &[ADD_NINE])?)?;
     told.push_str(lines_told(alloc, &store, 9)?.as_str())?;
@@ -414,11 +302,7 @@ fn adding(alloc: Global, keys: &[u64]) -> Result<Arc<Refresh>, Fail> {
 fn orders_with_colliding_keys_are_found(rt: HostRuntime) -> Result<(), Fail> {
     let alloc = rt.alloc();
     let keys = colliding_keys(alloc, 64)?;
-    let mut store = RowStore::new(
-        alloc,
-        small(alloc, Limits::standard())?,
-        RandomState::new(&rt)?,
-    )?;
+    let mut store = opened(&rt, Limits::standard())?;
     store
         .apply(1, adding(alloc, &keys)?)
         .map_err(|_| AllocError)?;
@@ -435,11 +319,7 @@ const TOLD: &[&[Step<'static>]] = &[&[ADD_NINE], &[Step::Withdraw(1), ADD_NINE]]
 #[test]
 fn a_client_is_told_the_commits_so_far(rt: HostRuntime) -> Result<(), Fail> {
     let alloc = rt.alloc();
-    let mut store = RowStore::new(
-        alloc,
-        small(alloc, Limits::standard())?,
-        RandomState::new(&rt)?,
-    )?;
+    let mut store = opened(&rt, Limits::standard())?;
     let mut told = String::new(alloc);
     for steps in TOLD {
         match store.refresh(3, refresh(alloc, steps)?) {
@@ -459,17 +339,17 @@ fn a_client_is_told_the_commits_so_far(rt: HostRuntime) -> Result<(), Fail> {
 
 // Four lines of three orders, which do not stand in the order of their keys.
 fn scattered(alloc: Global) -> Result<Vec<Line>, Fail> {
-    let mut lines = Vec::new(alloc);
+    let mut sales = Vec::new(alloc);
     for (key, number, customer) in [(3, 1, 1), (1, 2, 2), (2, 1, 3), (1, 1, 1)] {
-        lines.push(line(alloc, key, number, (customer, 1, 1, 19930101))?)?;
+        sales.push(sale(key, number, (customer, 1, 1, 19930101)))?;
     }
-    Ok(lines)
+    lines(alloc, sales.as_slice())
 }
 
 #[test]
 fn loaded_orders_may_be_scattered(rt: HostRuntime) -> Result<(), Fail> {
     let alloc = rt.alloc();
-    let base = base_of(alloc, Limits::standard(), scattered(alloc)?)?;
+    let base = base_of_lines(alloc, Limits::standard(), scattered(alloc)?)?;
     let store = RowStore::new(alloc, base, RandomState::new(&rt)?)?;
     let told = lines_told(alloc, &store, 1)?;
     assert_eq!(rt; told.as_str(), "2:2 1:1 ");
@@ -491,7 +371,7 @@ const THREE: &[Step<'static>] = &[AMEND_ONE, Step::Withdraw(2), ADD_NINE];
 #[test]
 fn plain_lines_follow_the_log(rt: HostRuntime) -> Result<(), Fail> {
     let alloc = rt.alloc();
-    let base = small(alloc, Limits::standard())?;
+    let base = small_base(alloc, Limits::standard())?;
     let mut plain = PlainLines::new(alloc, Arc::try_clone(&base)?)?;
     let mut store = RowStore::new(alloc, base, RandomState::new(&rt)?)?;
     store

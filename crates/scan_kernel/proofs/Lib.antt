@@ -1,8 +1,8 @@
-pub mod Found
-pub mod AddsLemmas
-pub mod SelectLemmas
-pub mod FoundLemmas
-pub mod Written
-pub mod BatchLemmas
-pub mod PartsLemmas
-pub mod ScatteredLemmas
+pub mod SearchLaws
+pub mod AddLaws
+pub mod SelectLaws
+pub mod FoundLaws
+pub mod WrittenLaws
+pub mod BatchLaws
+pub mod PartLaws
+pub mod ScatteredLaws

@@ -11,7 +11,7 @@ use std::sync::{Arc, Wait};
 use std::test::Fail;
 
 /// A server over this base.
-#[tactic(auto, using(ssb_server::proofs::Staying::new_clients_are_quiet, ssb_server::proofs::Staying::new_dispatchers_are_of_it))]
+#[tactic(auto, using(crate::proofs::PlaceLaws::new_are_its_own))]
 pub fn opened_over<W: Wait + Drop>(
     alloc: Global,
     rt: W,

@@ -3,8 +3,9 @@ ghost use Rattle.std.specs.Prelude.{◌≡◌, OnOk, true};
 ghost use Rattle.std.specs.Option.{is_some};
 ghost use Rattle.ssb_server.specs.Tickets.{IsOf, IsQuiet};
 
-use crate::data::{adding, question, told};
+use crate::data::{question, told};
 use row_store::{Receipt, RefreshError};
+use small_rows::adding;
 use ssb_plans::{Query, Question};
 use ssb_queries::Answer;
 use ssb_schema::Refresh;
@@ -46,7 +47,7 @@ pub fn adds<W: Wait + Drop, R: Wait>(
 }
 
 /// A turn of a dispatcher.
-#[tactic(auto, using(ssb_server::proofs::Staying::turned_stays))]
+#[tactic(auto, using(ssb_server::proofs::StayingLaws::turned_stays))]
 pub fn turns<W: Wait + Drop, R: Wait + Threads + Sync, G: ScanGate>(
     rt: &R,
     server: &Server<W>,
@@ -60,7 +61,7 @@ pub fn turns<W: Wait + Drop, R: Wait + Threads + Sync, G: ScanGate>(
 }
 
 // A client polls the answer, which is there.
-#[tactic(auto, using(ssb_server::proofs::Staying::polls_stays))]
+#[tactic(auto, using(ssb_server::proofs::StayingLaws::polls_stays))]
 fn polls<W: Wait + Drop>(server: &Server<W>, client: &mut Client<W>) -> Result<Answer, Fail>
     requires { client.old.hall ≡ server.now }
     ensures { OnOk result (IsQuiet server.now client.new) }
@@ -93,7 +94,7 @@ pub fn asks_and_is_told<W: Wait + Drop, R: Wait + Threads + Sync>(
 }
 
 /// A client asks this question.
-#[tactic(auto, using(ssb_server::proofs::Staying::asks_stays))]
+#[tactic(auto, using(ssb_server::proofs::StayingLaws::asks_stays))]
 pub fn asks_this<W: Wait + Drop>(server: &Server<W>, client: &mut Client<W>, question: Question)
     requires { IsQuiet server.now client.old }
     ensures hall { client.new.hall ≡ server.now }
@@ -103,7 +104,7 @@ pub fn asks_this<W: Wait + Drop>(server: &Server<W>, client: &mut Client<W>, que
 }
 
 /// A client awaits the answer.
-#[tactic(auto, using(ssb_server::proofs::Staying::polls_stays))]
+#[tactic(auto, using(ssb_server::proofs::StayingLaws::polls_stays))]
 pub fn awaits<W: Wait + Drop, R: Wait>(rt: &R, server: &Server<W>, client: &mut Client<W>) -> Answer
     requires hall { client.old.hall ≡ server.now }
     requires asking { is_some client.old.asked ≡ true }

@@ -2,10 +2,11 @@
 ghost use Rattle.std.specs.Prelude.{All};
 ghost use Rattle.ssb_server.specs.Tickets.{IsOf, IsQuiet};
 
-use crate::data::{adding, adding_and_withdrawing, question, told};
+use crate::data::{adding_and_withdrawing, question, told};
 use crate::opening::{next_client, next_dispatcher, opened};
 use crate::steps::turns;
 use row_store::{Receipt, RefreshError};
+use small_rows::adding;
 use ssb_plans::Query;
 use ssb_schema::Refresh;
 use ssb_server::{Client, Dispatcher, OpenGate, Opened, Server, Turn};
@@ -26,14 +27,18 @@ pub enum Deed {
     AddsAndWithdraws(u64, u64),
     /// It asks the query with the benchmark's constants.
     Asks(Query),
+    /// It polls.
     Polls,
 }
 
 /// A step of a trial.
 #[derive(Clone, Copy, Debug)]
 pub enum Step {
+    /// The first client does this.
     First(Deed),
+    /// The second client does this.
     Second(Deed),
+    /// The third client does this.
     Third(Deed),
     /// The second client meets the first one.
     Meeting,
@@ -96,7 +101,7 @@ fn refreshes<W: Wait + Drop, R: Wait>(
 }
 
 // A client asks, where it is not asking.
-#[tactic(auto, using(crate::proofs::Places::asks_stays))]
+#[tactic(auto, using(crate::proofs::PlaceLaws::asks_stays))]
 fn asks<W: Wait + Drop>(
     alloc: Global,
     server: &Server<W>,
@@ -114,7 +119,7 @@ fn asks<W: Wait + Drop>(
 }
 
 // A client polls, and what it is told.
-#[tactic(auto, using(crate::proofs::Places::polls_stays))]
+#[tactic(auto, using(crate::proofs::PlaceLaws::polls_stays))]
 fn polls<W: Wait + Drop>(
     alloc: Global,
     server: &Server<W>,
@@ -130,7 +135,7 @@ fn polls<W: Wait + Drop>(
 }
 
 // A client meets another one, and how many commits it then sees.
-#[tactic(auto, using(crate::proofs::Places::looks_stays))]
+#[tactic(auto, using(crate::proofs::PlaceLaws::looks_stays))]
 fn meets<W: Wait + Drop>(
     alloc: Global,
     server: &Server<W>,

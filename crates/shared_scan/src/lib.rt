@@ -3,7 +3,7 @@
 //! A line's rows are read by their classes: the class of a row is the position of the first row that no query can tell
 //! from it. So masks and codes cover the rows up to the last that begins a class, and a batch is made ready over these
 //! rows alone. The answers are still those over all rows, since an answer depends on rows through the columns that
-//! queries read, and on nothing else (`proofs/ClassedLemmas.antt`).
+//! queries read, and on nothing else (`proofs/ClassedLaws.antt`).
 #![tactic(auto)]
 
 mod answering;

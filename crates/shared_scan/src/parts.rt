@@ -13,7 +13,9 @@ const MOST_DENSE: u64 = 65_536;
 /// in 64 where only the groups that lines have are kept.
 #[derive(Drop)]
 pub enum Parts {
+    /// For a number for each group.
     Narrow(Vec<Items<u32>>),
+    /// For the groups that lines have alone.
     Wide(Vec<Items<u64>>),
 }
 

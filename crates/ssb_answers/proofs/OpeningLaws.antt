@@ -20,14 +20,13 @@ at_most : (n most limit : ℕ) → n ≤ most → most ≤ limit → n ≤ limit
 at_most n most limit few within = omega (arith, few, within)
 
 -- columns of the loaded lines have no more of them than a warehouse may have
-pub small_columns : (columns : Stored) (base : Tables) (rows : ℕ) → columns_state columns ≡ state_of base []
-    → IsSound base → rows ≡ length columns.facts
+pub small_columns : (columns : Stored) (base : Tables) → columns_state columns ≡ state_of base [] → IsSound base
     → ((history : List CommitRecord) → StandsFor (columns_state columns) history
-    → rows ≡ length (lines_after columns.base history)) → length columns.facts ≤ 33554432
-small_columns columns base rows state sound facts lines =
+    → length columns.facts ≡ length (lines_after columns.base history)) → length columns.facts ≤ 33554432
+small_columns columns base state sound lines =
     let same : columns.base ≡ base = ap (λ (s : State). s.base) state in
     let stands : StandsFor (columns_state columns) [] = state ∙ ap (λ b. state_of b []) (sym same) in
-    let counted : length columns.facts ≡ length columns.base.lines = sym facts ∙ lines [] stands in
+    let counted : length columns.facts ≡ length columns.base.lines = lines [] stands in
     let P : ℕ → Type 0 = λ n. n ≤ 33554432 in
     subst P (sym (counted ∙ ap (λ (b : Tables). length b.lines) same))
     (at_most (length base.lines) base.limits.lines 33554432 sound.few base.limits.lines_range)

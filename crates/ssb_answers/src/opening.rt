@@ -39,7 +39,7 @@ fn columns_of(
 {
     index.base().soundness();
     let columns = Columns::new(alloc, index, hashing)?;
-    let _lines = columns.rows();
+    columns.soundness();
     Ok(columns)
 }
 

@@ -6,10 +6,15 @@ use std::time::{Clock, Duration, Instant};
 /// A step whose time is told.
 #[derive(Clone, Copy)]
 pub enum Step {
+    /// The five files are read.
     Load,
+    /// The dimensions are indexed.
     Index,
+    /// The lines are put into columns.
     Columns,
+    /// The batch is prepared.
     Preparation,
+    /// The pass over the columns.
     Scan,
 }
 

@@ -2,16 +2,15 @@
 
 use crate::stopwatch::{Step, Stopwatch};
 use crate::{Settings, run_all, run_query};
-use small_data::{LINEORDER, tables};
+use small_data::{LINEORDER, stored, tables};
 use ssb_load::Tables;
-use std::cell::Cell;
+use stand_ins::{Cut, Holding, Stopped, Ticking};
 use std::hash::RandomState;
-use std::io;
-use std::io::{Read, Write};
+use std::io::Read;
 use std::random::RandomSource;
 use std::test::Fail;
 use std::thread::Threads;
-use std::time::{Clock, Duration};
+use std::time::Clock;
 
 // What a run of `query` gave: its status, and what it wrote.
 #[derive(Drop)]
@@ -62,41 +61,13 @@ fn reports_go_out_with_status_0(rt: HostRuntime) -> Result<(), Fail> {
     Ok(())
 }
 
-// The thirteen reports over the small data set.
-const ALL: &str = "\
-Q1.1 at 0 rows 1
-3000
-Q1.2 at 0 rows 1
-NULL
-Q1.3 at 0 rows 1
-NULL
-Q2.1 at 0 rows 0
-Q2.2 at 0 rows 1
-970|1993|MFGR#2221
-Q2.3 at 0 rows 0
-Q3.1 at 0 rows 1
-CHINA|JAPAN|1993|2950
-Q3.2 at 0 rows 1
-UNITED ST4|UNITED ST7|1997|760
-Q3.3 at 0 rows 1
-UNITED KI1|UNITED KI5|1997|500
-Q3.4 at 0 rows 1
-UNITED KI1|UNITED KI5|1997|500
-Q4.1 at 0 rows 1
-1997|UNITED STATES|660
-Q4.2 at 0 rows 1
-1997|UNITED STATES|MFGR#14|660
-Q4.3 at 0 rows 1
-1997|UNITED ST7|MFGR#1440|660
-";
-
 #[test]
 fn the_thirteen_reports_go_out_in_order(rt: HostRuntime) -> Result<(), Fail> {
     let mut out = Vec::new(rt.alloc());
     let mut err = Vec::new(rt.alloc());
     let status = run_all(&rt, quiet(&rt)?, tables(), &mut out, &mut err);
     assert_eq!(rt; status, 0);
-    assert_eq!(rt; out.as_slice(), ALL.as_bytes());
+    assert_eq!(rt; out.as_slice(), stored::THIRTEEN.as_bytes());
     assert!(rt; err.is_empty());
     Ok(())
 }
@@ -114,46 +85,16 @@ fn each_of_the_thirteen_alone_has_the_report_that_it_has_among_them(
         assert_eq!(rt; told.status, 0);
         reports.extend_from_slice(told.out.as_slice())?;
     }
-    assert_eq!(rt; reports.as_slice(), ALL.as_bytes());
+    assert_eq!(rt; reports.as_slice(), stored::THIRTEEN.as_bytes());
     Ok(())
-}
-
-// A clock that goes on by a second and a quarter at each look.
-#[derive(Drop)]
-struct Ticking(Cell<u64>);
-
-impl Clock for Ticking {
-    fn monotonic(&self) -> io::Result<Duration> {
-        let millis = self.0.get();
-        self.0.set(millis.saturating_add(1250));
-        Ok(Duration::from_millis(millis))
-    }
-
-    fn since_1970(&self) -> io::Result<Duration> {
-        Err(io::Error::from(io::ErrorKind::Other))
-    }
-}
-
-// A clock that tells nothing.
-#[derive(Drop)]
-struct Broken;
-
-impl Clock for Broken {
-    fn monotonic(&self) -> io::Result<Duration> {
-        Err(io::Error::from(io::ErrorKind::Other))
-    }
-
-    fn since_1970(&self) -> io::Result<Duration> {
-        Err(io::Error::from(io::ErrorKind::Other))
-    }
 }
 
 #[test]
 fn each_step_has_its_seconds(rt: HostRuntime) -> Result<(), Fail> {
-    let clock = Ticking(Cell::new(7000));
+    let clock = Ticking::new(7000, 1250);
     let mut watch = Stopwatch::start(&clock, true);
     watch.lap(&clock, Step::Load);
-    let _skipped = clock.monotonic()?;
+    clock.tick();
     watch.lap(&clock, Step::Scan);
     let mut told = Vec::new(rt.alloc());
     watch.tell(&mut told);
@@ -167,10 +108,10 @@ ssb_live: scan 2.500000 s
 
 #[test]
 fn without_a_time_a_step_has_no_line(rt: HostRuntime) {
-    let mut still = Stopwatch::start(&Ticking(Cell::new(7000)), false);
-    still.lap(&Ticking(Cell::new(7000)), Step::Load);
-    let mut blind = Stopwatch::start(&Broken, true);
-    blind.lap(&Broken, Step::Load);
+    let mut still = Stopwatch::start(&Ticking::new(7000, 1250), false);
+    still.lap(&Ticking::new(7000, 1250), Step::Load);
+    let mut blind = Stopwatch::start(&Stopped, true);
+    blind.lap(&Stopped, Step::Load);
     let mut told = Vec::new(rt.alloc());
     still.tell(&mut told);
     blind.tell(&mut told);
@@ -184,7 +125,7 @@ fn the_times_are_told_after_the_reports(rt: HostRuntime) -> Result<(), Fail> {
     let mut settings = quiet(&rt)?;
     settings.times = true;
     assert_eq!(rt; run_all(&rt, settings, tables(), &mut out, &mut err), 0);
-    assert_eq!(rt; out.as_slice(), ALL.as_bytes());
+    assert_eq!(rt; out.as_slice(), stored::THIRTEEN.as_bytes());
     let told = std::str::from_utf8(err.as_slice())?;
     assert_eq!(rt; told.lines().count(), 5);
     for step in ["load", "index", "columns", "preparation", "scan"] {
@@ -260,24 +201,14 @@ fn a_fault_of_the_data_is_told(rt: HostRuntime) -> Result<(), Fail> {
     Ok(())
 }
 
-// A reader that fails.
-#[derive(Drop)]
-struct Failing;
-
-impl Read for Failing {
-    fn read(&mut self, _buf: &mut [u8]) -> io::Result<usize> {
-        Err(io::Error::from(io::ErrorKind::Other))
-    }
-}
-
 #[test]
 fn a_failed_read_is_told(rt: HostRuntime) -> Result<(), Fail> {
     let failing = Tables {
-        customer: Failing,
-        supplier: Failing,
-        part: Failing,
-        date: Failing,
-        lineorder: Failing,
+        customer: Cut(b""),
+        supplier: Cut(b""),
+        part: Cut(b""),
+        date: Cut(b""),
+        lineorder: Cut(b""),
     };
     let told = run_over(&rt, failing, "Q1.1", &[])?;
     assert_eq!(rt; told.status, 4);
@@ -296,20 +227,6 @@ fn a_failed_write_is_told(rt: HostRuntime) -> Result<(), Fail> {
     assert_eq!(rt; status, 4);
     assert_eq!(rt; err.as_slice(), "ssb_live: write failed\n".as_bytes());
     Ok(())
-}
-
-// A writer that takes all and hands nothing on.
-#[derive(Drop)]
-struct Holding;
-
-impl Write for Holding {
-    fn write(&mut self, buf: &[u8]) -> io::Result<usize> {
-        Ok(buf.len())
-    }
-
-    fn flush(&mut self) -> io::Result<()> {
-        Err(io::Error::from(io::ErrorKind::Other))
-    }
 }
 
 #[test]

@@ -28,10 +28,10 @@ use Rattle.ssb_schema.specs.Base.{Tables, IsSound}
 use Rattle.row_store.specs.History.{CommitRecord, lines_after}
 use Rattle.row_store.specs.Legal.{IsLegal}
 use Rattle.row_store.specs.State.{State, StandsFor, state_of, state_after}
-use Rattle.row_store.proofs.Few.{legal_histories_are_few}
+use Rattle.row_store.proofs.FewLaws.{legal_histories_are_few}
 use Rattle.row_store.proofs.HistoryLaws.{beginnings_are_legal}
-use Rattle.row_store.proofs.Prefixes.{prefix_take}
-use Rattle.row_store.proofs.Rearranged.{states_follow_commits}
+use Rattle.row_store.proofs.PrefixLaws.{prefix_take}
+use Rattle.row_store.proofs.RearrangedLaws.{states_follow_commits}
 use Rattle.fact_columns.specs.Stored.{Stored, columns_state}
 use Rattle.ssb_audit.specs.Snapshots.{AreSnapshot}
 

@@ -40,7 +40,6 @@ pub(crate) fn check_commits(
     for (place, commit) in commits.iter().enumerate() {
         replay(&mut store, place, commit)?;
     }
-    // That the store's log is legal is told where it is read.
-    let _log = store.log_from(0);
+    store.soundness();
     Ok(())
 }

@@ -22,6 +22,7 @@ pub enum AuditFault {
     /// The answer is after more commits than there are.
     #[error("83 AtTooLarge {0} {1}")]
     AtTooLarge(u32, u64),
+    /// Memory ran out.
     #[error("out of memory")]
     OutOfMemory,
 }

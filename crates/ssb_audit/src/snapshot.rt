@@ -66,7 +66,7 @@ pub(crate) fn rows_over<R: Threads + Sync>(
     ensures { (history : List CommitRecord) → StandsFor (columns_state columns.now) history
         → IfOk result (λ rows. rows.items ≡ answers_after columns.now.base history questions.now) }
 {
-    let _lines = columns.rows();
+    columns.soundness();
     let batch = PreparedBatch::new(alloc, Arc::try_clone(index)?, questions)?;
     scan_parallel(rt, alloc, columns, &batch)
 }

@@ -1,10 +1,11 @@
 use super::*;
 use row_store::{Commit, PlainLines, Replica};
 use small_data::tables;
-use ssb_load::{line_of, load};
+use small_rows::adding;
+use ssb_load::load;
 use ssb_plans::{QUERIES, Query, Question, Value};
 use ssb_queries::{ResultRow, Rows, plain};
-use ssb_schema::{Action, Base, Items, Limits, MOST_LINES, Order, Refresh, Text};
+use ssb_schema::{Base, Items, Limits, MOST_LINES, Text};
 use std::alloc::Global;
 use std::hash::RandomState;
 use std::process::Abort;
@@ -18,39 +19,10 @@ fn small_base(alloc: Global) -> Result<Arc<Base>, Fail> {
 }
 
 // A client's commit that adds the one order of the worked examples, under a key.
-fn commit_of(alloc: Global, client: u32, key: &str) -> Result<Commit, Fail> {
-    let fields: [&[u8]; 17] = [
-        key.as_bytes(),
-        b"1",
-        b"3",
-        b"4",
-        b"3",
-        b"19971215",
-        b"o",
-        b"0",
-        b"1",
-        b"10",
-        b"10",
-        b"0",
-        b"10",
-        b"2000",
-        b"0",
-        b"19971215",
-        b"AIR",
-    ];
-    let mut lines = Vec::new(alloc);
-    lines.push(line_of(alloc, fields.as_slice())?)?;
-    let Ok(order) = Order::new(lines) else {
-        return Err(Fail::new("the schema refuses it"));
-    };
-    let mut actions = Vec::new(alloc);
-    actions.push(Action::Add(order))?;
-    let Ok(refresh) = Refresh::new(actions) else {
-        return Err(Fail::new("the schema refuses it"));
-    };
+fn commit_of(alloc: Global, client: u32, key: u64) -> Result<Commit, Fail> {
     Ok(Commit {
         client,
-        refresh: Arc::new(alloc, refresh)?,
+        refresh: adding(alloc, key)?,
     })
 }
 
@@ -175,7 +147,7 @@ fn plain_trace(alloc: Global, commits: Vec<Commit>) -> Result<Trace, Fail> {
 #[test]
 fn a_true_run_is_legal(rt: HostRuntime) -> Result<(), Fail> {
     let alloc = rt.alloc();
-    let commit = commit_of(alloc, 1, "9")?;
+    let commit = commit_of(alloc, 1, 9)?;
     let answers = [
         told_sum(alloc, 1, 0, 660)?,
         told_sum(alloc, 1, 0, 660)?,
@@ -191,8 +163,8 @@ fn a_true_run_is_legal(rt: HostRuntime) -> Result<(), Fail> {
 fn answers_of_the_plain_evaluator(rt: HostRuntime) -> Result<(), Fail> {
     let alloc = rt.alloc();
     let mut commits = Vec::new(alloc);
-    commits.push(commit_of(alloc, 1, "9")?)?;
-    commits.push(commit_of(alloc, 2, "8")?)?;
+    commits.push(commit_of(alloc, 1, 9)?)?;
+    commits.push(commit_of(alloc, 2, 8)?)?;
     let trace = plain_trace(alloc, commits)?;
     assert!(rt; trace.answers.len() == 39);
     assert!(rt; audited_trace(&rt, alloc, &trace)? == Ok(()));
@@ -203,14 +175,14 @@ fn answers_of_the_plain_evaluator(rt: HostRuntime) -> Result<(), Fail> {
 fn a_trace_without_answers(rt: HostRuntime) -> Result<(), Fail> {
     let alloc = rt.alloc();
     assert!(rt; audited(&rt, alloc, [], [])? == Ok(()));
-    assert!(rt; audited(&rt, alloc, [commit_of(alloc, 1, "9")?], [])? == Ok(()));
+    assert!(rt; audited(&rt, alloc, [commit_of(alloc, 1, 9)?], [])? == Ok(()));
     Ok(())
 }
 
 #[test]
 fn answers_from_the_last_commit_to_the_first(rt: HostRuntime) -> Result<(), Fail> {
     let alloc = rt.alloc();
-    let commits = [commit_of(alloc, 1, "9")?, commit_of(alloc, 1, "8")?];
+    let commits = [commit_of(alloc, 1, 9)?, commit_of(alloc, 1, 8)?];
     let answers = [
         told_sum(alloc, 1, 2, -3320)?,
         told_sum(alloc, 2, 1, -1330)?,
@@ -249,7 +221,7 @@ fn the_first_of_two_faults(rt: HostRuntime) -> Result<(), Fail> {
         told_sum(alloc, 2, 1, -1331)?,
         told_sum(alloc, 3, 0, 661)?,
     ];
-    let commits = [commit_of(alloc, 1, "9")?];
+    let commits = [commit_of(alloc, 1, 9)?];
     assert!(rt; audited(&rt, alloc, commits, answers)? == Err(AuditFault::WrongRows(2, 1)));
     let answers = [told_sum(alloc, 1, 0, 661)?, told_sum(alloc, 2, 1, 660)?];
     assert!(rt; audited(&rt, alloc, [], answers)? == Err(AuditFault::WrongRows(1, 1)));
@@ -261,7 +233,7 @@ fn the_first_of_two_faults(rt: HostRuntime) -> Result<(), Fail> {
 #[test]
 fn a_sum_that_is_off_by_one(rt: HostRuntime) -> Result<(), Fail> {
     let alloc = rt.alloc();
-    let commit = commit_of(alloc, 1, "9")?;
+    let commit = commit_of(alloc, 1, 9)?;
     let answers = [told_sum(alloc, 1, 0, 660)?, told_sum(alloc, 1, 1, -1331)?];
     assert!(rt; audited(&rt, alloc, [commit], answers)? == Err(AuditFault::WrongRows(1, 2)));
     Ok(())
@@ -270,7 +242,7 @@ fn a_sum_that_is_off_by_one(rt: HostRuntime) -> Result<(), Fail> {
 #[test]
 fn an_answer_after_more_commits_than_there_are(rt: HostRuntime) -> Result<(), Fail> {
     let alloc = rt.alloc();
-    let commit = commit_of(alloc, 1, "9")?;
+    let commit = commit_of(alloc, 1, 9)?;
     let answers = [told_sum(alloc, 1, 2, -1330)?];
     assert!(rt; audited(&rt, alloc, [commit], answers)? == Err(AuditFault::AtTooLarge(1, 1)));
     let answers = [told_sum(alloc, 16, u64::MAX, 660)?];
@@ -281,7 +253,7 @@ fn an_answer_after_more_commits_than_there_are(rt: HostRuntime) -> Result<(), Fa
 #[test]
 fn a_second_answer_at_an_earlier_place(rt: HostRuntime) -> Result<(), Fail> {
     let alloc = rt.alloc();
-    let commit = commit_of(alloc, 1, "9")?;
+    let commit = commit_of(alloc, 1, 9)?;
     let answers = [
         told_sum(alloc, 2, 0, 660)?,
         told_sum(alloc, 1, 1, -1330)?,
@@ -295,10 +267,10 @@ fn a_second_answer_at_an_earlier_place(rt: HostRuntime) -> Result<(), Fail> {
 #[test]
 fn an_order_that_is_there_already(rt: HostRuntime) -> Result<(), Fail> {
     let alloc = rt.alloc();
-    let commits = [commit_of(alloc, 1, "1")?];
+    let commits = [commit_of(alloc, 1, 1)?];
     let answers = [told_sum(alloc, 1, 1, -1330)?];
     assert!(rt; audited(&rt, alloc, commits, answers)? == Err(AuditFault::CommitRefused(1)));
-    let commits = [commit_of(alloc, 1, "9")?, commit_of(alloc, 2, "9")?];
+    let commits = [commit_of(alloc, 1, 9)?, commit_of(alloc, 2, 9)?];
     let answers = [told_sum(alloc, 1, 7, 0)?];
     assert!(rt; audited(&rt, alloc, commits, answers)? == Err(AuditFault::CommitRefused(2)));
     Ok(())

@@ -30,6 +30,6 @@ impl fmt::Display for Against {
     }
 }
 
-/// Why a trace was not found legal, or the verdict was not written. The exit status is 1 where the data or the trace was
-/// refused, 3 where something speaks against the trace, and else 4.
+/// Why a trace was not found legal, or the verdict was not written. The exit status is 1 where the data or the trace
+/// was refused, 3 where something speaks against the trace, and else 4.
 pub type AuditingFault = JobFault<Against>;

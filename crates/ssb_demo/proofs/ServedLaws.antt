@@ -11,7 +11,7 @@ use Rattle.small_data.specs.SmallTexts.{small_texts}
 use Rattle.ssb_demo.specs.Status.{demo_status}
 use Rattle.ssb_demo.specs.declared.fault.NotOpened.{NotOpened}
 use Rattle.ssb_faults.specs.declared.job.JobFault.{JobFault}
-use Rattle.ssb_files.proofs.Flushed.{appended_kept}
+use Rattle.ssb_files.proofs.FlushedLaws.{appended_kept}
 use Rattle.ssb_schema.specs.Base.{Tables}
 use Rattle.ssb_session.specs.Alone.{ServesScript, ServesPart, own}
 

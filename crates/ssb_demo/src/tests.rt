@@ -4,9 +4,8 @@ use crate::demo;
 use crate::fault::{DemoFault, NotOpened};
 use row_store::Cause;
 use ssb_server::OpenFault;
+use stand_ins::Holding;
 use std::hash::RandomState;
-use std::io;
-use std::io::Write;
 use std::test::Fail;
 
 #[test]
@@ -23,20 +22,6 @@ fn a_fault_of_the_script_is_told(rt: HostRuntime) -> Result<(), Fail> {
         "ssb_live: script 1: 70 BadLine 1\n".as_bytes()
     );
     Ok(())
-}
-
-// A writer that takes all and hands nothing on.
-#[derive(Drop)]
-struct Holding;
-
-impl Write for Holding {
-    fn write(&mut self, buf: &[u8]) -> io::Result<usize> {
-        Ok(buf.len())
-    }
-
-    fn flush(&mut self) -> io::Result<()> {
-        Err(io::Error::from(io::ErrorKind::Other))
-    }
 }
 
 #[test]

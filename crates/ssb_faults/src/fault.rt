@@ -20,16 +20,21 @@ pub enum Fault {
     NoRandomness,
     /// A word of the command line is no UTF-8.
     BadWord,
+    /// No query has this name.
     NoSuchQuery(NoSuchQuery),
+    /// The query does not take these constants.
     Constants(ConstantsFault),
     /// More scripts than a server has clients.
     TooManyScripts,
+    /// The five texts are no base.
     Data(LoadError),
     /// The first script that can't be read, by its number from 1.
     Script(u64, ScriptError),
     /// A trace that can't be read.
     Trace(ScriptError),
+    /// A report could not be written, or handed on.
     WriteFailed,
+    /// Memory ran out.
     OutOfMemory,
 }
 

@@ -1,3 +1,3 @@
-pub mod Flushed
-pub mod Results
+pub mod FlushedLaws
+pub mod ResultLaws
 pub mod ScriptLaws

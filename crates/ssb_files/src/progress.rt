@@ -24,9 +24,11 @@ const CLEARED: &str = "\r\x1b[K";
 /// What is read.
 #[derive(Clone, Copy)]
 pub enum Source {
+    /// A table, by its name.
     Table(&'static str),
     /// By its number from 1.
     Script(u64),
+    /// A trace.
     Trace,
 }
 

@@ -1,69 +1,9 @@
 //! What a load shows on a terminal, and which file is named where one cannot be opened.
 
 use crate::{Screen, Source, open_tables, watch, watch_scripts};
-use std::alloc::Global;
-use std::cell::Cell;
-use std::fmt::Display;
-use std::io;
-use std::io::{Print, Read};
+use stand_ins::{Screened, Ticking};
+use std::io::Read;
 use std::test::Fail;
-use std::time::{Clock, Duration};
-
-// A terminal that keeps what it was given.
-#[derive(Drop)]
-struct Screened {
-    alloc: Global,
-    given: Cell<Vec<u8>>,
-}
-
-impl Screened {
-    fn new(alloc: Global) -> Screened {
-        Screened {
-            alloc,
-            given: Cell::new(Vec::new(alloc)),
-        }
-    }
-
-    fn given(&self) -> Vec<u8> {
-        self.given.replace(Vec::new(self.alloc))
-    }
-}
-
-impl Print for Screened {
-    fn print<D: Display + Drop>(&self, value: D) -> io::Result<()> {
-        let mut given = self.given();
-        let kept = io::Write::write_fmt(&mut given, format_args!("{value}"));
-        self.given.set(given);
-        kept
-    }
-
-    fn println<D: Display + Drop>(&self, value: D) -> io::Result<()> {
-        self.print(value)
-    }
-
-    fn write_all(&self, bytes: &[u8]) -> io::Result<()> {
-        let mut given = self.given();
-        let kept = given.extend_from_slice(bytes);
-        self.given.set(given);
-        Ok(kept?)
-    }
-}
-
-// A clock that goes on by 200 milliseconds at each look.
-#[derive(Drop)]
-struct Ticking(Cell<u64>);
-
-impl Clock for Ticking {
-    fn monotonic(&self) -> io::Result<Duration> {
-        let millis = self.0.get();
-        self.0.set(millis.saturating_add(200));
-        Ok(Duration::from_millis(millis))
-    }
-
-    fn since_1970(&self) -> io::Result<Duration> {
-        Err(io::Error::from(io::ErrorKind::Other))
-    }
-}
 
 // Reads three rows by six bytes, and twice more at the end.
 fn read_rows<R: Read>(reader: &mut R) -> Result<(), Fail> {
@@ -81,7 +21,7 @@ const ROWS: &[u8] = b"1|a\n2|b\n3|cc\n";
 
 #[test]
 fn the_line_is_rewritten_where_it_is_due_and_then_cleared(rt: HostRuntime) -> Result<(), Fail> {
-    let clock = Ticking(Cell::new(7000));
+    let clock = Ticking::new(7000, 200);
     let terminal = Screened::new(rt.alloc());
     let screen = Screen::start(&clock, Some(&terminal));
     {
@@ -99,7 +39,7 @@ fn the_line_is_rewritten_where_it_is_due_and_then_cleared(rt: HostRuntime) -> Re
 
 #[test]
 fn a_load_that_ends_soon_or_has_no_terminal_shows_nothing(rt: HostRuntime) -> Result<(), Fail> {
-    let clock = Ticking(Cell::new(7000));
+    let clock = Ticking::new(7000, 200);
     let terminal = Screened::new(rt.alloc());
     let screen = Screen::start(&clock, Some(&terminal));
     {
@@ -110,22 +50,23 @@ fn a_load_that_ends_soon_or_has_no_terminal_shows_nothing(rt: HostRuntime) -> Re
     assert!(rt; terminal.given().is_empty());
     let none = Screen::start(&clock, None::<&Screened>);
     assert!(rt; none.is_none());
-    let looks = clock.0.get();
+    let looks = clock.now();
     read_rows(&mut watch(none.as_ref(), Source::Trace, ROWS))?;
-    assert_eq!(rt; clock.0.get(), looks);
+    assert_eq!(rt; clock.now(), looks);
     Ok(())
 }
 
 #[test]
 fn scripts_are_shown_by_their_numbers(rt: HostRuntime) -> Result<(), Fail> {
-    let clock = Ticking(Cell::new(7000));
+    let clock = Ticking::new(7000, 200);
     let terminal = Screened::new(rt.alloc());
     let screen = Screen::start(&clock, Some(&terminal));
     let mut scripts = Vec::new(rt.alloc());
     scripts.push(ROWS)?;
     scripts.push(ROWS)?;
     let readers = watch_scripts(rt.alloc(), screen.as_ref(), scripts)?;
-    let _passed = (clock.monotonic()?, clock.monotonic()?);
+    clock.tick();
+    clock.tick();
     for mut reader in readers {
         let mut buf = [0; 5];
         assert_eq!(rt; reader.read(&mut buf)?, 5);

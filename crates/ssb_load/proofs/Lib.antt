@@ -1,3 +1,3 @@
-pub mod Reading
-pub mod Rows
+pub mod ReadingLaws
+pub mod RowLaws
 pub mod LoadLaws

@@ -3,15 +3,12 @@
 ghost use Rattle.std.specs.Prelude.{◌≡◌};
 ghost use Rattle.csv.specs.Records.{fields_of};
 ghost use Rattle.ssb_schema.specs.declared.table.Table.TheVariants as table;
-ghost use Rattle.ssb_schema.specs.Columns.{kinds_of};
-ghost use Rattle.ssb_schema.specs.Rows.{date_values};
 ghost use Rattle.ssb_load.specs.Row.{Gives, values_from};
 
 use crate::error::LineFault;
-use crate::row::{TableRow, read_number, read_text};
+use crate::row::{RecordFields, read_number, read_text};
 use csv::ByteRecord;
-use ssb_records::has_columns;
-use ssb_schema::{Column, DateFields, DateRow, Table, Text};
+use ssb_schema::{Column, DateFields, Table, Text};
 use std::alloc::Global;
 
 // The first seven columns of a date.
@@ -45,18 +42,18 @@ impl FirstColumns {
     ghost use Rattle.ssb_load.specs.DateColumns.{first_kinds, first_values};
 
     #[tactic(auto, unfolding(crate::specs::Row::values_from))]
-    fn read(alloc: Global, fields: &ByteRecord) -> Result<FirstColumns, LineFault>
-        ensures { Gives first_values result (values_from table.Date 0 first_kinds (fields_of fields.now)) }
+    fn read(alloc: Global, record: &ByteRecord) -> Result<FirstColumns, LineFault>
+        ensures { Gives first_values result (values_from table.Date 0 first_kinds (fields_of record.now)) }
     {
         let table = Table::Date;
         Ok(FirstColumns {
-            key: read_number(fields, Column { table, place: 1 })?,
-            field2: read_text(alloc, fields, Column { table, place: 2 })?,
-            field3: read_text(alloc, fields, Column { table, place: 3 })?,
-            field4: read_text(alloc, fields, Column { table, place: 4 })?,
-            year: read_number(fields, Column { table, place: 5 })?,
-            year_month_number: read_number(fields, Column { table, place: 6 })?,
-            year_month: read_text(alloc, fields, Column { table, place: 7 })?,
+            key: read_number(record, Column { table, place: 1 })?,
+            field2: read_text(alloc, record, Column { table, place: 2 })?,
+            field3: read_text(alloc, record, Column { table, place: 3 })?,
+            field4: read_text(alloc, record, Column { table, place: 4 })?,
+            year: read_number(record, Column { table, place: 5 })?,
+            year_month_number: read_number(record, Column { table, place: 6 })?,
+            year_month: read_text(alloc, record, Column { table, place: 7 })?,
         })
     }
 }
@@ -65,69 +62,47 @@ impl LastColumns {
     ghost use Rattle.ssb_load.specs.DateColumns.{last_kinds, last_values};
 
     #[tactic(auto, unfolding(crate::specs::Row::values_from))]
-    fn read(alloc: Global, fields: &ByteRecord) -> Result<LastColumns, LineFault>
-        ensures { Gives last_values result (values_from table.Date 7 last_kinds (fields_of fields.now)) }
+    fn read(alloc: Global, record: &ByteRecord) -> Result<LastColumns, LineFault>
+        ensures { Gives last_values result (values_from table.Date 7 last_kinds (fields_of record.now)) }
     {
         let table = Table::Date;
         Ok(LastColumns {
-            field8: read_text(alloc, fields, Column { table, place: 8 })?,
-            field9: read_text(alloc, fields, Column { table, place: 9 })?,
-            field10: read_text(alloc, fields, Column { table, place: 10 })?,
-            field11: read_text(alloc, fields, Column { table, place: 11 })?,
-            week: read_number(fields, Column { table, place: 12 })?,
-            field13: read_text(alloc, fields, Column { table, place: 13 })?,
-            field14: read_text(alloc, fields, Column { table, place: 14 })?,
-            field15: read_text(alloc, fields, Column { table, place: 15 })?,
-            field16: read_text(alloc, fields, Column { table, place: 16 })?,
-            field17: read_text(alloc, fields, Column { table, place: 17 })?,
+            field8: read_text(alloc, record, Column { table, place: 8 })?,
+            field9: read_text(alloc, record, Column { table, place: 9 })?,
+            field10: read_text(alloc, record, Column { table, place: 10 })?,
+            field11: read_text(alloc, record, Column { table, place: 11 })?,
+            week: read_number(record, Column { table, place: 12 })?,
+            field13: read_text(alloc, record, Column { table, place: 13 })?,
+            field14: read_text(alloc, record, Column { table, place: 14 })?,
+            field15: read_text(alloc, record, Column { table, place: 15 })?,
+            field16: read_text(alloc, record, Column { table, place: 16 })?,
+            field17: read_text(alloc, record, Column { table, place: 17 })?,
         })
     }
 }
 
-// The values of a date's record, column by column.
-fn date_fields(alloc: Global, fields: &ByteRecord) -> Result<DateFields, LineFault>
-    ensures { Gives date_values result (values_from table.Date 0 (kinds_of table.Date) (fields_of fields.now)) }
-{
-    let first = FirstColumns::read(alloc, fields)?;
-    let last = LastColumns::read(alloc, fields)?;
-    Ok(DateFields {
-        key: first.key,
-        field2: first.field2,
-        field3: first.field3,
-        field4: first.field4,
-        year: first.year,
-        year_month_number: first.year_month_number,
-        year_month: first.year_month,
-        field8: last.field8,
-        field9: last.field9,
-        field10: last.field10,
-        field11: last.field11,
-        week: last.week,
-        field13: last.field13,
-        field14: last.field14,
-        field15: last.field15,
-        field16: last.field16,
-        field17: last.field17,
-    })
-}
-
-impl TableRow for DateRow {
-    ghost values = { date_values };
-
-    ghost of_table = { table.Date };
-
-    fn table() -> Table {
-        Table::Date
-    }
-
-    #[tactic(auto, unfolding(crate::specs::Row::row_of))]
-    fn read(alloc: Global, fields: &ByteRecord) -> Result<DateRow, LineFault> {
-        if !has_columns(fields, 17) {
-            return Err(LineFault::FieldCount);
-        }
-        match DateRow::new(date_fields(alloc, fields)?) {
-            Ok(row) => Ok(row),
-            Err(refused) => Err(LineFault::Refused(refused.fault)),
-        }
+impl RecordFields for DateFields {
+    fn of_record(alloc: Global, record: &ByteRecord) -> Result<DateFields, LineFault> {
+        let first = FirstColumns::read(alloc, record)?;
+        let last = LastColumns::read(alloc, record)?;
+        Ok(DateFields {
+            key: first.key,
+            field2: first.field2,
+            field3: first.field3,
+            field4: first.field4,
+            year: first.year,
+            year_month_number: first.year_month_number,
+            year_month: first.year_month,
+            field8: last.field8,
+            field9: last.field9,
+            field10: last.field10,
+            field11: last.field11,
+            week: last.week,
+            field13: last.field13,
+            field14: last.field14,
+            field15: last.field15,
+            field16: last.field16,
+            field17: last.field17,
+        })
     }
 }

@@ -23,8 +23,6 @@ mod part;
 mod row;
 mod supplier;
 mod table;
-#[cfg(test)]
-mod tests;
 
 pub use error::{LineFault, LoadError};
 pub use line::line_of;

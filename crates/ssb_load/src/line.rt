@@ -1,45 +1,40 @@
 //! Lines from records.
 
 ghost use Rattle.std.specs.Prelude.{◌≡◌, map};
-ghost use Rattle.csv.specs.Records.{fields_of};
 ghost use Rattle.ssb_schema.specs.declared.table.Table.TheVariants as table;
-ghost use Rattle.ssb_schema.specs.Columns.{kinds_of};
 ghost use Rattle.ssb_schema.specs.Rows.{line_values};
-ghost use Rattle.ssb_load.specs.Row.{Gives, row_of, values_from};
+ghost use Rattle.ssb_load.specs.Row.{Gives, row_of};
 
 use crate::error::LineFault;
-use crate::row::{TableRow, read_number, read_text};
+use crate::row::{RecordFields, TableRow, read_number, read_text};
 use csv::ByteRecord;
-use ssb_records::has_columns;
-use ssb_schema::{Column, Line, LineFields, Table};
+use ssb_schema::{Column, Fields, Line, LineFields, Row, Table};
 use std::alloc::Global;
 
-// The values of a line's record, column by column.
-#[tactic(auto, unfolding(crate::specs::Row::values_from))]
-fn line_fields(alloc: Global, fields: &ByteRecord) -> Result<LineFields, LineFault>
-    ensures { Gives line_values result (values_from table.Lineorder 0 (kinds_of table.Lineorder)
-        (fields_of fields.now)) }
-{
-    let table = Table::Lineorder;
-    Ok(LineFields {
-        order_key: read_number(fields, Column { table, place: 1 })?,
-        line_number: read_number(fields, Column { table, place: 2 })?,
-        customer_key: read_number(fields, Column { table, place: 3 })?,
-        part_key: read_number(fields, Column { table, place: 4 })?,
-        supplier_key: read_number(fields, Column { table, place: 5 })?,
-        order_date: read_number(fields, Column { table, place: 6 })?,
-        order_priority: read_text(alloc, fields, Column { table, place: 7 })?,
-        ship_priority: read_text(alloc, fields, Column { table, place: 8 })?,
-        quantity: read_number(fields, Column { table, place: 9 })?,
-        extended_price: read_number(fields, Column { table, place: 10 })?,
-        order_total_price: read_number(fields, Column { table, place: 11 })?,
-        discount: read_number(fields, Column { table, place: 12 })?,
-        revenue: read_number(fields, Column { table, place: 13 })?,
-        supply_cost: read_number(fields, Column { table, place: 14 })?,
-        tax: read_number(fields, Column { table, place: 15 })?,
-        commit_date: read_number(fields, Column { table, place: 16 })?,
-        ship_mode: read_text(alloc, fields, Column { table, place: 17 })?,
-    })
+impl RecordFields for LineFields {
+    #[tactic(auto, unfolding(crate::specs::Row::values_from))]
+    fn of_record(alloc: Global, record: &ByteRecord) -> Result<LineFields, LineFault> {
+        let table = Table::Lineorder;
+        Ok(LineFields {
+            order_key: read_number(record, Column { table, place: 1 })?,
+            line_number: read_number(record, Column { table, place: 2 })?,
+            customer_key: read_number(record, Column { table, place: 3 })?,
+            part_key: read_number(record, Column { table, place: 4 })?,
+            supplier_key: read_number(record, Column { table, place: 5 })?,
+            order_date: read_number(record, Column { table, place: 6 })?,
+            order_priority: read_text(alloc, record, Column { table, place: 7 })?,
+            ship_priority: read_text(alloc, record, Column { table, place: 8 })?,
+            quantity: read_number(record, Column { table, place: 9 })?,
+            extended_price: read_number(record, Column { table, place: 10 })?,
+            order_total_price: read_number(record, Column { table, place: 11 })?,
+            discount: read_number(record, Column { table, place: 12 })?,
+            revenue: read_number(record, Column { table, place: 13 })?,
+            supply_cost: read_number(record, Column { table, place: 14 })?,
+            tax: read_number(record, Column { table, place: 15 })?,
+            commit_date: read_number(record, Column { table, place: 16 })?,
+            ship_mode: read_text(alloc, record, Column { table, place: 17 })?,
+        })
+    }
 }
 
 impl TableRow for Line {
@@ -48,18 +43,12 @@ impl TableRow for Line {
     ghost of_table = { table.Lineorder };
 
     fn table() -> Table {
-        Table::Lineorder
+        LineFields::table()
     }
 
-    #[tactic(auto, unfolding(crate::specs::Row::row_of))]
-    fn read(alloc: Global, fields: &ByteRecord) -> Result<Line, LineFault> {
-        if !has_columns(fields, 17) {
-            return Err(LineFault::FieldCount);
-        }
-        match Line::new(line_fields(alloc, fields)?) {
-            Ok(row) => Ok(row),
-            Err(refused) => Err(LineFault::Refused(refused.fault)),
-        }
+    fn read(alloc: Global, record: &ByteRecord) -> Result<Line, LineFault> {
+        let row: Row<LineFields> = Row::read(alloc, record)?;
+        Ok(Line::packed(row))
     }
 }
 

@@ -3,14 +3,22 @@
 ghost use Rattle.std.specs.Prelude.{◌≡◌, ◌≤◌, ◌-◌, List, [], get_or};
 ghost use Rattle.csv.specs.Records.{fields_of};
 ghost use Rattle.ssb_schema.specs.declared.table.Table.{Table};
-ghost use Rattle.ssb_schema.specs.Columns.{Value};
-ghost use Rattle.ssb_load.specs.Row.{Gives, number_at, row_of, text_at};
+ghost use Rattle.ssb_schema.specs.Columns.{Value, kinds_of};
+ghost use Rattle.ssb_load.specs.Row.{Gives, number_at, row_of, text_at, values_from};
 
 use crate::error::LineFault;
 use csv::ByteRecord;
-use ssb_records::{number, text, trimmed_at};
-use ssb_schema::{Column, Table, Text};
+use ssb_records::{has_columns, number, text, trimmed_at};
+use ssb_schema::{Column, Fields, Row, Table, Text};
 use std::alloc::Global;
+
+/// The values of a row, which a record spells.
+pub(crate) trait RecordFields: Fields {
+    /// The values that a record spells, column by column, or its first fault.
+    fn of_record(alloc: Global, record: &ByteRecord) -> Result<Self, LineFault>
+        ensures { Gives Self.values result (values_from Self.of_table 0 (kinds_of Self.of_table)
+            (fields_of record.now)) };
+}
 
 /// A row type of a table.
 pub(crate) trait TableRow: Drop {
@@ -24,8 +32,29 @@ pub(crate) trait TableRow: Drop {
         ensures { result ≡ of_table };
 
     /// The row that a record spells, or the record's first fault.
-    fn read(alloc: Global, fields: &ByteRecord) -> Result<Self, LineFault>
-        ensures { Gives values result (row_of of_table (fields_of fields.now)) };
+    fn read(alloc: Global, record: &ByteRecord) -> Result<Self, LineFault>
+        ensures { Gives values result (row_of of_table (fields_of record.now)) };
+}
+
+impl<F: RecordFields> TableRow for Row<F> {
+    ghost values = { F.values };
+
+    ghost of_table = { F.of_table };
+
+    fn table() -> Table {
+        F::table()
+    }
+
+    #[tactic(auto, unfolding(crate::specs::Row::row_of))]
+    fn read(alloc: Global, record: &ByteRecord) -> Result<Row<F>, LineFault> {
+        if !has_columns(record, F::table().kinds().len()) {
+            return Err(LineFault::FieldCount);
+        }
+        match Row::new(F::of_record(alloc, record)?) {
+            Ok(row) => Ok(row),
+            Err(refused) => Err(LineFault::Refused(refused.fault)),
+        }
+    }
 }
 
 // The number that a record spells in a column. Inlined, since a row reads a dozen: each result would else

@@ -1,54 +1,23 @@
 //! Suppliers from records.
 
-ghost use Rattle.std.specs.Prelude.{◌≡◌};
-ghost use Rattle.csv.specs.Records.{fields_of};
-ghost use Rattle.ssb_schema.specs.declared.table.Table.TheVariants as table;
-ghost use Rattle.ssb_schema.specs.Columns.{kinds_of};
-ghost use Rattle.ssb_schema.specs.Rows.{supplier_values};
-ghost use Rattle.ssb_load.specs.Row.{Gives, values_from};
-
 use crate::error::LineFault;
-use crate::row::{TableRow, read_number, read_text};
+use crate::row::{RecordFields, read_number, read_text};
 use csv::ByteRecord;
-use ssb_records::has_columns;
-use ssb_schema::{Column, Supplier, SupplierFields, Table};
+use ssb_schema::{Column, SupplierFields, Table};
 use std::alloc::Global;
 
-// The values of a supplier's record, column by column.
-#[tactic(auto, unfolding(crate::specs::Row::values_from))]
-fn supplier_fields(alloc: Global, fields: &ByteRecord) -> Result<SupplierFields, LineFault>
-    ensures { Gives supplier_values result (values_from table.Supplier 0 (kinds_of table.Supplier)
-        (fields_of fields.now)) }
-{
-    let table = Table::Supplier;
-    Ok(SupplierFields {
-        key: read_number(fields, Column { table, place: 1 })?,
-        name: read_text(alloc, fields, Column { table, place: 2 })?,
-        address: read_text(alloc, fields, Column { table, place: 3 })?,
-        city: read_text(alloc, fields, Column { table, place: 4 })?,
-        nation: read_text(alloc, fields, Column { table, place: 5 })?,
-        region: read_text(alloc, fields, Column { table, place: 6 })?,
-        phone: read_text(alloc, fields, Column { table, place: 7 })?,
-    })
-}
-
-impl TableRow for Supplier {
-    ghost values = { supplier_values };
-
-    ghost of_table = { table.Supplier };
-
-    fn table() -> Table {
-        Table::Supplier
-    }
-
-    #[tactic(auto, unfolding(crate::specs::Row::row_of))]
-    fn read(alloc: Global, fields: &ByteRecord) -> Result<Supplier, LineFault> {
-        if !has_columns(fields, 7) {
-            return Err(LineFault::FieldCount);
-        }
-        match Supplier::new(supplier_fields(alloc, fields)?) {
-            Ok(row) => Ok(row),
-            Err(refused) => Err(LineFault::Refused(refused.fault)),
-        }
+impl RecordFields for SupplierFields {
+    #[tactic(auto, unfolding(crate::specs::Row::values_from))]
+    fn of_record(alloc: Global, record: &ByteRecord) -> Result<SupplierFields, LineFault> {
+        let table = Table::Supplier;
+        Ok(SupplierFields {
+            key: read_number(record, Column { table, place: 1 })?,
+            name: read_text(alloc, record, Column { table, place: 2 })?,
+            address: read_text(alloc, record, Column { table, place: 3 })?,
+            city: read_text(alloc, record, Column { table, place: 4 })?,
+            nation: read_text(alloc, record, Column { table, place: 5 })?,
+            region: read_text(alloc, record, Column { table, place: 6 })?,
+            phone: read_text(alloc, record, Column { table, place: 7 })?,
+        })
     }
 }

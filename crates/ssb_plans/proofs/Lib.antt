@@ -1,4 +1,4 @@
-pub mod ValueLemmas
-pub mod OrdersLemmas
-pub mod QuestionLemmas
-pub mod ConstantLemmas
+pub mod ValueLaws
+pub mod OrderLaws
+pub mod QuestionLaws
+pub mod ConstantLaws

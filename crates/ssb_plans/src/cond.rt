@@ -9,11 +9,17 @@ use std::alloc::AllocError;
 /// What a value is tested for; bounds are included, so a range whose first bound is greater holds of nothing.
 #[derive(Debug, Drop)]
 pub enum Cond {
+    /// It is this text.
     TextIs(Text),
+    /// It lies between these texts, both included.
     TextFromTo(Text, Text),
+    /// It is one of these texts.
     TextOneOf(Items<Text>),
+    /// It is this number.
     NumberIs(u32),
+    /// It lies between these numbers, both included.
     NumberFromTo(u32, u32),
+    /// It is one of these numbers.
     NumberOneOf(Items<u32>),
 }
 
@@ -27,7 +33,9 @@ pub struct Test {
 /// A value where it stands in a row.
 #[derive(Clone, Copy, Debug)]
 pub enum ColumnValue<'a> {
+    /// A text.
     Text(&'a Text),
+    /// A number.
     Number(u32),
 }
 

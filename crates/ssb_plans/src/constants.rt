@@ -137,13 +137,13 @@ pub fn standard_constants(alloc: Global, query: Query) -> Result<Items<Value>, A
 }
 
 // Whether the values are these constants, one by one.
-fn are(values: &[Value], constants: &[Constant]) -> bool
+fn equal_constants(values: &[Value], constants: &[Constant]) -> bool
     ensures { result ≡ pointwise (eq_by_cmp value_cmp) values.now (map constant_value constants.now) }
 {
     match (values, constants) {
         ([], []) => true,
         ([value, values @ ..], [constant, constants @ ..]) => {
-            constant.is(value) && are(values, constants)
+            constant.is(value) && equal_constants(values, constants)
         }
         _ => false,
     }
@@ -153,5 +153,5 @@ fn are(values: &[Value], constants: &[Constant]) -> bool
 pub fn is_standard(query: Query, constants: &[Value]) -> bool
     ensures { IsTrue result ↔ (constants.now ≡ standard_constants query) }
 {
-    are(constants, standard(query))
+    equal_constants(constants, standard(query))
 }

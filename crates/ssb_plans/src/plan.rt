@@ -24,7 +24,9 @@ pub struct NumberRange {
 /// sum, from the greatest down.
 #[derive(Clone, Copy, Debug, PartialEq, Eq)]
 pub enum OrderKey {
+    /// The group column at this place, ascending.
     Group(usize),
+    /// The sum, descending.
     SumDescending,
 }
 

@@ -16,18 +16,31 @@ use thiserror::Error;
 /// A query of the benchmark, without its constants.
 #[derive(Clone, Copy, Debug, PartialEq, Eq)]
 pub enum Query {
+    /// What discounts took away in a year.
     Q1_1,
+    /// What discounts took away in a month.
     Q1_2,
+    /// What discounts took away in a week of a year.
     Q1_3,
+    /// Revenue by year and brand, of a category and of suppliers of a region.
     Q2_1,
+    /// Revenue by year and brand, of a range of brands and of suppliers of a region.
     Q2_2,
+    /// Revenue by year and brand, of one brand and of suppliers of a region.
     Q2_3,
+    /// Revenue by customers' and suppliers' nations and year, within a region.
     Q3_1,
+    /// Revenue by customers' and suppliers' cities and year, within a nation.
     Q3_2,
+    /// Revenue by customers' and suppliers' cities and year, of two cities.
     Q3_3,
+    /// Revenue by customers' and suppliers' cities and year, of two cities in a month.
     Q3_4,
+    /// Profit by year and customers' nation, of two manufacturers within a region.
     Q4_1,
+    /// Profit by year, suppliers' nation and category, of two manufacturers in two years.
     Q4_2,
+    /// Profit by year, suppliers' city and brand, of a category in two years.
     Q4_3,
 }
 

@@ -33,8 +33,10 @@ pub enum ConstantsFault {
 /// Why a question was not made. Both hand the constants back.
 #[derive(Debug, Drop, Error)]
 pub enum QuestionError {
+    /// The query does not take the constants.
     #[error("{0}")]
     Refused(ConstantsFault, Vec<Value>),
+    /// Memory ran out.
     #[error("out of memory")]
     OutOfMemory(Vec<Value>),
 }
@@ -115,6 +117,7 @@ impl Question {
         }
     }
 
+    /// The query that is asked.
     pub fn query(&self) -> Query
         ensures { result ≡ self.now.0 }
     {

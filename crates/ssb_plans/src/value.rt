@@ -9,7 +9,9 @@ use std::cmp::Ordering;
 /// number, which no column mixes.
 #[derive(Debug, Drop)]
 pub enum Value {
+    /// A text.
     Text(Text),
+    /// A number.
     Number(u32),
 }
 

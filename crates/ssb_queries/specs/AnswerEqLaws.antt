@@ -11,8 +11,8 @@ use Rattle.ssb_plans.specs.QuestionEq.{question_eq}
 use Rattle.ssb_plans.specs.Value.{value_cmp}
 use Rattle.ssb_plans.specs.declared.query.Query.{Query}
 use Rattle.ssb_plans.specs.declared.value.Value.{Value}
-use Rattle.ssb_plans.proofs.QuestionLemmas.{question_Decides}
-use Rattle.ssb_plans.proofs.ValueLemmas.{value_Decides}
+use Rattle.ssb_plans.proofs.QuestionLaws.{question_Decides}
+use Rattle.ssb_plans.proofs.ValueLaws.{value_Decides}
 use Rattle.ssb_queries.specs.AnswerEq.{row_eq, rows_eq, cause_eq, answer_eq}
 use Rattle.ssb_queries.specs.declared.answer.Answer.{Answer}
 use Rattle.ssb_queries.specs.declared.answer.Answer.TheVariants as answer

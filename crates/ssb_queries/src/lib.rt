@@ -12,7 +12,7 @@
 //! The contract: [`plain`] gives the rows of the definition and no others, and fails for want of
 //! memory alone. The definition stands in `specs/Combination.antt` (`combinations`) and
 //! `specs/Answer.antt` (`answer_of`); `laws` has what follows of every answer, and
-//! `proofs/SmallDataSet.antt` computes it on small data.
+//! `proofs/SmallDataSetLaws.antt` computes it on small data.
 //!
 //! ```text
 //! let question = Question::standard(alloc, Query::Q4_1)?;
@@ -32,10 +32,7 @@ mod totals;
 
 pub use answer::{Answer, ResultRow, Rows, Unserved, same_rows};
 pub use evaluator::plain;
-pub use row_values::{
-    customer_passes, customer_value, date_passes, date_value, is_within, part_passes, part_value,
-    supplier_passes, supplier_value,
-};
+pub use row_values::{QueryFields, is_within};
 pub use sort::sort_rows;
 pub use ssb_plans::{
     ColumnValue, Cond, ConstantKind, ConstantsFault, Measure, NoSuchQuery, NumberRange, OrderKey,

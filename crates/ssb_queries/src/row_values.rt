@@ -1,88 +1,83 @@
 //! The rows of the dimensions as queries read them: by column, and by tests.
 //!
-//! Places count from 1, as in the table files. A column that no query reads has the number 0 here.
-ghost use Rattle.std.specs.Prelude.{◌≡◌};
+//! Places count from 1, as in the table files.
+ghost use Rattle.std.specs.Prelude.{◌≡◌, ℕ};
+ghost use Rattle.ssb_plans.specs.declared.value.Value.{Value as PlainValue};
 ghost use Rattle.ssb_plans.specs.Cond.{column_value};
 ghost use Rattle.ssb_queries.specs.RowValues.{customer_value, supplier_value, part_value, date_value, pass, is_within};
 
 use ssb_plans::{ColumnValue, NumberRange, Test};
-use ssb_schema::{Customer, DateRow, Part, Supplier};
+use ssb_schema::{CustomerFields, DateFields, Keyed, PartFields, Row, SupplierFields};
 
-/// The value of a customer in C_CITY, C_NATION or C_REGION.
-pub fn customer_value(customer: &Customer, place: usize) -> ColumnValue<'_>
-    ensures { column_value result ≡ customer_value place customer.now }
-{
-    match place {
-        4 => ColumnValue::Text(customer.city()),
-        5 => ColumnValue::Text(customer.nation()),
-        6 => ColumnValue::Text(customer.region()),
-        _ => ColumnValue::Number(0),
+/// The values of a row of a dimension, some of which queries read.
+pub trait QueryFields: Keyed {
+    ghost value_of: { ℕ → Self → PlainValue };
+
+    /// The value at a place of the columns; the number 0 where no query reads the column.
+    fn value(row: &Row<Self>, place: usize) -> ColumnValue<'_>
+        ensures { column_value result ≡ value_of place row.now };
+}
+
+impl QueryFields for CustomerFields {
+    ghost value_of = { customer_value };
+
+    fn value(row: &Row<CustomerFields>, place: usize) -> ColumnValue<'_> {
+        match place {
+            4 => ColumnValue::Text(&row.fields().city),
+            5 => ColumnValue::Text(&row.fields().nation),
+            6 => ColumnValue::Text(&row.fields().region),
+            _ => ColumnValue::Number(0),
+        }
     }
 }
 
-/// The value of a supplier in S_CITY, S_NATION or S_REGION.
-pub fn supplier_value(supplier: &Supplier, place: usize) -> ColumnValue<'_>
-    ensures { column_value result ≡ supplier_value place supplier.now }
-{
-    match place {
-        4 => ColumnValue::Text(supplier.city()),
-        5 => ColumnValue::Text(supplier.nation()),
-        6 => ColumnValue::Text(supplier.region()),
-        _ => ColumnValue::Number(0),
+impl QueryFields for SupplierFields {
+    ghost value_of = { supplier_value };
+
+    fn value(row: &Row<SupplierFields>, place: usize) -> ColumnValue<'_> {
+        match place {
+            4 => ColumnValue::Text(&row.fields().city),
+            5 => ColumnValue::Text(&row.fields().nation),
+            6 => ColumnValue::Text(&row.fields().region),
+            _ => ColumnValue::Number(0),
+        }
     }
 }
 
-/// The value of a part in P_MFGR, P_CATEGORY or P_BRAND1.
-pub fn part_value(part: &Part, place: usize) -> ColumnValue<'_>
-    ensures { column_value result ≡ part_value place part.now }
-{
-    match place {
-        3 => ColumnValue::Text(part.manufacturer()),
-        4 => ColumnValue::Text(part.category()),
-        5 => ColumnValue::Text(part.brand()),
-        _ => ColumnValue::Number(0),
+impl QueryFields for PartFields {
+    ghost value_of = { part_value };
+
+    fn value(row: &Row<PartFields>, place: usize) -> ColumnValue<'_> {
+        match place {
+            3 => ColumnValue::Text(&row.fields().manufacturer),
+            4 => ColumnValue::Text(&row.fields().category),
+            5 => ColumnValue::Text(&row.fields().brand),
+            _ => ColumnValue::Number(0),
+        }
     }
 }
 
-/// The value of a date in D_YEAR, D_YEARMONTHNUM, D_YEARMONTH or D_WEEKNUMINYEAR.
-pub fn date_value(date: &DateRow, place: usize) -> ColumnValue<'_>
-    ensures { column_value result ≡ date_value place date.now }
-{
-    match place {
-        5 => ColumnValue::Number(date.year()),
-        6 => ColumnValue::Number(date.year_month_number()),
-        7 => ColumnValue::Text(date.year_month()),
-        12 => ColumnValue::Number(date.week()),
-        _ => ColumnValue::Number(0),
+impl QueryFields for DateFields {
+    ghost value_of = { date_value };
+
+    fn value(row: &Row<DateFields>, place: usize) -> ColumnValue<'_> {
+        match place {
+            5 => ColumnValue::Number(row.year()),
+            6 => ColumnValue::Number(row.year_month_number()),
+            7 => ColumnValue::Text(&row.fields().year_month),
+            12 => ColumnValue::Number(row.week()),
+            _ => ColumnValue::Number(0),
+        }
     }
 }
 
-/// Whether a customer passes all tests.
-pub fn customer_passes(tests: &[Test], customer: &Customer) -> bool
-    ensures { result ≡ pass tests.now (λ place. customer_value place customer.now) }
+// Whether a row passes all tests.
+pub(crate) fn passes<F: QueryFields>(tests: &[Test], row: &Row<F>) -> bool
+    ensures { result ≡ pass tests.now (λ place. F.value_of place row.now) }
 {
-    tests.iter().all(|test| test.cond.holds(customer_value(customer, test.column.place)))
-}
-
-/// Whether a supplier passes all tests.
-pub fn supplier_passes(tests: &[Test], supplier: &Supplier) -> bool
-    ensures { result ≡ pass tests.now (λ place. supplier_value place supplier.now) }
-{
-    tests.iter().all(|test| test.cond.holds(supplier_value(supplier, test.column.place)))
-}
-
-/// Whether a part passes all tests.
-pub fn part_passes(tests: &[Test], part: &Part) -> bool
-    ensures { result ≡ pass tests.now (λ place. part_value place part.now) }
-{
-    tests.iter().all(|test| test.cond.holds(part_value(part, test.column.place)))
-}
-
-/// Whether a date passes all tests.
-pub fn date_passes(tests: &[Test], date: &DateRow) -> bool
-    ensures { result ≡ pass tests.now (λ place. date_value place date.now) }
-{
-    tests.iter().all(|test| test.cond.holds(date_value(date, test.column.place)))
+    tests
+        .iter()
+        .all(|test| test.cond.holds(F::value(row, test.column.place)))
 }
 
 /// Whether a number lies in the range, both ends included; every number does where there is none.

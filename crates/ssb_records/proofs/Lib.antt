@@ -1,5 +1,5 @@
-pub mod Trimming
-pub mod Digits
-pub mod Utf8
-pub mod FieldReading
-pub mod Given
+pub mod TrimmingLaws
+pub mod DigitLaws
+pub mod Utf8Laws
+pub mod FieldReadingLaws
+pub mod GivenLaws

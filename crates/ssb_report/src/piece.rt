@@ -10,6 +10,7 @@ use std::io::Write;
 /// A piece of a line.
 #[derive(Clone, Copy)]
 pub enum Piece<'a> {
+    /// A text.
     Text(&'a str),
     /// In decimal, without leading zeros.
     Number(u64),

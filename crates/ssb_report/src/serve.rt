@@ -50,9 +50,7 @@ fn rows_of(
     let taken = lines.commits() as usize;
     absorb_all(lines, store.log_from(taken))?;
     let base = store.base();
-    // That the live lines are few is told where they are counted, and their limit read.
-    let _count = store.line_count();
-    let _limits = base.limits();
+    store.soundness();
     let rows = plain(alloc, base, lines.lines(), question)?;
     let Rows { query: _, list } = rows;
     Ok(list)

@@ -8,9 +8,9 @@ use ssb_load::load;
 use ssb_plans::{Query, Question};
 use ssb_queries::{Answer, Unserved};
 use ssb_schema::{Base, Limits};
+use stand_ins::{Cut, Room};
 use std::alloc::Global;
 use std::hash::RandomState;
-use std::io::{self, ErrorKind, Read, Write};
 use std::process::Abort;
 use std::sync::Arc;
 use std::test::Fail;
@@ -33,22 +33,6 @@ fn reports(rt: &HostRuntime, limits: Limits, script: &str, report: &str) -> Resu
     let mut out = Vec::new(alloc);
     run_store(alloc, &mut store, &mut lines, script.as_bytes(), &mut out)?;
     Ok(out.as_slice() == report.as_bytes())
-}
-
-// A writer that takes so many bytes, and then none.
-#[derive(Drop)]
-struct Room(usize);
-
-impl Write for Room {
-    fn write(&mut self, buf: &[u8]) -> io::Result<usize> {
-        let taken = buf.len().min(self.0);
-        self.0 -= taken;
-        Ok(taken)
-    }
-
-    fn flush(&mut self) -> io::Result<()> {
-        Ok(())
-    }
 }
 
 #[test]
@@ -181,7 +165,7 @@ fn failed_write_tells_how_many_blocks_were_done(rt: HostRuntime) -> Result<(), F
     let alloc = rt.alloc();
     for (room, done) in [(0, 0), (39, 0), (40, 1), (75, 1), (76, 2), (120, 3)] {
         let (mut store, mut lines) = opened(&rt, Limits::standard())?;
-        let mut writer = Room(room);
+        let mut writer = Room::for_bytes(alloc, room);
         let ended = run_store(
             alloc,
             &mut store,
@@ -192,7 +176,7 @@ fn failed_write_tells_how_many_blocks_were_done(rt: HostRuntime) -> Result<(), F
         assert!(rt; ended == Err(RunError::Write(done)), "{room}");
     }
     let (mut store, mut lines) = opened(&rt, Limits::standard())?;
-    let mut writer = Room(170);
+    let mut writer = Room::for_bytes(alloc, 170);
     let ended = run_store(
         alloc,
         &mut store,
@@ -208,7 +192,7 @@ fn failed_write_tells_how_many_blocks_were_done(rt: HostRuntime) -> Result<(), F
 fn commit_stands_after_a_failed_write(rt: HostRuntime) -> Result<(), Fail> {
     let alloc = rt.alloc();
     let (mut store, mut lines) = opened(&rt, Limits::standard())?;
-    let mut writer = Room(120);
+    let mut writer = Room::for_bytes(alloc, 120);
     let ended = run_store(
         alloc,
         &mut store,
@@ -244,28 +228,18 @@ hello
     Ok(())
 }
 
-// Gives one query, and then fails.
-#[derive(Drop)]
-struct Broken(bool);
-
-impl Read for Broken {
-    fn read(&mut self, buf: &mut [u8]) -> io::Result<usize> {
-        let query = b"query|Q1.1\n";
-        if self.0 || buf.len() < query.len() {
-            return Err(io::Error::from(ErrorKind::Other));
-        }
-        self.0 = true;
-        buf[..query.len()].copy_from_slice(query);
-        Ok(query.len())
-    }
-}
-
 #[test]
 fn failed_read_serves_nothing(rt: HostRuntime) -> Result<(), Fail> {
     let alloc = rt.alloc();
     let (mut store, mut lines) = opened(&rt, Limits::standard())?;
     let mut out = Vec::new(alloc);
-    let ended = run_store(alloc, &mut store, &mut lines, Broken(false), &mut out);
+    let ended = run_store(
+        alloc,
+        &mut store,
+        &mut lines,
+        Cut(b"query|Q1.1\n"),
+        &mut out,
+    );
     assert!(rt; ended == Err(RunError::Script(ScriptError::Read)));
     assert!(rt; out.is_empty());
     Ok(())

@@ -41,7 +41,7 @@ use Rattle.std.proofs.Math.Dec.{eqb}
 use Rattle.std.proofs.lemmas.List.{length-map}
 use Rattle.std.proofs.lemmas.List.Elements.{All-nil, All-cons, All-head, All-tail, All-map}
 use Rattle.std.proofs.lemmas.List.FromFn.{length-range_with_len}
-use Rattle.row_store.proofs.FactCounts.{count_cons}
+use Rattle.row_store.proofs.FactCountLaws.{count_cons}
 use Rattle.history_core.specs.declared.event.Who.TheVariants.{Client, Dispatcher}
 use Rattle.history.specs.Closing.{AreNumbered}
 use Rattle.history.specs.Tokens.{Hall, Token, new_token, new_clients, new_dispatchers}

@@ -22,8 +22,8 @@ impl<W: Wait + Drop> HasToken for Dispatcher<W> {
     ghost token = { λ d. d };
 }
 
-/// What a dispatcher's thread does with its dispatcher. The thread is started for whatever does so: the prover compares all that
-/// a closure's captures are made of, which for a dispatcher is more than it can.
+/// What a dispatcher's thread does with its dispatcher. The thread is started for whatever does so: the prover
+/// compares all that a closure's captures are made of, which for a dispatcher is more than it can.
 pub(crate) trait TakesTurns<W: Wait + Drop>: HasToken {
     fn take_turn<R: Wait + Threads + Sync>(&mut self, rt: &R, server: &Server<W>) -> Turn
         requires shared { IsSync R.row }

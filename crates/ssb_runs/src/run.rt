@@ -22,9 +22,9 @@ use std::sync::{Arc, Wait};
 use std::thread::Threads;
 use std::time::{Clock, Duration, Instant};
 
-/// What a run leaves: the report of each script, in the order of the scripts, and the trace, which has the log and what
-/// each client was told, one client after another. Batches, latencies and the time from the start of the first thread to
-/// the end of the last, where times were taken, are figures for a reader.
+/// What a run leaves: the report of each script, in the order of the scripts, and the trace, which has the log and
+/// what each client was told, one client after another. Batches, latencies and the time from the start of the first
+/// thread to the end of the last, where times were taken, are figures for a reader.
 #[derive(Drop)]
 pub struct Run {
     pub reports: Vec<Vec<u8>>,
@@ -183,8 +183,8 @@ fn serve<W: Wait + Drop + Send, R: Wait + Threads + Sync + Clock>(
 }
 
 /// Serves 1 to 16 scripts by 1 to 4 dispatchers over a base, each client and each dispatcher in a thread of its own;
-/// `hashing` keys the map of orders. It waits until all of them have ended. Where `timed` says so, the time of all threads
-/// is taken, and by each client's thread that of its requests; else no clock is read.
+/// `hashing` keys the map of orders. It waits until all of them have ended. Where `timed` says so, the time of all
+/// threads is taken, and by each client's thread that of its requests; else no clock is read.
 ///
 /// The dispatchers' threads start first, then the clients' in the order of the scripts, and where one can't be started,
 /// no later one is. That, and a refused growth wherever it is met, is `OutOfMemory`; each thread that was started has

@@ -48,7 +48,7 @@ pub(crate) fn serve_script<W: Wait + Drop, R: Wait + Clock>(
     let mut report = Vec::new(alloc);
     let mut told = Vec::new(alloc);
     let mut timer = Timer::new(alloc, rt, timed)?;
-    match run_blocks(
+    let served = run_blocks(
         rt,
         server,
         &mut client,
@@ -56,7 +56,10 @@ pub(crate) fn serve_script<W: Wait + Drop, R: Wait + Clock>(
         &mut report,
         &mut told,
         &mut timer,
-    ) {
+    );
+    // Who waits for the row store was to be woken by one of the commits that this client makes no more.
+    server.ring();
+    match served {
         Ok(()) => Ok(Session {
             client,
             report,

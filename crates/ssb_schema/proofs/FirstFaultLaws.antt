@@ -8,7 +8,7 @@ use Rattle.std.proofs.lemmas.Option.{slice_get_within, get_or_from_slice_get}
 use Rattle.ssb_schema.specs.declared.fault.SchemaFault.{SchemaFault}
 use Rattle.ssb_schema.specs.Columns.{or_else}
 use Rattle.ssb_schema.specs.FirstFault.{rows_fault, AreDistinct}
-use Rattle.ssb_schema.proofs.Checks.{drop_at_element}
+use Rattle.ssb_schema.proofs.CheckLaws.{drop_at_element}
 
 -- the first elements, and one more
 pub take_with_element : {X : Type 0} (xs : List X) (i : ℕ) (x : X) → slice_get xs i ≡ Some x

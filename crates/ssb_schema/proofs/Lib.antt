@@ -1,4 +1,4 @@
-pub mod Checks
+pub mod CheckLaws
 pub mod LimitLaws
 pub mod FirstFaultLaws
 pub mod OrderLaws

@@ -29,10 +29,10 @@ abbrev pub base_view : BaseInside → Tables
 base_view base = record {
   limits = base.limits;
   dimensions = record {
-    customers = base.customers.items;
-    suppliers = base.suppliers.items;
-    parts = base.parts.items;
-    dates = base.dates.items;
+    customers = base.customers;
+    suppliers = base.suppliers;
+    parts = base.parts;
+    dates = base.dates;
   };
   lines = base.lines.items;
 }

@@ -1,22 +1,22 @@
 //! The base: the loaded tables, which the whole warehouse shares.
 
-ghost use Rattle.std.specs.Prelude.{◌≡◌, ◌<◌, ◌+◌, ◌*◌, true, [], IfOk, IfErr, is_some, slice_get};
-ghost use Rattle.std.specs.Option.{option_and_then, option_copied};
+ghost use Rattle.std.specs.Prelude.{◌≡◌, ◌<◌, ◌+◌, ◌*◌, true, [], IfOk, IfErr};
 ghost use Rattle.ssb_schema.specs.Base.{Dimensions, base_fault, line_fault, table_fault, unknown_of, is_same_line};
-ghost use Rattle.ssb_schema.specs.Base.{IsSound, has_key, row_with, customer_key, supplier_key, part_key, date_key};
+ghost use Rattle.ssb_schema.specs.Base.{IsSound};
 ghost use Rattle.ssb_schema.specs.Checked.{Finds};
 ghost use Rattle.ssb_schema.specs.FirstFault.{rows_fault};
 ghost use Rattle.ssb_schema.specs.Indexed.{AreIndexesOf};
 ghost use Rattle.ssb_schema.specs.declared.table.Table.TheVariants as table;
 
-use crate::customer::Customer;
-use crate::date::DateRow;
+use crate::customer::{Customer, CustomerFields};
+use crate::date::{DateFields, DateRow};
+use crate::dimension::Dimension;
 use crate::fault::{Refused, SchemaFault};
 use crate::index::{Index, Indexes, Stop};
 use crate::limits::Limits;
 use crate::line::Line;
-use crate::part::Part;
-use crate::supplier::Supplier;
+use crate::part::{Part, PartFields};
+use crate::supplier::{Supplier, SupplierFields};
 use crate::table::Table;
 use std::alloc::Global;
 use std::collections::HashSet;
@@ -51,18 +51,16 @@ pub enum BaseError {
 #[derive(Drop)]
 pub struct Base {
     limits: Limits,
-    customers: Vec<Customer>,
-    suppliers: Vec<Supplier>,
-    parts: Vec<Part>,
-    dates: Vec<DateRow>,
+    customers: Dimension<CustomerFields>,
+    suppliers: Dimension<SupplierFields>,
+    parts: Dimension<PartFields>,
+    dates: Dimension<DateFields>,
     lines: Vec<Line>,
-    indexes: Indexes,
 }
 
 impl Model for Base {
     ghost use Rattle.std.specs.Prelude.{◌≡◌, None};
     ghost use Rattle.ssb_schema.specs.Base.{Tables, base_fault};
-    ghost use Rattle.ssb_schema.specs.Indexed.{AreIndexesOf};
 
     ghost Value = { Tables };
 
@@ -70,8 +68,7 @@ impl Model for Base {
 
     ghost view = { base_view };
 
-    ghost invariant = { λ base. (base_fault (base_view base) ≡ None)
-        × AreIndexesOf base.indexes (base_view base).dimensions };
+    ghost invariant = { λ base. base_fault (base_view base) ≡ None };
 }
 
 // The first dimension that has no row of the key which the line names.
@@ -155,10 +152,10 @@ impl BaseParts {
         ensures indexes { IfOk result (λ indexes. AreIndexesOf indexes (dimensions_of self.now)) }
     {
         let indexes = Indexes {
-            customers: Index::of(alloc, limits, Table::Customer, &self.customers)?,
-            suppliers: Index::of(alloc, limits, Table::Supplier, &self.suppliers)?,
-            parts: Index::of(alloc, limits, Table::Part, &self.parts)?,
-            dates: Index::of(alloc, limits, Table::Date, &self.dates)?,
+            customers: Index::of(alloc, limits, &self.customers)?,
+            suppliers: Index::of(alloc, limits, &self.suppliers)?,
+            parts: Index::of(alloc, limits, &self.parts)?,
+            dates: Index::of(alloc, limits, &self.dates)?,
         };
         check_lines(alloc, limits.lines, &indexes, &self.lines)?;
         Ok(indexes)
@@ -178,12 +175,11 @@ impl Base {
         match parts.check(alloc, limits) {
             Ok(indexes) => Ok(Base {
                 limits,
-                customers: parts.customers,
-                suppliers: parts.suppliers,
-                parts: parts.parts,
-                dates: parts.dates,
+                customers: Dimension::new(parts.customers, indexes.customers),
+                suppliers: Dimension::new(parts.suppliers, indexes.suppliers),
+                parts: Dimension::new(parts.parts, indexes.parts),
+                dates: Dimension::new(parts.dates, indexes.dates),
                 lines: parts.lines,
-                indexes,
             }),
             Err(Stop::Fault(fault)) => Err(BaseError::Refused(Refused { fault, back: parts })),
             Err(Stop::OutOfMemory) => Err(BaseError::OutOfMemory(parts)),
@@ -214,122 +210,30 @@ impl Base {
     }
 
     /// The customers.
-    pub fn customers(&self) -> &[Customer]
+    pub fn customers(&self) -> &Dimension<CustomerFields>
         ensures { result.now ≡ self.now.dimensions.customers }
     {
-        self.customers.as_slice()
+        &self.customers
     }
 
     /// The suppliers.
-    pub fn suppliers(&self) -> &[Supplier]
+    pub fn suppliers(&self) -> &Dimension<SupplierFields>
         ensures { result.now ≡ self.now.dimensions.suppliers }
     {
-        self.suppliers.as_slice()
+        &self.suppliers
     }
 
     /// The parts.
-    pub fn parts(&self) -> &[Part]
+    pub fn parts(&self) -> &Dimension<PartFields>
         ensures { result.now ≡ self.now.dimensions.parts }
     {
-        self.parts.as_slice()
+        &self.parts
     }
 
     /// The dates.
-    pub fn dates(&self) -> &[DateRow]
+    pub fn dates(&self) -> &Dimension<DateFields>
         ensures { result.now ≡ self.now.dimensions.dates }
     {
-        self.dates.as_slice()
-    }
-
-    /// The customer of this key, if there is one.
-    pub fn customer(&self, key: u64) -> Option<&Customer>
-        ensures { option_copied result ≡ row_with customer_key self.now.dimensions.customers key }
-    {
-        self.indexes.customers.row(&self.customers, key)
-    }
-
-    /// The supplier of this key, if there is one.
-    pub fn supplier(&self, key: u64) -> Option<&Supplier>
-        ensures { option_copied result ≡ row_with supplier_key self.now.dimensions.suppliers key }
-    {
-        self.indexes.suppliers.row(&self.suppliers, key)
-    }
-
-    /// The part of this key, if there is one.
-    pub fn part(&self, key: u64) -> Option<&Part>
-        ensures { option_copied result ≡ row_with part_key self.now.dimensions.parts key }
-    {
-        self.indexes.parts.row(&self.parts, key)
-    }
-
-    /// The date of this key, if there is one.
-    pub fn date(&self, key: u64) -> Option<&DateRow>
-        ensures { option_copied result ≡ row_with date_key self.now.dimensions.dates key }
-    {
-        self.indexes.dates.row(&self.dates, key)
-    }
-
-    /// The place of the customer of this key among the customers, counted from 0, if there is one.
-    pub fn customer_position(&self, key: u64) -> Option<usize>
-        ensures row { option_and_then (slice_get self.now.dimensions.customers) result
-            ≡ row_with customer_key self.now.dimensions.customers key }
-        ensures found { is_some result ≡ has_key customer_key self.now.dimensions.customers key }
-    {
-        self.indexes.customers.position(key)
-    }
-
-    /// The place of the supplier of this key among the suppliers, counted from 0, if there is one.
-    pub fn supplier_position(&self, key: u64) -> Option<usize>
-        ensures row { option_and_then (slice_get self.now.dimensions.suppliers) result
-            ≡ row_with supplier_key self.now.dimensions.suppliers key }
-        ensures found { is_some result ≡ has_key supplier_key self.now.dimensions.suppliers key }
-    {
-        self.indexes.suppliers.position(key)
-    }
-
-    /// The place of the part of this key among the parts, counted from 0, if there is one.
-    pub fn part_position(&self, key: u64) -> Option<usize>
-        ensures row { option_and_then (slice_get self.now.dimensions.parts) result
-            ≡ row_with part_key self.now.dimensions.parts key }
-        ensures found { is_some result ≡ has_key part_key self.now.dimensions.parts key }
-    {
-        self.indexes.parts.position(key)
-    }
-
-    /// The place of the date of this key among the dates, counted from 0, if there is one.
-    pub fn date_position(&self, key: u64) -> Option<usize>
-        ensures row { option_and_then (slice_get self.now.dimensions.dates) result
-            ≡ row_with date_key self.now.dimensions.dates key }
-        ensures found { is_some result ≡ has_key date_key self.now.dimensions.dates key }
-    {
-        self.indexes.dates.position(key)
-    }
-
-    /// Whether there is a customer of this key.
-    pub fn has_customer(&self, key: u64) -> bool
-        ensures { result ≡ has_key customer_key self.now.dimensions.customers key }
-    {
-        self.indexes.customers.contains(key)
-    }
-
-    /// Whether there is a supplier of this key.
-    pub fn has_supplier(&self, key: u64) -> bool
-        ensures { result ≡ has_key supplier_key self.now.dimensions.suppliers key }
-    {
-        self.indexes.suppliers.contains(key)
-    }
-
-    /// Whether there is a part of this key.
-    pub fn has_part(&self, key: u64) -> bool
-        ensures { result ≡ has_key part_key self.now.dimensions.parts key }
-    {
-        self.indexes.parts.contains(key)
-    }
-
-    /// Whether there is a date of this key.
-    pub fn has_date(&self, key: u64) -> bool
-        ensures { result ≡ has_key date_key self.now.dimensions.dates key }
-    {
-        self.indexes.dates.contains(key)
+        &self.dates
     }
 }

@@ -1,14 +1,15 @@
 //! Date rows.
 
-ghost use Rattle.std.specs.Prelude.{◌≡◌, IfOk, IfErr, None};
+ghost use Rattle.std.specs.Prelude.{◌≡◌};
 ghost use Rattle.ssb_schema.specs.declared.table.Table.TheVariants as table;
-ghost use Rattle.ssb_schema.specs.Columns.{row_fault};
+ghost use Rattle.ssb_schema.specs.Base.{date_key};
+ghost use Rattle.ssb_schema.specs.Rows.{date_values};
 
-use crate::fault::{Refused, SchemaFault};
+use crate::fault::SchemaFault;
 use crate::kind::{Cell, check};
+use crate::row::{Fields, Keyed, Row};
 use crate::table::Table;
 use crate::text::Text;
-use std::marker::Model;
 
 /// The values of a date, column by column in the order of the benchmark's table.
 #[derive(Drop)]
@@ -50,32 +51,18 @@ pub struct DateFields {
 }
 
 /// A date whose values are within their columns' limits. Contracts see its values.
-#[derive(Drop)]
-pub struct DateRow {
-    fields: DateFields,
-}
+pub type DateRow = Row<DateFields>;
 
-impl Model for DateRow {
-    ghost use Rattle.std.specs.Prelude.{◌≡◌, None};
-    ghost use Rattle.ssb_schema.specs.declared.table.Table.TheVariants as table;
-    ghost use Rattle.ssb_schema.specs.declared.date.DateFields.{DateFields};
-    ghost use Rattle.ssb_schema.specs.Columns.{row_fault};
-    ghost use Rattle.ssb_schema.specs.Rows.{date_values};
+impl Fields for DateFields {
+    ghost of_table = { table.Date };
 
-    ghost Value = { DateFields };
+    ghost values = { date_values };
 
-    ghost view = { λ row. row.fields };
+    fn table() -> Table {
+        Table::Date
+    }
 
-    ghost invariant = { λ row. row_fault table.Date (date_values row.fields) ≡ None };
-}
-
-impl DateFields {
-    ghost use Rattle.ssb_schema.specs.Rows.{date_values};
-
-    // The first fault of the columns.
-    fn fault(&self) -> Option<SchemaFault>
-        ensures { result ≡ row_fault table.Date (date_values self.now) }
-    {
+    fn fault(&self) -> Option<SchemaFault> {
         let cells = [
             Cell::Number(self.key),
             Cell::Text(self.field2.as_str()),
@@ -99,148 +86,33 @@ impl DateFields {
     }
 }
 
+impl Keyed for DateFields {
+    ghost key_of = { date_key };
+
+    fn key(&self) -> u64 {
+        self.key
+    }
+}
+
 impl DateRow {
-    ghost use Rattle.ssb_schema.specs.Refusals.{fault_of};
-    ghost use Rattle.ssb_schema.specs.Rows.{date_values};
-
-    /// A date of these values, or the first fault in the order of its columns, with the values.
-    pub fn new(fields: DateFields) -> Result<DateRow, Refused<DateFields>>
-        ensures fault { fault_of result ≡ row_fault table.Date (date_values fields) }
-        ensures row { IfOk result (λ row. row ≡ fields) }
-        ensures back { IfErr result (λ refused. refused.back ≡ fields) }
-    {
-        if let Some(fault) = fields.fault() {
-            return Err(Refused {
-                fault,
-                back: fields,
-            });
-        }
-        Ok(DateRow { fields })
-    }
-
-    /// The schema finds no fault in any date. The law alone: it does nothing.
-    pub fn soundness(&self)
-        ensures { row_fault table.Date (date_values self.now) ≡ None }
-    {
-        let _field = &self.fields;
-    }
-
-    /// D_DATEKEY, the primary key.
-    pub fn key(&self) -> u64
-        ensures { result ≡ self.now.key }
-    {
-        self.fields.key
-    }
-
-    /// D_FIELD2.
-    pub fn field2(&self) -> &Text
-        ensures { result.now ≡ self.now.field2 }
-    {
-        &self.fields.field2
-    }
-
-    /// D_FIELD3.
-    pub fn field3(&self) -> &Text
-        ensures { result.now ≡ self.now.field3 }
-    {
-        &self.fields.field3
-    }
-
-    /// D_FIELD4.
-    pub fn field4(&self) -> &Text
-        ensures { result.now ≡ self.now.field4 }
-    {
-        &self.fields.field4
-    }
-
     /// D_YEAR.
     pub fn year(&self) -> u32
         ensures { result ≡ self.now.year }
     {
-        self.fields.year as u32
+        self.fields().year as u32
     }
 
     /// D_YEARMONTHNUM.
     pub fn year_month_number(&self) -> u32
         ensures { result ≡ self.now.year_month_number }
     {
-        self.fields.year_month_number as u32
-    }
-
-    /// D_YEARMONTH.
-    pub fn year_month(&self) -> &Text
-        ensures { result.now ≡ self.now.year_month }
-    {
-        &self.fields.year_month
-    }
-
-    /// D_FIELD8.
-    pub fn field8(&self) -> &Text
-        ensures { result.now ≡ self.now.field8 }
-    {
-        &self.fields.field8
-    }
-
-    /// D_FIELD9.
-    pub fn field9(&self) -> &Text
-        ensures { result.now ≡ self.now.field9 }
-    {
-        &self.fields.field9
-    }
-
-    /// D_FIELD10.
-    pub fn field10(&self) -> &Text
-        ensures { result.now ≡ self.now.field10 }
-    {
-        &self.fields.field10
-    }
-
-    /// D_FIELD11.
-    pub fn field11(&self) -> &Text
-        ensures { result.now ≡ self.now.field11 }
-    {
-        &self.fields.field11
+        self.fields().year_month_number as u32
     }
 
     /// D_WEEKNUMINYEAR.
     pub fn week(&self) -> u32
         ensures { result ≡ self.now.week }
     {
-        self.fields.week as u32
-    }
-
-    /// D_FIELD13.
-    pub fn field13(&self) -> &Text
-        ensures { result.now ≡ self.now.field13 }
-    {
-        &self.fields.field13
-    }
-
-    /// D_FIELD14.
-    pub fn field14(&self) -> &Text
-        ensures { result.now ≡ self.now.field14 }
-    {
-        &self.fields.field14
-    }
-
-    /// D_FIELD15.
-    pub fn field15(&self) -> &Text
-        ensures { result.now ≡ self.now.field15 }
-    {
-        &self.fields.field15
-    }
-
-    /// D_FIELD16.
-    pub fn field16(&self) -> &Text
-        ensures { result.now ≡ self.now.field16 }
-    {
-        &self.fields.field16
-    }
-
-    /// D_FIELD17.
-    pub fn field17(&self) -> &Text
-        ensures { result.now ≡ self.now.field17 }
-    {
-        &self.fields.field17
+        self.fields().week as u32
     }
 }

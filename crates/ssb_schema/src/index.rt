@@ -1,19 +1,14 @@
 //! How the rows of a dimension are found by key.
 
-ghost use Rattle.std.specs.Prelude.{◌≡◌, ℕ, [], IfOk, is_some};
-ghost use Rattle.std.specs.Option.{option_copied};
-ghost use Rattle.ssb_schema.specs.Base.{dimension_fault, row_with, customer_key, supplier_key, part_key, date_key};
+ghost use Rattle.std.specs.Prelude.{◌≡◌, [], IfOk, is_some};
+ghost use Rattle.ssb_schema.specs.Base.{dimension_fault};
 ghost use Rattle.ssb_schema.specs.Checked.{Finds};
 ghost use Rattle.ssb_schema.specs.declared.index.Stop.TheVariants.{OutOfMemory};
 
-use crate::customer::Customer;
-use crate::date::DateRow;
 use crate::fault::SchemaFault;
 use crate::limits::Limits;
-use crate::part::Part;
 use crate::places::Places;
-use crate::supplier::Supplier;
-use crate::table::Table;
+use crate::row::{Keyed, Row};
 use std::alloc::{AllocError, Global};
 
 /// Why a check of rows stopped.
@@ -30,47 +25,6 @@ impl From<AllocError> for Stop {
 
     fn from(_error: AllocError) -> Stop {
         Stop::OutOfMemory
-    }
-}
-
-/// A row of a dimension.
-pub trait Keyed {
-    ghost key_of: { Self → ℕ };
-
-    /// The primary key.
-    fn row_key(&self) -> u64
-        ensures { result ≡ key_of self.now };
-}
-
-impl Keyed for Customer {
-    ghost key_of = { customer_key };
-
-    fn row_key(&self) -> u64 {
-        self.key()
-    }
-}
-
-impl Keyed for Supplier {
-    ghost key_of = { supplier_key };
-
-    fn row_key(&self) -> u64 {
-        self.key()
-    }
-}
-
-impl Keyed for Part {
-    ghost key_of = { part_key };
-
-    fn row_key(&self) -> u64 {
-        self.key()
-    }
-}
-
-impl Keyed for DateRow {
-    ghost key_of = { date_key };
-
-    fn row_key(&self) -> u64 {
-        self.key()
     }
 }
 
@@ -95,11 +49,11 @@ pub struct Indexes {
 
 // The first of the keys, and how many an array takes from there on: as many as there are up to the last one, or none
 // where that is many times the number of rows.
-fn window<T: Keyed>(rows: &[T]) -> (u64, usize) {
+fn window<F: Keyed>(rows: &[Row<F>]) -> (u64, usize) {
     let mut first = u64::MAX;
     let mut last = 0;
     for row in rows {
-        let key = row.row_key();
+        let key = row.key();
         first = first.min(key);
         last = last.max(key);
     }
@@ -114,24 +68,19 @@ impl Index {
     ghost use Rattle.ssb_schema.specs.Indexed.{place_of, IsIndexOf};
 
     /// The index of these rows, or the dimension's first fault.
-    pub fn of<T: Keyed>(
-        alloc: Global,
-        limits: Limits,
-        table: Table,
-        rows: &[T],
-    ) -> Result<Index, Stop>
-        ensures fault { Finds result (dimension_fault limits table T.key_of rows.now) }
-        ensures index { IfOk result (λ index. IsIndexOf T.key_of rows.now rows.now (place_of index)) }
+    pub fn of<F: Keyed>(alloc: Global, limits: Limits, rows: &[Row<F>]) -> Result<Index, Stop>
+        ensures fault { Finds result (dimension_fault limits F.of_table F.key_of rows.now) }
+        ensures index { IfOk result (λ index. IsIndexOf F.key_of rows.now rows.now (place_of index)) }
     {
         if rows.len() > limits.dimension_rows {
-            return Err(Stop::Fault(SchemaFault::TooManyRows(table)));
+            return Err(Stop::Fault(SchemaFault::TooManyRows(F::table())));
         }
         let (first, count) = window(rows);
         let mut places = Places::new(alloc, first, count)?;
         for (i, row) in rows.iter().enumerate() {
-            match places.insert(row.row_key(), i) {
+            match places.insert(row.key(), i) {
                 Ok(true) => {}
-                Ok(false) => return Err(Stop::Fault(SchemaFault::KeyRepeated(table, i + 1))),
+                Ok(false) => return Err(Stop::Fault(SchemaFault::KeyRepeated(F::table(), i + 1))),
                 Err(_) => return Err(Stop::OutOfMemory),
             }
         }
@@ -150,16 +99,5 @@ impl Index {
         ensures { result ≡ place_of self.now key }
     {
         self.places.get(key)
-    }
-
-    /// The row that has the key, if there is one.
-    pub fn row<'a, T: Keyed>(&self, rows: &'a [T], key: u64) -> Option<&'a T>
-        requires { IsIndexOf T.key_of rows.now rows.now (place_of self.now) }
-        ensures { option_copied result ≡ row_with T.key_of rows.now key }
-    {
-        match self.places.get(key) {
-            Some(place) => rows.get(place),
-            None => None,
-        }
     }
 }

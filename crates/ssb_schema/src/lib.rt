@@ -9,7 +9,8 @@
 //! ```
 //! let line = Line::new(fields).map_err(|refused| refused.fault)?;   // 10 OutOfRange LO_QUANTITY, say
 //! let base = Base::new(alloc, Limits::standard(), parts)?;
-//! let nation = base.customer(line.customer_key()).map(|customer| customer.nation());
+//! let customer = base.customers().row(line.customer_key());
+//! let nation = customer.map(|customer| &customer.fields().nation);
 //! ```
 #![tactic(auto)]
 
@@ -17,6 +18,7 @@ mod base;
 mod column;
 mod customer;
 mod date;
+mod dimension;
 mod fact;
 mod fault;
 mod index;
@@ -28,6 +30,7 @@ mod order;
 mod part;
 mod places;
 mod refresh;
+mod row;
 mod supplier;
 mod table;
 #[cfg(test)]
@@ -41,6 +44,7 @@ pub use column::{
 };
 pub use customer::{Customer, CustomerFields};
 pub use date::{DateFields, DateRow};
+pub use dimension::Dimension;
 pub use fact::Fact;
 pub use fault::{Refused, SchemaFault};
 pub use items::Items;
@@ -50,6 +54,7 @@ pub use line::{Line, LineFields};
 pub use order::Order;
 pub use part::{Part, PartFields};
 pub use refresh::{Action, Refresh};
+pub use row::{Fields, Keyed, Row};
 pub use supplier::{Supplier, SupplierFields};
 pub use table::Table;
 pub use text::Text;

@@ -3,10 +3,12 @@
 ghost use Rattle.std.specs.Prelude.{◌≡◌, IfOk, IfErr, None};
 ghost use Rattle.ssb_schema.specs.declared.table.Table.TheVariants as table;
 ghost use Rattle.ssb_schema.specs.Columns.{row_fault};
+ghost use Rattle.ssb_schema.specs.Rows.{line_values};
 
 use crate::fact::Fact;
 use crate::fault::{Refused, SchemaFault};
 use crate::kind::{Cell, check};
+use crate::row::{Fields, Row};
 use crate::table::Table;
 use crate::text::Text;
 use std::marker::Model;
@@ -89,13 +91,16 @@ impl Model for Line {
     ghost invariant = { λ line. row_fault table.Lineorder (line_values (line_view line)) ≡ None };
 }
 
-impl LineFields {
-    ghost use Rattle.ssb_schema.specs.Rows.{line_values};
+impl Fields for LineFields {
+    ghost of_table = { table.Lineorder };
 
-    // The first fault of the columns.
-    fn fault(&self) -> Option<SchemaFault>
-        ensures { result ≡ row_fault table.Lineorder (line_values self.now) }
-    {
+    ghost values = { line_values };
+
+    fn table() -> Table {
+        Table::Lineorder
+    }
+
+    fn fault(&self) -> Option<SchemaFault> {
         let cells = [
             Cell::Number(self.order_key),
             Cell::Number(self.line_number),
@@ -122,7 +127,7 @@ impl LineFields {
 impl Line {
     ghost use Rattle.ssb_schema.specs.Facts.{fact_of, IsFactWithinLimits};
     ghost use Rattle.ssb_schema.specs.Refusals.{fault_of};
-    ghost use Rattle.ssb_schema.specs.Rows.{line_values, IsWithinLimits};
+    ghost use Rattle.ssb_schema.specs.Rows.{IsWithinLimits};
 
     /// A line of these values, or the first fault in the order of its columns, with the values.
     pub fn new(fields: LineFields) -> Result<Line, Refused<LineFields>>
@@ -130,13 +135,15 @@ impl Line {
         ensures row { IfOk result (λ line. line ≡ fields) }
         ensures back { IfErr result (λ refused. refused.back ≡ fields) }
     {
-        if let Some(fault) = fields.fault() {
-            return Err(Refused {
-                fault,
-                back: fields,
-            });
-        }
-        Ok(Line {
+        Ok(Line::packed(Row::new(fields)?))
+    }
+
+    /// The line of a row: its numbers are packed to their ranges.
+    pub fn packed(row: Row<LineFields>) -> Line
+        ensures { result ≡ row }
+    {
+        let fields = row.into_fields();
+        Line {
             order_key: fields.order_key,
             customer_key: fields.customer_key,
             part_key: fields.part_key,
@@ -154,7 +161,7 @@ impl Line {
             order_priority: fields.order_priority,
             ship_priority: fields.ship_priority,
             ship_mode: fields.ship_mode,
-        })
+        }
     }
 
     /// The schema finds no fault in any line. The law alone: it does nothing.

@@ -1,14 +1,14 @@
 //! Part rows.
 
-ghost use Rattle.std.specs.Prelude.{◌≡◌, IfOk, IfErr, None};
 ghost use Rattle.ssb_schema.specs.declared.table.Table.TheVariants as table;
-ghost use Rattle.ssb_schema.specs.Columns.{row_fault};
+ghost use Rattle.ssb_schema.specs.Base.{part_key};
+ghost use Rattle.ssb_schema.specs.Rows.{part_values};
 
-use crate::fault::{Refused, SchemaFault};
+use crate::fault::SchemaFault;
 use crate::kind::{Cell, check};
+use crate::row::{Fields, Keyed, Row};
 use crate::table::Table;
 use crate::text::Text;
-use std::marker::Model;
 
 /// The values of a part, column by column in the order of the benchmark's table.
 #[derive(Drop)]
@@ -34,32 +34,18 @@ pub struct PartFields {
 }
 
 /// A part whose values are within their columns' limits. Contracts see its values.
-#[derive(Drop)]
-pub struct Part {
-    fields: PartFields,
-}
+pub type Part = Row<PartFields>;
 
-impl Model for Part {
-    ghost use Rattle.std.specs.Prelude.{◌≡◌, None};
-    ghost use Rattle.ssb_schema.specs.declared.table.Table.TheVariants as table;
-    ghost use Rattle.ssb_schema.specs.declared.part.PartFields.{PartFields};
-    ghost use Rattle.ssb_schema.specs.Columns.{row_fault};
-    ghost use Rattle.ssb_schema.specs.Rows.{part_values};
+impl Fields for PartFields {
+    ghost of_table = { table.Part };
 
-    ghost Value = { PartFields };
+    ghost values = { part_values };
 
-    ghost view = { λ row. row.fields };
+    fn table() -> Table {
+        Table::Part
+    }
 
-    ghost invariant = { λ row. row_fault table.Part (part_values row.fields) ≡ None };
-}
-
-impl PartFields {
-    ghost use Rattle.ssb_schema.specs.Rows.{part_values};
-
-    // The first fault of the columns.
-    fn fault(&self) -> Option<SchemaFault>
-        ensures { result ≡ row_fault table.Part (part_values self.now) }
-    {
+    fn fault(&self) -> Option<SchemaFault> {
         let cells = [
             Cell::Number(self.key),
             Cell::Text(self.name.as_str()),
@@ -75,92 +61,10 @@ impl PartFields {
     }
 }
 
-impl Part {
-    ghost use Rattle.ssb_schema.specs.Refusals.{fault_of};
-    ghost use Rattle.ssb_schema.specs.Rows.{part_values};
+impl Keyed for PartFields {
+    ghost key_of = { part_key };
 
-    /// A part of these values, or the first fault in the order of its columns, with the values.
-    pub fn new(fields: PartFields) -> Result<Part, Refused<PartFields>>
-        ensures fault { fault_of result ≡ row_fault table.Part (part_values fields) }
-        ensures row { IfOk result (λ row. row ≡ fields) }
-        ensures back { IfErr result (λ refused. refused.back ≡ fields) }
-    {
-        if let Some(fault) = fields.fault() {
-            return Err(Refused {
-                fault,
-                back: fields,
-            });
-        }
-        Ok(Part { fields })
-    }
-
-    /// The schema finds no fault in any part. The law alone: it does nothing.
-    pub fn soundness(&self)
-        ensures { row_fault table.Part (part_values self.now) ≡ None }
-    {
-        let _field = &self.fields;
-    }
-
-    /// P_PARTKEY, the primary key.
-    pub fn key(&self) -> u64
-        ensures { result ≡ self.now.key }
-    {
-        self.fields.key
-    }
-
-    /// P_NAME.
-    pub fn name(&self) -> &Text
-        ensures { result.now ≡ self.now.name }
-    {
-        &self.fields.name
-    }
-
-    /// P_MFGR.
-    pub fn manufacturer(&self) -> &Text
-        ensures { result.now ≡ self.now.manufacturer }
-    {
-        &self.fields.manufacturer
-    }
-
-    /// P_CATEGORY.
-    pub fn category(&self) -> &Text
-        ensures { result.now ≡ self.now.category }
-    {
-        &self.fields.category
-    }
-
-    /// P_BRAND1.
-    pub fn brand(&self) -> &Text
-        ensures { result.now ≡ self.now.brand }
-    {
-        &self.fields.brand
-    }
-
-    /// P_COLOR.
-    pub fn color(&self) -> &Text
-        ensures { result.now ≡ self.now.color }
-    {
-        &self.fields.color
-    }
-
-    /// P_TYPE.
-    pub fn part_type(&self) -> &Text
-        ensures { result.now ≡ self.now.part_type }
-    {
-        &self.fields.part_type
-    }
-
-    /// P_SIZE.
-    pub fn size(&self) -> &Text
-        ensures { result.now ≡ self.now.size }
-    {
-        &self.fields.size
-    }
-
-    /// P_CONTAINER.
-    pub fn container(&self) -> &Text
-        ensures { result.now ≡ self.now.container }
-    {
-        &self.fields.container
+    fn key(&self) -> u64 {
+        self.key
     }
 }

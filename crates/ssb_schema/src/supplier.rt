@@ -1,14 +1,14 @@
 //! Supplier rows.
 
-ghost use Rattle.std.specs.Prelude.{◌≡◌, IfOk, IfErr, None};
 ghost use Rattle.ssb_schema.specs.declared.table.Table.TheVariants as table;
-ghost use Rattle.ssb_schema.specs.Columns.{row_fault};
+ghost use Rattle.ssb_schema.specs.Base.{supplier_key};
+ghost use Rattle.ssb_schema.specs.Rows.{supplier_values};
 
-use crate::fault::{Refused, SchemaFault};
+use crate::fault::SchemaFault;
 use crate::kind::{Cell, check};
+use crate::row::{Fields, Keyed, Row};
 use crate::table::Table;
 use crate::text::Text;
-use std::marker::Model;
 
 /// The values of a supplier, column by column in the order of the benchmark's table.
 #[derive(Drop)]
@@ -30,32 +30,18 @@ pub struct SupplierFields {
 }
 
 /// A supplier whose values are within their columns' limits. Contracts see its values.
-#[derive(Drop)]
-pub struct Supplier {
-    fields: SupplierFields,
-}
+pub type Supplier = Row<SupplierFields>;
 
-impl Model for Supplier {
-    ghost use Rattle.std.specs.Prelude.{◌≡◌, None};
-    ghost use Rattle.ssb_schema.specs.declared.table.Table.TheVariants as table;
-    ghost use Rattle.ssb_schema.specs.declared.supplier.SupplierFields.{SupplierFields};
-    ghost use Rattle.ssb_schema.specs.Columns.{row_fault};
-    ghost use Rattle.ssb_schema.specs.Rows.{supplier_values};
+impl Fields for SupplierFields {
+    ghost of_table = { table.Supplier };
 
-    ghost Value = { SupplierFields };
+    ghost values = { supplier_values };
 
-    ghost view = { λ row. row.fields };
+    fn table() -> Table {
+        Table::Supplier
+    }
 
-    ghost invariant = { λ row. row_fault table.Supplier (supplier_values row.fields) ≡ None };
-}
-
-impl SupplierFields {
-    ghost use Rattle.ssb_schema.specs.Rows.{supplier_values};
-
-    // The first fault of the columns.
-    fn fault(&self) -> Option<SchemaFault>
-        ensures { result ≡ row_fault table.Supplier (supplier_values self.now) }
-    {
+    fn fault(&self) -> Option<SchemaFault> {
         let cells = [
             Cell::Number(self.key),
             Cell::Text(self.name.as_str()),
@@ -69,78 +55,10 @@ impl SupplierFields {
     }
 }
 
-impl Supplier {
-    ghost use Rattle.ssb_schema.specs.Refusals.{fault_of};
-    ghost use Rattle.ssb_schema.specs.Rows.{supplier_values};
+impl Keyed for SupplierFields {
+    ghost key_of = { supplier_key };
 
-    /// A supplier of these values, or the first fault in the order of its columns, with the values.
-    pub fn new(fields: SupplierFields) -> Result<Supplier, Refused<SupplierFields>>
-        ensures fault { fault_of result ≡ row_fault table.Supplier (supplier_values fields) }
-        ensures row { IfOk result (λ row. row ≡ fields) }
-        ensures back { IfErr result (λ refused. refused.back ≡ fields) }
-    {
-        if let Some(fault) = fields.fault() {
-            return Err(Refused {
-                fault,
-                back: fields,
-            });
-        }
-        Ok(Supplier { fields })
-    }
-
-    /// The schema finds no fault in any supplier. The law alone: it does nothing.
-    pub fn soundness(&self)
-        ensures { row_fault table.Supplier (supplier_values self.now) ≡ None }
-    {
-        let _field = &self.fields;
-    }
-
-    /// S_SUPPKEY, the primary key.
-    pub fn key(&self) -> u64
-        ensures { result ≡ self.now.key }
-    {
-        self.fields.key
-    }
-
-    /// S_NAME.
-    pub fn name(&self) -> &Text
-        ensures { result.now ≡ self.now.name }
-    {
-        &self.fields.name
-    }
-
-    /// S_ADDRESS.
-    pub fn address(&self) -> &Text
-        ensures { result.now ≡ self.now.address }
-    {
-        &self.fields.address
-    }
-
-    /// S_CITY.
-    pub fn city(&self) -> &Text
-        ensures { result.now ≡ self.now.city }
-    {
-        &self.fields.city
-    }
-
-    /// S_NATION.
-    pub fn nation(&self) -> &Text
-        ensures { result.now ≡ self.now.nation }
-    {
-        &self.fields.nation
-    }
-
-    /// S_REGION.
-    pub fn region(&self) -> &Text
-        ensures { result.now ≡ self.now.region }
-    {
-        &self.fields.region
-    }
-
-    /// S_PHONE.
-    pub fn phone(&self) -> &Text
-        ensures { result.now ≡ self.now.phone }
-    {
-        &self.fields.phone
+    fn key(&self) -> u64 {
+        self.key
     }
 }

@@ -324,17 +324,19 @@ fn a_base_finds_its_rows_by_key(rt: HostRuntime) -> Result<(), Fail> {
         return Err("no base")?;
     };
     assert_eq!(rt; base.lines().len(), 3);
-    assert_eq!(rt; base.customer(1).map(|row| row.key()), Some(1));
+    assert_eq!(rt; base.customers().row(1).map(|row| row.key()), Some(1));
     assert_eq!(rt;
-        base.date(19930101).map(|row| row.year_month_number()),
+        base.dates()
+            .row(19930101)
+            .map(|row| row.year_month_number()),
         Some(199301)
     );
-    assert!(rt; base.supplier(1).is_some());
-    assert!(rt; base.has_part(1));
-    assert!(rt; base.customer(2).is_none());
-    assert_eq!(rt; base.customer_position(1), Some(0));
-    assert_eq!(rt; base.date_position(19930102), None);
-    assert!(rt; !base.has_date(19930102));
+    assert!(rt; base.suppliers().row(1).is_some());
+    assert!(rt; base.parts().contains(1));
+    assert!(rt; base.customers().row(2).is_none());
+    assert_eq!(rt; base.customers().position(1), Some(0));
+    assert_eq!(rt; base.dates().position(19930102), None);
+    assert!(rt; !base.dates().contains(19930102));
     Ok(())
 }
 

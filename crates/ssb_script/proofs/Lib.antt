@@ -1,4 +1,4 @@
 pub mod LineLaws
-pub mod OneReading
-pub mod Reading
+pub mod OneReadingLaws
+pub mod ReadingLaws
 pub mod StepLaws

@@ -3,9 +3,8 @@
 use super::*;
 use ssb_plans::{Query, Question, Value};
 use ssb_schema::{Action, Refresh, Text};
+use stand_ins::Cut;
 use std::alloc::Global;
-use std::io;
-use std::io::Read;
 use std::process::Abort;
 use std::test::Fail;
 
@@ -13,21 +12,11 @@ const ADD_NINE: &str = "begin\nadd\nline|9|1|3|4|3|19971215|o|0|1|10|10|0|10|200
 
 const LINE: &str = "line|9|1|3|4|3|19971215|o|0|1|10|10|0|10|2000|0|19971215|AIR\n";
 
-const STORED: &str =
-    "query|Q4.1\nbegin\nadd\nline|9|1|3|4|3|19971215|o|0|1|10|10|0|10|2000|0|19971215|AIR\nwithdraw|77\ncommit\nquery|Q4.1\nbegin\nadd\nline|9|1|3|4|3|19971215|o|0|1|10|10|0|10|2000|0|19971215|AIR\ncommit\nquery|Q4.1\n";
-
-// Some bytes, and then a read that fails.
-#[derive(Drop)]
-struct Cut<'a>(&'a [u8]);
-
-impl<'a> Read for Cut<'a> {
-    fn read(&mut self, buf: &mut [u8]) -> io::Result<usize> {
-        if self.0.is_empty() {
-            return Err(io::Error::from(io::ErrorKind::BrokenPipe));
-        }
-        self.0.read(buf)
-    }
-}
+const STORED: &str = "query|Q4.1\n\
+    begin\nadd\nline|9|1|3|4|3|19971215|o|0|1|10|10|0|10|2000|0|19971215|AIR\nwithdraw|77\ncommit\n\
+    query|Q4.1\n\
+    begin\nadd\nline|9|1|3|4|3|19971215|o|0|1|10|10|0|10|2000|0|19971215|AIR\ncommit\n\
+    query|Q4.1\n";
 
 // The blocks of a script.
 fn blocks_of(alloc: Global, text: &str) -> Result<Vec<Block>, Fail> {
@@ -297,8 +286,8 @@ fn an_order_may_be_amended_wherever_one_may_be_added(rt: HostRuntime) -> Result<
 
 #[test]
 fn a_query_stands_alone_or_with_all_its_constants(rt: HostRuntime) -> Result<(), Fail> {
-    let text =
-        "query|Q2.1|\nquery|Q2.1|MFGR#12|AMERICA\nquery|Q2.1|MFGR#12 |AMERICA|\nquery|Q2.1|MFGR#12|\nquery|Q1.1|1994|1|3|0|4294967295\n";
+    let text = "query|Q2.1|\nquery|Q2.1|MFGR#12|AMERICA\nquery|Q2.1|MFGR#12 |AMERICA|\n\
+        query|Q2.1|MFGR#12|\nquery|Q1.1|1994|1|3|0|4294967295\n";
     let blocks = blocks_of(rt.alloc(), text)?;
     for place in [0, 1, 2] {
         assert!(rt; question_at(&blocks, place)?.is_standard());

@@ -34,7 +34,7 @@ pub(crate) fn scan_batch<R: Threads + Sync>(
     ensures { (history : List CommitRecord) → StandsFor (columns_state columns.now) history
         → IfOk result (λ rows. rows.items ≡ answers_after columns.now.base history questions.now) }
 {
-    let _ = columns.rows();
+    columns.soundness();
     let index = Arc::try_clone(index)?;
     let batch = PreparedBatch::new(alloc, index, questions)?;
     scan_parallel(rt, alloc, columns, &batch)

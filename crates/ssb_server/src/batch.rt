@@ -39,6 +39,7 @@ impl Batch {
         Ok(Batch { clients, questions })
     }
 
+    /// How many requests there are.
     pub fn len(&self) -> usize
         ensures clients { result ≡ length self.now.clients }
         ensures questions { result ≡ length self.now.questions }
@@ -47,6 +48,7 @@ impl Batch {
         self.clients.len()
     }
 
+    /// What they ask, in the order of `push`.
     pub fn questions(&self) -> &[Question]
         ensures { result.now ≡ self.now.questions }
     {

@@ -39,6 +39,7 @@ pub enum OpenFault {
     /// No place is free for a reader of the columns.
     #[error("62 NoReader")]
     NoReader,
+    /// Memory ran out.
     #[error("out of memory")]
     OutOfMemory,
 }

@@ -14,10 +14,10 @@ const MOST_AHEAD: u64 = 2_048;
 const LONGEST_WAIT: u64 = 2;
 
 /// The flow of refreshes beside a batch. A client commits faster than a dispatcher takes commits into both copies, so
-/// each batch would have more to take over than the one before it, and its answers would come later. So a refresh that is
-/// far ahead of the batch that is being served waits for its end; and since a client that commits without a pause leaves
-/// the row store home for moments only, a refresh waits while a dispatcher wants it. None waits for more than two
-/// milliseconds. No contract tells of it: it changes when a refresh returns, and never what it does.
+/// each batch would have more to take over than the one before it, and its answers would come later. So a refresh
+/// that is far ahead of the batch that is being served waits for its end; and since a client that commits without a
+/// pause leaves the row store home for moments only, a refresh waits while a dispatcher wants it. None waits for more
+/// than two milliseconds. No contract tells of it: it changes when a refresh returns, and never what it does.
 #[derive(Drop)]
 pub(crate) struct Pace {
     // Refreshes up to this commit do not wait.
@@ -49,8 +49,8 @@ impl Pace {
         bells.ring_clients();
     }
 
-    /// Lets the client wait that has made this commit, if a dispatcher wants the row store or it is far ahead of a batch.
-    /// Whoever waits for the row store then goes on, since nobody else would wake them.
+    /// Lets the client wait that has made this commit, if a dispatcher wants the row store or it is far ahead of a
+    /// batch. Whoever waits for the row store then goes on, since nobody else would wake them.
     pub(crate) fn keep<W: Wait + Drop, R: Wait>(
         &self,
         rt: &R,

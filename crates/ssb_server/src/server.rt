@@ -45,8 +45,10 @@ impl<W: Wait + Drop> Model for Server<W> {
 }
 
 impl<W: Wait + Drop> Server<W> {
-    /// Wakes every dispatcher that rests, as when a run ends: the flag that they are to look at is set before.
+    /// Wakes every dispatcher that rests, and every client that waits for the row store: as when a client has served
+    /// its script, or when a run ends, and the flag that the dispatchers are to look at is set before.
     pub fn ring(&self) {
         self.bells.ring_dispatchers();
+        self.hall.wake_waiting();
     }
 }

@@ -53,7 +53,7 @@ fn fetch<W: Wait + Drop, R: Wait>(
     let rows = hall.take_rows(rt, pass);
     pace.begin(rows.len() as u64);
     let commits = copy_of(alloc, rows.log_from(taken as usize));
-    let _ = rows.line_count();
+    rows.soundness();
     hall.put_rows(pass, rows);
     bells.ring_clients();
     commits

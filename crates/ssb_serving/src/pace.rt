@@ -90,9 +90,9 @@ impl Pace {
         self.latencies = run.latencies;
     }
 
-    /// Writes the seconds of both steps and of the threads, the commits and the answers with how many there were a second
-    /// of the threads, the batches with the mean number of questions in one, and the times of a refresh and of a question,
-    /// as far as the writer takes them.
+    /// Writes the seconds of both steps and of the threads, the commits and the answers with how many there were a
+    /// second of the threads, the batches with the mean number of questions in one, and the times of a refresh and of
+    /// a question, as far as the writer takes them.
     pub fn tell<E: Write>(&self, err: &mut E) {
         for (name, time) in [
             ("load", self.load),

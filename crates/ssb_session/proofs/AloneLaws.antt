@@ -47,7 +47,7 @@ use Rattle.row_store.specs.declared.refusal.RefreshError.{RefreshError}
 use Rattle.row_store.specs.declared.refusal.RefreshError.TheVariants as refusal
 use Rattle.history_core.specs.OwnCommits.{IsOfClients, commits_of}
 use Rattle.history_core.specs.World.{rows_after}
-use Rattle.history_core.proofs.Histories.{some_injective}
+use Rattle.history_core.proofs.HistoryLaws.{some_injective}
 use Rattle.history.specs.Tokens.{Token, IsSound}
 use Rattle.history.specs.Words.{Owns, IsCause, IsRight, request}
 use Rattle.history.specs.declared.request.Request.{Request as Asked}

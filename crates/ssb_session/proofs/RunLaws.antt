@@ -40,11 +40,11 @@ use Rattle.row_store.specs.declared.commit.Receipt.{Receipt}
 use Rattle.row_store.specs.declared.refusal.RefreshError.{RefreshError}
 use Rattle.row_store.specs.declared.refusal.RefreshError.TheVariants as refusal
 use Rattle.row_store.specs.History.{CommitRecord, IsPrefix}
-use Rattle.row_store.proofs.Prefixes.{prefix_longer}
+use Rattle.row_store.proofs.PrefixLaws.{prefix_longer}
 use Rattle.history.specs.Tokens.{Token}
 use Rattle.history.specs.Words.{request}
 use Rattle.history.specs.declared.request.Request.{Request as Asked}
-use Rattle.history.proofs.Histories.{prefix_trans}
+use Rattle.history.proofs.HistoryLaws.{prefix_trans}
 use Rattle.ssb_script.specs.Requests.{Request, Refresh, Ask}
 use Rattle.ssb_report.specs.Replies.{Reply, Refreshed, Answered}
 use Rattle.ssb_audit.specs.declared.trace.Told.{Told}

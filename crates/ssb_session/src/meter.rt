@@ -5,7 +5,9 @@ use ssb_script::Block;
 /// What a block of a script asks for.
 #[derive(Clone, Copy, Debug, PartialEq, Eq)]
 pub enum Kind {
+    /// A refresh.
     Refresh,
+    /// A question.
     Question,
 }
 

@@ -1,11 +1,11 @@
 use super::*;
 use row_store::Commit;
-use ssb_load::line_of;
+use small_rows::order_like_nine;
 use ssb_plans::{Query, Question, Value};
 use ssb_queries::ResultRow;
-use ssb_schema::{Action, Items, Order, Refresh, Text};
+use ssb_schema::{Action, Items, Refresh, Text};
+use stand_ins::Room;
 use std::alloc::Global;
-use std::io::{self, Write};
 use std::process::Abort;
 use std::sync::Arc;
 use std::test::Fail;
@@ -30,34 +30,6 @@ row|1980|1993|MFGR#222
 row|970|1993|MFGR#2221
 answer|2|1|Q2.1|0
 ";
-
-fn order_nine(alloc: Global) -> Result<Order, Fail> {
-    let fields: [&[u8]; 17] = [
-        b"9",
-        b"1",
-        b"3",
-        b"4",
-        b"3",
-        b"19971215",
-        b"o",
-        b"0",
-        b"1",
-        b"10",
-        b"10",
-        b"0",
-        b"10",
-        b"2000",
-        b"0",
-        b"19971215",
-        b"AIR",
-    ];
-    let mut lines = Vec::new(alloc);
-    lines.push(line_of(alloc, fields.as_slice())?)?;
-    match Order::new(lines) {
-        Ok(order) => Ok(order),
-        Err(_) => Err(Fail::new("the schema refuses the order")),
-    }
-}
 
 fn commit_of<const N: usize>(
     alloc: Global,
@@ -103,7 +75,7 @@ fn told_of<const N: usize>(
 }
 
 fn one_commit_and_its_answer(alloc: Global) -> Result<Trace, Fail> {
-    let commit = commit_of(alloc, 1, [Action::Add(order_nine(alloc)?)])?;
+    let commit = commit_of(alloc, 1, [Action::Add(order_like_nine(alloc, 9)?)])?;
     let groups = [Value::Number(1997), text(alloc, "UNITED STATES")?];
     let rows = [row_of(alloc, groups, Some(-1330))?];
     let told = told_of(alloc, 1, 1, Question::standard(alloc, Query::Q4_1)?, rows)?;
@@ -139,22 +111,6 @@ fn many_answers(alloc: Global) -> Result<Items<Told>, Fail> {
     Ok(Items::from_vec(Vec::from_array(alloc, answers)?))
 }
 
-// A writer that takes so many bytes, and then none.
-#[derive(Drop)]
-struct Room(usize);
-
-impl Write for Room {
-    fn write(&mut self, buf: &[u8]) -> io::Result<usize> {
-        let taken = buf.len().min(self.0);
-        self.0 -= taken;
-        Ok(taken)
-    }
-
-    fn flush(&mut self) -> io::Result<()> {
-        Ok(())
-    }
-}
-
 #[test]
 fn one_commit_and_its_answer_are_written(rt: HostRuntime) -> Result<(), Fail> {
     let alloc = rt.alloc();
@@ -167,7 +123,10 @@ fn one_commit_and_its_answer_are_written(rt: HostRuntime) -> Result<(), Fail> {
 #[test]
 fn constants_are_written_where_they_are_not_the_standard_ones(rt: HostRuntime) -> Result<(), Fail> {
     let alloc = rt.alloc();
-    let actions = [Action::Withdraw(77), Action::Amend(order_nine(alloc)?)];
+    let actions = [
+        Action::Withdraw(77),
+        Action::Amend(order_like_nine(alloc, 9)?),
+    ];
     let commit = commit_of(alloc, 16, actions)?;
     let trace = Trace {
         commits: Items::from_vec(Vec::from_array(alloc, [commit])?),
@@ -186,10 +145,10 @@ fn a_writer_without_room_is_a_fault(rt: HostRuntime) -> Result<(), Fail> {
     let len = ONE_COMMIT_AND_ITS_ANSWER.len();
     for room in [0, 1, 8, 9, len - 1] {
         assert!(rt;
-            write_trace(&mut Room(room), &trace) == Err(WriteFault),
+            write_trace(&mut Room::for_bytes(alloc, room), &trace) == Err(WriteFault),
             "{room}"
         );
     }
-    assert!(rt; write_trace(&mut Room(len), &trace) == Ok(()));
+    assert!(rt; write_trace(&mut Room::for_bytes(alloc, len), &trace) == Ok(()));
     Ok(())
 }

@@ -15,7 +15,7 @@ use Rattle.ssb_schema.specs.declared.table.Table.TheVariants as table
 use Rattle.ssb_trace_laws.specs.Allowed.{AreTakenDimensions, HasAllowedHead, HasClients, HasSums, IsAllowed}
 use Rattle.ssb_trace_laws.specs.Allowed.{IsAllowedCommit, IsAllowedLine, IsClient, IsHeld}
 use Rattle.ssb_trace_laws.specs.Laws.{IsReadBack}
-use Rattle.ssb_trace_laws.proofs.LegalTraces.{legal_traces_are_allowed}
+use Rattle.ssb_trace_laws.proofs.LegalTraceLaws.{legal_traces_are_allowed}
 use Rattle.ssb_trace_laws.proofs.TraceLaws.{spells_its_trace, spells_no_other}
 
 pub line_made : {T : Type 0} (fields : LineFields) (made : Result LineFields (Refused T))

@@ -8,14 +8,14 @@ use Rattle.ssb_records.specs.Records.{HasRecords}
 use Rattle.ssb_script.specs.Requests.{IsWholeRequest, Refresh}
 use Rattle.ssb_trace.specs.TraceText.{commit_text, told_text, trace_text}
 use Rattle.ssb_trace_read.specs.Blocks.{lines_of_commit, lines_of_told}
-use Rattle.ssb_trace_read.proofs.InOrder.{spells_in_order}
-use Rattle.ssb_trace_read.proofs.OneReading.{one_reading}
+use Rattle.ssb_trace_read.proofs.InOrderLaws.{spells_in_order}
+use Rattle.ssb_trace_read.proofs.OneReadingLaws.{one_reading}
 use Rattle.ssb_trace_laws.specs.Allowed.{IsAllowed, IsAllowedCommit, IsAllowedTold, lines_of_trace}
 use Rattle.ssb_trace_laws.specs.Laws.{TextSpellsItsTrace, TextSpellsNoOther}
-use Rattle.ssb_trace_laws.proofs.Commits.{written_commit}
-use Rattle.ssb_trace_laws.proofs.Records.{has_records}
-use Rattle.ssb_trace_laws.proofs.Rows.{written_told}
-use Rattle.ssb_trace_laws.proofs.Written.{Written, as_many, written_both, written_each}
+use Rattle.ssb_trace_laws.proofs.CommitLaws.{written_commit}
+use Rattle.ssb_trace_laws.proofs.RecordLaws.{has_records}
+use Rattle.ssb_trace_laws.proofs.RowLaws.{written_told}
+use Rattle.ssb_trace_laws.proofs.WrittenLaws.{Written, as_many, written_both, written_each}
 
 each-commit : (commits : List CommitRecord) → AllByRecursion IsAllowedCommit commits
     → AllByRecursion (λ commit. Written (commit_text commit) (lines_of_commit commit)) commits

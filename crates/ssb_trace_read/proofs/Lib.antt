@@ -1,4 +1,4 @@
 pub mod CommitLaws
-pub mod InOrder
-pub mod OneReading
-pub mod Reading
+pub mod InOrderLaws
+pub mod OneReadingLaws
+pub mod ReadingLaws

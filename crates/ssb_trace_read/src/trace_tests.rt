@@ -6,8 +6,8 @@ use ssb_plans::{Query, Question, Value};
 use ssb_queries::ResultRow;
 use ssb_schema::{Action, Items, Text};
 use ssb_script::ScriptError;
+use stand_ins::Cut;
 use std::alloc::Global;
-use std::io::{self, Read};
 use std::process::Abort;
 use std::test::Fail;
 
@@ -31,19 +31,6 @@ row|1980|1993|MFGR#222
 row|970|1993|MFGR#2221
 answer|2|1|Q2.1|0
 ";
-
-// Some bytes, and then a read that fails.
-#[derive(Drop)]
-struct Cut<'a>(&'a [u8]);
-
-impl<'a> Read for Cut<'a> {
-    fn read(&mut self, buf: &mut [u8]) -> io::Result<usize> {
-        if self.0.is_empty() {
-            return Err(io::Error::from(io::ErrorKind::BrokenPipe));
-        }
-        self.0.read(buf)
-    }
-}
 
 fn read(alloc: Global, text: &str) -> Result<Trace, ScriptError> {
     read_trace(alloc, text.as_bytes(), 1000)

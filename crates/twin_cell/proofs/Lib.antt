@@ -1,3 +1,3 @@
-pub mod Copies
-pub mod Kept
-pub mod Prefixes
+pub mod CopyLaws
+pub mod KeptLaws
+pub mod PrefixLaws

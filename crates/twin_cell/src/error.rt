@@ -8,6 +8,7 @@ pub enum TwinError {
     /// No place is free for a reader.
     #[error("50 NoReader")]
     NoReader,
+    /// Memory ran out.
     #[error("out of memory")]
     OutOfMemory,
 }

@@ -4,19 +4,30 @@ ghost use Rattle.row_store.specs.History.{IsPrefix};
 ghost use Rattle.row_store.specs.State.{StandsFor, state_of};
 ghost use Rattle.fact_columns.specs.Stored.{columns_state};
 
-mod small_data;
-
 use crate::{Guard, TwinError, TwinReader, TwinWriter, twin};
 use dim_index::DimIndex;
 use fact_columns::Columns;
 use row_store::{Commit, Follower, PlainLines, Replica};
-use small_data::{adds, base};
+use small_rows::{adding, small_base};
+use ssb_schema::{Base, Limits};
 use std::alloc::{AllocError, Global};
 use std::hash::RandomState;
 use std::sync::atomic::{AtomicBool, Ordering};
 use std::sync::{Arc, Wait};
 use std::test::Fail;
 use std::thread::{Threads, join, map_vec};
+
+fn base(alloc: Global) -> Result<Arc<Base>, Fail> {
+    small_base(alloc, Limits::standard())
+}
+
+// The commit of client 1 that adds this order, of one line.
+fn adds(alloc: Global, key: u64) -> Result<Commit, Fail> {
+    Ok(Commit {
+        client: 1,
+        refresh: adding(alloc, key)?,
+    })
+}
 
 // A cell with one reader.
 fn cell<R: Replica + Drop, W: Wait + Drop>(

@@ -1,8 +1,9 @@
 //! Random lists of events with the replies of the second machine, drawn so that most events are enabled.
 
-use crate::tests::data::{order, order_nine, refresh};
+use crate::tests::data::order;
 use crate::tests::oracle::{Change, Deed, reply};
 use crate::{Event, Reply, Who};
+use small_rows::{order_like_nine, refresh};
 use ssb_queries::{Query, Question, Unserved};
 use ssb_schema::{Action, Refresh};
 use std::alloc::Global;
@@ -136,14 +137,14 @@ pub fn draw(alloc: Global, random: &mut Random, count: usize) -> Result<Drawn, F
 fn actions_of(alloc: Global, change: Change) -> Result<Vec<Action>, Fail> {
     let mut actions = Vec::new(alloc);
     match change {
-        Change::AddNine => actions.push(Action::Add(order_nine(alloc)?))?,
+        Change::AddNine => actions.push(Action::Add(order_like_nine(alloc, 9)?))?,
         Change::WithdrawNine => actions.push(Action::Withdraw(9))?,
         Change::WithdrawThree => actions.push(Action::Withdraw(3))?,
         Change::AmendNine => actions.push(Action::Amend(order(alloc, 9, 100, 40)?))?,
         Change::AmendThree => actions.push(Action::Amend(order(alloc, 3, 100, 50)?))?,
         Change::NineForOne => {
             actions.push(Action::Withdraw(1))?;
-            actions.push(Action::Add(order_nine(alloc)?))?;
+            actions.push(Action::Add(order_like_nine(alloc, 9)?))?;
         }
     }
     Ok(actions)

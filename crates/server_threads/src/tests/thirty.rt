@@ -4,9 +4,9 @@ ghost use Rattle.ssb_server.specs.Tickets.{IsQuiet};
 
 use crate::tests::parties::Refreshes;
 use server_steps::closing::{closes_three, commits_of};
-use server_steps::data::adding;
 use server_steps::opening::{for_three_clients, next_dispatcher};
 use server_steps::steps::asks_and_is_told;
+use small_rows::adding;
 use ssb_plans::Query;
 use ssb_schema::Refresh;
 use ssb_server::{Closed, Server};

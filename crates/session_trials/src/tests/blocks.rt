@@ -1,8 +1,9 @@
 //! The blocks of a script that asks nothing.
 
 use crate::tests::data::{REFRESHES, REFRESHES_REPORT};
-use crate::tests::serving::{Room, for_one_client, refreshes, serves};
+use crate::tests::serving::{for_one_client, refreshes, serves};
 use ssb_session::BlocksError;
+use stand_ins::Room;
 use std::alloc::Global;
 use std::hash::RandomState;
 use std::sync::Wait;
@@ -70,7 +71,7 @@ fn within<T: Wait + Threads + Sync>(
     )?;
     Ok(Left {
         ended,
-        written: out.taken,
+        written: out.into_taken(),
         then,
     })
 }

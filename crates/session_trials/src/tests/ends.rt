@@ -1,10 +1,12 @@
 //! Scripts that are not served to their ends.
 
-use crate::tests::data::{REFRESHES, STORED, STORED_REPORT};
-use crate::tests::serving::{Broken, Room, for_one_client, refreshes, refuses, serves};
+use crate::tests::data::REFRESHES;
+use crate::tests::serving::{for_one_client, refreshes, refuses, serves};
+use small_data::stored;
 use ssb_report::RunError;
 use ssb_schema::SchemaFault;
 use ssb_script::ScriptError;
+use stand_ins::{Cut, Room};
 use std::alloc::Global;
 use std::hash::RandomState;
 use std::io::Read;
@@ -22,7 +24,7 @@ fn within<T: Wait + Threads + Sync>(
 ) -> Result<(Result<u64, RunError>, Vec<u8>), Fail> {
     let (server, mut client, mut dispatcher) = for_one_client(alloc, rt, hashing)?;
     let mut out = Room::for_bytes(alloc, room);
-    let source = STORED.as_bytes();
+    let source = stored::SCRIPT.as_bytes();
     let ended = serves(
         alloc,
         rt,
@@ -32,7 +34,7 @@ fn within<T: Wait + Threads + Sync>(
         source,
         &mut out,
     );
-    Ok((ended, out.taken))
+    Ok((ended, out.into_taken()))
 }
 
 // The five replies of the stored run end after 40, 76, 116, 128 and 170 bytes.
@@ -56,7 +58,7 @@ fn a_failed_write_tells_how_many_blocks_were_done(rt: HostRuntime) -> Result<(),
         assert!(rt; found == ended, "{room}");
         assert_eq!(rt; written.len(), room);
         assert!(rt;
-            STORED_REPORT.as_bytes().starts_with(written.as_slice()),
+            stored::REPORT.as_bytes().starts_with(written.as_slice()),
             "{room}"
         );
     }
@@ -148,8 +150,8 @@ fn a_bad_script_writes_nothing_and_leaves_the_commits(rt: HostRuntime) -> Result
 fn a_failed_read_serves_nothing(rt: HostRuntime) -> Result<(), Fail> {
     let alloc = rt.alloc();
     let hashing = RandomState::new(&rt)?;
-    for given in [true, false] {
-        let left = refused(alloc, &rt, hashing, Broken { given })?;
+    for given in ["", "query|Q1.1\n"] {
+        let left = refused(alloc, &rt, hashing, Cut(given.as_bytes()))?;
         assert_eq!(rt; left.fault, ScriptError::Read);
         assert!(rt; left.written.is_empty());
         assert_eq!(rt; left.then.as_slice(), WITH_ORDER_NINE.as_bytes());

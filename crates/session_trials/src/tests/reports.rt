@@ -2,9 +2,10 @@
 ghost use Rattle.std.specs.Prelude.{IfOk};
 ghost use Rattle.ssb_report.specs.Report.{IsBehind};
 
-use crate::tests::data::{LONG, LONG_REPORT, STORED, STORED_REPORT, base};
+use crate::tests::data::{LONG, LONG_REPORT, base};
 use crate::tests::serving::{for_one_client, serves};
 use row_store::{PlainLines, RowStore};
+use small_data::stored;
 use ssb_report::run_store;
 use std::alloc::Global;
 use std::hash::RandomState;
@@ -58,7 +59,7 @@ fn a_script_alone_has_the_report_of_the_one_thread_warehouse(rt: HostRuntime) ->
     let hashing = RandomState::new(&rt)?;
     for (script, blocks, report) in [
         ("", 0, ""),
-        (STORED, 5, STORED_REPORT),
+        (stored::SCRIPT, 5, stored::REPORT),
         (LONG, 12, LONG_REPORT),
     ] {
         let (done, out) = live(alloc, &rt, hashing, script)?;

@@ -10,7 +10,7 @@ use ssb_server::{Client, Dispatcher, Opened, Server, open};
 use ssb_session::{BlocksError, NoMeter, Told, run_blocks, run_script};
 use std::alloc::Global;
 use std::hash::RandomState;
-use std::io::{self, Read, Write};
+use std::io::{Read, Write};
 use std::sync::Wait;
 use std::test::Fail;
 use std::thread::Threads;
@@ -102,57 +102,4 @@ pub fn refreshes<W: Wait + Drop, T: Wait, O: Write>(
     let script = read_script(alloc, script.as_bytes(), MOST_RECORDS)?;
     let mut meter = NoMeter;
     Ok(run_blocks(rt, server, client, script, out, told, &mut meter))
-}
-
-/// A writer that takes so many bytes, and then none. It keeps those that it took.
-#[derive(Drop)]
-pub struct Room {
-    left: usize,
-    pub taken: Vec<u8>,
-}
-
-impl Room {
-    /// Room for so many bytes.
-    pub fn for_bytes(alloc: Global, left: usize) -> Room {
-        Room {
-            left,
-            taken: Vec::new(alloc),
-        }
-    }
-}
-
-impl Write for Room {
-    fn write(&mut self, buf: &[u8]) -> io::Result<usize> {
-        let count = buf.len().min(self.left);
-        for byte in buf.iter().take(count) {
-            if self.taken.push(*byte).is_err() {
-                return Err(io::Error::from(io::ErrorKind::OutOfMemory));
-            }
-        }
-        self.left = self.left.saturating_sub(count);
-        Ok(count)
-    }
-
-    fn flush(&mut self) -> io::Result<()> {
-        Ok(())
-    }
-}
-
-/// A reader that gives one query, and then fails.
-#[derive(Drop)]
-pub struct Broken {
-    /// Whether it has given its query.
-    pub given: bool,
-}
-
-impl Read for Broken {
-    fn read(&mut self, buf: &mut [u8]) -> io::Result<usize> {
-        let query = b"query|Q1.1\n";
-        if self.given || buf.len() < query.len() {
-            return Err(io::Error::from(io::ErrorKind::Other));
-        }
-        self.given = true;
-        buf[..query.len()].copy_from_slice(query);
-        Ok(query.len())
-    }
 }

@@ -1,9 +1,9 @@
 //! What the words of a command line do: with which status and on which writer.
 
 use crate::command::run;
-use crate::tests::progress::Screened;
-use crate::tests::{ALL, Holding, Told};
-use small_data::{CUSTOMER, DATE, LINEORDER, PART, SUPPLIER};
+use crate::tests::Told;
+use small_data::{CUSTOMER, DATE, LINEORDER, PART, SUPPLIER, stored};
+use stand_ins::{Holding, Screened};
 use std::alloc::Global;
 use std::fs;
 use std::random::RandomSource;
@@ -85,7 +85,7 @@ fn a_question_is_answered_over_the_files_of_a_folder(rt: HostRuntime) -> Result<
     assert!(rt; told.err.is_empty());
     assert_eq!(rt; standard.out.as_slice(), b"Q2.1 at 0 rows 0\n".as_slice());
     assert_eq!(rt; all.status, 0);
-    assert_eq!(rt; all.out.as_slice(), ALL.as_bytes());
+    assert_eq!(rt; all.out.as_slice(), stored::THIRTEEN.as_bytes());
     assert!(rt; all.err.is_empty());
     assert_eq!(rt; neither.status, 2);
     assert!(rt; neither.out.is_empty());

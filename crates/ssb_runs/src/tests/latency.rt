@@ -3,10 +3,8 @@
 use crate::histogram::Histogram;
 use crate::latency::{Latencies, Latency, Timer, joined, latencies_of};
 use ssb_session::{Kind, Meter};
-use std::cell::Cell;
-use std::io;
+use stand_ins::Ticking;
 use std::test::Fail;
-use std::time::{Clock, Duration};
 
 // The middle, the 99th percentile and the greatest.
 fn figures(times: &Histogram) -> (u64, u64, u64) {
@@ -43,31 +41,15 @@ fn the_greatest_times_have_a_place(rt: HostRuntime) -> Result<(), Fail> {
     Ok(())
 }
 
-// A clock that goes on by a millisecond at each look.
-#[derive(Drop)]
-struct Ticking(Cell<u64>);
-
-impl Clock for Ticking {
-    fn monotonic(&self) -> io::Result<Duration> {
-        let millis = self.0.get();
-        self.0.set(millis.saturating_add(1));
-        Ok(Duration::from_millis(millis))
-    }
-
-    fn since_1970(&self) -> io::Result<Duration> {
-        Err(io::Error::from(io::ErrorKind::Other))
-    }
-}
-
 #[test]
 fn a_timer_that_runs_takes_each_request(rt: HostRuntime) -> Result<(), Fail> {
-    let clock = Ticking(Cell::new(7));
+    let clock = Ticking::new(7, 1);
     let mut one = Timer::new(rt.alloc(), &clock, true)?;
     let mut other = Timer::new(rt.alloc(), &clock, true)?;
     one.begin();
     one.end(Kind::Refresh);
     other.begin();
-    let _longer = clock.monotonic()?;
+    clock.tick();
     other.end(Kind::Refresh);
     let times = joined(joined(None, one.into_times()), other.into_times());
     let latencies = latencies_of(&joined(times, None));
@@ -85,7 +67,7 @@ fn a_timer_that_runs_takes_each_request(rt: HostRuntime) -> Result<(), Fail> {
 
 #[test]
 fn a_timer_that_stands_still_reads_no_clock(rt: HostRuntime) -> Result<(), Fail> {
-    let clock = Ticking(Cell::new(7));
+    let clock = Ticking::new(7, 1);
     let mut still = Timer::new(rt.alloc(), &clock, false)?;
     still.begin();
     still.end(Kind::Question);

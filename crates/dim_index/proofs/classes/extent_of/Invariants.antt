@@ -1,5 +1,4 @@
-use Rattle.std.proofs.Common.{◌≡◌, ◌+◌, take, fold}
-use Rattle.std.specs.Prelude.{nat_lt, if◌then◌else◌}
+use Rattle.std.proofs.Common.{◌≡◌, take}
 use Rattle.dim_index.specs.Classes.{extent_of}
 use Rattle.dim_index.proofs.classes.extent_of.Given as goal
 

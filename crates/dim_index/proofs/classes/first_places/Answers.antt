@@ -1,21 +1,4 @@
-use Rattle.std.proofs.Common.{
-  ◌∙◌,
-  ◌++◌,
-  ◌∷◌,
-  [],
-  ◌≡◌,
-  List,
-  ℕ,
-  Option,
-  Some,
-  None,
-  map,
-  take,
-  unwrap_or,
-  get_or,
-  ap,
-  sym,
-}
+use Rattle.std.proofs.Common.{◌∙◌, ◌++◌, ◌∷◌, [], ◌≡◌, List, ℕ, Some, None, map, take, unwrap_or, get_or, ap, sym}
 use Rattle.std.specs.Prelude.{if◌then◌else◌}
 use Rattle.std.specs.Option.{option_or}
 use Rattle.std.proofs.lemmas.List.{map_more}

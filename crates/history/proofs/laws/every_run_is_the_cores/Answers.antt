@@ -1,4 +1,4 @@
-use Rattle.history.proofs.Link.{every_run}
+use Rattle.history.proofs.LinkLaws.{every_run}
 use Rattle.history.proofs.laws.every_run_is_the_cores.Goals as goal
 
 pub returns : goal.returns

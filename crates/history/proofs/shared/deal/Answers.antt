@@ -1,5 +1,5 @@
 use Rattle.history.specs.Rule.{terms_of}
-use Rattle.history.proofs.Splitting.{deals}
+use Rattle.history.proofs.SplittingLaws.{deals}
 use Rattle.history.proofs.shared.deal.Goals as goal
 
 pub split_seat-seat-requires : goal.split_seat-seat-requires

@@ -3,7 +3,7 @@ use Rattle.std.proofs.lemmas.Grind.{common_steps}
 use lib.ListN.{length-replicate}
 use Rattle.history.specs.declared.view.SlotValue.TheVariants.{Writer}
 use Rattle.history.specs.Rule.{rows, terms_of}
-use Rattle.history.proofs.Splitting.{starts_with, zero_words}
+use Rattle.history.proofs.SplittingLaws.{starts_with, zero_words}
 use Rattle.history.proofs.shared.open.Goals as goal
 
 pub new-requires : goal.new-requires

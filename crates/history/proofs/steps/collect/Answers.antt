@@ -1,8 +1,8 @@
 use Rattle.std.proofs.Common.{rules, ◌≡◌, Some, ap}
 use Rattle.history.specs.declared.view.SlotValue.TheVariants.{Answered}
 use Rattle.history.specs.Rule.{terms_of}
-use Rattle.history.proofs.MailSteps.{collects_one}
-use Rattle.history.proofs.Splitting.{in_front}
+use Rattle.history.proofs.MailStepLaws.{collects_one}
+use Rattle.history.proofs.SplittingLaws.{in_front}
 use Rattle.history.proofs.steps.collect.Goals as goal
 
 pub compare_exchange-requires : goal.compare_exchange-requires

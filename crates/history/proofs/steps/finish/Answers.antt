@@ -5,7 +5,7 @@ use Rattle.history.specs.declared.view.SlotValue.TheVariants.{Rows}
 use Rattle.history.specs.Words.{store}
 use Rattle.history.specs.Rule.{terms_of}
 use Rattle.history.specs.Seats.{AreAll, members_of, IsClosed}
-use Rattle.history.proofs.Closing.{ends, still_full, one_bare}
+use Rattle.history.proofs.ClosingLaws.{ends, still_full, one_bare}
 use Rattle.history.proofs.steps.finish.Goals.{in_default-via-in-Some+in_default, in_default-via-in_default}
 use Rattle.history.proofs.steps.finish.Goals as goal
 

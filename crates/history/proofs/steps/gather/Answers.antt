@@ -1,7 +1,7 @@
 use Rattle.std.proofs.Common.{rules, ap, ◌∙◌}
 use Rattle.history.specs.Rule.{terms_of}
 use Rattle.history.specs.Plays.{gathers}
-use Rattle.history.proofs.Splitting.{yields, gathers_token}
+use Rattle.history.proofs.SplittingLaws.{yields, gathers_token}
 use Rattle.history.proofs.steps.gather.Goals as goal
 
 pub split_seat-token-requires : goal.split_seat-token-requires

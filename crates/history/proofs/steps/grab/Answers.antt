@@ -3,8 +3,8 @@ use Rattle.atomic_table.specs.Table.{rest}
 use Rattle.history.specs.declared.view.SlotValue.TheVariants.{Asked}
 use Rattle.history.specs.Rule.{terms_of}
 use Rattle.history.specs.Plays.{grabbed}
-use Rattle.history.proofs.MailSteps.{grabs_one}
-use Rattle.history.proofs.Splitting.{in_front, same_front}
+use Rattle.history.proofs.MailStepLaws.{grabs_one}
+use Rattle.history.proofs.SplittingLaws.{in_front, same_front}
 use Rattle.history.proofs.steps.grab.Goals.{in_default-via-in-Some+in_default, in_default-via-in_default}
 use Rattle.history.proofs.steps.grab.Goals as goal
 

@@ -1,7 +1,7 @@
 use Rattle.std.proofs.Common.{rules, ap, ◌∙◌}
 use Rattle.history.specs.Rule.{terms_of}
 use Rattle.history.specs.Plays.{hears}
-use Rattle.history.proofs.Splitting.{tells, hears_note}
+use Rattle.history.proofs.SplittingLaws.{tells, hears_note}
 use Rattle.history.proofs.steps.hear.Goals as goal
 
 pub split_seat-note-requires : goal.split_seat-note-requires

@@ -1,6 +1,6 @@
 use Rattle.std.proofs.Common.{rules}
 use Rattle.history.specs.Rule.{terms_of}
-use Rattle.history.proofs.RowSteps.{looks}
+use Rattle.history.proofs.RowStepLaws.{looks}
 use Rattle.history.proofs.steps.look.Goals as goal
 
 pub load-requires : goal.load-requires

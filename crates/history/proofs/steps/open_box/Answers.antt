@@ -1,6 +1,6 @@
 use Rattle.std.proofs.Common.{rules}
 use Rattle.history.specs.Rule.{terms_of}
-use Rattle.history.proofs.MailSteps.{opens_box}
+use Rattle.history.proofs.MailStepLaws.{opens_box}
 use Rattle.history.proofs.steps.open_box.Goals as goal
 
 pub load-requires : goal.load-requires

@@ -5,7 +5,7 @@ use Rattle.history.specs.declared.view.View.{View}
 use Rattle.history.specs.declared.view.SlotValue.TheVariants.{Asked}
 use Rattle.history.specs.Rule.{Slot, ShowsWorld, terms_of}
 use Rattle.history.specs.Plays.{Posts, posted}
-use Rattle.history.proofs.MailSteps.{posts}
+use Rattle.history.proofs.MailStepLaws.{posts}
 use Rattle.history.proofs.steps.post.Goals as goal
 
 pub store-requires : goal.store-requires

@@ -5,7 +5,7 @@ use Rattle.history.specs.declared.view.View.{View}
 use Rattle.history.specs.declared.view.SlotValue.TheVariants.{Rows}
 use Rattle.history.specs.Rule.{Slot, ShowsWorld, terms_of}
 use Rattle.history.specs.Plays.{PutsRows, gave_back, log_carried}
-use Rattle.history.proofs.RowSteps.{puts_back}
+use Rattle.history.proofs.RowStepLaws.{puts_back}
 use Rattle.history.proofs.steps.put_back.Goals as goal
 
 pub fetch_sub-requires : goal.fetch_sub-requires

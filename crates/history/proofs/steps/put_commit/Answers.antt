@@ -6,7 +6,7 @@ use Rattle.history.specs.declared.view.SlotValue.TheVariants.{Rows}
 use Rattle.history.specs.Words.{store}
 use Rattle.history.specs.Rule.{Slot, ShowsWorld, terms_of}
 use Rattle.history.specs.Plays.{PutsRows, gave_back, log_carried}
-use Rattle.history.proofs.RowSteps.{puts_commit}
+use Rattle.history.proofs.RowStepLaws.{puts_commit}
 use Rattle.history.proofs.steps.put_commit.Goals as goal
 
 pub fetch_add-requires : goal.fetch_add-requires

@@ -5,7 +5,7 @@ use Rattle.history.specs.declared.view.View.{View}
 use Rattle.history.specs.declared.view.SlotValue.TheVariants.{Writer}
 use Rattle.history.specs.Rule.{Slot, ShowsWorld, terms_of}
 use Rattle.history.specs.Plays.{PutsWriter, without_writer}
-use Rattle.history.proofs.WriterSteps.{puts_writer_back}
+use Rattle.history.proofs.WriterStepLaws.{puts_writer_back}
 use Rattle.history.proofs.steps.put_writer.Goals as goal
 
 pub store-requires : goal.store-requires

@@ -5,7 +5,7 @@ use Rattle.history.specs.declared.view.View.{View}
 use Rattle.history.specs.declared.view.SlotValue.TheVariants.{Answered}
 use Rattle.history.specs.Rule.{Slot, ShowsWorld, terms_of}
 use Rattle.history.specs.Plays.{Answers, served, request_at}
-use Rattle.history.proofs.MailSteps.{serves}
+use Rattle.history.proofs.MailStepLaws.{serves}
 use Rattle.history.proofs.steps.serve.Goals as goal
 
 pub store-requires : goal.store-requires

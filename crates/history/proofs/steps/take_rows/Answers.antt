@@ -1,7 +1,7 @@
 use Rattle.std.proofs.Common.{rules, ap, ◌∙◌}
 use Rattle.history.specs.Rule.{rows, terms_of}
-use Rattle.history.proofs.RowSteps.{tries_rows}
-use Rattle.history.proofs.Splitting.{in_front}
+use Rattle.history.proofs.RowStepLaws.{tries_rows}
+use Rattle.history.proofs.SplittingLaws.{in_front}
 use Rattle.history.proofs.steps.take_rows.Goals as goal
 
 pub fetch_or-found-requires : goal.fetch_or-found-requires

@@ -1,8 +1,8 @@
 use Rattle.std.proofs.Common.{rules, ◌≤◌, Some, ap, sym, subst, ◌∙◌}
 use Rattle.history.specs.declared.view.SlotValue.TheVariants.{Writer}
 use Rattle.history.specs.Rule.{terms_of}
-use Rattle.history.proofs.WriterSteps.{tries_writer}
-use Rattle.history.proofs.Splitting.{in_front}
+use Rattle.history.proofs.WriterStepLaws.{tries_writer}
+use Rattle.history.proofs.SplittingLaws.{in_front}
 use Rattle.history.proofs.steps.take_writer.Goals as goal
 
 pub compare_exchange-requires : goal.compare_exchange-requires

@@ -1,7 +1,7 @@
 use Rattle.std.proofs.Common.{◌≡◌, ◌+◌, suc, ap, ◌∙◌, arith}
 use Rattle.atomic_table.specs.Table.{turned}
 use Rattle.history.specs.Seats.{turns}
-use Rattle.history.proofs.Hands.{turns_more}
+use Rattle.history.proofs.HandLaws.{turns_more}
 use Rattle.history.proofs.steps.turn_by.Goals as goal
 
 pub loop-preserved : goal.loop-preserved

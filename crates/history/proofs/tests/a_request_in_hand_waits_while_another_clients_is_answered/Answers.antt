@@ -1,7 +1,7 @@
 use Rattle.std.proofs.Common.{◌≡◌, ℕ, [], ◌∷◌, ap, rules}
 use Rattle.history.specs.Tokens.{Token}
 use Rattle.history.specs.Words.{request}
-use Rattle.history.proofs.Tickets.{second_may_go, first_may_go, third_may_go}
+use Rattle.history.proofs.TicketLaws.{second_may_go, first_may_go, third_may_go}
 use Rattle.history.proofs.tests.a_request_in_hand_waits_while_another_clients_is_answered.Goals as goal
 
 pub give_up-requires-clause-request : goal.give_up-requires-clause-request

@@ -1,6 +1,6 @@
 use Rattle.std.proofs.Common.{ap, ◌∙◌}
 use Rattle.history.specs.Tokens.{Token}
-use Rattle.history.proofs.Tickets.{collected_rests}
+use Rattle.history.proofs.TicketLaws.{collected_rests}
 use Rattle.history.proofs.tests.await_answer.Goals as goal
 
 pub collect-requires-clause-client : goal.collect-requires-clause-client

@@ -1,4 +1,4 @@
-use Rattle.history.proofs.Tickets.{three_clients, two_dispatchers}
+use Rattle.history.proofs.TicketLaws.{three_clients, two_dispatchers}
 use Rattle.history.proofs.tests.closed.Goals as goal
 
 pub close-requires-clause-clients : goal.close-requires-clause-clients

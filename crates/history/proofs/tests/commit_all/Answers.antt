@@ -1,5 +1,5 @@
 use Rattle.std.proofs.Common.{sym, ◌∙◌}
-use Rattle.history.proofs.Tickets.{refreshed}
+use Rattle.history.proofs.TicketLaws.{refreshed}
 use Rattle.history.proofs.tests.commit_all.Goals as goal
 
 pub loop-refresh-preserved : goal.loop-refresh-preserved

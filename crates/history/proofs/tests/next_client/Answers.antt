@@ -1,5 +1,5 @@
 use Rattle.history.specs.Closing.{IsClientOf}
-use Rattle.history.proofs.Handing.{left_have}
+use Rattle.history.proofs.HandingLaws.{left_have}
 use Rattle.history.proofs.tests.next_client.Goals as goal
 
 pub returns-then-eq-clause-left : goal.returns-then-eq-clause-left

@@ -1,6 +1,6 @@
 use Rattle.std.proofs.Common.{rules}
 use Rattle.history.specs.Closing.{IsDispatcherOf}
-use Rattle.history.proofs.Handing.{last_has, left_have}
+use Rattle.history.proofs.HandingLaws.{last_has, left_have}
 use Rattle.history.proofs.tests.next_dispatcher.Goals as goal
 
 pub returns-then-eq-clause-left : goal.returns-then-eq-clause-left

@@ -1,7 +1,7 @@
 use Rattle.std.proofs.Common.{sym, subst}
 use Rattle.std.specs.Prelude.{All}
 use Rattle.history.specs.Closing.{IsClientOf, IsDispatcherOf}
-use Rattle.history.proofs.Tickets.{fresh_clients, fresh_dispatchers}
+use Rattle.history.proofs.TicketLaws.{fresh_clients, fresh_dispatchers}
 use Rattle.history.proofs.tests.opened.Goals as goal
 
 pub returns-clause-clients : goal.returns-clause-clients

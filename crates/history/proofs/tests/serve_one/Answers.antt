@@ -1,4 +1,4 @@
-use Rattle.history.proofs.Tickets.{may_give_up}
+use Rattle.history.proofs.TicketLaws.{may_give_up}
 use Rattle.history.proofs.tests.serve_one.Goals as goal
 
 pub answer-requires-clause-request : goal.answer-requires-clause-request

@@ -5,7 +5,7 @@ use Rattle.std.proofs.lemmas.List.Sorted.{All-permutation, IsNonDecreasingBy-fro
 use Rattle.std.proofs.lemmas.List.FromFn.{length-range_with_len}
 use Rattle.row_store.specs.Lines.{lines_of}
 use Rattle.row_store.specs.Keyed.{key_at, lines_at}
-use Rattle.row_store.proofs.Indexed.{all_in_order, all_within, same_lines}
+use Rattle.row_store.proofs.IndexedLaws.{all_in_order, all_within, same_lines}
 use Rattle.row_store.proofs.index.index_of.Goals as goal
 
 pub returns-clause-within : goal.returns-clause-within

@@ -1,7 +1,7 @@
 use Rattle.std.proofs.Common.{subst, arith, All}
 use Rattle.std.proofs.lemmas.List.{take_all}
 use Rattle.ssb_schema.specs.Rows.{IsWithinLimits}
-use Rattle.row_store.proofs.Sevens.{within_more}
+use Rattle.row_store.proofs.SevenLaws.{within_more}
 use Rattle.row_store.proofs.index.look_through.Goals as goal
 
 pub loop-line-preserved : goal.loop-line-preserved

@@ -1,6 +1,6 @@
 use Rattle.std.proofs.Common.{rules, nat_eq}
 use Rattle.std.specs.HashMap.{get}
-use Rattle.row_store.proofs.Indexed.{next_apart, next_located}
+use Rattle.row_store.proofs.IndexedLaws.{next_apart, next_located}
 use Rattle.row_store.proofs.index.place_runs.Goals as goal
 
 pub loop-first-preserved : goal.loop-first-preserved

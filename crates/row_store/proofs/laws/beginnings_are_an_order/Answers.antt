@@ -1,4 +1,4 @@
-use Rattle.row_store.proofs.Prefixes.{
+use Rattle.row_store.proofs.PrefixLaws.{
   begins_with_itself,
   beginnings_chain,
   as_long_is_the_whole,

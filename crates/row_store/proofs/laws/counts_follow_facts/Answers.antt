@@ -1,4 +1,4 @@
-use Rattle.row_store.proofs.FactCounts.{one_fact_counts_once, appended_facts_count, without_an_order, facts_commute}
+use Rattle.row_store.proofs.FactCountLaws.{one_fact_counts_once, appended_facts_count, without_an_order, facts_commute}
 use Rattle.row_store.proofs.laws.counts_follow_facts.Goals as goal
 
 pub returns-clause-more : goal.returns-clause-more

@@ -1,4 +1,4 @@
-use Rattle.row_store.proofs.FactCounts.{same_facts_are_equal, counts_tell_occurrences, rearranged_count_equal}
+use Rattle.row_store.proofs.FactCountLaws.{same_facts_are_equal, counts_tell_occurrences, rearranged_count_equal}
 use Rattle.row_store.proofs.laws.counts_tell_occurrences.Goals as goal
 
 pub returns-clause-same : goal.returns-clause-same

@@ -1,4 +1,4 @@
-use Rattle.row_store.proofs.Few.{legal_histories_are_few}
+use Rattle.row_store.proofs.FewLaws.{legal_histories_are_few}
 use Rattle.row_store.proofs.laws.legal_histories_are_few.Goals as goal
 
 pub returns : goal.returns

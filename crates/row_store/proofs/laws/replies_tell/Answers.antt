@@ -1,4 +1,4 @@
-use Rattle.row_store.proofs.Replies.{replies_tell}
+use Rattle.row_store.proofs.ReplyLaws.{replies_tell}
 use Rattle.row_store.proofs.laws.replies_tell.Goals as goal
 
 pub returns : goal.returns

@@ -1,4 +1,4 @@
-use Rattle.row_store.proofs.Rearranged.{states_follow_commits}
+use Rattle.row_store.proofs.RearrangedLaws.{states_follow_commits}
 use Rattle.row_store.proofs.laws.states_follow_commits.Goals as goal
 
 pub returns : goal.returns

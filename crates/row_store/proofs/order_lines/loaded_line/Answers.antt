@@ -1,7 +1,7 @@
 use Rattle.std.proofs.Common.{◌≤◌, length, sym, ◌∙◌, arith}
 use Rattle.std.proofs.lemmas.Option.{slice_get_past}
 use Rattle.row_store.specs.Keyed.{lines_at}
-use Rattle.row_store.proofs.Indexed.{length-lines_at, slice_get-lines_at}
+use Rattle.row_store.proofs.IndexedLaws.{length-lines_at, slice_get-lines_at}
 use Rattle.row_store.proofs.order_lines.loaded_line.Goals as goal
 
 pub returns-then-place-positions : goal.returns-then-place-positions

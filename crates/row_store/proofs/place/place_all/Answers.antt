@@ -27,8 +27,8 @@ use Rattle.ssb_schema.specs.declared.refresh.Action.{Action}
 use Rattle.row_store.specs.Lines.{added_by, lines_of, lines_after_action, lines_after_refresh}
 use Rattle.row_store.specs.Refusals.{first_refusal}
 use Rattle.row_store.specs.Keyed.{order_at, Lies, Located}
-use Rattle.row_store.proofs.Causes.{none_refused-next}
-use Rattle.row_store.proofs.Placed.{order_at-action}
+use Rattle.row_store.proofs.CauseLaws.{none_refused-next}
+use Rattle.row_store.proofs.PlacedLaws.{order_at-action}
 use Rattle.row_store.proofs.place.place_all.Goals as goal
 
 pub loop-i-preserved : goal.loop-i-preserved

@@ -26,9 +26,9 @@ use Rattle.ssb_schema.specs.Orders.{order_key}
 use Rattle.row_store.specs.Lines.{lines_of, lines_without}
 use Rattle.row_store.specs.declared.place.Place.{Place}
 use Rattle.row_store.specs.Keyed.{Located, IsAt, IsWithin, lines_from}
-use Rattle.row_store.proofs.Causes.{new_key}
-use Rattle.row_store.proofs.Counted.{HaveKey}
-use Rattle.row_store.proofs.Placed.{located_more, located_amended, located_withdrawn}
+use Rattle.row_store.proofs.CauseLaws.{new_key}
+use Rattle.row_store.proofs.CountedLaws.{HaveKey}
+use Rattle.row_store.proofs.PlacedLaws.{located_more, located_amended, located_withdrawn}
 use Rattle.row_store.proofs.place.put.Goals as goal
 
 on_ok : {A E : Type 0} (r : Result A E) (P : Type 0) → IsOk r → OnOk r P → P

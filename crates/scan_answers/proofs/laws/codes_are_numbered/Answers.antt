@@ -1,4 +1,4 @@
-use Rattle.scan_answers.proofs.GroupLemmas.{codes_are_numbered}
+use Rattle.scan_answers.proofs.GroupLaws.{codes_are_numbered}
 use Rattle.scan_answers.proofs.laws.codes_are_numbered.Goals as goal
 
 pub returns : goal.returns

@@ -1,4 +1,4 @@
-use Rattle.scan_answers.proofs.GroupLemmas.{codes_number_groups}
+use Rattle.scan_answers.proofs.GroupLaws.{codes_number_groups}
 use Rattle.scan_answers.proofs.laws.codes_number_groups.Goals as goal
 
 pub returns : goal.returns

@@ -1,4 +1,4 @@
-use Rattle.scan_answers.proofs.CombinedLemmas.{combines_at_positions}
+use Rattle.scan_answers.proofs.CombinedLaws.{combines_at_positions}
 use Rattle.scan_answers.proofs.laws.combines_at_positions.Goals as goal
 
 pub returns : goal.returns

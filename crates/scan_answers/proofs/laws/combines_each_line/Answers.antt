@@ -1,6 +1,6 @@
 use Rattle.std.proofs.lemmas.List.Elements.{recursion_from_All}
 use Rattle.ssb_schema.specs.Base.{IsKnown}
-use Rattle.scan_answers.proofs.CombinedLemmas.{combines_each_line}
+use Rattle.scan_answers.proofs.CombinedLaws.{combines_each_line}
 use Rattle.scan_answers.proofs.laws.combines_each_line.Goals as goal
 
 pub returns : goal.returns

@@ -1,4 +1,4 @@
-use Rattle.scan_answers.proofs.GroupLemmas.{groups_are_apart}
+use Rattle.scan_answers.proofs.GroupLaws.{groups_are_apart}
 use Rattle.scan_answers.proofs.laws.groups_are_apart.Goals as goal
 
 pub returns : goal.returns

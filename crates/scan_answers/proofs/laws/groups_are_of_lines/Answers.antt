@@ -1,6 +1,6 @@
 use Rattle.std.proofs.lemmas.List.Elements.{recursion_from_All}
 use Rattle.ssb_schema.specs.Base.{IsKnown}
-use Rattle.scan_answers.proofs.LineLemmas.{groups_are_of_lines}
+use Rattle.scan_answers.proofs.LineLaws.{groups_are_of_lines}
 use Rattle.scan_answers.proofs.laws.groups_are_of_lines.Goals as goal
 
 pub returns : goal.returns

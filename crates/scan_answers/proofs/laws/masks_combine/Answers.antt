@@ -1,4 +1,4 @@
-use Rattle.scan_answers.proofs.MaskLemmas.{masks_combine}
+use Rattle.scan_answers.proofs.MaskLaws.{masks_combine}
 use Rattle.scan_answers.proofs.laws.masks_combine.Goals as goal
 
 pub returns : goal.returns

@@ -1,4 +1,4 @@
-use Rattle.scan_answers.proofs.DenseLemmas.{one_row_answers}
+use Rattle.scan_answers.proofs.DenseLaws.{one_row_answers}
 use Rattle.scan_answers.proofs.laws.one_row_answers.Goals as goal
 
 pub returns : goal.returns

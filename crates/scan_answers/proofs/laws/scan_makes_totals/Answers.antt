@@ -1,6 +1,6 @@
 use Rattle.std.proofs.lemmas.List.Elements.{recursion_from_All}
 use Rattle.ssb_schema.specs.Base.{IsKnown}
-use Rattle.scan_answers.proofs.ScanLemmas.{scan_makes_totals}
+use Rattle.scan_answers.proofs.ScanLaws.{scan_makes_totals}
 use Rattle.scan_answers.proofs.laws.scan_makes_totals.Goals as goal
 
 pub returns : goal.returns

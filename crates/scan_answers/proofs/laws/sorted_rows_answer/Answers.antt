@@ -1,4 +1,4 @@
-use Rattle.scan_answers.proofs.DenseLemmas.{sorted_rows_answer}
+use Rattle.scan_answers.proofs.DenseLaws.{sorted_rows_answer}
 use Rattle.scan_answers.proofs.laws.sorted_rows_answer.Goals as goal
 
 pub returns : goal.returns

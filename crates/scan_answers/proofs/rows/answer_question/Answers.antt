@@ -2,7 +2,7 @@
 use Rattle.std.proofs.Common.{ℕ}
 use Rattle.std.specs.Prelude.{ℤ, pos, slice_index, slice_index_or}
 use Rattle.std.proofs.lemmas.Result.{IfOk-weaker}
-use Rattle.scan_answers.proofs.ScanLemmas.{answers_lines}
+use Rattle.scan_answers.proofs.ScanLaws.{answers_lines}
 use Rattle.scan_answers.proofs.rows.answer_question.Goals as goal
 
 pub returns : goal.returns

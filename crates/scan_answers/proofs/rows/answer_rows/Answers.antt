@@ -5,10 +5,10 @@ use Rattle.std.specs.Int.{w64}
 use Rattle.std.proofs.lemmas.Int.{to_z-of_z}
 use Rattle.ssb_plans.specs.declared.value.Value.{Value}
 use Rattle.ssb_queries.specs.declared.answer.ResultRow.{ResultRow}
-use Rattle.ssb_queries.proofs.RowLemmas.{non_empty}
+use Rattle.ssb_queries.proofs.RowLaws.{non_empty}
 use Rattle.std.proofs.lemmas.Result.{IfOk-weaker}
 use Rattle.scan_answers.specs.Groups.{group_values, size_of, counts_of}
-use Rattle.scan_answers.proofs.DenseLemmas.{sorted_rows_answer, one_row_of_dense}
+use Rattle.scan_answers.proofs.DenseLaws.{sorted_rows_answer, one_row_of_dense}
 use Rattle.scan_answers.proofs.rows.answer_rows.Goals as goal
 
 empty : {X : Type 0} (xs : List X) → length xs ≡ 0 → xs ≡ []

@@ -1,4 +1,4 @@
-use Rattle.scan_answers.proofs.RowsLemmas.{ValuesUpTo}
+use Rattle.scan_answers.proofs.RowLaws.{ValuesUpTo}
 use Rattle.scan_answers.proofs.rows.group_of_number.Given as goal
 
 abbrev pub invariant-loop-at : goal.invariant-loop-at

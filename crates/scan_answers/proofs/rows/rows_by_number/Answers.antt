@@ -7,7 +7,7 @@ use Rattle.std.proofs.lemmas.Int.{to_z-of_z}
 use Rattle.ssb_plans.specs.declared.value.Value.{Value}
 use Rattle.ssb_queries.specs.declared.answer.ResultRow.{ResultRow}
 use Rattle.scan_answers.specs.Groups.{group_values}
-use Rattle.scan_answers.proofs.RowsLemmas.{rows_push, rows_stay}
+use Rattle.scan_answers.proofs.RowLaws.{rows_push, rows_stay}
 use Rattle.scan_answers.proofs.rows.rows_by_number.Goals as goal
 use Rattle.scan_answers.proofs.rows.rows_by_number.Goals.{
   then-counts-number-gt0+in_ok-groups+in_ok-push,

@@ -4,7 +4,7 @@ use Rattle.std.specs.Prelude.{ℤ}
 use Rattle.std.proofs.lemmas.Result.{IfOk-weaker}
 use Rattle.scan_answers.specs.Groups.{size_of, counts_of}
 use Rattle.scan_answers.specs.Scattered.{count_of, sum_of}
-use Rattle.scan_answers.proofs.ScanLemmas.{answers_lines}
+use Rattle.scan_answers.proofs.ScanLaws.{answers_lines}
 use Rattle.scan_answers.proofs.scattered.answer_scattered.Goals as goal
 
 pub returns : goal.returns

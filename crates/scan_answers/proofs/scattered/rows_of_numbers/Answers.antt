@@ -7,7 +7,7 @@ use Rattle.std.proofs.lemmas.Int.{to_z-of_z}
 use Rattle.ssb_plans.specs.declared.value.Value.{Value}
 use Rattle.ssb_queries.specs.declared.answer.ResultRow.{ResultRow}
 use Rattle.scan_answers.specs.Groups.{group_values}
-use Rattle.scan_answers.proofs.ScatteredLemmas.{row_more, row_same}
+use Rattle.scan_answers.proofs.ScatteredLaws.{row_more, row_same}
 use Rattle.scan_answers.proofs.scattered.rows_of_numbers.Goals as goal
 use Rattle.scan_answers.proofs.scattered.rows_of_numbers.Goals.{
   then-counts-at-gt0+in_ok-groups+in_ok-push,

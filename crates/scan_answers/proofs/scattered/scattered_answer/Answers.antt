@@ -29,11 +29,11 @@ use Rattle.std.proofs.lemmas.Int.{to_z-of_z}
 use Rattle.std.proofs.lemmas.Result.{IfOk-weaker}
 use Rattle.ssb_plans.specs.declared.value.Value.{Value}
 use Rattle.ssb_queries.specs.declared.answer.ResultRow.{ResultRow}
-use Rattle.ssb_queries.proofs.RowLemmas.{non_empty}
+use Rattle.ssb_queries.proofs.RowLaws.{non_empty}
 use Rattle.scan_answers.specs.Groups.{group_values, size_of, counts_of}
 use Rattle.scan_answers.specs.Scattered.{count_of, sum_of}
-use Rattle.scan_answers.proofs.DenseLemmas.{one_row_of_dense}
-use Rattle.scan_answers.proofs.ScatteredLemmas.{beside_at, scattered_rows_answer}
+use Rattle.scan_answers.proofs.DenseLaws.{one_row_of_dense}
+use Rattle.scan_answers.proofs.ScatteredLaws.{beside_at, scattered_rows_answer}
 use Rattle.scan_answers.proofs.scattered.scattered_answer.Goals as goal
 
 empty : {X : Type 0} (xs : List X) → length xs ≡ 0 → xs ≡ []

@@ -1,4 +1,4 @@
-use Rattle.scan_kernel.proofs.AddsLemmas.{adds_zeros}
+use Rattle.scan_kernel.proofs.AddLaws.{adds_zeros}
 use Rattle.scan_kernel.proofs.adding.add_losses.Goals as goal
 
 pub returns-in-PriceTimesDiscount : goal.returns-in-PriceTimesDiscount

@@ -3,7 +3,7 @@ use Rattle.std.specs.List.{All}
 use Rattle.std.specs.Prelude.{vec_len}
 use Rattle.scan_kernel.specs.declared.columns.GroupColumn.{GroupColumn}
 use Rattle.scan_kernel.specs.Places.{group_at}
-use Rattle.scan_kernel.proofs.FoundLemmas.{all_mapped}
+use Rattle.scan_kernel.proofs.FoundLaws.{all_mapped}
 use Rattle.scan_kernel.proofs.adding.add_places.Goals as goal
 
 pub add_to_groups-requires-clause-room : goal.add_to_groups-requires-clause-room

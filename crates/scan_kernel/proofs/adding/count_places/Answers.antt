@@ -1,7 +1,7 @@
 use Rattle.std.proofs.Common.{ℕ, ◌<◌, length, arith, refl, ◌∙◌, ap}
 use Rattle.std.proofs.lemmas.List.{length-set}
 use Rattle.std.proofs.lemmas.List.Elements.{All-get_or}
-use Rattle.scan_kernel.proofs.AddsLemmas.{adds_none, adds_more}
+use Rattle.scan_kernel.proofs.AddLaws.{adds_none, adds_more}
 use Rattle.scan_kernel.proofs.adding.count_places.Goals as goal
 
 pub loop-at-init : goal.loop-at-init

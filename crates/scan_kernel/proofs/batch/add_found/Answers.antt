@@ -5,8 +5,8 @@ use Rattle.std.proofs.lemmas.List.{get_or-set_other, length-set}
 use Rattle.scan_kernel.specs.declared.columns.Grouping.{Grouping}
 use Rattle.scan_kernel.specs.declared.totals.Totals.{Totals}
 use Rattle.scan_kernel.specs.Totals.{AddsPlaces, CanSum, taken}
-use Rattle.scan_kernel.proofs.BatchLemmas.{sizes_kept}
-use Rattle.scan_kernel.proofs.Written.{written_more}
+use Rattle.scan_kernel.proofs.BatchLaws.{sizes_kept}
+use Rattle.scan_kernel.proofs.WrittenLaws.{written_more}
 use Rattle.scan_kernel.proofs.batch.add_found.Goals as goal
 
 pub add_question-requires-clause-can_sum : goal.add_question-requires-clause-can_sum

@@ -3,7 +3,7 @@ use Rattle.std.specs.List.{All, range_with_len}
 use Rattle.std.specs.Prelude.{vec_len}
 use Rattle.scan_kernel.specs.Places.{mask_at, has_bit, group_at}
 use Rattle.scan_kernel.specs.Totals.{AddsPlaces}
-use Rattle.scan_kernel.proofs.FoundLemmas.{found_are_all, filter_all, all_in_range}
+use Rattle.scan_kernel.proofs.FoundLaws.{found_are_all, filter_all, all_in_range}
 use Rattle.scan_kernel.proofs.batch.add_question.Goals as goal
 
 pub add_places-requires-clause-places : goal.add_places-requires-clause-places

@@ -3,7 +3,7 @@ use Rattle.std.specs.Prelude.{vec_len}
 use Rattle.std.proofs.lemmas.List.{get_or-set_other, length-set}
 use Rattle.scan_kernel.specs.declared.totals.Totals.{Totals}
 use Rattle.scan_kernel.specs.Parts.{MergesTotals}
-use Rattle.scan_kernel.proofs.Written.{written_more}
+use Rattle.scan_kernel.proofs.WrittenLaws.{written_more}
 use Rattle.scan_kernel.proofs.parts.merge_batch.Goals as goal
 
 pub merge-requires : goal.merge-requires

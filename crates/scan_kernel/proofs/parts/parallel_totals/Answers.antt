@@ -4,7 +4,7 @@ use Rattle.std.proofs.lemmas.List.{with_items_is}
 use Rattle.scan_kernel.specs.declared.totals.Totals.{Totals}
 use Rattle.scan_kernel.specs.Parts.{bound, part_places, MergesBatch}
 use Rattle.scan_kernel.specs.Totals.{AreBatchTotals}
-use Rattle.scan_kernel.proofs.PartsLemmas.{no_part, part_more, all_parts, merge_sizes, part_at, parts_count}
+use Rattle.scan_kernel.proofs.PartLaws.{no_part, part_more, all_parts, merge_sizes, part_at, parts_count}
 use Rattle.scan_kernel.proofs.parts.parallel_totals.Goals as goal
 
 pub loop-part-init : goal.loop-part-init

@@ -1,5 +1,5 @@
 use Rattle.std.proofs.Common.{List, ◌++◌, ◌∷◌, [], ap, sym, ◌∙◌, zero-add}
-use Rattle.scan_kernel.proofs.Found.{range_more}
+use Rattle.scan_kernel.proofs.SearchLaws.{range_more}
 use Rattle.scan_kernel.proofs.parts.part_numbers.Goals as goal
 
 pub loop-number-preserved : goal.loop-number-preserved

@@ -1,7 +1,7 @@
 use Rattle.std.proofs.Common.{◌≡◌, ℕ, ◌-◌, ◌≤◌, arith, subst}
 use Rattle.std.specs.List.{range_with_len}
 use Rattle.scan_kernel.specs.Totals.{AddsBatch}
-use Rattle.scan_kernel.proofs.BatchLemmas.{batch_none, batch_on}
+use Rattle.scan_kernel.proofs.BatchLaws.{batch_none, batch_on}
 use Rattle.scan_kernel.proofs.range.add_range.Goals as goal
 use Rattle.scan_kernel.proofs.range.add_range.Goals.{then-to-at-gt-CHUNK, else-to-at-gt-CHUNK}
 

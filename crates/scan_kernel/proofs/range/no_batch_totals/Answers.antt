@@ -3,7 +3,7 @@ use Rattle.std.proofs.lemmas.List.{length-append}
 use Rattle.scan_kernel.specs.declared.columns.Grouping.{Grouping}
 use Rattle.scan_kernel.specs.declared.totals.Totals.{Totals}
 use Rattle.scan_kernel.specs.Totals.{AreZeros}
-use Rattle.scan_kernel.proofs.BatchLemmas.{zeros_pushed}
+use Rattle.scan_kernel.proofs.BatchLaws.{zeros_pushed}
 use Rattle.scan_kernel.proofs.range.no_batch_totals.Goals as goal
 
 pub loop-grouping-preserved : goal.loop-grouping-preserved

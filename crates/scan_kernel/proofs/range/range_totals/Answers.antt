@@ -3,7 +3,7 @@ use Rattle.std.specs.List.{range_with_len}
 use Rattle.std.proofs.lemmas.List.{with_items_is}
 use Rattle.scan_kernel.specs.declared.totals.Totals.{Totals}
 use Rattle.scan_kernel.specs.Totals.{AddsBatch, AreBatchTotals, HaveSizes}
-use Rattle.scan_kernel.proofs.BatchLemmas.{zeros_sized, from_zeros}
+use Rattle.scan_kernel.proofs.BatchLaws.{zeros_sized, from_zeros}
 use Rattle.scan_kernel.proofs.range.range_totals.Goals as goal
 
 pub add_range-requires-clause-sizes : goal.add_range-requires-clause-sizes

@@ -4,7 +4,7 @@ use Rattle.std.proofs.Math.Nat.{mod-eq_of_lt}
 use Rattle.scan_kernel.specs.Places.{has_bit, group_at}
 use Rattle.scan_kernel.specs.Scattered.{as_group_columns, AreScatteredTotals}
 use Rattle.scan_kernel.specs.Totals.{taken}
-use Rattle.scan_kernel.proofs.ScatteredLemmas.{group_is, taken_more, taken_same, line_added}
+use Rattle.scan_kernel.proofs.ScatteredLaws.{group_is, taken_more, taken_same, line_added}
 use Rattle.scan_kernel.proofs.scattered.scattered_totals.Goals as goal
 use Rattle.scan_kernel.proofs.scattered.scattered_totals.Goals.{then-takes+in_ok-add_line, else-takes}
 

@@ -1,5 +1,5 @@
 use Rattle.std.proofs.Common.{arith}
-use Rattle.scan_kernel.proofs.Found.{found_first, found_some, found_none}
+use Rattle.scan_kernel.proofs.SearchLaws.{found_first, found_some, found_none}
 use Rattle.scan_kernel.proofs.search.find_places.Goals as goal
 use Rattle.scan_kernel.proofs.search.find_places.Goals.{then-mask-ne0, else-mask-ne0}
 

@@ -1,7 +1,7 @@
 use Rattle.std.proofs.Common.{ℕ, Bool, not, eqb}
 use Rattle.scan_kernel.specs.Places.{mask_at}
 use Rattle.scan_kernel.specs.Tables.{masks_of}
-use Rattle.scan_kernel.proofs.Found.{FoundUpTo}
+use Rattle.scan_kernel.proofs.SearchLaws.{FoundUpTo}
 use Rattle.scan_kernel.proofs.search.find_places.Given as goal
 
 -- a `bool` parameter, which is given as a number

@@ -1,7 +1,7 @@
 use Rattle.std.proofs.Common.{◌<◌, length, eqb, arith, ◌∙◌}
 use Rattle.std.specs.Int.{bit_at}
 use Rattle.std.proofs.lemmas.List.{length-set}
-use Rattle.scan_kernel.proofs.SelectLemmas.{kept, dropped, bit_true, bit_false}
+use Rattle.scan_kernel.proofs.SelectLaws.{kept, dropped, bit_true, bit_false}
 use Rattle.scan_kernel.proofs.selecting.select_places.Goals as goal
 use Rattle.scan_kernel.proofs.selecting.select_places.Goals.{then-found-at-eq1, else-found-at-eq1}
 

@@ -6,5 +6,6 @@ use Rattle.server_steps.proofs.closing.with_client.Goals as goal
 
 pub returns : goal.returns
 returns g c =
-    subst (All (IsQuiet c.args.server.now)) (sym (c.push_reserved.ensures.items ∙ ap (λ all. all ++ c.args.client ∷ []) c.reserve.ensures.items))
+    subst (All (IsQuiet c.args.server.now))
+    (sym (c.push_reserved.ensures.items ∙ ap (λ all. all ++ c.args.client ∷ []) c.reserve.ensures.items))
     (All-push (IsQuiet c.args.server.now) c.args.clients.items c.args.client c.requires.clients c.requires.client)

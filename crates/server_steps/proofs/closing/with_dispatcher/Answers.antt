@@ -6,6 +6,7 @@ use Rattle.server_steps.proofs.closing.with_dispatcher.Goals as goal
 
 pub returns : goal.returns
 returns g c =
-    subst (All (IsOf c.args.server.now)) (sym (c.push_reserved.ensures.items ∙ ap (λ all. all ++ c.args.dispatcher ∷ []) c.reserve.ensures.items))
+    subst (All (IsOf c.args.server.now))
+    (sym (c.push_reserved.ensures.items ∙ ap (λ all. all ++ c.args.dispatcher ∷ []) c.reserve.ensures.items))
     (All-push (IsOf c.args.server.now) c.args.dispatchers.items c.args.dispatcher c.requires.dispatchers
     c.requires.dispatcher)

@@ -1,4 +1,4 @@
-use Rattle.ssb_server.proofs.Staying.{refreshed_stays}
+use Rattle.ssb_server.proofs.StayingLaws.{refreshed_stays}
 use Rattle.server_steps.proofs.steps.refreshes.Goals as goal
 
 pub returns : goal.returns

@@ -1,4 +1,4 @@
-use Rattle.server_steps.proofs.Places.{refreshed_stays}
+use Rattle.server_steps.proofs.PlaceLaws.{refreshed_stays}
 use Rattle.server_steps.proofs.trial.refreshes.Goals as goal
 
 pub returns : goal.returns

@@ -3,8 +3,8 @@ use Rattle.ssb_schema.specs.Base.{Tables}
 use Rattle.fact_table.specs.Places.{live_facts}
 use Rattle.shared_scan.specs.Answers.{answers_over}
 use Rattle.shared_scan.specs.Lines.{AreOfBase, HavePlaces}
-use Rattle.shared_scan.proofs.ScanLemmas.{if_ok_then}
-use Rattle.shared_scan.proofs.HistoryLemmas.{of_base, answers_of_history}
+use Rattle.shared_scan.proofs.ScanLaws.{if_ok_then}
+use Rattle.shared_scan.proofs.HistoryLaws.{of_base, answers_of_history}
 use Rattle.shared_scan.proofs.answering.scan_parallel.Goals as goal
 
 pub scan_slices_parallel-requires : goal.scan_slices_parallel-requires

@@ -4,7 +4,7 @@ use Rattle.std.proofs.lemmas.Option.{slice_get_within}
 use Rattle.ssb_schema.specs.Base.{customer_key, supplier_key, part_key, date_key}
 use Rattle.ssb_queries.specs.RowValues.{customer_value, supplier_value, part_value, date_value, is_within}
 use Rattle.scan_answers.specs.Masks.{IsMask}
-use Rattle.shared_scan.proofs.RowMaskLemmas.{tell_row}
+use Rattle.shared_scan.proofs.RowMaskLaws.{tell_row}
 use Rattle.shared_scan.proofs.batch_masks.batch_masks.Goals as goal
 
 pub returns-clause-tell : goal.returns-clause-tell

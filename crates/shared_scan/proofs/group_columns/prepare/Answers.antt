@@ -7,10 +7,10 @@ use Rattle.ssb_plans.specs.declared.value.Value.TheVariants.{Number}
 use Rattle.scan_kernel.specs.Places.{mask_in}
 use Rattle.scan_answers.specs.Groups.{code_in}
 use Rattle.shared_scan.specs.Numbering.{IsPreparedColumn}
-use Rattle.shared_scan.proofs.PartLemmas.{is_prepared}
+use Rattle.shared_scan.proofs.PartLaws.{is_prepared}
 use Rattle.dim_index.specs.Values.{values_of}
 use Rattle.dim_index.specs.Codes.{distinct, codes_of}
-use Rattle.shared_scan.proofs.DistinctLemmas.{codes_within, distinct_few}
+use Rattle.shared_scan.proofs.DistinctLaws.{codes_within, distinct_few}
 use Rattle.shared_scan.proofs.group_columns.prepare.Goals as goal
 
 pub number_codes-requires-clause-within : goal.number_codes-requires-clause-within

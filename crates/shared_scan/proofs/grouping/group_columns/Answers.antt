@@ -4,7 +4,7 @@ use Rattle.ssb_schema.specs.declared.column.Column.{Column}
 use Rattle.ssb_schema.specs.declared.table.Table.TheVariants.{Customer}
 use Rattle.scan_kernel.specs.declared.columns.GroupColumn.{GroupColumn}
 use Rattle.shared_scan.specs.GroupColumns.{AreGroupColumns, IsGroupColumn}
-use Rattle.shared_scan.proofs.GroupColumnLemmas.{group_columns_more}
+use Rattle.shared_scan.proofs.GroupColumnLaws.{group_columns_more}
 use Rattle.shared_scan.proofs.grouping.group_columns.Goals as goal
 
 pub loop-place-preserved : goal.loop-place-preserved

@@ -3,7 +3,7 @@ use Rattle.std.proofs.lemmas.List.{length-append, get_or_default}
 use Rattle.scan_kernel.specs.declared.columns.Grouping.{Grouping}
 use Rattle.shared_scan.specs.Groupings.{IsReadyGrouping}
 use Rattle.shared_scan.specs.declared.ready.Ready.{Ready}
-use Rattle.shared_scan.proofs.EachLemmas.{each_more}
+use Rattle.shared_scan.proofs.EachLaws.{each_more}
 use Rattle.shared_scan.proofs.grouping.groupings.Goals as goal
 
 pub loop-ready-preserved : goal.loop-ready-preserved

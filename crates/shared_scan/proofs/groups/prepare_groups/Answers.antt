@@ -8,7 +8,7 @@ use Rattle.dim_index.specs.Values.{values_of}
 use Rattle.scan_answers.specs.Groups.{size_of, counts_of}
 use Rattle.shared_scan.specs.Numbering.{IsPreparedColumn}
 use Rattle.shared_scan.specs.Prepared.{masks_in}
-use Rattle.shared_scan.proofs.GroupedLemmas.{prepared_more, size_more}
+use Rattle.shared_scan.proofs.GroupedLaws.{prepared_more, size_more}
 use Rattle.shared_scan.proofs.groups.prepare_groups.Goals as goal
 
 pub prepare-requires-clause-step : goal.prepare-requires-clause-step

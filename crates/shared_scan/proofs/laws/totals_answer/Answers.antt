@@ -1,6 +1,6 @@
 use Rattle.std.proofs.Common.{ℕ, get_or}
-use Rattle.shared_scan.proofs.GroupLemmas.{dimensions_alone}
-use Rattle.shared_scan.proofs.TotalsLemmas.{summed_answer, summed_totals}
+use Rattle.shared_scan.proofs.GroupLaws.{dimensions_alone}
+use Rattle.shared_scan.proofs.TotalLaws.{summed_answer, summed_totals}
 use Rattle.shared_scan.proofs.laws.totals_answer.Goals as goal
 
 pub returns : goal.returns

@@ -1,7 +1,7 @@
 use Rattle.std.proofs.Common.{sym, ◌∙◌}
 use Rattle.fact_table.specs.declared.place.Place.{Place}
 use Rattle.shared_scan.specs.Classed.{classed}
-use Rattle.shared_scan.proofs.SumLemmas.{map_twice}
+use Rattle.shared_scan.proofs.SumLaws.{map_twice}
 use Rattle.shared_scan.proofs.lines.lines_of.Goals as goal
 
 pub returns : goal.returns

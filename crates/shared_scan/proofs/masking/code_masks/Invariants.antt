@@ -1,5 +1,5 @@
 use Rattle.shared_scan.specs.Tests.{passes_at, tests_of}
-use Rattle.shared_scan.proofs.MaskingLemmas.{AreMasksUpTo}
+use Rattle.shared_scan.proofs.MaskingLaws.{AreMasksUpTo}
 use Rattle.shared_scan.proofs.masking.code_masks.Given as goal
 
 abbrev pub invariant-loop-code : goal.invariant-loop-code

@@ -3,7 +3,7 @@ use Rattle.std.proofs.lemmas.List.{nil_from_length}
 use Rattle.std.specs.Prelude.{vec_len}
 use Rattle.shared_scan.specs.Tests.{CoverTests}
 use Rattle.shared_scan.specs.Masking.{AreRowMasks, TellDimension}
-use Rattle.shared_scan.proofs.RowMaskLemmas.{untested, row_masks_tell}
+use Rattle.shared_scan.proofs.RowMaskLaws.{untested, row_masks_tell}
 use Rattle.shared_scan.proofs.masking.dimension_masks.Goals as goal
 
 pub returns-then-is_empty : goal.returns-then-is_empty

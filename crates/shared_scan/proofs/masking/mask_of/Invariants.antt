@@ -1,4 +1,4 @@
-use Rattle.shared_scan.proofs.MaskingLemmas.{IsMaskUpTo}
+use Rattle.shared_scan.proofs.MaskingLaws.{IsMaskUpTo}
 use Rattle.shared_scan.proofs.masking.mask_of.Given as goal
 
 abbrev pub invariant-loop-number : goal.invariant-loop-number

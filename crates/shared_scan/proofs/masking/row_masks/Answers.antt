@@ -24,8 +24,8 @@ use Rattle.dim_index.specs.Keys.{keys_of}
 use Rattle.dim_index.specs.Values.{values_of}
 use Rattle.dim_index.specs.Codes.{distinct}
 use Rattle.shared_scan.specs.Masking.{AreCodeMasks, AreRowMasks}
-use Rattle.shared_scan.proofs.DistinctLemmas.{codes_within}
-use Rattle.shared_scan.proofs.RowMaskLemmas.{row_masks_start, row_masks_more}
+use Rattle.shared_scan.proofs.DistinctLaws.{codes_within}
+use Rattle.shared_scan.proofs.RowMaskLaws.{row_masks_start, row_masks_more}
 use Rattle.shared_scan.proofs.masking.row_masks.Goals as goal
 
 pub loop-place-init : goal.loop-place-init

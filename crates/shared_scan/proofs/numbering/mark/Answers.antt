@@ -1,6 +1,6 @@
 use Rattle.std.proofs.Common.{◌<◌, length, get_or, bit_or, arith}
 use Rattle.std.proofs.lemmas.List.{length-set}
-use Rattle.shared_scan.proofs.NumberingLemmas.{mark_more}
+use Rattle.shared_scan.proofs.NumberingLaws.{mark_more}
 use Rattle.shared_scan.proofs.numbering.mark.Goals as goal
 
 pub loop-row-preserved : goal.loop-row-preserved

@@ -1,6 +1,6 @@
 use Rattle.std.proofs.Common.{◌≡◌, ◌<◌, length, get_or, arith, sym, ◌∙◌}
 use Rattle.std.proofs.lemmas.List.{get_or_read}
-use Rattle.shared_scan.proofs.NumberingLemmas.{numbered_more}
+use Rattle.shared_scan.proofs.NumberingLaws.{numbered_more}
 use Rattle.shared_scan.proofs.numbering.number_code.Goals as goal
 
 pub returns-in_ok-push-clause-is : goal.returns-in_ok-push-clause-is

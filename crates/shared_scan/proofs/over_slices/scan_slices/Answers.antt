@@ -10,9 +10,9 @@ use Rattle.shared_scan.specs.Answers.{Prepared, answers_over}
 use Rattle.shared_scan.specs.Batch.{questions_of}
 use Rattle.shared_scan.specs.Classed.{classed}
 use Rattle.shared_scan.specs.Lines.{AreOfBase, HavePlaces}
-use Rattle.shared_scan.proofs.CanScanLemmas.{can_search}
-use Rattle.shared_scan.proofs.ClassedLemmas.{classed_all, as_many_live, answers_classed}
-use Rattle.shared_scan.proofs.ScanLemmas.{if_ok_then, line_count, parts_all, can_sum_all, can_answer_all, rows_answer}
+use Rattle.shared_scan.proofs.CanScanLaws.{can_search}
+use Rattle.shared_scan.proofs.ClassedLaws.{classed_all, as_many_live, answers_classed}
+use Rattle.shared_scan.proofs.ScanLaws.{if_ok_then, line_count, parts_all, can_sum_all, can_answer_all, rows_answer}
 use Rattle.shared_scan.proofs.over_slices.scan_slices.Goals as goal
 
 pub groupings-requires : goal.groupings-requires

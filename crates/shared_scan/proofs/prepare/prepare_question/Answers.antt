@@ -1,6 +1,6 @@
 use Rattle.std.proofs.Common.{length, arith, ap}
 use Rattle.ssb_plans.specs.declared.plan.Plan.{Plan}
-use Rattle.shared_scan.proofs.GroupLemmas.{three_alone}
+use Rattle.shared_scan.proofs.GroupLaws.{three_alone}
 use Rattle.shared_scan.proofs.prepare.prepare_question.Goals as goal
 
 pub prepare_groups-requires-clause-three : goal.prepare_groups-requires-clause-three

@@ -3,7 +3,7 @@ use Rattle.std.specs.Prelude.{slice_get, FitsSigned}
 use Rattle.std.specs.Int.{w64}
 use Rattle.std.proofs.lemmas.Int.{to_z-of_z}
 use Rattle.shared_scan.specs.Scanned.{net}
-use Rattle.shared_scan.proofs.ScatteredLemmas.{entry_more, value_more}
+use Rattle.shared_scan.proofs.ScatteredLaws.{entry_more, value_more}
 use Rattle.shared_scan.proofs.scattered.list_groups.Goals as goal
 use Rattle.shared_scan.proofs.scattered.list_groups.Goals.{in-Some+in_ok-push+in_ok-push-2+in_ok-push-3, in_default}
 

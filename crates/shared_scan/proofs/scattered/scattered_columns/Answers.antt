@@ -5,7 +5,7 @@ use Rattle.ssb_schema.specs.declared.table.Table.TheVariants.{Customer}
 use Rattle.scan_kernel.specs.declared.columns.GroupColumn.{GroupColumn}
 use Rattle.scan_kernel.specs.Scattered.{as_group_column, as_group_columns}
 use Rattle.shared_scan.specs.GroupColumns.{AreGroupColumns, IsGroupColumn}
-use Rattle.shared_scan.proofs.GroupColumnLemmas.{group_columns_more}
+use Rattle.shared_scan.proofs.GroupColumnLaws.{group_columns_more}
 use Rattle.shared_scan.proofs.scattered.scattered_columns.Goals as goal
 
 pub loop-place-preserved : goal.loop-place-preserved

@@ -14,11 +14,11 @@ use Rattle.scan_answers.specs.Groups.{size_of, counts_of}
 use Rattle.shared_scan.specs.GroupColumns.{AreGroupColumns}
 use Rattle.shared_scan.specs.Scanned.{net}
 use Rattle.shared_scan.specs.Summed.{AreSummed}
-use Rattle.shared_scan.proofs.GroupLemmas.{dimensions_alone}
-use Rattle.shared_scan.proofs.ReadyLemmas.{is_grouping, can_group}
-use Rattle.shared_scan.proofs.ScanLemmas.{line_count, prepared_lengths}
-use Rattle.shared_scan.proofs.ScatteredLemmas.{beside_is, all_unmapped, keys_below, summed_scattered}
-use Rattle.shared_scan.proofs.TotalsLemmas.{gains_small, losses_small}
+use Rattle.shared_scan.proofs.GroupLaws.{dimensions_alone}
+use Rattle.shared_scan.proofs.ReadyLaws.{is_grouping, can_group}
+use Rattle.shared_scan.proofs.ScanLaws.{line_count, prepared_lengths}
+use Rattle.shared_scan.proofs.ScatteredLaws.{beside_is, all_unmapped, keys_below, summed_scattered}
+use Rattle.shared_scan.proofs.TotalLaws.{gains_small, losses_small}
 use Rattle.shared_scan.proofs.scattered.scattered_rows.Goals as goal
 
 pub scattered_totals-requires-clause-columns : goal.scattered_totals-requires-clause-columns

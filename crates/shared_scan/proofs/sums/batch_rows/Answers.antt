@@ -4,7 +4,7 @@ use Rattle.ssb_queries.specs.declared.answer.Rows.{Rows}
 use Rattle.scan_kernel.specs.declared.totals.Totals.{Totals}
 use Rattle.shared_scan.specs.TotalRows.{AreRowsOf, CanAnswer}
 use Rattle.shared_scan.specs.declared.ready.Ready.{Ready}
-use Rattle.shared_scan.proofs.EachLemmas.{each_more}
+use Rattle.shared_scan.proofs.EachLaws.{each_more}
 use Rattle.shared_scan.proofs.sums.batch_rows.Goals as goal
 
 pub loop-number-preserved : goal.loop-number-preserved

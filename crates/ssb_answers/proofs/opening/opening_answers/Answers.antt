@@ -1,7 +1,7 @@
 use Rattle.std.proofs.Common.{◌∙◌, map, ap}
 use Rattle.ssb_answers.specs.Reported.{opened}
 use Rattle.ssb_answers.proofs.OpeningLaws.{opened_rows}
-use Rattle.ssb_files.proofs.Results.{if_ok_from}
+use Rattle.ssb_files.proofs.ResultLaws.{if_ok_from}
 use Rattle.ssb_answers.proofs.opening.opening_answers.Goals as goal
 
 pub returns : goal.returns

@@ -1,6 +1,6 @@
 use Rattle.std.proofs.Common.{◌∙◌, [], ap}
 use Rattle.shared_scan.specs.Answers.{Prepared, answers_after}
-use Rattle.ssb_files.proofs.Results.{if_ok_from}
+use Rattle.ssb_files.proofs.ResultLaws.{if_ok_from}
 use Rattle.ssb_answers.proofs.opening.rows_of.Goals as goal
 
 pub returns : goal.returns

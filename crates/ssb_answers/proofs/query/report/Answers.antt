@@ -2,7 +2,7 @@ use Rattle.std.proofs.Common.{◌≡◌, Err, flat_map, inr, rules}
 use Rattle.ssb_answers.specs.Reported.{HaveReport}
 use Rattle.ssb_report.specs.AnswerText.{answer_text}
 use Rattle.ssb_answers.proofs.ReportLaws.{report_of_answers}
-use Rattle.ssb_files.proofs.Results.{on_ok_from, on_err_from, is_no_refusal, is_no_word}
+use Rattle.ssb_files.proofs.ResultLaws.{on_ok_from, on_err_from, is_no_refusal, is_no_word}
 use Rattle.ssb_answers.proofs.query.report.Goals as goal
 
 pub returns-clause-report : goal.returns-clause-report

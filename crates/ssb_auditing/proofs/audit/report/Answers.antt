@@ -1,5 +1,5 @@
 use Rattle.std.proofs.Common.{◌≡◌, Err, inr, rules}
-use Rattle.ssb_files.proofs.Results.{on_ok_from, on_err_from}
+use Rattle.ssb_files.proofs.ResultLaws.{on_ok_from, on_err_from}
 use Rattle.ssb_auditing.proofs.audit.report.Goals as goal
 
 pub returns-in_err-trace-clause-refused : goal.returns-in_err-trace-clause-refused

@@ -2,7 +2,7 @@ use Rattle.std.proofs.Common.{◌≡◌, ◌≤◌, ◌+◌, ◌∷◌, [], true
 use Rattle.std.specs.Result.{is_ok}
 use Rattle.std.proofs.lemmas.List.{length-map, map-append, length-append}
 use Rattle.ssb_load.specs.Tables.{in_row}
-use Rattle.ssb_load.proofs.Reading.{read_nothing, read_more, read_all, fault_in_row, too_many}
+use Rattle.ssb_load.proofs.ReadingLaws.{read_nothing, read_more, read_all, fault_in_row, too_many}
 use Rattle.ssb_load.proofs.table.read_table.Goals as goal
 
 pub loop-number-init : goal.loop-number-init

@@ -1,6 +1,6 @@
 use Rattle.std.proofs.Common.{◌≡◌, map, length}
 use Rattle.ssb_records.specs.Records.{IsRecordReader}
-use Rattle.ssb_load.proofs.Reading.{HasReadKnown}
+use Rattle.ssb_load.proofs.ReadingLaws.{HasReadKnown}
 use Rattle.ssb_load.proofs.table.read_table.Given as goal
 
 abbrev pub invariant-loop-number : goal.invariant-loop-number

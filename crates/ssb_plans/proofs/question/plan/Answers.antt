@@ -1,5 +1,5 @@
 use Rattle.std.proofs.Common.{rules}
-use Rattle.ssb_plans.proofs.ConstantLemmas.{looks_for_constants}
+use Rattle.ssb_plans.proofs.ConstantLaws.{looks_for_constants}
 use Rattle.ssb_plans.proofs.question.plan.Goals as goal
 
 pub returns-clause-constants : goal.returns-clause-constants

@@ -10,7 +10,7 @@ use Rattle.ssb_queries.specs.Combination.{Combination, joined_with, passes}
 use Rattle.ssb_queries.specs.Answer.{amount, group_of}
 use Rattle.ssb_queries.specs.Totals.{Adds, AddsAll, IsAmount}
 use Rattle.ssb_queries.specs.Joined.{combination_of}
-use Rattle.ssb_queries.proofs.TotalsLemmas.{keeps_one_line, room, adds_one_line, adds_combination}
+use Rattle.ssb_queries.proofs.TotalLaws.{keeps_one_line, room, adds_one_line, adds_combination}
 use Rattle.ssb_queries.proofs.evaluator.add_line.Goals as goal
 
 pub returns-in_default-clause-within : goal.returns-in_default-clause-within

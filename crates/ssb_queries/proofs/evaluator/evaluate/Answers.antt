@@ -4,7 +4,7 @@ use Rattle.std.specs.Prelude.{IsPermutation}
 use Rattle.ssb_queries.specs.declared.answer.ResultRow.{ResultRow}
 use Rattle.ssb_queries.specs.Combination.{combinations}
 use Rattle.ssb_schema.specs.Facts.{facts_of}
-use Rattle.ssb_queries.proofs.RowLemmas.{rows_from_entries, non_empty, distinct_from_ordered}
+use Rattle.ssb_queries.proofs.RowLaws.{rows_from_entries, non_empty, distinct_from_ordered}
 use Rattle.ssb_queries.proofs.evaluator.evaluate.Goals as goal
 
 pub returns : goal.returns

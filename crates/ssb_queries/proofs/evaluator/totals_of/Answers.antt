@@ -7,7 +7,7 @@ use Rattle.ssb_schema.specs.declared.line.LineFields.{LineFields}
 use Rattle.ssb_queries.specs.Combination.{Combination, combinations, joined_with, passes}
 use Rattle.ssb_schema.specs.Facts.{fact_of, facts_of}
 use Rattle.ssb_queries.specs.Totals.{AreTotals}
-use Rattle.ssb_queries.proofs.SumLemmas.{combinations_push}
+use Rattle.ssb_queries.proofs.SumLaws.{combinations_push}
 use Rattle.ssb_queries.proofs.evaluator.totals_of.Goals as goal
 
 pub add_line-requires-clause-room : goal.add_line-requires-clause-room

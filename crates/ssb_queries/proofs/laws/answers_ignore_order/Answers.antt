@@ -1,4 +1,4 @@
-use Rattle.ssb_queries.proofs.RearrangementLemmas.{answer-permutation}
+use Rattle.ssb_queries.proofs.RearrangementLaws.{answer-permutation}
 use Rattle.ssb_queries.proofs.laws.answers_ignore_order.Goals as goal
 
 pub returns : goal.returns

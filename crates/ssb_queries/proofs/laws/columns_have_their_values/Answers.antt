@@ -1,4 +1,4 @@
-use Rattle.ssb_queries.proofs.ColumnLemmas.{columns_have_their_values}
+use Rattle.ssb_queries.proofs.ColumnLaws.{columns_have_their_values}
 use Rattle.ssb_queries.proofs.laws.columns_have_their_values.Goals as goal
 
 pub returns : goal.returns

@@ -1,4 +1,4 @@
-use Rattle.ssb_queries.proofs.SumLemmas.{combinations-append}
+use Rattle.ssb_queries.proofs.SumLaws.{combinations-append}
 use Rattle.ssb_queries.proofs.laws.combinations_append.Goals as goal
 
 pub returns : goal.returns

@@ -1,4 +1,4 @@
-use Rattle.ssb_queries.proofs.AmountLemmas.{sum_fits}
+use Rattle.ssb_queries.proofs.AmountLaws.{sum_fits}
 use Rattle.ssb_queries.proofs.laws.every_sum_fits.Goals as goal
 
 pub returns : goal.returns

@@ -1,4 +1,4 @@
-use Rattle.ssb_queries.proofs.RearrangementLemmas.{questions_ignore_order}
+use Rattle.ssb_queries.proofs.RearrangementLaws.{questions_ignore_order}
 use Rattle.ssb_queries.proofs.laws.questions_ignore_order.Goals as goal
 
 pub returns : goal.returns

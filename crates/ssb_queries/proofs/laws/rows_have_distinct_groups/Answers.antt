@@ -1,4 +1,4 @@
-use Rattle.ssb_queries.proofs.RowLemmas.{rows_have_distinct_groups}
+use Rattle.ssb_queries.proofs.RowLaws.{rows_have_distinct_groups}
 use Rattle.ssb_queries.proofs.laws.rows_have_distinct_groups.Goals as goal
 
 pub returns : goal.returns

@@ -1,4 +1,4 @@
-use Rattle.ssb_queries.proofs.RowLemmas.{rows_list_groups, no_other_rows}
+use Rattle.ssb_queries.proofs.RowLaws.{rows_list_groups, no_other_rows}
 use Rattle.ssb_queries.proofs.laws.rows_list_groups.Goals as goal
 
 pub returns : goal.returns

@@ -1,4 +1,4 @@
-use Rattle.ssb_queries.proofs.RowLemmas.{total_is_one_row}
+use Rattle.ssb_queries.proofs.RowLaws.{total_is_one_row}
 use Rattle.ssb_queries.proofs.laws.total_is_one_row.Goals as goal
 
 pub returns : goal.returns

@@ -1,6 +1,6 @@
 use Rattle.std.proofs.Common.{◌∙◌, ap, refl}
 use Rattle.csv.specs.Records.{fields_of}
-use Rattle.ssb_records.proofs.FieldReading.{field_read}
+use Rattle.ssb_records.proofs.FieldReadingLaws.{field_read}
 use Rattle.ssb_records.proofs.fields.field_at.Goals as goal
 
 pub returns : goal.returns

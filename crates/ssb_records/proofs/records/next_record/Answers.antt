@@ -1,5 +1,5 @@
 use Rattle.csv.specs.Records.{fields_of}
-use Rattle.ssb_records.proofs.Given.{read_gives}
+use Rattle.ssb_records.proofs.GivenLaws.{read_gives}
 use Rattle.ssb_records.proofs.records.next_record.Goals as goal
 
 pub returns-in-Ok-clause-next : goal.returns-in-Ok-clause-next

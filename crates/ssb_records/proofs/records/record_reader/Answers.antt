@@ -1,4 +1,4 @@
-use Rattle.ssb_records.proofs.Given.{given_nothing}
+use Rattle.ssb_records.proofs.GivenLaws.{given_nothing}
 use Rattle.ssb_records.proofs.records.record_reader.Goals as goal
 
 pub returns-clause-start : goal.returns-clause-start

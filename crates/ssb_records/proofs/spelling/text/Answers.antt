@@ -1,4 +1,4 @@
-use Rattle.ssb_records.proofs.Utf8.{text_is_utf8, no_text_is_not}
+use Rattle.ssb_records.proofs.Utf8Laws.{text_is_utf8, no_text_is_not}
 use Rattle.ssb_records.proofs.spelling.text.Goals as goal
 
 pub returns-in-Ok : goal.returns-in-Ok

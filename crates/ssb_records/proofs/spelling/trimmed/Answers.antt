@@ -1,6 +1,6 @@
 use Rattle.std.proofs.Common.{◌≡◌, ◌∙◌, arith, sym}
 use Rattle.std.proofs.lemmas.Bool.{ne_eqb}
-use Rattle.ssb_records.proofs.Trimming.{without_spaces-step, without_spaces-stops, nothing_left}
+use Rattle.ssb_records.proofs.TrimmingLaws.{without_spaces-step, without_spaces-stops, nothing_left}
 use Rattle.ssb_records.proofs.spelling.trimmed.Goals as goal
 use Rattle.ssb_records.proofs.spelling.trimmed.Goals.{then-loop-end-test+else-field-end-eq32, else-loop-end-test}
 

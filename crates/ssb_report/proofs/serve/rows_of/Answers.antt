@@ -1,4 +1,4 @@
-use Rattle.std.proofs.Common.{◌≡◌, length, drop, ap, sym, ◌∙◌, arith}
+use Rattle.std.proofs.Common.{◌≡◌, length, drop, ap, ◌∙◌, arith}
 use Rattle.row_store.specs.History.{lines_after}
 use Rattle.ssb_report.specs.Replies.{with_commits}
 use Rattle.ssb_report.proofs.ServingLaws.{caught_up}
@@ -12,8 +12,6 @@ plain-requires c =
     c.in_ok-absorb_all.ensures.all ∙ ap (with_commits lines)
     (c.log_from.ensures.commits ∙ ap (λ n. drop n store.log) c.commits-taken.ensures)
     ∙ caught_up lines store c.requires in
-    let counted : length c.lines.result.now ≡ c.line_count-count.result =
-    ap length (c.lines.ensures ∙ ap (λ w. lines_after w.base w.log) caught) ∙ sym c.line_count-count.ensures.count in
-    let limit : c.limits-limits.result.lines ≡ store.base.limits.lines =
-    ap (λ limits. limits.lines) c.limits-limits.ensures ∙ ap (λ base. base.limits.lines) c.base-base.ensures in
-    omega (arith, counted, limit, c.line_count-count.ensures.few, c.limits-limits.result.lines_range)
+    let counted : length c.lines.result.now ≡ length (lines_after store.base store.log) =
+    ap length (c.lines.ensures ∙ ap (λ w. lines_after w.base w.log) caught) in
+    omega (arith, counted, c.soundness.ensures.few, store.base.limits.lines_range)

@@ -1,5 +1,5 @@
 use Rattle.std.proofs.Common.{◌≡◌, ◌∙◌, ◌+◌, length, sym, ap}
-use Rattle.ssb_schema.proofs.Checks.{first_fault-drop, first_fault_ends}
+use Rattle.ssb_schema.proofs.CheckLaws.{first_fault-drop, first_fault_ends}
 use Rattle.ssb_schema.proofs.kind.check.Goals as goal
 
 pub returns-in-Some : goal.returns-in-Some

@@ -1,4 +1,4 @@
-use Rattle.ssb_script.proofs.OneReading as law
+use Rattle.ssb_script.proofs.OneReadingLaws as law
 use Rattle.ssb_script.proofs.laws.one_reading.Goals as goal
 
 pub returns : goal.returns

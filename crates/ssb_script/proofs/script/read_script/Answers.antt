@@ -4,7 +4,7 @@ use Rattle.csv.specs.Records.{fields_of}
 use Rattle.ssb_script.specs.Requests.{request_of}
 use Rattle.ssb_script.specs.Steps.{asked, begun_in}
 use Rattle.ssb_script.specs.declared.error.ScriptError.TheVariants.{TooLong}
-use Rattle.ssb_script.proofs.Reading.{
+use Rattle.ssb_script.proofs.ReadingLaws.{
   first_fault,
   found_fault,
   read_more,

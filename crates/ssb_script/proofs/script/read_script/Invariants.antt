@@ -3,7 +3,7 @@ use Rattle.ssb_records.specs.Records.{IsRecordReader}
 use Rattle.ssb_script.specs.Requests.{request_of}
 use Rattle.ssb_script.specs.Scripts.{HasRoom}
 use Rattle.ssb_script.specs.Steps.{begun_in}
-use Rattle.ssb_script.proofs.Reading.{HasReadKnown}
+use Rattle.ssb_script.proofs.ReadingLaws.{HasReadKnown}
 use Rattle.ssb_script.proofs.script.read_script.Given as goal
 
 abbrev pub invariant-loop-before : goal.invariant-loop-before

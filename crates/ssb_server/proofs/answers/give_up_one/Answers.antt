@@ -1,4 +1,4 @@
-use Rattle.ssb_server.proofs.Givings.{may_give_up, gave_one}
+use Rattle.ssb_server.proofs.GivingLaws.{may_give_up, gave_one}
 use Rattle.ssb_server.proofs.answers.give_up_one.Goals as goal
 
 pub answer-requires-clause-request : goal.answer-requires-clause-request

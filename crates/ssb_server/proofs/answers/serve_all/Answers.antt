@@ -4,7 +4,7 @@ use Rattle.history.specs.Tokens.{Token}
 use Rattle.history.specs.declared.request.Outcome.TheVariants.{Served}
 use Rattle.ssb_server.specs.Hand.{Hand, Keeps}
 use Rattle.ssb_server.specs.Turns.{answers_after, Answered}
-use Rattle.ssb_server.proofs.Givings.{popped, gave_none, gave_more, left_keeps, rows_popped, in_hand_of}
+use Rattle.ssb_server.proofs.GivingLaws.{popped, gave_none, gave_more, left_keeps, rows_popped, in_hand_of}
 use Rattle.ssb_server.proofs.answers.serve_all.Goals as goal
 
 pub loop-client-init : goal.loop-client-init

@@ -1,4 +1,4 @@
-use Rattle.ssb_server.proofs.Givings.{may_serve, gave_one}
+use Rattle.ssb_server.proofs.GivingLaws.{may_serve, gave_one}
 use Rattle.ssb_server.proofs.answers.serve_one.Goals as goal
 
 pub answer-requires-clause-request : goal.answer-requires-clause-request

@@ -3,7 +3,7 @@ use Rattle.row_store.specs.declared.commit.Receipt.{Receipt}
 use Rattle.row_store.specs.declared.refusal.RefreshError.{RefreshError}
 use Rattle.history.specs.Tokens.{Token}
 use Rattle.ssb_server.specs.Clients.{Refreshed}
-use Rattle.ssb_server.proofs.Refreshing.{may_put, refreshed}
+use Rattle.ssb_server.proofs.RefreshingLaws.{may_put, refreshed}
 use Rattle.ssb_server.proofs.client.apply.Goals as goal
 
 pub put_rows-requires-clause-rows : goal.put_rows-requires-clause-rows

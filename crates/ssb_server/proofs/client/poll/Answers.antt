@@ -1,4 +1,4 @@
-use Rattle.ssb_server.proofs.Polling.{polled}
+use Rattle.ssb_server.proofs.PollingLaws.{polled}
 use Rattle.ssb_server.proofs.client.poll.Goals as goal
 
 pub returns-clause-polled : goal.returns-clause-polled

@@ -3,7 +3,7 @@ use Rattle.std.specs.Prelude.{All}
 use Rattle.std.proofs.lemmas.List.FromFn.{length-map-range_with_len}
 use Rattle.ssb_server.specs.Tickets.{IsNewClient}
 use Rattle.ssb_server.specs.Opening.{IsNewDispatcher}
-use Rattle.ssb_server.proofs.Seats.{clients_are_new, dispatchers_are_new}
+use Rattle.ssb_server.proofs.SeatLaws.{clients_are_new, dispatchers_are_new}
 use Rattle.ssb_server.proofs.opening.seat_all.Goals as goal
 
 pub clients_of-requires : goal.clients_of-requires

@@ -1,7 +1,7 @@
 use Rattle.std.proofs.Common.{◌∙◌, arith}
 use Rattle.std.proofs.lemmas.Iterator.Consumers.{YieldsList-so_far}
 use Rattle.std.proofs.lemmas.Iterator.Adapters.{YieldsList-from_vec}
-use Rattle.ssb_server.proofs.Snapshots.{prefix_yielded}
+use Rattle.ssb_server.proofs.SnapshotLaws.{prefix_yielded}
 use Rattle.ssb_server.proofs.snapshot.append_all.Goals as goal
 
 pub returns-in-Err : goal.returns-in-Err

@@ -1,7 +1,7 @@
 use Rattle.std.proofs.Common.{◌++◌, sym}
 use Rattle.std.specs.Prelude.{MatchResult}
 use Rattle.ssb_server.specs.Turns.{Knows, StandsAt, Misses, Follows}
-use Rattle.ssb_server.proofs.Snapshots.{fetched_all, taken_follows, knows_later, same_base, along}
+use Rattle.ssb_server.proofs.SnapshotLaws.{fetched_all, taken_follows, knows_later, same_base, along}
 use Rattle.ssb_server.proofs.snapshot.bring_up.Goals as goal
 
 pub fetch-requires-clause-taken : goal.fetch-requires-clause-taken

@@ -2,7 +2,7 @@ use Rattle.std.proofs.Common.{◌++◌, ◌∙◌, sym, subst}
 use Rattle.std.specs.Prelude.{MatchResult}
 use Rattle.twin_cell.specs.Twin.{Writing}
 use Rattle.ssb_server.specs.Turns.{Knows, StandsAt, Misses, Follows}
-use Rattle.ssb_server.proofs.Snapshots.{renewed_follows, renewed_is}
+use Rattle.ssb_server.proofs.SnapshotLaws.{renewed_follows, renewed_is}
 use Rattle.ssb_server.proofs.snapshot.catch_up.Goals as goal
 
 pub returns-then-is_err-clause-writer : goal.returns-then-is_err-clause-writer

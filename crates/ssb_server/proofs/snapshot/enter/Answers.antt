@@ -1,6 +1,6 @@
 use Rattle.std.proofs.Common.{◌∙◌, ap, sym}
 use Rattle.row_store.specs.State.{State}
-use Rattle.ssb_server.proofs.Snapshots.{stands_at, left_knows}
+use Rattle.ssb_server.proofs.SnapshotLaws.{stands_at, left_knows}
 use Rattle.ssb_server.proofs.snapshot.enter.Goals as goal
 
 pub returns-clause-entered : goal.returns-clause-entered

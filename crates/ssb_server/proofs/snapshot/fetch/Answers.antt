@@ -1,4 +1,4 @@
-use Rattle.ssb_server.proofs.Snapshots.{within_seen}
+use Rattle.ssb_server.proofs.SnapshotLaws.{within_seen}
 use Rattle.ssb_server.proofs.snapshot.fetch.Goals as goal
 
 pub log_from-requires : goal.log_from-requires

@@ -1,4 +1,4 @@
-use Rattle.ssb_server.proofs.Snapshots.{first_follows, renews}
+use Rattle.ssb_server.proofs.SnapshotLaws.{first_follows, renews}
 use Rattle.ssb_server.proofs.snapshot.renew.Goals as goal
 
 pub returns-in-Ok : goal.returns-in-Ok

@@ -3,7 +3,7 @@ use Rattle.std.specs.Prelude.{MatchResult}
 use Rattle.row_store.specs.History.{lines_after}
 use Rattle.history.specs.Tokens.{Token}
 use Rattle.ssb_server.specs.Turns.{StandsAt, Misses}
-use Rattle.ssb_server.proofs.Snapshots.{
+use Rattle.ssb_server.proofs.SnapshotLaws.{
   dispatcher_with,
   dispatcher_fetched,
   taken_with,

@@ -2,7 +2,7 @@ use Rattle.std.proofs.Common.{◌≡◌, ◌∙◌, ◌≤◌, sym, subst, ap, S
 use Rattle.std.specs.Prelude.{IfOk}
 use Rattle.history.specs.Tokens.{Hall}
 use Rattle.ssb_server.specs.Turns.{answers_after, Knows}
-use Rattle.ssb_server.proofs.Turning.{
+use Rattle.ssb_server.proofs.TurningLaws.{
   is_copy,
   copy_stands,
   copy_base,

@@ -1,5 +1,5 @@
 use Rattle.std.proofs.Common.{arith}
-use Rattle.ssb_server.proofs.Turning.{turned, dispatcher_grabbed, nothing_grabbed, knows_grabbed}
+use Rattle.ssb_server.proofs.TurningLaws.{turned, dispatcher_grabbed, nothing_grabbed, knows_grabbed}
 use Rattle.ssb_server.proofs.turn.take_turn.Goals as goal
 
 pub serve-served-requires-clause-dispatcher : goal.serve-served-requires-clause-dispatcher

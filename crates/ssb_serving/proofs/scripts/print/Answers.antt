@@ -2,8 +2,8 @@ use Rattle.std.proofs.Common.{◌∙◌, map, sym}
 use Rattle.std.specs.Io.KnownBytes.{Appends}
 use Rattle.ssb_report.proofs.WrittenLaws.{part_of_short}
 use Rattle.ssb_serving.specs.Served.{run_text}
-use Rattle.ssb_files.proofs.Flushed.{appended_kept, appended_whole}
-use Rattle.ssb_files.proofs.Results.{is_ok_of, is_err_of}
+use Rattle.ssb_files.proofs.FlushedLaws.{appended_kept, appended_whole}
+use Rattle.ssb_files.proofs.ResultLaws.{is_ok_of, is_err_of}
 use Rattle.ssb_serving.proofs.scripts.print.Goals as goal
 
 pub returns-in-Err-clause-printed : goal.returns-in-Err-clause-printed

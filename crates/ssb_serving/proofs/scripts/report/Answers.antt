@@ -1,5 +1,5 @@
 use Rattle.std.proofs.Common.{◌≡◌, Err, inr, map, rules}
-use Rattle.ssb_files.proofs.Results.{err_then, ok_then}
+use Rattle.ssb_files.proofs.ResultLaws.{err_then, ok_then}
 use Rattle.ssb_serving.proofs.scripts.report.Goals as goal
 
 pub returns-in_err-run-clause-refused : goal.returns-in_err-run-clause-refused

@@ -1,7 +1,7 @@
 use Rattle.std.proofs.Common.{◌≡◌, Err, map, rules}
 use Rattle.std.specs.Option.{option_and_then}
 use Rattle.ssb_serving.specs.Served.{AreToldInPart}
-use Rattle.ssb_files.proofs.Flushed.{nothing_part}
+use Rattle.ssb_files.proofs.FlushedLaws.{nothing_part}
 use Rattle.ssb_serving.proofs.scripts.tell_run.Goals as goal
 
 pub returns-in_err-print-clause-part : goal.returns-in_err-print-clause-part

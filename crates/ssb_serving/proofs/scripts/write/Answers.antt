@@ -2,8 +2,8 @@ use Rattle.std.proofs.Common.{◌∙◌, sym}
 use Rattle.std.specs.Io.KnownBytes.{Appends}
 use Rattle.ssb_report.proofs.WrittenLaws.{part_of_short}
 use Rattle.ssb_trace.specs.TraceText.{trace_text}
-use Rattle.ssb_files.proofs.Flushed.{appended_kept, appended_whole}
-use Rattle.ssb_files.proofs.Results.{from_ok, from_err}
+use Rattle.ssb_files.proofs.FlushedLaws.{appended_kept, appended_whole}
+use Rattle.ssb_files.proofs.ResultLaws.{from_ok, from_err}
 use Rattle.ssb_serving.proofs.scripts.write.Goals as goal
 
 pub returns-in-Err-clause-kept : goal.returns-in-Err-clause-kept

@@ -4,7 +4,7 @@ use Rattle.ssb_plans.specs.Queries.{standard_constants}
 use Rattle.ssb_plans.specs.QuestionEq.{question_eq}
 use Rattle.ssb_plans.specs.declared.query.Query.{Query}
 use Rattle.ssb_plans.specs.declared.value.Value.{Value}
-use Rattle.ssb_plans.proofs.QuestionLemmas.{question_Decides}
+use Rattle.ssb_plans.proofs.QuestionLaws.{question_Decides}
 use Rattle.ssb_trace.specs.TraceText.{written_constants}
 use Rattle.ssb_trace.proofs.answers.write_constants.Goals as goal
 

@@ -1,5 +1,5 @@
-use Rattle.ssb_trace_laws.proofs.AnsweredRows as answered
-use Rattle.ssb_trace_laws.proofs.LegalTraces as law
+use Rattle.ssb_trace_laws.proofs.AnsweredRowLaws as answered
+use Rattle.ssb_trace_laws.proofs.LegalTraceLaws as law
 use Rattle.ssb_trace_laws.proofs.laws.legal_traces_are_allowed.Goals as goal
 
 pub returns : goal.returns

@@ -1,4 +1,4 @@
-use Rattle.ssb_trace_read.proofs.OneReading as law
+use Rattle.ssb_trace_read.proofs.OneReadingLaws as law
 use Rattle.ssb_trace_read.proofs.laws.one_reading.Goals as goal
 
 pub returns : goal.returns

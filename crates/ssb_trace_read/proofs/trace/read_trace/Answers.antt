@@ -1,7 +1,7 @@
 use Rattle.std.proofs.Common.{◌≡◌, ◌≤◌, ◌<◌, ◌+◌, refl, inl, inr, rules, arith, Err}
 use Rattle.std.proofs.lemmas.Result.{err_from_is_err_and}
 use Rattle.csv.specs.Records.{fields_of}
-use Rattle.ssb_trace_read.proofs.Reading.{
+use Rattle.ssb_trace_read.proofs.ReadingLaws.{
   found_fault,
   read_more,
   read_nothing,

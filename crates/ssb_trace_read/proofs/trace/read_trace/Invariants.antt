@@ -1,6 +1,6 @@
 use Rattle.ssb_records.specs.Records.{IsRecordReader}
 use Rattle.ssb_trace_read.specs.Blocks.{IsUnfinished}
-use Rattle.ssb_trace_read.proofs.Reading.{HasReadKnown}
+use Rattle.ssb_trace_read.proofs.ReadingLaws.{HasReadKnown}
 use Rattle.ssb_trace_read.proofs.trace.read_trace.Given as goal
 
 abbrev pub invariant-loop-before : goal.invariant-loop-before

@@ -1,4 +1,4 @@
-use Rattle.twin_cell.proofs.Copies.{told_number_is_told_list}
+use Rattle.twin_cell.proofs.CopyLaws.{told_number_is_told_list}
 use Rattle.twin_cell.proofs.laws.told_number_is_told_list.Goals as goal
 
 pub returns : goal.returns

@@ -1,4 +1,4 @@
-use Rattle.twin_cell.proofs.Kept.{admits}
+use Rattle.twin_cell.proofs.KeptLaws.{admits}
 use Rattle.twin_cell.proofs.note.new_seat.Goals as goal
 
 pub reader-requires : goal.reader-requires

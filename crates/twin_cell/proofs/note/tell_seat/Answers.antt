@@ -1,4 +1,4 @@
-use Rattle.twin_cell.proofs.Kept.{forks, merges}
+use Rattle.twin_cell.proofs.KeptLaws.{forks, merges}
 use Rattle.twin_cell.proofs.note.tell_seat.Goals as goal
 
 pub tell-requires : goal.tell-requires

@@ -1,4 +1,4 @@
-use Rattle.twin_cell.proofs.Kept.{enters}
+use Rattle.twin_cell.proofs.KeptLaws.{enters}
 use Rattle.twin_cell.proofs.reader.try_enter.Goals as goal
 
 pub enter_as-requires : goal.enter_as-requires

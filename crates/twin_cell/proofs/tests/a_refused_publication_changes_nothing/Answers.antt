@@ -1,7 +1,7 @@
 use Rattle.std.proofs.Common.{rules, ◌≡◌, ◌++◌, refl, ap, ◌∙◌}
 use Rattle.twin_cell.specs.Twin.{Writing}
-use Rattle.twin_cell.proofs.Prefixes.{prefix_moved}
-use Rattle.row_store.proofs.Prefixes.{prefix_append}
+use Rattle.twin_cell.proofs.PrefixLaws.{prefix_moved}
+use Rattle.row_store.proofs.PrefixLaws.{prefix_append}
 use Rattle.twin_cell.proofs.tests.a_refused_publication_changes_nothing.Goals as goal
 
 pub tell-requires-clause-told : goal.tell-requires-clause-told

@@ -1,6 +1,6 @@
 use Rattle.std.proofs.Common.{rules, ◌≡◌, refl}
-use Rattle.twin_cell.proofs.Prefixes.{prefix_moved}
-use Rattle.row_store.proofs.Prefixes.{beginnings_chain}
+use Rattle.twin_cell.proofs.PrefixLaws.{prefix_moved}
+use Rattle.row_store.proofs.PrefixLaws.{beginnings_chain}
 use Rattle.twin_cell.proofs.tests.an_entered_copy_stays_as_it_is.Goals as goal
 
 pub tell-requires-clause-told : goal.tell-requires-clause-told

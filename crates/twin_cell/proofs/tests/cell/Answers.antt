@@ -1,8 +1,8 @@
 use Rattle.std.proofs.Common.{rules, ◌≡◌, [], Option, Some, IfSome, refl, ap, subst}
 use Rattle.std.proofs.lemmas.List.Elements.{All-pop}
 use Rattle.twin_cell.specs.Twin.{Known}
-use Rattle.twin_cell.proofs.Prefixes.{prefix_moved}
-use Rattle.row_store.proofs.Prefixes.{prefix_empty}
+use Rattle.twin_cell.proofs.PrefixLaws.{prefix_moved}
+use Rattle.row_store.proofs.PrefixLaws.{prefix_empty}
 use Rattle.twin_cell.proofs.tests.cell.Goals as goal
 
 pub returns-clause-told : goal.returns-clause-told

@@ -1,6 +1,6 @@
 use Rattle.std.proofs.Common.{rules, ◌≡◌, [], ◌∷◌, ◌++◌}
-use Rattle.twin_cell.proofs.Prefixes.{prefix_moved}
-use Rattle.row_store.proofs.Prefixes.{prefix_longer}
+use Rattle.twin_cell.proofs.PrefixLaws.{prefix_moved}
+use Rattle.row_store.proofs.PrefixLaws.{prefix_longer}
 use Rattle.twin_cell.proofs.tests.published_commits_are_seen.Goals as goal
 
 pub tell-requires-clause-told : goal.tell-requires-clause-told

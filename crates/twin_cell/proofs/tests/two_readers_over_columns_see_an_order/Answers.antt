@@ -1,6 +1,6 @@
 use Rattle.std.proofs.Common.{refl}
-use Rattle.twin_cell.proofs.Prefixes.{prefix_moved}
-use Rattle.row_store.proofs.Prefixes.{prefix_empty}
+use Rattle.twin_cell.proofs.PrefixLaws.{prefix_moved}
+use Rattle.row_store.proofs.PrefixLaws.{prefix_empty}
 use Rattle.twin_cell.proofs.tests.two_readers_over_columns_see_an_order.Goals as goal
 
 pub tell-requires-clause-told : goal.tell-requires-clause-told

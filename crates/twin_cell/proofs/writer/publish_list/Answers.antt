@@ -1,6 +1,6 @@
 use Rattle.std.proofs.Common.{◌∙◌, ap, fold}
 use Rattle.row_store.specs.State.{state_after}
-use Rattle.twin_cell.proofs.Kept.{publishes}
+use Rattle.twin_cell.proofs.KeptLaws.{publishes}
 use Rattle.twin_cell.proofs.writer.publish_list.Goals as goal
 
 pub publish_as-requires : goal.publish_as-requires

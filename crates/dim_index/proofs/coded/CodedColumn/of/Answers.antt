@@ -6,12 +6,12 @@ use Rattle.dim_index.proofs.CodeLaws.{coded_none, coded_more}
 use Rattle.dim_index.proofs.coded.CodedColumn.of.Goals as goal
 
 pub loop-row-init : goal.loop-row-init
-loop-row-init g c = coded_none (map (g.T.DimensionRow.value_of c.args.place) c.args.rows.now) c.new-dictionary.result
+loop-row-init g c = coded_none (map (g.F.QueryFields.value_of c.args.place) c.args.rows.now) c.new-dictionary.result
     c.reserve.new.self.items c.new-dictionary.ensures (c.reserve.ensures.items ∙ c.new-codes.ensures.items)
 
 pub loop-row-preserved : goal.loop-row-preserved
 loop-row-preserved g c =
-    let value = g.T.DimensionRow.value_of c.args.place in
+    let value = g.F.QueryFields.value_of c.args.place in
     let rows = c.args.rows.now in
     let i = c.loop-row.row-index in
     let v : Value = column_value c.value.result in

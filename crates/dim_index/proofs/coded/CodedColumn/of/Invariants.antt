@@ -3,5 +3,5 @@ use Rattle.dim_index.proofs.CodeLaws.{CodedUpTo}
 use Rattle.dim_index.proofs.coded.CodedColumn.of.Given as goal
 
 abbrev pub invariant-loop-row : goal.invariant-loop-row
-invariant-loop-row g l = CodedUpTo (map (g.T.DimensionRow.value_of l.place) l.rows) l.row-index l.dictionary
+invariant-loop-row g l = CodedUpTo (map (g.F.QueryFields.value_of l.place) l.rows) l.row-index l.dictionary
     l.codes.items

@@ -1,5 +1,5 @@
 use Rattle.std.proofs.Common.{sym, ap, ◌∙◌, Some}
-use Rattle.ssb_plans.proofs.ValueLemmas.{value_Decides}
+use Rattle.ssb_plans.proofs.ValueLaws.{value_Decides}
 use Rattle.dim_index.proofs.dictionary.Dictionary.enter.Goals as goal
 use Rattle.dim_index.proofs.dictionary.Dictionary.enter.Goals.{in-Ok, in-Err}
 

@@ -19,8 +19,8 @@ invariant_of-self-2 c =
     let old : All (IsPlaceOf dimensions) c.reserve.new.self.places =
     All-same (IsPlaceOf dimensions) _ _ c.reserve.ensures.places c.self.invariant.within in
     record {
-      spanned = c.act_all-freed.ensures.spanned;
-      counted = omega (arith, before, c.self.invariant.counted, c.act_all-freed.ensures.count);
-      within = c.act_all-freed.ensures.inside dimensions fresh old;
-      few = omega (arith, c.act_all-freed.ensures.len, ap length c.reserve.ensures.places);
+      spanned = c.apply_actions-freed.ensures.spanned;
+      counted = omega (arith, before, c.self.invariant.counted, c.apply_actions-freed.ensures.count);
+      within = c.apply_actions-freed.ensures.inside dimensions fresh old;
+      few = omega (arith, c.apply_actions-freed.ensures.len, ap length c.reserve.ensures.places);
     }

@@ -1,5 +1,5 @@
 use Rattle.std.proofs.Common.{arith, ◌<◌, ◌∙◌, vec_len}
-use Rattle.fact_table.proofs.PlaceLists.{long, alike_long, element, read_at}
+use Rattle.fact_table.proofs.PlaceListLaws.{long, alike_long, element, read_at}
 use Rattle.fact_table.proofs.table.Table.at.Goals as goal
 
 pub index-requires : goal.index-requires

@@ -2,7 +2,7 @@ use Rattle.std.proofs.Common.{arith, ◌<◌, ◌∙◌, ap, set, vec_len}
 use Rattle.fact_table.specs.declared.place.Place.{Place}
 use Rattle.fact_table.specs.Places.{freed}
 use Rattle.fact_table.specs.Columns.{Held, place_at}
-use Rattle.fact_table.proofs.PlaceLists.{long, alike_long, free_place, read_at}
+use Rattle.fact_table.proofs.PlaceListLaws.{long, alike_long, free_place, read_at}
 use Rattle.fact_table.proofs.table.Table.free.Goals as goal
 
 pub index_mut-requires : goal.index_mut-requires

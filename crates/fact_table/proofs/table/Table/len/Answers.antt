@@ -1,5 +1,5 @@
 use Rattle.std.proofs.Common.{rules}
-use Rattle.fact_table.proofs.PlaceLists.{long}
+use Rattle.fact_table.proofs.PlaceListLaws.{long}
 use Rattle.fact_table.proofs.table.Table.len.Goals as goal
 
 pub returns : goal.returns

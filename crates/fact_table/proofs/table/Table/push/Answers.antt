@@ -1,7 +1,7 @@
 use Rattle.std.proofs.Common.{◌≡◌, ◌+◌, ◌++◌, [], ◌∷◌, ◌∙◌, ap, map, vec_len}
 use Rattle.std.specs.List.{range_with_len}
 use Rattle.fact_table.specs.Columns.{Held, place_at}
-use Rattle.fact_table.proofs.PlaceLists.{alike_long, push_places}
+use Rattle.fact_table.proofs.PlaceListLaws.{alike_long, push_places}
 use Rattle.fact_table.proofs.table.Table.push.Goals as goal
 
 pub returns-clause-places : goal.returns-clause-places

@@ -1,7 +1,7 @@
 use Rattle.std.proofs.Common.{refl, ◌∙◌, ap, map, vec_len}
 use Rattle.fact_table.specs.declared.place.Place.{Place}
 use Rattle.fact_table.specs.Columns.{Held, place_at}
-use Rattle.fact_table.proofs.PlaceLists.{alike_long, column_of}
+use Rattle.fact_table.proofs.PlaceListLaws.{alike_long, column_of}
 use Rattle.fact_table.proofs.table.Table.slices.Goals as goal
 
 pub returns : goal.returns

@@ -1,6 +1,6 @@
 use Rattle.std.proofs.Common.{arith, ◌∙◌, ap, set, vec_len}
 use Rattle.fact_table.specs.Columns.{Held}
-use Rattle.fact_table.proofs.PlaceLists.{long, alike_long, write_places}
+use Rattle.fact_table.proofs.PlaceListLaws.{long, alike_long, write_places}
 use Rattle.fact_table.proofs.table.Table.write.Goals as goal
 
 pub index_mut-requires : goal.index_mut-requires

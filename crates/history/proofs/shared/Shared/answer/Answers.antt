@@ -6,9 +6,9 @@ use Rattle.history.specs.Plays.{request_at, without_at, served}
 use Rattle.history.specs.Seats.{turns}
 use Rattle.history.specs.Tokens.{Token, Hall, Answers}
 use Rattle.history.specs.Passes.{token}
-use Rattle.history.proofs.Splitting.{in_front}
-use Rattle.history.proofs.Passing.{passed, is_behind, dispatcher_carries, answered_seated}
-use Rattle.history.proofs.Answering.{
+use Rattle.history.proofs.SplittingLaws.{in_front}
+use Rattle.history.proofs.PassingLaws.{passed, is_behind, dispatcher_carries, answered_seated}
+use Rattle.history.proofs.AnsweringLaws.{
   places,
   in_hand,
   found_of,

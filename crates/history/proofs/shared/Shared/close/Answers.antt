@@ -7,7 +7,7 @@ use Rattle.history.specs.Seats.{members_of, AreAll, IsClosed}
 use Rattle.history.specs.Tokens.{Hall, Token}
 use Rattle.history.specs.Closing.{IsClientOf, IsDispatcherOf, members_in, terms_in}
 use Rattle.history.specs.Passes.{hall_of}
-use Rattle.history.proofs.Handing.{
+use Rattle.history.proofs.HandingLaws.{
   none_left,
   handed_first,
   handed_more,

@@ -3,7 +3,7 @@ use Rattle.std.specs.Prelude.{All}
 use Rattle.history.specs.Seats.{IsToken, members_of}
 use Rattle.history.specs.Closing.{IsClientOf, IsDispatcherOf, members_in}
 use Rattle.history.specs.Passes.{hall_of}
-use Rattle.history.proofs.Closing.{HoldsNothing}
+use Rattle.history.proofs.ClosingLaws.{HoldsNothing}
 use Rattle.history.proofs.shared.Shared.close.Given as goal
 
 abbrev pub invariant-loop-pass : goal.invariant-loop-pass

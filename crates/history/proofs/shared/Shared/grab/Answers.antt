@@ -1,8 +1,8 @@
 use Rattle.std.proofs.Common.{◌-◌, ap, subst, ◌∙◌, arith}
 use Rattle.history.specs.Tokens.{Token, Hall, Grabs}
 use Rattle.history.specs.Passes.{token}
-use Rattle.history.proofs.Passing.{passed, grabbed_token}
-use Rattle.history.proofs.Answering.{has_room}
+use Rattle.history.proofs.PassingLaws.{passed, grabbed_token}
+use Rattle.history.proofs.AnsweringLaws.{has_room}
 use Rattle.history.proofs.shared.Shared.grab.Goals as goal
 
 pub insert-requires : goal.insert-requires

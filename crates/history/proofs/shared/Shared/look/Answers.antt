@@ -1,7 +1,7 @@
 use Rattle.std.proofs.Common.{length, ap, sym, subst, ◌∙◌}
 use Rattle.history.specs.Tokens.{Saw}
 use Rattle.history.specs.Passes.{token}
-use Rattle.history.proofs.Passing.{passed, looked_seated, saw_token}
+use Rattle.history.proofs.PassingLaws.{passed, looked_seated, saw_token}
 use Rattle.history.proofs.shared.Shared.look.Goals as goal
 
 pub invariant_of-pass : goal.invariant_of-pass

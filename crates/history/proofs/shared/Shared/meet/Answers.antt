@@ -4,7 +4,7 @@ use Rattle.row_store.specs.History.{IsPrefix}
 use Rattle.history.specs.Plays.{Learns, looked}
 use Rattle.history.specs.Tokens.{Saw}
 use Rattle.history.specs.Passes.{token}
-use Rattle.history.proofs.Passing.{passed, looked_seated, saw_token}
+use Rattle.history.proofs.PassingLaws.{passed, looked_seated, saw_token}
 use Rattle.history.proofs.shared.Shared.meet.Goals as goal
 
 pub look-other-inside-requires-clause-token : goal.look-other-inside-requires-clause-token

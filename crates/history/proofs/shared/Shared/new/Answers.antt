@@ -6,7 +6,7 @@ use Rattle.history.specs.Rule.{terms_of}
 use Rattle.history.specs.World.{who_at}
 use Rattle.history.specs.Tokens.{new_token}
 use Rattle.history.specs.Passes.{hall_of}
-use Rattle.history.proofs.Worlds.{who_client, who_dispatcher}
+use Rattle.history.proofs.WorldLaws.{who_client, who_dispatcher}
 use Rattle.history.proofs.shared.Shared.new.Goals as goal
 
 pub loop-place-preserved : goal.loop-place-preserved

@@ -4,8 +4,8 @@ use Rattle.history.specs.Words.{request}
 use Rattle.history.specs.Plays.{posted}
 use Rattle.history.specs.Tokens.{Token, Hall}
 use Rattle.history.specs.Tokens as public
-use Rattle.history.proofs.Splitting.{in_front}
-use Rattle.history.proofs.Passing.{is_before, box_in_front, posted_seated, posted_token}
+use Rattle.history.proofs.SplittingLaws.{in_front}
+use Rattle.history.proofs.PassingLaws.{is_before, box_in_front, posted_seated, posted_token}
 use Rattle.history.proofs.shared.Shared.post.Goals as goal
 
 pub post-requires-clause-table : goal.post-requires-clause-table

@@ -1,7 +1,7 @@
 use Rattle.std.proofs.Common.{◌≡◌, true, ap, sym, subst, ◌∙◌}
 use Rattle.history.specs.Tokens.{MayPut, Put}
 use Rattle.history.specs.Passes.{IsSeated, token}
-use Rattle.history.proofs.Passing.{passed, put_seated, put_token, put_adds}
+use Rattle.history.proofs.PassingLaws.{passed, put_seated, put_token, put_adds}
 use Rattle.history.proofs.shared.Shared.put_rows.Goals.{then-length-pass, else-length-pass}
 use Rattle.history.proofs.shared.Shared.put_rows.Goals as goal
 

@@ -2,7 +2,7 @@ use Rattle.std.proofs.Common.{ap, sym, subst, ◌∙◌}
 use Rattle.row_store.specs.History.{IsPrefix}
 use Rattle.history.specs.Tokens.{Token}
 use Rattle.history.specs.Tokens as public
-use Rattle.history.proofs.Passing.{is_behind, writer_back_seated, writer_back_token}
+use Rattle.history.proofs.PassingLaws.{is_behind, writer_back_seated, writer_back_token}
 use Rattle.history.proofs.shared.Shared.put_writer.Goals as goal
 
 pub put_writer-requires-clause-writer : goal.put_writer-requires-clause-writer

@@ -2,7 +2,7 @@ use Rattle.std.proofs.Common.{◌≡◌, false, length, ap, sym, subst, ◌∙�
 use Rattle.history.specs.Words.{store}
 use Rattle.history.specs.Tokens.{Took}
 use Rattle.history.specs.Passes.{token}
-use Rattle.history.proofs.Passing.{passed, took_seated, took_token}
+use Rattle.history.proofs.PassingLaws.{passed, took_seated, took_token}
 use Rattle.history.proofs.shared.Shared.take_rows.Goals as goal
 
 pub invariant_of-pass : goal.invariant_of-pass

@@ -1,7 +1,7 @@
 use Rattle.std.proofs.Common.{ap, ◌∙◌}
 use Rattle.history.specs.Tokens.{Token}
 use Rattle.history.specs.Tokens as public
-use Rattle.history.proofs.Passing.{is_behind, writer_taken_seated, writer_taken_token}
+use Rattle.history.proofs.PassingLaws.{is_behind, writer_taken_seated, writer_taken_token}
 use Rattle.history.proofs.shared.Shared.take_writer.Goals as goal
 
 pub take_writer-requires-clause-token : goal.take_writer-requires-clause-token

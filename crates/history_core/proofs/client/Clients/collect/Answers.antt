@@ -4,7 +4,7 @@ use Rattle.std.specs.Option.{option_map}
 use Rattle.history_core.specs.declared.client.Client.{Client}
 use Rattle.history_core.specs.Mailboxes.{collected_of}
 use Rattle.history_core.specs.MailboxView.{mailbox_in, left_by}
-use Rattle.history_core.proofs.Renewals.{renewed_write, renewed_nowhere, numbered_read, numbered_nowhere}
+use Rattle.history_core.proofs.RenewalLaws.{renewed_write, renewed_nowhere, numbered_read, numbered_nowhere}
 use Rattle.history_core.proofs.client.Clients.collect.Goals as goal
 
 pub returns-in-Some-clause-left : goal.returns-in-Some-clause-left

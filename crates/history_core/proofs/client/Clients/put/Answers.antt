@@ -1,7 +1,7 @@
 use Rattle.std.proofs.Common.{rules, ◌≡◌, ◌∙◌, ap, length}
 use Rattle.std.specs.Prelude.{slice_set}
 use Rattle.history_core.specs.declared.client.Client.{Client}
-use Rattle.history_core.proofs.Renewals.{renewed_write, renewed_nowhere}
+use Rattle.history_core.proofs.RenewalLaws.{renewed_write, renewed_nowhere}
 use Rattle.history_core.proofs.client.Clients.put.Goals as goal
 
 pub returns-in-Some : goal.returns-in-Some

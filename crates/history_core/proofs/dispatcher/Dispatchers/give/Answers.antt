@@ -1,7 +1,7 @@
 use Rattle.std.proofs.Common.{rules, ◌≡◌, ◌∙◌, ◌++◌, ◌∷◌, [], length, ap}
 use Rattle.std.specs.Prelude.{slice_set}
 use Rattle.history_core.specs.declared.dispatcher.Dispatcher.{Dispatcher}
-use Rattle.history_core.proofs.Renewals.{renewed_write, renewed_nowhere}
+use Rattle.history_core.proofs.RenewalLaws.{renewed_write, renewed_nowhere}
 use Rattle.history_core.proofs.dispatcher.Dispatchers.give.Goals as goal
 
 pub returns-in_ok-push-clause-gave : goal.returns-in_ok-push-clause-gave

@@ -1,7 +1,7 @@
 use Rattle.std.proofs.Common.{sym, ◌∙◌}
 use Rattle.history_core.specs.World.{commit_by}
 use Rattle.history_core.specs.Applying.{applied}
-use Rattle.history_core.proofs.Grown.{grown_kept, applied_grown}
+use Rattle.history_core.proofs.GrownLaws.{grown_kept, applied_grown}
 use Rattle.history_core.proofs.world.World.apply.Goals as goal
 
 pub invariant_of-self-2 : goal.invariant_of-self-2

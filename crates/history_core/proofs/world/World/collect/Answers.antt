@@ -5,7 +5,7 @@ use Rattle.history_core.specs.View.{world_in, client_in, ClientsFit}
 use Rattle.history_core.specs.MailboxView.{left_by}
 use Rattle.history_core.specs.Mailboxes.{left_in, collected_of}
 use Rattle.history_core.specs.World.{World, with_client, mailbox_of}
-use Rattle.history_core.proofs.Views.{clients_kept, client_left, mailbox_shown}
+use Rattle.history_core.proofs.ViewLaws.{clients_kept, client_left, mailbox_shown}
 use Rattle.history_core.proofs.world.World.collect.Goals as goal
 
 pub invariant_of-self : goal.invariant_of-self

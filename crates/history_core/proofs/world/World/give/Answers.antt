@@ -2,7 +2,7 @@ use Rattle.std.proofs.Common.{◌++◌, ◌∷◌, [], ap, sym, subst, ◌∙◌
 use Rattle.std.specs.Prelude.{map}
 use Rattle.history_core.specs.View.{world_in, outcome_of, dispatcher_in, DispatchersFit}
 use Rattle.history_core.specs.World.{World, with_dispatcher, gave}
-use Rattle.history_core.proofs.Views.{dispatchers_kept, dispatcher_gave}
+use Rattle.history_core.proofs.ViewLaws.{dispatchers_kept, dispatcher_gave}
 use Rattle.history_core.proofs.world.World.give.Goals as goal
 
 pub invariant_of-self-2 : goal.invariant_of-self-2

@@ -3,7 +3,7 @@ use Rattle.std.specs.Prelude.{map}
 use Rattle.history_core.specs.Numbered.{renewed}
 use Rattle.history_core.specs.View.{world_in, dispatcher_in, DispatchersFit}
 use Rattle.history_core.specs.World.{World, with_dispatcher}
-use Rattle.history_core.proofs.Views.{dispatchers_kept, dispatcher_marked}
+use Rattle.history_core.proofs.ViewLaws.{dispatchers_kept, dispatcher_marked}
 use Rattle.history_core.proofs.world.World.mark.Goals as goal
 
 pub invariant_of-self : goal.invariant_of-self

@@ -2,7 +2,7 @@ use Rattle.std.proofs.Common.{refl, ap, sym, ◌∙◌, [], None}
 use Rattle.ssb_schema.specs.Base.{Tables}
 use Rattle.row_store.specs.History.{Warehouse}
 use Rattle.history_core.specs.declared.world.World.TheInside.{Inside}
-use Rattle.history_core.proofs.Opening.{opening_kept, opening_shown}
+use Rattle.history_core.proofs.OpeningLaws.{opening_kept, opening_shown}
 use Rattle.history_core.proofs.world.World.opening.Goals as goal
 
 pub invariant_of-result : goal.invariant_of-result

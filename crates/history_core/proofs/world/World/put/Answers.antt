@@ -3,7 +3,7 @@ use Rattle.std.specs.Prelude.{map}
 use Rattle.history_core.specs.View.{world_in, client_in, ClientsFit}
 use Rattle.history_core.specs.MailboxView.{mailbox_in}
 use Rattle.history_core.specs.World.{World, into_mailbox}
-use Rattle.history_core.proofs.Views.{clients_kept, client_put}
+use Rattle.history_core.proofs.ViewLaws.{clients_kept, client_put}
 use Rattle.history_core.proofs.world.World.put.Goals as goal
 
 pub invariant_of-self : goal.invariant_of-self

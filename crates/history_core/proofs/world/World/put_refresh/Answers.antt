@@ -3,7 +3,7 @@ use Rattle.history_core.specs.declared.event.Reply.{Reply}
 use Rattle.history_core.specs.declared.event.Who.TheVariants.{Client}
 use Rattle.row_store.specs.Refusals.{refusal_of}
 use Rattle.history_core.specs.World.{World, putting_rows, seen_by}
-use Rattle.history_core.proofs.Effects.{commits}
+use Rattle.history_core.proofs.EffectLaws.{commits}
 use Rattle.history_core.proofs.world.World.put_refresh.Goals as goal
 
 pub returns-clause-stepped : goal.returns-clause-stepped

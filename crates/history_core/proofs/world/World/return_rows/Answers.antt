@@ -1,7 +1,7 @@
 use Rattle.std.proofs.Common.{Some, length, ap, sym, ◌∙◌}
 use Rattle.history_core.specs.declared.event.Reply.TheVariants.{Done}
 use Rattle.history_core.specs.World.{World, is_known, holds_rows, with_dispatcher}
-use Rattle.history_core.proofs.Effects.{returned}
+use Rattle.history_core.proofs.EffectLaws.{returned}
 use Rattle.history_core.proofs.world.World.return_rows.Goals as goal
 
 pub returns-in-Dispatcher : goal.returns-in-Dispatcher

@@ -3,7 +3,7 @@ use Rattle.std.specs.Prelude.{map}
 use Rattle.history_core.specs.Events.{event_of}
 use Rattle.history_core.specs.World.{step_of}
 use Rattle.history_core.specs.Runs.{HasRun}
-use Rattle.history_core.proofs.Running.{run_next, true_from_opening, true_at_end, true_before}
+use Rattle.history_core.proofs.RunningLaws.{run_next, true_from_opening, true_at_end, true_before}
 use Rattle.history_core.proofs.world.World.run.Goals as goal
 
 pub returns-in_default-clause-true_stop : goal.returns-in_default-clause-true_stop

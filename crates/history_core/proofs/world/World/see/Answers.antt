@@ -4,7 +4,7 @@ use Rattle.history_core.specs.Numbered.{renewed}
 use Rattle.history_core.specs.View.{world_in, client_in, dispatcher_in, ClientsFit, DispatchersFit}
 use Rattle.history_core.specs.World.{World, seen_by}
 use Rattle.history_core.specs.declared.event.Who.TheVariants.{Client, Dispatcher}
-use Rattle.history_core.proofs.Views.{clients_kept, dispatchers_kept, client_saw, dispatcher_saw}
+use Rattle.history_core.proofs.ViewLaws.{clients_kept, dispatchers_kept, client_saw, dispatcher_saw}
 use Rattle.history_core.proofs.world.World.see.Goals as goal
 
 pub invariant_of-self : goal.invariant_of-self

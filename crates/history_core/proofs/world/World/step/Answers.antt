@@ -1,7 +1,7 @@
 use Rattle.std.proofs.Common.{ap, sym, ◌∙◌}
 use Rattle.history_core.specs.Events.{event_of}
 use Rattle.history_core.specs.World.{step_of}
-use Rattle.history_core.proofs.Effects.{collects}
+use Rattle.history_core.proofs.EffectLaws.{collects}
 use Rattle.history_core.proofs.world.World.step.Goals as goal
 
 pub returns-in-Collect-clause-stepped : goal.returns-in-Collect-clause-stepped

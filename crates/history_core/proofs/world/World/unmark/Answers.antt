@@ -2,7 +2,7 @@ use Rattle.std.proofs.Common.{None, ap, sym, subst, ◌∙◌, length}
 use Rattle.std.specs.Prelude.{map}
 use Rattle.history_core.specs.View.{world_in, dispatcher_in, DispatchersFit}
 use Rattle.history_core.specs.World.{World, with_dispatcher, unmarked}
-use Rattle.history_core.proofs.Views.{dispatchers_kept, dispatcher_unmarked}
+use Rattle.history_core.proofs.ViewLaws.{dispatchers_kept, dispatcher_unmarked}
 use Rattle.history_core.proofs.world.World.unmark.Goals as goal
 
 pub invariant_of-self : goal.invariant_of-self

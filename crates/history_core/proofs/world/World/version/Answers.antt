@@ -2,7 +2,7 @@ use Rattle.std.proofs.Common.{rules, ◌≡◌, ◌≤◌, Some, length, subst}
 use Rattle.std.specs.Prelude.{IfSome}
 use Rattle.history_core.specs.Numbered.{numbered}
 use Rattle.history_core.specs.World.{World}
-use Rattle.history_core.proofs.Views.{within_some}
+use Rattle.history_core.proofs.ViewLaws.{within_some}
 use Rattle.history_core.proofs.world.World.version.Goals as goal
 
 pub returns-clause-within : goal.returns-clause-within

@@ -1,6 +1,6 @@
 use Rattle.std.proofs.Common.{length, ap, sym, ◌∙◌, subst}
 use Rattle.row_store.specs.OrderLines.{lines_held, AreWithin}
-use Rattle.row_store.proofs.Indexed.{length-lines_at}
+use Rattle.row_store.proofs.IndexedLaws.{length-lines_at}
 use Rattle.row_store.proofs.order_lines.OrderLines.len.Goals as goal
 
 pub returns-in-Loaded-clause-count : goal.returns-in-Loaded-clause-count

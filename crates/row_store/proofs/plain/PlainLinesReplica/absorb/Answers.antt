@@ -3,7 +3,7 @@ use Rattle.row_store.specs.State.{state_of}
 use Rattle.row_store.specs.History.{CommitRecord, lines_after}
 use Rattle.row_store.specs.Lines.{lines_after_refresh}
 use Rattle.row_store.specs.Absorbing.{gone_by, lines_without_all}
-use Rattle.row_store.proofs.Absorbed.{absorbed}
+use Rattle.row_store.proofs.AbsorbedLaws.{absorbed}
 use Rattle.row_store.proofs.StateLaws.{lines_after-push, state_after-state_of}
 use Rattle.row_store.proofs.plain.PlainLinesReplica.absorb.Goals as goal
 

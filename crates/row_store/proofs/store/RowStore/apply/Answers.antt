@@ -9,7 +9,7 @@ use Rattle.row_store.specs.Keyed.{Sources, Located, Lies, IsKeyed}
 use Rattle.row_store.specs.Legal.{IsLegal}
 use Rattle.row_store.proofs.HistoryLaws.{accepted_stays_legal}
 use Rattle.row_store.proofs.StateLaws.{lines_after-push}
-use Rattle.row_store.proofs.Placed.{located_push, get-last, moves}
+use Rattle.row_store.proofs.PlacedLaws.{located_push, get-last, moves}
 use Rattle.row_store.proofs.store.RowStore.apply.Goals as goal
 
 pub invariant_of-self-2 : goal.invariant_of-self-2

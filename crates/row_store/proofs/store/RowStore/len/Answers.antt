@@ -1,6 +1,6 @@
 use Rattle.std.proofs.Common.{◌≡◌, ◌≤◌, length, rules, ap, arith}
 use Rattle.row_store.specs.History.{Warehouse}
-use Rattle.row_store.proofs.Few.{few_commits_of}
+use Rattle.row_store.proofs.FewLaws.{few_commits_of}
 use Rattle.row_store.proofs.store.RowStore.len.Goals as goal
 
 pub returns-clause-few : goal.returns-clause-few

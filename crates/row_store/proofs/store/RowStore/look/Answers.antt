@@ -5,8 +5,8 @@ use Rattle.ssb_schema.specs.Orders.{order_key}
 use Rattle.ssb_schema.specs.Base.{Tables}
 use Rattle.row_store.specs.Lines.{lines_without, lines_after_refresh}
 use Rattle.row_store.specs.History.{lines_after}
-use Rattle.row_store.proofs.Counted.{length_kept}
-use Rattle.row_store.proofs.Causes.{
+use Rattle.row_store.proofs.CountedLaws.{length_kept}
+use Rattle.row_store.proofs.CauseLaws.{
   Joined,
   cause_present,
   cause_added,
@@ -31,10 +31,10 @@ returns-else-count-gt0 c =
     let now : List LineFields = lines_after_refresh (lines_after base c.args.self.now.log) c.args.earlier.now in
     let order : List LineFields = c.in-Add.order in
     let held : c.deref.result.now ≡ base = search rules in
-    rw c.in-Add.is (joined base c.join.result now (Add order) now order
+    rw c.in-Add.is (joined base c.lines_after_joining.result now (Add order) now order
     (cause_added base now order c.key-key.result c.count-count.result c.key-key.ensures c.count-count.ensures
-    c.if-count-gt0.false) refl (subst (λ b. Joined c.join.result b now order) held
-    (c.join.ensures now (sym c.requires.live))))
+    c.if-count-gt0.false) refl (subst (λ b. Joined c.lines_after_joining.result b now order) held
+    (c.lines_after_joining.ensures now (sym c.requires.live))))
 
 pub returns-then-count-eq0 : goal.returns-then-count-eq0
 returns-then-count-eq0 c =
@@ -59,11 +59,12 @@ returns-else-count-eq0 c =
     ap (λ k. length (lines_without k now)) (sym key) ∙ omega
     (arith, length_kept c.key-key-in-Amend.result now, c.count-count-in-Amend.ensures, c.requires.live) in
     let held : c.deref-in-Amend.result.now ≡ base = search rules in
-    rw c.in-Amend.is (joined base c.join-in-Amend.result now (Amend order) (lines_without (order_key order) now) order
+    rw c.in-Amend.is (joined base c.lines_after_joining-in-Amend.result now (Amend order)
+    (lines_without (order_key order) now) order
     (cause_amended base now order c.key-key-in-Amend.result c.count-count-in-Amend.result c.key-key-in-Amend.ensures
     c.count-count-in-Amend.ensures c.if-count-eq0.false) refl
-    (subst (λ b. Joined c.join-in-Amend.result b (lines_without (order_key order) now) order) held
-    (c.join-in-Amend.ensures (lines_without (order_key order) now) kept)))
+    (subst (λ b. Joined c.lines_after_joining-in-Amend.result b (lines_without (order_key order) now) order) held
+    (c.lines_after_joining-in-Amend.ensures (lines_without (order_key order) now) kept)))
 
 pub returns-then-count-eq0-2 : goal.returns-then-count-eq0-2
 returns-then-count-eq0-2 c =

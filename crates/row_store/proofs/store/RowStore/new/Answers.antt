@@ -4,7 +4,7 @@ use Rattle.ssb_schema.specs.Base.{is_same_line}
 use Rattle.ssb_schema.specs.FirstFault.{AreDistinct}
 use Rattle.row_store.specs.Lines.{lines_of}
 use Rattle.row_store.specs.Keyed.{key_at, lines_at}
-use Rattle.row_store.proofs.Sevens.{at_most_seven}
+use Rattle.row_store.proofs.SevenLaws.{at_most_seven}
 use Rattle.row_store.proofs.store.RowStore.new.Goals as goal
 
 pub place_runs-requires-clause-sorted : goal.place_runs-requires-clause-sorted

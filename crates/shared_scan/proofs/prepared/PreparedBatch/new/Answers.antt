@@ -9,7 +9,7 @@ use Rattle.ssb_plans.specs.declared.value.Value.{Value}
 use Rattle.shared_scan.specs.Prepared.{AreMasksOf}
 use Rattle.shared_scan.specs.Batch.{IsReady, AreReady, plans_of, questions_of}
 use Rattle.shared_scan.specs.declared.ready.Ready.{Ready}
-use Rattle.shared_scan.proofs.BatchLemmas.{ready_more, questions_are}
+use Rattle.shared_scan.proofs.BatchLaws.{ready_more, questions_are}
 use Rattle.shared_scan.proofs.prepared.PreparedBatch.new.Goals as goal
 
 pub loop-number-preserved : goal.loop-number-preserved

@@ -1,5 +1,5 @@
 use Rattle.std.proofs.Common.{rules, ◌≡◌, ◌∙◌, sym}
-use Rattle.ssb_plans.proofs.QuestionLemmas.{question_Decides}
+use Rattle.ssb_plans.proofs.QuestionLaws.{question_Decides}
 use Rattle.ssb_plans.specs.QuestionEq.{question_eq}
 use Rattle.ssb_plans.proofs.question.QuestionPartialEq.eq.Goals as goal
 

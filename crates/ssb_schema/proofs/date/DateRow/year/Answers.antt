@@ -3,4 +3,4 @@ use Rattle.ssb_schema.proofs.LimitLaws.{date_within}
 use Rattle.ssb_schema.proofs.date.DateRow.year.Goals as goal
 
 pub overflow_cast-result : goal.overflow_cast-result
-overflow_cast-result c = omega (arith, (date_within c.self.inside.fields c.self.invariant).year)
+overflow_cast-result c = omega (arith, (date_within c.fields.result.now c.fields.ensures.sound).year)

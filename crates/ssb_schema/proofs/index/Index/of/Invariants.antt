@@ -7,8 +7,8 @@ use Rattle.ssb_schema.proofs.index.Index.of.Given as goal
 
 abbrev pub invariant-loop-i : goal.invariant-loop-i
 invariant-loop-i g l =
-    let fault_after = repeated_fault l.table (has_key_of g.T.Keyed.key_of) in
+    let fault_after = repeated_fault g.F.Fields.of_table (has_key_of g.F.Keyed.key_of) in
     record {
       rest : rows_fault fault_after (take l.i l.rows) (drop l.i l.rows) ≡ rows_fault fault_after [] l.rows;
-      index : IsIndexOf g.T.Keyed.key_of (take l.i l.rows) l.rows (place_in l.places);
+      index : IsIndexOf g.F.Keyed.key_of (take l.i l.rows) l.rows (place_in l.places);
     }

@@ -1,5 +1,5 @@
 use Rattle.std.proofs.Common.{◌∙◌, refl}
-use Rattle.ssb_server.proofs.Turning.{turned_free, turned_who}
+use Rattle.ssb_server.proofs.TurningLaws.{turned_free, turned_who}
 use Rattle.ssb_server.proofs.dispatcher.Dispatcher.turn.Goals as goal
 
 pub invariant_of-self : goal.invariant_of-self

@@ -3,7 +3,7 @@ use Rattle.std.specs.Prelude.{All}
 use Rattle.history.specs.Tokens.{Hall}
 use Rattle.history.specs.Closing.{AreNumbered}
 use Rattle.ssb_server.specs.Tickets.{IsQuiet, IsOf}
-use Rattle.ssb_server.proofs.Seats.{all_clients, all_dispatchers}
+use Rattle.ssb_server.proofs.SeatLaws.{all_clients, all_dispatchers}
 use Rattle.ssb_server.proofs.server.Server.close.Goals as goal
 
 pub close-requires-clause-clients : goal.close-requires-clause-clients

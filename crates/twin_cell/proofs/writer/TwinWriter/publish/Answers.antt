@@ -18,7 +18,7 @@ use Rattle.std.proofs.Common.{
 use Rattle.std.specs.Result.{is_err}
 use Rattle.left_right.specs.Sides.{view as view_of}
 use Rattle.twin_cell.specs.Twin.{Writing}
-use Rattle.twin_cell.proofs.Kept.{base_after, stands_after}
+use Rattle.twin_cell.proofs.KeptLaws.{base_after, stands_after}
 use Rattle.twin_cell.proofs.writer.TwinWriter.publish.Goals as goal
 
 on_ok : {A E : Type 0} (r : Result A E) (P : Type 0) → OnOk r P → is_err r ≡ false → P

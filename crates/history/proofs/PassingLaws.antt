@@ -1,0 +1,509 @@
+-- What a pass keeps over each call, and what its token then is.
+use Rattle.std.proofs.Common.{
+  ◌≡◌,
+  ◌≢◌,
+  ℕ,
+  ◌+◌,
+  ◌<◌,
+  ◌≤◌,
+  Bool,
+  true,
+  false,
+  List,
+  [],
+  ◌∷◌,
+  ◌++◌,
+  map,
+  length,
+  drop,
+  Option,
+  Some,
+  None,
+  refl,
+  ap,
+  sym,
+  subst,
+  ◌∙◌,
+  ⊎_elim,
+  arith,
+  length-append,
+}
+use Rattle.std.proofs.lemmas.Bool.Decides.{nat_tests}
+use Rattle.std.proofs.lemmas.List.{append-nil}
+use Rattle.std.proofs.Math.Seq.{drop-append_seam}
+use Rattle.std.specs.Prelude.{nat_lt, MatchOption, All}
+use Rattle.std.proofs.lemmas.List.Elements.{All-cons}
+use Rattle.atomic_table.specs.Seated.{TableId}
+use Rattle.atomic_table.specs.Table.{rest, turned}
+use Rattle.arrayvec.specs.ArrayVec.{ArrayVec}
+use Rattle.row_store.specs.History.{CommitRecord, Warehouse, IsPrefix}
+use Rattle.ssb_queries.specs.declared.answer.Answer.{Answer}
+use Rattle.history_core.specs.declared.event.Who.TheVariants.{Client}
+use Rattle.history_core.specs.Events.{Question}
+use Rattle.row_store.proofs.HistoryLaws.{accepted_stays_legal}
+use Rattle.history_core.proofs.HistoryLaws.{named_push}
+use Rattle.history.specs.declared.view.Member.{Member}
+use Rattle.history.specs.declared.request.Request.{Request}
+use Rattle.history.specs.declared.view.Held.{Held}
+use Rattle.history.specs.declared.view.View.{View}
+use Rattle.history.specs.declared.pass.Pass.TheInside.{Inside as Pass}
+use Rattle.history.specs.Words.{store, IsAccepted, request, IsRight}
+use Rattle.history.specs.World.{marks, commits}
+use Rattle.history.specs.Rule.{Slot, IsElsewhere}
+use Rattle.history.specs.Plays.{
+  Learns,
+  with_rows,
+  looked,
+  gave_log,
+  put_by,
+  gave_back,
+  posted,
+  held,
+  request_at,
+  without_at,
+  grabbed,
+  served,
+  served_as,
+  collected,
+  with_writer,
+  without_writer,
+}
+use Rattle.history.specs.Seats.{Place, Adds}
+use Rattle.history.specs.Tokens.{
+  Token,
+  IsClient,
+  IsDispatcher,
+  IsSound,
+  Saw,
+  Took,
+  MayPut,
+  Put,
+  request_of,
+  without,
+  Grabs,
+  Answers,
+  Collected,
+}
+use Rattle.history.specs.Tokens as public
+use Rattle.history.specs.Passes.{token, token_of_view, hands, own_box, grabbed_boxes, boxes, IsSeated}
+use Rattle.history.proofs.WorldLaws.{who_back, who_behind, owns_more}
+use Rattle.history.proofs.HandLaws.{apart_without, all_without}
+
+module _ {W : Type 0} where
+  boxes_client : (v : View) (place : ℕ) → place < v.terms.clients → boxes {W = W} v place ≡ own_box place v.asked
+  boxes_client v place near = let low : nat_lt place v.terms.clients ≡ true = grind (arith, nat_tests) in rw low refl
+
+  boxes_behind : (v : View) (place : ℕ) → v.terms.clients ≤ place → boxes {W = W} v place ≡ grabbed_boxes v.grabbed
+  boxes_behind v place far = let high : nat_lt place v.terms.clients ≡ false = grind (arith, nat_tests) in rw high refl
+
+  -- the slots of a client that has asked something, and of one that has not
+  pub asking_carries : (p : Pass W) (asked : Request) → IsSeated p → p.place < p.seat.me.0.terms.clients
+      → p.seat.me.0.asked ≡ Some asked → p.seat.me.1 ≡ hands 0 p.seat.me.0.holds_rows []
+  asking_carries p asked is near has = let v : View = p.seat.me.0 in
+      is.carried ∙ ((λ i. hands 0 v.holds_rows (hands 1 ((is.in_hand.0 near).2 i) (boxes v p.place)))
+      ∙ ap (hands 0 v.holds_rows) (boxes_client v p.place near ∙ ap (own_box p.place) has))
+
+  quiet_carries : (p : Pass W) → IsSeated p → p.place < p.seat.me.0.terms.clients → p.seat.me.0.asked ≡ None
+      → p.seat.me.1 ≡ hands 0 p.seat.me.0.holds_rows ((2 + p.place, None) ∷ [])
+  quiet_carries p is near has = let v : View = p.seat.me.0 in
+      is.carried ∙ ((λ i. hands 0 v.holds_rows (hands 1 ((is.in_hand.0 near).2 i) (boxes v p.place)))
+      ∙ ap (hands 0 v.holds_rows) (boxes_client v p.place near ∙ ap (own_box p.place) has))
+
+  turned_hands : (b : Bool) (x : ℕ × Slot W) → turned (hands 0 b (x ∷ [])) ≡ x ∷ hands 0 b []
+  turned_hands true x = refl
+  turned_hands false x = refl
+
+  turned_back : (b : Bool) (x : ℕ × Slot W) → turned (x ∷ hands 0 b []) ≡ hands 0 b (x ∷ [])
+  turned_back true x = refl
+  turned_back false x = refl
+
+  -- a turn brings a client's mailbox to the front
+  pub box_in_front : (p : Pass W) → IsSeated p → p.place < p.seat.me.0.terms.clients → p.seat.me.0.asked ≡ None
+      → turned p.seat.me.1 ≡ (2 + p.place, None) ∷ hands 0 p.seat.me.0.holds_rows []
+  box_in_front p is near has = ap turned (quiet_carries p is near has)
+      ∙ turned_hands p.seat.me.0.holds_rows (2 + p.place, None)
+
+  -- the slots of a dispatcher that holds neither part
+  pub dispatcher_carries : (p : Pass W) → IsSeated p → p.seat.me.0.terms.clients ≤ p.place
+      → p.seat.me.0.holds_rows ≡ false → p.seat.me.0.holds_writer ≡ false
+      → p.seat.me.1 ≡ grabbed_boxes p.seat.me.0.grabbed
+  dispatcher_carries p is far free free' = let v : View = p.seat.me.0 in
+      is.carried ∙ ((λ i. hands 0 (free i) (hands 1 (free' i) (boxes v p.place))) ∙ boxes_behind v p.place far)
+
+  -- a client's place is among the first, a dispatcher's behind these
+  pub is_before : (p : Pass W) (t : Token) → token p ≡ t → IsSeated p → IsClient t → p.place < p.seat.me.0.terms.clients
+  is_before p t view is client = (who_back p.seat.me.0.terms.clients p.place client.0
+      (sym (is.member ∙ is.who) ∙ (ap (λ (x : Token). x.who) view ∙ client.1))).0
+
+  pub is_behind : (p : Pass W) (t : Token) → token p ≡ t → IsSeated p → IsDispatcher t
+      → p.seat.me.0.terms.clients ≤ p.place
+  is_behind p t view is dispatcher = who_behind p.seat.me.0.terms.clients p.place dispatcher.0
+      (sym (is.member ∙ is.who) ∙ (ap (λ (x : Token). x.who) view ∙ dispatcher.1))
+
+  -- the pass with this hand, this seat and this number
+  abbrev pub passed : Pass W → ArrayVec ℕ → Place W → ℕ → Pass W
+  passed p hand after seen_len = record { who = p.who; place = p.place; seen_len = seen_len; hand = hand; seat = after }
+
+  -- it is enough to look at the new view and the new slots
+  by_view : (p : Pass W) (hand : ArrayVec ℕ) (after : Place W) (seen_len : ℕ) (v : View) (carried : List (ℕ × Slot W))
+      → after.me ≡ (v, carried) → IsSeated (passed p hand (record after { me = (v, carried) }) seen_len)
+      → IsSeated (passed p hand after seen_len)
+  by_view p hand after seen_len v carried now is = subst
+      (λ x. IsSeated (passed p hand (record after { me = x }) seen_len)) (sym now) is
+
+  -- the new token, by the new view
+  token_is : (p : Pass W) (hand : ArrayVec ℕ) (after : Place W) (seen_len : ℕ) (v : View) (carried : List (ℕ × Slot W))
+      → after.table_id ≡ p.seat.table_id → after.me ≡ (v, carried)
+      → token (passed p hand after seen_len) ≡ token_of_view p.seat.table_id v
+  token_is p hand after seen_len v carried table now = λ i. token_of_view (table i) (now i).0
+
+  pub same_seated : (p : Pass W) (after : Place W) → IsSeated p → after.me ≡ (p.seat.me.0, p.seat.me.1)
+      → IsSeated (passed p p.hand after p.seen_len)
+  same_seated p after is now = by_view p p.hand after p.seen_len p.seat.me.0 p.seat.me.1 now record {
+    role = is.role;
+    who = is.who;
+    member = is.member;
+    seen_len = is.seen_len;
+    hand = is.hand;
+    carried = is.carried;
+    in_hand = is.in_hand;
+    few = is.few;
+    near = is.near;
+    apart = is.apart;
+    gathered = is.gathered;
+    sound = record { legal = is.sound.legal; named = is.sound.named; owns = is.sound.owns };
+  }
+
+  pub same_token : (p : Pass W) (after : Place W) → after.table_id ≡ p.seat.table_id
+      → after.me ≡ (p.seat.me.0, p.seat.me.1) → token (passed p p.hand after p.seen_len) ≡ token p
+  same_token p after table now = token_is p p.hand after p.seen_len p.seat.me.0 p.seat.me.1 table now
+
+  pub took_seated : (p : Pass W) (after : Place W) (history : List CommitRecord) (seen_len : ℕ) → IsSeated p
+      → p.seat.me.0.holds_rows ≡ false → seen_len ≡ length history → Learns p.seat.me.0 history
+      → after.me ≡ (with_rows p.seat.me.0 history, (0, None) ∷ p.seat.me.1)
+      → IsSeated (passed p p.hand after seen_len)
+  took_seated p after history seen_len is free long told now = let v : View = p.seat.me.0 in
+      by_view p p.hand after seen_len (with_rows v history) ((0, None) ∷ p.seat.me.1) now record {
+        role = is.role;
+        who = is.who;
+        member = is.member;
+        seen_len = long;
+        hand = is.hand;
+        carried = ap (λ cs. (0, None) ∷ cs) (is.carried ∙ ap (λ b. hands 0 b (hands 1 v.holds_writer (boxes v p.place)))
+            free);
+        in_hand = is.in_hand;
+        few = is.few;
+        near = is.near;
+        apart = is.apart;
+        gathered = is.gathered;
+        sound = record { legal = told.legal; named = told.named; owns = told.owns };
+      }
+
+  pub took_token : (p : Pass W) (after : Place W) (history : List CommitRecord) (seen_len : ℕ)
+      → Learns p.seat.me.0 history → after.table_id ≡ p.seat.table_id
+      → after.me ≡ (with_rows p.seat.me.0 history, (0, None) ∷ p.seat.me.1)
+      → Took (token p) (token (passed p p.hand after seen_len))
+  took_token p after history seen_len told table now =
+      subst (Took (token p)) (sym (token_is p p.hand after seen_len (with_rows p.seat.me.0 history)
+      ((0, None) ∷ p.seat.me.1) table now)) record { begins = told.begins; beside = told.beside; now = refl }
+
+  pub looked_seated : (p : Pass W) (after : Place W) (beside : List (List CommitRecord)) (history : List CommitRecord)
+      (seen_len : ℕ) → IsSeated p → seen_len ≡ length history → Learns (record p.seat.me.0 { beside = beside }) history
+      → after.me ≡ (looked (record p.seat.me.0 { beside = beside }) history, p.seat.me.1)
+      → IsSeated (passed p p.hand after seen_len)
+  looked_seated p after beside history seen_len is long told now =
+      by_view p p.hand after seen_len (looked (record p.seat.me.0 { beside = beside }) history) p.seat.me.1 now record {
+        role = is.role;
+        who = is.who;
+        member = is.member;
+        seen_len = long;
+        hand = is.hand;
+        carried = is.carried;
+        in_hand = is.in_hand;
+        few = is.few;
+        near = is.near;
+        apart = is.apart;
+        gathered = is.gathered;
+        sound = record { legal = told.legal; named = told.named; owns = told.owns };
+      }
+
+  -- a token that looked, after it heard of more
+  pub saw_token : (p : Pass W) (after : Place W) (n : ℕ) (beside : List (List CommitRecord))
+      (history : List CommitRecord) → after.table_id ≡ p.seat.table_id
+      → after.me ≡ (looked (record p.seat.me.0 { beside = beside }) history, p.seat.me.1)
+      → IsPrefix p.seat.me.0.member.seen history → All (λ list. IsPrefix list history) p.seat.me.0.beside
+      → Saw (token p) (token (passed p p.hand after n))
+  saw_token p after n beside history table now begins known =
+      subst (Saw (token p)) (sym (token_is p p.hand after n (looked (record p.seat.me.0 { beside = beside }) history)
+      p.seat.me.1 table now)) record { begins = begins; beside = known; now = refl }
+
+  pub posted_seated : (p : Pass W) (after : Place W) (asked : Request) → IsSeated p
+      → p.place < p.seat.me.0.terms.clients → after.me ≡ (posted p.seat.me.0 asked, hands 0 p.seat.me.0.holds_rows [])
+      → IsSeated (passed p p.hand after p.seen_len)
+  posted_seated p after asked is near now = let v : View = p.seat.me.0 in
+      by_view p p.hand after p.seen_len (posted v asked) (hands 0 v.holds_rows []) now record {
+        role = is.role;
+        who = is.who;
+        member = is.member;
+        seen_len = is.seen_len;
+        hand = is.hand;
+        carried = sym ((λ i. hands 0 v.holds_rows (hands 1 ((is.in_hand.0 near).2 i) (boxes (posted v asked) p.place)))
+            ∙ ap (hands 0 v.holds_rows) (boxes_client (posted v asked) p.place near));
+        in_hand = (is.in_hand.0, λ far. absurd (omega arith));
+        few = is.few;
+        near = is.near;
+        apart = is.apart;
+        gathered = is.gathered;
+        sound = record { legal = is.sound.legal; named = is.sound.named; owns = is.sound.owns };
+      }
+
+  pub posted_token : (p : Pass W) (after : Place W) (question : Question) (carried : List (ℕ × Slot W)) → IsSeated p
+      → after.table_id ≡ p.seat.table_id → after.me ≡ (posted p.seat.me.0 (request question p.seen_len), carried)
+      → token (passed p p.hand after p.seen_len) ≡ public.posted (token p) question
+  posted_token p after question carried is table now =
+      token_is p p.hand after p.seen_len (posted p.seat.me.0 (request question p.seen_len)) carried table now
+      ∙ ap (λ n. token_of_view p.seat.table_id (posted p.seat.me.0 (request question n))) is.seen_len
+
+  pub grabbed_seated : (p : Pass W) (hand : ArrayVec ℕ) (after : Place W) (client : ℕ) (asked : Request) → IsSeated p
+      → p.seat.me.0.terms.clients ≤ p.place → p.seat.me.0.holds_rows ≡ false → p.seat.me.0.holds_writer ≡ false
+      → client < p.seat.me.0.terms.clients
+      → hand.items ≡ client ∷ p.hand.items → IsElsewhere client p.seat.me.0.grabbed
+      → after.me ≡ (grabbed p.seat.me.0 client asked, (2 + client, None) ∷ p.seat.me.1)
+      → IsSeated (passed p hand after p.seen_len)
+  grabbed_seated p hand after client asked is far free free' near more elsewhere now = let v : View = p.seat.me.0 in
+      by_view p hand after p.seen_len (grabbed v client asked) ((2 + client, None) ∷ p.seat.me.1) now record {
+        role = is.role;
+        who = is.who;
+        member = is.member;
+        seen_len = is.seen_len;
+        hand = more ∙ ap (λ places. client ∷ places) is.hand;
+        carried = ap (λ cs. (2 + client, None) ∷ cs) (dispatcher_carries p is far free free')
+            ∙ sym ((λ i. hands 0 (free i) (hands 1 (free' i) (boxes (grabbed v client asked) p.place)))
+            ∙ boxes_behind (grabbed v client asked) p.place far);
+        in_hand = ((λ low. absurd (omega arith)), is.in_hand.1);
+        few = is.few;
+        near = All-cons (λ (h : Held). h.place < v.terms.clients) (held client asked) v.grabbed near is.near;
+        apart = (elsewhere, is.apart);
+        gathered = is.gathered;
+        sound = record { legal = is.sound.legal; named = is.sound.named; owns = is.sound.owns };
+      }
+
+  pub grabbed_token : (p : Pass W) (hand : ArrayVec ℕ) (after : Place W) (place client : ℕ) (asked : Request)
+      (carried : List (ℕ × Slot W)) → place + 1 ≡ client → after.table_id ≡ p.seat.table_id
+      → after.me ≡ (grabbed p.seat.me.0 place asked, carried)
+      → Grabs (token p) client asked.query (token (passed p hand after p.seen_len))
+  grabbed_token p hand after place client asked carried number table now =
+      subst (λ n. Grabs (token p) n asked.query (token (passed p hand after p.seen_len))) number
+      (subst (Grabs (token p) (place + 1) asked.query)
+      (sym (token_is p hand after p.seen_len (grabbed p.seat.me.0 place asked) carried table now))
+      record { floor = asked.floor; now = refl })
+
+  pub answered_seated : (p : Pass W) (hand : ArrayVec ℕ) (after : Place W) (client : ℕ) (asked : Request)
+      (reply : Answer) → IsSeated p → p.seat.me.0.terms.clients ≤ p.place → p.seat.me.0.holds_rows ≡ false
+      → p.seat.me.0.holds_writer ≡ false
+      → request_at client p.seat.me.0.grabbed ≡ Some asked
+      → hand.items ≡ map (λ (h : Held). h.place) (without_at client p.seat.me.0.grabbed)
+      → after.me ≡ (served p.seat.me.0 client reply, grabbed_boxes (without_at client p.seat.me.0.grabbed))
+      → IsSeated (passed p hand after p.seen_len)
+  answered_seated p hand after client asked reply is far free free' has left now = let v : View = p.seat.me.0 in
+      let v' : View = served_as v client (Some asked) reply in
+      by_view p hand after p.seen_len v' (grabbed_boxes (without_at client v.grabbed))
+      (now ∙ ap (λ r. (served_as v client r reply, grabbed_boxes (without_at client v.grabbed))) has) record {
+        role = is.role;
+        who = is.who;
+        member = is.member;
+        seen_len = is.seen_len;
+        hand = left;
+        carried = sym ((λ i. hands 0 (free i) (hands 1 (free' i) (boxes v' p.place))) ∙ boxes_behind v' p.place far);
+        in_hand = ((λ low. absurd (omega arith)), is.in_hand.1);
+        few = is.few;
+        near = all_without (λ (h : Held). h.place < v.terms.clients) client v.grabbed is.near;
+        apart = apart_without client v.grabbed is.apart;
+        gathered = is.gathered;
+        sound = record { legal = is.sound.legal; named = is.sound.named; owns = is.sound.owns };
+      }
+
+  pub collected_seated : (p : Pass W) (after : Place W) (history : List CommitRecord) (reply : Answer) (asked : Request)
+      → IsSeated p → p.place < p.seat.me.0.terms.clients → p.seat.me.0.asked ≡ Some asked
+      → after.me ≡ (collected p.seat.me.0 history reply, turned ((2 + p.place, None) ∷ p.seat.me.1))
+      → IsSeated (passed p p.hand after p.seen_len)
+  collected_seated p after history reply asked is near has now = let v : View = p.seat.me.0 in
+      by_view p p.hand after p.seen_len (collected v history reply) (turned ((2 + p.place, None) ∷ p.seat.me.1)) now
+      record {
+        role = is.role;
+        who = is.who;
+        member = is.member;
+        seen_len = is.seen_len;
+        hand = is.hand;
+        carried = ap (λ cs. turned ((2 + p.place, None) ∷ cs)) (asking_carries p asked is near has)
+            ∙ (turned_back v.holds_rows (2 + p.place, None)
+            ∙ sym ((λ i. hands 0 v.holds_rows (hands 1 ((is.in_hand.0 near).2 i)
+            (boxes (collected v history reply) p.place)))
+            ∙ ap (hands 0 v.holds_rows) (boxes_client (collected v history reply) p.place near)));
+        in_hand = (is.in_hand.0, λ far. absurd (omega arith));
+        few = is.few;
+        near = is.near;
+        apart = is.apart;
+        gathered = is.gathered;
+        sound = record { legal = is.sound.legal; named = is.sound.named; owns = is.sound.owns };
+      }
+
+  pub collected_token : (p : Pass W) (after : Place W) (history : List CommitRecord) (reply : Answer) (asked : Request)
+      (carried : List (ℕ × Slot W)) → p.seat.me.0.asked ≡ Some asked
+      → IsRight p.seat.me.0.terms.base history asked reply → after.table_id ≡ p.seat.table_id
+      → after.me ≡ (collected p.seat.me.0 history reply, carried)
+      → Collected (token p) reply (token (passed p p.hand after p.seen_len))
+  collected_token p after history reply asked carried was right table now =
+      subst (Collected (token p) reply) (sym (token_is p p.hand after p.seen_len (collected p.seat.me.0 history reply)
+      carried table now))
+      record { asked = asked; was = was; history = history; right = right; now = refl }
+
+  pub writer_taken_seated : (p : Pass W) (after : Place W) (list : List CommitRecord) → IsSeated p
+      → p.seat.me.0.terms.clients ≤ p.place → p.seat.me.0.holds_rows ≡ false → p.seat.me.0.holds_writer ≡ false
+      → after.me ≡ (with_writer p.seat.me.0 list, (1, None) ∷ p.seat.me.1)
+      → IsSeated (passed p p.hand after p.seen_len)
+  writer_taken_seated p after list is far free free' now = let v : View = p.seat.me.0 in
+      by_view p p.hand after p.seen_len (with_writer v list) ((1, None) ∷ p.seat.me.1) now record {
+        role = is.role;
+        who = is.who;
+        member = is.member;
+        seen_len = is.seen_len;
+        hand = is.hand;
+        carried = ap (λ cs. (1, None) ∷ cs) (dispatcher_carries p is far free free')
+            ∙ sym (ap (λ b. hands 0 b ((1, None) ∷ boxes (with_writer v list) p.place)) free
+            ∙ ap (λ cs. (1, None) ∷ cs) (boxes_behind (with_writer v list) p.place far));
+        in_hand = ((λ low. absurd (omega arith)), is.in_hand.1);
+        few = is.few;
+        near = is.near;
+        apart = is.apart;
+        gathered = is.gathered;
+        sound = record { legal = is.sound.legal; named = is.sound.named; owns = is.sound.owns };
+      }
+
+  pub writer_taken_token : (p : Pass W) (after : Place W) (list : List CommitRecord) (carried : List (ℕ × Slot W))
+      → after.table_id ≡ p.seat.table_id → after.me ≡ (with_writer p.seat.me.0 list, carried)
+      → token (passed p p.hand after p.seen_len) ≡ public.with_writer (token p) list
+  writer_taken_token p after list carried table now = token_is p p.hand after p.seen_len (with_writer p.seat.me.0 list)
+      carried table now
+
+  pub writer_back_seated : (p : Pass W) (after : Place W) → IsSeated p → p.seat.me.0.terms.clients ≤ p.place
+      → p.seat.me.0.holds_rows ≡ false → p.seat.me.0.holds_writer ≡ true
+      → after.me ≡ (without_writer p.seat.me.0, rest p.seat.me.1) → IsSeated (passed p p.hand after p.seen_len)
+  writer_back_seated p after is far free taken now = let v : View = p.seat.me.0 in
+      by_view p p.hand after p.seen_len (without_writer v) (rest p.seat.me.1) now record {
+        role = is.role;
+        who = is.who;
+        member = is.member;
+        seen_len = is.seen_len;
+        hand = is.hand;
+        carried = ap rest (is.carried ∙ (λ i. hands 0 (free i) (hands 1 (taken i) (boxes v p.place))))
+            ∙ sym (ap (λ b. hands 0 b (boxes v p.place)) free);
+        in_hand = ((λ low. absurd (omega arith)), is.in_hand.1);
+        few = is.few;
+        near = is.near;
+        apart = is.apart;
+        gathered = is.gathered;
+        sound = record { legal = is.sound.legal; named = is.sound.named; owns = is.sound.owns };
+      }
+
+  pub writer_back_token : (p : Pass W) (after : Place W) (carried : List (ℕ × Slot W))
+      → after.table_id ≡ p.seat.table_id → after.me ≡ (without_writer p.seat.me.0, carried)
+      → token (passed p p.hand after p.seen_len) ≡ public.without_writer (token p)
+  writer_back_token p after carried table now = token_is p p.hand after p.seen_len (without_writer p.seat.me.0) carried
+      table now
+
+-- what the giver of the rows makes of its member, where nothing is new, and where one commit is
+put_line : (m : Member) (log : List CommitRecord) → log ≡ m.seen → put_by m log ≡ marks m.seen m
+put_line m log same = let none_new : drop (length m.seen) log ≡ [] =
+    ap (drop (length m.seen)) (same ∙ sym (append-nil m.seen)) ∙ drop-append_seam m.seen [] in
+    ap (gave_log m log) none_new ∙ ap (λ l. marks l m) same
+
+put_line_more : (m : Member) (log : List CommitRecord) (commit : CommitRecord) → log ≡ m.seen ++ commit ∷ []
+    → put_by m log ≡ commits (m.seen ++ commit ∷ []) commit m
+put_line_more m log commit more = let one_new : drop (length m.seen) log ≡ commit ∷ [] =
+    ap (drop (length m.seen)) more ∙ drop-append_seam m.seen (commit ∷ []) in
+    ap (gave_log m log) one_new ∙ ap (λ l. commits l commit m) more
+
+gave_seen : (m : Member) (log new : List CommitRecord) → ((gave_log m log new).who ≡ m.who)
+    × ((gave_log m log new).seen ≡ log)
+gave_seen m log [] = (refl, refl)
+gave_seen m log (commit ∷ more) = (refl, refl)
+
+module _ {W : Type 0} where
+  -- a view that adds nothing, or one commit of its own, is as sound as before
+  put_sound : (p : Pass W) (rows : Warehouse) → IsSeated p → MayPut (token p) rows
+      → IsSound (token_of_view p.seat.table_id (gave_back p.seat.me.0 rows.log))
+  put_sound p rows is may = let v : View = p.seat.me.0 in let m : Member = v.member in let z : TableId =
+      p.seat.table_id in ⊎_elim
+      (λ (same : rows.log ≡ m.seen). subst (λ x. IsSound
+      (token_of_view z (record v { member = x; holds_rows = false }))) (sym (put_line m rows.log same))
+      record { legal = is.sound.legal; named = is.sound.named; owns = is.sound.owns })
+      (λ (more : (commit : CommitRecord) × (m.who ≡ Client commit.client) × IsAccepted v.terms.base m.seen commit
+      × (rows.log ≡ m.seen ++ commit ∷ [])).
+      let commit : CommitRecord = more.0 in let low = who_back v.terms.clients p.place commit.client
+      (sym (is.member ∙ is.who) ∙ more.1) in let h₀ = low.0 in let h₁ = low.1 in
+      subst (λ x. IsSound (token_of_view z (record v { member = x; holds_rows = false })))
+      (sym (put_line_more m rows.log commit more.3)) record {
+        legal = accepted_stays_legal v.terms.base m.seen commit is.sound.legal more.2;
+        named = named_push v.terms.clients m.seen commit is.sound.named (omega arith, omega arith);
+        owns = owns_more m.who commit m.mine m.seen more.1 is.sound.owns;
+      })
+      may.1
+
+  pub put_seated : (p : Pass W) (after : Place W) (rows : Warehouse) (seen_len : ℕ) → IsSeated p
+      → p.seat.me.0.holds_rows ≡ true → MayPut (token p) rows → seen_len ≡ length rows.log
+      → after.me ≡ (gave_back p.seat.me.0 rows.log, rest p.seat.me.1) → IsSeated (passed p p.hand after seen_len)
+  put_seated p after rows seen_len is holds may long now = let v : View = p.seat.me.0 in let gave =
+      gave_seen v.member rows.log (drop (length v.member.seen) rows.log) in
+      by_view p p.hand after seen_len (gave_back v rows.log) (rest p.seat.me.1) now record {
+        role = is.role;
+        who = is.who;
+        member = gave.0 ∙ is.member;
+        seen_len = long ∙ ap length (sym gave.1);
+        hand = is.hand;
+        carried = ap rest (is.carried ∙ ap (λ b. hands 0 b (hands 1 v.holds_writer (boxes v p.place))) holds);
+        in_hand = is.in_hand;
+        few = is.few;
+        near = is.near;
+        apart = is.apart;
+        gathered = is.gathered;
+        sound = let s = put_sound p rows is may in record { legal = s.legal; named = s.named; owns = s.owns };
+      }
+
+  pub put_token : (p : Pass W) (after : Place W) (rows : Warehouse) (seen_len : ℕ) (carried : List (ℕ × Slot W))
+      → after.table_id ≡ p.seat.table_id → after.me ≡ (gave_back p.seat.me.0 rows.log, carried)
+      → Put (token p) rows (token (passed p p.hand after seen_len))
+  put_token p after rows seen_len carried table now = let v : View = p.seat.me.0 in let m : Member = v.member in let z :
+      TableId = p.seat.table_id in let whole = token_is p p.hand after seen_len (gave_back v rows.log) carried table now
+      in (
+        (λ same. whole ∙ ap (λ x. token_of_view z (record v { member = x; holds_rows = false }))
+            (put_line m rows.log same)),
+        λ commit more. whole ∙ ap (λ x. token_of_view z (record v { member = x; holds_rows = false }))
+            (put_line_more m rows.log commit more),
+      )
+
+  -- one commit was added where the lengths differ
+  pub put_adds : (p : Pass W) (rows : Warehouse) → IsSeated p → MayPut (token p) rows → length rows.log ≢ p.seen_len
+      → Adds p.seat rows.log
+  put_adds p rows is may longer = ⊎_elim
+      (λ (same : rows.log ≡ p.seat.me.0.member.seen). absurd (longer (ap length same ∙ sym is.seen_len)))
+      (λ more. let low = who_back p.seat.me.0.terms.clients p.place more.0.client (sym (is.member ∙ is.who) ∙ more.1) in
+      (more.0, p.place, is.role, low.0, low.1, more.2, more.3))
+      may.1
+
+  pub put_same : (p : Pass W) (rows : Warehouse) → IsSeated p → MayPut (token p) rows → length rows.log ≡ p.seen_len
+      → rows ≡ store p.seat.me.0.terms.base p.seat.me.0.member.seen
+  put_same p rows is may as_long = ⊎_elim
+      (λ (same : rows.log ≡ p.seat.me.0.member.seen). λ i. store (may.0 i) (same i))
+      (λ (more : (commit : CommitRecord) × (p.seat.me.0.member.who ≡ Client commit.client)
+      × IsAccepted p.seat.me.0.terms.base p.seat.me.0.member.seen commit
+      × (rows.log ≡ p.seat.me.0.member.seen ++ commit ∷ [])).
+      let long = ap length more.3 ∙ length-append p.seat.me.0.member.seen (more.0 ∷ []) in let was = is.seen_len in
+      absurd (omega arith))
+      may.1
+
+-- what both cases of an answer or none lead to
+pub of_match : {A : Type 0} {P R : Type 0} {Q : A → Type 0} (o : Option A) → MatchOption o P Q → (P → R)
+    → ((x : A) → Q x → R) → R
+of_match None p f g = f p
+of_match (Some x) q f g = g x q

@@ -1,0 +1,18 @@
+-- The lines after a beginning of a legal history are few enough to be summed.
+use Rattle.std.proofs.Common.{◌≡◌, ℕ, ◌≤◌, List, length, take, ap, ◌∙◌, arith}
+use Rattle.ssb_schema.specs.declared.line.LineFields.{LineFields}
+use Rattle.ssb_schema.specs.Base.{Tables, IsSound}
+use Rattle.row_store.specs.History.{CommitRecord, Warehouse, lines_after}
+use Rattle.row_store.specs.Legal.{IsLegal}
+use Rattle.row_store.proofs.FewLaws.{few_after}
+
+-- the lines of a replica that has taken the first `at` commits
+pub few_lines : (base : Tables) (history : List CommitRecord) (at : ℕ) (plain : Warehouse) (found : List LineFields)
+    → IsLegal base history → IsSound base → plain ≡ record { base = base; log = take at history }
+    → found ≡ lines_after plain.base plain.log → length found ≤ 33554432
+few_lines base history at plain found legal sound is lines =
+    let few = few_after base history legal sound.few at in
+    let here : found ≡ lines_after base (take at history) =
+    lines ∙ ap (λ (p : Warehouse). lines_after p.base p.log) is in
+    let count : length found ≡ length (lines_after base (take at history)) = ap length here in
+    omega (arith, few, count, base.limits.lines_range)

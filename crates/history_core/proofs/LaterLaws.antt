@@ -1,0 +1,53 @@
+-- What an observer may conclude from a true run: a client's answers never go back.
+use Rattle.std.proofs.Common.{◌≡◌, ℕ, zero, suc, ◌<◌, ◌≤◌, Bool, true, false, List, []}
+use Rattle.std.proofs.Common.{◌∷◌, length, take, refl, ap, sym, subst, ◌∙◌, arith, zero-le}
+use Rattle.std.proofs.lemmas.Bool.Decides.{nat_tests}
+use Rattle.std.specs.Prelude.{filter, nat_lt, slice_get}
+use Rattle.ssb_schema.specs.Base.{Tables}
+use Rattle.ssb_queries.specs.declared.answer.ResultRow.{ResultRow}
+use Rattle.row_store.specs.History.{CommitRecord}
+use Rattle.history_core.specs.declared.event.Reply.{Reply}
+use Rattle.history_core.specs.declared.event.Reply.TheVariants.{Rows}
+use Rattle.history_core.specs.Events.{Question, Event, Grab, Collect}
+use Rattle.history_core.specs.TrueRun.{Happens, is_committed, Outstanding, IsTrueRun}
+use Rattle.history_core.proofs.HistoryLaws.{some_injective}
+
+takes_more : {A : Type 0} (test : A → Bool) (n m : ℕ) (l : List A) → n ≤ m
+    → length (filter test (take n l)) ≤ length (filter test (take m l))
+takes_more test zero m l h = zero-le
+takes_more test (suc n) zero l h = absurd (omega arith)
+takes_more test (suc n) (suc m) [] h = zero-le
+takes_more {A = A} test (suc n) (suc m) (x ∷ xs) h = go (takes_more test n m xs (omega arith)) (test x) refl
+  where
+    go : length (filter test (take n xs)) ≤ length (filter test (take m xs)) → (b : Bool) → test x ≡ b
+        → length (filter test (take (suc n) (x ∷ xs))) ≤ length (filter test (take (suc m) (x ∷ xs)))
+    go k true e = rw e (omega arith)
+    go k false e = rw e k
+
+-- the earlier of two collects of one client stands before the Post of the later
+before_post : (es : List Event) (rs : List Reply) (client : ℕ) (question q : Question) (rows : List ResultRow) (at : ℕ)
+    (first second : ℕ) (o : Outstanding es rs client question second)
+    → Happens es rs first (Collect client) (Rows q at rows) → first < second → first < o.grabbed
+before_post es rs client question q rows at first second o h less = go (nat_lt o.posted first) refl
+  where
+    go : (b : Bool) → nat_lt o.posted first ≡ b → first < o.grabbed
+    go true e = let after : o.posted < first = grind (arith, nat_tests) in
+        let same : first ≡ o.grabbed = o.alone first (Collect client) (Rows q at rows) after less h refl in
+        let clash : Collect client ≡ Grab o.dispatcher client =
+        some_injective _ _ (sym h.0 ∙ (ap (slice_get es) same ∙ o.was_grabbed.0)) in absurd (cc clash)
+    go false e = let low : first ≤ o.posted = grind (arith, nat_tests) in let early = o.posted_first in omega arith
+
+pub never_back : (base : Tables) (es : List Event) (rs : List Reply) (history : List CommitRecord)
+    → IsTrueRun base es rs history → (client first second : ℕ) (p q : Question) (early late : ℕ) (f g : List ResultRow)
+    → first < second
+    → Happens es rs first (Collect client) (Rows p early f) → Happens es rs second (Collect client) (Rows q late g)
+    → early ≤ late
+never_back base es rs history k client first second p q early late f g less h i =
+    let t = k.true_replies first (Collect client) (Rows p early f) h in
+    let s = k.true_replies second (Collect client) (Rows q late g) i in
+    let same : client ≡ s.0 = cc s.1 in
+    let low =
+    before_post es rs s.0 q p f early first second s.2
+    (subst (λ n. Happens es rs first (Collect n) (Rows p early f)) same h) less in
+    let high = t.4 in let floor = s.3 in
+    let more = takes_more is_committed first s.2.grabbed rs (omega arith) in omega arith

@@ -1,0 +1,43 @@
+-- A run whose rows are older than their grab is no true run.
+use Rattle.std.proofs.Common.{◌≡◌, ℕ, zero, suc, ◌≤◌, List, [], ◌∷◌, Some, refl, sym, subst, arith}
+use Rattle.ssb_schema.specs.declared.refresh.Action.{Action}
+use Rattle.ssb_schema.specs.Base.{Tables}
+use Rattle.ssb_queries.specs.declared.answer.ResultRow.{ResultRow}
+use Rattle.history_core.specs.declared.event.Who.TheVariants.{Client}
+use Rattle.history_core.specs.declared.event.Reply.{Reply}
+use Rattle.history_core.specs.declared.event.Reply.TheVariants.{Done, Committed, Query as Asks, Rows}
+use Rattle.history_core.specs.Events.{Question, Event, TakeRows, PutRows, Post, Grab, Answer, Collect}
+use Rattle.history_core.specs.World.{commit_by}
+use Rattle.history_core.specs.TrueRun.{Happens, commits_before, Outstanding, IsTrueRun}
+use Rattle.history_core.proofs.HistoryLaws.{some_injective, some_ne_none}
+
+module _ (base : Tables) (actions : List Action) (question : Question) (rows : List ResultRow) where
+  abbrev events : List Event
+  events =
+      TakeRows (Client 1) ∷ PutRows (Client 1) (Some actions) ∷ Post 1 question ∷ Grab 1 1 ∷ Answer 1 1 ∷ Collect 1 ∷ []
+
+  abbrev replies : List Reply
+  replies = Done ∷ Committed 1 ∷ Done ∷ Asks question ∷ Done ∷ Rows question 0 rows ∷ []
+
+  no_grab : (place dispatcher : ℕ) → Happens events replies place (Grab dispatcher 1) (Asks question)
+      → commits_before replies place ≤ 0 → ⊥
+  no_grab zero d h low = cc (some_injective _ _ h.0)
+  no_grab (suc zero) d h low = cc (some_injective _ _ h.0)
+  no_grab (suc (suc zero)) d h low = cc (some_injective _ _ h.0)
+  no_grab (suc (suc (suc zero))) d h low = omega arith
+  no_grab (suc (suc (suc (suc zero)))) d h low = cc (some_injective _ _ h.0)
+  no_grab (suc (suc (suc (suc (suc zero))))) d h low = cc (some_injective _ _ h.0)
+  no_grab (suc (suc (suc (suc (suc (suc n)))))) d h low = some_ne_none _ (sym h.0)
+
+  pub stale : IsTrueRun base events replies (commit_by 1 actions ∷ []) → ⊥
+  stale true_run =
+      let t = true_run.true_replies 5 (Collect 1) (Rows question 0 rows) (refl, refl) in go (t.0, t.1, t.2, t.3)
+    where
+      go :
+          ((client : ℕ) × (Collect 1 ≡ Collect client) × (request : Outstanding events replies client question 5)
+          × (commits_before replies request.grabbed ≤ 0)) → ⊥
+      go t =
+          let same : 1 ≡ t.0 = cc t.1 in
+          no_grab t.2.grabbed t.2.dispatcher
+          (subst (λ n. Happens events replies t.2.grabbed (Grab t.2.dispatcher n) (Asks question))
+          (sym same) t.2.was_grabbed) t.3

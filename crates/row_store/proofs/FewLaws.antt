@@ -1,0 +1,177 @@
+-- A legal history has no more commits than the limit, and leaves no more lines than the limit.
+use Rattle.std.proofs.Common.{
+  ◌≡◌,
+  ℕ,
+  zero,
+  suc,
+  ◌+◌,
+  ◌<◌,
+  ◌≤◌,
+  Bool,
+  true,
+  false,
+  List,
+  [],
+  ◌∷◌,
+  ◌++◌,
+  length,
+  take,
+  Option,
+  Some,
+  None,
+  refl,
+  ap,
+  sym,
+  subst,
+  ◌∙◌,
+  arith,
+  zero-le,
+  length-append,
+}
+use Rattle.std.proofs.lemmas.Bool.Decides.{nat_tests}
+use Rattle.std.proofs.lemmas.List.{take_all}
+use Rattle.std.specs.Prelude.{nat_lt, nat_le, if◌then◌else◌, slice_get}
+use Rattle.std.specs.Option.{option_or, option_map}
+use Rattle.ssb_schema.specs.declared.line.LineFields.{LineFields}
+use Rattle.ssb_schema.specs.declared.refresh.Action.{Action}
+use Rattle.ssb_schema.specs.declared.refresh.Action.TheVariants.{Add, Amend, Withdraw}
+use Rattle.ssb_schema.specs.Base.{Tables}
+use Rattle.ssb_schema.specs.Orders.{order_key}
+use Rattle.row_store.specs.History.{CommitRecord, lines_after}
+use Rattle.row_store.specs.Lines.{is_present, lines_without, lines_after_action, lines_after_refresh}
+use Rattle.row_store.specs.Refusals.{unknown_key, lines_full, order_cause, cause_of, first_refusal, refusal_of}
+use Rattle.row_store.specs.Legal.{IsLegal}
+use Rattle.row_store.specs.Laws.{LegalHistoriesAreFew}
+use Rattle.row_store.specs.declared.refusal.Cause.TheVariants.{LogFull, Present, LinesFull, AmendAbsent}
+use Rattle.row_store.proofs.CountedLaws.{length_kept}
+use Rattle.row_store.proofs.StateLaws.{lines_after-push}
+
+second_none : {X : Type 0} (first second : Option X) → option_or first second ≡ None → second ≡ None
+second_none None second e = e
+second_none (Some x) second e = absurd (cc e)
+
+first_none : {X Y : Type 0} (f : X → Y) (first : Option X) (second : Option Y)
+    → option_or (option_map f first) second ≡ None → first ≡ None
+first_none f None second e = refl
+first_none f (Some x) second e = absurd (cc e)
+
+rest_none : {X Y : Type 0} (f : X → Y) (first : Option X) (second : Option Y)
+    → option_or (option_map f first) second ≡ None → second ≡ None
+rest_none f None second e = e
+rest_none f (Some x) second e = absurd (cc e)
+
+joined_few : (base : Tables) (lines order : List LineFields) → order_cause base lines order ≡ None
+    → length (lines ++ order) ≤ base.limits.lines
+joined_few base lines order e = go (nat_lt base.limits.lines (length lines + length order)) refl
+    (second_none (unknown_key base.dimensions order) (lines_full base.limits.lines lines order) e)
+  where
+    go : (b : Bool) → nat_lt base.limits.lines (length lines + length order) ≡ b
+        → (if b then Some LinesFull else None) ≡ None → length (lines ++ order) ≤ base.limits.lines
+    go true t e' = absurd (cc e')
+    go false t e' = let both = length-append lines order in let few : length lines + length order ≤ base.limits.lines =
+        grind (arith, nat_tests) in omega arith
+
+few_after_action : (base : Tables) (lines : List LineFields) (action : Action) → cause_of base lines action ≡ None
+    → length lines ≤ base.limits.lines → length (lines_after_action lines action) ≤ base.limits.lines
+few_after_action base lines (Add order) e h = go (is_present (order_key order) lines) refl e
+  where
+    go : (b : Bool) → is_present (order_key order) lines ≡ b
+        → (if b then Some (Present (order_key order)) else order_cause base lines order) ≡ None
+        → length (lines ++ order) ≤ base.limits.lines
+    go true t e' = absurd (cc e')
+    go false t e' = joined_few base lines order e'
+few_after_action base lines (Amend order) e h = go (is_present (order_key order) lines) refl e
+  where
+    go : (b : Bool) → is_present (order_key order) lines ≡ b
+        → (if b then order_cause base (lines_without (order_key order) lines) order else Some
+        (AmendAbsent (order_key order))) ≡ None → length
+        (lines_without (order_key order) lines ++ order) ≤ base.limits.lines
+    go true t e' = joined_few base (lines_without (order_key order) lines) order e'
+    go false t e' = absurd (cc e')
+few_after_action base lines (Withdraw key) e h = let kept = length_kept key lines in omega arith
+
+few_after_refresh : (base : Tables) (number : ℕ) (lines : List LineFields) (actions : List Action)
+    → first_refusal base number lines actions ≡ None → length lines ≤ base.limits.lines
+    → length (lines_after_refresh lines actions) ≤ base.limits.lines
+few_after_refresh base number lines [] e h = h
+few_after_refresh base number lines (action ∷ actions) e h =
+    few_after_refresh base (number + 1) (lines_after_action lines action) actions
+    (rest_none _ (cause_of base lines action) _ e)
+    (few_after_action base lines action (first_none _ (cause_of base lines action) _ e) h)
+
+few_after_commit : (base : Tables) (history : List CommitRecord) (commit : CommitRecord)
+    → refusal_of base history commit.actions ≡ None → length (lines_after base history) ≤ base.limits.lines
+    → length (lines_after base (history ++ commit ∷ [])) ≤ base.limits.lines
+few_after_commit base history commit e h = go (nat_le base.limits.commits (length history)) refl e
+  where
+    go : (b : Bool) → nat_le base.limits.commits (length history) ≡ b
+        → (if b then Some record { action = 0; cause = LogFull } else first_refusal base 1 (lines_after base history)
+        commit.actions) ≡ None → length (lines_after base (history ++ commit ∷ [])) ≤ base.limits.lines
+    go true t e' = absurd (cc e')
+    go false t e' = subst (λ l. length l ≤ base.limits.lines) (sym (lines_after-push base history commit))
+        (few_after_refresh base 1 (lines_after base history) commit.actions e' h)
+
+-- a beginning of one commit more, or of all of them already
+data Next (A : Type 0) (l : List A) (n : ℕ) : Type 0 where
+  more : (x : A) → slice_get l n ≡ Some x → take (suc n) l ≡ take n l ++ x ∷ [] → Next A l n
+  done : take (suc n) l ≡ take n l → Next A l n
+
+next : {A : Type 0} (l : List A) (n : ℕ) → Next A l n
+next [] zero = done refl
+next [] (suc n) = done refl
+next (x ∷ xs) zero = more x refl refl
+next {A = A} (x ∷ xs) (suc n) = go (next xs n)
+  where
+    go : Next A xs n → Next A (x ∷ xs) (suc n)
+    go (more y at e) = more y at (ap (λ l. x ∷ l) e)
+    go (done e) = done (ap (λ l. x ∷ l) e)
+
+-- the lines after the first commits of a legal history
+pub few_after : (base : Tables) (history : List CommitRecord) → IsLegal base history
+    → length base.lines ≤ base.limits.lines → (n : ℕ) → length (lines_after base (take n history)) ≤ base.limits.lines
+few_after base history legal few zero = few
+few_after base history legal few (suc n) = go (few_after base history legal few n) (next history n)
+  where
+    go : length (lines_after base (take n history)) ≤ base.limits.lines → Next CommitRecord history n
+        → length (lines_after base (take (suc n) history)) ≤ base.limits.lines
+    go h (more commit at e) = subst (λ l. length (lines_after base l) ≤ base.limits.lines) (sym e)
+        (few_after_commit base (take n history) commit (legal.accepted n commit at) h)
+    go h (done e) = subst (λ l. length (lines_after base l) ≤ base.limits.lines) (sym e) h
+
+-- a commit that is not refused finds room in the log
+room_for : (base : Tables) (history : List CommitRecord) (commit : CommitRecord)
+    → refusal_of base history commit.actions ≡ None → length history < base.limits.commits
+room_for base history commit e = go (nat_le base.limits.commits (length history)) refl e
+  where
+    go : (b : Bool) → nat_le base.limits.commits (length history) ≡ b
+        → (if b then Some record { action = 0; cause = LogFull } else first_refusal base 1 (lines_after base history)
+        commit.actions) ≡ None → length history < base.limits.commits
+    go true t e' = absurd (cc e')
+    go false t e' = grind (arith, nat_tests)
+
+-- the commits of a legal history
+few_commits : (base : Tables) (history : List CommitRecord) → IsLegal base history → (n : ℕ)
+    → length (take n history) ≤ base.limits.commits
+few_commits base history legal zero = zero-le
+few_commits base history legal (suc n) = go (few_commits base history legal n) (next history n)
+  where
+    go : length (take n history) ≤ base.limits.commits → Next CommitRecord history n
+        → length (take (suc n) history) ≤ base.limits.commits
+    go h (more commit at e) =
+        let room = room_for base (take n history) commit (legal.accepted n commit at) in
+        let count : length (take (suc n) history) ≡ length (take n history) + 1 =
+        ap length e ∙ length-append (take n history) (commit ∷ []) in
+        omega (arith, room, count)
+    go h (done e) = subst (λ l. length l ≤ base.limits.commits) (sym e) h
+
+pub few_commits_of : (base : Tables) (history : List CommitRecord) → IsLegal base history
+    → length history ≤ base.limits.commits
+few_commits_of base history legal = subst (λ l. length l ≤ base.limits.commits)
+    (take_all (length history) history (omega arith)) (few_commits base history legal (length history))
+
+pub legal_histories_are_few : LegalHistoriesAreFew
+legal_histories_are_few base history sound legal = (
+  few_commits_of base history legal,
+  subst (λ l. length (lines_after base l) ≤ base.limits.lines) (take_all (length history) history (omega arith))
+      (few_after base history legal sound.few (length history)),
+)

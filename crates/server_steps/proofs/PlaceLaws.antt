@@ -1,0 +1,37 @@
+-- Whose a client is through its calls, whether it asks or not.
+use Rattle.std.proofs.Common.{ℕ, List, ap, ◌∙◌}
+use Rattle.std.specs.Prelude.{Result, Ok, Err}
+use Rattle.ssb_schema.specs.declared.refresh.Action.{Action}
+use Rattle.row_store.specs.declared.commit.Receipt.{Receipt}
+use Rattle.row_store.specs.declared.refusal.RefreshError.{RefreshError}
+use Rattle.row_store.specs.declared.refusal.RefreshError.TheVariants as refresh
+use Rattle.ssb_plans.specs.declared.query.Query.{Query}
+use Rattle.ssb_plans.specs.declared.value.Value.{Value}
+use Rattle.ssb_queries.specs.declared.answer.Answer.{Answer}
+use Rattle.history.specs.Tokens.{Hall, Token}
+use Rattle.ssb_server.specs.Clients.{Refreshed, Looks, Asks, Polls}
+use Rattle.ssb_server.specs.Tickets.{IsOf}
+use Rattle.ssb_server.proofs.StayingLaws.{new_clients_are_quiet, new_dispatchers_are_of_it}
+
+-- whose the clients and dispatchers of a new server are
+pub ruleset new_are_its_own = (new_clients_are_quiet, new_dispatchers_are_of_it)
+
+module _ (hall : Hall) where
+  pub looks_stays : (before after : Token) → IsOf hall before → Looks before after → IsOf hall after
+  looks_stays before after here looks = ap (λ (t : Token). t.hall) looks.now ∙ here
+
+  pub refreshed_stays : (number : ℕ) (actions : List Action) (before after : Token)
+      (result : Result Receipt RefreshError) → IsOf hall before → Refreshed before number actions result after
+      → IsOf hall after
+  refreshed_stays number actions before after (Ok receipt) here did = ap (λ (t : Token). t.hall) did.now ∙ here
+  refreshed_stays number actions before after (Err (refresh.Refused at action cause)) here did =
+      looks_stays before after here did.2
+  refreshed_stays number actions before after (Err refresh.OutOfMemory) here did = looks_stays before after here did.1
+
+  pub asks_stays : (before after : Token) (question : Query × List Value) → IsOf hall before
+      → Asks before question after → IsOf hall after
+  asks_stays before after question here asks = ap (λ (t : Token). t.hall) asks.now ∙ here
+
+  pub polls_stays : (before after : Token) (reply : Answer) → IsOf hall before → Polls before reply after
+      → IsOf hall after
+  polls_stays before after reply here polls = ap (λ (t : Token). t.hall) polls.now ∙ here

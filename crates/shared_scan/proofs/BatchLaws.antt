@@ -1,0 +1,99 @@
+-- The questions of a batch, made ready one after another.
+use Rattle.std.proofs.Common.{ℕ, ◌≡◌, ◌+◌, ◌<◌, List, [], ◌∷◌, ◌++◌, length, get_or, Some, sym, ap, subst, ◌∙◌, arith}
+use Rattle.std.specs.Prelude.{slice_get}
+use Rattle.std.proofs.lemmas.List.{length-map, get_or-map, ext_get_or}
+use Rattle.std.proofs.lemmas.Option.{slice_get-get_or}
+use Rattle.ssb_schema.specs.Base.{Tables, IsSound}
+use Rattle.ssb_schema.specs.declared.column.Column.{Column}
+use Rattle.ssb_schema.specs.declared.table.Table.{Table}
+use Rattle.ssb_schema.specs.declared.table.Table.TheVariants as table
+use Rattle.ssb_plans.specs.declared.query.Query.{Query}
+use Rattle.ssb_plans.specs.declared.query.Query.TheVariants.{Q1_1}
+use Rattle.ssb_plans.specs.declared.value.Value.{Value}
+use Rattle.ssb_queries.specs.RowValues.{customer_value, supplier_value, part_value, date_value}
+use Rattle.dim_index.specs.Values.{values_of, values_at}
+use Rattle.scan_kernel.specs.declared.masks.Masks.{Masks}
+use Rattle.shared_scan.specs.Prepared.{masks_in}
+use Rattle.shared_scan.specs.Masking.{CoverRows}
+use Rattle.shared_scan.specs.Numbering.{HasMasks}
+use Rattle.shared_scan.specs.Grouped.{HaveMasks}
+use Rattle.shared_scan.specs.Batch.{IsReady, AreReady, questions_of}
+use Rattle.shared_scan.specs.declared.ready.Ready.{Ready}
+use Rattle.shared_scan.proofs.EachLaws.{each_more, item_of}
+
+-- no dimension has as many rows as there are numbers of 32 bits
+pub few_rows : (base : Tables) → IsSound base → (column : Column) → length (values_of base column) < 4294967295
+few_rows base sound column = by_table column.table column.place where
+  by_table : (t : Table) (place : ℕ) → length (values_at base t place) < 4294967295
+  by_table table.Customer place = omega (
+    arith,
+    length-map base.dimensions.customers (customer_value place),
+    sound.customers.few,
+    base.limits.dimension_rows_range.1,
+  )
+  by_table table.Supplier place = omega (
+    arith,
+    length-map base.dimensions.suppliers (supplier_value place),
+    sound.suppliers.few,
+    base.limits.dimension_rows_range.1,
+  )
+  by_table table.Part place = omega (
+    arith,
+    length-map base.dimensions.parts (part_value place),
+    sound.parts.few,
+    base.limits.dimension_rows_range.1,
+  )
+  by_table table.Date place = omega (
+    arith,
+    length-map base.dimensions.dates (date_value place),
+    sound.dates.few,
+    base.limits.dimension_rows_range.1,
+  )
+  by_table table.Lineorder place = omega arith
+
+pub have_masks : (base : Tables) (masks : Masks) → CoverRows base.dimensions masks → HaveMasks base masks
+have_masks base masks cover column p below = by_table column.table column.place below where
+  by_table : (t : Table) (place : ℕ) → p < length (values_at base t place) → HasMasks (masks_in t masks) p
+  by_table table.Customer place h = cover.customer_rows p
+      (omega (arith, h, length-map base.dimensions.customers (customer_value place)))
+  by_table table.Supplier place h = cover.supplier_rows p
+      (omega (arith, h, length-map base.dimensions.suppliers (supplier_value place)))
+  by_table table.Part place h = cover.part_rows p (omega
+      (arith, h, length-map base.dimensions.parts (part_value place)))
+  by_table table.Date place h = cover.date_rows p (omega
+      (arith, h, length-map base.dimensions.dates (date_value place)))
+  by_table table.Lineorder place h = absurd (omega (arith, h))
+
+-- one question more
+pub ready_more : (base : Tables) (masks : Masks) (questions : List (Query × List Value)) (all : List Ready) (n : ℕ)
+    (this : Query × List Value) (one : Ready)
+    → length all ≡ n → n < length questions → this ≡ get_or questions n this → IsReady base masks n this one
+    → ((k : ℕ) (question : Query × List Value) (r : Ready) → k < n → slice_get questions k ≡ Some question
+    → IsReady base masks k question (get_or all k r))
+    → (k : ℕ) (question : Query × List Value) (r : Ready) → k < n + 1 → slice_get questions k ≡ Some question
+    → IsReady base masks k question (get_or (all ++ one ∷ []) k r)
+ready_more base masks questions all n this one len below is ready done k question r h at =
+    let P : ℕ → Ready → Type 0 = λ j v. (q : Query × List Value) → slice_get questions j ≡ Some q
+    → IsReady base masks j q v in
+    let found : slice_get questions n ≡ Some this = slice_get-get_or questions n this below ∙ ap Some (sym is) in
+    let here : P n one = λ q at_n. subst (λ (v : Query × List Value). IsReady base masks n v one)
+    (some_same this q (sym found ∙ at_n)) ready in
+    each_more P all n one len here (λ j v less q at_j. done j q v less at_j) k r h question at
+  where
+    some_same : (a b : Query × List Value) → Some a ≡ Some b → a ≡ b
+    some_same a b e = cc
+
+-- any question
+no_question : Query × List Value
+no_question = (Q1_1, [])
+
+-- what was made ready for each question has that question
+pub questions_are : (base : Tables) (masks : Masks) (questions : List (Query × List Value)) (all : List Ready)
+    → length all ≡ length questions → AreReady base masks questions all → questions_of all ≡ questions
+questions_are base masks questions all len ready =
+    ext_get_or no_question (questions_of all) questions (length-map all (λ ready. ready.question) ∙ len) (λ i below.
+    let inside : i < length all = omega (arith, below, length-map all (λ ready. ready.question)) in
+    let there : i < length questions = omega (arith, inside, len) in
+    let r = item_of all i inside in
+    get_or-map (λ (ready : Ready). ready.question) all i r no_question inside
+    ∙ (ready i (get_or questions i no_question) r (slice_get-get_or questions i no_question there)).question_is)

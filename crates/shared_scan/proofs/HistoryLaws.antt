@@ -1,0 +1,43 @@
+-- From the answers over places to those after a history.
+use Rattle.std.proofs.Common.{◌≡◌, ◌≤◌, List, [], ◌∷◌, length, refl, sym, ap, ◌∙◌, subst}
+use Rattle.std.specs.Prelude.{IsPermutation}
+use Rattle.ssb_schema.specs.Base.{Dimensions}
+use Rattle.ssb_schema.specs.declared.fact.Fact.{Fact}
+use Rattle.ssb_schema.specs.Facts.{facts_of}
+use Rattle.row_store.specs.History.{CommitRecord, lines_after}
+use Rattle.row_store.specs.State.{StandsFor}
+use Rattle.ssb_plans.specs.declared.query.Query.{Query}
+use Rattle.ssb_plans.specs.declared.value.Value.{Value}
+use Rattle.ssb_queries.proofs.RearrangementLaws.{questions_ignore_order}
+use Rattle.fact_table.specs.Places.{live_facts}
+use Rattle.fact_columns.specs.Stored.{Stored, IsRead, columns_state}
+use Rattle.fact_columns.proofs.ColumnLaws.{live_facts_are_the_lines}
+use Rattle.shared_scan.specs.Answers.{answers_over, answers_after}
+use Rattle.shared_scan.specs.Lines.{AreOfBase}
+
+-- a rearrangement of the lines has the same answers
+pub answers_ignore_order : (dimensions : Dimensions) (facts other : List Fact) (questions : List (Query × List Value))
+    → IsPermutation facts other → answers_over dimensions facts questions ≡ answers_over dimensions other questions
+answers_ignore_order dimensions facts other [] moved = refl
+answers_ignore_order dimensions facts other (question ∷ questions) moved =
+    λ j. record { query = question; list = questions_ignore_order question dimensions facts other moved j } ∷
+    answers_ignore_order dimensions facts other questions moved j
+
+-- the places of the columns are of their base
+pub of_base : (columns : Stored) → IsRead columns → length columns.facts ≤ 33554432
+    → AreOfBase columns.base columns.places
+of_base columns read few = record {
+  within = read.within;
+  few = read.few;
+  few_live = subst (λ (facts : List Fact). length facts ≤ 33554432) read.facts_are few;
+}
+
+-- the answers over the live facts of columns are those after any history that the columns stand for
+pub answers_of_history : (columns : Stored) (history : List CommitRecord) (questions : List (Query × List Value))
+    → IsRead columns → StandsFor (columns_state columns) history
+    → answers_over columns.base.dimensions (live_facts columns.base.dimensions columns.places) questions ≡
+    answers_after columns.base history questions
+answers_of_history columns history questions read stands =
+    ap (λ (facts : List Fact). answers_over columns.base.dimensions facts questions) (sym read.facts_are)
+    ∙ answers_ignore_order columns.base.dimensions columns.facts
+    (facts_of (lines_after columns.base history)) questions (live_facts_are_the_lines columns history stands)

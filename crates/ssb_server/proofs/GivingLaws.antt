@@ -1,0 +1,198 @@
+-- Requests leave the hand one after another, and each is given an answer.
+use Rattle.std.proofs.Common.{
+  ◌≡◌,
+  ℕ,
+  ◌+◌,
+  cond,
+  List,
+  [],
+  ◌∷◌,
+  ◌++◌,
+  length,
+  take,
+  Some,
+  refl,
+  ap,
+  sym,
+  subst,
+  ◌∙◌,
+  arith,
+  append_assoc,
+}
+use Rattle.std.proofs.lemmas.Bool.{eq-eqb}
+use Rattle.std.proofs.lemmas.List.{take_all, append-nil, length_push, map_push}
+use Rattle.std.proofs.lemmas.List.Elements.{All-nil, All-push}
+use Rattle.row_store.specs.History.{CommitRecord}
+use Rattle.ssb_schema.specs.Base.{Tables}
+use Rattle.ssb_plans.specs.declared.query.Query.{Query}
+use Rattle.ssb_plans.specs.declared.value.Value.{Value}
+use Rattle.ssb_queries.specs.declared.answer.Rows.{Rows}
+use Rattle.ssb_queries.specs.declared.answer.ResultRow.{ResultRow}
+use Rattle.ssb_queries.specs.declared.answer.Answer.{Answer}
+use Rattle.ssb_queries.specs.declared.answer.Answer.TheVariants as answer
+use Rattle.ssb_queries.specs.declared.answer.Unserved.{Unserved}
+use Rattle.history_core.specs.World.{rows_after}
+use Rattle.history.specs.declared.request.Grabbed.{Grabbed}
+use Rattle.history.specs.declared.request.Given.{Given}
+use Rattle.history.specs.declared.request.Outcome.{Outcome}
+use Rattle.history.specs.Tokens.{Token, MayAnswer, Answers, request_of, without}
+use Rattle.history.specs.Words.{IsCause, IsFresh, given_to, outcome_of}
+use Rattle.ssb_server.specs.Hand.{Hand, no_hand, clients_of, questions_of, Keeps}
+use Rattle.ssb_server.specs.Turns.{answers_after, HasInHand, Answered, GaveOne, Gave}
+use Rattle.ssb_server.proofs.DeedLaws.{done}
+use Rattle.ssb_server.proofs.HandLaws.{with_one, not_empty}
+
+found_first : (grabbed : List Grabbed) (client : ℕ) (newest : Grabbed) (others : List Grabbed)
+    → grabbed ≡ newest ∷ others → newest.client ≡ client → request_of client grabbed ≡ Some newest.request
+found_first grabbed client newest others is e = ap (request_of client) is
+    ∙ ap (λ b. cond b (Some newest.request) (request_of client others)) (eq-eqb newest.client client e)
+
+without_first : (grabbed : List Grabbed) (client : ℕ) (newest : Grabbed) (others : List Grabbed)
+    → grabbed ≡ newest ∷ others → newest.client ≡ client → without client grabbed ≡ others
+without_first grabbed client newest others is e = ap (without client) is
+    ∙ ap (λ b. cond b others (newest ∷ without client others)) (eq-eqb newest.client client e)
+
+-- the rows at the length of what was seen serve the newest request
+pub may_serve : (t : Token) (client at : ℕ) (question : Query × List Value) (rows : List ResultRow)
+    → HasInHand t.grabbed client question → at ≡ length t.seen → t.version ≡ Some at
+    → rows ≡ rows_after t.hall.base question t.seen
+    → MayAnswer t client (answer.Rows question at rows)
+may_serve t client at question rows has e version is = record {
+  asked = has.newest.request;
+  held = found_first t.grabbed client has.newest has.others has.grabbed_is has.client_is;
+  serves = (
+    sym has.question_is,
+    version,
+    is ∙ ap (λ xs. rows_after t.hall.base question xs)
+        (sym (ap (λ n. take n t.seen) e ∙ take_all (length t.seen) t.seen (omega arith))),
+  );
+}
+
+pub may_give_up : (t : Token) (client : ℕ) (question : Query × List Value) (cause : Unserved)
+    → HasInHand t.grabbed client question → IsCause cause → MayAnswer t client (answer.Unserved question cause)
+may_give_up t client question cause has is = record {
+  asked = has.newest.request;
+  held = found_first t.grabbed client has.newest has.others has.grabbed_is has.client_is;
+  serves = (sym has.question_is, is);
+}
+
+-- an answer to the newest request
+pub gave_one : (t : Token) (client : ℕ) (question : Query × List Value) (reply : Answer) (after : Token)
+    → HasInHand t.grabbed client question → Answers t client reply after → GaveOne t (outcome_of reply) after
+gave_one t client question reply after has answers = record {
+  newest = has.newest;
+  others = has.others;
+  grabbed_is = has.grabbed_is;
+  given = given_to client answers.asked reply;
+  outcome_is = refl;
+  fresh = answers.fresh;
+  now = done (λ d. record t {
+    grabbed = without client t.grabbed;
+    given = t.given ++ given_to client answers.asked reply ∷ [];
+    did = d;
+  }) (λ d. refl) answers.now
+      ∙ ap (λ gs. record t {
+        grabbed = gs;
+        given = t.given ++ given_to client answers.asked reply ∷ [];
+        did = after.did;
+      }) (without_first t.grabbed client has.newest has.others has.grabbed_is has.client_is);
+}
+
+snoc_inj : {X : Type 0} (xs ys : List X) (x y : X) → xs ++ x ∷ [] ≡ ys ++ y ∷ [] → (xs ≡ ys) × (x ≡ y)
+snoc_inj [] [] x y e = (refl, cc)
+snoc_inj [] (b ∷ ys) x y e = let t : ys ++ y ∷ [] ≡ [] = cc in absurd (not_empty ys y t)
+snoc_inj (a ∷ xs) [] x y e = let t : xs ++ x ∷ [] ≡ [] = cc in absurd (not_empty xs x t)
+snoc_inj (a ∷ xs) (b ∷ ys) x y e = let h : a ≡ b = cc in let t : xs ++ x ∷ [] ≡ ys ++ y ∷ [] = cc in let r =
+    snoc_inj xs ys x y t in let l : xs ≡ ys = r.0 in (cc, r.1)
+
+-- the last of the hand is the newest request, and the rest of the hand is the others
+pub record Popped (hand : Hand) (grabbed : List Grabbed) (client : ℕ) (question : Query × List Value) : Type 0 where
+  pub has : HasInHand grabbed client question
+  pub keeps : Keeps hand has.others
+
+pub popped : (hand : Hand) (grabbed : List Grabbed) (client : ℕ) (question : Query × List Value)
+    → Keeps (with_one hand client question) grabbed → Popped hand grabbed client question
+popped hand [] client question keeps = absurd (not_empty hand.clients client keeps.clients)
+popped hand (newest ∷ others) client question keeps =
+    let c = snoc_inj hand.clients (clients_of others) client newest.client keeps.clients in
+    let q = snoc_inj hand.questions (questions_of others) question newest.request.query keeps.questions in
+    record {
+      has = record { newest = newest; others = others; grabbed_is = refl; client_is = sym c.1; question_is = sym q.1 };
+      keeps = record { clients = c.0; questions = q.0 };
+    }
+
+-- no hand, no requests
+pub none_grabbed : (grabbed : List Grabbed) → Keeps no_hand grabbed → grabbed ≡ []
+none_grabbed [] keeps = refl
+none_grabbed (newest ∷ others) keeps = absurd (not_empty (clients_of others) newest.client (sym keeps.clients))
+
+pub gave_none : (t : Token) (outcome : Outcome) → Gave t 0 outcome t
+gave_none t outcome = record {
+  more = [];
+  count_is = refl;
+  outcomes = All-nil (λ (given : Given). given.outcome ≡ outcome);
+  fresh = All-nil IsFresh;
+  now = ap (λ gs. record t { given = gs }) (sym (append-nil t.given));
+}
+
+pub gave_more : (before t after : Token) (count : ℕ) (outcome : Outcome) → Gave before count outcome t
+    → GaveOne t outcome after → Gave before (count + 1) outcome after
+gave_more before t after count outcome gave one =
+    let n : length gave.more ≡ count = gave.count_is in
+    record {
+      more = gave.more ++ one.given ∷ [];
+      count_is = omega (arith, length_push gave.more one.given);
+      outcomes = All-push (λ (given : Given). given.outcome ≡ outcome) gave.more one.given gave.outcomes one.outcome_is;
+      fresh = All-push IsFresh gave.more one.given gave.fresh one.fresh;
+      now = subst (λ u. u ≡ record before {
+        grabbed = u.grabbed;
+        given = before.given ++ (gave.more ++ one.given ∷ []);
+        did = u.did;
+      }) (sym one.now)
+          (ap (λ (u : Token). record u { grabbed = one.others; given = u.given ++ one.given ∷ []; did = after.did })
+          gave.now ∙ ap (λ gs. record before { grabbed = one.others; given = gs; did = after.did })
+          (append_assoc before.given gave.more (one.given ∷ [])));
+    }
+
+pub left_keeps : (t : Token) (outcome : Outcome) (after : Token) (hand : Hand) (client : ℕ)
+    (question : Query × List Value) → GaveOne t outcome after → Popped hand t.grabbed client question
+    → Keeps hand after.grabbed
+left_keeps t outcome after hand client question one last =
+    let both : one.newest ∷ one.others ≡ last.has.newest ∷ last.has.others = sym one.grabbed_is ∙ last.has.grabbed_is in
+    let same : one.others ≡ last.has.others = cc in
+    subst (λ gs. Keeps hand gs) (sym (ap (λ (u : Token). u.grabbed) one.now ∙ same)) last.keeps
+
+-- the last of the rows answers the last of the questions
+pub record RowsPopped (base : Tables) (seen : List CommitRecord) (questions : List (Query × List Value))
+    (question : Query × List Value) (rest : List Rows) (found : Rows) : Type 0 where
+  pub rest_is : rest ≡ answers_after base seen questions
+  pub query_is : found.query ≡ question
+  pub answered : Answered base seen found
+
+pub rows_popped : (base : Tables) (seen : List CommitRecord) (questions : List (Query × List Value))
+    (question : Query × List Value) (rows rest : List Rows) (found : Rows)
+    → rows ≡ answers_after base seen (questions ++ question ∷ []) → rows ≡ rest ++ found ∷ []
+    → RowsPopped base seen questions question rest found
+rows_popped base seen questions question rows rest found is ends =
+    let f : Query × List Value → Rows = λ q. record { query = q; list = rows_after base q seen } in
+    let r = snoc_inj rest (answers_after base seen questions) found (f question)
+    (sym ends ∙ (is ∙ map_push f questions question)) in
+    let q : found.query ≡ question = ap (λ (row : Rows). row.query) r.1 in
+    record {
+      rest_is = r.0;
+      query_is = q;
+      answered = ap (λ (row : Rows). row.list) r.1 ∙ ap (λ x. rows_after base x seen) (sym q);
+    }
+
+pub some_rows : (base : Tables) (seen : List CommitRecord) (questions : List (Query × List Value))
+    (question : Query × List Value) (rows : List Rows) → rows ≡ answers_after base seen (questions ++ question ∷ [])
+    → length rows ≡ 0 → ⊥
+some_rows base seen questions question rows is none =
+    let f : Query × List Value → Rows = λ q. record { query = q; list = rows_after base q seen } in
+    let n : length rows ≡ length (answers_after base seen questions ++ f question ∷ []) =
+    ap length (is ∙ map_push f questions question) in
+    omega (arith, length_push (answers_after base seen questions) (f question))
+
+pub in_hand_of : (grabbed : List Grabbed) (client : ℕ) (question other : Query × List Value) → other ≡ question
+    → HasInHand grabbed client question → HasInHand grabbed client other
+in_hand_of grabbed client question other e has = subst (λ q. HasInHand grabbed client q) (sym e) has

@@ -1,0 +1,290 @@
+-- Beginnings of histories, and what an entered copy stands for.
+use Rattle.std.proofs.Common.{
+  ◌≡◌,
+  map,
+  ℕ,
+  ◌≤◌,
+  List,
+  [],
+  ◌++◌,
+  length,
+  take,
+  drop,
+  refl,
+  ap,
+  sym,
+  subst,
+  ◌∙◌,
+  arith,
+  append_assoc,
+}
+use Rattle.std.proofs.lemmas.List.{append-nil}
+use Rattle.std.proofs.lemmas.List.Elements.{All-head}
+use Rattle.std.specs.Prelude.{All, Result, Ok, Err, MatchResult, is_err, false, true, Some, None}
+use Rattle.std.specs.declared.alloc.AllocError.{AllocError}
+use Rattle.std.proofs.lemmas.List.{map-id}
+use Rattle.row_store.specs.History.{CommitRecord, IsPrefix}
+use Rattle.row_store.proofs.PrefixLaws.{
+  begins_with_itself,
+  beginnings_chain,
+  beginnings_are_shorter,
+  as_long_is_the_whole,
+  prefix_take,
+  prefix_drop,
+  prefix_behind,
+}
+use Rattle.row_store.specs.State.{State, StandsFor}
+use Rattle.ssb_schema.specs.Base.{Tables}
+use Rattle.history.specs.Tokens.{Hall, Token, Took, IsSound, with_writer, without_writer}
+use Rattle.twin_cell.specs.Twin.{Writing, Known, Entered}
+use Rattle.ssb_server.proofs.DeedLaws.{done}
+use Rattle.ssb_server.specs.Turns.{
+  IsDispatcher,
+  HasFetched,
+  HasBeside,
+  HasTaken,
+  Fetches,
+  StandsAt,
+  Knows,
+  Follows,
+  AppendsFirst,
+}
+
+-- what an iterator has given so far
+pub prefix_yielded : (list yielded : List CommitRecord) → map (λ y. y) yielded ≡ take (length yielded) list
+    → IsPrefix yielded list
+prefix_yielded list yielded e = subst (λ xs. IsPrefix xs list) (sym (sym (map-id yielded) ∙ e))
+    (prefix_take (length yielded) list)
+
+pub beside_seen : (t : Token) (count : ℕ) (seen : List CommitRecord) (has : HasBeside t count)
+    → All (λ list. IsPrefix list seen) t.beside → IsPrefix has.list seen
+beside_seen t count seen has all = All-head (λ list. IsPrefix list seen) has.list has.more
+    (subst (λ lists. All (λ list. IsPrefix list seen) lists) has.beside_is all)
+
+-- the writer has not taken more commits than the token sees
+pub within_seen : (before : Token) (count : ℕ) (after : Token) → HasBeside before count → Took before after
+    → count ≤ length after.seen
+within_seen before count after has took =
+    let e : count ≡ length has.list = has.count_is in
+    let n = beginnings_are_shorter has.list after.seen (beside_seen before count after.seen has took.beside) in
+    omega arith
+
+-- an entered copy that holds just as many commits as were told stands for what was told
+pub stands_at : (base : Tables) (list : List CommitRecord) (known : Known) (guard : Entered)
+    → known ≡ record { base = base; told = list } → guard.state.base ≡ known.base → guard.told ≡ known.told
+    → IsPrefix known.told guard.list → StandsFor guard.state guard.list → guard.state.commits ≡ length list
+    → StandsAt base list guard
+stands_at base list known guard knows over told begins stands count =
+    let n : guard.state.commits ≡ length guard.list = ap (λ (s : State). s.commits) stands in
+    let k : known.told ≡ list = ap (λ (x : Known). x.told) knows in
+    let p : IsPrefix list guard.list = subst (λ xs. IsPrefix xs guard.list) k begins in
+    let whole : guard.list ≡ list = sym (as_long_is_the_whole list guard.list p (sym count ∙ n)) in
+    record {
+      base_is = over ∙ ap (λ (x : Known). x.base) knows;
+      stands = subst (λ xs. StandsFor guard.state xs) whole stands;
+      told = subst (λ xs. IsPrefix xs list) (sym (told ∙ k)) (begins_with_itself list);
+    }
+
+-- the reader that left it knows what was told
+pub left_knows : (base : Tables) (list : List CommitRecord) (known : Known) (guard : Entered) (back : Known)
+    → known ≡ record { base = base; told = list } → guard.state.base ≡ known.base → guard.told ≡ known.told
+    → back.base ≡ guard.state.base → back.told ≡ guard.told → Knows base list back
+left_knows base list known guard back knows over told back_base back_told = record {
+  base_is = back_base ∙ (over ∙ ap (λ (x : Known). x.base) knows);
+  told = subst (λ xs. IsPrefix xs list) (sym (back_told ∙ (told ∙ ap (λ (x : Known). x.told) knows)))
+      (begins_with_itself list);
+}
+
+-- the writer has the first of the commits pending too
+pub first_follows : (before : Writing) (commits : List CommitRecord) (after : Writing)
+    → AppendsFirst before commits after → Follows before.base (before.published ++ before.pending ++ commits) after
+first_follows before commits after has = subst (λ w. Follows before.base (before.published ++ before.pending ++ commits)
+    w) (sym has.now) record {
+      base_is = refl;
+      taken = subst (λ xs. IsPrefix xs (before.published ++ before.pending ++ commits))
+          (append_assoc before.published before.pending has.kept)
+          (prefix_behind (before.published ++ before.pending) has.kept commits has.first);
+    }
+
+-- it has all of them pending
+pub all_follow : (before : Writing) (commits : List CommitRecord) (after : Writing)
+    → after ≡ record before { pending = before.pending ++ commits }
+    → Follows before.base (before.published ++ before.pending ++ commits) after
+all_follow before commits after now = subst (λ w. Follows before.base (before.published ++ before.pending ++ commits) w)
+    (sym now) record {
+      base_is = refl;
+      taken = subst (λ xs. IsPrefix xs (before.published ++ before.pending ++ commits))
+          (append_assoc before.published before.pending commits)
+          (begins_with_itself (before.published ++ before.pending ++ commits));
+    }
+
+-- and publishes them
+pub all_published : (before : Writing) (commits : List CommitRecord) (between after : Writing)
+    → between ≡ record before { pending = before.pending ++ commits }
+    → after ≡ record { base = between.base; published = between.published ++ between.pending; pending = [] }
+    → after ≡ record { base = before.base; published = before.published ++ before.pending ++ commits; pending = [] }
+all_published before commits between after now is =
+    is ∙ (ap (λ (w : Writing). record { base = w.base; published = w.published ++ w.pending; pending = [] }) now
+    ∙ ap (λ xs. record { base = before.base; published = xs; pending = [] })
+    (sym (append_assoc before.published before.pending commits)))
+
+pub published_follows : (base : Tables) (list : List CommitRecord) (after : Writing)
+    → after ≡ record { base = base; published = list; pending = [] } → Follows base list after
+published_follows base list after now = subst (λ w. Follows base list w) (sym now)
+    record { base_is = refl; taken = subst (λ xs. IsPrefix xs list) (sym (append-nil list)) (begins_with_itself list) }
+
+abbrev pub renewed : Writing → List CommitRecord → Writing
+renewed before commits = record {
+  base = before.base;
+  published = before.published ++ before.pending ++ commits;
+  pending = [];
+}
+
+-- a publication of all that was appended
+pub renews : (before : Writing) (commits : List CommitRecord) (between : Writing)
+    (result : Result (Unit {0}) AllocError) (after : Writing)
+    → between ≡ record before { pending = before.pending ++ commits }
+    → MatchResult result (λ _. after ≡ record {
+      base = between.base;
+      published = between.published ++ between.pending;
+      pending = [];
+    }) (λ _. after ≡ between)
+    → MatchResult result (λ _. after ≡ renewed before commits)
+    (λ _. Follows before.base (before.published ++ before.pending ++ commits) after)
+renews before commits between (Ok _) after now is = all_published before commits between after now is
+renews before commits between (Err _) after now is = all_follow before commits after (is ∙ now)
+
+-- the writer follows, whether it published or not
+pub renewed_follows : (before : Writing) (commits : List CommitRecord) (result : Result (Unit {0}) AllocError)
+    (after : Writing) → MatchResult result (λ _. after ≡ renewed before commits)
+    (λ _. Follows before.base (before.published ++ before.pending ++ commits) after)
+    → Follows before.base (before.published ++ before.pending ++ commits) after
+renewed_follows before commits (Ok _) after is = published_follows before.base
+    (before.published ++ before.pending ++ commits) after is
+renewed_follows before commits (Err _) after is = is
+
+pub renewed_is : (before : Writing) (commits : List CommitRecord) (result : Result (Unit {0}) AllocError)
+    (after : Writing) → MatchResult result (λ _. after ≡ renewed before commits)
+    (λ _. Follows before.base (before.published ++ before.pending ++ commits) after) → is_err result ≡ false
+    → after ≡ renewed before commits
+renewed_is before commits (Ok _) after is ok = is
+renewed_is before commits (Err _) after is ok = absurd (cc)
+
+-- a writer's list and the commits that were fetched after it are all that the token sees
+pub fetched_all : (t : Token) (writer : Writing) (taken : ℕ) (after : Token) (commits : List CommitRecord)
+    → HasTaken t writer → taken ≡ length (writer.published ++ writer.pending) → Fetches t after
+    → commits ≡ drop taken after.seen
+    → writer.published ++ writer.pending ++ commits ≡ after.seen
+fetched_all t writer taken after commits has count fetches is =
+    let list : List CommitRecord = writer.published ++ writer.pending in
+    let p : IsPrefix list after.seen = beside_seen t taken after.seen
+    (record { list = list; more = has.more; beside_is = has.beside_is; count_is = count }) fetches.beside in
+    ap (λ xs. list ++ xs) (is ∙ ap (λ n. drop n after.seen) count) ∙ prefix_drop list after.seen p
+
+pub taken_follows : (t : Token) (writer : Writing) (after : Token) → HasTaken t writer → Fetches t after
+    → Follows after.hall.base after.seen writer
+taken_follows t writer after has fetches = record {
+  base_is = has.base_is ∙ sym (ap (λ (u : Token). u.hall.base) fetches.now);
+  taken = beside_seen t (length (writer.published ++ writer.pending)) after.seen
+      (record {
+        list = writer.published ++ writer.pending;
+        more = has.more;
+        beside_is = has.beside_is;
+        count_is = refl;
+      }) fetches.beside;
+}
+
+pub knows_later : (t : Token) (reader : Known) (after : Token) → Fetches t after → Knows t.hall.base t.seen reader
+    → Knows after.hall.base after.seen reader
+knows_later t reader after fetches knows = record {
+  base_is = knows.base_is ∙ sym (ap (λ (u : Token). u.hall.base) fetches.now);
+  told = beginnings_chain reader.told t.seen after.seen knows.told fetches.begins;
+}
+
+-- the writer's base is that of the token, before and after
+pub same_base : (t : Token) (writer : Writing) (after : Token) → HasTaken t writer → Fetches t after
+    → after.hall.base ≡ writer.base
+same_base t writer after has fetches = ap (λ (u : Token). u.hall.base) fetches.now ∙ sym has.base_is
+
+-- what is said of a base and a list holds of equal ones
+pub along : (P : Tables → List CommitRecord → Type 0) {base other : Tables} {list more : List CommitRecord}
+    → base ≡ other → list ≡ more → P base list → P other more
+along P {base} {other} {list} {more} e f h = subst (λ xs. P other xs) f (subst (λ b. P b list) e h)
+
+pub dispatcher_with : (hall : Hall) (t : Token) (list : List CommitRecord) (u : Token) → u ≡ with_writer t list
+    → IsDispatcher hall t → IsDispatcher hall u
+dispatcher_with hall t list u e is = subst (λ x. IsDispatcher hall x) (sym e)
+    record { hall_is = is.hall_is; number = is.number; who_is = is.who_is }
+
+pub dispatcher_fetched : (hall : Hall) (t u : Token) → Fetches t u → IsDispatcher hall t → IsDispatcher hall u
+dispatcher_fetched hall t u fetches is = subst (λ x. IsDispatcher hall x) (sym fetches.now)
+    record { hall_is = is.hall_is; number = is.number; who_is = is.who_is }
+
+pub taken_with : (t : Token) (writer : Writing) (u : Token) → u ≡ with_writer t (writer.published ++ writer.pending)
+    → writer.base ≡ t.hall.base → HasTaken u writer
+taken_with t writer u e base = subst (λ x. HasTaken x writer) (sym e)
+    record { more = t.beside; beside_is = refl; base_is = base }
+
+pub knows_with : (t : Token) (list : List CommitRecord) (u : Token) (reader : Known) → u ≡ with_writer t list
+    → Knows t.hall.base t.seen reader → Knows u.hall.base u.seen reader
+knows_with t list u reader e knows = subst (λ (x : Token). Knows x.hall.base x.seen reader) (sym e) knows
+
+pub snapshot_fetched : (before : Token) (list : List CommitRecord) (taken fetched after : Token)
+    → before.has_writer ≡ false → taken ≡ with_writer before list → Fetches taken fetched
+    → after ≡ without_writer fetched → HasFetched before after
+snapshot_fetched before list taken fetched after free first fetches put =
+    let e2 : fetched ≡ record before {
+      seen = fetched.seen;
+      beside = [];
+      has_writer = true;
+      mark = Some (length fetched.seen);
+      version = None;
+      did = fetched.did;
+    } =
+    fetches.now ∙ ap (λ (u : Token). record u {
+      seen = fetched.seen;
+      beside = [];
+      mark = Some (length fetched.seen);
+      did = fetched.did;
+    }) first in
+    let e1 : after ≡ record fetched { has_writer = false; version = fetched.mark; did = after.did } =
+    done (λ d. record fetched { has_writer = false; version = fetched.mark; did = d }) (λ d. refl) put in
+    let e3 : after ≡ record before {
+      seen = fetched.seen;
+      beside = [];
+      has_writer = false;
+      mark = Some (length fetched.seen);
+      version = Some (length fetched.seen);
+      did = after.did;
+    } =
+    e1 ∙ ap (λ (u : Token). record u { has_writer = false; version = u.mark; did = after.did }) e2 in
+    let e4 : after ≡ record before {
+      seen = fetched.seen;
+      beside = [];
+      mark = Some (length fetched.seen);
+      version = Some (length fetched.seen);
+      did = after.did;
+    } =
+    e3 ∙ ap (λ b. record before {
+      seen = fetched.seen;
+      beside = [];
+      has_writer = b;
+      mark = Some (length fetched.seen);
+      version = Some (length fetched.seen);
+      did = after.did;
+    }) (sym free) in
+    let s : after.seen ≡ fetched.seen = ap (λ (u : Token). u.seen) put in
+    record {
+      begins = subst (λ xs. IsPrefix xs after.seen) (ap (λ (u : Token). u.seen) first)
+          (subst (λ xs. IsPrefix taken.seen xs) (sym s) fetches.begins);
+      now = subst (λ xs. after ≡ record before {
+        seen = xs;
+        beside = [];
+        mark = Some (length xs);
+        version = Some (length xs);
+        did = after.did;
+      }) (sym s) e4;
+    }
+
+pub sound_without : (t u : Token) → u ≡ without_writer t → IsSound t → IsSound u
+sound_without t u e sound = subst IsSound (sym e) record { legal = sound.legal; named = sound.named; owns = sound.owns }
