@@ -249,27 +249,27 @@ fn the_rows_are_the_lines_of_a_plain_list(rt: HostRuntime) -> Result<(), Fail> {
     Ok(())
 }
 
-// Commits that add two orders and withdraw them, and then the same orders with other numbers of lines.
-fn turnover(alloc: Global) -> Result<Vec<Commit>, Fail> {
-    let (nine, three) = ([order_nine()], three());
-    all(
-        alloc,
-        &[
-            &[Step::Add(7, &three), Step::Add(9, &nine)],
-            &[Step::Withdraw(9)],
-            &[Step::Withdraw(7)],
-            &[Step::Add(7, &nine), Step::Add(9, &three)],
-            &[Step::Withdraw(9)],
-            &[Step::Withdraw(7)],
-        ],
-    )
+// A commit that adds orders 7 and 9 with these lines, and two that withdraw them.
+fn come_and_go(
+    alloc: Global,
+    commits: &mut Vec<Commit>,
+    seven: &[Sale],
+    nine: &[Sale],
+) -> Result<(), Fail> {
+    commits.push(commit(alloc, &[Step::Add(7, seven), Step::Add(9, nine)])?)?;
+    commits.push(commit(alloc, &[Step::Withdraw(9)])?)?;
+    commits.push(commit(alloc, &[Step::Withdraw(7)])?)?;
+    Ok(())
 }
 
 #[test]
 fn places_do_not_grow_with_turnover(rt: HostRuntime) -> Result<(), Fail> {
     let alloc = rt.alloc();
     let mut columns = columns(&rt, alloc)?;
-    let commits = turnover(alloc)?;
+    let (nine, three) = ([order_nine()], three());
+    let mut commits = Vec::new(alloc);
+    come_and_go(alloc, &mut commits, &three, &nine)?;
+    come_and_go(alloc, &mut commits, &nine, &three)?;
     for _ in 0..10_000 {
         for commit in &commits {
             take(&mut columns, commit)?;

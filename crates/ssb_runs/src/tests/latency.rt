@@ -5,6 +5,7 @@ use crate::latency::{Latencies, Latency, Timer, joined, latencies_of};
 use ssb_session::{Kind, Meter};
 use stand_ins::Ticking;
 use std::test::Fail;
+use std::time::Duration;
 
 // The middle, the 99th percentile and the greatest.
 fn figures(times: &Histogram) -> (u64, u64, u64) {
@@ -71,7 +72,7 @@ fn a_timer_that_stands_still_reads_no_clock(rt: HostRuntime) -> Result<(), Fail>
     let mut still = Timer::new(rt.alloc(), &clock, false)?;
     still.begin();
     still.end(Kind::Question);
-    assert_eq!(rt; clock.0.get(), 7);
+    assert_eq!(rt; clock.now(), 7);
     assert_eq!(rt; latencies_of(&still.into_times()), Latencies::default());
     Ok(())
 }
