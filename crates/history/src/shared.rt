@@ -181,8 +181,8 @@ impl<W: Follower + Drop> Shared<W> {
     }
 
     /// Gives the row store back, as it was taken or with one commit more of the pass's client. One that waits for it
-    /// is woken where it was given back as it was, and by each 16,384th commit, so that clients that commit side by
-    /// side do so in runs; nobody sleeps for it for more than 32 milliseconds at a time, and `wake_waiting` ends
+    /// is woken where it was given back as it was, and by each 4,096th commit, so that clients that commit side by
+    /// side do so in runs; nobody sleeps for it for more than four milliseconds at a time, and `wake_waiting` ends
     /// these sleeps.
     pub fn put_rows(&self, pass: &mut Pass<W>, rows: RowStore)
         requires hall { pass.old.hall ≡ self.now }

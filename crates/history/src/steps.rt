@@ -20,10 +20,10 @@ use std::sync::Wait;
 use std::time::Duration;
 
 /// The longest sleep of one that waits for the row store, in microseconds: then it tries again, though nobody woke it.
-const LONGEST_SLEEP: u64 = 32_000;
+const LONGEST_SLEEP: u64 = 4_000;
 
 /// One that waits for the row store is woken by each commit whose number this divides.
-const COMMITS_A_RUN: u64 = 16_384;
+const COMMITS_A_RUN: u64 = 4_096;
 
 /// Waits until the row store is home, and takes it.
 pub(crate) fn take_rows<W: Follower + Drop, R: Wait>(
