@@ -38,10 +38,10 @@ Examples:
   ssb_live query --data tables --all --times";
 
 const RUN_HELP: &str = "\
-Serves 1 to 16 scripts at once over the five table files of a folder: each script is a client of the live server in a
-thread of its own, and the dispatchers answer the clients' questions in batches. When all have ended it prints for each
-script, in the order given, the line 'client K' and the report of its records, and at the end the line 'commits C'. With
---trace it then writes the commits and the answers into FILE, which 'ssb_live audit' checks.
+Serves 1 to 16 scripts at once over the five table files of a folder: each script is a client of the live server, and
+the dispatchers answer the clients' questions in batches. When all have ended it prints for each script,
+in the order given, the line 'client K' and the report of its records, and at the end the line 'commits C'. With --trace
+it then writes the commits and the answers into FILE, which 'ssb_live audit' checks.
 
 A script has one record a line: 'query|NAME' or 'query|NAME|CONSTANT..' asks; 'begin', then 'add' or 'amend' with
 'line|..' records and 'withdraw|KEY', then 'commit' is one refresh, which is taken whole or refused whole.

@@ -1,3 +1,5 @@
 mod ListLaws
 mod SessionLaws
 mod RunLaws
+mod ProgressLaws
+mod GroupLaws

@@ -1,10 +1,11 @@
 -- What the threads of a run do.
-use Rattle.std.specs.Prelude.{◌≡◌, ℕ, All, List, [], ◌∷◌, Some, None}
+use Rattle.std.specs.Prelude.{◌≡◌, ℕ, Bool, false, All, List, [], ◌∷◌, ◌++◌, map, flat_map, Some, None, Vec, vec_items}
 use Rattle.history.specs.Tokens.{Hall, Token}
 use Rattle.history.specs.World.{number_of}
 use Rattle.ssb_audit.specs.declared.trace.Told.{Told}
 use Rattle.ssb_script.specs.declared.block.Script.{Script}
-use Rattle.ssb_script.specs.Requests.{requests_of}
+use Rattle.ssb_script.specs.Requests.{Request, request_of, requests_of}
+use Rattle.ssb_script.specs.declared.block.Block.{Block}
 use Rattle.ssb_server.specs.Tickets.{IsQuiet, IsOf, AreAllThere}
 use Rattle.ssb_session.specs.Served.{Serves}
 
@@ -24,6 +25,30 @@ pub record IsTaskAt (hall : Hall) (task : Task) : Type 0 where
   pub hall_is : task.client.hall ≡ hall
   pub quiet : task.client.asked ≡ None
 
+-- each task of a group is one at this table
+abbrev pub AreTasksAt : {Z : Type 0} → Hall → Vec Task Z → Type 0
+AreTasksAt hall group = All (IsTaskAt hall) (vec_items group)
+
+-- the tasks of all groups, in order
+abbrev pub all_tasks : {Z : Type 0} → List (Vec Task Z) → List Task
+all_tasks groups = flat_map vec_items groups
+
+-- the task's client was served the first requests of its script, with nothing reported and told before, and asks
+-- nothing; these blocks are left
+pub record IsUnderWay (task : Task) (client : Token) (left : List Block) (report : List ℕ) (told : List Told) :
+    Type 0 where
+  pub hall : client.hall ≡ task.client.hall
+  pub who : client.who ≡ task.client.who
+  pub quiet : client.asked ≡ None
+  pub front : List Request
+  pub whole : requests_of task.script ≡ front ++ map request_of left
+  pub served : Serves (number_of task.client.who) task.client client front [] told (Some []) (Some report)
+
+-- the same, but where memory was wanting
+abbrev pub IsProgress : Bool → Task → Token → List Block → List ℕ → List Told → Type 0
+IsProgress lacks_memory task client left report told =
+    lacks_memory ≡ false → IsUnderWay task client left report told
+
 -- the task's client was served its script whole, with nothing reported and told before, and asks nothing at the end
 pub record IsSessionOf (task : Task) (session : Session) : Type 0 where
   pub hall : session.client.hall ≡ task.client.hall
@@ -38,6 +63,10 @@ AreSessionsOf [] [] = Unit {0}
 AreSessionsOf (task ∷ tasks) (session ∷ sessions) = IsSessionOf task session × AreSessionsOf tasks sessions
 AreSessionsOf [] (session ∷ sessions) = ⊥
 AreSessionsOf (task ∷ tasks) [] = ⊥
+
+-- a session of each task of these groups, in order
+pub record AreServed {Z : Type 0} (groups : List (Vec Task Z)) (sessions : List Session) : Type 0 where
+  pub are : AreSessionsOf (all_tasks groups) sessions
 
 -- the same member of the same table
 pub record IsStill (before after : Token) : Type 0 where

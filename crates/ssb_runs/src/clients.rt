@@ -1,9 +1,11 @@
 //! The threads of the clients.
-ghost use Rattle.std.specs.Prelude.{◌≡◌, ◌+◌, ◌≤◌, [], ◌++◌, All, IfOk, OnOk, map, length, vec_len, vec_capacity};
-ghost use Rattle.ssb_runs.specs.Sessions.{IsSessionOf, AreSessionsOf, IsTaskAt};
+ghost use Rattle.std.specs.Prelude.{◌≡◌, ◌+◌, ◌≤◌, ◌++◌, true, All, IfOk, OnOk, map, vec_len, vec_capacity};
+ghost use Rattle.std.specs.Result.{is_ok};
+ghost use Rattle.ssb_runs.specs.Sessions.{AreServed, AreSessionsOf, AreTasksAt};
 
 use crate::job::Job;
-use crate::session::{Session, serve_script};
+use crate::latency::joined;
+use crate::session::{Session, Sessions, serve_jobs};
 use ssb_server::Server;
 use std::alloc::{AllocError, Global};
 use std::snapshot::Snapshot;
@@ -11,64 +13,82 @@ use std::sync::Wait;
 use std::thread::{Promise, PromisedHandle, Scope, Threads};
 use std::time::Clock;
 
-// What a client's thread ends with.
-type Served<W> = Result<Session<W>, AllocError>;
+// What a thread of clients ends with.
+type Served<W> = Result<Sessions<W>, AllocError>;
 
-/// What a client's thread promises: the session of its job.
+/// What a thread of clients promises: the sessions of its jobs.
 #[derive(Drop)]
-pub(crate) struct SessionOf<W: Wait + Drop> {
-    job: Snapshot<Job<W>>,
+pub(crate) struct SessionsOf<W: Wait + Drop> {
+    jobs: Snapshot<Vec<Job<W>>>,
 }
 
-impl<W: Wait + Drop> Promise<Served<W>> for SessionOf<W> {
-    ghost kept_by = { λ p served. IfOk served (λ session. IsSessionOf p.job.value session) };
+impl<W: Wait + Drop> Promise<Served<W>> for SessionsOf<W> {
+    ghost kept_by = { λ p served. IfOk served (λ ended. AreSessionsOf p.jobs.value.items ended.sessions.items) };
 }
 
-/// A client's thread.
-pub(crate) type Serving<W> = PromisedHandle<Served<W>, SessionOf<W>>;
+/// A thread of clients.
+pub(crate) type Serving<W> = PromisedHandle<Served<W>, SessionsOf<W>>;
 
-/// Starts a thread for each job, in order. Where a thread can't be started, no later one is.
+/// Starts a thread for each group of jobs, in order. Where a thread can't be started, no later one is.
 pub(crate) fn start_clients<'s, E, W: Wait + Drop + Send, R: Wait + Threads + Sync + Clock>(
     scope: &Scope<'s, E>,
     rt: &'s R,
     alloc: Global,
     server: &'s Server<W>,
-    jobs: Vec<Job<W>>,
+    groups: Vec<Vec<Job<W>>>,
     serving: &mut Vec<Serving<W>>,
 ) -> Result<(), AllocError>
-    requires jobs { All (IsTaskAt server.now) jobs.items }
-    requires room { vec_len serving.old + vec_len jobs ≤ vec_capacity serving.old }
-    ensures room { (vec_len serving.new ≤ vec_len serving.old + vec_len jobs)
+    requires jobs { All (AreTasksAt server.now) groups.items }
+    requires room { vec_len serving.old + vec_len groups ≤ vec_capacity serving.old }
+    ensures room { (vec_len serving.new ≤ vec_len serving.old + vec_len groups)
         × (vec_capacity serving.new ≡ vec_capacity serving.old) }
-    ensures started { OnOk result (map (λ h. h.promise.job.value) serving.new.items ≡ map (λ h. h.promise.job.value)
-        serving.old.items ++ jobs.items) }
+    ensures started { OnOk result (map (λ h. h.promise.jobs.value) serving.new.items ≡ map (λ h. h.promise.jobs.value)
+        serving.old.items ++ groups.items) }
 {
-    for job in jobs {
-        let promise = SessionOf {
-            job: Snapshot::of(&job),
+    for group in groups {
+        let promise = SessionsOf {
+            jobs: Snapshot::of(&group),
         };
-        let thread = scope.spawn_with(promise, move || serve_script(rt, alloc, server, job))?;
+        let thread = scope.spawn_with(promise, move || serve_jobs(rt, alloc, server, group))?;
         serving.push_reserved(thread);
     }
     Ok(())
 }
 
-/// Waits until all these clients have ended, and adds the sessions of those that were served whole, in order.
+// Adds the sessions of a thread, where all before were served whole.
+fn add<W: Wait + Drop>(
+    all: Result<(), AllocError>,
+    sessions: &mut Vec<Session<W>>,
+    mut more: Vec<Session<W>>,
+) -> Result<(), AllocError>
+    ensures all { OnOk result (is_ok all ≡ true) }
+    ensures added { OnOk result (sessions.new.items ≡ sessions.old.items ++ more.items) }
+{
+    all?;
+    sessions.append(&mut more)?;
+    Ok(())
+}
+
+/// Waits until all these threads have ended: the sessions of their clients, in order, where all were served whole.
 pub(crate) fn join_clients<W: Wait + Drop, R: Threads>(
     rt: &R,
+    alloc: Global,
     serving: Vec<Serving<W>>,
-    sessions: &mut Vec<Session<W>>,
-) -> Result<(), AllocError>
-    requires empty { sessions.old.items ≡ [] }
-    requires room { vec_len serving ≤ vec_capacity sessions.old }
-    ensures { OnOk result (AreSessionsOf (map (λ h. h.promise.job.value) serving.items) sessions.new.items) }
+) -> Result<Sessions<W>, AllocError>
+    ensures { IfOk result (λ ended. AreServed (map (λ h. h.promise.jobs.value) serving.items) ended.sessions.items) }
 {
+    let mut sessions = Vec::new(alloc);
+    let mut times = None;
     let mut all = Ok(());
     for thread in serving {
         match thread.join(rt) {
-            Ok(session) => sessions.push_reserved(session),
+            Ok(ended) => {
+                times = joined(times, ended.times);
+                all = add(all, &mut sessions, ended.sessions);
+            }
             Err(_) => all = Err(AllocError),
         }
     }
-    all
+    all?;
+    Ok(Sessions { sessions, times })
 }

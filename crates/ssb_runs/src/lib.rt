@@ -23,9 +23,11 @@ mod batches;
 mod clients;
 mod dispatchers;
 mod fault;
+mod groups;
 mod histogram;
 mod job;
 mod latency;
+mod progress;
 mod run;
 mod session;
 #[cfg(test)]

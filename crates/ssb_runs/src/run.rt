@@ -9,7 +9,7 @@ ghost use Rattle.ssb_server.specs.Opening.{AreCounts};
 use crate::batches::Batches;
 use crate::fault::RunFault;
 use crate::job::Job;
-use crate::latency::{Latencies, Times, joined, latencies_of};
+use crate::latency::{Latencies, latencies_of};
 use crate::session::Session;
 use crate::threads::{Ended, run_threads};
 use ssb_audit::{Told, Trace};
@@ -40,7 +40,6 @@ struct Gathered<W: Wait + Drop> {
     clients: Vec<Client<W>>,
     reports: Vec<Vec<u8>>,
     told: Vec<Told>,
-    times: Option<Times>,
 }
 
 // Each client with its script.
@@ -82,24 +81,20 @@ fn gather<W: Wait + Drop>(
     let mut clients = Vec::new(alloc);
     let mut reports = Vec::new(alloc);
     let mut told = Vec::new(alloc);
-    let mut times = None;
     for session in sessions {
         let Session {
             client,
             report,
             told: mut own,
-            times: taken,
         } = session;
         clients.push(client)?;
         reports.push(report)?;
         told.append(&mut own)?;
-        times = joined(times, taken);
     }
     Ok(Gathered {
         clients,
         reports,
         told,
-        times,
     })
 }
 
@@ -118,12 +113,12 @@ fn close<W: Wait + Drop>(
         sessions,
         dispatchers,
         batches,
+        times,
     } = ended;
     let Gathered {
         clients,
         reports,
         told,
-        times,
     } = gather(alloc, sessions)?;
     let Ok(Closed { base: _, log }) = server.close(clients, dispatchers) else {
         unreachable!()
@@ -182,8 +177,9 @@ fn serve<W: Wait + Drop + Send, R: Wait + Threads + Sync + Clock>(
     close(alloc, server, ended, threads)
 }
 
-/// Serves 1 to 16 scripts by 1 to 4 dispatchers over a base, each client and each dispatcher in a thread of its own;
-/// `hashing` keys the map of orders. It waits until all of them have ended. Where `timed` says so, the time of all
+/// Serves 1 to 16 scripts by 1 to 4 dispatchers over a base; `hashing` keys the map of orders. Each dispatcher has a
+/// thread of its own, and so has each client, but that clients whose scripts ask nothing share one, block by block in
+/// turn, where they follow one another: their refreshes are one after another in any case. It waits until all of them have ended. Where `timed` says so, the time of all
 /// threads is taken, and by each client's thread that of its requests; else no clock is read.
 ///
 /// The dispatchers' threads start first, then the clients' in the order of the scripts, and where one can't be started,

@@ -4,7 +4,7 @@ mod data;
 mod latency;
 
 use crate::{Batches, Latencies, Run, RunFault, serve_scripts};
-use data::{adding_script, adding_scripts, base};
+use data::{adding_script, adding_scripts, base, refreshing_script};
 use ssb_audit::audit;
 use ssb_script::Script;
 use ssb_server::OpenFault;
@@ -70,6 +70,24 @@ fn three_clients_of_ten_refreshes_leave_thirty_commits(rt: HostRuntime) -> Resul
     assert!(rt; refreshes.middle <= refreshes.ninety_ninth);
     assert!(rt; refreshes.ninety_ninth <= refreshes.greatest);
     assert!(rt; audit(&rt, alloc, base(alloc)?, hashing, &run.trace).is_ok());
+    Ok(())
+}
+
+#[test]
+fn clients_that_only_refresh_take_turns(rt: HostRuntime) -> Result<(), Fail> {
+    let alloc = rt.alloc();
+    let hashing = RandomState::new(&rt)?;
+    let mut scripts = Vec::new(alloc);
+    scripts.push(refreshing_script(alloc, 100, 3)?)?;
+    scripts.push(refreshing_script(alloc, 200, 1)?)?;
+    scripts.push(refreshing_script(alloc, 300, 2)?)?;
+    let run = served(&rt, alloc, hashing, scripts, 1, false)?;
+    let mut clients = Vec::new(alloc);
+    for commit in run.trace.commits.as_slice() {
+        clients.push(commit.client)?;
+    }
+    assert_eq!(rt; clients.as_slice(), [1, 2, 3, 1, 3, 1].as_slice());
+    assert_eq!(rt; run.reports[1].as_slice(), b"committed 2\n".as_slice());
     Ok(())
 }
 

@@ -202,9 +202,8 @@ fn tell_times<E: Write>(pace: &Pace, times: bool, err: &mut E)
 }
 
 /// Serves 1 to 16 scripts at once over the base that the tables spell: each source is the script of a client of the
-/// live server, in a thread of its own. When all have ended it writes for each client, in order, the line `client K`
-/// and its report, and then the line `commits C`; and into the file, where there is one, the trace of the run. A fault
-/// is a line to `err`.
+/// live server. When all have ended it writes for each client, in order, the line `client K` and its report, and then
+/// the line `commits C`; and into the file, where there is one, the trace of the run. A fault is a line to `err`.
 ///
 /// The tables are read first, then the scripts in order, and then the server is opened. The result is the exit status:
 /// 0 with nothing written to `err` but the times, where they are asked for; 1 where the data or a script is refused, 2

@@ -38,6 +38,7 @@ use Rattle.row_store.specs.declared.commit.Receipt.{Receipt}
 use Rattle.row_store.specs.declared.refusal.RefreshError.{RefreshError}
 use Rattle.row_store.specs.declared.refusal.RefreshError.TheVariants as refusal
 use Rattle.history.specs.Tokens.{Token}
+use Rattle.history.specs.World.{number_of}
 use Rattle.ssb_script.specs.Requests.{Request}
 use Rattle.ssb_report.specs.Replies.{Reply, reply_text}
 use Rattle.ssb_report.specs.Report.{report_of}
@@ -171,6 +172,16 @@ serves_more number old mid new requests request told_old told_mid told_new a b c
           (appends_both a b c (report_of replies) (reply_text next.reply) served.written next.written);
     }
 
+-- the same by the number of the client, who is still the same
+pub serves_more_still : (old mid new : Token) (requests : List Request) (request : Request)
+    (told_old told_mid told_new : List Told) (a b c : Option (List ℕ))
+    → Serves (number_of old.who) old mid requests told_old told_mid a b → mid.who ≡ old.who
+    → ServesOne (number_of mid.who) mid new request told_mid told_new b c
+    → Serves (number_of old.who) old new (requests ++ request ∷ []) told_old told_new a c
+serves_more_still old mid new requests request told_old told_mid told_new a b c served same next =
+    serves_more (number_of old.who) old mid new requests request told_old told_mid told_new a b c served
+    (subst (λ who. ServesOne (number_of who) mid new request told_mid told_new b c) same next)
+
 -- the first requests and one that follows
 take_next : (front rest : List Request) (request : Request) → take (length front + 1) (front ++ request ∷ rest) ≡ front
     ++ request ∷ []
@@ -228,3 +239,13 @@ ends_there Write number old mid new front rest request told_old told_mid told_ne
     stops_there number old mid new front rest request told_old told_mid told_new a b c served stopped
 ends_there OutOfMemory number old mid new front rest request told_old told_mid told_new a b c served stopped =
     stops_short number old mid new front rest request told_old told_mid told_new a b c served stopped
+
+-- the same by the number of the client, who is still the same
+pub ends_there_still : (stop : Stop) (old mid new : Token) (front rest : List Request) (request : Request)
+    (told_old told_mid told_new : List Told) (a b c : Option (List ℕ))
+    → Serves (number_of old.who) old mid front told_old told_mid a b → mid.who ≡ old.who
+    → StopsIn stop (number_of mid.who) mid new request told_mid told_new b c
+    → Ends (error_after stop (length front)) (number_of old.who) old new (front ++ request ∷ rest) told_old told_new a c
+ends_there_still stop old mid new front rest request told_old told_mid told_new a b c served same stopped =
+    ends_there stop (number_of old.who) old mid new front rest request told_old told_mid told_new a b c served
+    (subst (λ who. StopsIn stop (number_of who) mid new request told_mid told_new b c) same stopped)

@@ -97,8 +97,8 @@ fn serve_question<W: Wait + Drop, R: Wait, O: Write>(
     }
 }
 
-// Serves a block.
-fn serve_block<W: Wait + Drop, R: Wait, O: Write>(
+// Serves a block, whatever it asks.
+fn serve_request<W: Wait + Drop, R: Wait, O: Write>(
     rt: &R,
     server: &Server<W>,
     client: &mut Client<W>,
@@ -121,6 +121,35 @@ fn serve_block<W: Wait + Drop, R: Wait, O: Write>(
         Block::Refresh(refresh) => serve_refresh(rt, server, client, number, refresh, writer),
         Block::Ask(question) => serve_question(rt, server, client, number, question, writer, told),
     }
+}
+
+/// Serves one block of a client's script, and writes its report. An answer with rows is kept behind what was told
+/// before. It waits as [`run_blocks`] does, and nothing is outstanding then. The meter is told when the block begins,
+/// and when it ends where it was served and reported.
+pub fn serve_block<W: Wait + Drop, R: Wait, O: Write, M: Meter>(
+    rt: &R,
+    server: &Server<W>,
+    client: &mut Client<W>,
+    block: Block,
+    writer: &mut O,
+    told: &mut Vec<Told>,
+    meter: &mut M,
+) -> Result<(), Stop>
+    requires hall { client.old.hall ≡ server.now }
+    requires quiet { is_some client.old.asked ≡ false }
+    ensures served { OnOk result (ServesOne (number_of client.old.who) client.old client.new (request.request_of block)
+        told.old.items told.new.items (O.contents writer.old) (O.contents writer.new)) }
+    ensures stopped { IfErr result (λ stop. StopsIn stop (number_of client.old.who) client.old client.new
+        (request.request_of block) told.old.items told.new.items (O.contents writer.old) (O.contents writer.new)) }
+    ensures same { AreAlike client.old client.new }
+    ensures sound { IsSound client.old → IsSound client.new }
+{
+    let number = client.number();
+    let kind = kind_of(&block);
+    meter.begin();
+    serve_request(rt, server, client, number, block, writer, told)?;
+    meter.end(kind);
+    Ok(())
 }
 
 /// Serves the blocks of a client's script in order, and writes their report. The answers with rows are kept behind what
@@ -147,17 +176,13 @@ pub fn run_blocks<W: Wait + Drop, R: Wait, O: Write, M: Meter>(
     ensures same { AreAlike client.old client.new }
     ensures sound { IsSound client.old → IsSound client.new }
 {
-    let number = client.number();
     let mut blocks = script.blocks.into_iter();
     let mut done = 0;
     while let Some(block) = blocks.next() {
-        let kind = kind_of(&block);
-        meter.begin();
-        match serve_block(rt, server, client, number, block, writer, told) {
+        match serve_block(rt, server, client, block, writer, told, meter) {
             Ok(()) => done += 1,
             Err(stop) => return Err(stop.after(done)),
         }
-        meter.end(kind);
     }
     Ok(())
 }

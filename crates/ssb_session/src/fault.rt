@@ -15,10 +15,12 @@ pub enum BlocksError {
     OutOfMemory(u64),
 }
 
-// Why a block was not served, or not reported.
+/// Why serving stopped at a block.
 #[derive(Clone, Copy, Debug, PartialEq, Eq)]
-pub(crate) enum Stop {
+pub enum Stop {
+    /// The block was served, but its report could not be written whole.
     Write,
+    /// There was no memory to keep the block's answer, and it was not asked.
     OutOfMemory,
 }
 

@@ -23,7 +23,7 @@ pub mod laws;
 mod meter;
 
 pub use alone::run_script;
-pub use blocks::run_blocks;
-pub use fault::BlocksError;
+pub use blocks::{run_blocks, serve_block};
+pub use fault::{BlocksError, Stop};
 pub use meter::{Kind, Meter, NoMeter};
 pub use ssb_audit::Told;

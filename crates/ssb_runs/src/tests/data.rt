@@ -19,16 +19,21 @@ fn question(alloc: Global) -> Result<Question, AllocError> {
     Question::standard(alloc, Query::Q4_1)
 }
 
-/// A script that adds so many orders, one after another and each under a key of its own after this one, and then asks
-/// Q4.1.
-pub fn adding_script(alloc: Global, after: u64, orders: u64) -> Result<Script, Fail> {
+/// A script that adds so many orders, one after another and each under a key of its own after this one.
+pub fn refreshing_script(alloc: Global, after: u64, orders: u64) -> Result<Script, Fail> {
     let mut blocks = Vec::new(alloc);
     for before in 0..orders {
         let key = after.wrapping_add(before).wrapping_add(1);
         blocks.push(Block::Refresh(adding(alloc, key)?))?;
     }
-    blocks.push(Block::Ask(question(alloc)?))?;
     Ok(Script { blocks })
+}
+
+/// The same, and then it asks Q4.1.
+pub fn adding_script(alloc: Global, after: u64, orders: u64) -> Result<Script, Fail> {
+    let mut script = refreshing_script(alloc, after, orders)?;
+    script.blocks.push(Block::Ask(question(alloc)?))?;
+    Ok(script)
 }
 
 /// So many scripts, which add these orders each: client c's kth has the key 100 c + k.

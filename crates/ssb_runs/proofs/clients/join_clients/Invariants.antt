@@ -1,10 +1,8 @@
-use Rattle.std.proofs.Common.{◌+◌, ◌≤◌, map, length, vec_len, vec_capacity}
+use Rattle.std.proofs.Common.{map}
 use Rattle.std.specs.Prelude.{OnOk}
-use Rattle.ssb_runs.specs.Sessions.{AreSessionsOf}
+use Rattle.ssb_runs.specs.Sessions.{AreServed}
 use Rattle.ssb_runs.proofs.clients.join_clients.Given as goal
 
+-- the sessions of the threads so far
 abbrev pub invariant-loop-thread : goal.invariant-loop-thread
-invariant-loop-thread g l = record {
-  room : vec_len l.sessions + length l.thread-iterator.rest.items ≤ vec_capacity l.sessions;
-  joined : OnOk l.all (AreSessionsOf (map (λ h. h.promise.job.value) l.yielded) l.sessions.items);
-}
+invariant-loop-thread g l = OnOk l.all (AreServed (map (λ h. h.promise.jobs.value) l.yielded) l.sessions.items)

@@ -5,37 +5,37 @@ use Rattle.std.proofs.lemmas.List.Elements.{All-tail}
 use Rattle.std.proofs.lemmas.Iterator.Adapters.{YieldsList-from_vec}
 use Rattle.std.proofs.lemmas.Iterator.Consumers.{YieldsList-end}
 use Rattle.ssb_runs.proofs.ListLaws.{map_push, to_the_end}
-use Rattle.ssb_runs.specs.Sessions.{IsTaskAt}
+use Rattle.ssb_runs.specs.Sessions.{AreTasksAt}
 use Rattle.ssb_runs.proofs.clients.start_clients.Goals as goal
 
-pub loop-job-init : goal.loop-job-init
-loop-job-init g c =
-    let gives = c.into_iter-job-iterator.ensures.into_iter_gives in record {
-      tasks = subst (All (IsTaskAt c.args.server.now)) (sym gives.0) c.requires.jobs;
+pub loop-group-init : goal.loop-group-init
+loop-group-init g c =
+    let gives = c.into_iter-group-iterator.ensures.into_iter_gives in record {
+      tasks = subst (All (AreTasksAt c.args.server.now)) (sym gives.0) c.requires.jobs;
       count = omega (arith, gives.1, ap length gives.0);
       capacity = search rules;
       started = sym (append-nil _);
     }
 
-pub loop-job-preserved : goal.loop-job-preserved
-loop-job-preserved g c =
-    let at = IsTaskAt c.args.server.now in
-    let inv = c.loop-job.invariant in
+pub loop-group-preserved : goal.loop-group-preserved
+loop-group-preserved g c =
+    let at = AreTasksAt c.args.server.now in
+    let inv = c.loop-group.invariant in
     let rest = c.next.new.self.rest.items in record {
-      tasks = All-tail at c.in-Some.job rest (subst (All at) c.in-Some.ensures.steps.0 inv.tasks);
+      tasks = All-tail at c.in-Some.group rest (subst (All at) c.in-Some.ensures.steps.0 inv.tasks);
       count = omega (arith, inv.count, c.push_reserved.ensures.len, ap length c.in-Some.ensures.steps.0);
       capacity = c.push_reserved.ensures.capacity ∙ inv.capacity;
       started = map_push _ _ _ _ _ _ _ inv.started c.push_reserved.ensures.items
-          (ap (λ p. p.job.value) c.in_ok-thread.ensures.ok ∙ c.of.ensures);
+          (ap (λ p. p.jobs.value) c.in_ok-thread.ensures.ok ∙ c.of.ensures);
     }
 
 pub returns-in_err-thread-clause-room : goal.returns-in_err-thread-clause-room
 returns-in_err-thread-clause-room g c =
-    let inv = c.loop-job.invariant in (omega (arith, inv.count), inv.capacity)
+    let inv = c.loop-group.invariant in (omega (arith, inv.count), inv.capacity)
 
 pub push_reserved-requires : goal.push_reserved-requires
 push_reserved-requires g c =
-    let inv = c.loop-job.invariant in omega (
+    let inv = c.loop-group.invariant in omega (
       arith,
       inv.count,
       inv.capacity,
@@ -43,15 +43,15 @@ push_reserved-requires g c =
       ap length c.in-Some.ensures.steps.0,
     )
 
-pub returns-clause-room : goal.returns-clause-room
-returns-clause-room g c =
-    let inv = c.loop-job.invariant in (omega (arith, inv.count), inv.capacity)
-
 pub returns-clause-started : goal.returns-clause-started
 returns-clause-started g c =
-    let gives = c.into_iter-job-iterator.ensures.into_iter_gives in
-    let all = YieldsList-from_vec c.args.jobs.items gives.0 (omega (arith, gives.1)) in
-    let end = YieldsList-end all c.loop-job.yielded c.loop-job.job-iterator c.loop-job.yielded_by c.next.result
+    let gives = c.into_iter-group-iterator.ensures.into_iter_gives in
+    let all = YieldsList-from_vec c.args.groups.items gives.0 (omega (arith, gives.1)) in
+    let end = YieldsList-end all c.loop-group.yielded c.loop-group.group-iterator c.loop-group.yielded_by c.next.result
     c.next.new.self c.in-None.is c.next.ensures.steps in
-    to_the_end _ _ c.loop-job.yielded c.args.jobs.items c.loop-job.invariant.started
-    (sym (map-id c.loop-job.yielded) ∙ end.0)
+    to_the_end _ _ c.loop-group.yielded c.args.groups.items c.loop-group.invariant.started
+    (sym (map-id c.loop-group.yielded) ∙ end.0)
+
+pub returns-clause-room : goal.returns-clause-room
+returns-clause-room g c =
+    let inv = c.loop-group.invariant in (omega (arith, inv.count), inv.capacity)

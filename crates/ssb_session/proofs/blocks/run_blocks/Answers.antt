@@ -2,7 +2,7 @@ use Rattle.std.proofs.Common.{◌≡◌, [], ◌∷◌, ◌++◌, length, map, r
 use Rattle.std.proofs.lemmas.List.{length-map}
 use Rattle.std.specs.Vec.Iter.{into_iter_items}
 use Rattle.ssb_script.specs.Requests.{request_of, requests_of}
-use Rattle.ssb_session.proofs.SessionLaws.{serves_none, serves_more, ends_there, alike_itself, alike_both}
+use Rattle.ssb_session.proofs.SessionLaws.{serves_none, serves_more_still, ends_there_still, alike_itself, alike_both}
 use Rattle.ssb_session.proofs.blocks.run_blocks.Goals as goal
 
 pub loop-block-init : goal.loop-block-init
@@ -43,7 +43,7 @@ loop-block-preserved g c =
       inv.1 ∙ ap (λ t. inv.0 ++ map request_of t) c.in-Some.ensures.items
           ∙ sym (append_assoc inv.0 (request ∷ []) (map request_of left)),
       omega (arith, length-append inv.0 (request ∷ []), inv.2),
-      serves_more _ _ _ _ inv.0 request _ _ _ _ _ _ inv.3 c.in-Ok.ensures.served,
+      serves_more_still _ _ _ inv.0 request _ _ _ _ _ _ inv.3 inv.4.who c.in-Ok.ensures.served,
       alike_both _ _ _ inv.4 c.serve_block.ensures.same,
       λ sound. c.serve_block.ensures.sound (inv.5 sound),
     )
@@ -55,5 +55,5 @@ returns-in-Err-clause-ended g c =
     let left = map request_of (into_iter_items c.next.new.self) in
     let whole : requests_of c.args.script ≡ inv.0 ++ request ∷ left =
     inv.1 ∙ ap (λ t. inv.0 ++ map request_of t) c.in-Some.ensures.items in
-    rw (c.after.ensures, sym inv.2, whole, sym c.number-number.ensures.value)
-    (ends_there c.in-Err.stop _ _ _ _ inv.0 left request _ _ _ _ _ _ inv.3 c.in-Err.ensures.stopped)
+    rw (c.after.ensures, sym inv.2, whole)
+    (ends_there_still c.in-Err.stop _ _ _ inv.0 left request _ _ _ _ _ _ inv.3 inv.4.who c.in-Err.ensures.stopped)

@@ -4,6 +4,7 @@ use Rattle.ssb_script.specs.Requests.{Request, request_of, requests_of}
 use Rattle.ssb_session.specs.Served.{Serves}
 use Rattle.ssb_session.specs.Steps.{AreAlike}
 use Rattle.history.specs.Tokens.{IsSound}
+use Rattle.history.specs.World.{number_of}
 use Rattle.ssb_session.proofs.blocks.run_blocks.Given as goal
 
 -- the first requests were served, and the others are left
@@ -12,7 +13,7 @@ invariant-loop-block g l =
     (front : List Request)
     × (requests_of l.fn.script ≡ front ++ map request_of (into_iter_items l.blocks))
     × (length front ≡ l.done)
-    × Serves l.number l.fn.client l.client front l.fn.told.items l.told.items (g.O.Write.contents l.fn.writer)
+    × Serves (number_of l.fn.client.who) l.fn.client l.client front l.fn.told.items l.told.items (g.O.Write.contents l.fn.writer)
     (g.O.Write.contents l.writer)
     × AreAlike l.fn.client l.client
     × (IsSound l.fn.client → IsSound l.client)

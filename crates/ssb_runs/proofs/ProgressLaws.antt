@@ -1,0 +1,61 @@
+-- A script that is served one request after another.
+use Rattle.std.proofs.Common.{◌≡◌, ℕ, Bool, false, Result, Ok, Err, List, [], ◌∷◌, ◌++◌, map, Some, None, refl, sym, ◌∙◌, ap, subst, append_assoc, append-nil}
+use Rattle.std.specs.Prelude.{OnOk}
+use Rattle.std.specs.Result.{is_err}
+use Rattle.history.specs.Tokens.{Token}
+use Rattle.history.specs.World.{number_of}
+use Rattle.ssb_audit.specs.declared.trace.Told.{Told}
+use Rattle.ssb_script.specs.Requests.{Request, request_of, requests_of}
+use Rattle.ssb_script.specs.declared.block.Block.{Block}
+use Rattle.ssb_session.specs.Served.{Serves}
+use Rattle.ssb_session.specs.Steps.{ServesOne, AreAlike}
+use Rattle.ssb_session.proofs.SessionLaws.{serves_none, serves_more_still}
+use Rattle.ssb_runs.specs.Sessions.{Task, Session, IsUnderWay, IsSessionOf}
+
+-- what holds where a call did not fail
+pub when_ok : {X E P : Type 0} (result : Result X E) (failed : Bool) → failed ≡ is_err result → failed ≡ false
+    → OnOk result P → P
+when_ok (Ok x) failed is not holds = holds
+when_ok (Err e) failed is not holds = absurd cc
+
+-- nothing is served yet
+pub begun : (task : Task) (blocks : List Block) → task.client.asked ≡ None
+    → requests_of task.script ≡ map request_of blocks → IsUnderWay task task.client blocks [] []
+begun task blocks quiet whole = record {
+  hall = refl;
+  who = refl;
+  quiet = quiet;
+  front = [];
+  whole = whole;
+  served = serves_none (number_of task.client.who) task.client [] (Some []);
+}
+
+-- one block more
+pub under_way : (task : Task) (before after : Token) (block : Block) (blocks left : List Block)
+    (report longer : List ℕ) (told kept : List Told)
+    → IsUnderWay task before blocks report told → blocks ≡ block ∷ left
+    → ServesOne (number_of before.who) before after (request_of block) told kept (Some report) (Some longer)
+    → AreAlike before after → IsUnderWay task after left longer kept
+under_way task before after block blocks left report longer told kept was next one same =
+    record {
+      hall = same.hall ∙ was.hall;
+      who = same.who ∙ was.who;
+      quiet = same.quiet;
+      front = was.front ++ request_of block ∷ [];
+      whole = was.whole ∙ ap (λ rest. was.front ++ map request_of rest) next
+          ∙ sym (append_assoc was.front (request_of block ∷ []) (map request_of left));
+      served = serves_more_still task.client before after was.front (request_of block) [] told kept (Some [])
+          (Some report) (Some longer) was.served was.who one;
+    }
+
+-- where no block is left, it is served whole
+pub session_of : (task : Task) (session : Session) (blocks : List Block)
+    → IsUnderWay task session.client blocks session.report session.told → blocks ≡ [] → IsSessionOf task session
+session_of task session blocks was none = record {
+  hall = was.hall;
+  who = was.who;
+  quiet = was.quiet;
+  served = subst (λ requests. Serves (number_of task.client.who) task.client session.client requests [] session.told
+      (Some []) (Some session.report))
+      (sym (was.whole ∙ ap (λ rest. was.front ++ map request_of rest) none ∙ append-nil was.front)) was.served;
+}

@@ -1,0 +1,134 @@
+//! A script that is being served to a client.
+ghost use Rattle.std.specs.Prelude.{◌≡◌, None, IfOk};
+ghost use Rattle.ssb_runs.specs.Sessions.{IsSessionOf};
+
+use crate::job::Job;
+use crate::session::Session;
+use ssb_audit::Told;
+use ssb_script::Block;
+use ssb_server::{Client, Server};
+use ssb_session::{Meter, serve_block};
+use std::alloc::{AllocError, Global};
+use std::collections::VecDeque;
+use std::marker::Model;
+use std::snapshot::Snapshot;
+use std::sync::Wait;
+
+/// A job that was begun: the client, the blocks that are left of its script, what was reported and what the client was
+/// told so far. The report is in memory, so that want of memory alone can end it early; then no block is served any
+/// more. Contracts see the job.
+#[derive(Drop)]
+pub(crate) struct Progress<W: Wait + Drop> {
+    job: Snapshot<Job<W>>,
+    client: Client<W>,
+    blocks: VecDeque<Block>,
+    report: Vec<u8>,
+    told: Vec<Told>,
+    lacks_memory: bool,
+}
+
+impl<W: Wait + Drop> Model for Progress<W> {
+    ghost use Rattle.ssb_runs.specs.Sessions.{Task};
+
+    ghost Value = { Task };
+
+    ghost use Rattle.ssb_runs.specs.Sessions.{IsProgress};
+
+    ghost view = { λ p. p.job.value };
+
+    ghost invariant = { λ p. IsProgress p.lacks_memory p.job.value p.client p.blocks.items p.report.items p.told.items };
+}
+
+impl<W: Wait + Drop> Progress<W> {
+    /// The job with nothing served.
+    pub(crate) fn new(alloc: Global, job: Job<W>) -> Progress<W>
+        requires { job.client.asked ≡ None }
+        ensures { result ≡ job }
+    {
+        let begun = Snapshot::of(&job);
+        let Job {
+            client,
+            script,
+            timed: _,
+        } = job;
+        Progress {
+            job: begun,
+            client,
+            blocks: VecDeque::from_vec(script.blocks),
+            report: Vec::new(alloc),
+            told: Vec::new(alloc),
+            lacks_memory: false,
+        }
+    }
+
+    /// Serves the next block, where one is left.
+    pub(crate) fn serve_next<R: Wait, M: Meter>(
+        &mut self,
+        rt: &R,
+        server: &Server<W>,
+        meter: &mut M,
+    )
+        requires { self.old.client.hall ≡ server.now }
+        ensures { self.new ≡ self.old }
+    {
+        if self.lacks_memory {
+            return;
+        }
+        let Some(block) = self.blocks.pop_front() else {
+            return;
+        };
+        let client = &mut self.client;
+        let served = serve_block(
+            rt,
+            server,
+            client,
+            block,
+            &mut self.report,
+            &mut self.told,
+            meter,
+        );
+        self.lacks_memory = served.is_err();
+    }
+
+    /// Serves all blocks that are left.
+    pub(crate) fn serve_rest<R: Wait, M: Meter>(
+        self,
+        rt: &R,
+        server: &Server<W>,
+        meter: &mut M,
+    ) -> Result<Session<W>, AllocError>
+        requires { self.client.hall ≡ server.now }
+        ensures { IfOk result (λ session. IsSessionOf self session) }
+    {
+        let Progress {
+            job: _,
+            mut client,
+            mut blocks,
+            mut report,
+            mut told,
+            lacks_memory,
+        } = self;
+        if lacks_memory {
+            return Err(AllocError);
+        }
+        while let Some(block) = blocks.pop_front() {
+            match serve_block(
+                rt,
+                server,
+                &mut client,
+                block,
+                &mut report,
+                &mut told,
+                meter,
+            ) {
+                Ok(()) => {}
+                Err(_) => return Err(AllocError),
+            }
+        }
+        Ok(Session {
+            client,
+            report,
+            told,
+        })
+    }
+}
