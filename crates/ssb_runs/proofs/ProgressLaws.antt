@@ -5,7 +5,7 @@ use Rattle.std.specs.Result.{is_err}
 use Rattle.history.specs.Tokens.{Token}
 use Rattle.history.specs.World.{number_of}
 use Rattle.ssb_audit.specs.declared.trace.Told.{Told}
-use Rattle.ssb_script.specs.Requests.{Request, request_of, requests_of}
+use Rattle.ssb_script.specs.Requests.{request_of, requests_of}
 use Rattle.ssb_script.specs.declared.block.Block.{Block}
 use Rattle.ssb_session.specs.Served.{Serves}
 use Rattle.ssb_session.specs.Steps.{ServesOne, AreAlike}

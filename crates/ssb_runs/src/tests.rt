@@ -87,7 +87,9 @@ fn clients_that_only_refresh_take_turns(rt: HostRuntime) -> Result<(), Fail> {
         clients.push(commit.client)?;
     }
     assert_eq!(rt; clients.as_slice(), [1, 2, 3, 1, 3, 1].as_slice());
-    assert_eq!(rt; run.reports[1].as_slice(), b"committed 2\n".as_slice());
+    let reports = run.reports.as_slice();
+    assert_eq!(rt; reports.len(), 3);
+    assert_eq!(rt; str::from_utf8(reports[1].as_slice())?, "committed 2\n");
     Ok(())
 }
 
