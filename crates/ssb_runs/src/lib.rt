@@ -1,5 +1,5 @@
-//! A run: the scripts of many clients served at once by a live server, each client and each dispatcher in a thread of
-//! its own.
+//! A run: the scripts of many clients served at once by a live server, in threads: one for each dispatcher and for each
+//! client that asks, and one for clients that only refresh, where they follow one another.
 //!
 //! ```text
 //! script 1 ── client 1 ─┐                    ┌─ dispatcher 1

@@ -180,7 +180,7 @@ fn serve<W: Wait + Drop + Send, R: Wait + Threads + Sync + Clock>(
 /// Serves 1 to 16 scripts by 1 to 4 dispatchers over a base; `hashing` keys the map of orders. Each dispatcher has a
 /// thread of its own, and so has each client, but that clients whose scripts ask nothing share one, block by block in
 /// turn, where they follow one another: their refreshes are one after another in any case. It waits until all of them have ended. Where `timed` says so, the time of all
-/// threads is taken, and by each client's thread that of its requests; else no clock is read.
+/// threads is taken, and by each thread of clients that of their requests; else no clock is read.
 ///
 /// The dispatchers' threads start first, then the clients' in the order of the scripts, and where one can't be started,
 /// no later one is. That, and a refused growth wherever it is met, is `OutOfMemory`; each thread that was started has
