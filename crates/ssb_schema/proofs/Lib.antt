@@ -5,3 +5,4 @@ pub mod OrderLaws
 pub mod BaseLaws
 pub mod PairLaws
 pub mod ColumnLaws
+pub mod BitLaws

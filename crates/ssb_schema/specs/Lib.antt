@@ -11,6 +11,7 @@ pub mod Base
 pub mod Views
 pub mod Held
 pub mod Refusals
+pub mod Bits
 pub mod Places
 pub mod Indexed
 pub mod Checked

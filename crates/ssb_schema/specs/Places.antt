@@ -1,11 +1,8 @@
 -- Where the rows of a dimension stand, by key.
 use Rattle.std.specs.Prelude.{ℕ, ◌-◌, nat_eq, nat_lt, if◌then◌else◌, Option, Some, None, length, slice_index}
 use Rattle.std.specs.HashMap as map
+use Rattle.ssb_schema.specs.Bits.{has}
 use Rattle.ssb_schema.specs.declared.places.Places.{Places}
-
--- the place that a word of the array stands for: one less; 0 stands for none
-abbrev pub place_of_word : ℕ → Option ℕ
-place_of_word word = if nat_eq word 0 then None else Some (word - 1)
 
 -- where the array has a key; None where it does not take it
 abbrev pub near_index : Places → ℕ → Option ℕ
@@ -15,7 +12,7 @@ near_index p k =
     else None
 
 abbrev pub place_at : Places → ℕ → Option ℕ → Option ℕ
-place_at p k (Some i) = place_of_word (slice_index p.near.items i)
+place_at p k (Some i) = if has p.known i then Some (slice_index p.near.items i) else None
 place_at p k None = map.get nat_eq p.far k
 
 -- the place of a key

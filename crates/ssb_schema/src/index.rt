@@ -91,7 +91,7 @@ impl Index {
     pub fn contains(&self, key: u64) -> bool
         ensures { result ≡ is_some (place_of self.now key) }
     {
-        self.places.get(key).is_some()
+        self.places.contains(key)
     }
 
     /// The place of the row that has the key, if there is one.

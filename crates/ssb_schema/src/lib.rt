@@ -15,6 +15,7 @@
 #![tactic(auto)]
 
 mod base;
+mod bits;
 mod column;
 mod customer;
 mod date;

@@ -97,32 +97,6 @@ fn serve_question<W: Wait + Drop, R: Wait, O: Write>(
     }
 }
 
-// Serves a block, whatever it asks.
-fn serve_request<W: Wait + Drop, R: Wait, O: Write>(
-    rt: &R,
-    server: &Server<W>,
-    client: &mut Client<W>,
-    number: u32,
-    block: Block,
-    writer: &mut O,
-    told: &mut Vec<Told>,
-) -> Result<(), Stop>
-    requires hall { client.old.hall ≡ server.now }
-    requires who { client.old.who ≡ IsNumbered number }
-    requires quiet { is_some client.old.asked ≡ false }
-    ensures served { OnOk result (ServesOne number client.old client.new (request.request_of block) told.old.items
-        told.new.items (O.contents writer.old) (O.contents writer.new)) }
-    ensures stopped { IfErr result (λ stop. StopsIn stop number client.old client.new (request.request_of block)
-        told.old.items told.new.items (O.contents writer.old) (O.contents writer.new)) }
-    ensures same { AreAlike client.old client.new }
-    ensures sound { IsSound client.old → IsSound client.new }
-{
-    match block {
-        Block::Refresh(refresh) => serve_refresh(rt, server, client, number, refresh, writer),
-        Block::Ask(question) => serve_question(rt, server, client, number, question, writer, told),
-    }
-}
-
 /// Serves one block of a client's script, and writes its report. An answer with rows is kept behind what was told
 /// before. It waits as [`run_blocks`] does, and nothing is outstanding then. The meter is told when the block begins,
 /// and when it ends where it was served and reported.
@@ -147,7 +121,10 @@ pub fn serve_block<W: Wait + Drop, R: Wait, O: Write, M: Meter>(
     let number = client.number();
     let kind = kind_of(&block);
     meter.begin();
-    serve_request(rt, server, client, number, block, writer, told)?;
+    match block {
+        Block::Refresh(refresh) => serve_refresh(rt, server, client, number, refresh, writer)?,
+        Block::Ask(question) => serve_question(rt, server, client, number, question, writer, told)?,
+    }
     meter.end(kind);
     Ok(())
 }
