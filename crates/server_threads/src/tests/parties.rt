@@ -4,12 +4,13 @@ ghost use Rattle.std.specs.Thread.{IsSync};
 ghost use Rattle.history.specs.Tokens.{Token};
 ghost use Rattle.ssb_server.specs.Tickets.{IsOf, IsQuiet};
 
-use server_steps::steps::{refreshes, turns};
+use server_steps::steps::{asks_this, awaits, turns};
 use server_steps::trial::{Step, Trial};
-use ssb_schema::Refresh;
+use ssb_plans::Question;
+use ssb_queries::Answer;
 use ssb_server::{Client, Dispatcher, ScanGate, Server, Turn};
 use std::alloc::Global;
-use std::sync::{Arc, Wait};
+use std::sync::Wait;
 use std::test::Fail;
 use std::thread::Threads;
 
@@ -26,16 +27,18 @@ impl<W: Wait + Drop> HasToken for Dispatcher<W> {
     ghost token = { λ d. d };
 }
 
-/// Who refreshes, as a client does.
-pub trait Refreshes<W: Wait + Drop>: HasToken {
-    fn make<R: Wait>(&mut self, rt: &R, server: &Server<W>, refresh: Arc<Refresh>)
+/// Who asks, as a client does.
+pub trait Asks<W: Wait + Drop>: HasToken {
+    /// Asks, and sleeps until the answer is there.
+    fn learn<R: Wait>(&mut self, rt: &R, server: &Server<W>, question: Question) -> Answer
         requires { IsQuiet server.now (Self.token self.old) }
         ensures { IsQuiet server.now (Self.token self.new) };
 }
 
-impl<W: Wait + Drop> Refreshes<W> for Client<W> {
-    fn make<R: Wait>(&mut self, rt: &R, server: &Server<W>, refresh: Arc<Refresh>) {
-        let _ = refreshes(rt, server, self, refresh);
+impl<W: Wait + Drop> Asks<W> for Client<W> {
+    fn learn<R: Wait>(&mut self, rt: &R, server: &Server<W>, question: Question) -> Answer {
+        asks_this(server, self, question);
+        awaits(rt, server, self)
     }
 }
 
@@ -48,7 +51,11 @@ pub trait TakesTurns<W: Wait + Drop>: HasToken {
         gate: &G,
     ) -> Turn
         requires shared { IsSync R.row }
-        requires table { IsOf server.now (Self.token self.old) };
+        requires table { IsOf server.now (Self.token self.old) }
+        ensures { IsOf server.now (Self.token self.new) };
+
+    /// Sleeps where nothing was asked since its last turn.
+    fn pause<R: Wait>(&self, rt: &R, server: &Server<W>);
 }
 
 impl<W: Wait + Drop> TakesTurns<W> for Dispatcher<W> {
@@ -59,6 +66,10 @@ impl<W: Wait + Drop> TakesTurns<W> for Dispatcher<W> {
         gate: &G,
     ) -> Turn {
         turns(rt, server, self, gate)
+    }
+
+    fn pause<R: Wait>(&self, rt: &R, server: &Server<W>) {
+        self.rest(rt, server)
     }
 }
 

@@ -1,23 +1,25 @@
 //! Three clients that refresh at once, each in a thread of its own.
+ghost use Rattle.std.specs.Prelude.{◌≡◌};
 ghost use Rattle.std.specs.Thread.{IsSync};
+ghost use Rattle.history.specs.Tokens.{Hall};
 ghost use Rattle.ssb_server.specs.Tickets.{IsQuiet};
 
-use crate::tests::parties::Refreshes;
 use server_steps::closing::{closes_three, commits_of};
-use server_steps::opening::{for_three_clients, next_dispatcher};
-use server_steps::steps::asks_and_is_told;
+use server_steps::opening::{ThreeClients, for_three_clients, next_dispatcher};
+use server_steps::steps::{asks_and_is_told, refreshes};
 use small_rows::adding;
 use ssb_plans::Query;
 use ssb_schema::Refresh;
-use ssb_server::{Closed, Server};
+use ssb_server::{Client, Closed, Server};
 use std::alloc::Global;
 use std::hash::RandomState;
+use std::marker::Model;
 use std::sync::{Arc, Wait};
 use std::test::Fail;
 use std::thread::{Threads, join_mut};
 
-// The refreshes of each client.
-type Work = Vec<Vec<Arc<Refresh>>>;
+// The refreshes of three clients.
+type Lists = (Vec<Arc<Refresh>>, Vec<Arc<Refresh>>, Vec<Arc<Refresh>>);
 
 // How many refreshes each client makes.
 const REFRESHES: u64 = 10;
@@ -31,89 +33,156 @@ fn adding_behind(alloc: Global, key: u64) -> Result<Vec<Arc<Refresh>>, Fail> {
     Ok(all)
 }
 
-fn work(alloc: Global) -> Result<Work, Fail> {
-    let mut work = Vec::new(alloc);
-    for key in [100, 200, 300] {
-        work.push(adding_behind(alloc, key)?)?;
-    }
-    Ok(work)
+// A client of a server, with refreshes that it is to make. Contracts see the server.
+#[derive(Drop)]
+struct Maker<'s, W: Wait + Drop> {
+    server: &'s Server<W>,
+    client: Client<W>,
+    refreshes: Vec<Arc<Refresh>>,
 }
 
-// A client makes the refreshes with this index, one after another.
-fn makes<W: Wait + Drop, C: Refreshes<W>, R: Wait>(
+impl<'s, W: Wait + Drop> Model for Maker<'s, W> {
+    ghost Value = { Hall };
+
+    ghost view = { λ m. m.server.now };
+
+    ghost invariant = { λ m. IsQuiet m.server.now m.client };
+}
+
+impl<'s, W: Wait + Drop> Maker<'s, W> {
+    fn new(server: &'s Server<W>, client: Client<W>, refreshes: Vec<Arc<Refresh>>) -> Maker<'s, W>
+        requires { IsQuiet server.now client }
+        ensures { result ≡ server.now }
+    {
+        Maker {
+            server,
+            client,
+            refreshes,
+        }
+    }
+
+    fn into_client(self) -> Client<W>
+        ensures { IsQuiet self.entry result }
+    {
+        let Maker {
+            server: _,
+            client,
+            refreshes: _,
+        } = self;
+        client
+    }
+}
+
+// Who has refreshes to make, and a server for them. A thread is started for whoever has them, as `parties` has it: here it
+// holds the server too, since that beside a client and its refreshes is more than the prover can compare.
+trait Makes {
+    // The server, which stays.
+    ghost hall: { Self → Hall };
+
+    // Makes the refreshes, one after another.
+    fn make_all<R: Wait>(&mut self, rt: &R)
+        ensures { Self.hall self.new ≡ Self.hall self.old };
+}
+
+impl<'s, W: Wait + Drop> Makes for Maker<'s, W> {
+    ghost hall = { λ m. m };
+
+    fn make_all<R: Wait>(&mut self, rt: &R) {
+        make_each(rt, self.server, &mut self.client, &self.refreshes);
+    }
+}
+
+// A client makes these refreshes, one after another.
+fn make_each<W: Wait + Drop, R: Wait>(
     rt: &R,
     server: &Server<W>,
-    work: &Work,
-    index: usize,
-    client: &mut C,
+    client: &mut Client<W>,
+    all: &[Arc<Refresh>],
 )
-    requires { IsQuiet server.now (C.token client.old) }
-    ensures { IsQuiet server.now (C.token client.new) }
+    requires { IsQuiet server.now client.old }
+    ensures { IsQuiet server.now client.new }
 {
-    let Some(all) = work.get(index) else {
-        return;
-    };
     for refresh in all {
         if let Ok(refresh) = Arc::try_clone(refresh) {
-            client.make(rt, server, refresh);
+            let _ = refreshes(rt, server, client, refresh);
         }
     }
 }
 
 // The second client and the third one make their refreshes at once.
-fn two_make<W: Wait + Drop + Send, C: Refreshes<W> + Send, R: Wait + Threads + Sync>(
-    rt: &R,
-    server: &Server<W>,
-    work: &Work,
-    second: &mut C,
-    third: &mut C,
-)
-    requires second { IsQuiet server.now (C.token second.old) }
-    requires third { IsQuiet server.now (C.token third.old) }
-    ensures second { IsQuiet server.now (C.token second.new) }
-    ensures third { IsQuiet server.now (C.token third.new) }
+fn two_make<M: Makes + Send, R: Wait + Threads + Sync>(rt: &R, second: &mut M, third: &mut M)
+    ensures second { M.hall second.new ≡ M.hall second.old }
+    ensures third { M.hall third.new ≡ M.hall third.old }
 {
     join_mut(
         rt,
         &mut ||
-            requires { IsSync R.row × IsQuiet server.now (C.token second.now) }
-            ensures { IsQuiet server.entry.now (C.token second.exit.now) }
-        { makes(rt, server, work, 1, second) },
+            requires { IsSync R.row }
+            ensures { M.hall second.exit.now ≡ M.hall second.entry.now }
+        { second.make_all(rt) },
         &mut ||
-            requires { IsQuiet server.now (C.token third.now) }
-            ensures { IsQuiet server.entry.now (C.token third.exit.now) }
-        { makes(rt, server, work, 2, third) },
+            ensures { M.hall third.exit.now ≡ M.hall third.entry.now }
+        { third.make_all(rt) },
     );
 }
 
 // Three clients make their refreshes at once.
-fn three_make<W: Wait + Drop + Send, C: Refreshes<W> + Send, R: Wait + Threads + Sync>(
+fn three_make<M: Makes + Send, R: Wait + Threads + Sync>(
     rt: &R,
-    server: &Server<W>,
-    work: &Work,
-    first: &mut C,
-    second: &mut C,
-    third: &mut C,
+    first: &mut M,
+    second: &mut M,
+    third: &mut M,
 )
-    requires first { IsQuiet server.now (C.token first.old) }
-    requires second { IsQuiet server.now (C.token second.old) }
-    requires third { IsQuiet server.now (C.token third.old) }
-    ensures first { IsQuiet server.now (C.token first.new) }
-    ensures second { IsQuiet server.now (C.token second.new) }
-    ensures third { IsQuiet server.now (C.token third.new) }
+    ensures first { M.hall first.new ≡ M.hall first.old }
+    ensures second { M.hall second.new ≡ M.hall second.old }
+    ensures third { M.hall third.new ≡ M.hall third.old }
 {
     join_mut(
         rt,
         &mut ||
-            requires { IsSync R.row × IsQuiet server.now (C.token first.now) }
-            ensures { IsQuiet server.entry.now (C.token first.exit.now) }
-        { makes(rt, server, work, 0, first) },
+            requires { IsSync R.row }
+            ensures { M.hall first.exit.now ≡ M.hall first.entry.now }
+        { first.make_all(rt) },
         &mut ||
-            requires { IsSync R.row × IsQuiet server.now (C.token second.now) × IsQuiet server.now (C.token third.now) }
-            ensures { IsQuiet server.entry.now (C.token second.exit.now)
-                × IsQuiet server.entry.now (C.token third.exit.now) }
-        { two_make(rt, server, work, second, third) },
+            requires { IsSync R.row }
+            ensures { M.hall second.exit.now ≡ M.hall second.entry.now
+                × M.hall third.exit.now ≡ M.hall third.entry.now }
+        { two_make(rt, second, third) },
     );
+}
+
+// Three clients make these refreshes at once, and are left.
+fn all_make<W: Wait + Drop + Send, R: Wait + Threads + Sync>(
+    rt: &R,
+    server: &Server<W>,
+    clients: ThreeClients<W>,
+    lists: Lists,
+) -> ThreeClients<W>
+    requires first { IsQuiet server.now clients.0 }
+    requires second { IsQuiet server.now clients.1.0 }
+    requires third { IsQuiet server.now clients.1.1 }
+    ensures first { IsQuiet server.now result.0 }
+    ensures second { IsQuiet server.now result.1.0 }
+    ensures third { IsQuiet server.now result.1.1 }
+{
+    let (first, (second, third)) = clients;
+    let mut first = Maker::new(server, first, lists.0);
+    let mut second = Maker::new(server, second, lists.1);
+    let mut third = Maker::new(server, third, lists.2);
+    three_make(rt, &mut first, &mut second, &mut third);
+    (
+        first.into_client(),
+        (second.into_client(), third.into_client()),
+    )
+}
+
+// The refreshes of the three.
+fn lists(alloc: Global) -> Result<Lists, Fail> {
+    Ok((
+        adding_behind(alloc, 100)?,
+        adding_behind(alloc, 200)?,
+        adding_behind(alloc, 300)?,
+    ))
 }
 
 // Three clients make their refreshes at once, and then the first one asks and the server is closed. What it is told,
@@ -124,14 +193,13 @@ fn thirty_are_made<W: Wait + Drop + Send, R: Wait + Threads + Sync>(
     handle: W,
     hashing: RandomState,
 ) -> Result<(String, Closed), Fail> {
-    let work = work(alloc)?;
+    let lists = lists(alloc)?;
     let (server, clients, mut dispatchers) = for_three_clients(alloc, handle, hashing, 1)?;
     let mut dispatcher = next_dispatcher(&server, &mut dispatchers).ok_or("no dispatcher")?;
-    let (mut first, (mut second, mut third)) = clients;
-    three_make(rt, &server, &work, &mut first, &mut second, &mut third);
+    let (mut first, others) = all_make(rt, &server, clients, lists);
     let query = Query::Q4_1;
     let told = asks_and_is_told(rt, alloc, &server, &mut first, &mut dispatcher, query)?;
-    let closed = closes_three(alloc, server, (first, (second, third)), dispatcher)?;
+    let closed = closes_three(alloc, server, (first, others), dispatcher)?;
     Ok((told, closed))
 }
 

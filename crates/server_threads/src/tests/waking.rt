@@ -3,12 +3,12 @@ ghost use Rattle.std.specs.Thread.{IsSync};
 ghost use Rattle.ssb_server.specs.Tickets.{IsOf, IsQuiet};
 
 use crate::tests::flags::is_set;
+use crate::tests::parties::{Asks, TakesTurns};
 use server_steps::data::question;
 use server_steps::opening::for_one_client;
-use server_steps::steps::{asks_this, awaits, turns};
 use ssb_plans::{Query, Question};
 use ssb_queries::Answer;
-use ssb_server::{Client, Dispatcher, OpenGate, Server, Turn};
+use ssb_server::{OpenGate, Server, Turn};
 use std::alloc::{AllocError, Global};
 use std::hash::RandomState;
 use std::sync::Wait;
@@ -28,18 +28,17 @@ fn questions(alloc: Global) -> Result<Vec<Question>, AllocError> {
 }
 
 // A client asks the questions one after another, and sleeps until each is answered. How many of the answers have rows.
-fn asks_all<W: Wait + Drop, R: Wait>(
+fn asks_all<W: Wait + Drop, C: Asks<W> + Drop, R: Wait>(
     rt: &R,
     server: &Server<W>,
-    mut client: Client<W>,
+    mut client: C,
     questions: Vec<Question>,
 ) -> usize
-    requires { IsQuiet server.now client }
+    requires { IsQuiet server.now (C.token client) }
 {
     let mut answered = 0usize;
     for question in questions {
-        asks_this(server, &mut client, question);
-        if let Answer::Rows { at: 0, .. } = awaits(rt, server, &mut client) {
+        if let Answer::Rows { at: 0, .. } = client.learn(rt, server, question) {
             answered = answered.wrapping_add(1);
         }
     }
@@ -47,22 +46,22 @@ fn asks_all<W: Wait + Drop, R: Wait>(
 }
 
 // A dispatcher takes turns until the flag is set, and sleeps where nothing is asked. How many questions it answered.
-fn serves_until<W: Wait + Drop, R: Wait + Threads + Sync>(
+fn serves_until<W: Wait + Drop, D: TakesTurns<W> + Drop, R: Wait + Threads + Sync>(
     rt: &R,
     server: &Server<W>,
-    mut dispatcher: Dispatcher<W>,
+    mut dispatcher: D,
     ended: &AtomicBool,
 ) -> usize
-    requires { IsOf server.now dispatcher }
+    requires { IsOf server.now (D.token dispatcher) }
 {
     let mut answered = 0usize;
     for _ in rt.forever() {
-        match turns(rt, server, &mut dispatcher, &OpenGate) {
+        match dispatcher.take_turn(rt, server, &OpenGate) {
             Turn::Idle => {
                 if ended.load(Ordering::SeqCst) {
                     return answered;
                 }
-                dispatcher.rest(rt, server);
+                dispatcher.pause(rt, server);
             }
             Turn::Answered { at: _, count } => answered = answered.wrapping_add(count),
             Turn::Unserved { count: _, cause: _ } => {}
@@ -78,29 +77,28 @@ fn ends<W: Wait + Drop>(server: &Server<W>, ended: &AtomicBool) {
 }
 
 // A client asks all, and a dispatcher answers, each in a thread of its own. What each of them counted.
-fn asks_while_another_serves<W: Wait + Drop + Send, R: Wait + Threads + Sync>(
-    rt: &R,
-    server: &Server<W>,
-    client: Client<W>,
-    dispatcher: Dispatcher<W>,
-    questions: Vec<Question>,
-) -> (usize, usize)
-    requires client { IsQuiet server.now client }
-    requires dispatcher { IsOf server.now dispatcher }
+fn asks_while_another_serves<
+    W: Wait + Drop + Send,
+    C: Asks<W> + Drop + Send,
+    D: TakesTurns<W> + Drop + Send,
+    R: Wait + Threads + Sync,
+>(rt: &R, server: &Server<W>, client: C, dispatcher: D, questions: Vec<Question>) -> (usize, usize)
+    requires client { IsQuiet server.now (C.token client) }
+    requires dispatcher { IsOf server.now (D.token dispatcher) }
 {
     let flag = AtomicBool::new(false);
     let ended = &flag;
     join(
         rt,
         || -> usize
-            requires { IsQuiet server.now client }
+            requires { IsQuiet server.now (C.token client) }
         {
             let answered = asks_all(rt, server, client, questions);
             ends(server, ended);
             answered
         },
         || -> usize
-            requires { IsSync R.row × IsOf server.now dispatcher }
+            requires { IsSync R.row × IsOf server.now (D.token dispatcher) }
         { serves_until(rt, server, dispatcher, ended) },
     )
 }
@@ -116,10 +114,10 @@ fn those_who_sleep_are_woken(rt: HostRuntime) -> Result<(), Fail> {
 }
 
 // A dispatcher sleeps until the flag is set, and tells by the other flag that it is about to sleep.
-fn rests_until<W: Wait + Drop, R: Wait>(
+fn rests_until<W: Wait + Drop, D: TakesTurns<W> + Drop, R: Wait>(
     rt: &R,
     server: &Server<W>,
-    dispatcher: Dispatcher<W>,
+    dispatcher: D,
     resting: &AtomicBool,
     ended: &AtomicBool,
 ) {
@@ -128,17 +126,17 @@ fn rests_until<W: Wait + Drop, R: Wait>(
             return;
         }
         resting.store(true, Ordering::SeqCst);
-        dispatcher.rest(rt, server);
+        dispatcher.pause(rt, server);
     }
     unreachable!()
 }
 
 // A dispatcher rests in a thread of its own until it is woken. Whether it was about to rest before.
-fn rests_until_rung<W: Wait + Drop + Send, R: Wait + Threads + Sync>(
-    rt: &R,
-    server: &Server<W>,
-    dispatcher: Dispatcher<W>,
-) -> bool {
+fn rests_until_rung<
+    W: Wait + Drop + Send,
+    D: TakesTurns<W> + Drop + Send,
+    R: Wait + Threads + Sync,
+>(rt: &R, server: &Server<W>, dispatcher: D) -> bool {
     let flags = (AtomicBool::new(false), AtomicBool::new(false));
     let (resting, ended) = (&flags.0, &flags.1);
     let ((), rested) = join(

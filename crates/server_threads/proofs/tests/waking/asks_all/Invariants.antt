@@ -2,4 +2,4 @@ use Rattle.ssb_server.specs.Tickets.{IsQuiet}
 use Rattle.server_threads.proofs.tests.waking.asks_all.Given as goal
 
 abbrev pub invariant-loop-question : goal.invariant-loop-question
-invariant-loop-question g l = IsQuiet l.server l.client
+invariant-loop-question g l = IsQuiet l.server (g.C.HasToken.token l.client)
