@@ -1,4 +1,5 @@
-//! Trials of the audit over the small data set: want of memory is told, and the same call again gives the verdict.
+//! Trials of the audit over the small data set: what it says of true and of false traces, and that after want of memory
+//! the same call again gives the verdict.
 #![tactic(auto)]
 
 #[cfg(test)]

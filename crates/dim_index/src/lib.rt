@@ -40,8 +40,6 @@ mod dictionary;
 mod first_rows;
 mod index;
 mod kept;
-#[cfg(test)]
-mod tests;
 
 pub use bitmap::Bitmap;
 pub use coded::CodedColumn;

@@ -32,8 +32,6 @@ mod loading;
 mod orders;
 mod placing;
 mod span;
-#[cfg(test)]
-mod tests;
 
 pub use columns::Columns;
 pub use fact_table::{Place, Slices};

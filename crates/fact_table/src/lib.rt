@@ -21,8 +21,6 @@ pub mod laws;
 mod place;
 mod slices;
 mod table;
-#[cfg(test)]
-mod tests;
 
 pub use place::{Place, terms};
 pub use slices::Slices;

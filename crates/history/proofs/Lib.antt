@@ -12,4 +12,3 @@ pub mod HandingLaws
 pub mod PassingLaws
 pub mod AnsweringLaws
 pub mod LinkLaws
-pub mod TicketLaws

@@ -40,8 +40,6 @@ pub mod request;
 pub mod rule;
 mod shared;
 mod steps;
-#[cfg(test)]
-mod tests;
 pub mod view;
 
 pub use event::{Deed, Event};

@@ -30,8 +30,6 @@ mod plain;
 mod refusal;
 mod replica;
 mod store;
-#[cfg(test)]
-mod tests;
 
 pub use commit::{Commit, Receipt};
 pub use order_lines::OrderLines;

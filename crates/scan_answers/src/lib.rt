@@ -23,8 +23,6 @@
 pub mod laws;
 mod rows;
 mod scattered;
-#[cfg(test)]
-mod tests;
 
 pub use rows::{answer_question, answer_rows};
 pub use scattered::answer_scattered;

@@ -30,8 +30,6 @@ mod range;
 mod scattered;
 mod search;
 mod selecting;
-#[cfg(test)]
-mod tests;
 mod totals;
 
 pub use columns::{GroupColumn, Grouping, LineColumns};

@@ -26,8 +26,6 @@ mod commits;
 mod fault;
 pub mod laws;
 mod snapshot;
-#[cfg(test)]
-mod tests;
 mod trace;
 mod verdict;
 mod visits;

@@ -26,8 +26,6 @@ pub mod kind;
 pub mod plan;
 pub mod query;
 pub mod question;
-#[cfg(test)]
-mod tests;
 pub mod value;
 
 pub use cond::{ColumnValue, Cond, Test};

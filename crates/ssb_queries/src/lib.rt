@@ -26,8 +26,6 @@ mod joined;
 pub mod laws;
 mod row_values;
 mod sort;
-#[cfg(test)]
-mod tests;
 mod totals;
 
 pub use answer::{Answer, ResultRow, Rows, Unserved, same_rows};

@@ -15,8 +15,6 @@
 mod fields;
 mod records;
 mod spelling;
-#[cfg(test)]
-mod tests;
 
 pub use fields::{field_at, has_columns, trimmed_at};
 pub use records::{ReadError, next_record, record_reader};

@@ -24,8 +24,6 @@ mod piece;
 mod refresh;
 mod run;
 mod serve;
-#[cfg(test)]
-mod tests;
 
 pub use answer::{write_answer, write_barred, write_row};
 pub use fault::{RunError, WriteFault};

@@ -34,8 +34,6 @@ mod refresh;
 mod row;
 mod supplier;
 mod table;
-#[cfg(test)]
-mod tests;
 mod text;
 
 pub use base::{Base, BaseError, BaseParts};

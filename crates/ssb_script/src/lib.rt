@@ -21,8 +21,6 @@ mod laws;
 mod order_line;
 mod question;
 mod script;
-#[cfg(test)]
-mod tests;
 mod word;
 
 pub use begun::{Begun, BegunOrder, Step};

@@ -19,8 +19,6 @@
 
 mod answers;
 mod commits;
-#[cfg(test)]
-mod tests;
 mod writing;
 
 pub use ssb_audit::{AuditFault, Told, Trace, audit};

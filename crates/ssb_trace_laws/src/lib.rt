@@ -19,8 +19,6 @@ mod committed;
 mod held;
 mod laws;
 mod taken;
-#[cfg(test)]
-mod tests;
 
 pub use held::{allowed_line, legal_trace_is_read_back, question_is_allowed};
 pub use laws::{legal_traces_are_allowed, text_is_read_back};

@@ -20,11 +20,7 @@ mod heads;
 mod laws;
 mod rows;
 mod sums;
-#[cfg(test)]
-mod tests;
 mod trace;
-#[cfg(test)]
-mod trace_tests;
 mod unfinished;
 mod word;
 

@@ -30,8 +30,6 @@ mod note;
 mod reader;
 mod rule;
 mod side;
-#[cfg(test)]
-mod tests;
 mod writer;
 
 pub use cell::twin;

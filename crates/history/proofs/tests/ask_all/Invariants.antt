@@ -1,9 +1,0 @@
-use Rattle.std.proofs.Common.{◌≡◌}
-use Rattle.history.specs.Closing.{IsClientOf}
-use Rattle.history.proofs.tests.ask_all.Given as goal
-
-abbrev pub invariant-loop-question : goal.invariant-loop-question
-invariant-loop-question g l = record {
-  client : IsClientOf l.initial.pass.hall l.pass;
-  who : l.pass.who ≡ l.initial.pass.who;
-}

@@ -1,9 +1,0 @@
-use Rattle.std.proofs.Common.{◌≡◌}
-use Rattle.history.specs.Closing.{IsClientOf}
-use Rattle.history.proofs.tests.commit_all.Given as goal
-
-abbrev pub invariant-loop-refresh : goal.invariant-loop-refresh
-invariant-loop-refresh g l = record {
-  client : IsClientOf l.initial.pass.hall l.pass;
-  who : l.pass.who ≡ l.initial.pass.who;
-}

@@ -1,9 +1,0 @@
-use Rattle.std.proofs.Common.{◌≡◌}
-use Rattle.history.specs.Closing.{IsDispatcherOf}
-use Rattle.history.proofs.tests.serve_all.Given as goal
-
-abbrev pub invariant-loop : goal.invariant-loop
-invariant-loop g l = record {
-  dispatcher : IsDispatcherOf l.initial.pass.hall l.pass;
-  who : l.pass.who ≡ l.initial.pass.who;
-}

@@ -1,0 +1,9 @@
+use Rattle.std.proofs.Common.{◌≡◌}
+use Rattle.history.specs.Closing.{IsDispatcherOf}
+use Rattle.store_trials.proofs.tests.table.serve_all.Given as goal
+
+abbrev pub invariant-loop : goal.invariant-loop
+invariant-loop g l = record {
+  dispatcher : IsDispatcherOf l.initial.pass.hall l.pass;
+  who : l.pass.who ≡ l.initial.pass.who;
+}
