@@ -1,7 +1,8 @@
-use ssb_audit::{AuditFault, Told, Trace, audit};
+//! What the audit says of traces, true ones and false ones.
 use row_store::{Commit, PlainLines, Replica};
 use small_data::tables;
 use small_rows::adding;
+use ssb_audit::{AuditFault, Told, Trace, audit};
 use ssb_load::load;
 use ssb_plans::{QUERIES, Query, Question, Value};
 use ssb_queries::{ResultRow, Rows, plain};

@@ -4,7 +4,6 @@ ghost use Rattle.row_store.specs.History.{IsPrefix};
 ghost use Rattle.row_store.specs.State.{StandsFor, state_of};
 ghost use Rattle.fact_columns.specs.Stored.{columns_state};
 
-use twin_cell::{Guard, TwinError, TwinReader, TwinWriter, twin};
 use dim_index::DimIndex;
 use fact_columns::Columns;
 use row_store::{Commit, Follower, PlainLines, Replica};
@@ -16,6 +15,7 @@ use std::sync::atomic::{AtomicBool, Ordering};
 use std::sync::{Arc, Wait};
 use std::test::Fail;
 use std::thread::{Threads, join, map_vec};
+use twin_cell::{Guard, TwinError, TwinReader, TwinWriter, twin};
 
 fn base(alloc: Global) -> Result<Arc<Base>, Fail> {
     small_base(alloc, Limits::standard())

@@ -1,6 +1,6 @@
 //! Bases and lines of the tests, and rows to compare with.
-use ssb_queries::{ResultRow, Value};
 use small_rows::{Sale, base, customer, dimensions, lines, loaded, order_nine, supplier};
+use ssb_queries::{ResultRow, Value};
 use ssb_schema::{Base, Items, Limits, Line, Text};
 use std::alloc::{AllocError, Global};
 use std::sync::Arc;

@@ -1,9 +1,9 @@
 //! Records, their fields, and what fields spell.
 
+use csv::ByteRecord;
 use ssb_records::{
     ReadError, field_at, has_columns, next_record, number, record_reader, text, trimmed, trimmed_at,
 };
-use csv::ByteRecord;
 use std::io;
 use std::io::Read;
 use std::test::Fail;

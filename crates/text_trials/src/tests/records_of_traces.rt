@@ -1,9 +1,10 @@
-use ssb_trace_read::{client_of_commit, head_of, row_of};
+//! What one record of a trace spells.
 use csv::ByteRecord;
 use ssb_plans::{Query, Question, Value};
 use ssb_queries::ResultRow;
 use ssb_records::{next_record, record_reader};
 use ssb_schema::{Items, Text};
+use ssb_trace_read::{client_of_commit, head_of, row_of};
 use std::alloc::Global;
 use std::process::Abort;
 use std::test::Fail;
