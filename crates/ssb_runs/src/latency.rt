@@ -84,7 +84,8 @@ pub(crate) fn latencies_of(times: &Option<Times>) -> Latencies {
     }
 }
 
-/// Takes the time of each request of a client, or stands still: then it reads no clock.
+/// Takes the time of each request, or stands still: then it reads no clock. Requests follow one another, so each begins
+/// where the one before it has ended, and what is read ahead belongs to the first that it is read for.
 #[derive(Drop)]
 pub(crate) struct Timer<'a, C: Clock> {
     clock: &'a C,
@@ -111,7 +112,7 @@ impl<'a, C: Clock> Timer<'a, C> {
 
 impl<'a, C: Clock> Meter for Timer<'a, C> {
     fn begin(&mut self) {
-        if self.times.is_some() {
+        if self.times.is_some() && self.since.is_none() {
             self.since = Instant::now(self.clock).ok();
         }
     }
@@ -120,8 +121,10 @@ impl<'a, C: Clock> Meter for Timer<'a, C> {
         let (Some(times), Some(since)) = (&mut self.times, self.since) else {
             return;
         };
-        if let Ok(now) = Instant::now(self.clock) {
+        let now = Instant::now(self.clock).ok();
+        if let Some(now) = now {
             times.add(kind, now.duration_since(since));
         }
+        self.since = now;
     }
 }

@@ -19,6 +19,7 @@
 //! ```
 #![tactic(auto)]
 
+mod ahead;
 mod batches;
 mod clients;
 mod dispatchers;

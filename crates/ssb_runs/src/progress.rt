@@ -2,6 +2,7 @@
 ghost use Rattle.std.specs.Prelude.{◌≡◌, None, IfOk};
 ghost use Rattle.ssb_runs.specs.Sessions.{IsSessionOf};
 
+use crate::ahead::{BLOCKS_A_TURN, read_ahead};
 use crate::job::Job;
 use crate::session::Session;
 use ssb_audit::Told;
@@ -13,6 +14,7 @@ use std::collections::VecDeque;
 use std::marker::Model;
 use std::snapshot::Snapshot;
 use std::sync::Wait;
+use std::sync::atomic::{AtomicU64, Ordering};
 
 /// A job that was begun: the client, the blocks that are left of its script, what was reported and what the client was
 /// told so far. The report is in memory, so that want of memory alone can end it early; then no block is served any
@@ -61,13 +63,26 @@ impl<W: Wait + Drop> Progress<W> {
         }
     }
 
-    /// Serves the next block, where one is left.
-    pub(crate) fn serve_next<R: Wait, M: Meter>(
+    /// Serves the blocks of a turn, or all that are left where they are fewer. `read` takes what was read ahead of them,
+    /// so that no compiler leaves the reading out: nobody looks at it.
+    pub(crate) fn serve_turn<R: Wait, M: Meter>(
         &mut self,
         rt: &R,
         server: &Server<W>,
         meter: &mut M,
+        read: &AtomicU64,
     )
+        requires { self.old.client.hall ≡ server.now }
+        ensures { self.new ≡ self.old }
+    {
+        read.store(read_ahead(&self.blocks), Ordering::SeqCst);
+        for _ in 0..BLOCKS_A_TURN {
+            self.serve_next(rt, server, meter);
+        }
+    }
+
+    // Serves the next block, where one is left.
+    fn serve_next<R: Wait, M: Meter>(&mut self, rt: &R, server: &Server<W>, meter: &mut M)
         requires { self.old.client.hall ≡ server.now }
         ensures { self.new ≡ self.old }
     {

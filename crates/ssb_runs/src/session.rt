@@ -2,6 +2,7 @@
 ghost use Rattle.std.specs.Prelude.{◌≡◌, All, IfOk};
 ghost use Rattle.ssb_runs.specs.Sessions.{AreSessionsOf, IsTaskAt};
 
+use crate::ahead::BLOCKS_A_TURN;
 use crate::job::Job;
 use crate::latency::{Timer, Times};
 use crate::progress::Progress;
@@ -11,6 +12,7 @@ use ssb_session::Meter;
 use std::alloc::{AllocError, Global};
 use std::marker::Model;
 use std::sync::Wait;
+use std::sync::atomic::AtomicU64;
 use std::time::Clock;
 
 /// A session that has ended: the client, what was reported to it, and what it was told.
@@ -60,7 +62,7 @@ fn begin<W: Wait + Drop>(
     Ok(begun)
 }
 
-// So many rounds, in each of which every script is served its next block.
+// So many rounds, in each of which every script is served the blocks of a turn.
 fn serve_in_turns<W: Wait + Drop, R: Wait, M: Meter>(
     rt: &R,
     server: &Server<W>,
@@ -71,9 +73,10 @@ fn serve_in_turns<W: Wait + Drop, R: Wait, M: Meter>(
     requires { All (IsTaskAt server.now) begun.old }
     ensures { begun.new ≡ begun.old }
 {
+    let read = AtomicU64::new(0);
     for _ in 0..rounds {
         for i in 0..begun.len() {
-            begun[i].serve_next(rt, server, meter);
+            begun[i].serve_turn(rt, server, meter, &read);
         }
     }
 }
@@ -97,7 +100,7 @@ fn end<W: Wait + Drop, R: Wait, M: Meter>(
     Ok(sessions)
 }
 
-/// Serves each client its script, one block of each in turn.
+/// Serves each client its script, some blocks of each in turn.
 pub(crate) fn serve_jobs<W: Wait + Drop, R: Wait + Clock>(
     rt: &R,
     alloc: Global,
@@ -109,7 +112,7 @@ pub(crate) fn serve_jobs<W: Wait + Drop, R: Wait + Clock>(
 {
     let timed = jobs.iter().any(|job| job.timed);
     let mut timer = Timer::new(alloc, rt, timed)?;
-    let rounds = most_blocks(jobs.as_slice());
+    let rounds = most_blocks(jobs.as_slice()).div_ceil(BLOCKS_A_TURN);
     let mut begun = begin(alloc, server, jobs)?;
     serve_in_turns(rt, server, begun.as_mut_slice(), rounds, &mut timer);
     let ended = end(rt, alloc, server, begun, &mut timer);

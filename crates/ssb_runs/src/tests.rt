@@ -78,18 +78,24 @@ fn clients_that_only_refresh_take_turns(rt: HostRuntime) -> Result<(), Fail> {
     let alloc = rt.alloc();
     let hashing = RandomState::new(&rt)?;
     let mut scripts = Vec::new(alloc);
-    scripts.push(refreshing_script(alloc, 100, 3)?)?;
+    scripts.push(refreshing_script(alloc, 100, 35)?)?;
     scripts.push(refreshing_script(alloc, 200, 1)?)?;
-    scripts.push(refreshing_script(alloc, 300, 2)?)?;
+    scripts.push(refreshing_script(alloc, 300, 18)?)?;
     let run = served(&rt, alloc, hashing, scripts, 1, false)?;
     let mut clients = Vec::new(alloc);
     for commit in run.trace.commits.as_slice() {
         clients.push(commit.client)?;
     }
-    assert_eq!(rt; clients.as_slice(), [1, 2, 3, 1, 3, 1].as_slice());
+    let mut wanted = Vec::new(alloc);
+    for (client, blocks) in [(1, 16), (2, 1), (3, 16), (1, 16), (3, 2), (1, 3)] {
+        for _ in 0..blocks {
+            wanted.push(client)?;
+        }
+    }
+    assert_eq!(rt; clients.as_slice(), wanted.as_slice());
     let reports = run.reports.as_slice();
     assert_eq!(rt; reports.len(), 3);
-    assert_eq!(rt; str::from_utf8(reports[1].as_slice())?, "committed 2\n");
+    assert_eq!(rt; str::from_utf8(reports[1].as_slice())?, "committed 17\n");
     Ok(())
 }
 

@@ -67,6 +67,21 @@ fn a_timer_that_runs_takes_each_request(rt: HostRuntime) -> Result<(), Fail> {
 }
 
 #[test]
+fn a_request_begins_where_the_one_before_it_has_ended(rt: HostRuntime) -> Result<(), Fail> {
+    let clock = Ticking::new(7, 1);
+    let mut timer = Timer::new(rt.alloc(), &clock, true)?;
+    timer.begin();
+    timer.end(Kind::Question);
+    clock.tick();
+    timer.begin();
+    timer.end(Kind::Refresh);
+    let latencies = latencies_of(&timer.into_times());
+    assert_eq!(rt; latencies.answers.greatest, Duration::from_millis(1));
+    assert_eq!(rt; latencies.refreshes.greatest, Duration::from_millis(2));
+    Ok(())
+}
+
+#[test]
 fn a_timer_that_stands_still_reads_no_clock(rt: HostRuntime) -> Result<(), Fail> {
     let clock = Ticking::new(7, 1);
     let mut still = Timer::new(rt.alloc(), &clock, false)?;
