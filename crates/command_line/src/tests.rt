@@ -42,6 +42,20 @@ fn each_word_after_query_has_its_place(rt: HostRuntime) -> Result<(), Fail> {
     Ok(())
 }
 
+#[test]
+fn pairs_of_stretches_are_asked_for_with_the_times(rt: HostRuntime) -> Result<(), Fail> {
+    let words = [
+        "ssb_live", "run", "--data", "t", "--times", "--pairs", "18", "s",
+    ];
+    let words = listed(rt.alloc(), &words)?;
+    let matches = matches(rt.alloc(), words.as_slice()).map_err(|_| "refused")?;
+    let (_, run) = matches.subcommand().ok_or("no subcommand")?;
+    assert!(rt; run.get_flag("times"));
+    assert_eq!(rt; run.get_one::<u32>("pairs"), Some(18));
+    assert_eq!(rt; run.get_strs("scripts"), Some(&["s"][..]));
+    Ok(())
+}
+
 // Words that need not be text.
 #[derive(Drop)]
 struct Given<'a>(&'a [&'a [u8]]);

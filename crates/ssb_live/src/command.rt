@@ -89,6 +89,7 @@ where
         hashing,
         dispatchers: matches.get_one::<u32>("dispatchers").unwrap_or(1),
         times: matches.get_flag("times"),
+        pairs: matches.get_one::<u32>("pairs").unwrap_or(0),
     };
     Ok(OpenedRun {
         settings,

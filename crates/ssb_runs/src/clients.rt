@@ -5,6 +5,7 @@ ghost use Rattle.ssb_runs.specs.Sessions.{AreServed, AreSessionsOf, AreTasksAt};
 
 use crate::job::Job;
 use crate::latency::joined;
+use crate::pairs::of_either;
 use crate::session::{Session, Sessions, serve_jobs};
 use ssb_server::Server;
 use std::alloc::{AllocError, Global};
@@ -79,16 +80,22 @@ pub(crate) fn join_clients<W: Wait + Drop, R: Threads>(
 {
     let mut sessions = Vec::new(alloc);
     let mut times = None;
+    let mut pairs = Vec::new(alloc);
     let mut all = Ok(());
     for thread in serving {
         match thread.join(rt) {
             Ok(ended) => {
                 times = joined(times, ended.times);
+                pairs = of_either(pairs, ended.pairs);
                 all = add(all, &mut sessions, ended.sessions);
             }
             Err(_) => all = Err(AllocError),
         }
     }
     all?;
-    Ok(Sessions { sessions, times })
+    Ok(Sessions {
+        sessions,
+        times,
+        pairs,
+    })
 }

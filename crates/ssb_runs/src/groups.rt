@@ -3,6 +3,7 @@ ghost use Rattle.std.specs.Prelude.{◌≡◌, ◌++◌, IfOk};
 ghost use Rattle.ssb_runs.specs.Sessions.{all_tasks};
 
 use crate::job::Job;
+use crate::latency::Timing;
 use ssb_script::{Block, Script};
 use std::alloc::{AllocError, Global};
 use std::sync::Wait;
@@ -13,6 +14,14 @@ fn only_refreshes(script: &Script) -> bool {
         Block::Refresh(_) => true,
         Block::Ask(_) => false,
     })
+}
+
+// Whether all clients share a thread.
+fn in_pairs(timing: Timing) -> bool {
+    match timing {
+        Timing::Pairs(_) => true,
+        Timing::Off | Timing::Requests => false,
+    }
 }
 
 // The group that the next job joins: this one, or a new one behind it.
@@ -35,6 +44,7 @@ fn next_group<W: Wait + Drop>(
 /// The jobs in groups, in order, each for a thread. Clients whose scripts ask nothing, and that follow one another, are
 /// one group, and each other client is one of its own. Commits are one after another by what they mean, so threads of
 /// their own would not bring refreshes on: each would wait for the others, and have lost its processor's caches by then.
+/// Clients that are timed in pairs are one group, whatever they ask.
 pub(crate) fn groups_of<W: Wait + Drop>(
     alloc: Global,
     jobs: Vec<Job<W>>,
@@ -46,7 +56,7 @@ pub(crate) fn groups_of<W: Wait + Drop>(
     let mut refreshing = true;
     for job in jobs {
         let refreshes = only_refreshes(&job.script);
-        let joins = group.is_empty() || (refreshing && refreshes);
+        let joins = group.is_empty() || in_pairs(job.timing) || (refreshing && refreshes);
         group = next_group(alloc, &mut groups, group, joins)?;
         group.push(job)?;
         refreshing = refreshes;

@@ -5,6 +5,29 @@ use ssb_session::{Kind, Meter};
 use std::alloc::{AllocError, Global};
 use std::time::{Clock, Duration, Instant};
 
+/// What times of a run are taken. No contract tells them.
+#[derive(Clone, Copy, Debug, PartialEq, Eq)]
+pub enum Timing {
+    /// No clock is read.
+    Off,
+    /// Those of the threads and of the requests.
+    Requests,
+    /// The same, and those of so many pairs of stretches: the first client is served alone, and the others at once.
+    Pairs(u32),
+}
+
+/// The time now, where the clock tells it.
+pub(crate) fn moment<C: Clock>(clock: &C) -> Option<Instant> {
+    Instant::now(clock).ok()
+}
+
+/// The time since then.
+pub(crate) fn since<C: Clock>(clock: &C, began: Option<Instant>) -> Option<Duration> {
+    let began = began?;
+    let now = moment(clock)?;
+    Some(now.duration_since(began))
+}
+
 /// How long the requests of one kind took, from the call to the reply and its report. The middle and the 99th
 /// percentile are at most 1/32 too great; all three are zero where there are none. Figures for a reader: no contract
 /// tells them.

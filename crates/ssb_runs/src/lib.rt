@@ -14,7 +14,7 @@
 //! by no proof.
 //!
 //! ```text
-//! let run = serve_scripts(&rt, rt.alloc(), hashing, base, scripts, 2, false)?;
+//! let run = serve_scripts(&rt, rt.alloc(), hashing, base, scripts, 2, Timing::Off)?;
 //! write_trace(&mut file, &run.trace)?;
 //! ```
 #![tactic(auto)]
@@ -28,6 +28,7 @@ mod groups;
 mod histogram;
 mod job;
 mod latency;
+mod pairs;
 mod progress;
 mod run;
 mod session;
@@ -37,5 +38,6 @@ mod threads;
 
 pub use batches::Batches;
 pub use fault::RunFault;
-pub use latency::{Latencies, Latency};
+pub use latency::{Latencies, Latency, Timing};
+pub use pairs::Pair;
 pub use run::{Run, serve_scripts};

@@ -51,7 +51,7 @@ impl<W: Wait + Drop> Progress<W> {
         let Job {
             client,
             script,
-            timed: _,
+            timing: _,
         } = job;
         Progress {
             job: begun,
@@ -61,6 +61,11 @@ impl<W: Wait + Drop> Progress<W> {
             told: Vec::new(alloc),
             lacks_memory: false,
         }
+    }
+
+    /// How many blocks are left.
+    pub(crate) fn left(&self) -> usize {
+        self.blocks.len()
     }
 
     /// Serves the blocks of a turn, or all that are left where they are fewer. `read` takes what was read ahead of them,

@@ -9,7 +9,8 @@ ghost use Rattle.ssb_server.specs.Opening.{AreCounts};
 use crate::batches::Batches;
 use crate::fault::RunFault;
 use crate::job::Job;
-use crate::latency::{Latencies, latencies_of};
+use crate::latency::{Latencies, Timing, latencies_of, moment, since};
+use crate::pairs::Pair;
 use crate::session::Session;
 use crate::threads::{Ended, run_threads};
 use ssb_audit::{Told, Trace};
@@ -20,17 +21,18 @@ use std::alloc::{AllocError, Global};
 use std::hash::RandomState;
 use std::sync::{Arc, Wait};
 use std::thread::Threads;
-use std::time::{Clock, Duration, Instant};
+use std::time::{Clock, Duration};
 
 /// What a run leaves: the report of each script, in the order of the scripts, and the trace, which has the log and
-/// what each client was told, one client after another. Batches, latencies and the time from the start of the first
-/// thread to the end of the last, where times were taken, are figures for a reader.
+/// what each client was told, one client after another. Batches, latencies, pairs of stretches and the time from the
+/// start of the first thread to the end of the last, where times were taken, are figures for a reader.
 #[derive(Drop)]
 pub struct Run {
     pub reports: Vec<Vec<u8>>,
     pub trace: Trace,
     pub batches: Batches,
     pub latencies: Latencies,
+    pub pairs: Vec<Pair>,
     pub threads: Option<Duration>,
 }
 
@@ -47,7 +49,7 @@ fn jobs_of<W: Wait + Drop>(
     alloc: Global,
     clients: Vec<Client<W>>,
     scripts: Vec<Script>,
-    timed: bool,
+    timing: Timing,
 ) -> Result<Vec<Job<W>>, AllocError>
     requires { vec_len clients ≡ vec_len scripts }
     ensures clients { IfOk result (λ jobs. map (λ job. job.client) jobs.items ≡ clients.items) }
@@ -62,7 +64,7 @@ fn jobs_of<W: Wait + Drop>(
         jobs.push(Job {
             client,
             script,
-            timed,
+            timing,
         })?;
     }
     Ok(jobs)
@@ -114,6 +116,7 @@ fn close<W: Wait + Drop>(
         dispatchers,
         batches,
         times,
+        pairs,
     } = ended;
     let Gathered {
         clients,
@@ -131,24 +134,9 @@ fn close<W: Wait + Drop>(
         },
         batches,
         latencies: latencies_of(&times),
+        pairs,
         threads,
     })
-}
-
-// The time now, where times are taken and the clock tells it.
-fn moment<C: Clock>(clock: &C, timed: bool) -> Option<Instant> {
-    if timed {
-        Instant::now(clock).ok()
-    } else {
-        None
-    }
-}
-
-// The time since then.
-fn since<C: Clock>(clock: &C, began: Option<Instant>) -> Option<Duration> {
-    let began = began?;
-    let now = Instant::now(clock).ok()?;
-    Some(now.duration_since(began))
 }
 
 // Serves each script by the client of its place.
@@ -157,7 +145,7 @@ fn serve<W: Wait + Drop + Send, R: Wait + Threads + Sync + Clock>(
     alloc: Global,
     opened: Opened<W>,
     scripts: Vec<Script>,
-    timed: bool,
+    timing: Timing,
 ) -> Result<Run, AllocError>
     requires clients { opened.clients.items ≡ new_clients opened.server }
     requires dispatchers { opened.dispatchers.items ≡ new_dispatchers opened.server }
@@ -170,17 +158,24 @@ fn serve<W: Wait + Drop + Send, R: Wait + Threads + Sync + Clock>(
         clients,
         dispatchers,
     } = opened;
-    let jobs = jobs_of(alloc, clients, scripts, timed)?;
-    let began = moment(rt, timed);
+    let jobs = jobs_of(alloc, clients, scripts, timing)?;
+    let began = if timing == Timing::Off {
+        None
+    } else {
+        moment(rt)
+    };
     let ended = run_threads(rt, alloc, &server, jobs, dispatchers)?;
     let threads = since(rt, began);
     close(alloc, server, ended, threads)
 }
 
 /// Serves 1 to 16 scripts by 1 to 4 dispatchers over a base; `hashing` keys the map of orders. Each dispatcher has a
-/// thread of its own, and so has each client, but that clients whose scripts ask nothing share one, block by block in
-/// turn, where they follow one another: their refreshes are one after another in any case. It waits until all of them have ended. Where `timed` says so, the time of all
-/// threads is taken, and by each thread of clients that of their requests; else no clock is read.
+/// thread of its own, and so has each client, but that clients whose scripts ask nothing share one, some blocks of each in
+/// turn, where they follow one another: their refreshes are one after another in any case. It waits until all of them
+/// have ended. With `Timing::Requests` the time of all threads is taken, and by each thread of clients that of their
+/// requests; with `Timing::Off` no clock is read. With `Timing::Pairs` all clients share a thread, whatever they ask: the
+/// first is served alone and the others at once, by turns, stretch by stretch, and what is left of the scripts in the
+/// end.
 ///
 /// The dispatchers' threads start first, then the clients' in the order of the scripts, and where one can't be started,
 /// no later one is. That, and a refused growth wherever it is met, is `OutOfMemory`; each thread that was started has
@@ -192,7 +187,7 @@ pub fn serve_scripts<R: Wait + Threads + Sync + Clock>(
     base: Arc<Base>,
     scripts: Vec<Script>,
     dispatchers: u32,
-    timed: bool,
+    timing: Timing,
 ) -> Result<Run, RunFault>
     ensures counts { OnOk result (AreCounts (vec_len scripts) dispatchers) }
     ensures served { IfOk result (λ run. IsRun base.value scripts.items dispatchers
@@ -202,7 +197,7 @@ pub fn serve_scripts<R: Wait + Threads + Sync + Clock>(
 {
     let count = u32::try_from(scripts.len()).unwrap_or(u32::MAX);
     match open(alloc, rt, hashing, base, count, dispatchers) {
-        Ok(opened) => Ok(serve(rt, alloc, opened, scripts, timed)?),
+        Ok(opened) => Ok(serve(rt, alloc, opened, scripts, timing)?),
         Err(error) => Err(RunFault::from(error.fault)),
     }
 }

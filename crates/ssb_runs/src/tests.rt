@@ -3,7 +3,7 @@
 mod data;
 mod latency;
 
-use crate::{Batches, Latencies, Run, RunFault, serve_scripts};
+use crate::{Batches, Latencies, Run, RunFault, Timing, serve_scripts};
 use data::{adding_script, adding_scripts, base, refreshing_script};
 use ssb_audit::audit;
 use ssb_script::Script;
@@ -22,10 +22,10 @@ fn served<R: Wait + Threads + Sync + Clock>(
     hashing: RandomState,
     scripts: Vec<Script>,
     dispatchers: u32,
-    timed: bool,
+    timing: Timing,
 ) -> Result<Run, Fail> {
     let base = base(alloc)?;
-    Ok(serve_scripts(rt, alloc, hashing, base, scripts, dispatchers, timed)?)
+    Ok(serve_scripts(rt, alloc, hashing, base, scripts, dispatchers, timing)?)
 }
 
 // How many of the commits are the client's.
@@ -35,6 +35,22 @@ fn commits_of(run: &Run, client: u32) -> usize {
         .iter()
         .filter(|commit| commit.client == client)
         .count()
+}
+
+// Whose commits follow one another, and how many.
+fn turns_of(alloc: Global, run: &Run) -> Result<Vec<(u32, u64)>, Fail> {
+    let mut turns = Vec::new(alloc);
+    let mut turn = (0u32, 0u64);
+    for commit in run.trace.commits.as_slice() {
+        if commit.client != turn.0 {
+            turns.push(turn)?;
+            turn = (commit.client, 0);
+        }
+        turn.1 = turn.1.wrapping_add(1);
+    }
+    turns.push(turn)?;
+    turns.remove(0);
+    Ok(turns)
 }
 
 // How many lines of the report tell a commit.
@@ -51,7 +67,14 @@ fn committed_lines(report: &[u8]) -> Result<usize, Fail> {
 fn three_clients_of_ten_refreshes_leave_thirty_commits(rt: HostRuntime) -> Result<(), Fail> {
     let alloc = rt.alloc();
     let hashing = RandomState::new(&rt)?;
-    let run = served(&rt, alloc, hashing, adding_scripts(alloc, 3, 10)?, 2, true)?;
+    let run = served(
+        &rt,
+        alloc,
+        hashing,
+        adding_scripts(alloc, 3, 10)?,
+        2,
+        Timing::Requests,
+    )?;
     assert_eq!(rt; run.trace.commits.len(), 30);
     let of_each = (
         commits_of(&run, 1),
@@ -81,21 +104,53 @@ fn clients_that_only_refresh_take_turns(rt: HostRuntime) -> Result<(), Fail> {
     scripts.push(refreshing_script(alloc, 100, 35)?)?;
     scripts.push(refreshing_script(alloc, 200, 1)?)?;
     scripts.push(refreshing_script(alloc, 300, 18)?)?;
-    let run = served(&rt, alloc, hashing, scripts, 1, false)?;
-    let mut clients = Vec::new(alloc);
-    for commit in run.trace.commits.as_slice() {
-        clients.push(commit.client)?;
-    }
-    let mut wanted = Vec::new(alloc);
-    for (client, blocks) in [(1, 16), (2, 1), (3, 16), (1, 16), (3, 2), (1, 3)] {
-        for _ in 0..blocks {
-            wanted.push(client)?;
-        }
-    }
-    assert_eq!(rt; clients.as_slice(), wanted.as_slice());
+    let run = served(&rt, alloc, hashing, scripts, 1, Timing::Off)?;
+    let wanted = [(1, 16), (2, 1), (3, 16), (1, 16), (3, 2), (1, 3)];
+    assert_eq!(rt; turns_of(alloc, &run)?.as_slice(), wanted.as_slice());
     let reports = run.reports.as_slice();
     assert_eq!(rt; reports.len(), 3);
     assert_eq!(rt; str::from_utf8(reports[1].as_slice())?, "committed 17\n");
+    assert!(rt; run.pairs.is_empty());
+    Ok(())
+}
+
+#[test]
+fn a_client_alone_and_the_others_are_timed_by_turns(rt: HostRuntime) -> Result<(), Fail> {
+    let alloc = rt.alloc();
+    let hashing = RandomState::new(&rt)?;
+    let mut scripts = Vec::new(alloc);
+    scripts.push(refreshing_script(alloc, 100, 70)?)?;
+    scripts.push(refreshing_script(alloc, 200, 32)?)?;
+    scripts.push(adding_script(alloc, 300, 33)?)?;
+    let run = served(&rt, alloc, hashing, scripts, 1, Timing::Pairs(2))?;
+    // 32 blocks a stretch; then what is left of the first and of the third
+    let wanted = [(1, 32), (2, 16), (3, 16), (2, 16), (3, 16), (1, 38), (3, 1)];
+    assert_eq!(rt; turns_of(alloc, &run)?.as_slice(), wanted.as_slice());
+    assert_eq!(rt; run.trace.answers.len(), 1);
+    assert_eq!(rt; run.pairs.len(), 2);
+    for pair in &run.pairs {
+        assert_eq!(rt; pair.blocks, 32);
+    }
+    assert_eq!(rt; run.latencies.refreshes.count, 135);
+    assert!(rt; audit(&rt, alloc, base(alloc)?, hashing, &run.trace).is_ok());
+    Ok(())
+}
+
+#[test]
+fn a_client_with_no_others_is_served_without_pairs(rt: HostRuntime) -> Result<(), Fail> {
+    let alloc = rt.alloc();
+    let mut scripts = Vec::new(alloc);
+    scripts.push(refreshing_script(alloc, 100, 35)?)?;
+    let run = served(
+        &rt,
+        alloc,
+        RandomState::new(&rt)?,
+        scripts,
+        1,
+        Timing::Pairs(2),
+    )?;
+    assert_eq!(rt; run.trace.commits.len(), 35);
+    assert!(rt; run.pairs.is_empty());
     Ok(())
 }
 
@@ -104,7 +159,7 @@ fn an_answer_has_the_clients_own_commit(rt: HostRuntime) -> Result<(), Fail> {
     let alloc = rt.alloc();
     let mut scripts = Vec::new(alloc);
     scripts.push(adding_script(alloc, 8, 1)?)?;
-    let run = served(&rt, alloc, RandomState::new(&rt)?, scripts, 1, false)?;
+    let run = served(&rt, alloc, RandomState::new(&rt)?, scripts, 1, Timing::Off)?;
     let wanted = "committed 1\nQ4.1 at 1 rows 1\n1997|UNITED STATES|-1330\n";
     let reports = run.reports.as_slice();
     assert_eq!(rt; reports.len(), 1);
@@ -126,7 +181,7 @@ fn the_reports_stand_in_the_order_of_the_scripts(rt: HostRuntime) -> Result<(), 
         for orders in 0..clients {
             scripts.push(adding_script(alloc, 100 * orders + 100, orders)?)?;
         }
-        let run = served(&rt, alloc, RandomState::new(&rt)?, scripts, 4, false)?;
+        let run = served(&rt, alloc, RandomState::new(&rt)?, scripts, 4, Timing::Off)?;
         let mut orders = 0;
         for report in &run.reports {
             assert_eq!(rt; committed_lines(report.as_slice())?, orders);
@@ -154,7 +209,7 @@ fn fault_of<R: Wait + Threads + Sync + Clock>(
         base(alloc)?,
         scripts,
         dispatchers,
-        false,
+        Timing::Off,
     ) {
         Ok(_run) => Ok(None),
         Err(fault) => Ok(Some(fault)),

@@ -9,6 +9,7 @@ use crate::dispatchers::{Dispatching, join_dispatchers, start_dispatchers};
 use crate::groups::groups_of;
 use crate::job::Job;
 use crate::latency::Times;
+use crate::pairs::Pair;
 use crate::session::{Session, Sessions};
 use ssb_server::{Dispatcher, Server};
 use std::alloc::{AllocError, Global};
@@ -25,6 +26,7 @@ pub(crate) struct Ended<W: Wait + Drop> {
     pub(crate) dispatchers: Vec<Dispatcher<W>>,
     pub(crate) batches: Batches,
     pub(crate) times: Option<Times>,
+    pub(crate) pairs: Vec<Pair>,
 }
 
 // All who are to take part, with room for their threads and for what these leave. The room is made before the first
@@ -129,12 +131,17 @@ fn serve_all<'s, E, W: Wait + Drop + Send, R: Wait + Threads + Sync + Clock>(
     let mut batches = Batches::default();
     join_dispatchers(rt, dispatching, &mut left, &mut batches);
     started?;
-    let Sessions { sessions, times } = served?;
+    let Sessions {
+        sessions,
+        times,
+        pairs,
+    } = served?;
     Ok(Ended {
         sessions,
         dispatchers: left,
         batches,
         times,
+        pairs,
     })
 }
 

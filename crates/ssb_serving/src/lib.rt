@@ -12,7 +12,7 @@
 //! standard error, in no contract.
 //!
 //! ```text
-//! let settings = RunSettings { hashing, dispatchers: 2, times: false };
+//! let settings = RunSettings { hashing, dispatchers: 2, times: false, pairs: 0 };
 //! let status = run_scripts(rt, settings, tables, scripts, &mut out, &mut Some(trace), &mut err);
 //! ```
 #![tactic(auto)]

@@ -21,7 +21,7 @@ use crate::printing::write_run;
 use ssb_faults::Fault;
 use ssb_files::{base_of, read_scripts};
 use ssb_load::Tables;
-use ssb_runs::{Run, serve_scripts};
+use ssb_runs::{Run, Timing, serve_scripts};
 use ssb_schema::Base;
 use ssb_script::Script;
 use ssb_trace::write_trace;
@@ -43,6 +43,18 @@ pub struct RunSettings {
     pub dispatchers: u32,
     /// Whether the times are told on standard error.
     pub times: bool,
+    /// How many pairs of stretches are told with the times: the first script is served alone, and the others at once.
+    /// With 0 all are served at once.
+    pub pairs: u32,
+}
+
+// What times are taken.
+fn timing_of(times: bool, pairs: u32) -> Timing {
+    match (times, pairs) {
+        (false, _) => Timing::Off,
+        (true, 0) => Timing::Requests,
+        (true, _) => Timing::Pairs(pairs),
+    }
 }
 
 // Serves scripts at once over a base.
@@ -50,7 +62,7 @@ fn serve<R: Threads + Sync + Wait + Clock + AllocGlobal>(
     rt: &R,
     hashing: RandomState,
     dispatchers: u32,
-    times: bool,
+    timing: Timing,
     base: Base,
     scripts: Vec<Script>,
 ) -> Result<Run, ServingFault>
@@ -60,7 +72,7 @@ fn serve<R: Threads + Sync + Wait + Clock + AllocGlobal>(
     ensures fault { IfErr result (λ fault. serving_status fault ≡ 4) }
 {
     let base = Arc::new(rt.alloc(), base)?;
-    match serve_scripts(rt, rt.alloc(), hashing, base, scripts, dispatchers, times) {
+    match serve_scripts(rt, rt.alloc(), hashing, base, scripts, dispatchers, timing) {
         Ok(run) => Ok(run),
         Err(fault) => Err(ServingFault::Found(NotRun(fault))),
     }
@@ -91,8 +103,10 @@ fn run_of<R: Threads + Sync + Wait + Clock + AllocGlobal, I: Read + Drop>(
         hashing,
         dispatchers,
         times,
+        pairs,
     } = settings;
-    let run = serve(rt, hashing, dispatchers, times, base, scripts)?;
+    let timing = timing_of(times, pairs);
+    let run = serve(rt, hashing, dispatchers, timing, base, scripts)?;
     pace.end_serving(rt, &run);
     Ok(run)
 }
@@ -240,7 +254,7 @@ pub fn run_scripts<
         return Fault::TooManyScripts.tell(err);
     }
     let times = settings.times;
-    let mut pace = Pace::start(rt, times);
+    let mut pace = Pace::start(rt.alloc(), rt, times);
     match report(rt, settings, tables, sources, out, file, &mut pace) {
         Ok(()) => {
             tell_times(&pace, times, err);

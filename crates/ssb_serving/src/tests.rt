@@ -28,6 +28,7 @@ where
         hashing: RandomState::new(rt)?,
         dispatchers: 1,
         times,
+        pairs: 0,
     };
     let mut sources = Vec::new(rt.alloc());
     sources.push(stored::SCRIPT.as_bytes())?;
@@ -77,11 +78,45 @@ fn the_pace_of_a_run_is_told_after_it(rt: HostRuntime) -> Result<(), Fail> {
 }
 
 #[test]
+fn the_pairs_of_stretches_are_told_with_the_times(rt: HostRuntime) -> Result<(), Fail> {
+    let settings = RunSettings {
+        hashing: RandomState::new(&rt)?,
+        dispatchers: 1,
+        times: true,
+        pairs: 2,
+    };
+    let refresh = "begin\nwithdraw|1\ncommit\n";
+    let alone = refresh.repeat(rt.alloc(), 32)?;
+    let other = refresh.repeat(rt.alloc(), 16)?;
+    let mut sources = Vec::new(rt.alloc());
+    sources.push(alone.as_bytes())?;
+    sources.push(other.as_bytes())?;
+    let mut out = Vec::new(rt.alloc());
+    let mut err = Vec::new(rt.alloc());
+    let mut none = None::<&mut [u8]>;
+    let status = run_scripts(
+        &rt,
+        settings,
+        tables(),
+        sources,
+        &mut out,
+        &mut none,
+        &mut err,
+    );
+    assert_eq!(rt; status, 0);
+    let pace = std::str::from_utf8(err.as_slice())?;
+    assert_eq!(rt; pace.matches("ssb_live: 16 blocks alone 0.0").count(), 2);
+    assert_eq!(rt; pace.matches(" s, at once 0.0").count(), 2);
+    Ok(())
+}
+
+#[test]
 fn a_failed_write_of_a_run_is_told(rt: HostRuntime) -> Result<(), Fail> {
     let settings = RunSettings {
         hashing: RandomState::new(&rt)?,
         dispatchers: 1,
         times: false,
+        pairs: 0,
     };
     let mut sources = Vec::new(rt.alloc());
     sources.push("query|Q1.1\n".as_bytes())?;

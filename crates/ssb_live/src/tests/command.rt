@@ -166,6 +166,10 @@ fn wrong_words_end_with_status_2_whether_or_not_they_are_told(rt: HostRuntime) -
         &["ssb_live", "query", "--data", "t", "--silent", "Q1.1"],
         &["ssb_live", "query", "--data", "t", "--quiet=yes", "Q1.1"],
         &["ssb_live", "run", "--data", "t", "--silent", "s"],
+        &["ssb_live", "run", "--data", "t", "--pairs", "2", "s"],
+        &[
+            "ssb_live", "run", "--data", "t", "--times", "--pairs", "0", "s",
+        ],
         &["ssb_live", "audit", "--data", "t", "--times", "s"],
         &["ssb_live", "--data", "t"],
     ] {
