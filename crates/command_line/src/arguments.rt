@@ -2,7 +2,7 @@
 
 use clap::error::ErrorKind;
 use clap::{Arg, ArgAction, ArgMatches, Command, Error, value_parser};
-use ssb_faults::Fault;
+use ssb_files::Fault;
 use std::alloc::{AllocError, Global};
 use std::env::Env;
 use std::io;

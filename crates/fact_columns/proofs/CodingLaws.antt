@@ -29,15 +29,15 @@ use Rattle.std.specs.List.{All, flat_map}
 use Rattle.std.proofs.lemmas.List.Concat.{flat_map-cons}
 use Rattle.std.proofs.lemmas.List.{map_more, length-map, map-append, take-map, drop-map, take_at, drop_at, drop_more}
 use Rattle.std.proofs.lemmas.List.Elements.{All-push, All-take, All-drop}
-use Rattle.ssb_schema.specs.Base.{Dimensions}
+use Rattle.ssb_base.specs.Base.{Dimensions}
 use Rattle.ssb_schema.specs.declared.fact.Fact.{Fact}
 use Rattle.ssb_schema.specs.declared.line.LineFields.{LineFields}
 use Rattle.ssb_schema.specs.declared.refresh.Action.{Action}
 use Rattle.ssb_schema.specs.Facts.{fact_of, facts_of}
 use Rattle.row_store.specs.Lines.{added_by}
 use Rattle.row_store.specs.State.{Counts, with_fact}
-use Rattle.fact_table.specs.declared.place.Place.{Place}
-use Rattle.fact_table.specs.Places.{fact_at, is_live}
+use Rattle.fact_columns.specs.declared.place.Place.{Place}
+use Rattle.fact_columns.specs.Places.{fact_at, is_live}
 use Rattle.fact_columns.specs.Classed.{IsPlaceOf}
 use Rattle.fact_columns.specs.Coded.{IsCodeOf, AreCodesOf, with_places}
 

@@ -1,3 +1,5 @@
+pub mod FilterLaws
+pub mod PlaceListLaws
 pub mod FactCountLaws
 pub mod PlaceLaws
 pub mod CodingLaws

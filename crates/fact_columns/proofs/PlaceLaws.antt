@@ -48,12 +48,12 @@ use Rattle.std.proofs.lemmas.List.Elements.{filter-append}
 use Rattle.std.proofs.lemmas.Bool.{eqb-true, eq-eqb}
 use Rattle.std.proofs.lemmas.Option.{same_Some, cond_some}
 use Rattle.std.specs.Option.{option_map, option_eq}
-use Rattle.ssb_schema.specs.Base.{Dimensions}
+use Rattle.ssb_base.specs.Base.{Dimensions}
 use Rattle.ssb_schema.specs.declared.fact.Fact.{Fact}
 use Rattle.ssb_schema.specs.declared.refresh.Action.TheVariants.{Withdraw}
 use Rattle.row_store.specs.State.{Counts, with_fact, fact_counts, counts_after_action}
-use Rattle.fact_table.specs.declared.place.Place.{Place}
-use Rattle.fact_table.specs.Places.{is_live, freed, fact_at, live_facts}
+use Rattle.fact_columns.specs.declared.place.Place.{Place}
+use Rattle.fact_columns.specs.Places.{is_live, freed, fact_at, live_facts}
 use Rattle.fact_columns.specs.Classed.{IsPlaceOf}
 use Rattle.fact_columns.specs.Spans.{if_live, live_at, live_count, kept, is_of_other, Covers, Spanned}
 use Rattle.fact_columns.specs.Coded.{counts_at, with_places}

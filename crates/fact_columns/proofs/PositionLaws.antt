@@ -6,13 +6,13 @@ use Rattle.std.proofs.lemmas.Bool.{eqb-true, ne_eqb}
 use Rattle.std.proofs.lemmas.List.{get_or-map, length-map}
 use Rattle.std.proofs.lemmas.List.Quantifiers.{position-Some}
 use Rattle.std.proofs.lemmas.Option.{slice_get-get_or}
-use Rattle.ssb_schema.specs.Base.{Tables, customer_key, supplier_key, part_key, date_key}
+use Rattle.ssb_base.specs.Base.{Tables, customer_key, supplier_key, part_key, date_key}
 use Rattle.ssb_schema.specs.declared.fact.Fact.{Fact}
 use Rattle.ssb_schema.specs.declared.table.Table.TheVariants as table
 use Rattle.ssb_schema.specs.Facts.{IsFactWithinLimits}
-use Rattle.dim_index.specs.Classes.{classes_of}
-use Rattle.dim_index.specs.Keys.{position_in, position_of}
-use Rattle.fact_table.specs.Places.{key_at, quantity_in, discount_in}
+use Rattle.dimension_index.specs.Classes.{classes_of}
+use Rattle.dimension_index.specs.Keys.{position_in, position_of}
+use Rattle.fact_columns.specs.Places.{key_at, quantity_in, discount_in}
 use Rattle.fact_columns.specs.Coded.{IsCodeOf}
 use Rattle.fact_columns.proofs.CodingLaws.{some_row}
 

@@ -1,10 +1,10 @@
 -- Places with the classes of their rows.
 use Rattle.std.specs.Prelude.{◌≡◌, slice_index}
-use Rattle.ssb_schema.specs.Base.{Dimensions}
+use Rattle.ssb_base.specs.Base.{Dimensions}
 use Rattle.ssb_schema.specs.declared.table.Table.TheVariants as table
-use Rattle.dim_index.specs.Classes.{classes_of}
-use Rattle.fact_table.specs.declared.place.Place.{Place}
-use Rattle.fact_table.specs.Places.{IsWithin}
+use Rattle.dimension_index.specs.Classes.{classes_of}
+use Rattle.fact_columns.specs.declared.place.Place.{Place}
+use Rattle.fact_columns.specs.Places.{IsWithin}
 
 -- a place, live or free, is within the dimensions, and beside each row's position it has the row's class
 pub record IsPlaceOf (dimensions : Dimensions) (place : Place) : Type 0 where

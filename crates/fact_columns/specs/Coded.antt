@@ -1,13 +1,13 @@
 -- Lines in codes, and what they add to the counts.
 use Rattle.std.specs.Prelude.{◌≡◌, ℕ, true, All, List, map, fold}
-use Rattle.ssb_schema.specs.Base.{Dimensions}
+use Rattle.ssb_base.specs.Base.{Dimensions}
 use Rattle.ssb_schema.specs.declared.fact.Fact.{Fact}
 use Rattle.ssb_schema.specs.declared.refresh.Action.{Action}
 use Rattle.ssb_schema.specs.declared.refresh.Action.TheVariants.{Add, Amend, Withdraw}
 use Rattle.ssb_schema.specs.Orders.{order_key}
 use Rattle.row_store.specs.State.{Counts, with_fact, fact_counts}
-use Rattle.fact_table.specs.declared.place.Place.{Place}
-use Rattle.fact_table.specs.Places.{is_live, fact_at, live_facts}
+use Rattle.fact_columns.specs.declared.place.Place.{Place}
+use Rattle.fact_columns.specs.Places.{is_live, fact_at, live_facts}
 use Rattle.fact_columns.specs.Classed.{IsPlaceOf}
 
 -- the place is live, within the dimensions, and read back it is the fact

@@ -1,7 +1,7 @@
 -- What the columns keep, so that a withdrawal finds every line of an order.
 use Rattle.std.specs.Prelude.{◌≡◌, ◌<◌, ◌^◌, nat_eq, All, length}
 use Rattle.std.specs.HashMap.{get}
-use Rattle.fact_table.specs.Places.{live_facts}
+use Rattle.fact_columns.specs.Places.{live_facts}
 use Rattle.fact_columns.specs.Classed.{IsPlaceOf}
 use Rattle.fact_columns.specs.Spans.{Spanned, live_count}
 use Rattle.fact_columns.specs.Stored.{Stored}

@@ -1,3 +1,6 @@
+pub mod Places
+pub mod Columns
+pub mod Filters
 pub mod Classed
 pub mod Stored
 pub mod Spans

@@ -17,8 +17,8 @@ use Rattle.std.specs.Prelude.{
   Some,
   None,
 }
-use Rattle.fact_table.specs.declared.place.Place.{Place}
-use Rattle.fact_table.specs.Places.{is_live}
+use Rattle.fact_columns.specs.declared.place.Place.{Place}
+use Rattle.fact_columns.specs.Places.{is_live}
 use Rattle.fact_columns.specs.declared.span.Span.{Span}
 
 -- what a place shows: its line where it is live

@@ -1,10 +1,10 @@
 -- What the columns hold, and what they stand for.
 use Rattle.std.specs.Prelude.{◌≡◌, ℕ, ◌<◌, ◌^◌, All, List, length}
-use Rattle.ssb_schema.specs.Base.{Tables}
+use Rattle.ssb_base.specs.Base.{Tables}
 use Rattle.ssb_schema.specs.declared.fact.Fact.{Fact}
 use Rattle.row_store.specs.State.{State, fact_counts}
-use Rattle.fact_table.specs.declared.place.Place.{Place}
-use Rattle.fact_table.specs.Places.{live_facts}
+use Rattle.fact_columns.specs.declared.place.Place.{Place}
+use Rattle.fact_columns.specs.Places.{live_facts}
 use Rattle.fact_columns.specs.Classed.{IsPlaceOf}
 
 -- the base, the number of commits taken in, the places, and the facts of the live ones

@@ -3,13 +3,13 @@ ghost use Rattle.std.specs.Prelude.{◌≡◌, ◌++◌, List, Some, flat_map, s
 ghost use Rattle.ssb_schema.specs.declared.fact.Fact.{Fact as PlainFact};
 ghost use Rattle.ssb_schema.specs.Facts.{fact_of, facts_of};
 ghost use Rattle.row_store.specs.Lines.{added_by};
-ghost use Rattle.dim_index.specs.Classes.{classes_of};
-ghost use Rattle.dim_index.specs.Keys.{position_of};
+ghost use Rattle.dimension_index.specs.Classes.{classes_of};
+ghost use Rattle.dimension_index.specs.Keys.{position_of};
 ghost use Rattle.fact_columns.specs.Coded.{IsCodeOf, AreCodesOf};
 
 use crate::action::added;
-use dim_index::DimIndex;
-use fact_table::{Place, terms};
+use crate::place::{Place, terms};
+use dimension_index::DimIndex;
 use ssb_schema::{Action, Line, Table};
 use std::alloc::{AllocError, Global};
 

@@ -2,17 +2,19 @@
 ghost use Rattle.std.specs.Prelude.{◌≡◌, ◌<◌, [], List, length, slice_index_or, IfOk, MatchResult, OnErr};
 ghost use Rattle.row_store.specs.History.{CommitRecord, lines_after};
 ghost use Rattle.row_store.specs.State.{StandsFor, state_of, state_after};
-ghost use Rattle.fact_table.specs.declared.place.Place.{Place as PlainPlace};
-ghost use Rattle.fact_table.specs.Columns.{AreColumnsOf};
+ghost use Rattle.fact_columns.specs.declared.place.Place.{Place as PlainPlace};
+ghost use Rattle.fact_columns.specs.Columns.{AreColumnsOf};
 ghost use Rattle.fact_columns.specs.Stored.{Stored, IsRead, columns_state};
 
 use crate::coding::coded_actions;
+use crate::fact_table::FactTable;
 use crate::hints::Hints;
 use crate::loading::{count_orders, span_all, table_of};
 use crate::orders::apply_actions;
+use crate::place::Place;
+use crate::slices::Slices;
 use crate::span::Spans;
-use dim_index::DimIndex;
-use fact_table::{Place, Slices, Table};
+use dimension_index::DimIndex;
 use row_store::{Commit, Replica};
 use std::alloc::{AllocError, Global};
 use std::collections::HashMap;
@@ -25,7 +27,7 @@ use std::sync::Arc;
 #[derive(Drop)]
 pub struct Columns {
     index: Arc<DimIndex>,
-    table: Table,
+    table: FactTable,
     spans: Spans,
     // Where free places may be. It is never relied on: each place is looked at before a line is written there.
     hints: Hints,

@@ -7,17 +7,17 @@ ghost use Rattle.fact_columns.specs.Spans.{Covers};
 ghost use Rattle.fact_columns.specs.Coded.{AreCodesOf};
 
 use crate::coding::coded;
+use crate::fact_table::FactTable;
 use crate::span::{Span, Spans, widen};
-use dim_index::DimIndex;
-use fact_table::Table;
+use dimension_index::DimIndex;
 use ssb_schema::Line;
 use std::alloc::{AllocError, Global};
 
 /// A table of the lines, one behind another.
-pub fn table_of(alloc: Global, index: &DimIndex, lines: &[Line]) -> Result<Table, AllocError>
+pub fn table_of(alloc: Global, index: &DimIndex, lines: &[Line]) -> Result<FactTable, AllocError>
     ensures { IfOk result (λ table. AreCodesOf index.now.dimensions (facts_of lines.now) table.places) }
 {
-    let mut table = Table::new(alloc);
+    let mut table = FactTable::new(alloc);
     table.reserve(lines.len())?;
     for line in lines {
         table.push(coded(index, line)?);

@@ -1,25 +1,26 @@
 //! The live lines in their places, found by the key of their order.
 ghost use Rattle.std.specs.Prelude.{◌≡◌, ◌+◌, ◌<◌, ◌≤◌, ◌^◌, ℕ, true, All, length, fold, flat_map, nat_eq};
 ghost use Rattle.std.specs.HashMap.{get, spare};
-ghost use Rattle.ssb_schema.specs.Base.{Dimensions};
+ghost use Rattle.ssb_base.specs.Base.{Dimensions};
 ghost use Rattle.ssb_schema.specs.declared.refresh.Action.TheVariants.{Withdraw};
 ghost use Rattle.ssb_schema.specs.Facts.{facts_of};
 ghost use Rattle.row_store.specs.Lines.{added_by};
 ghost use Rattle.row_store.specs.State.{counts_after_action};
-ghost use Rattle.fact_table.specs.Places.{is_live};
+ghost use Rattle.fact_columns.specs.Places.{is_live};
 ghost use Rattle.fact_columns.specs.Classed.{IsPlaceOf};
 ghost use Rattle.fact_columns.specs.Spans.{AreFree, Spanned, live_count};
 ghost use Rattle.fact_columns.specs.Coded.{AreCodesOf, counts_at, with_places, key_of};
 
 use crate::action::added;
+use crate::fact_table::FactTable;
 use crate::hints::Hints;
+use crate::place::Place;
 use crate::placing::{are_free, free_order, put_all};
 use crate::span::{Span, Spans, take_span, widen};
-use fact_table::{Place, Table};
 use ssb_schema::Action;
 
 // Puts the lines of an order into places from the first on, and has its span cover them.
-fn put_order(table: &mut Table, spans: &mut Spans, first: usize, key: u64, lines: &[Place])
+fn put_order(table: &mut FactTable, spans: &mut Spans, first: usize, key: u64, lines: &[Place])
     requires within { first ≤ length table.old.places }
     requires small { first + length lines.now < 2 ^ 32 }
     requires free { AreFree table.old.places first (length lines.now) }
@@ -51,7 +52,7 @@ fn put_order(table: &mut Table, spans: &mut Spans, first: usize, key: u64, lines
 }
 
 // Frees the places of an order. It answers where they may be, and how many lines went.
-fn take_order(table: &mut Table, spans: &mut Spans, key: u64) -> (Span, usize)
+fn take_order(table: &mut FactTable, spans: &mut Spans, key: u64) -> (Span, usize)
     requires spanned { Spanned (get nat_eq spans.old) table.old.places }
     ensures spanned { Spanned (get nat_eq spans.new) table.new.places }
     ensures counts { (dimensions : Dimensions)
@@ -70,7 +71,7 @@ fn take_order(table: &mut Table, spans: &mut Spans, key: u64) -> (Span, usize)
 }
 
 // Where so many lines may be put: at a hint whose places are free, else behind the last place.
-fn wanted(table: &Table, hints: &mut Hints, count: usize) -> usize
+fn wanted(table: &FactTable, hints: &mut Hints, count: usize) -> usize
     requires small { length table.now.places + count < 2 ^ 32 }
     ensures within { result ≤ length table.now.places }
     ensures free { AreFree table.now.places result count }
@@ -82,7 +83,7 @@ fn wanted(table: &Table, hints: &mut Hints, count: usize) -> usize
 }
 
 // Puts an order where there is room for it.
-fn add(table: &mut Table, spans: &mut Spans, hints: &mut Hints, key: u64, lines: &[Place])
+fn add(table: &mut FactTable, spans: &mut Spans, hints: &mut Hints, key: u64, lines: &[Place])
     requires room { length lines.now ≤ table.old.room }
     requires small { length table.old.places + length lines.now < 2 ^ 32 }
     requires spare { 0 < spare spans.old }
@@ -105,7 +106,7 @@ fn add(table: &mut Table, spans: &mut Spans, hints: &mut Hints, key: u64, lines:
 }
 
 // Takes an order out, and answers how many lines it had.
-fn withdraw(table: &mut Table, spans: &mut Spans, hints: &mut Hints, key: u64) -> usize
+fn withdraw(table: &mut FactTable, spans: &mut Spans, hints: &mut Hints, key: u64) -> usize
     requires spanned { Spanned (get nat_eq spans.old) table.old.places }
     ensures spanned { Spanned (get nat_eq spans.new) table.new.places }
     ensures counts { (dimensions : Dimensions)
@@ -125,7 +126,7 @@ fn withdraw(table: &mut Table, spans: &mut Spans, hints: &mut Hints, key: u64) -
 
 // Does what the action says; these are the lines that it adds, in codes. It answers how many lines went.
 fn apply_action(
-    table: &mut Table,
+    table: &mut FactTable,
     spans: &mut Spans,
     hints: &mut Hints,
     action: &Action,
@@ -164,7 +165,7 @@ fn apply_action(
 
 /// Does what the actions say; these are the lines that they add, in codes. It answers how many lines went.
 pub fn apply_actions(
-    table: &mut Table,
+    table: &mut FactTable,
     spans: &mut Spans,
     hints: &mut Hints,
     actions: &[Action],

@@ -1,19 +1,20 @@
 //! Lines put into places, and taken out of them.
 ghost use Rattle.std.specs.Prelude.{◌≡◌, ◌≢◌, ◌+◌, ◌<◌, ◌≤◌, ◌^◌, ℕ, true, All, length};
 ghost use Rattle.std.specs.Prelude.{Some, None, slice_index_or, option_map};
-ghost use Rattle.ssb_schema.specs.Base.{Dimensions};
+ghost use Rattle.ssb_base.specs.Base.{Dimensions};
 ghost use Rattle.row_store.specs.State.{with_fact};
-ghost use Rattle.fact_table.specs.declared.place.Place.{Place as PlainPlace};
-ghost use Rattle.fact_table.specs.Places.{is_live, fact_at};
+ghost use Rattle.fact_columns.specs.declared.place.Place.{Place as PlainPlace};
+ghost use Rattle.fact_columns.specs.Places.{is_live, fact_at};
 ghost use Rattle.fact_columns.specs.Classed.{IsPlaceOf};
 ghost use Rattle.fact_columns.specs.Spans.{live_at, live_count, kept, is_of_other, AreFree};
 ghost use Rattle.fact_columns.specs.Coded.{counts_at, with_places};
 
+use crate::fact_table::FactTable;
+use crate::place::Place;
 use crate::span::Span;
-use fact_table::{Place, Table};
 
 // The order key of the live line at a place; None where the place is free, or there is none.
-fn live_order(table: &Table, place: usize) -> Option<u64>
+fn live_order(table: &FactTable, place: usize) -> Option<u64>
     ensures { result ≡ option_map (λ (line : PlainPlace). line.order) (live_at table.now.places place) }
 {
     if place >= table.len() {
@@ -28,7 +29,7 @@ fn live_order(table: &Table, place: usize) -> Option<u64>
 }
 
 /// Whether so many places from the first on are free or new, without a gap behind the last place.
-pub fn are_free(table: &Table, first: usize, count: usize) -> bool
+pub fn are_free(table: &FactTable, first: usize, count: usize) -> bool
     requires { first + count < 2 ^ 63 }
     ensures within { result ≡ true → first ≤ length table.now.places }
     ensures free { result ≡ true → AreFree table.now.places first count }
@@ -46,7 +47,7 @@ pub fn are_free(table: &Table, first: usize, count: usize) -> bool
 
 // Puts a line into a free place, or into a new one at the end.
 #[tactic(auto, using(crate::proofs::PlaceLaws::putting))]
-fn put(table: &mut Table, place: usize, line: Place)
+fn put(table: &mut FactTable, place: usize, line: Place)
     requires within { place ≤ length table.old.places }
     requires free { live_at table.old.places place ≡ None }
     requires room { 0 < table.old.room }
@@ -72,7 +73,7 @@ fn put(table: &mut Table, place: usize, line: Place)
 }
 
 /// Puts lines into free or new places, from the first on.
-pub fn put_all(table: &mut Table, first: usize, lines: &[Place])
+pub fn put_all(table: &mut FactTable, first: usize, lines: &[Place])
     requires within { first ≤ length table.old.places }
     requires small { first + length lines.now < 2 ^ 63 }
     requires free { AreFree table.old.places first (length lines.now) }
@@ -99,7 +100,7 @@ pub fn put_all(table: &mut Table, first: usize, lines: &[Place])
 }
 
 // Frees a place that holds a live line.
-fn free(table: &mut Table, place: usize)
+fn free(table: &mut FactTable, place: usize)
     requires live { (line : PlainPlace) × (live_at table.old.places place ≡ Some line) }
     ensures here { live_at table.new.places place ≡ None }
     ensures others { (other : ℕ) → other ≢ place → live_at table.new.places other ≡ live_at table.old.places other }
@@ -113,7 +114,7 @@ fn free(table: &mut Table, place: usize)
 }
 
 /// Frees the places of a span that hold live lines of an order, and answers how many they were.
-pub fn free_order(table: &mut Table, key: u64, span: Span) -> usize
+pub fn free_order(table: &mut FactTable, key: u64, span: Span) -> usize
     requires { (place : ℕ) (line : PlainPlace) → live_at table.old.places place ≡ Some line → line.order ≡ key
         → (span.first ≤ place) × (place < span.end) }
     ensures gone { (place : ℕ)

@@ -2,11 +2,11 @@
 
 use row_store::Cause;
 use ssb_audit::AuditFault;
-use ssb_load::LoadError;
-use ssb_plans::{ConstantsFault, NoSuchQuery, Query};
+use ssb_questions::{ConstantsFault, NoSuchQuery, Query};
 use ssb_schema::{C_CITY, SchemaFault, Table};
 use ssb_script::ScriptError;
 use ssb_server::OpenFault;
+use ssb_text::LoadError;
 use std::alloc::{AllocError, Global};
 use std::fmt::Display;
 

@@ -37,7 +37,7 @@ use mathlib.Core.Option.{some, some-injective, some-ne-none}
 use lib.ListN.{get_elem?}
 use Rattle.atomic_table.specs.Table.{rest}
 use Rattle.arrayvec.specs.ArrayVec.{ArrayVec}
-use Rattle.ssb_queries.specs.declared.answer.Answer.{Answer}
+use Rattle.ssb_answers.specs.declared.answer.Answer.{Answer}
 use Rattle.history.specs.declared.request.Request.{Request}
 use Rattle.history.specs.declared.view.Held.{Held}
 use Rattle.history.specs.declared.view.View.{View}

@@ -33,7 +33,7 @@ use mathlib.Core.Logic.{dite}
 use native.Mathlib.Decide.{ℕ_discrete}
 use lib.ListN.{get_elem?}
 use Rattle.atomic_table.specs.Table.{State, Final, Seen}
-use Rattle.ssb_schema.specs.Base.{Tables}
+use Rattle.ssb_base.specs.Base.{Tables}
 use Rattle.row_store.specs.History.{CommitRecord}
 use Rattle.history_core.specs.declared.event.Who.TheVariants.{Client, Dispatcher}
 use Rattle.history.specs.declared.view.Terms.{Terms}

@@ -32,7 +32,7 @@ use mathlib.Core.Option as maybe
 use lib.ListN.{get_elem?}
 use Rattle.atomic_table.specs.Table.{State}
 use Rattle.atomic_table.proofs.Lists.{at_set, set_else}
-use Rattle.ssb_schema.specs.Base.{Tables}
+use Rattle.ssb_base.specs.Base.{Tables}
 use Rattle.row_store.specs.History.{CommitRecord, IsPrefix}
 use Rattle.row_store.specs.Legal.{IsLegal}
 use Rattle.history.specs.declared.view.Terms.{Terms}

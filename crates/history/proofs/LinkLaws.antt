@@ -43,8 +43,8 @@ use mathlib.Core.Option.{some, some-injective}
 use mathlib.Core.Logic.{dite}
 use native.Mathlib.Decide.{ℕ_discrete}
 use lib.ListN.{get_elem?}
-use Rattle.ssb_queries.specs.declared.answer.Answer.{Answer}
-use Rattle.ssb_queries.specs.declared.answer.Answer.TheVariants.{Rows, Unserved}
+use Rattle.ssb_answers.specs.declared.answer.Answer.{Answer}
+use Rattle.ssb_answers.specs.declared.answer.Answer.TheVariants.{Rows, Unserved}
 use Rattle.row_store.specs.History.{CommitRecord}
 use Rattle.history_core.specs.declared.event.Reply.{Reply}
 use Rattle.history_core.specs.declared.event.Reply.TheVariants as told

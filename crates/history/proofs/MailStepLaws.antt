@@ -60,9 +60,9 @@ use Rattle.atomic_table.specs.Table.{
   Allows,
 }
 use Rattle.atomic_table.proofs.Lists.{set_here, set_else}
-use Rattle.ssb_schema.specs.Base.{Tables}
-use Rattle.ssb_queries.specs.declared.answer.Answer.{Answer}
-use Rattle.ssb_queries.specs.declared.answer.Answer.TheVariants.{Rows, Unserved}
+use Rattle.ssb_base.specs.Base.{Tables}
+use Rattle.ssb_answers.specs.declared.answer.Answer.{Answer}
+use Rattle.ssb_answers.specs.declared.answer.Answer.TheVariants.{Rows, Unserved}
 use Rattle.row_store.specs.History.{CommitRecord, IsPrefix}
 use Rattle.history.specs.declared.view.Terms.{Terms}
 use Rattle.history.specs.declared.view.Member.{Member}

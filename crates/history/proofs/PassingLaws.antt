@@ -37,7 +37,7 @@ use Rattle.atomic_table.specs.Seated.{TableId}
 use Rattle.atomic_table.specs.Table.{rest, turned}
 use Rattle.arrayvec.specs.ArrayVec.{ArrayVec}
 use Rattle.row_store.specs.History.{CommitRecord, Warehouse, IsPrefix}
-use Rattle.ssb_queries.specs.declared.answer.Answer.{Answer}
+use Rattle.ssb_answers.specs.declared.answer.Answer.{Answer}
 use Rattle.history_core.specs.declared.event.Who.TheVariants.{Client}
 use Rattle.history_core.specs.Events.{Question}
 use Rattle.row_store.proofs.HistoryLaws.{accepted_stays_legal}

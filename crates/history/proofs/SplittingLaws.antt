@@ -36,7 +36,7 @@ use mathlib.Core.Option.{some, some-injective, some-ne-none}
 use lib.ListN.{get_elem?, length-map, length-replicate}
 use Rattle.atomic_table.specs.Table.{State, Splits, Joins, opening, rest}
 use Rattle.atomic_table.proofs.Lists.{at_set, set_else}
-use Rattle.ssb_schema.specs.Base.{Tables}
+use Rattle.ssb_base.specs.Base.{Tables}
 use Rattle.row_store.specs.History.{CommitRecord, IsPrefix}
 use Rattle.history.specs.declared.view.Terms.{Terms}
 use Rattle.history.specs.declared.view.Member.{Member}

@@ -38,9 +38,9 @@ use Rattle.std.proofs.lemmas.List.{take-append-le}
 use Rattle.std.specs.Prelude.{nat_lt}
 use mathlib.Core.Option.{some, some-injective, some-ne-none}
 use lib.ListN.{get_elem?}
-use Rattle.ssb_schema.specs.Base.{Tables}
-use Rattle.ssb_queries.specs.declared.answer.Answer.{Answer}
-use Rattle.ssb_queries.specs.declared.answer.Answer.TheVariants.{Rows, Unserved}
+use Rattle.ssb_base.specs.Base.{Tables}
+use Rattle.ssb_answers.specs.declared.answer.Answer.{Answer}
+use Rattle.ssb_answers.specs.declared.answer.Answer.TheVariants.{Rows, Unserved}
 use Rattle.row_store.specs.History.{CommitRecord, IsPrefix}
 use Rattle.history_core.specs.declared.event.Who.{Who}
 use Rattle.history_core.specs.declared.event.Who.TheVariants.{Client, Dispatcher}

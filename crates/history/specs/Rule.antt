@@ -6,7 +6,7 @@ use mathlib.Core.Option as maybe
 use lib.ListN.{get_elem?}
 use Rattle.std.proofs.Math.Dec.{lit≤}
 use Rattle.atomic_table.specs.Table.{State}
-use Rattle.ssb_schema.specs.Base.{Tables}
+use Rattle.ssb_base.specs.Base.{Tables}
 use Rattle.row_store.specs.History.{CommitRecord, IsPrefix}
 use Rattle.history_core.specs.declared.event.Who.TheVariants.{Client}
 use Rattle.history.specs.declared.view.Terms.{Terms}

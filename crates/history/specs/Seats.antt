@@ -5,8 +5,8 @@ use lib.ListN.{get_elem?}
 use Rattle.atomic_table.specs.Table.{rest, turned}
 use Rattle.atomic_table.specs.Seated.{TableId}
 use Rattle.atomic_table.specs.declared.shared.Seat.{Seat}
-use Rattle.ssb_schema.specs.Base.{Tables}
-use Rattle.ssb_queries.specs.declared.answer.Answer.{Answer}
+use Rattle.ssb_base.specs.Base.{Tables}
+use Rattle.ssb_answers.specs.declared.answer.Answer.{Answer}
 use Rattle.row_store.specs.History.{CommitRecord, Warehouse, IsPrefix}
 use Rattle.row_store.specs.Legal.{IsLegal}
 use Rattle.history.specs.declared.view.Member.{Member}

@@ -2,8 +2,8 @@
 //! made.
 
 use history_core::{Reply, Who};
-use ssb_plans::Question;
-use ssb_queries::Unserved;
+use ssb_answers::Unserved;
+use ssb_questions::Question;
 use ssb_schema::Refresh;
 
 /// An event of the protocol, under the name that it has there. Where two numbers stand, the first is a dispatcher's and

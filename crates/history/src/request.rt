@@ -1,6 +1,6 @@
 //! Requests, and what became of them.
 
-use ssb_queries::{Question, Unserved};
+use ssb_answers::{Question, Unserved};
 
 /// A question, and its floor: how many commits the client had seen when it asked. The answer is over no fewer.
 #[derive(Drop)]

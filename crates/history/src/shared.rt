@@ -23,7 +23,7 @@ use arrayvec::ArrayVec;
 use atomic_table::Table;
 use history_core::Who;
 use row_store::{Follower, RowStore};
-use ssb_queries::{Answer, Question};
+use ssb_answers::{Answer, Question};
 use std::alloc::{AllocError, Global};
 use std::marker::Model;
 use std::snapshot::Snapshot;

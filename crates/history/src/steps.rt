@@ -15,7 +15,7 @@ use crate::rule::{
 };
 use crate::view::SlotValue;
 use row_store::{Follower, RowStore};
-use ssb_queries::Answer;
+use ssb_answers::Answer;
 use std::sync::Wait;
 use std::time::Duration;
 

@@ -4,8 +4,8 @@ use crate::event::Deed;
 use crate::request::{Given, Request};
 use history_core::Who;
 use row_store::{Commit, RowStore};
-use ssb_queries::Answer;
-use ssb_schema::Base;
+use ssb_answers::Answer;
+use ssb_base::Base;
 use std::collections::LinkedList;
 use std::snapshot::Snapshot;
 

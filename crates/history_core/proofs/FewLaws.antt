@@ -1,7 +1,7 @@
 -- The lines after a beginning of a legal history are few enough to be summed.
 use Rattle.std.proofs.Common.{◌≡◌, ℕ, ◌≤◌, List, length, take, ap, ◌∙◌, arith}
 use Rattle.ssb_schema.specs.declared.line.LineFields.{LineFields}
-use Rattle.ssb_schema.specs.Base.{Tables, IsSound}
+use Rattle.ssb_base.specs.Base.{Tables, IsSound}
 use Rattle.row_store.specs.History.{CommitRecord, Warehouse, lines_after}
 use Rattle.row_store.specs.Legal.{IsLegal}
 use Rattle.row_store.proofs.FewLaws.{few_after}

@@ -2,7 +2,7 @@
 use Rattle.std.proofs.Common.{◌≡◌, ℕ, zero, suc, ◌+◌, ◌≤◌, List, [], ◌∷◌, length}
 use Rattle.std.proofs.Common.{Some, None, refl, ap, sym, subst, ◌∙◌, arith, zero-le}
 use Rattle.std.specs.Prelude.{map, slice_get}
-use Rattle.ssb_schema.specs.Base.{Tables}
+use Rattle.ssb_base.specs.Base.{Tables}
 use Rattle.row_store.specs.History.{Warehouse}
 use Rattle.history_core.specs.declared.client.Client.{Client}
 use Rattle.history_core.specs.declared.dispatcher.Dispatcher.{Dispatcher}

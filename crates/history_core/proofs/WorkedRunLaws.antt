@@ -5,15 +5,15 @@ use Rattle.ssb_schema.specs.declared.customer.CustomerFields.{CustomerFields}
 use Rattle.ssb_schema.specs.declared.supplier.SupplierFields.{SupplierFields}
 use Rattle.ssb_schema.specs.declared.part.PartFields.{PartFields}
 use Rattle.ssb_schema.specs.declared.date.DateFields.{DateFields}
-use Rattle.ssb_schema.specs.declared.limits.Limits.{Limits}
+use Rattle.ssb_base.specs.declared.limits.Limits.{Limits}
 use Rattle.ssb_schema.specs.declared.line.LineFields.{LineFields}
 use Rattle.ssb_schema.specs.declared.refresh.Action.{Action}
 use Rattle.ssb_schema.specs.declared.refresh.Action.TheVariants.{Add, Withdraw}
-use Rattle.ssb_schema.specs.Base.{Tables}
-use Rattle.ssb_plans.specs.declared.query.Query.TheVariants.{Q1_1, Q4_1}
-use Rattle.ssb_plans.specs.declared.value.Value.TheVariants.{Text, Number}
-use Rattle.ssb_plans.specs.Queries.{standard_constants}
-use Rattle.ssb_queries.specs.declared.answer.Unserved.TheVariants.{OutOfMemory}
+use Rattle.ssb_base.specs.Base.{Tables}
+use Rattle.ssb_questions.specs.declared.query.Query.TheVariants.{Q1_1, Q4_1}
+use Rattle.ssb_questions.specs.declared.value.Value.TheVariants.{Text, Number}
+use Rattle.ssb_questions.specs.Queries.{standard_constants}
+use Rattle.ssb_answers.specs.declared.answer.Unserved.TheVariants.{OutOfMemory}
 use Rattle.row_store.specs.declared.refusal.Cause.TheVariants.{Absent}
 use Rattle.history_core.specs.declared.event.Who.TheVariants.{Client, Dispatcher}
 use Rattle.history_core.specs.declared.event.Reply.TheVariants.{NotEnabled, Done, Committed, Refused}

@@ -1,9 +1,9 @@
 -- The events as contracts see them: a refresh is the list of its actions, a question a query with its constants.
 use Rattle.std.specs.Prelude.{ℕ, List, Option, Some, None}
 use Rattle.ssb_schema.specs.declared.refresh.Action.{Action}
-use Rattle.ssb_plans.specs.declared.query.Query.{Query}
-use Rattle.ssb_plans.specs.declared.value.Value.{Value}
-use Rattle.ssb_queries.specs.declared.answer.Unserved.{Unserved as Cause}
+use Rattle.ssb_questions.specs.declared.query.Query.{Query}
+use Rattle.ssb_questions.specs.declared.value.Value.{Value}
+use Rattle.ssb_answers.specs.declared.answer.Unserved.{Unserved as Cause}
 use Rattle.history_core.specs.declared.event.Who.{Who}
 use Rattle.history_core.specs.declared.event.Event.{Event as Actual}
 use Rattle.history_core.specs.declared.event.Event.TheVariants as actual

@@ -1,6 +1,6 @@
 -- The machine's runs, and what each run from an opening world is.
 use Rattle.std.specs.Prelude.{◌≡◌, ℕ, List}
-use Rattle.ssb_schema.specs.Base.{Tables}
+use Rattle.ssb_base.specs.Base.{Tables}
 use Rattle.history_core.specs.declared.event.Reply.{Reply}
 use Rattle.history_core.specs.Events.{Event}
 use Rattle.history_core.specs.World.{World, opening_world, run_of}

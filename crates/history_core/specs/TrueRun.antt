@@ -1,8 +1,8 @@
 -- What a run is to an observer, who sees its events, its replies and the last history, and counts replies.
 use Rattle.std.specs.Prelude.{◌≡◌, ℕ, ◌+◌, ◌<◌, ◌≤◌, Bool, true, false, List, length, take, filter, Some, slice_get}
 use Rattle.ssb_schema.specs.declared.refresh.Action.{Action}
-use Rattle.ssb_schema.specs.Base.{Tables}
-use Rattle.ssb_queries.specs.declared.answer.ResultRow.{ResultRow}
+use Rattle.ssb_base.specs.Base.{Tables}
+use Rattle.ssb_answers.specs.declared.answer.ResultRow.{ResultRow}
 use Rattle.row_store.specs.History.{CommitRecord}
 use Rattle.row_store.specs.Refusals.{refusal_of}
 use Rattle.row_store.specs.Legal.{IsLegal}

@@ -5,7 +5,7 @@ ghost use Rattle.history_core.specs.Fresh.{OpeningDispatchers};
 ghost use Rattle.history_core.specs.Numbered.{numbered, renewed};
 
 use crate::numbered::place_of;
-use ssb_queries::Unserved;
+use ssb_answers::Unserved;
 use std::alloc::{AllocError, Global};
 use std::marker::Model;
 

@@ -20,8 +20,9 @@ use crate::dispatcher::{Dispatchers, Given, Outcome};
 use crate::event::{Event, Reply, Who};
 use crate::mailbox::Mailbox;
 use row_store::{ApplyError, PlainLines, Replica, RowStore};
-use ssb_queries::{Question, ResultRow, Unserved, plain};
-use ssb_schema::{Base, Items, Refresh};
+use ssb_answers::{Question, ResultRow, Unserved, evaluate};
+use ssb_base::Base;
+use ssb_schema::{Items, Refresh};
 use std::alloc::{AllocError, Global};
 use std::hash::RandomState;
 use std::marker::Model;
@@ -496,7 +497,7 @@ impl World {
     {
         self.base.soundness();
         let lines = self.lines_after(at)?;
-        let rows = plain(self.alloc, &self.base, lines.lines(), question)?;
+        let rows = evaluate(self.alloc, &self.base, lines.lines(), question)?;
         Ok(rows.list)
     }
 

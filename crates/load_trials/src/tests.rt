@@ -1,8 +1,9 @@
 //! The small data set, its variants, and the texts of faults.
 
 use small_data::{CUSTOMER, DATE, LINEORDER, PART, SUPPLIER};
-use ssb_load::{LineFault, LoadError, Tables, line_of, load};
-use ssb_schema::{Base, Fact, Limits};
+use ssb_base::{Base, Limits};
+use ssb_schema::Fact;
+use ssb_text::{LineFault, LoadError, Tables, line_of, load};
 use std::alloc::Global;
 use std::io;
 use std::io::Read;

@@ -40,7 +40,7 @@ use Rattle.ssb_schema.specs.declared.line.LineFields.{LineFields}
 use Rattle.ssb_schema.specs.declared.refresh.Action.{Action}
 use Rattle.ssb_schema.specs.declared.refresh.Action.TheVariants.{Add, Amend, Withdraw}
 use Rattle.ssb_schema.specs.Orders.{order_key}
-use Rattle.ssb_schema.specs.Base.{Tables}
+use Rattle.ssb_base.specs.Base.{Tables}
 use Rattle.row_store.specs.Lines.{is_present, lines_of, lines_without, lines_after_action, lines_after_refresh}
 use Rattle.row_store.specs.declared.refusal.Cause.{Cause}
 use Rattle.row_store.specs.declared.refusal.Cause.TheVariants.{Present, Absent, AmendAbsent}

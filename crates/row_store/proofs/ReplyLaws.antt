@@ -1,7 +1,7 @@
 -- What replies to refreshes tell.
 use Rattle.std.proofs.Common.{◌≡◌, inl, inr, List, length, Option, Some, None, Result, refl}
 use Rattle.ssb_schema.specs.declared.refresh.Action.{Action}
-use Rattle.ssb_schema.specs.Base.{Tables}
+use Rattle.ssb_base.specs.Base.{Tables}
 use Rattle.row_store.specs.History.{CommitRecord}
 use Rattle.row_store.specs.Refusals.{refusal_of}
 use Rattle.row_store.specs.Legal.{reply_at, Tells}

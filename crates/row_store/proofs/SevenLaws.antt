@@ -36,7 +36,7 @@ use Rattle.std.proofs.lemmas.List.{length-map, take_more}
 use Rattle.std.proofs.lemmas.List.Elements.{All-head, All-tail, All-cons, All-append}
 use Rattle.std.proofs.lemmas.Map.Steps.{length-le_from_distinct_below}
 use Rattle.ssb_schema.specs.declared.line.LineFields.{LineFields}
-use Rattle.ssb_schema.specs.Base.{is_same_line}
+use Rattle.ssb_base.specs.Base.{is_same_line}
 use Rattle.ssb_schema.specs.FirstFault.{AreDistinct}
 use Rattle.ssb_schema.specs.Rows.{IsWithinLimits}
 use Rattle.row_store.specs.Lines.{is_of, lines_of}

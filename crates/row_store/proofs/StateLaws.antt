@@ -39,7 +39,7 @@ use Rattle.ssb_schema.specs.declared.fact.Fact.{Fact}
 use Rattle.ssb_schema.specs.declared.line.LineFields.{LineFields}
 use Rattle.ssb_schema.specs.declared.refresh.Action.{Action}
 use Rattle.ssb_schema.specs.declared.refresh.Action.TheVariants.{Add, Amend, Withdraw}
-use Rattle.ssb_schema.specs.Base.{Tables}
+use Rattle.ssb_base.specs.Base.{Tables}
 use Rattle.ssb_schema.specs.Facts.{fact_of, facts_of}
 use Rattle.ssb_schema.specs.Orders.{order_key}
 use Rattle.row_store.specs.Lines.{is_of, lines_without, lines_after_action, lines_after_refresh}

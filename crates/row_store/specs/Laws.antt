@@ -22,7 +22,7 @@ use Rattle.std.specs.Prelude.{
 use Rattle.std.specs.Bool.{Decides}
 use Rattle.ssb_schema.specs.declared.refresh.Action.{Action}
 use Rattle.ssb_schema.specs.declared.fact.Fact.{Fact}
-use Rattle.ssb_schema.specs.Base.{Tables, IsSound}
+use Rattle.ssb_base.specs.Base.{Tables, IsSound}
 use Rattle.ssb_schema.specs.Facts.{facts_of}
 use Rattle.row_store.specs.Lines.{lines_after_refresh}
 use Rattle.row_store.specs.History.{CommitRecord, IsPrefix, lines_after}

@@ -21,7 +21,7 @@ use Rattle.ssb_schema.specs.declared.line.LineFields.{LineFields}
 use Rattle.ssb_schema.specs.declared.refresh.Action.{Action}
 use Rattle.ssb_schema.specs.declared.refresh.Action.TheVariants.{Add, Amend, Withdraw}
 use Rattle.ssb_schema.specs.Orders.{order_key}
-use Rattle.ssb_schema.specs.Base.{Tables, Dimensions, has_key, customer_key, supplier_key, part_key, date_key}
+use Rattle.ssb_base.specs.Base.{Tables, Dimensions, has_key, customer_key, supplier_key, part_key, date_key}
 use Rattle.row_store.specs.Lines.{is_present, lines_without, lines_after_action}
 use Rattle.row_store.specs.History.{CommitRecord, lines_after}
 use Rattle.row_store.specs.declared.refusal.Cause.{Cause}

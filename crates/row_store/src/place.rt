@@ -2,7 +2,7 @@
 ghost use Rattle.std.specs.Prelude.{◌≡◌, ◌+◌, ◌*◌, ◌^◌, ◌<◌, ◌≤◌, ℕ, List, length, nat_eq, slice_get, None, Some};
 ghost use Rattle.std.specs.HashMap.{get, spare};
 ghost use Rattle.ssb_schema.specs.declared.line.LineFields.{LineFields};
-ghost use Rattle.ssb_schema.specs.Base.{Tables};
+ghost use Rattle.ssb_base.specs.Base.{Tables};
 ghost use Rattle.row_store.specs.Lines.{added_by, lines_of, lines_after_action, lines_after_refresh};
 ghost use Rattle.row_store.specs.History.{CommitRecord};
 ghost use Rattle.row_store.specs.Refusals.{cause_of, first_refusal};

@@ -1,6 +1,6 @@
 //! What a replica is, and a follower.
 ghost use Rattle.std.specs.Prelude.{◌≡◌, List, length, MatchResult, IfOk};
-ghost use Rattle.ssb_schema.specs.Base.{Tables};
+ghost use Rattle.ssb_base.specs.Base.{Tables};
 ghost use Rattle.row_store.specs.History.{CommitRecord};
 ghost use Rattle.row_store.specs.State.{State, state_after};
 

@@ -1,3 +1,11 @@
+pub mod CombinedLaws
+pub mod MaskLaws
+pub mod GroupLaws
+pub mod DenseLaws
+pub mod LineLaws
+pub mod RowLaws
+pub mod ScanLaws
+pub mod SparseRowLaws
 pub mod SearchLaws
 pub mod AddLaws
 pub mod SelectLaws
@@ -5,4 +13,4 @@ pub mod FoundLaws
 pub mod WrittenLaws
 pub mod BatchLaws
 pub mod PartLaws
-pub mod ScatteredLaws
+pub mod SparseLaws

@@ -1,7 +1,14 @@
+pub mod Combined
+pub mod Masks
+pub mod Groups
+pub mod Dense
+pub mod Lines
+pub mod Scan
+pub mod SparseRows
 pub mod Places
 pub mod Sums
 pub mod Totals
 pub mod Tables
 pub mod Room
 pub mod Parts
-pub mod Scattered
+pub mod Sparse

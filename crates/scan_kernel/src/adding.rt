@@ -7,7 +7,7 @@ ghost use Rattle.scan_kernel.specs.Totals.{AddsPlaces};
 use crate::columns::{Grouping, LineColumns};
 use crate::selecting::number_groups;
 use crate::totals::Totals;
-use ssb_plans::Measure;
+use ssb_questions::Measure;
 
 #[inline(always)]
 fn add(sums: &mut [u64], group: usize, amount: u64)

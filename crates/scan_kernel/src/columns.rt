@@ -1,7 +1,7 @@
 //! The fact table and the groups as the scan reads them.
 ghost use Rattle.std.specs.Prelude.{◌≡◌, length};
 
-use ssb_plans::Measure;
+use ssb_questions::Measure;
 
 /// The columns of the fact table, a place for each line.
 #[derive(Clone, Copy)]

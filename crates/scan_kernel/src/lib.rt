@@ -17,24 +17,50 @@
 //! let totals = parallel_totals(rt, alloc, &lines, &masks, &groupings)?;
 //! ```
 //!
-//! Where a question has too many groups for a number each, `scattered_totals` walks over the places for it alone, and
-//! keeps the sums of the groups that lines have (`AreScatteredTotals` in `specs/Scattered.antt`).
+//! Where a question has too many groups for a number each, `sparse_totals` walks over the places for it alone, and
+//! keeps the sums of the groups that lines have (`AreSparseTotals` in `specs/Sparse.antt`).
+//!
+//! From the totals of a scan to the rows of a question.
+//!
+//! A scan numbers the groups of a question: each group column lists its values by code, and the codes
+//! make the number. It counts and adds up lines by that number, and knows nothing of values. Here is
+//! what that stands for: which bit a row has in the masks of a batch (`specs/Masks.antt`), which number
+//! a combination's group has (`specs/Groups.antt`), and what rows there are.
+//!
+//! ```text
+//! counts and sums by number ── groups that have lines ──▶ their values ── sorted ──▶ rows
+//! ```
+//!
+//! The contract: rows made from the counts and sums of any lines, by number, are the answer to the
+//! question over those lines (`AnswersLines` in `specs/Scan.antt`; the answer is that of `ssb_answers`).
+//!
+//! ```text
+//! let rows = answer_question(alloc, &question, &columns, &counts, &sums)?;
+//! ```
+//!
+//! `answer_sparse` makes the same of the counts and sums of some groups alone, each beside its group's number
+//! (`specs/Sparse.antt`).
 #![tactic(auto)]
 
 mod adding;
 mod batch;
 mod columns;
+pub mod laws;
 mod masks;
 mod parts;
 mod range;
-mod scattered;
+mod rows;
 mod search;
 mod selecting;
+mod sparse;
+mod sparse_rows;
 mod totals;
 
 pub use columns::{GroupColumn, Grouping, LineColumns};
 pub use masks::Masks;
 pub use parts::parallel_totals;
 pub use range::range_totals;
-pub use scattered::{GroupSums, ScatteredColumn, ScatteredTotals, scattered_totals};
+pub use rows::{answer_question, answer_rows};
+pub use sparse::{GroupSums, SparseColumn, SparseTotals, sparse_totals};
+pub use sparse_rows::answer_sparse;
 pub use totals::Totals;

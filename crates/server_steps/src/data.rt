@@ -1,9 +1,10 @@
 //! The small data set, refreshes that add an order, and answers as text.
 
 use small_rows::{order_like_nine, refresh, small_base};
-use ssb_plans::{Query, Question, Value};
-use ssb_queries::{Answer, ResultRow};
-use ssb_schema::{Action, Base, Limits, Refresh};
+use ssb_answers::{Answer, ResultRow};
+use ssb_base::{Base, Limits};
+use ssb_questions::{Query, Question, Value};
+use ssb_schema::{Action, Refresh};
 use std::alloc::{AllocError, Global};
 use std::sync::Arc;
 use std::test::Fail;

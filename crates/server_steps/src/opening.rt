@@ -3,7 +3,7 @@ ghost use Rattle.std.specs.Prelude.{All, IfOk, IfSome};
 ghost use Rattle.ssb_server.specs.Tickets.{IsOf, IsQuiet};
 
 use crate::data::base;
-use ssb_schema::Base;
+use ssb_base::Base;
 use ssb_server::{Client, Dispatcher, OpenError, Opened, Server, open};
 use std::alloc::Global;
 use std::hash::RandomState;

@@ -7,7 +7,7 @@ use crate::opening::{next_client, next_dispatcher, opened};
 use crate::steps::turns;
 use row_store::{Receipt, RefreshError};
 use small_rows::adding;
-use ssb_plans::Query;
+use ssb_questions::Query;
 use ssb_schema::Refresh;
 use ssb_server::{Client, Dispatcher, OpenGate, Opened, Server, Turn};
 use std::alloc::{AllocError, Global};

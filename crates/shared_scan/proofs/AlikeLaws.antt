@@ -6,15 +6,15 @@ use Rattle.std.specs.Ordering.{is_eq}
 use Rattle.ssb_schema.specs.declared.column.Column.{Column}
 use Rattle.ssb_schema.specs.declared.table.Table.{Table}
 use Rattle.ssb_schema.specs.declared.table.Table.TheVariants as table
-use Rattle.ssb_plans.specs.declared.plan.Measure.{Measure}
-use Rattle.ssb_plans.specs.declared.plan.Measure.TheVariants.{PriceTimesDiscount, Revenue, Profit}
-use Rattle.ssb_plans.specs.declared.plan.Plan.{Plan}
-use Rattle.ssb_plans.specs.declared.value.Value.{Value}
-use Rattle.ssb_queries.specs.RowValues.{customer_value, supplier_value, part_value, date_value, pass, is_within}
-use Rattle.ssb_queries.specs.Combination.{Combination, value_in, passes}
-use Rattle.ssb_queries.specs.Answer.{groups_cmp, group_of, amount, sum_over, in_group, row_of, groups_among, row_cmp}
-use Rattle.ssb_queries.specs.Answer.{rows_over}
-use Rattle.ssb_queries.specs.Ordered.{in_order}
+use Rattle.ssb_questions.specs.declared.plan.Measure.{Measure}
+use Rattle.ssb_questions.specs.declared.plan.Measure.TheVariants.{PriceTimesDiscount, Revenue, Profit}
+use Rattle.ssb_questions.specs.declared.plan.Plan.{Plan}
+use Rattle.ssb_questions.specs.declared.value.Value.{Value}
+use Rattle.ssb_answers.specs.RowValues.{customer_value, supplier_value, part_value, date_value, pass, is_within}
+use Rattle.ssb_answers.specs.Combination.{Combination, value_in, passes}
+use Rattle.ssb_answers.specs.Answer.{groups_cmp, group_of, amount, sum_over, in_group, row_of, groups_among, row_cmp}
+use Rattle.ssb_answers.specs.Answer.{rows_over}
+use Rattle.ssb_answers.specs.Ordered.{in_order}
 
 -- the same numbers of the line, and rows with the same values in every column
 pub record Alike (c e : Combination) : Type 0 where

@@ -3,15 +3,15 @@ use Rattle.std.proofs.Common.{ℕ, ◌≡◌, ◌+◌, ◌<◌, List, [], ◌∷
 use Rattle.std.specs.Prelude.{slice_get}
 use Rattle.std.proofs.lemmas.List.{length-map, get_or-map, ext_get_or}
 use Rattle.std.proofs.lemmas.Option.{slice_get-get_or}
-use Rattle.ssb_schema.specs.Base.{Tables, IsSound}
+use Rattle.ssb_base.specs.Base.{Tables, IsSound}
 use Rattle.ssb_schema.specs.declared.column.Column.{Column}
 use Rattle.ssb_schema.specs.declared.table.Table.{Table}
 use Rattle.ssb_schema.specs.declared.table.Table.TheVariants as table
-use Rattle.ssb_plans.specs.declared.query.Query.{Query}
-use Rattle.ssb_plans.specs.declared.query.Query.TheVariants.{Q1_1}
-use Rattle.ssb_plans.specs.declared.value.Value.{Value}
-use Rattle.ssb_queries.specs.RowValues.{customer_value, supplier_value, part_value, date_value}
-use Rattle.dim_index.specs.Values.{values_of, values_at}
+use Rattle.ssb_questions.specs.declared.query.Query.{Query}
+use Rattle.ssb_questions.specs.declared.query.Query.TheVariants.{Q1_1}
+use Rattle.ssb_questions.specs.declared.value.Value.{Value}
+use Rattle.ssb_answers.specs.RowValues.{customer_value, supplier_value, part_value, date_value}
+use Rattle.dimension_index.specs.Values.{values_of, values_at}
 use Rattle.scan_kernel.specs.declared.masks.Masks.{Masks}
 use Rattle.shared_scan.specs.Prepared.{masks_in}
 use Rattle.shared_scan.specs.Masking.{CoverRows}

@@ -1,9 +1,9 @@
 -- Columns of places within the dimensions can be searched.
 use Rattle.std.proofs.Common.{ℕ, ◌≡◌, ◌<◌, List, length, map, get_or, Option, None, Some, sym, subst, arith}
 use Rattle.std.specs.List.{All}
-use Rattle.ssb_schema.specs.Base.{Tables}
-use Rattle.fact_table.specs.declared.place.Place.{Place}
-use Rattle.fact_table.specs.Places.{IsWithin}
+use Rattle.ssb_base.specs.Base.{Tables}
+use Rattle.fact_columns.specs.declared.place.Place.{Place}
+use Rattle.fact_columns.specs.Places.{IsWithin}
 use Rattle.scan_kernel.specs.declared.columns.LineColumns.{LineColumns}
 use Rattle.scan_kernel.specs.declared.masks.Masks.{Masks}
 use Rattle.scan_kernel.specs.Places.{Covers, CanSearch}

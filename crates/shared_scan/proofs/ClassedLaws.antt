@@ -7,23 +7,23 @@ use Rattle.std.proofs.lemmas.List.{length-map}
 use Rattle.std.proofs.lemmas.List.FromFn.{length-map-range_with_len}
 use Rattle.std.proofs.lemmas.List.Elements.{All-filter, recursion_from_All}
 use Rattle.ssb_schema.specs.declared.fact.Fact.{Fact}
-use Rattle.ssb_schema.specs.Base.{Dimensions, Tables, IsSound, IsKnown}
+use Rattle.ssb_base.specs.Base.{Dimensions, Tables, IsSound, IsKnown}
 use Rattle.ssb_schema.specs.declared.table.Table.TheVariants as table
-use Rattle.ssb_plans.specs.declared.plan.Plan.{Plan}
-use Rattle.ssb_plans.specs.declared.query.Query.{Query}
-use Rattle.ssb_plans.specs.declared.value.Value.{Value}
-use Rattle.ssb_plans.specs.Queries.{plan_over}
-use Rattle.ssb_queries.specs.Answer.{answer_of, rows_over}
-use Rattle.ssb_queries.specs.Combination.{Combination, passes, combinations}
-use Rattle.fact_table.specs.declared.place.Place.{Place}
-use Rattle.fact_table.specs.Places.{IsWithin, is_live, fact_at, live_facts}
+use Rattle.ssb_questions.specs.declared.plan.Plan.{Plan}
+use Rattle.ssb_questions.specs.declared.query.Query.{Query}
+use Rattle.ssb_questions.specs.declared.value.Value.{Value}
+use Rattle.ssb_questions.specs.Queries.{plan_over}
+use Rattle.ssb_answers.specs.Answer.{answer_of, rows_over}
+use Rattle.ssb_answers.specs.Combination.{Combination, passes, combinations}
+use Rattle.fact_columns.specs.declared.place.Place.{Place}
+use Rattle.fact_columns.specs.Places.{IsWithin, is_live, fact_at, live_facts}
 use Rattle.fact_columns.specs.Classed.{IsPlaceOf}
-use Rattle.dim_index.specs.Classes.{read_columns, classes_by, classes_of, extent_of, reduced}
-use Rattle.dim_index.proofs.AlikeLaws.{class_found, below_extent, same_customers, same_suppliers, same_parts}
-use Rattle.dim_index.proofs.AlikeLaws.{same_dates}
+use Rattle.dimension_index.specs.Classes.{read_columns, classes_by, classes_of, extent_of, reduced}
+use Rattle.dimension_index.proofs.AlikeLaws.{class_found, below_extent, same_customers, same_suppliers, same_parts}
+use Rattle.dimension_index.proofs.AlikeLaws.{same_dates}
 use Rattle.scan_kernel.proofs.FoundLaws.{all_mapped}
-use Rattle.scan_answers.specs.Combined.{combine, passes_line}
-use Rattle.scan_answers.proofs.CombinedLaws.{filter_mapped, combines_each_line}
+use Rattle.scan_kernel.specs.Combined.{combine, passes_line}
+use Rattle.scan_kernel.proofs.CombinedLaws.{filter_mapped, combines_each_line}
 use Rattle.shared_scan.specs.Answers.{answers_over}
 use Rattle.shared_scan.specs.Classed.{classed}
 use Rattle.shared_scan.proofs.LineLaws.{rows_stand}

@@ -33,14 +33,14 @@ use Rattle.std.specs.List.{filter, position, position_or_len, AllByRecursion}
 use Rattle.std.proofs.lemmas.Bool.{lt-ltb}
 use Rattle.std.proofs.lemmas.List.Sums.{position_or_len_is, length-filter, count_by-le-length}
 use Rattle.std.proofs.lemmas.Option.{get_or_from_slice_get, slice_get-get_or, slice_get_within}
-use Rattle.ssb_plans.specs.Members.{Has}
-use Rattle.ssb_plans.specs.declared.value.Value.{Value}
-use Rattle.ssb_plans.specs.declared.value.Value.TheVariants.{Number}
-use Rattle.ssb_plans.proofs.ValueLaws.{value_Decides}
-use Rattle.ssb_queries.proofs.MemberLaws.{has_filter}
+use Rattle.ssb_questions.specs.Members.{Has}
+use Rattle.ssb_questions.specs.declared.value.Value.{Value}
+use Rattle.ssb_questions.specs.declared.value.Value.TheVariants.{Number}
+use Rattle.ssb_questions.proofs.ValueLaws.{value_Decides}
+use Rattle.ssb_answers.proofs.MemberLaws.{has_filter}
 use Rattle.std.proofs.lemmas.List.{get_or-map, length-map}
-use Rattle.dim_index.specs.Codes.{is_same, distinct, codes_of}
-use Rattle.scan_answers.specs.Groups.{code_in, AreApart}
+use Rattle.dimension_index.specs.Codes.{is_same, distinct, codes_of}
+use Rattle.scan_kernel.specs.Groups.{code_in, AreApart}
 
 same_self : (v : Value) → is_same v v ≡ true
 same_self v = (value_Decides v v).1 refl

@@ -1,8 +1,8 @@
 -- Group columns as the loops read them, one after another, and what they are of what was made ready.
 use Rattle.std.proofs.Common.{ℕ, ◌*◌, List, [], ◌∷◌, ◌++◌, length, get_or, ap, ◌∙◌}
-use Rattle.ssb_schema.specs.Base.{Tables}
+use Rattle.ssb_base.specs.Base.{Tables}
 use Rattle.ssb_schema.specs.declared.column.Column.{Column}
-use Rattle.ssb_plans.specs.declared.value.Value.{Value}
+use Rattle.ssb_questions.specs.declared.value.Value.{Value}
 use Rattle.scan_kernel.specs.declared.columns.LineColumns.{LineColumns}
 use Rattle.scan_kernel.specs.declared.columns.GroupColumn.{GroupColumn}
 use Rattle.scan_kernel.specs.declared.masks.Masks.{Masks}

@@ -2,9 +2,9 @@
 use Rattle.std.proofs.Common.{◌≡◌, ◌≤◌, List, length, arith}
 use Rattle.std.specs.List.{AllByRecursion}
 use Rattle.ssb_schema.specs.declared.table.Table.TheVariants.{Customer, Supplier, Part, Date, Lineorder}
-use Rattle.ssb_plans.specs.Queries.{plan_over}
-use Rattle.ssb_plans.specs.declared.query.Query.{Query}
-use Rattle.ssb_plans.specs.declared.query.Query.TheVariants.{
+use Rattle.ssb_questions.specs.Queries.{plan_over}
+use Rattle.ssb_questions.specs.declared.query.Query.{Query}
+use Rattle.ssb_questions.specs.declared.query.Query.TheVariants.{
   Q1_1,
   Q1_2,
   Q1_3,
@@ -19,7 +19,7 @@ use Rattle.ssb_plans.specs.declared.query.Query.TheVariants.{
   Q4_2,
   Q4_3,
 }
-use Rattle.ssb_plans.specs.declared.value.Value.{Value}
+use Rattle.ssb_questions.specs.declared.value.Value.{Value}
 
 no_customer : Customer ≡ Lineorder → ⊥
 no_customer e = cc

@@ -1,12 +1,12 @@
 -- One group column more is made ready.
 use Rattle.std.proofs.Common.{ℕ, ◌≡◌, ◌*◌, List, [], ◌∷◌, ◌++◌, length, refl, sym, ap, ◌∙◌, subst}
 use Rattle.std.proofs.Math.Nat.{mul_comm, mul_assoc, mul-one}
-use Rattle.ssb_schema.specs.Base.{Tables}
+use Rattle.ssb_base.specs.Base.{Tables}
 use Rattle.ssb_schema.specs.declared.column.Column.{Column}
-use Rattle.ssb_plans.specs.declared.value.Value.{Value}
-use Rattle.dim_index.specs.Values.{values_of}
+use Rattle.ssb_questions.specs.declared.value.Value.{Value}
+use Rattle.dimension_index.specs.Values.{values_of}
 use Rattle.scan_kernel.specs.declared.masks.Masks.{Masks}
-use Rattle.scan_answers.specs.Groups.{size_of, counts_of}
+use Rattle.scan_kernel.specs.Groups.{size_of, counts_of}
 use Rattle.shared_scan.specs.Numbering.{IsPreparedColumn}
 use Rattle.shared_scan.specs.Prepared.{masks_in}
 use Rattle.shared_scan.specs.Grouped.{ArePrepared}

@@ -1,15 +1,15 @@
 -- From the answers over places to those after a history.
 use Rattle.std.proofs.Common.{◌≡◌, ◌≤◌, List, [], ◌∷◌, length, refl, sym, ap, ◌∙◌, subst}
 use Rattle.std.specs.Prelude.{IsPermutation}
-use Rattle.ssb_schema.specs.Base.{Dimensions}
+use Rattle.ssb_base.specs.Base.{Dimensions}
 use Rattle.ssb_schema.specs.declared.fact.Fact.{Fact}
 use Rattle.ssb_schema.specs.Facts.{facts_of}
 use Rattle.row_store.specs.History.{CommitRecord, lines_after}
 use Rattle.row_store.specs.State.{StandsFor}
-use Rattle.ssb_plans.specs.declared.query.Query.{Query}
-use Rattle.ssb_plans.specs.declared.value.Value.{Value}
-use Rattle.ssb_queries.proofs.RearrangementLaws.{questions_ignore_order}
-use Rattle.fact_table.specs.Places.{live_facts}
+use Rattle.ssb_questions.specs.declared.query.Query.{Query}
+use Rattle.ssb_questions.specs.declared.value.Value.{Value}
+use Rattle.ssb_answers.proofs.RearrangementLaws.{questions_ignore_order}
+use Rattle.fact_columns.specs.Places.{live_facts}
 use Rattle.fact_columns.specs.Stored.{Stored, IsRead, columns_state}
 use Rattle.fact_columns.proofs.ColumnLaws.{live_facts_are_the_lines}
 use Rattle.shared_scan.specs.Answers.{answers_over, answers_after}

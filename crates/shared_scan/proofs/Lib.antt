@@ -21,4 +21,4 @@ pub mod ReadyLaws
 pub mod EachLaws
 pub mod ScanLaws
 pub mod HistoryLaws
-pub mod ScatteredLaws
+pub mod SparseLaws

@@ -4,18 +4,18 @@ use Rattle.std.specs.Prelude.{slice_get}
 use Rattle.std.specs.Int.{bit_at}
 use Rattle.std.proofs.Math.ListN.{get_or-map}
 use Rattle.std.proofs.lemmas.Nat.Bits.{bit_at_and, bit_at-zero}
-use Rattle.ssb_schema.specs.Base.{Dimensions, Tables, IsSound, customer_key, supplier_key, part_key, date_key}
+use Rattle.ssb_base.specs.Base.{Dimensions, Tables, IsSound, customer_key, supplier_key, part_key, date_key}
 use Rattle.ssb_schema.specs.declared.fact.Fact.{Fact}
-use Rattle.ssb_plans.specs.declared.plan.Plan.{Plan}
-use Rattle.ssb_queries.specs.Combination.{Combination, passes, is_in_ranges}
-use Rattle.fact_table.specs.declared.place.Place.{Place}
-use Rattle.fact_table.specs.Places.{IsWithin, fact_at, quantity_in, discount_in}
+use Rattle.ssb_questions.specs.declared.plan.Plan.{Plan}
+use Rattle.ssb_answers.specs.Combination.{Combination, passes, is_in_ranges}
+use Rattle.fact_columns.specs.declared.place.Place.{Place}
+use Rattle.fact_columns.specs.Places.{IsWithin, fact_at, quantity_in, discount_in}
 use Rattle.scan_kernel.specs.declared.columns.LineColumns.{LineColumns}
 use Rattle.scan_kernel.specs.declared.masks.Masks.{Masks}
 use Rattle.scan_kernel.specs.Places.{mask_at, mask_in}
-use Rattle.scan_answers.specs.Combined.{combine}
-use Rattle.scan_answers.specs.Masks.{IsMask}
-use Rattle.scan_answers.proofs.MaskLaws.{masks_combine}
+use Rattle.scan_kernel.specs.Combined.{combine}
+use Rattle.scan_kernel.specs.Masks.{IsMask}
+use Rattle.scan_kernel.proofs.MaskLaws.{masks_combine}
 use Rattle.shared_scan.specs.Prepared.{AreMasksOf}
 use Rattle.shared_scan.specs.Laws.{AreLinesOf}
 use Rattle.shared_scan.proofs.RowLaws.{named_row, row_there}

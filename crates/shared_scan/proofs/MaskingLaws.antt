@@ -36,8 +36,8 @@ use Rattle.std.proofs.lemmas.Nat.Bits.{bit_at_set_same, bit_at_set_other, bit_at
 use Rattle.std.proofs.lemmas.Option.{slice_get_within}
 use Rattle.std.proofs.Math.ListN.{get_or-append}
 use Rattle.std.proofs.Math.Seq.{get_or-append_seam}
-use Rattle.ssb_plans.specs.declared.plan.Plan.{Plan}
-use Rattle.scan_answers.specs.Masks.{IsMask}
+use Rattle.ssb_questions.specs.declared.plan.Plan.{Plan}
+use Rattle.scan_kernel.specs.Masks.{IsMask}
 
 -- the bits of the first plans are set, and no others
 pub record IsMaskUpTo (passes : Plan → Bool) (plans : List Plan) (number mask : ℕ) : Type 0 where

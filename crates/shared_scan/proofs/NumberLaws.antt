@@ -32,21 +32,21 @@ use Rattle.std.proofs.Math.ListN.{get_or-map}
 use Rattle.std.proofs.Math.Nat.{mod-lt}
 use Rattle.std.proofs.lemmas.List.Sums.{sum_by-cons}
 use Rattle.std.proofs.lemmas.Nat.Bits.{bit_at_and}
-use Rattle.ssb_schema.specs.Base.{Tables}
+use Rattle.ssb_base.specs.Base.{Tables}
 use Rattle.ssb_schema.specs.declared.column.Column.{Column}
 use Rattle.ssb_schema.specs.declared.table.Table.{Table}
 use Rattle.ssb_schema.specs.declared.table.Table.TheVariants as table
-use Rattle.ssb_plans.specs.declared.value.Value.{Value}
-use Rattle.ssb_queries.specs.Combination.{Combination, value_at}
-use Rattle.ssb_queries.specs.RowValues.{customer_value, supplier_value, part_value, date_value}
-use Rattle.dim_index.specs.Values.{values_of}
-use Rattle.fact_table.specs.declared.place.Place.{Place}
+use Rattle.ssb_questions.specs.declared.value.Value.{Value}
+use Rattle.ssb_answers.specs.Combination.{Combination, value_at}
+use Rattle.ssb_answers.specs.RowValues.{customer_value, supplier_value, part_value, date_value}
+use Rattle.dimension_index.specs.Values.{values_of}
+use Rattle.fact_columns.specs.declared.place.Place.{Place}
 use Rattle.scan_kernel.specs.declared.columns.LineColumns.{LineColumns}
 use Rattle.scan_kernel.specs.declared.columns.GroupColumn.{GroupColumn}
 use Rattle.scan_kernel.specs.declared.masks.Masks.{Masks}
 use Rattle.scan_kernel.specs.Places.{mask_in, part_at, group_at}
-use Rattle.scan_answers.specs.Groups.{counts_of, sum_of_parts, group_codes, group_number, ListValues, code_in}
-use Rattle.scan_answers.proofs.GroupLaws.{codes_are_numbered}
+use Rattle.scan_kernel.specs.Groups.{counts_of, sum_of_parts, group_codes, group_number, ListValues, code_in}
+use Rattle.scan_kernel.proofs.GroupLaws.{codes_are_numbered}
 use Rattle.shared_scan.specs.Prepared.{IsPart, AreParts, positions_in, masks_in}
 use Rattle.shared_scan.specs.Laws.{AreLinesOf}
 use Rattle.shared_scan.proofs.LineLaws.{nowhere, StandAt, place_mask}

@@ -4,11 +4,11 @@ use Rattle.std.specs.Prelude.{slice_get}
 use Rattle.std.specs.Int.{bit_at}
 use Rattle.std.proofs.lemmas.List.{get_or-map, length-map}
 use Rattle.std.proofs.lemmas.Option.{get_or_from_slice_get, slice_get-get_or, slice_get_within}
-use Rattle.ssb_plans.specs.declared.value.Value.{Value}
-use Rattle.ssb_plans.specs.declared.value.Value.TheVariants.{Number}
-use Rattle.dim_index.specs.Codes.{distinct, codes_of}
+use Rattle.ssb_questions.specs.declared.value.Value.{Value}
+use Rattle.ssb_questions.specs.declared.value.Value.TheVariants.{Number}
+use Rattle.dimension_index.specs.Codes.{distinct, codes_of}
 use Rattle.scan_kernel.specs.Places.{mask_in}
-use Rattle.scan_answers.specs.Groups.{AreApart, code_in}
+use Rattle.scan_kernel.specs.Groups.{AreApart, code_in}
 use Rattle.shared_scan.specs.Numbering.{AreNumbered, IsPreparedColumn}
 use Rattle.shared_scan.proofs.DistinctLaws.{code_is, distinct_apart, code_reads}
 

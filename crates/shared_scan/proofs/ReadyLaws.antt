@@ -2,21 +2,21 @@
 use Rattle.std.proofs.Common.{ℕ, ◌≡◌, ◌*◌, ◌<◌, List, [], ◌∷◌, length, Some, true, refl, sym, ap, ◌∙◌, subst, arith}
 use Rattle.std.specs.Prelude.{slice_get}
 use Rattle.std.specs.List.{All, AllByRecursion}
-use Rattle.ssb_schema.specs.Base.{Tables, IsSound}
+use Rattle.ssb_base.specs.Base.{Tables, IsSound}
 use Rattle.ssb_schema.specs.declared.column.Column.{Column}
 use Rattle.ssb_schema.specs.declared.table.Table.TheVariants.{Lineorder}
-use Rattle.ssb_plans.specs.declared.plan.Plan.{Plan}
-use Rattle.ssb_plans.specs.declared.query.Query.{Query}
-use Rattle.ssb_plans.specs.declared.value.Value.{Value}
-use Rattle.ssb_plans.specs.Queries.{plan_over}
-use Rattle.fact_table.specs.declared.place.Place.{Place}
-use Rattle.fact_table.specs.Places.{IsWithin}
+use Rattle.ssb_questions.specs.declared.plan.Plan.{Plan}
+use Rattle.ssb_questions.specs.declared.query.Query.{Query}
+use Rattle.ssb_questions.specs.declared.value.Value.{Value}
+use Rattle.ssb_questions.specs.Queries.{plan_over}
+use Rattle.fact_columns.specs.declared.place.Place.{Place}
+use Rattle.fact_columns.specs.Places.{IsWithin}
 use Rattle.scan_kernel.specs.declared.columns.LineColumns.{LineColumns}
 use Rattle.scan_kernel.specs.declared.columns.GroupColumn.{GroupColumn}
 use Rattle.scan_kernel.specs.declared.masks.Masks.{Masks}
 use Rattle.scan_kernel.specs.Places.{CanNumber, has_bit, group_at}
-use Rattle.scan_answers.specs.Groups.{AreApart}
-use Rattle.scan_answers.proofs.GroupLaws.{codes_number_groups}
+use Rattle.scan_kernel.specs.Groups.{AreApart}
+use Rattle.scan_kernel.proofs.GroupLaws.{codes_number_groups}
 use Rattle.std.proofs.lemmas.List.{length-map}
 use Rattle.shared_scan.specs.Prepared.{AreMasksOf, IsGroupingBy}
 use Rattle.shared_scan.specs.Parts.{parts_in}

@@ -25,9 +25,9 @@ use Rattle.std.proofs.Common.{
 use Rattle.std.specs.Prelude.{nat_eq, slice_get, unwrap_or}
 use Rattle.std.specs.Option.{option_map_or}
 use Rattle.std.specs.Cmp.{unsigned_Decides}
-use Rattle.ssb_schema.specs.Base.{row_with, has_key, has_key_of}
+use Rattle.ssb_base.specs.Base.{row_with, has_key, has_key_of}
 use Rattle.ssb_schema.specs.FirstFault.{AreDistinct}
-use Rattle.fact_table.specs.Places.{key_at}
+use Rattle.fact_columns.specs.Places.{key_at}
 
 module _ {R : Type 0} (key : R → ℕ) where
   -- the first row with a row's key is that row

@@ -31,20 +31,20 @@ use Rattle.std.specs.List.{list_all}
 use Rattle.std.proofs.lemmas.List.{get_or-map, get_or-replicate, length-map, length-replicate}
 use Rattle.std.proofs.lemmas.List.Folds.{list_all_more}
 use Rattle.std.proofs.lemmas.Option.{slice_get-get_or}
-use Rattle.ssb_schema.specs.Base.{Tables, customer_key, supplier_key, part_key, date_key}
+use Rattle.ssb_base.specs.Base.{Tables, customer_key, supplier_key, part_key, date_key}
 use Rattle.ssb_schema.specs.declared.column.Column.{Column}
 use Rattle.ssb_schema.specs.declared.table.Table.{Table}
 use Rattle.ssb_schema.specs.declared.table.Table.TheVariants as table
-use Rattle.ssb_plans.specs.declared.cond.Test.{Test}
-use Rattle.ssb_plans.specs.declared.plan.Plan.{Plan}
-use Rattle.ssb_plans.specs.declared.value.Value.{Value}
-use Rattle.ssb_plans.specs.declared.value.Value.TheVariants.{Number}
-use Rattle.ssb_queries.specs.RowValues.{customer_value, supplier_value, part_value, date_value, pass}
-use Rattle.dim_index.specs.Keys.{keys_of}
-use Rattle.dim_index.specs.Values.{values_of, values_at}
-use Rattle.dim_index.specs.Codes.{distinct, codes_of, code_in}
-use Rattle.scan_answers.specs.Masks.{IsMask}
-use Rattle.scan_answers.proofs.MaskLaws.{mask_and}
+use Rattle.ssb_questions.specs.declared.cond.Test.{Test}
+use Rattle.ssb_questions.specs.declared.plan.Plan.{Plan}
+use Rattle.ssb_questions.specs.declared.value.Value.{Value}
+use Rattle.ssb_questions.specs.declared.value.Value.TheVariants.{Number}
+use Rattle.ssb_answers.specs.RowValues.{customer_value, supplier_value, part_value, date_value, pass}
+use Rattle.dimension_index.specs.Keys.{keys_of}
+use Rattle.dimension_index.specs.Values.{values_of, values_at}
+use Rattle.dimension_index.specs.Codes.{distinct, codes_of, code_in}
+use Rattle.scan_kernel.specs.Masks.{IsMask}
+use Rattle.scan_kernel.proofs.MaskLaws.{mask_and}
 use Rattle.shared_scan.specs.Tests.{tests_of, passes_at, value_of_row, CoverTests}
 use Rattle.shared_scan.specs.Masking.{AreCodeMasks, AreRowMasks, TellDimension}
 use Rattle.shared_scan.proofs.DistinctLaws.{code_reads}

@@ -30,21 +30,21 @@ use Rattle.std.specs.Prelude.{slice_get}
 use Rattle.std.specs.List.{All, range_with_len}
 use Rattle.std.proofs.lemmas.List.{length-map, get_or-map, ext_get_or, length-replicate}
 use Rattle.std.proofs.lemmas.Option.{slice_get-get_or}
-use Rattle.ssb_schema.specs.Base.{Tables, IsSound}
+use Rattle.ssb_base.specs.Base.{Tables, IsSound}
 use Rattle.ssb_schema.specs.declared.column.Column.{Column}
-use Rattle.ssb_plans.specs.declared.plan.Plan.{Plan}
-use Rattle.ssb_plans.specs.declared.query.Query.{Query}
-use Rattle.ssb_plans.specs.declared.query.Query.TheVariants.{Q1_1}
-use Rattle.ssb_plans.specs.declared.value.Value.{Value}
-use Rattle.ssb_plans.specs.Queries.{plan_over}
-use Rattle.ssb_queries.specs.Answer.{answer_of}
-use Rattle.ssb_queries.specs.declared.answer.Rows.{Rows}
-use Rattle.ssb_queries.specs.declared.answer.ResultRow.{ResultRow}
-use Rattle.ssb_plans.specs.declared.plan.Measure.{Measure}
-use Rattle.fact_table.specs.declared.place.Place.{Place}
-use Rattle.fact_table.specs.declared.slices.Slices.{Slices}
-use Rattle.fact_table.specs.Columns.{AreColumnsOf}
-use Rattle.fact_table.specs.Places.{IsWithin, live_facts}
+use Rattle.ssb_questions.specs.declared.plan.Plan.{Plan}
+use Rattle.ssb_questions.specs.declared.query.Query.{Query}
+use Rattle.ssb_questions.specs.declared.query.Query.TheVariants.{Q1_1}
+use Rattle.ssb_questions.specs.declared.value.Value.{Value}
+use Rattle.ssb_questions.specs.Queries.{plan_over}
+use Rattle.ssb_answers.specs.Answer.{answer_of}
+use Rattle.ssb_answers.specs.declared.answer.Rows.{Rows}
+use Rattle.ssb_answers.specs.declared.answer.ResultRow.{ResultRow}
+use Rattle.ssb_questions.specs.declared.plan.Measure.{Measure}
+use Rattle.fact_columns.specs.declared.place.Place.{Place}
+use Rattle.fact_columns.specs.declared.slices.Slices.{Slices}
+use Rattle.fact_columns.specs.Columns.{AreColumnsOf}
+use Rattle.fact_columns.specs.Places.{IsWithin, live_facts}
 use Rattle.scan_kernel.specs.declared.columns.LineColumns.{LineColumns}
 use Rattle.scan_kernel.specs.declared.columns.Grouping.{Grouping}
 use Rattle.scan_kernel.specs.declared.masks.Masks.{Masks}

@@ -29,10 +29,10 @@ use Rattle.std.proofs.lemmas.Int.{ints}
 use Rattle.std.proofs.lemmas.List.Elements.{All-from_get_or}
 use Rattle.std.proofs.lemmas.List.Sums.{sum_by-cons, sum_by-le}
 use Rattle.ssb_schema.specs.declared.fact.Fact.{Fact}
-use Rattle.ssb_plans.specs.declared.plan.Measure.{Measure}
-use Rattle.ssb_plans.specs.declared.plan.Measure.TheVariants.{PriceTimesDiscount, Revenue, Profit}
-use Rattle.scan_answers.specs.Lines.{price_times_discount, revenue, cost}
-use Rattle.scan_answers.specs.Scan.{line_sum}
+use Rattle.ssb_questions.specs.declared.plan.Measure.{Measure}
+use Rattle.ssb_questions.specs.declared.plan.Measure.TheVariants.{PriceTimesDiscount, Revenue, Profit}
+use Rattle.scan_kernel.specs.Lines.{price_times_discount, revenue, cost}
+use Rattle.scan_kernel.specs.Scan.{line_sum}
 
 -- a list is what it has at each index
 pub at_each : {A : Type 0} (xs : List A) (d : A) (a : ℕ) (ys : List A)

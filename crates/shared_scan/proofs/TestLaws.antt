@@ -29,11 +29,11 @@ use Rattle.std.specs.Cmp.{unsigned_Decides}
 use Rattle.std.proofs.lemmas.List.{get_or-map}
 use Rattle.std.proofs.lemmas.List.Folds.{list_any-append}
 use Rattle.std.proofs.lemmas.Option.{get_or_from_slice_get, slice_get_within}
-use Rattle.ssb_plans.specs.Cond.{holds}
-use Rattle.ssb_plans.specs.declared.cond.Test.{Test}
-use Rattle.ssb_plans.specs.declared.value.Value.{Value}
-use Rattle.ssb_plans.specs.declared.value.Value.TheVariants.{Number}
-use Rattle.ssb_queries.specs.RowValues.{pass}
+use Rattle.ssb_questions.specs.Cond.{holds}
+use Rattle.ssb_questions.specs.declared.cond.Test.{Test}
+use Rattle.ssb_questions.specs.declared.value.Value.{Value}
+use Rattle.ssb_questions.specs.declared.value.Value.TheVariants.{Number}
+use Rattle.ssb_answers.specs.RowValues.{pass}
 use Rattle.shared_scan.specs.Tests.{is_place, passes_at}
 
 -- one place more

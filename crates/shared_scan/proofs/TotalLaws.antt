@@ -43,24 +43,24 @@ use Rattle.std.proofs.lemmas.List.Elements.{All-filter, recursion_from_All}
 use Rattle.std.proofs.Math.Nat.{mul-le-mul}
 use Rattle.scan_kernel.proofs.FoundLaws.{all_mapped}
 use Rattle.std.proofs.lemmas.List.Sums.{length-filter, count_by-le-length}
-use Rattle.ssb_schema.specs.Base.{Dimensions, Tables, IsSound, IsKnown, customer_key, supplier_key, part_key, date_key}
+use Rattle.ssb_base.specs.Base.{Dimensions, Tables, IsSound, IsKnown, customer_key, supplier_key, part_key, date_key}
 use Rattle.ssb_schema.specs.declared.table.Table.TheVariants as table
 use Rattle.ssb_schema.specs.declared.fact.Fact.{Fact}
 use Rattle.ssb_schema.specs.declared.line.LineFields.{LineFields}
-use Rattle.ssb_plans.specs.Members.{Has}
-use Rattle.ssb_plans.specs.declared.plan.Measure.{Measure}
-use Rattle.ssb_plans.specs.declared.plan.Measure.TheVariants.{PriceTimesDiscount, Revenue, Profit}
-use Rattle.ssb_plans.specs.declared.plan.Plan.{Plan}
-use Rattle.ssb_plans.specs.declared.query.Query.{Query}
-use Rattle.ssb_plans.specs.declared.value.Value.{Value}
-use Rattle.ssb_plans.specs.Queries.{plan_over}
-use Rattle.ssb_queries.specs.Answer.{answer_of}
-use Rattle.ssb_queries.specs.Combination.{Combination, combinations}
-use Rattle.ssb_queries.specs.declared.answer.ResultRow.{ResultRow}
-use Rattle.ssb_queries.proofs.MemberLaws.{has_from_map}
-use Rattle.fact_table.specs.declared.place.Place.{Place}
-use Rattle.fact_table.specs.Places.{IsWithin, is_live, fact_at, live_facts, quantity_in}
-use Rattle.fact_table.proofs.FilterLaws.{live_facts_that_pass}
+use Rattle.ssb_questions.specs.Members.{Has}
+use Rattle.ssb_questions.specs.declared.plan.Measure.{Measure}
+use Rattle.ssb_questions.specs.declared.plan.Measure.TheVariants.{PriceTimesDiscount, Revenue, Profit}
+use Rattle.ssb_questions.specs.declared.plan.Plan.{Plan}
+use Rattle.ssb_questions.specs.declared.query.Query.{Query}
+use Rattle.ssb_questions.specs.declared.value.Value.{Value}
+use Rattle.ssb_questions.specs.Queries.{plan_over}
+use Rattle.ssb_answers.specs.Answer.{answer_of}
+use Rattle.ssb_answers.specs.Combination.{Combination, combinations}
+use Rattle.ssb_answers.specs.declared.answer.ResultRow.{ResultRow}
+use Rattle.ssb_answers.proofs.MemberLaws.{has_from_map}
+use Rattle.fact_columns.specs.declared.place.Place.{Place}
+use Rattle.fact_columns.specs.Places.{IsWithin, is_live, fact_at, live_facts, quantity_in}
+use Rattle.fact_columns.proofs.FilterLaws.{live_facts_that_pass}
 use Rattle.scan_kernel.specs.declared.columns.LineColumns.{LineColumns}
 use Rattle.scan_kernel.specs.declared.columns.Grouping.{Grouping}
 use Rattle.scan_kernel.specs.declared.columns.GroupColumn.{GroupColumn}
@@ -69,13 +69,13 @@ use Rattle.scan_kernel.specs.declared.totals.Totals.{Totals}
 use Rattle.scan_kernel.specs.Places.{has_bit, group_at, gain_at, loss_at}
 use Rattle.scan_kernel.specs.Sums.{Adds, sum_in}
 use Rattle.scan_kernel.specs.Totals.{AreTotals, taken}
-use Rattle.scan_answers.specs.Combined.{combine, passes_line}
-use Rattle.scan_answers.specs.Groups.{size_of, counts_of, group_number, ListValues}
-use Rattle.scan_answers.specs.Lines.{takes}
-use Rattle.scan_answers.specs.Scan.{AnswersLines, line_sum}
-use Rattle.scan_answers.proofs.CombinedLaws.{filter_mapped, combines_each_line}
-use Rattle.scan_answers.proofs.DenseLaws.{has_from_filter, filter_agree_on, range_has}
-use Rattle.scan_answers.proofs.LineLaws.{filter_both}
+use Rattle.scan_kernel.specs.Combined.{combine, passes_line}
+use Rattle.scan_kernel.specs.Groups.{size_of, counts_of, group_number, ListValues}
+use Rattle.scan_kernel.specs.Lines.{takes}
+use Rattle.scan_kernel.specs.Scan.{AnswersLines, line_sum}
+use Rattle.scan_kernel.proofs.CombinedLaws.{filter_mapped, combines_each_line}
+use Rattle.scan_kernel.proofs.DenseLaws.{has_from_filter, filter_agree_on, range_has}
+use Rattle.scan_kernel.proofs.LineLaws.{filter_both}
 use Rattle.fact_columns.proofs.FactCountLaws.{line_of, facts_of_lines}
 use Rattle.shared_scan.specs.Prepared.{AreMasksOf, IsGroupingBy}
 use Rattle.shared_scan.specs.Summed.{IsSummed, AreSummed}

@@ -1,13 +1,13 @@
 -- What a batch answers.
 use Rattle.std.specs.Prelude.{List, map}
-use Rattle.ssb_schema.specs.Base.{Tables, Dimensions}
+use Rattle.ssb_base.specs.Base.{Tables, Dimensions}
 use Rattle.ssb_schema.specs.Facts.{facts_of}
 use Rattle.ssb_schema.specs.declared.fact.Fact.{Fact}
 use Rattle.row_store.specs.History.{CommitRecord, lines_after}
-use Rattle.ssb_plans.specs.declared.query.Query.{Query}
-use Rattle.ssb_plans.specs.declared.value.Value.{Value}
-use Rattle.ssb_queries.specs.Answer.{answer_of}
-use Rattle.ssb_queries.specs.declared.answer.Rows.{Rows}
+use Rattle.ssb_questions.specs.declared.query.Query.{Query}
+use Rattle.ssb_questions.specs.declared.value.Value.{Value}
+use Rattle.ssb_answers.specs.Answer.{answer_of}
+use Rattle.ssb_answers.specs.declared.answer.Rows.{Rows}
 
 -- a batch made ready: the base that it was prepared on, and its questions
 pub record Prepared : Type 0 where

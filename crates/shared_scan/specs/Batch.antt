@@ -1,12 +1,12 @@
 -- Questions made ready.
 use Rattle.std.specs.Prelude.{ℕ, ◌≡◌, List, Some, map, slice_get, slice_index_or}
-use Rattle.ssb_schema.specs.Base.{Tables}
-use Rattle.ssb_plans.specs.declared.plan.Plan.{Plan}
-use Rattle.ssb_plans.specs.declared.query.Query.{Query}
-use Rattle.ssb_plans.specs.declared.value.Value.{Value}
-use Rattle.ssb_plans.specs.Queries.{plan_over}
+use Rattle.ssb_base.specs.Base.{Tables}
+use Rattle.ssb_questions.specs.declared.plan.Plan.{Plan}
+use Rattle.ssb_questions.specs.declared.query.Query.{Query}
+use Rattle.ssb_questions.specs.declared.value.Value.{Value}
+use Rattle.ssb_questions.specs.Queries.{plan_over}
 use Rattle.scan_kernel.specs.declared.masks.Masks.{Masks}
-use Rattle.scan_answers.specs.Groups.{counts_of, size_of}
+use Rattle.scan_kernel.specs.Groups.{counts_of, size_of}
 use Rattle.shared_scan.specs.declared.ready.Ready.{Ready}
 use Rattle.shared_scan.specs.Grouped.{ArePrepared}
 use Rattle.shared_scan.specs.Parts.{parts_in, IsFew}

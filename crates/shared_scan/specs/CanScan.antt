@@ -1,8 +1,8 @@
 -- What the loops need of columns and masks.
 use Rattle.std.specs.Prelude.{All, List}
-use Rattle.ssb_schema.specs.Base.{Tables}
-use Rattle.fact_table.specs.declared.place.Place.{Place}
-use Rattle.fact_table.specs.Places.{IsWithin}
+use Rattle.ssb_base.specs.Base.{Tables}
+use Rattle.fact_columns.specs.declared.place.Place.{Place}
+use Rattle.fact_columns.specs.Places.{IsWithin}
 use Rattle.scan_kernel.specs.declared.columns.LineColumns.{LineColumns}
 use Rattle.scan_kernel.specs.declared.masks.Masks.{Masks}
 use Rattle.scan_kernel.specs.Places.{CanSearch}

@@ -1,5 +1,5 @@
 -- Places as the scan reads them: each row by its class.
-use Rattle.fact_table.specs.declared.place.Place.{Place}
+use Rattle.fact_columns.specs.declared.place.Place.{Place}
 
 -- the place with the classes of its rows in place of their positions
 abbrev pub classed : Place → Place

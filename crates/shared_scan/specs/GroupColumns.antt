@@ -1,9 +1,9 @@
 -- Group columns as the loops read them.
 use Rattle.std.specs.Prelude.{ℕ, ◌≡◌, List, [], ◌∷◌}
-use Rattle.ssb_schema.specs.Base.{Tables}
+use Rattle.ssb_base.specs.Base.{Tables}
 use Rattle.ssb_schema.specs.declared.column.Column.{Column}
-use Rattle.dim_index.specs.Codes.{codes_of}
-use Rattle.dim_index.specs.Values.{values_of}
+use Rattle.dimension_index.specs.Codes.{codes_of}
+use Rattle.dimension_index.specs.Values.{values_of}
 use Rattle.scan_kernel.specs.declared.columns.LineColumns.{LineColumns}
 use Rattle.scan_kernel.specs.declared.columns.GroupColumn.{GroupColumn}
 use Rattle.shared_scan.specs.Prepared.{positions_in}

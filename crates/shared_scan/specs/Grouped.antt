@@ -1,9 +1,9 @@
 -- The group columns of a question, made ready.
 use Rattle.std.specs.Prelude.{ℕ, ◌*◌, ◌<◌, List, [], ◌∷◌, length}
-use Rattle.ssb_schema.specs.Base.{Tables}
+use Rattle.ssb_base.specs.Base.{Tables}
 use Rattle.ssb_schema.specs.declared.column.Column.{Column}
-use Rattle.ssb_plans.specs.declared.value.Value.{Value}
-use Rattle.dim_index.specs.Values.{values_of}
+use Rattle.ssb_questions.specs.declared.value.Value.{Value}
+use Rattle.dimension_index.specs.Values.{values_of}
 use Rattle.scan_kernel.specs.declared.masks.Masks.{Masks}
 use Rattle.shared_scan.specs.Numbering.{HasMasks, IsPreparedColumn}
 use Rattle.shared_scan.specs.Prepared.{masks_in}

@@ -1,6 +1,6 @@
 -- Groupings of questions that are made ready, as the loops read them.
 use Rattle.std.specs.Prelude.{ℕ, ◌≡◌, ◌<◌, List, [], length, slice_index_or}
-use Rattle.ssb_schema.specs.Base.{Tables}
+use Rattle.ssb_base.specs.Base.{Tables}
 use Rattle.scan_kernel.specs.declared.columns.LineColumns.{LineColumns}
 use Rattle.scan_kernel.specs.declared.columns.Grouping.{Grouping}
 use Rattle.shared_scan.specs.GroupColumns.{AreGroupColumns}

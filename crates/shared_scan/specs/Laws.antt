@@ -1,21 +1,21 @@
 -- What the scan rests on.
 use Rattle.std.specs.Prelude.{ℕ, pos, ◌≡◌, ◌<◌, ◌≤◌, ◌^◌, ◌-ℤ◌, All, List, Some, length, map, slice_get, slice_index}
 use Rattle.std.specs.List.{range_with_len}
-use Rattle.ssb_schema.specs.Base.{Tables, IsSound}
-use Rattle.ssb_plans.specs.declared.plan.Plan.{Plan}
-use Rattle.ssb_plans.specs.declared.value.Value.{Value}
-use Rattle.ssb_plans.specs.declared.query.Query.{Query}
-use Rattle.ssb_plans.specs.Queries.{plan_over}
-use Rattle.ssb_queries.specs.Answer.{answer_of}
-use Rattle.ssb_queries.specs.declared.answer.ResultRow.{ResultRow}
-use Rattle.fact_table.specs.declared.place.Place.{Place}
-use Rattle.fact_table.specs.Places.{IsWithin, live_facts}
+use Rattle.ssb_base.specs.Base.{Tables, IsSound}
+use Rattle.ssb_questions.specs.declared.plan.Plan.{Plan}
+use Rattle.ssb_questions.specs.declared.value.Value.{Value}
+use Rattle.ssb_questions.specs.declared.query.Query.{Query}
+use Rattle.ssb_questions.specs.Queries.{plan_over}
+use Rattle.ssb_answers.specs.Answer.{answer_of}
+use Rattle.ssb_answers.specs.declared.answer.ResultRow.{ResultRow}
+use Rattle.fact_columns.specs.declared.place.Place.{Place}
+use Rattle.fact_columns.specs.Places.{IsWithin, live_facts}
 use Rattle.scan_kernel.specs.declared.columns.LineColumns.{LineColumns}
 use Rattle.scan_kernel.specs.declared.columns.Grouping.{Grouping}
 use Rattle.scan_kernel.specs.declared.masks.Masks.{Masks}
 use Rattle.scan_kernel.specs.declared.totals.Totals.{Totals}
 use Rattle.scan_kernel.specs.Totals.{AreTotals}
-use Rattle.scan_answers.specs.Scan.{AnswersLines}
+use Rattle.scan_kernel.specs.Scan.{AnswersLines}
 use Rattle.shared_scan.specs.Prepared.{AreMasksOf, IsGroupingOf}
 
 -- the columns are those of the places

@@ -1,10 +1,10 @@
 -- The columns of the fact table, as the loops read them.
 use Rattle.std.specs.Prelude.{◌≡◌, ◌<◌, ◌≤◌, ◌^◌, All, List, length}
-use Rattle.ssb_schema.specs.Base.{Tables}
-use Rattle.fact_table.specs.declared.place.Place.{Place}
-use Rattle.fact_table.specs.declared.slices.Slices.{Slices}
-use Rattle.fact_table.specs.Columns.{AreColumnsOf}
-use Rattle.fact_table.specs.Places.{live_facts}
+use Rattle.ssb_base.specs.Base.{Tables}
+use Rattle.fact_columns.specs.declared.place.Place.{Place}
+use Rattle.fact_columns.specs.declared.slices.Slices.{Slices}
+use Rattle.fact_columns.specs.Columns.{AreColumnsOf}
+use Rattle.fact_columns.specs.Places.{live_facts}
 use Rattle.fact_columns.specs.Classed.{IsPlaceOf}
 
 -- every column is as long as the first

@@ -1,18 +1,18 @@
 -- The masks of a batch's rows.
 use Rattle.std.specs.Prelude.{ℕ, ◌≡◌, ◌<◌, ◌≤◌, ◌/◌, ◌%◌, ◌&&◌, List, Option, length, Some, slice_get, slice_index}
 use Rattle.std.specs.List.{list_all}
-use Rattle.ssb_plans.specs.declared.plan.Plan.{Plan}
-use Rattle.ssb_plans.specs.declared.value.Value.{Value}
-use Rattle.ssb_queries.specs.RowValues.{is_within, pass}
-use Rattle.ssb_schema.specs.Base.{Dimensions, Tables}
+use Rattle.ssb_questions.specs.declared.plan.Plan.{Plan}
+use Rattle.ssb_questions.specs.declared.value.Value.{Value}
+use Rattle.ssb_answers.specs.RowValues.{is_within, pass}
+use Rattle.ssb_base.specs.Base.{Dimensions, Tables}
 use Rattle.ssb_schema.specs.declared.column.Column.{Column}
 use Rattle.ssb_schema.specs.declared.table.Table.{Table}
-use Rattle.dim_index.specs.Keys.{keys_of}
+use Rattle.dimension_index.specs.Keys.{keys_of}
 use Rattle.shared_scan.specs.Tests.{tests_of, passes_at, value_of_row}
 use Rattle.scan_kernel.specs.declared.masks.Masks.{Masks}
 use Rattle.scan_kernel.specs.Places.{mask_in}
 use Rattle.shared_scan.specs.Numbering.{HasMasks}
-use Rattle.scan_answers.specs.Masks.{IsMask}
+use Rattle.scan_kernel.specs.Masks.{IsMask}
 
 -- each distinct value of a column has its mask: which plans' tests of the column it passes
 pub record AreCodeMasks (column : Column) (plans : List Plan) (values : List Value) (masks : List ℕ) : Type 0 where

@@ -2,9 +2,9 @@
 use Rattle.std.specs.Prelude.{Some, None, ℕ, ◌*◌, slice_get, ◌≡◌, ◌≢◌, ◌<◌, List, length, slice_index, Option}
 use Rattle.std.specs.Int.{bit_at}
 use Rattle.scan_kernel.specs.Places.{mask_in}
-use Rattle.ssb_plans.specs.declared.value.Value.{Value}
-use Rattle.dim_index.specs.Codes.{distinct, codes_of}
-use Rattle.scan_answers.specs.Groups.{AreApart, code_in}
+use Rattle.ssb_questions.specs.declared.value.Value.{Value}
+use Rattle.dimension_index.specs.Codes.{distinct, codes_of}
+use Rattle.scan_kernel.specs.Groups.{AreApart, code_in}
 
 -- a code has a number where it stands in the list of codes at that number, and nowhere else
 pub record AreNumbered (numbers kept : List ℕ) : Type 0 where

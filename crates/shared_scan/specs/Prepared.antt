@@ -2,22 +2,22 @@
 use Rattle.std.specs.Prelude.{ℕ, ◌≡◌, ◌<◌, ◌+◌, ◌*◌, ◌&&◌, List, [], ◌∷◌, Option, Some, length, slice_get, slice_index}
 use Rattle.std.specs.List.{AllByRecursion}
 use Rattle.std.specs.Int.{bit_at}
-use Rattle.ssb_schema.specs.Base.{Tables, Dimensions}
+use Rattle.ssb_base.specs.Base.{Tables, Dimensions}
 use Rattle.ssb_schema.specs.declared.column.Column.{Column}
 use Rattle.ssb_schema.specs.declared.table.Table.{Table}
 use Rattle.ssb_schema.specs.declared.table.Table.TheVariants as table
-use Rattle.ssb_plans.specs.declared.plan.Measure.{Measure}
-use Rattle.ssb_plans.specs.declared.plan.Plan.{Plan}
-use Rattle.ssb_plans.specs.declared.value.Value.{Value}
-use Rattle.ssb_queries.specs.RowValues.{customer_value, supplier_value, part_value, date_value, pass, is_within}
-use Rattle.dim_index.specs.Values.{values_of}
+use Rattle.ssb_questions.specs.declared.plan.Measure.{Measure}
+use Rattle.ssb_questions.specs.declared.plan.Plan.{Plan}
+use Rattle.ssb_questions.specs.declared.value.Value.{Value}
+use Rattle.ssb_answers.specs.RowValues.{customer_value, supplier_value, part_value, date_value, pass, is_within}
+use Rattle.dimension_index.specs.Values.{values_of}
 use Rattle.scan_kernel.specs.declared.columns.LineColumns.{LineColumns}
 use Rattle.scan_kernel.specs.declared.columns.GroupColumn.{GroupColumn}
 use Rattle.scan_kernel.specs.declared.columns.Grouping.{Grouping}
 use Rattle.scan_kernel.specs.declared.masks.Masks.{Masks}
 use Rattle.scan_kernel.specs.Places.{mask_in}
-use Rattle.scan_answers.specs.Masks.{IsMask}
-use Rattle.scan_answers.specs.Groups.{AreApart, code_in, counts_of, size_of}
+use Rattle.scan_kernel.specs.Masks.{IsMask}
+use Rattle.scan_kernel.specs.Groups.{AreApart, code_in, counts_of, size_of}
 
 -- the masks tell which plans each row passes, and each pair of quantity and discount; a free place passes none
 pub record AreMasksOf (plans : List Plan) (dimensions : Dimensions) (masks : Masks) : Type 0 where

@@ -1,6 +1,6 @@
 -- A batch made ready.
 use Rattle.std.specs.Prelude.{◌≤◌, length}
-use Rattle.dim_index.specs.Classes.{reduced}
+use Rattle.dimension_index.specs.Classes.{reduced}
 use Rattle.shared_scan.specs.Prepared.{AreMasksOf}
 use Rattle.shared_scan.specs.Masking.{CoverRows}
 use Rattle.shared_scan.specs.Answers.{Prepared}

@@ -1,13 +1,13 @@
 -- A question that is scanned.
 use Rattle.std.specs.Prelude.{ℕ, ℤ, pos, ◌≡◌, ◌≤◌, ◌-ℤ◌, All, List, Some, length, slice_get}
-use Rattle.ssb_schema.specs.Base.{Tables, IsSound}
-use Rattle.ssb_plans.specs.declared.plan.Plan.{Plan}
-use Rattle.ssb_plans.specs.Queries.{plan_over}
-use Rattle.fact_table.specs.declared.place.Place.{Place}
-use Rattle.fact_table.specs.Places.{IsWithin, live_facts}
+use Rattle.ssb_base.specs.Base.{Tables, IsSound}
+use Rattle.ssb_questions.specs.declared.plan.Plan.{Plan}
+use Rattle.ssb_questions.specs.Queries.{plan_over}
+use Rattle.fact_columns.specs.declared.place.Place.{Place}
+use Rattle.fact_columns.specs.Places.{IsWithin, live_facts}
 use Rattle.scan_kernel.specs.declared.columns.LineColumns.{LineColumns}
 use Rattle.scan_kernel.specs.declared.masks.Masks.{Masks}
-use Rattle.scan_kernel.specs.declared.scattered.GroupSums.{GroupSums}
+use Rattle.scan_kernel.specs.declared.sparse.GroupSums.{GroupSums}
 use Rattle.shared_scan.specs.declared.ready.Ready.{Ready}
 use Rattle.shared_scan.specs.Prepared.{AreMasksOf}
 use Rattle.shared_scan.specs.Laws.{AreLinesOf}

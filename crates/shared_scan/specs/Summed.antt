@@ -1,17 +1,17 @@
 -- What a question sums up over places, by group.
 use Rattle.std.specs.Prelude.{ℕ, pos, ◌≡◌, ◌<◌, ◌≤◌, ◌%◌, ◌^◌, ◌-ℤ◌, List, length}
 use Rattle.std.specs.List.{range_with_len}
-use Rattle.ssb_schema.specs.Base.{Tables}
-use Rattle.ssb_plans.specs.declared.plan.Measure.{Measure}
-use Rattle.ssb_plans.specs.Queries.{plan_over}
-use Rattle.ssb_queries.specs.declared.answer.ResultRow.{ResultRow}
+use Rattle.ssb_base.specs.Base.{Tables}
+use Rattle.ssb_questions.specs.declared.plan.Measure.{Measure}
+use Rattle.ssb_questions.specs.Queries.{plan_over}
+use Rattle.ssb_answers.specs.declared.answer.ResultRow.{ResultRow}
 use Rattle.scan_kernel.specs.declared.columns.LineColumns.{LineColumns}
 use Rattle.scan_kernel.specs.declared.columns.GroupColumn.{GroupColumn}
 use Rattle.scan_kernel.specs.declared.masks.Masks.{Masks}
 use Rattle.scan_kernel.specs.Places.{group_at, gain_at, loss_at}
 use Rattle.scan_kernel.specs.Sums.{sum_in}
 use Rattle.scan_kernel.specs.Totals.{taken}
-use Rattle.scan_answers.specs.Scan.{AnswersLines}
+use Rattle.scan_kernel.specs.Scan.{AnswersLines}
 use Rattle.shared_scan.specs.declared.ready.Ready.{Ready}
 use Rattle.shared_scan.specs.Prepared.{IsGroupingBy}
 

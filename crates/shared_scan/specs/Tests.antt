@@ -1,15 +1,15 @@
 -- The tests that plans make of the columns of a dimension.
 use Rattle.std.specs.Prelude.{ℕ, ◌≡◌, ◌||◌, Bool, true, not, nat_eq, All, List, Some, slice_get, slice_index_or}
 use Rattle.std.specs.List.{list_all, list_any}
-use Rattle.ssb_schema.specs.Base.{Tables}
+use Rattle.ssb_base.specs.Base.{Tables}
 use Rattle.ssb_schema.specs.declared.table.Table.{Table}
 use Rattle.ssb_schema.specs.declared.table.Table.TheVariants as table
-use Rattle.ssb_plans.specs.Cond.{holds}
-use Rattle.ssb_plans.specs.declared.cond.Test.{Test}
-use Rattle.ssb_plans.specs.declared.plan.Plan.{Plan}
-use Rattle.ssb_plans.specs.declared.value.Value.{Value}
-use Rattle.ssb_plans.specs.declared.value.Value.TheVariants.{Number}
-use Rattle.dim_index.specs.Values.{values_at}
+use Rattle.ssb_questions.specs.Cond.{holds}
+use Rattle.ssb_questions.specs.declared.cond.Test.{Test}
+use Rattle.ssb_questions.specs.declared.plan.Plan.{Plan}
+use Rattle.ssb_questions.specs.declared.value.Value.{Value}
+use Rattle.ssb_questions.specs.declared.value.Value.TheVariants.{Number}
+use Rattle.dimension_index.specs.Values.{values_at}
 
 -- a plan's tests of a dimension's rows; no question tests rows of the fact table, and any tests will do
 abbrev pub tests_of : Table → Plan → List Test

@@ -1,12 +1,12 @@
 -- The rows of the questions of a batch from their totals.
 use Rattle.std.specs.Prelude.{ℕ, pos, ◌≡◌, ◌<◌, ◌^◌, ◌-ℤ◌, List, length, slice_index, slice_index_or, vec_len}
-use Rattle.ssb_plans.specs.Queries.{plan_over}
-use Rattle.ssb_queries.specs.declared.answer.Rows.{Rows}
+use Rattle.ssb_questions.specs.Queries.{plan_over}
+use Rattle.ssb_answers.specs.declared.answer.Rows.{Rows}
 use Rattle.scan_kernel.specs.declared.totals.Totals.{Totals}
-use Rattle.scan_answers.specs.Groups.{counts_of, size_of}
-use Rattle.scan_answers.specs.Scan.{AnswersLines}
-use Rattle.ssb_schema.specs.Base.{Tables}
-use Rattle.ssb_queries.specs.declared.answer.ResultRow.{ResultRow}
+use Rattle.scan_kernel.specs.Groups.{counts_of, size_of}
+use Rattle.scan_kernel.specs.Scan.{AnswersLines}
+use Rattle.ssb_base.specs.Base.{Tables}
+use Rattle.ssb_answers.specs.declared.answer.ResultRow.{ResultRow}
 use Rattle.scan_kernel.specs.declared.columns.LineColumns.{LineColumns}
 use Rattle.scan_kernel.specs.declared.masks.Masks.{Masks}
 use Rattle.shared_scan.specs.declared.ready.Ready.{Ready}

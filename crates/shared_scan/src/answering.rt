@@ -8,8 +8,8 @@ ghost use Rattle.shared_scan.specs.Answers.{answers_after};
 use crate::over_slices::{scan_slices, scan_slices_parallel};
 use crate::prepared::PreparedBatch;
 use fact_columns::Columns;
-use ssb_queries::Rows;
-use ssb_schema::MOST_LINES;
+use ssb_answers::Rows;
+use ssb_base::MOST_LINES;
 use std::alloc::{AllocError, Global};
 use std::thread::Threads;
 

@@ -4,9 +4,9 @@ ghost use Rattle.shared_scan.specs.Prepared.{AreMasksOf};
 ghost use Rattle.shared_scan.specs.Masking.{CoverRows};
 
 use crate::masking::{dimension_masks, terms_masks};
-use dim_index::FirstRows;
+use dimension_index::FirstRows;
 use scan_kernel::Masks;
-use ssb_queries::Plan;
+use ssb_answers::Plan;
 use ssb_schema::{Items, Table};
 use std::alloc::{AllocError, Global};
 

@@ -1,13 +1,13 @@
 //! The group columns of a question, made ready.
 ghost use Rattle.std.specs.Prelude.{◌≡◌, ◌≢◌, ℕ, ◌<◌, ◌≤◌, ◌*◌, ◌^◌, All, IfOk, length, map, slice_index};
 ghost use Rattle.std.specs.Prelude.{slice_index_or};
-ghost use Rattle.ssb_plans.specs.declared.value.Value.TheVariants.{Number};
-ghost use Rattle.dim_index.specs.Values.{values_of};
+ghost use Rattle.ssb_questions.specs.declared.value.Value.TheVariants.{Number};
+ghost use Rattle.dimension_index.specs.Values.{values_of};
 ghost use Rattle.shared_scan.specs.Numbering.{HasMasks, IsPreparedColumn};
 
 use crate::numbering::{NONE, number_codes};
-use dim_index::{Dictionary, FirstRows};
-use ssb_queries::Value;
+use dimension_index::{Dictionary, FirstRows};
+use ssb_answers::Value;
 use ssb_schema::{Column, Items};
 use std::alloc::{AllocError, Global};
 

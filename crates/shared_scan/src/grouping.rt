@@ -1,7 +1,7 @@
 //! The grouping of a question, as the loops read it.
 ghost use Rattle.std.specs.Prelude.{◌≡◌, All, IfOk, length};
-ghost use Rattle.dim_index.specs.Codes.{codes_of};
-ghost use Rattle.dim_index.specs.Values.{values_of};
+ghost use Rattle.dimension_index.specs.Codes.{codes_of};
+ghost use Rattle.dimension_index.specs.Values.{values_of};
 ghost use Rattle.shared_scan.specs.GroupColumns.{AreGroupColumns, IsGroupColumn};
 ghost use Rattle.shared_scan.specs.Groupings.{IsDenseGrouping, IsReadyGrouping, AreReadyGroupings};
 ghost use Rattle.shared_scan.specs.Parts.{parts_in};
@@ -9,7 +9,7 @@ ghost use Rattle.shared_scan.specs.Prepared.{positions_in};
 
 use crate::parts::Parts;
 use crate::ready::Ready;
-use dim_index::FirstRows;
+use dimension_index::FirstRows;
 use scan_kernel::{GroupColumn, Grouping, LineColumns};
 use ssb_schema::{Column, Items, Table};
 use std::alloc::{AllocError, Global};

@@ -1,7 +1,7 @@
 //! All group columns of a question, made ready.
 ghost use Rattle.std.specs.Prelude.{◌≡◌, ℕ, ◌<◌, ◌≤◌, IfOk, length};
-ghost use Rattle.scan_answers.specs.Groups.{counts_of, size_of};
-ghost use Rattle.dim_index.specs.Values.{values_of};
+ghost use Rattle.scan_kernel.specs.Groups.{counts_of, size_of};
+ghost use Rattle.dimension_index.specs.Values.{values_of};
 ghost use Rattle.ssb_schema.specs.declared.column.Column.{Column as GroupedBy};
 ghost use Rattle.shared_scan.specs.Prepared.{masks_in};
 ghost use Rattle.shared_scan.specs.Grouped.{ArePrepared, HaveMasks};
@@ -9,9 +9,9 @@ ghost use Rattle.shared_scan.specs.Parts.{parts_in, IsFew};
 
 use crate::group_columns::prepare;
 use crate::parts::{Parts, parts_for};
-use dim_index::FirstRows;
+use dimension_index::FirstRows;
 use scan_kernel::Masks;
-use ssb_queries::Value;
+use ssb_answers::Value;
 use ssb_schema::{Column, Items, Table};
 use std::alloc::{AllocError, Global};
 

@@ -21,7 +21,7 @@ mod plan_tests;
 mod prepare;
 mod prepared;
 mod ready;
-mod scattered;
+mod sparse;
 mod sums;
 mod tested;
 

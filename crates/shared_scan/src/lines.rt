@@ -1,12 +1,12 @@
 //! The columns of the fact table, as the loops read them.
 ghost use Rattle.std.specs.Prelude.{List, map};
-ghost use Rattle.fact_table.specs.declared.place.Place.{Place};
-ghost use Rattle.fact_table.specs.Columns.{AreColumnsOf};
+ghost use Rattle.fact_columns.specs.declared.place.Place.{Place};
+ghost use Rattle.fact_columns.specs.Columns.{AreColumnsOf};
 ghost use Rattle.shared_scan.specs.Classed.{classed};
 ghost use Rattle.shared_scan.specs.Laws.{AreLinesOf};
 ghost use Rattle.shared_scan.specs.Lines.{HaveOneLength};
 
-use fact_table::Slices;
+use fact_columns::Slices;
 use scan_kernel::LineColumns;
 
 /// The same columns, of one length: each row by its class.

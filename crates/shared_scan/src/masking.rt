@@ -3,15 +3,15 @@
 //! Each distinct value of a tested column is looked at once for each plan, and has a mask of its own: a plan that does
 //! not test the column takes every value. A row's mask is then the `&` of those of its values.
 ghost use Rattle.std.specs.Prelude.{◌≡◌, ℕ, ◌≤◌, ◌<◌, ◌/◌, ◌%◌, ◌&&◌, All, length, IfOk, bit_and, slice_index};
-ghost use Rattle.scan_answers.specs.Masks.{IsMask};
-ghost use Rattle.ssb_queries.specs.RowValues.{is_within};
-ghost use Rattle.dim_index.specs.Keys.{keys_of};
+ghost use Rattle.scan_kernel.specs.Masks.{IsMask};
+ghost use Rattle.ssb_answers.specs.RowValues.{is_within};
+ghost use Rattle.dimension_index.specs.Keys.{keys_of};
 ghost use Rattle.shared_scan.specs.Masking.{AreCodeMasks, AreRowMasks, TellDimension, TellTerms};
 
 use crate::plan_tests::tested_places;
 use crate::tested::{Cell, Terms, Tested};
-use dim_index::{Dictionary, FirstRows};
-use ssb_queries::Plan;
+use dimension_index::{Dictionary, FirstRows};
+use ssb_answers::Plan;
 use ssb_schema::{Column, Items, Table};
 use std::alloc::{AllocError, Global};
 

@@ -1,8 +1,8 @@
 //! The pass over the columns of a list of places.
 ghost use Rattle.std.specs.Prelude.{◌≡◌, List, IfOk};
-ghost use Rattle.fact_table.specs.declared.place.Place.{Place};
-ghost use Rattle.fact_table.specs.Columns.{AreColumnsOf};
-ghost use Rattle.fact_table.specs.Places.{live_facts};
+ghost use Rattle.fact_columns.specs.declared.place.Place.{Place};
+ghost use Rattle.fact_columns.specs.Columns.{AreColumnsOf};
+ghost use Rattle.fact_columns.specs.Places.{live_facts};
 ghost use Rattle.shared_scan.specs.Answers.{answers_over};
 ghost use Rattle.shared_scan.specs.Lines.{AreOfBase, HavePlaces};
 
@@ -10,9 +10,9 @@ use crate::grouping::groupings;
 use crate::lines::lines_of;
 use crate::prepared::PreparedBatch;
 use crate::sums::{Scan, batch_rows};
-use fact_table::Slices;
+use fact_columns::Slices;
 use scan_kernel::{parallel_totals, range_totals};
-use ssb_queries::Rows;
+use ssb_answers::Rows;
 use std::alloc::{AllocError, Global};
 use std::thread::Threads;
 

@@ -2,7 +2,7 @@
 ghost use Rattle.std.specs.Prelude.{◌≡◌, ℕ, All, IfOk, OnOk, true};
 ghost use Rattle.shared_scan.specs.Tests.{tests_of, is_place, CoverTests};
 
-use ssb_queries::{Plan, Test};
+use ssb_answers::{Plan, Test};
 use ssb_schema::Table;
 use std::alloc::{AllocError, Global};
 

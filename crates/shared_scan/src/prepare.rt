@@ -1,17 +1,17 @@
 //! Questions are made ready.
 ghost use Rattle.std.specs.Prelude.{◌≡◌, ℕ, ◌<◌, ◌≤◌, IfOk, length};
-ghost use Rattle.dim_index.specs.Values.{values_of};
+ghost use Rattle.dimension_index.specs.Values.{values_of};
 ghost use Rattle.ssb_schema.specs.declared.column.Column.{Column as GroupedBy};
-ghost use Rattle.ssb_plans.specs.Queries.{plan_over};
+ghost use Rattle.ssb_questions.specs.Queries.{plan_over};
 ghost use Rattle.shared_scan.specs.Grouped.{HaveMasks};
 ghost use Rattle.shared_scan.specs.Batch.{plans_of, IsReady};
 
 use crate::groups::prepare_groups;
 use crate::ready::Ready;
-use dim_index::FirstRows;
+use dimension_index::FirstRows;
 use scan_kernel::Masks;
-use ssb_queries::question::plan;
-use ssb_queries::{Plan, Question};
+use ssb_answers::question::plan;
+use ssb_answers::{Plan, Question};
 use std::alloc::{AllocError, Global};
 
 /// The questions' plans.

@@ -1,6 +1,6 @@
 //! A question made ready.
 use crate::groups::Groups;
-use ssb_queries::{Plan, Question};
+use ssb_answers::{Plan, Question};
 
 /// A question with its plan, and its groups.
 #[derive(Drop)]

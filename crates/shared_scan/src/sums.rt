@@ -1,20 +1,19 @@
 //! The rows of questions from their totals.
 ghost use Rattle.std.specs.Prelude.{◌≡◌, ℕ, ◌<◌, ◌≤◌, ◌^◌, ◌-ℤ◌, pos, IfOk, length, slice_index, slice_index_or};
 ghost use Rattle.std.specs.Prelude.{vec_len};
-ghost use Rattle.scan_answers.specs.Groups.{counts_of, size_of};
-ghost use Rattle.scan_answers.specs.Scan.{AnswersLines};
-ghost use Rattle.ssb_plans.specs.Queries.{plan_over};
+ghost use Rattle.scan_kernel.specs.Groups.{counts_of, size_of};
+ghost use Rattle.scan_kernel.specs.Scan.{AnswersLines};
+ghost use Rattle.ssb_questions.specs.Queries.{plan_over};
 ghost use Rattle.scan_kernel.specs.Places.{CanSearch};
 ghost use Rattle.shared_scan.specs.TotalRows.{AreSmall, FitGroups, AreDenseRows, CanAnswer, CanAnswerAll, AreRowsOf};
 ghost use Rattle.shared_scan.specs.TotalRows.{AreBatchRows};
 
 use crate::parts::Parts;
 use crate::ready::Ready;
-use crate::scattered::scattered_rows;
-use dim_index::FirstRows;
-use scan_answers::answer_question;
-use scan_kernel::{LineColumns, Masks, Totals};
-use ssb_queries::{Question, ResultRow, Rows, Value};
+use crate::sparse::sparse_rows;
+use dimension_index::FirstRows;
+use scan_kernel::{LineColumns, Masks, Totals, answer_question};
+use ssb_answers::{Question, ResultRow, Rows, Value};
 use ssb_schema::Items;
 use std::alloc::{AllocError, Global};
 
@@ -103,7 +102,7 @@ fn question_rows(
 {
     let list = match &ready.groups.parts {
         Parts::Narrow(_) => dense_rows(alloc, ready, totals)?,
-        Parts::Wide(parts) => scattered_rows(
+        Parts::Wide(parts) => sparse_rows(
             alloc,
             scan.index,
             &scan.lines,

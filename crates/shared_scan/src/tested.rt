@@ -1,16 +1,16 @@
 //! What the tests of plans look at.
 ghost use Rattle.std.specs.Prelude.{◌≡◌};
-ghost use Rattle.ssb_plans.specs.Cond.{column_value};
+ghost use Rattle.ssb_questions.specs.Cond.{column_value};
 ghost use Rattle.shared_scan.specs.Tests.{passes_at};
 
 use crate::plan_tests::tests_of;
-use ssb_queries::{ColumnValue, Plan, Test, is_within};
+use ssb_answers::{ColumnValue, Plan, Test, is_within};
 use ssb_schema::Table;
 
 /// What a plan takes or not.
 pub trait Tested {
     ghost use Rattle.std.specs.Prelude.{Bool};
-    ghost use Rattle.ssb_plans.specs.declared.plan.Plan.{Plan as Planned};
+    ghost use Rattle.ssb_questions.specs.declared.plan.Plan.{Plan as Planned};
 
     ghost takes: { Planned → Self → Bool };
 
@@ -35,7 +35,7 @@ pub struct Cell<'a> {
 }
 
 impl Tested for Cell<'_> {
-    ghost use Rattle.ssb_plans.specs.Cond.{column_value};
+    ghost use Rattle.ssb_questions.specs.Cond.{column_value};
     ghost use Rattle.shared_scan.specs.Tests.{passes_at, tests_of};
 
     ghost takes = { λ plan cell. passes_at (tests_of cell.table plan) cell.place (column_value cell.value) };
@@ -54,7 +54,7 @@ pub struct Terms {
 
 impl Tested for Terms {
     ghost use Rattle.std.specs.Prelude.{◌&&◌};
-    ghost use Rattle.ssb_queries.specs.RowValues.{is_within};
+    ghost use Rattle.ssb_answers.specs.RowValues.{is_within};
 
     ghost takes = { λ plan terms. is_within plan.quantity terms.quantity && is_within plan.discount terms.discount };
 

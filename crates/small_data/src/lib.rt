@@ -11,10 +11,10 @@
 pub mod stored;
 
 ghost use Rattle.std.specs.Prelude.{Some};
-ghost use Rattle.ssb_load.specs.Load.{AreTexts};
+ghost use Rattle.ssb_text.specs.Load.{AreTexts};
 ghost use Rattle.small_data.specs.SmallTexts.{small_texts};
 
-use ssb_load::Tables;
+use ssb_text::Tables;
 
 /// Its customers.
 pub const CUSTOMER: &str = "\

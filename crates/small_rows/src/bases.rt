@@ -2,7 +2,8 @@
 
 use crate::rows::dimensions;
 use crate::sale::{lines, loaded};
-use ssb_schema::{Base, BaseError, BaseParts, Limits, Line};
+use ssb_base::{Base, BaseError, BaseParts, Limits};
+use ssb_schema::Line;
 use std::alloc::{AllocError, Global};
 use std::sync::Arc;
 use std::test::Fail;

@@ -1,7 +1,8 @@
 //! Rows of the four dimensions.
 
+use ssb_base::BaseParts;
 use ssb_schema::{
-    BaseParts, Customer, CustomerFields, DateFields, DateRow, Part, PartFields, Refused, Supplier,
+    Customer, CustomerFields, DateFields, DateRow, Part, PartFields, Refused, Supplier,
     SupplierFields, Text,
 };
 use std::alloc::Global;

@@ -1,3 +1,13 @@
-pub mod AskedLaws
-pub mod OpeningLaws
-pub mod ReportLaws
+pub mod MemberLaws
+pub mod OrderedLaws
+pub mod OrderLaws
+pub mod JoinLaws
+pub mod ColumnLaws
+pub mod SumLaws
+pub mod PassingLaws
+pub mod PermutationLaws
+pub mod TotalLaws
+pub mod RowLaws
+pub mod AmountLaws
+pub mod RearrangementLaws
+pub mod SmallDataSetLaws

@@ -1,2 +1,11 @@
-pub mod Asked
-pub mod Reported
+pub mod RowValues
+pub mod Combination
+pub mod Joined
+pub mod ColumnValues
+pub mod Ordered
+pub mod Answer
+pub mod Totals
+pub mod AnswerEq
+pub mod AnswerEqLaws
+pub mod Sums
+pub mod Laws

@@ -1,25 +1,38 @@
-//! The word `query`: the reports of one question, or of all thirteen queries, over five table files.
+//! What a query of the Star Schema Benchmark means, and the evaluator that computes it: the reference, which no program runs.
+//!
+//! A line is joined with the customer, supplier, part and date that it names. The combinations that
+//! pass a question's tests are grouped; each group gives one row, with the sum of the question's
+//! measure over it, and the rows stand in the question's order. This is the one definition of what a
+//! report says: the columnar scan, the server and the audit of a trace are all stated by it.
 //!
 //! ```text
-//! five texts ── load ─▶ base ── index, columns ─▶ one pass of the scan ─▶ answers ─▶ reports
-//! name and constants ── ask ─▶ question ─────────────┘
+//! lines ── joined by key ──▶ combinations that pass ── grouped, added up ──▶ rows, in order
 //! ```
 //!
-//! The contracts of [`run_query`] and [`run_all`] (`specs/Asked.antt`, `specs/Reported.antt`): with status 0 they have
-//! written exactly the report of the answers, as the benchmark defines them, over the base that the texts spell; else
-//! nothing, or a part of that report from its beginning; and status 1 tells of refused data alone, 2 of words that ask
-//! no question.
+//! The contract: [`evaluate`] gives the rows of the definition and no others, and fails for want of
+//! memory alone. The definition stands in `specs/Combination.antt` (`combinations`) and
+//! `specs/Answer.antt` (`answer_of`); `laws` has what follows of every answer, and
+//! `proofs/SmallDataSetLaws.antt` computes it on small data.
 //!
 //! ```text
-//! let status = run_query(rt, settings, tables, "Q2.1", &["MFGR#12", "EUROPE"], &mut out, &mut err);
+//! let question = Question::standard(alloc, Query::Q4_1)?;
+//! let rows = evaluate(alloc, &base, base.lines(), &question)?;
 //! ```
 #![tactic(auto)]
 
-mod asked;
-mod opening;
-mod query;
-mod stopwatch;
-#[cfg(test)]
-mod tests;
+mod answer;
+mod evaluator;
+mod joined;
+pub mod laws;
+mod row_values;
+mod sort;
+mod totals;
 
-pub use query::{Settings, run_all, run_query};
+pub use answer::{Answer, ResultRow, Rows, Unserved, same_rows};
+pub use evaluator::evaluate;
+pub use row_values::{QueryFields, is_within};
+pub use sort::sort_rows;
+pub use ssb_questions::{
+    ColumnValue, Cond, ConstantKind, ConstantsFault, Measure, NoSuchQuery, NumberRange, OrderKey,
+    Plan, QUERIES, Query, Question, QuestionError, Test, Value, question,
+};

@@ -37,9 +37,9 @@ use Rattle.std.proofs.lemmas.List.{reverse-append}
 use Rattle.std.proofs.Math.Nat.{eq-or-lt_of_le}
 use Rattle.std.proofs.lemmas.Slice.Eq.{slice_eq-Decides}
 use Rattle.ssb_schema.proofs.FirstFaultLaws.{take_with_element}
-use Rattle.ssb_schema.specs.Base.{Tables}
-use Rattle.ssb_queries.specs.AnswerEq.{row_eq}
-use Rattle.ssb_queries.specs.AnswerEqLaws.{row_Decides}
+use Rattle.ssb_base.specs.Base.{Tables}
+use Rattle.ssb_answers.specs.AnswerEq.{row_eq}
+use Rattle.ssb_answers.specs.AnswerEqLaws.{row_Decides}
 use Rattle.row_store.specs.History.{CommitRecord}
 use Rattle.row_store.specs.Refusals.{refusal_of}
 use Rattle.ssb_audit.specs.Legal.{IsTrueOf, NeverGoBack, IsLegalTrace, NoFaultIsLegal}

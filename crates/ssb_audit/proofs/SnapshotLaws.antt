@@ -24,7 +24,7 @@ use Rattle.std.proofs.Common.{
 }
 use Rattle.std.proofs.lemmas.List.{take_more, take-append-drop, append-nil, length-take}
 use Rattle.std.proofs.Math.Seq.{take-append-add}
-use Rattle.ssb_schema.specs.Base.{Tables, IsSound}
+use Rattle.ssb_base.specs.Base.{Tables, IsSound}
 use Rattle.row_store.specs.History.{CommitRecord, lines_after}
 use Rattle.row_store.specs.Legal.{IsLegal}
 use Rattle.row_store.specs.State.{State, StandsFor, state_of, state_after}

@@ -1,6 +1,6 @@
 -- What a legal trace is.
 use Rattle.std.specs.Prelude.{◌≡◌, ℕ, ◌<◌, ◌≤◌, ◌↔◌, List, length, take, slice_get, Some, None}
-use Rattle.ssb_schema.specs.Base.{Tables}
+use Rattle.ssb_base.specs.Base.{Tables}
 use Rattle.row_store.specs.History.{CommitRecord}
 use Rattle.row_store.specs.Legal.{IsLegal}
 use Rattle.ssb_audit.specs.Traces.{rows_after, trace_fault}

@@ -1,6 +1,6 @@
 -- Columns that can be scanned.
 use Rattle.std.specs.Prelude.{◌≤◌, List, length}
-use Rattle.ssb_schema.specs.declared.limits.TheConstants.{MOST_LINES}
+use Rattle.ssb_base.specs.declared.limits.TheConstants.{MOST_LINES}
 use Rattle.row_store.specs.History.{CommitRecord, lines_after}
 use Rattle.row_store.specs.State.{StandsFor}
 use Rattle.fact_columns.specs.Stored.{Stored, columns_state}

@@ -25,11 +25,11 @@ use Rattle.std.specs.Prelude.{
 use Rattle.std.specs.List.{count_by}
 use Rattle.std.specs.Option.{option_or, option_map, option_map_or}
 use Rattle.std.specs.Cmp.Lexicographic.{pointwise}
-use Rattle.ssb_schema.specs.Base.{Tables}
+use Rattle.ssb_base.specs.Base.{Tables}
 use Rattle.ssb_schema.specs.Facts.{facts_of}
-use Rattle.ssb_queries.specs.Answer.{answer_of}
-use Rattle.ssb_queries.specs.AnswerEq.{row_eq}
-use Rattle.ssb_queries.specs.declared.answer.ResultRow.{ResultRow}
+use Rattle.ssb_answers.specs.Answer.{answer_of}
+use Rattle.ssb_answers.specs.AnswerEq.{row_eq}
+use Rattle.ssb_answers.specs.declared.answer.ResultRow.{ResultRow}
 use Rattle.row_store.specs.History.{CommitRecord, lines_after}
 use Rattle.row_store.specs.Refusals.{refusal_of}
 use Rattle.ssb_audit.specs.declared.trace.Told.{Told}

@@ -2,12 +2,12 @@
 use Rattle.std.specs.Prelude.{◌≡◌, ℕ, ◌<◌, ◌≤◌, ◌⊎◌, Bool, true, false, List, length, take, map, slice_get, Some}
 use Rattle.std.specs.List.{enumerate_from}
 use Rattle.std.specs.Cmp.Lexicographic.{pointwise}
-use Rattle.ssb_schema.specs.Base.{Tables}
-use Rattle.ssb_plans.specs.declared.query.Query.{Query}
-use Rattle.ssb_plans.specs.declared.value.Value.{Value}
-use Rattle.ssb_queries.specs.AnswerEq.{row_eq}
-use Rattle.ssb_queries.specs.declared.answer.ResultRow.{ResultRow}
-use Rattle.ssb_queries.specs.declared.answer.Rows.{Rows}
+use Rattle.ssb_base.specs.Base.{Tables}
+use Rattle.ssb_questions.specs.declared.query.Query.{Query}
+use Rattle.ssb_questions.specs.declared.value.Value.{Value}
+use Rattle.ssb_answers.specs.AnswerEq.{row_eq}
+use Rattle.ssb_answers.specs.declared.answer.ResultRow.{ResultRow}
+use Rattle.ssb_answers.specs.declared.answer.Rows.{Rows}
 use Rattle.row_store.specs.History.{CommitRecord}
 use Rattle.ssb_audit.specs.Traces.{rows_after}
 use Rattle.ssb_audit.specs.declared.trace.Told.{Told}

@@ -11,7 +11,7 @@ use crate::fault::AuditFault;
 use crate::trace::Told;
 use crate::walk::first_wrong;
 use row_store::Commit;
-use ssb_schema::Base;
+use ssb_base::Base;
 use std::alloc::Global;
 use std::hash::RandomState;
 use std::sync::Arc;

@@ -7,7 +7,7 @@ ghost use Rattle.ssb_audit.specs.Traces.{Tells, refused_commit, first_from, comm
 
 use crate::fault::AuditFault;
 use row_store::{ApplyError, Commit, RowStore};
-use ssb_schema::Base;
+use ssb_base::Base;
 use std::alloc::Global;
 use std::hash::RandomState;
 use std::sync::Arc;

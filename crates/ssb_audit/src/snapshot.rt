@@ -7,13 +7,13 @@ ghost use Rattle.fact_columns.specs.Stored.{columns_state};
 ghost use Rattle.shared_scan.specs.Answers.{answers_after};
 ghost use Rattle.ssb_audit.specs.Snapshots.{AreSnapshot};
 
-use dim_index::DimIndex;
+use dimension_index::DimIndex;
 use fact_columns::Columns;
 use row_store::{Commit, Replica};
 use shared_scan::{PreparedBatch, scan_parallel};
-use ssb_plans::Question;
-use ssb_queries::Rows;
-use ssb_schema::Base;
+use ssb_answers::Rows;
+use ssb_base::Base;
+use ssb_questions::Question;
 use std::alloc::{AllocError, Global};
 use std::sync::Arc;
 use std::thread::Threads;

@@ -1,8 +1,8 @@
 //! What a run leaves behind: its commits, and what its clients were told.
 
 use row_store::Commit;
-use ssb_plans::Question;
-use ssb_queries::ResultRow;
+use ssb_answers::ResultRow;
+use ssb_questions::Question;
 use ssb_schema::Items;
 
 /// An answer that a client got: the rows of its question after the first `at` commits.

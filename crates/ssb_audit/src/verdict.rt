@@ -8,7 +8,7 @@ use crate::answers::check_answers;
 use crate::commits::check_commits;
 use crate::fault::AuditFault;
 use crate::trace::Trace;
-use ssb_schema::Base;
+use ssb_base::Base;
 use std::alloc::Global;
 use std::hash::RandomState;
 use std::sync::Arc;

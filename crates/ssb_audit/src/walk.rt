@@ -13,12 +13,12 @@ ghost use Rattle.ssb_audit.specs.Visits.{IsIn, AreAsked, has_rows, IsFirstOther,
 use crate::snapshot::{advance, index_of, rows_over};
 use crate::trace::Told;
 use crate::visits::{Visit, batch_end, visits_of};
-use dim_index::DimIndex;
+use dimension_index::DimIndex;
 use fact_columns::Columns;
 use row_store::Commit;
-use ssb_plans::Question;
-use ssb_queries::Rows;
-use ssb_schema::Base;
+use ssb_answers::Rows;
+use ssb_base::Base;
+use ssb_questions::Question;
 use std::alloc::{AllocError, Global};
 use std::hash::RandomState;
 use std::sync::Arc;

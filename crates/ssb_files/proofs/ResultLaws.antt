@@ -1,8 +1,8 @@
 -- What a result tells of one outcome.
 use Rattle.std.specs.Prelude.{◌≡◌, ◌≢◌, true, false, is_err, Result, Ok, Err, MatchResult, IfOk, IfErr, OnOk, OnErr}
 use Rattle.std.proofs.Common.{◌∙◌, sym}
-use Rattle.ssb_faults.specs.Status.{status_of}
-use Rattle.ssb_faults.specs.declared.fault.Fault.{Fault}
+use Rattle.ssb_files.specs.Status.{status_of}
+use Rattle.ssb_files.specs.declared.fault.Fault.{Fault}
 
 pub on_ok_from : {X E : Type 0} (r : Result X E) (A B P : Type 0) → MatchResult r (λ _. A) (λ _. B) → (A → P) → OnOk r P
 on_ok_from (Ok x) A B P of f = f of

@@ -1,11 +1,11 @@
 -- The base that five texts spell, and the texts that spell none.
 use Rattle.std.specs.Prelude.{◌≡◌, ℕ, List}
-use Rattle.ssb_faults.specs.Status.{data_status}
-use Rattle.ssb_load.specs.Load.{IsLoadFault, SpellsBase}
-use Rattle.ssb_load.specs.declared.error.LoadError.{LoadError}
-use Rattle.ssb_schema.specs.Base.{Tables}
-use Rattle.ssb_schema.specs.Limits.{limits_of}
-use Rattle.ssb_schema.specs.declared.limits.Limits.{Limits}
+use Rattle.ssb_files.specs.Status.{data_status}
+use Rattle.ssb_text.specs.Load.{IsLoadFault, SpellsBase}
+use Rattle.ssb_text.specs.declared.error.LoadError.{LoadError}
+use Rattle.ssb_base.specs.Base.{Tables}
+use Rattle.ssb_base.specs.Limits.{limits_of}
+use Rattle.ssb_base.specs.declared.limits.Limits.{Limits}
 use Rattle.ssb_schema.specs.declared.table.Table.{Table}
 
 -- the five texts spell this base, within the greatest limits

@@ -1,7 +1,7 @@
 -- The scripts that sources spell, and those that spell none.
 use Rattle.std.specs.Prelude.{◌≡◌, ℕ, List, ◌∷◌, ◌++◌, Option, Some}
 use Rattle.std.specs.List.{AllZip}
-use Rattle.ssb_faults.specs.Status.{script_status}
+use Rattle.ssb_files.specs.Status.{script_status}
 use Rattle.ssb_report.specs.Run.{AreAsked, most_records}
 use Rattle.ssb_script.specs.Requests.{requests_of}
 use Rattle.ssb_script.specs.Scripts.{IsScriptFault}

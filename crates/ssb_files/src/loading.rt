@@ -2,13 +2,13 @@
 
 ghost use Rattle.std.specs.Prelude.{◌≡◌, ◌≢◌, ℕ, List, IfOk, IfErr};
 ghost use Rattle.ssb_files.specs.Loaded.{AreRefused, IsLoaded};
-ghost use Rattle.ssb_faults.specs.Status.{status_of};
-ghost use Rattle.ssb_load.specs.Load.{AreTexts};
+ghost use Rattle.ssb_files.specs.Status.{status_of};
+ghost use Rattle.ssb_text.specs.Load.{AreTexts};
 ghost use Rattle.ssb_schema.specs.declared.table.Table.{Table};
 
-use ssb_faults::Fault;
-use ssb_load::{Tables, load};
-use ssb_schema::{Base, Limits};
+use crate::fault::Fault;
+use ssb_base::{Base, Limits};
+use ssb_text::{Tables, load};
 use std::alloc::Global;
 use std::io::Read;
 

@@ -1,7 +1,7 @@
 //! The files that the words name, opened in the order in which faults are told.
 
-use ssb_faults::Fault;
-use ssb_load::Tables;
+use crate::fault::Fault;
+use ssb_text::Tables;
 use std::fs;
 use std::io::BufWriter;
 use std::rt::Files;

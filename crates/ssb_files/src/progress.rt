@@ -9,7 +9,7 @@
 //! terminal shows is in no contract.
 ghost use Rattle.std.specs.Prelude.{◌≡◌};
 
-use ssb_load::Tables;
+use ssb_text::Tables;
 use std::alloc::{AllocError, Global};
 use std::io::{Print, Read};
 use std::time::{Clock, Duration, Instant};

@@ -2,9 +2,9 @@
 
 ghost use Rattle.std.specs.Prelude.{◌≡◌, ◌≢◌, IfOk, IfErr, map};
 ghost use Rattle.ssb_files.specs.Scripts.{AreScripts, HasRefused};
-ghost use Rattle.ssb_faults.specs.Status.{status_of};
+ghost use Rattle.ssb_files.specs.Status.{status_of};
 
-use ssb_faults::Fault;
+use crate::fault::Fault;
 use ssb_report::MOST_RECORDS;
 use ssb_script::{Script, read_script};
 use std::alloc::Global;

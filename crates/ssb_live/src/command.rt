@@ -1,17 +1,16 @@
 //! What the words of a command line do.
 
+use audit_command::run_audit;
 use clap::ArgMatches;
 use command_line::{matches, tell};
-use ssb_answers::{Settings, run_all, run_query};
-use ssb_auditing::run_audit;
-use ssb_demo::demo;
-use ssb_faults::Fault;
+use demo_command::demo;
+use query_command::{Settings, run_all, run_query};
+use run_command::{RunSettings, run_scripts};
 use ssb_files::{
-    Screen, Source, make_file, open_file, open_files, open_tables, watch, watch_scripts,
+    Fault, Screen, Source, make_file, open_file, open_files, open_tables, watch, watch_scripts,
     watch_tables,
 };
-use ssb_load::Tables;
-use ssb_serving::{RunSettings, run_scripts};
+use ssb_text::Tables;
 use std::hash::RandomState;
 use std::io::{BufWriter, Print, Read, Write};
 use std::random::RandomSource;

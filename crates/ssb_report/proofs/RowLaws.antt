@@ -18,10 +18,10 @@ use Rattle.std.proofs.Common.{
   append-nil,
 }
 use Rattle.std.specs.List.{join_with_byte}
-use Rattle.ssb_plans.specs.Query.{sum_first}
-use Rattle.ssb_plans.specs.declared.query.Query.{Query}
-use Rattle.ssb_plans.specs.declared.value.Value.{Value}
-use Rattle.ssb_queries.specs.declared.answer.ResultRow.{ResultRow}
+use Rattle.ssb_questions.specs.Query.{sum_first}
+use Rattle.ssb_questions.specs.declared.query.Query.{Query}
+use Rattle.ssb_questions.specs.declared.value.Value.{Value}
+use Rattle.ssb_answers.specs.declared.answer.ResultRow.{ResultRow}
 use Rattle.ssb_report.specs.Numbers.{line_feed, sum_text}
 use Rattle.ssb_report.specs.AnswerText.{value_text, row_text, with_bar, after_bar}
 

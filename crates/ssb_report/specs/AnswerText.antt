@@ -1,15 +1,15 @@
 -- The report of an answer.
 use Rattle.std.specs.Prelude.{ℕ, List, [], ◌∷◌, ◌++◌, map, length, flat_map, codes, decimal, if◌then◌else◌}
 use Rattle.std.specs.List.{concat, join_with_byte}
-use Rattle.ssb_plans.specs.Query.{name_of, sum_first}
-use Rattle.ssb_plans.specs.declared.query.Query.{Query}
-use Rattle.ssb_plans.specs.declared.value.Value.{Value}
-use Rattle.ssb_plans.specs.declared.value.Value.TheVariants.{Text, Number}
-use Rattle.ssb_queries.specs.declared.answer.ResultRow.{ResultRow}
-use Rattle.ssb_queries.specs.declared.answer.Answer.{Answer}
-use Rattle.ssb_queries.specs.declared.answer.Answer.TheVariants as answer
-use Rattle.ssb_queries.specs.declared.answer.Unserved.{Unserved}
-use Rattle.ssb_queries.specs.declared.answer.Unserved.TheVariants as unserved
+use Rattle.ssb_questions.specs.Query.{name_of, sum_first}
+use Rattle.ssb_questions.specs.declared.query.Query.{Query}
+use Rattle.ssb_questions.specs.declared.value.Value.{Value}
+use Rattle.ssb_questions.specs.declared.value.Value.TheVariants.{Text, Number}
+use Rattle.ssb_answers.specs.declared.answer.ResultRow.{ResultRow}
+use Rattle.ssb_answers.specs.declared.answer.Answer.{Answer}
+use Rattle.ssb_answers.specs.declared.answer.Answer.TheVariants as answer
+use Rattle.ssb_answers.specs.declared.answer.Unserved.{Unserved}
+use Rattle.ssb_answers.specs.declared.answer.Unserved.TheVariants as unserved
 use Rattle.ssb_report.specs.Numbers.{line_feed, sum_text}
 
 -- the value of a group column

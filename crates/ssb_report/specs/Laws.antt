@@ -1,8 +1,8 @@
 -- What the subject says of a report, as laws over its definition.
 use Rattle.std.specs.Prelude.{◌≡◌, ℕ, Bool, true, false, List, [], ◌∷◌, Ok, Err}
 use Rattle.std.specs.List.{AllByRecursion}
-use Rattle.ssb_queries.specs.declared.answer.Answer.TheVariants.{Rows, Unserved}
-use Rattle.ssb_queries.specs.declared.answer.Unserved.{Unserved as Cause}
+use Rattle.ssb_answers.specs.declared.answer.Answer.TheVariants.{Rows, Unserved}
+use Rattle.ssb_answers.specs.declared.answer.Unserved.{Unserved as Cause}
 use Rattle.row_store.specs.History.{Warehouse}
 use Rattle.row_store.specs.declared.refusal.RefreshError.TheVariants.{Refused, OutOfMemory}
 use Rattle.ssb_script.specs.Requests.{Request}

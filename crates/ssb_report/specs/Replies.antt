@@ -1,13 +1,13 @@
 -- The replies to requests: those of the one-thread warehouse, and those that may stand in their place.
 use Rattle.std.specs.Prelude.{◌≡◌, ℕ, Bool, true, false, List, [], ◌∷◌, ◌++◌, length, Result, Ok, Err}
-use Rattle.ssb_plans.specs.declared.query.Query.{Query as Named}
-use Rattle.ssb_plans.specs.declared.value.Value.{Value}
+use Rattle.ssb_questions.specs.declared.query.Query.{Query as Named}
+use Rattle.ssb_questions.specs.declared.value.Value.{Value}
 use Rattle.ssb_schema.specs.Facts.{facts_of}
-use Rattle.ssb_queries.specs.Answer.{answer_of}
-use Rattle.ssb_queries.specs.declared.answer.Answer.{Answer}
-use Rattle.ssb_queries.specs.declared.answer.Answer.TheVariants.{Rows, Unserved}
-use Rattle.ssb_queries.specs.declared.answer.Unserved.{Unserved as Cause}
-use Rattle.ssb_queries.specs.declared.answer.Unserved.TheVariants.{OutOfMemory, Twin}
+use Rattle.ssb_answers.specs.Answer.{answer_of}
+use Rattle.ssb_answers.specs.declared.answer.Answer.{Answer}
+use Rattle.ssb_answers.specs.declared.answer.Answer.TheVariants.{Rows, Unserved}
+use Rattle.ssb_answers.specs.declared.answer.Unserved.{Unserved as Cause}
+use Rattle.ssb_answers.specs.declared.answer.Unserved.TheVariants.{OutOfMemory, Twin}
 use Rattle.row_store.specs.History.{CommitRecord, Warehouse, lines_after}
 use Rattle.row_store.specs.Legal.{warehouse_reply, IsRefreshReply}
 use Rattle.row_store.specs.declared.commit.Receipt.{Receipt}

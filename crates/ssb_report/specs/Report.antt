@@ -2,7 +2,7 @@
 use Rattle.std.specs.Prelude.{◌≡◌, ℕ, ◌+◌, ◌<◌, Bool, List, [], ◌∷◌, ◌++◌, length, take, flat_map, Option}
 use Rattle.std.specs.Io.KnownBytes.{Appends}
 use Rattle.row_store.specs.History.{CommitRecord, Warehouse, IsPrefix}
-use Rattle.ssb_queries.specs.declared.answer.Unserved.{Unserved as Cause}
+use Rattle.ssb_answers.specs.declared.answer.Unserved.{Unserved as Cause}
 use Rattle.ssb_script.specs.Requests.{Request}
 use Rattle.ssb_report.specs.Replies.{Reply, IsReply, reply_text, committed_by, with_commits}
 

@@ -2,7 +2,7 @@
 use Rattle.std.specs.Prelude.{◌≡◌, ℕ, Bool, List, ◌++◌, Option}
 use Rattle.std.specs.Io.KnownBytes.{Appends}
 use Rattle.row_store.specs.History.{CommitRecord, Warehouse}
-use Rattle.ssb_queries.specs.declared.answer.Unserved.{Unserved as Cause}
+use Rattle.ssb_answers.specs.declared.answer.Unserved.{Unserved as Cause}
 use Rattle.ssb_script.specs.Requests.{Request}
 use Rattle.ssb_report.specs.declared.fault.RunError.{RunError}
 use Rattle.ssb_report.specs.declared.fault.RunError.TheVariants.{Script, Write}

@@ -8,8 +8,8 @@ ghost use Rattle.ssb_report.specs.AnswerText.{with_bar, after_bar};
 
 use crate::fault::WriteFault;
 use crate::piece::{Piece, write_pieces};
-use ssb_plans::{Query, Value};
-use ssb_queries::{Answer, ResultRow, Unserved};
+use ssb_answers::{Answer, ResultRow, Unserved};
+use ssb_questions::{Query, Value};
 use std::io::Write;
 
 // The printed text of a group column's value.

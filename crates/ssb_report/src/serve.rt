@@ -1,7 +1,7 @@
 //! Scripts served by one thread, and their reports.
 ghost use Rattle.std.specs.Prelude.{◌≡◌, ◌++◌, ◌∷◌, [], length, IfOk, IfErr, OnOk, OnErr, map};
 ghost use Rattle.ssb_schema.specs.Facts.{facts_of};
-ghost use Rattle.ssb_queries.specs.Answer.{answer_of};
+ghost use Rattle.ssb_answers.specs.Answer.{answer_of};
 ghost use Rattle.row_store.specs.History.{Warehouse, lines_after};
 ghost use Rattle.ssb_script.specs.Requests as request;
 ghost use Rattle.std.specs.Io.KnownBytes.{Appends};
@@ -14,8 +14,8 @@ use crate::answer::write_answer;
 use crate::fault::{RunError, WriteFault};
 use crate::refresh::{write_receipt, write_refusal};
 use row_store::{Commit, PlainLines, Receipt, RefreshError, Replica, RowStore};
-use ssb_plans::Question;
-use ssb_queries::{Answer, ResultRow, Rows, Unserved, plain};
+use ssb_answers::{Answer, ResultRow, Rows, Unserved, evaluate};
+use ssb_questions::Question;
 use ssb_schema::Items;
 use ssb_script::{Block, Script};
 use std::alloc::{AllocError, Global};
@@ -51,7 +51,7 @@ fn rows_of(
     absorb_all(lines, store.log_from(taken))?;
     let base = store.base();
     store.soundness();
-    let rows = plain(alloc, base, lines.lines(), question)?;
+    let rows = evaluate(alloc, base, lines.lines(), question)?;
     let Rows { query: _, list } = rows;
     Ok(list)
 }

@@ -40,7 +40,7 @@ use Rattle.row_store.specs.Legal.{IsLegal}
 use Rattle.ssb_audit.specs.Legal.{IsLegalTrace}
 use Rattle.ssb_audit.specs.declared.trace.Told.{Told}
 use Rattle.ssb_audit.specs.declared.trace.Trace.{Trace}
-use Rattle.ssb_schema.specs.Base.{Tables}
+use Rattle.ssb_base.specs.Base.{Tables}
 use Rattle.ssb_script.specs.Requests.{requests_of}
 use Rattle.ssb_script.specs.declared.block.Script.{Script}
 use Rattle.ssb_session.proofs.RunLaws.{runs_are_legal}

@@ -1,6 +1,4 @@
--- What a clause sees of the fields of a line and of a base.
-use Rattle.ssb_schema.specs.Base.{Tables}
-use Rattle.ssb_schema.specs.declared.base.Base.TheInside.{Inside as BaseInside}
+-- What a clause sees of the fields of a line.
 use Rattle.ssb_schema.specs.declared.line.LineFields.{LineFields}
 use Rattle.ssb_schema.specs.declared.line.Line.TheInside.{Inside}
 
@@ -23,16 +21,4 @@ line_view line = record {
   tax = line.tax;
   commit_date = line.commit_date;
   ship_mode = line.ship_mode;
-}
-
-abbrev pub base_view : BaseInside → Tables
-base_view base = record {
-  limits = base.limits;
-  dimensions = record {
-    customers = base.customers;
-    suppliers = base.suppliers;
-    parts = base.parts;
-    dates = base.dates;
-  };
-  lines = base.lines.items;
 }

@@ -31,21 +31,21 @@ use Rattle.std.specs.Cmp.Lexicographic.{pointwise}
 use Rattle.ssb_schema.specs.Columns as columns
 use Rattle.ssb_schema.specs.declared.table.Table.TheVariants as table
 use Rattle.ssb_schema.specs.declared.line.LineFields.{LineFields}
-use Rattle.ssb_records.specs.Records.{has_columns}
-use Rattle.ssb_load.specs.Row.{row_of}
-use Rattle.ssb_records.specs.Spelling.{field, number_of, text_of}
-use Rattle.ssb_load.specs.declared.error.LineFault.{LineFault}
-use Rattle.ssb_load.specs.declared.error.LineFault.TheVariants as row
-use Rattle.ssb_plans.specs.Kind.{constant_kinds}
-use Rattle.ssb_plans.specs.Queries.{standard_constants}
-use Rattle.ssb_plans.specs.Query.{name_of}
-use Rattle.ssb_plans.specs.Question.{constants_fault}
-use Rattle.ssb_plans.specs.declared.kind.ConstantKind.{ConstantKind}
-use Rattle.ssb_plans.specs.declared.kind.ConstantKind.TheVariants as kind
-use Rattle.ssb_plans.specs.declared.query.Query.{Query as Named}
-use Rattle.ssb_plans.specs.declared.query.TheConstants.{QUERIES}
-use Rattle.ssb_plans.specs.declared.value.Value.{Value}
-use Rattle.ssb_plans.specs.declared.value.Value.TheVariants as value
+use Rattle.ssb_text.specs.Records.{has_columns}
+use Rattle.ssb_text.specs.Row.{row_of}
+use Rattle.ssb_text.specs.Spelling.{field, number_of, text_of}
+use Rattle.ssb_text.specs.declared.error.LineFault.{LineFault}
+use Rattle.ssb_text.specs.declared.error.LineFault.TheVariants as row
+use Rattle.ssb_questions.specs.Kind.{constant_kinds}
+use Rattle.ssb_questions.specs.Queries.{standard_constants}
+use Rattle.ssb_questions.specs.Query.{name_of}
+use Rattle.ssb_questions.specs.Question.{constants_fault}
+use Rattle.ssb_questions.specs.declared.kind.ConstantKind.{ConstantKind}
+use Rattle.ssb_questions.specs.declared.kind.ConstantKind.TheVariants as kind
+use Rattle.ssb_questions.specs.declared.query.Query.{Query as Named}
+use Rattle.ssb_questions.specs.declared.query.TheConstants.{QUERIES}
+use Rattle.ssb_questions.specs.declared.value.Value.{Value}
+use Rattle.ssb_questions.specs.declared.value.Value.TheVariants as value
 use Rattle.ssb_schema.specs.declared.fault.SchemaFault.{SchemaFault}
 use Rattle.ssb_script.specs.declared.control.Opening.{Opening}
 use Rattle.ssb_script.specs.declared.control.Opening.TheVariants.{Add, Amend}

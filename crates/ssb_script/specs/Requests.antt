@@ -1,8 +1,8 @@
 -- What a script asks of the warehouse, and the lines that spell it.
 use Rattle.std.specs.Prelude.{◌≡◌, ◌++◌, List, [], ◌∷◌, All, None, map}
 use Rattle.std.specs.List.{flat_map}
-use Rattle.ssb_plans.specs.declared.query.Query.{Query as Named}
-use Rattle.ssb_plans.specs.declared.value.Value.{Value}
+use Rattle.ssb_questions.specs.declared.query.Query.{Query as Named}
+use Rattle.ssb_questions.specs.declared.value.Value.{Value}
 use Rattle.ssb_schema.specs.Orders.{order_fault}
 use Rattle.ssb_schema.specs.Refreshes.{refresh_fault}
 use Rattle.ssb_schema.specs.declared.line.LineFields.{LineFields}

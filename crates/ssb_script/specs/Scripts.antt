@@ -30,7 +30,7 @@ use Rattle.std.specs.Prelude.{
   if◌then◌else◌,
 }
 use Rattle.std.specs.List.{flat_map}
-use Rattle.ssb_records.specs.Records.{BeginsWith, HasRecords}
+use Rattle.ssb_text.specs.Records.{BeginsWith, HasRecords}
 use Rattle.ssb_schema.specs.Orders.{order_fault}
 use Rattle.ssb_schema.specs.declared.fault.SchemaFault.TheVariants as schema
 use Rattle.ssb_schema.specs.declared.refresh.Action.{Action}

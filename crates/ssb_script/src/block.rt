@@ -1,6 +1,6 @@
 //! What a script asks, block by block.
 
-use ssb_plans::Question;
+use ssb_questions::Question;
 use ssb_schema::Refresh;
 use std::sync::Arc;
 

@@ -10,9 +10,9 @@ ghost use Rattle.ssb_script.specs.Requests.{action_of};
 use crate::question::question_at;
 use crate::word::Word;
 use csv::ByteRecord;
-use ssb_plans::Question;
-use ssb_records::{has_columns, number, trimmed_at};
+use ssb_questions::Question;
 use ssb_schema::{Action, Order};
+use ssb_text::{has_columns, number, trimmed_at};
 use std::alloc::{AllocError, Global};
 
 /// How an order begins: as one that is absent, or one that is present.

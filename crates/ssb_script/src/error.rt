@@ -4,8 +4,8 @@ ghost use Rattle.std.specs.Prelude.{◌≡◌};
 ghost use Rattle.ssb_script.specs.Errors.{error_of_read};
 ghost use Rattle.ssb_script.specs.declared.error.ScriptError.TheVariants.{OutOfMemory};
 
-use ssb_records::ReadError;
 use ssb_schema::SchemaFault;
+use ssb_text::ReadError;
 use std::alloc::{AllocError, AllocFailed};
 use thiserror::Error;
 

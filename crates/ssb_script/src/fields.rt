@@ -6,7 +6,7 @@ ghost use Rattle.ssb_script.specs.Lines as spec;
 
 use crate::word::Word;
 use csv::ByteRecord;
-use ssb_records::{field_at, trimmed_at};
+use ssb_text::{field_at, trimmed_at};
 use std::alloc::{AllocError, Global};
 
 /// The word of a record, if its first field is one.

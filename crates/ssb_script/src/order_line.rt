@@ -8,8 +8,8 @@ ghost use Rattle.ssb_script.specs.declared.word.Word.TheVariants as words;
 
 use crate::fields::columns;
 use csv::ByteRecord;
-use ssb_load::{LineFault, line_of};
 use ssb_schema::{Line, SchemaFault};
+use ssb_text::{LineFault, line_of};
 use std::alloc::{AllocError, Global};
 
 /// What a `line` record says: a line, one that the schema refuses, or nothing.

@@ -6,9 +6,9 @@ ghost use Rattle.ssb_script.specs.Lines as spec;
 ghost use Rattle.ssb_script.specs.Lines.{constant_spelled};
 
 use csv::ByteRecord;
-use ssb_plans::{ConstantKind, QUERIES, Query, Question, QuestionError, Value};
-use ssb_records::{has_columns, number, text, trimmed_at};
+use ssb_questions::{ConstantKind, QUERIES, Query, Question, QuestionError, Value};
 use ssb_schema::Text;
+use ssb_text::{has_columns, number, text, trimmed_at};
 use std::alloc::{AllocError, Global};
 
 // The query that bytes name.

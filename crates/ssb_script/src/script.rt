@@ -12,7 +12,7 @@ use crate::begun::{Begun, Step};
 use crate::block::{Block, Script};
 use crate::error::ScriptError;
 use csv::ByteRecord;
-use ssb_records::{next_record, record_reader};
+use ssb_text::{next_record, record_reader};
 use std::alloc::{AllocError, Global};
 use std::io::Read;
 

@@ -23,14 +23,14 @@ use Rattle.std.proofs.lemmas.Bool.{eq-eqb}
 use Rattle.std.proofs.lemmas.List.{take_all, append-nil, length_push, map_push}
 use Rattle.std.proofs.lemmas.List.Elements.{All-nil, All-push}
 use Rattle.row_store.specs.History.{CommitRecord}
-use Rattle.ssb_schema.specs.Base.{Tables}
-use Rattle.ssb_plans.specs.declared.query.Query.{Query}
-use Rattle.ssb_plans.specs.declared.value.Value.{Value}
-use Rattle.ssb_queries.specs.declared.answer.Rows.{Rows}
-use Rattle.ssb_queries.specs.declared.answer.ResultRow.{ResultRow}
-use Rattle.ssb_queries.specs.declared.answer.Answer.{Answer}
-use Rattle.ssb_queries.specs.declared.answer.Answer.TheVariants as answer
-use Rattle.ssb_queries.specs.declared.answer.Unserved.{Unserved}
+use Rattle.ssb_base.specs.Base.{Tables}
+use Rattle.ssb_questions.specs.declared.query.Query.{Query}
+use Rattle.ssb_questions.specs.declared.value.Value.{Value}
+use Rattle.ssb_answers.specs.declared.answer.Rows.{Rows}
+use Rattle.ssb_answers.specs.declared.answer.ResultRow.{ResultRow}
+use Rattle.ssb_answers.specs.declared.answer.Answer.{Answer}
+use Rattle.ssb_answers.specs.declared.answer.Answer.TheVariants as answer
+use Rattle.ssb_answers.specs.declared.answer.Unserved.{Unserved}
 use Rattle.history_core.specs.World.{rows_after}
 use Rattle.history.specs.declared.request.Grabbed.{Grabbed}
 use Rattle.history.specs.declared.request.Given.{Given}

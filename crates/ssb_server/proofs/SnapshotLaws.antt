@@ -34,7 +34,7 @@ use Rattle.row_store.proofs.PrefixLaws.{
   prefix_behind,
 }
 use Rattle.row_store.specs.State.{State, StandsFor}
-use Rattle.ssb_schema.specs.Base.{Tables}
+use Rattle.ssb_base.specs.Base.{Tables}
 use Rattle.history.specs.Tokens.{Hall, Token, Took, IsSound, with_writer, without_writer}
 use Rattle.twin_cell.specs.Twin.{Writing, Known, Entered}
 use Rattle.ssb_server.proofs.DeedLaws.{done}

@@ -2,7 +2,7 @@
 use Rattle.std.proofs.Common.{◌≡◌, ℕ, ◌≤◌, List, [], ◌++◌, length, Some, ap, sym, subst, ◌∙◌, arith}
 use Rattle.row_store.specs.History.{CommitRecord, IsPrefix, lines_after}
 use Rattle.row_store.specs.State.{State, StandsFor}
-use Rattle.ssb_schema.specs.Base.{Tables}
+use Rattle.ssb_base.specs.Base.{Tables}
 use Rattle.twin_cell.specs.Twin.{Known, Entered}
 use Rattle.fact_columns.specs.Stored.{Stored, columns_state}
 use Rattle.history.specs.declared.request.Outcome.{Outcome}

@@ -9,9 +9,9 @@ use Rattle.row_store.specs.declared.refusal.ApplyError.{ApplyError}
 use Rattle.row_store.specs.declared.refusal.ApplyError.TheVariants as apply
 use Rattle.row_store.specs.declared.refusal.RefreshError.{RefreshError}
 use Rattle.row_store.specs.declared.refusal.RefreshError.TheVariants as refresh
-use Rattle.ssb_plans.specs.declared.query.Query.{Query}
-use Rattle.ssb_plans.specs.declared.value.Value.{Value}
-use Rattle.ssb_queries.specs.declared.answer.Answer.{Answer}
+use Rattle.ssb_questions.specs.declared.query.Query.{Query}
+use Rattle.ssb_questions.specs.declared.value.Value.{Value}
+use Rattle.ssb_answers.specs.declared.answer.Answer.{Answer}
 use Rattle.history_core.specs.declared.event.Who.TheVariants.{Client}
 use Rattle.history.specs.declared.request.Request.{Request}
 use Rattle.history.specs.Tokens.{Hall, Token, IsSound}

@@ -1,7 +1,7 @@
 -- The requests that a dispatcher has in hand, as it keeps them.
 use Rattle.std.specs.Prelude.{◌≡◌, ℕ, List, [], ◌∷◌, ◌++◌}
-use Rattle.ssb_plans.specs.declared.query.Query.{Query}
-use Rattle.ssb_plans.specs.declared.value.Value.{Value}
+use Rattle.ssb_questions.specs.declared.query.Query.{Query}
+use Rattle.ssb_questions.specs.declared.value.Value.{Value}
 use Rattle.history.specs.declared.request.Grabbed.{Grabbed}
 
 -- clients and their questions, in the order in which they were grabbed

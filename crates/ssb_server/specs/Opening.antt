@@ -1,6 +1,6 @@
 -- What a server is opened with, and why none is.
 use Rattle.std.specs.Prelude.{◌≡◌, ℕ, ◌≤◌, All, List, [], length}
-use Rattle.ssb_schema.specs.Base.{Tables}
+use Rattle.ssb_base.specs.Base.{Tables}
 use Rattle.history_core.specs.declared.event.Who.TheVariants.{Dispatcher}
 use Rattle.history.specs.Tokens.{Token, IsSound, IsFree}
 use Rattle.twin_cell.specs.Twin.{Known}

@@ -1,6 +1,6 @@
 -- What a server keeps beside its table.
 use Rattle.std.specs.Prelude.{◌≡◌, ℕ, ◌≤◌}
-use Rattle.ssb_schema.specs.Base.{Tables}
+use Rattle.ssb_base.specs.Base.{Tables}
 use Rattle.history.specs.Tokens.{Hall}
 
 -- the index is over the table's base, and the numbers of clients and dispatchers are the table's

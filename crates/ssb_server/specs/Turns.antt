@@ -3,21 +3,21 @@ use Rattle.std.specs.Prelude.{◌≡◌, ℕ, ◌≤◌, All, false, List, [], �
 use Rattle.std.specs.declared.alloc.AllocError.{AllocError}
 use Rattle.row_store.specs.History.{CommitRecord, IsPrefix, lines_after}
 use Rattle.row_store.specs.State.{StandsFor}
-use Rattle.ssb_schema.specs.Base.{Tables}
+use Rattle.ssb_base.specs.Base.{Tables}
 use Rattle.history_core.specs.declared.event.Who.TheVariants.{Dispatcher}
 use Rattle.history.specs.declared.request.Given.{Given}
 use Rattle.history.specs.declared.request.Outcome.{Outcome}
 use Rattle.history.specs.Tokens.{Hall, Token}
 use Rattle.history.specs.Words.{IsFresh, IsCause}
 use Rattle.twin_cell.specs.Twin.{Writing, Known, Entered}
-use Rattle.ssb_queries.specs.declared.answer.Unserved.{Unserved}
+use Rattle.ssb_answers.specs.declared.answer.Unserved.{Unserved}
 use Rattle.history.specs.declared.request.Grabbed.{Grabbed}
 use Rattle.fact_columns.specs.Stored.{Stored, columns_state}
 use Rattle.history_core.specs.World.{rows_after}
-use Rattle.ssb_queries.specs.declared.answer.Rows.{Rows}
-use Rattle.ssb_plans.specs.declared.query.Query.{Query}
-use Rattle.ssb_plans.specs.declared.value.Value.{Value}
-use Rattle.ssb_schema.specs.declared.limits.TheConstants.{MOST_LINES}
+use Rattle.ssb_answers.specs.declared.answer.Rows.{Rows}
+use Rattle.ssb_questions.specs.declared.query.Query.{Query}
+use Rattle.ssb_questions.specs.declared.value.Value.{Value}
+use Rattle.ssb_base.specs.declared.limits.TheConstants.{MOST_LINES}
 use Rattle.ssb_server.specs.Hand.{Hand, Keeps}
 
 -- the pass is a dispatcher's at this table

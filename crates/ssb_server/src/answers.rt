@@ -11,11 +11,11 @@ ghost use Rattle.ssb_server.specs.Turns.{GaveOne, Gave};
 
 use crate::batch::Batch;
 use crate::server::{Pass, Server};
-use dim_index::DimIndex;
+use dimension_index::DimIndex;
 use fact_columns::Columns;
 use shared_scan::{PreparedBatch, scan_parallel};
-use ssb_plans::Question;
-use ssb_queries::{Answer, Rows, Unserved};
+use ssb_answers::{Answer, Rows, Unserved};
+use ssb_questions::Question;
 use std::alloc::{AllocError, Global};
 use std::sync::{Arc, Wait};
 use std::thread::Threads;

@@ -1,7 +1,7 @@
 //! The requests that a dispatcher has in hand.
 ghost use Rattle.std.specs.Prelude.{◌≡◌, ◌+◌, ◌<◌, ◌≤◌, [], ◌∷◌, ◌++◌, length, IfOk, MatchOption, nat_eq};
 
-use ssb_plans::Question;
+use ssb_questions::Question;
 use std::alloc::{AllocError, Global};
 use std::marker::Model;
 

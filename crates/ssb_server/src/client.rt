@@ -11,8 +11,8 @@ ghost use Rattle.ssb_server.specs.Clients.{IsClient, reply_of, Refreshed, Looks,
 use crate::server::{Hall, Pass, Server};
 use history_core::Who;
 use row_store::{ApplyError, Receipt, RefreshError};
-use ssb_plans::Question;
-use ssb_queries::Answer;
+use ssb_answers::Answer;
+use ssb_questions::Question;
 use ssb_schema::Refresh;
 use std::marker::Model;
 use std::sync::{Arc, Wait};

@@ -15,7 +15,7 @@ use crate::tickets::{
     are_clients_numbered, are_dispatchers_numbered, gather_clients, gather_dispatchers,
 };
 use row_store::Commit;
-use ssb_schema::Base;
+use ssb_base::Base;
 use std::fmt;
 use std::fmt::{Display, Formatter};
 use std::sync::{Arc, Wait};

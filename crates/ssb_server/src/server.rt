@@ -4,7 +4,7 @@ ghost use Rattle.std.specs.Prelude.{◌≡◌};
 use crate::bells::Bells;
 use crate::pace::Pace;
 use crate::room::Room;
-use dim_index::DimIndex;
+use dimension_index::DimIndex;
 use fact_columns::Columns;
 use std::alloc::Global;
 use std::marker::Model;

@@ -12,7 +12,7 @@ use crate::pace::Pace;
 use crate::server::{Hall, Pass};
 use fact_columns::Columns;
 use row_store::{Commit, Follower, Replica};
-use ssb_queries::Unserved;
+use ssb_answers::Unserved;
 use std::alloc::{AllocError, Global};
 use std::sync::Wait;
 use twin_cell::{Guard, TwinReader, TwinWriter};

@@ -11,7 +11,7 @@ use crate::grabbing::grab_all;
 use crate::server::{Pass, Server};
 use crate::snapshot::snapshot;
 use fact_columns::Columns;
-use ssb_queries::{Rows, Unserved};
+use ssb_answers::{Rows, Unserved};
 use std::alloc::AllocError;
 use std::sync::Wait;
 use std::thread::Threads;

@@ -33,12 +33,12 @@ use Rattle.std.proofs.Common.{
 use Rattle.std.proofs.lemmas.Bool.Decides.{nat_tests}
 use Rattle.std.proofs.lemmas.List.{append_cancel_right, take_all}
 use Rattle.ssb_schema.specs.declared.refresh.Action.{Action}
-use Rattle.ssb_plans.specs.declared.query.Query.{Query as Named}
-use Rattle.ssb_plans.specs.declared.value.Value.{Value}
-use Rattle.ssb_queries.specs.declared.answer.Answer.{Answer}
-use Rattle.ssb_queries.specs.declared.answer.Answer.TheVariants.{Rows, Unserved}
-use Rattle.ssb_queries.specs.declared.answer.Unserved.{Unserved as Cause}
-use Rattle.ssb_queries.specs.declared.answer.Unserved.TheVariants.{OutOfMemory, Twin}
+use Rattle.ssb_questions.specs.declared.query.Query.{Query as Named}
+use Rattle.ssb_questions.specs.declared.value.Value.{Value}
+use Rattle.ssb_answers.specs.declared.answer.Answer.{Answer}
+use Rattle.ssb_answers.specs.declared.answer.Answer.TheVariants.{Rows, Unserved}
+use Rattle.ssb_answers.specs.declared.answer.Unserved.{Unserved as Cause}
+use Rattle.ssb_answers.specs.declared.answer.Unserved.TheVariants.{OutOfMemory, Twin}
 use Rattle.row_store.specs.History.{CommitRecord}
 use Rattle.row_store.specs.Refusals.{refusal_of}
 use Rattle.row_store.specs.Legal.{IsRefreshReply, reply_at}

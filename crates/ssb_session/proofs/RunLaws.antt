@@ -30,12 +30,12 @@ use Rattle.std.proofs.Common.{
 use Rattle.std.specs.Prelude.{slice_get}
 use Rattle.std.specs.List.{AllByRecursion}
 use Rattle.std.proofs.lemmas.List.{take-append-le}
-use Rattle.ssb_schema.specs.Base.{Tables}
+use Rattle.ssb_base.specs.Base.{Tables}
 use Rattle.ssb_schema.specs.declared.refresh.Action.{Action}
-use Rattle.ssb_plans.specs.declared.query.Query.{Query}
-use Rattle.ssb_plans.specs.declared.value.Value.{Value}
-use Rattle.ssb_queries.specs.declared.answer.Answer.{Answer}
-use Rattle.ssb_queries.specs.declared.answer.Answer.TheVariants.{Rows, Unserved}
+use Rattle.ssb_questions.specs.declared.query.Query.{Query}
+use Rattle.ssb_questions.specs.declared.value.Value.{Value}
+use Rattle.ssb_answers.specs.declared.answer.Answer.{Answer}
+use Rattle.ssb_answers.specs.declared.answer.Answer.TheVariants.{Rows, Unserved}
 use Rattle.row_store.specs.declared.commit.Receipt.{Receipt}
 use Rattle.row_store.specs.declared.refusal.RefreshError.{RefreshError}
 use Rattle.row_store.specs.declared.refusal.RefreshError.TheVariants as refusal

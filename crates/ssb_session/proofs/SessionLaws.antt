@@ -44,9 +44,9 @@ use Rattle.ssb_report.specs.Replies.{Reply, reply_text}
 use Rattle.ssb_report.specs.Report.{report_of}
 use Rattle.ssb_report.proofs.WrittenLaws.{appends_none, appends_both}
 use Rattle.ssb_server.specs.Clients as client
-use Rattle.ssb_plans.specs.declared.query.Query.{Query as Named}
-use Rattle.ssb_plans.specs.declared.value.Value.{Value}
-use Rattle.ssb_queries.specs.declared.answer.Answer.{Answer}
+use Rattle.ssb_questions.specs.declared.query.Query.{Query as Named}
+use Rattle.ssb_questions.specs.declared.value.Value.{Value}
+use Rattle.ssb_answers.specs.declared.answer.Answer.{Answer}
 use Rattle.ssb_session.specs.Served.{IsAnswered, IsServed, AreServed, Serves, StopsAfter, Ends, told_of}
 use Rattle.ssb_session.specs.Steps.{ServesOne, ServesInPart, StopsIn, AreAlike, error_after}
 use Rattle.ssb_session.specs.declared.fault.Stop.{Stop}

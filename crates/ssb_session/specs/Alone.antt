@@ -2,8 +2,8 @@
 use Rattle.std.specs.Prelude.{◌≡◌, ℕ, ◌==◌, not, Bool, true, List, length, Option, Some}
 use Rattle.std.specs.Io.KnownBytes.{Keeps}
 use Rattle.row_store.specs.History.{Warehouse}
-use Rattle.ssb_queries.specs.declared.answer.Unserved.{Unserved as Cause}
-use Rattle.ssb_queries.specs.declared.answer.Unserved.TheVariants.{OutOfMemory, Twin}
+use Rattle.ssb_answers.specs.declared.answer.Unserved.{Unserved as Cause}
+use Rattle.ssb_answers.specs.declared.answer.Unserved.TheVariants.{OutOfMemory, Twin}
 use Rattle.history_core.specs.declared.event.Who.TheVariants.{Client}
 use Rattle.history.specs.Tokens.{Token}
 use Rattle.ssb_script.specs.Requests.{Request}

@@ -1,10 +1,10 @@
 -- A client's requests, served one after another by a server.
 use Rattle.std.specs.Prelude.{◌≡◌, ℕ, ◌+◌, ◌<◌, List, [], ◌∷◌, ◌++◌, length, take, flat_map, Option}
 use Rattle.std.specs.Io.KnownBytes.{Appends}
-use Rattle.ssb_plans.specs.declared.query.Query.{Query as Named}
-use Rattle.ssb_plans.specs.declared.value.Value.{Value}
-use Rattle.ssb_queries.specs.declared.answer.Answer.{Answer}
-use Rattle.ssb_queries.specs.declared.answer.Answer.TheVariants.{Rows}
+use Rattle.ssb_questions.specs.declared.query.Query.{Query as Named}
+use Rattle.ssb_questions.specs.declared.value.Value.{Value}
+use Rattle.ssb_answers.specs.declared.answer.Answer.{Answer}
+use Rattle.ssb_answers.specs.declared.answer.Answer.TheVariants.{Rows}
 use Rattle.history.specs.Tokens.{Token}
 use Rattle.ssb_script.specs.Requests.{Request, Refresh, Ask}
 use Rattle.ssb_report.specs.Replies.{Reply, Refreshed, Answered, reply_text}

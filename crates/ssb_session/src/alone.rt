@@ -7,7 +7,7 @@ ghost use Rattle.ssb_report.specs.Serving.{Answers, AnswersInPart};
 ghost use Rattle.ssb_session.specs.Alone.{IsAlone, own, may_be_told, ServesScript, EndsAlone, StopsAlone};
 ghost use Rattle.ssb_session.specs.Steps.{AreAlike};
 
-use ssb_plans::Question;
+use ssb_questions::Question;
 use ssb_report::{MOST_RECORDS, RunError, WriteFault, read_script, write_answer, write_reply};
 use ssb_schema::Refresh;
 use ssb_script::{Block, Script};

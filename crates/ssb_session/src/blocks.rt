@@ -12,9 +12,9 @@ ghost use Rattle.ssb_audit.specs.declared.trace.Told.{Told as PlainTold};
 
 use crate::fault::{BlocksError, Stop};
 use crate::meter::{Meter, kind_of};
+use ssb_answers::Answer;
 use ssb_audit::Told;
-use ssb_plans::Question;
-use ssb_queries::Answer;
+use ssb_questions::Question;
 use ssb_report::{write_answer, write_reply};
 use ssb_schema::Refresh;
 use ssb_script::{Block, Script};

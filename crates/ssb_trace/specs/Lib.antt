@@ -1,1 +1,10 @@
+pub mod Allowed
+pub mod RoundTrip
+pub mod Heads
+pub mod Lines
+pub mod Blocks
+pub mod Laws
+pub mod Rows
+pub mod Steps
+pub mod Traces
 pub mod TraceText

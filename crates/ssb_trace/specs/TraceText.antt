@@ -5,12 +5,12 @@ use Rattle.ssb_schema.specs.Rows.{line_values}
 use Rattle.ssb_schema.specs.declared.line.LineFields.{LineFields}
 use Rattle.ssb_schema.specs.declared.refresh.Action.{Action}
 use Rattle.ssb_schema.specs.declared.refresh.Action.TheVariants.{Add, Amend, Withdraw}
-use Rattle.ssb_plans.specs.Queries.{standard_constants}
-use Rattle.ssb_plans.specs.Query.{name_of}
-use Rattle.ssb_plans.specs.QuestionEq.{question_eq}
-use Rattle.ssb_plans.specs.declared.query.Query.{Query}
-use Rattle.ssb_plans.specs.declared.value.Value.{Value}
-use Rattle.ssb_queries.specs.declared.answer.ResultRow.{ResultRow}
+use Rattle.ssb_questions.specs.Queries.{standard_constants}
+use Rattle.ssb_questions.specs.Query.{name_of}
+use Rattle.ssb_questions.specs.QuestionEq.{question_eq}
+use Rattle.ssb_questions.specs.declared.query.Query.{Query}
+use Rattle.ssb_questions.specs.declared.value.Value.{Value}
+use Rattle.ssb_answers.specs.declared.answer.ResultRow.{ResultRow}
 use Rattle.row_store.specs.History.{CommitRecord}
 use Rattle.ssb_report.specs.Numbers.{line_feed}
 use Rattle.ssb_report.specs.AnswerText.{after_bar, row_text}

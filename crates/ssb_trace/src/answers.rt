@@ -5,9 +5,9 @@ ghost use Rattle.ssb_report.specs.AnswerText.{after_bar};
 ghost use Rattle.ssb_report.specs.Numbers.{line_feed};
 ghost use Rattle.ssb_trace.specs.TraceText.{written_constants, count_text, head_text, told_row_text, told_text};
 
+use ssb_answers::ResultRow;
 use ssb_audit::Told;
-use ssb_plans::{Query, Question};
-use ssb_queries::ResultRow;
+use ssb_questions::{Query, Question};
 use ssb_report::{Piece, WriteFault, write_barred, write_pieces, write_row};
 use std::io::Write;
 

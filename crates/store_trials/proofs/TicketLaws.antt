@@ -11,9 +11,9 @@ use Rattle.row_store.specs.declared.refusal.ApplyError.{ApplyError}
 use Rattle.ssb_schema.specs.declared.refresh.Action.{Action}
 use Rattle.history_core.specs.declared.event.Who.{Who}
 use Rattle.history_core.specs.declared.event.Who.TheVariants.{Client, Dispatcher}
-use Rattle.ssb_queries.specs.declared.answer.Answer.{Answer}
-use Rattle.ssb_queries.specs.declared.answer.Answer.TheVariants.{Unserved}
-use Rattle.ssb_queries.specs.declared.answer.Unserved.TheVariants.{OutOfMemory}
+use Rattle.ssb_answers.specs.declared.answer.Answer.{Answer}
+use Rattle.ssb_answers.specs.declared.answer.Answer.TheVariants.{Unserved}
+use Rattle.ssb_answers.specs.declared.answer.Unserved.TheVariants.{OutOfMemory}
 use Rattle.history_core.specs.Events.{Question}
 use Rattle.history.specs.declared.request.Request.{Request}
 use Rattle.history.specs.declared.request.Grabbed.{Grabbed}

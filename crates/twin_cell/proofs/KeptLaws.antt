@@ -23,7 +23,7 @@ use lib.ListN.{get_elem?}
 use Rattle.left_right.specs.Register.{Admits, TurnsAt, Forks, Merges}
 use Rattle.atomic_table.proofs.Lists.{at_set, at_snoc}
 use Rattle.row_store.specs.History.{CommitRecord, IsPrefix}
-use Rattle.ssb_schema.specs.Base.{Tables}
+use Rattle.ssb_base.specs.Base.{Tables}
 use Rattle.row_store.specs.State.{State, state_of, state_after}
 use Rattle.row_store.proofs.StateLaws.{state_after-all}
 use Rattle.twin_cell.specs.declared.rule.View.{View}

@@ -1,7 +1,7 @@
 -- A base of no rows.
 use Rattle.std.specs.Prelude.{◌≤◌, []}
 use native.Mathlib.Bridge.{le_by_compare, IsLe}
-use Rattle.ssb_schema.specs.Base.{Tables}
+use Rattle.ssb_base.specs.Base.{Tables}
 
 one_is_least : 1 ≤ 1
 unfolding IsLe

@@ -1,6 +1,6 @@
 -- What contracts see of the writer, of readers and notes, and of an entered copy.
 use Rattle.std.specs.Prelude.{◌≡◌, ℕ, ◌+◌, List, length, Some, unwrap_or}
-use Rattle.ssb_schema.specs.Base.{Tables}
+use Rattle.ssb_base.specs.Base.{Tables}
 use Rattle.row_store.specs.History.{CommitRecord, IsPrefix}
 use Rattle.row_store.specs.State.{State, state_of}
 use Rattle.twin_cell.specs.NoTables.{no_tables}

@@ -6,7 +6,7 @@ use crate::side::Side;
 use atomic_table::{Join, Split};
 use crossbeam_utils::rule::{Outcome, Protocol};
 use row_store::{Commit, Replica};
-use ssb_schema::Base;
+use ssb_base::Base;
 use std::marker::{Brand, PhantomData};
 
 /// What a seat of the cell knows. No value of it is made.

@@ -2,9 +2,9 @@
 
 use small_data::tables;
 use ssb_audit::{AuditFault, Trace, audit};
-use ssb_load::load;
-use ssb_schema::{Base, Limits};
-use ssb_trace_read::read_trace;
+use ssb_base::{Base, Limits};
+use ssb_text::load;
+use ssb_trace::read_trace;
 use std::alloc::Global;
 use std::hash::RandomState;
 use std::process::Abort;

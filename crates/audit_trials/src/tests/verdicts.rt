@@ -2,11 +2,12 @@
 use row_store::{Commit, PlainLines, Replica};
 use small_data::tables;
 use small_rows::adding;
+use ssb_answers::{ResultRow, Rows, evaluate};
 use ssb_audit::{AuditFault, Told, Trace, audit};
-use ssb_load::load;
-use ssb_plans::{QUERIES, Query, Question, Value};
-use ssb_queries::{ResultRow, Rows, plain};
-use ssb_schema::{Base, Items, Limits, MOST_LINES, Text};
+use ssb_base::{Base, Limits, MOST_LINES};
+use ssb_questions::{QUERIES, Query, Question, Value};
+use ssb_schema::{Items, Text};
+use ssb_text::load;
 use std::alloc::Global;
 use std::hash::RandomState;
 use std::process::Abort;
@@ -106,7 +107,7 @@ fn told_plainly(
         return Err("lines")?;
     }
     let question = Question::standard(alloc, query)?;
-    let Rows { query, list } = plain(alloc, base, lines, &question)?;
+    let Rows { query, list } = evaluate(alloc, base, lines, &question)?;
     Ok(Told {
         client: 1,
         at,

@@ -1,9 +1,10 @@
 //! The small data set, but in each dimension two rows are alike in all that queries read.
 
-use dim_index::DimIndex;
+use dimension_index::DimIndex;
 use row_store::Commit;
 use small_rows::{Sale, base, customer, date, order, part, refresh, supplier};
-use ssb_schema::{Action, Base, BaseParts, Limits, Line, Order};
+use ssb_base::{Base, BaseParts, Limits};
+use ssb_schema::{Action, Line, Order};
 use std::alloc::{AllocError, Global};
 use std::sync::Arc;
 use std::test::Fail;

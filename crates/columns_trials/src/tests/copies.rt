@@ -4,11 +4,11 @@ ghost use Rattle.row_store.specs.History.{IsPrefix};
 ghost use Rattle.row_store.specs.State.{StandsFor, state_of};
 ghost use Rattle.fact_columns.specs.Stored.{columns_state};
 
-use dim_index::DimIndex;
+use dimension_index::DimIndex;
 use fact_columns::Columns;
 use row_store::{Commit, Follower, PlainLines, Replica};
 use small_rows::{adding, small_base};
-use ssb_schema::{Base, Limits};
+use ssb_base::{Base, Limits};
 use std::alloc::{AllocError, Global};
 use std::hash::RandomState;
 use std::sync::atomic::{AtomicBool, Ordering};

@@ -1,12 +1,13 @@
 //! Worked examples over the dimensions of the small data set, with answers that were written by hand.
 
-use dim_index::{Bitmap, DimIndex};
+use dimension_index::{Bitmap, DimIndex};
 use small_rows::{base, customer, date, dimensions, part};
-use ssb_queries::{Cond, Test};
+use ssb_answers::{Cond, Test};
+use ssb_base::{BaseParts, Limits};
 use ssb_schema::{
-    BaseParts, C_CITY, C_NATION, C_REGION, Column, Customer, D_WEEKNUMINYEAR, D_YEAR, D_YEARMONTH,
-    D_YEARMONTHNUM, DateRow, Items, Limits, P_BRAND1, P_CATEGORY, P_MFGR, Part, S_CITY, S_NATION,
-    S_REGION, Table, Text, query_columns,
+    C_CITY, C_NATION, C_REGION, Column, Customer, D_WEEKNUMINYEAR, D_YEAR, D_YEARMONTH,
+    D_YEARMONTHNUM, DateRow, Items, P_BRAND1, P_CATEGORY, P_MFGR, Part, S_CITY, S_NATION, S_REGION,
+    Table, Text, query_columns,
 };
 use std::alloc::Global;
 use std::test::Fail;

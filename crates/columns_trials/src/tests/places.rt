@@ -1,6 +1,6 @@
 //! The columns beside a list of places, step by step.
 
-use fact_table::{Place, Slices, Table, terms};
+use fact_columns::{Place, Slices, Table, terms};
 use std::test::Fail;
 
 // The lines of the small data set with quantity 24 and 10, by positions in its dimensions.

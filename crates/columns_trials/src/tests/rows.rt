@@ -1,8 +1,8 @@
 //! Questions of which counts and sums were written by hand.
 ghost use Rattle.std.specs.Prelude.{◌≡◌, ◌∷◌, [], map, length, IfOk};
 
-use scan_answers::answer_question;
-use ssb_queries::{Query, Question, ResultRow, Value};
+use scan_kernel::answer_question;
+use ssb_answers::{Query, Question, ResultRow, Value};
 use ssb_schema::{Items, Text};
 use std::alloc::{AllocError, Global};
 use std::test::Fail;

@@ -2,7 +2,7 @@
 ghost use Rattle.std.specs.Prelude.{◌≡◌, ◌∷◌, [], IfOk, None, length};
 
 use scan_kernel::{Grouping, LineColumns, Masks, Totals, parallel_totals, range_totals};
-use ssb_plans::Measure;
+use ssb_questions::Measure;
 use ssb_schema::Items;
 use std::alloc::{AllocError, Global};
 use std::test::Fail;

@@ -5,12 +5,13 @@ use crate::{
     CUSTOMER, DATE, PART, SUPPLIER, brands_of_parts, cities_of_customers, cities_of_suppliers,
     lineorder,
 };
-use dim_index::DimIndex;
+use dimension_index::DimIndex;
 use fact_columns::Columns;
 use row_store::{Commit, PlainLines, Replica};
-use ssb_load::{Tables, load};
-use ssb_queries::{Query, Question, Value};
-use ssb_schema::{Action, Base, Limits, Refresh, Text};
+use ssb_answers::{Query, Question, Value};
+use ssb_base::{Base, Limits};
+use ssb_schema::{Action, Refresh, Text};
+use ssb_text::{Tables, load};
 use std::alloc::{AllocError, Global};
 use std::hash::RandomState;
 use std::random::RandomSource;
@@ -85,7 +86,7 @@ fn warehouse_after(
     Ok(Warehouse {
         index,
         columns,
-        plain,
+        evaluate,
     })
 }
 
@@ -160,7 +161,7 @@ pub fn asked(alloc: Global, query: Query, given: &[Given]) -> Result<Question, F
 /// The thirteen queries of the benchmark, with the constants that they have where none are given.
 pub fn thirteen(alloc: Global) -> Result<Vec<Question>, Fail> {
     let mut questions = Vec::new(alloc);
-    for query in ssb_queries::QUERIES {
+    for query in ssb_answers::QUERIES {
         questions.push(Question::standard(alloc, query)?)?;
     }
     Ok(questions)

@@ -4,8 +4,9 @@ use crate::tests::data::{
     Given, Warehouse, asked, every_third, made_up, of_many_cities, small, thirteen,
 };
 use shared_scan::{PreparedBatch, scan, scan_parallel};
-use ssb_queries::{Query, Question, Rows, plain};
-use ssb_schema::{Base, Line, MOST_LINES};
+use ssb_answers::{Query, Question, Rows, evaluate};
+use ssb_base::{Base, MOST_LINES};
+use ssb_schema::Line;
 use std::alloc::Global;
 use std::sync::Arc;
 use std::test::Fail;
@@ -23,7 +24,7 @@ fn alone(
     }
     let mut all = Vec::new(alloc);
     for question in questions {
-        all.push(plain(alloc, base, lines, question)?)?;
+        all.push(evaluate(alloc, base, lines, question)?)?;
     }
     Ok(all)
 }

@@ -3,8 +3,9 @@ use crate::tests::data::Printed::{Name, Number};
 use crate::tests::data::{
     Printed, base_with_ties, lines_with_order_nine, row, seven_lines, small_base, values,
 };
-use ssb_queries::{Answer, Query, Question, ResultRow, Unserved, plain, same_rows};
-use ssb_schema::{Base, Items, Line, MOST_LINES};
+use ssb_answers::{Answer, Query, Question, ResultRow, Unserved, evaluate, same_rows};
+use ssb_base::{Base, MOST_LINES};
+use ssb_schema::{Items, Line};
 use std::alloc::Global;
 use std::test::Fail;
 
@@ -19,7 +20,7 @@ fn gives(
     if lines.len() > MOST_LINES {
         return Ok(false);
     }
-    let found = plain(alloc, base, lines, question)?;
+    let found = evaluate(alloc, base, lines, question)?;
     Ok(found.query == *question && same_rows(found.list.as_slice(), rows))
 }
 

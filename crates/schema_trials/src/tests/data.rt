@@ -1,7 +1,8 @@
 //! Bases and lines of the tests, and rows to compare with.
 use small_rows::{Sale, base, customer, dimensions, lines, loaded, order_nine, supplier};
-use ssb_queries::{ResultRow, Value};
-use ssb_schema::{Base, Items, Limits, Line, Text};
+use ssb_answers::{ResultRow, Value};
+use ssb_base::{Base, Limits};
+use ssb_schema::{Items, Line, Text};
 use std::alloc::{AllocError, Global};
 use std::sync::Arc;
 use std::test::Fail;

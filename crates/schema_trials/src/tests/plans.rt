@@ -1,6 +1,6 @@
 //! What no clause says: the names, the defaults and the fault texts, from the benchmark and the formats.
-use ssb_plans::question::plan;
-use ssb_plans::{
+use ssb_questions::question::plan;
+use ssb_questions::{
     ColumnValue, ConstantKind, ConstantsFault, Measure, NoSuchQuery, OrderKey, QUERIES, Query,
     Question, QuestionError, Value,
 };

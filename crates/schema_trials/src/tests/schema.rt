@@ -1,9 +1,10 @@
 //! Worked examples of the rules, with answers that were written by hand.
 
+use ssb_base::{Base, BaseError, BaseParts, Limits};
 use ssb_schema::{
-    Action, Base, BaseError, BaseParts, Column, Customer, CustomerFields, DateFields, DateRow,
-    Items, Limits, Line, LineFields, Order, Part, PartFields, Refresh, Refused, SchemaFault,
-    Supplier, SupplierFields, Table, Text, query_columns,
+    Action, Column, Customer, CustomerFields, DateFields, DateRow, Items, Line, LineFields, Order,
+    Part, PartFields, Refresh, Refused, SchemaFault, Supplier, SupplierFields, Table, Text,
+    query_columns,
 };
 use std::alloc::Global;
 use std::test::Fail;

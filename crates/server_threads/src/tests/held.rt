@@ -10,7 +10,7 @@ use server_steps::opening::{next_dispatcher, opened};
 use server_steps::trial::Deed::{Adds, Asks, Polls};
 use server_steps::trial::Step::{First, Second, Third};
 use server_steps::trial::{Step, Trial};
-use ssb_plans::Query;
+use ssb_questions::Query;
 use ssb_server::{Opened, ScanGate, Server, Turn};
 use std::alloc::Global;
 use std::hash::RandomState;

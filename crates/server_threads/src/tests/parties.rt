@@ -6,8 +6,8 @@ ghost use Rattle.ssb_server.specs.Tickets.{IsOf, IsQuiet};
 
 use server_steps::steps::{asks_this, awaits, turns};
 use server_steps::trial::{Step, Trial};
-use ssb_plans::Question;
-use ssb_queries::Answer;
+use ssb_answers::Answer;
+use ssb_questions::Question;
 use ssb_server::{Client, Dispatcher, ScanGate, Server, Turn};
 use std::alloc::Global;
 use std::sync::Wait;

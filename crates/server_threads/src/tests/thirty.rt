@@ -8,7 +8,7 @@ use server_steps::closing::{closes_three, commits_of};
 use server_steps::opening::{ThreeClients, for_three_clients, next_dispatcher};
 use server_steps::steps::{asks_and_is_told, refreshes};
 use small_rows::adding;
-use ssb_plans::Query;
+use ssb_questions::Query;
 use ssb_schema::Refresh;
 use ssb_server::{Client, Closed, Server};
 use std::alloc::Global;

@@ -4,7 +4,7 @@ use server_steps::data::ORDER_NINE;
 use server_steps::trial::Deed::{Adds, Asks, Polls};
 use server_steps::trial::Step::{First, Meeting, Second, Turn};
 use server_steps::trial::played;
-use ssb_plans::Query;
+use ssb_questions::Query;
 use std::test::Fail;
 
 #[test]

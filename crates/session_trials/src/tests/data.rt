@@ -1,8 +1,8 @@
 //! The small data set, scripts over it, and their reports, worked out by hand.
 
 use small_data::tables;
-use ssb_load::load;
-use ssb_schema::{Base, Limits};
+use ssb_base::{Base, Limits};
+use ssb_text::load;
 use std::alloc::Global;
 use std::sync::Arc;
 use std::test::Fail;

@@ -1,5 +1,5 @@
 use Rattle.std.proofs.Common.{◌≡◌, Some, ap}
-use Rattle.ssb_load.specs.Load.{reader_of}
+use Rattle.ssb_text.specs.Load.{reader_of}
 use Rattle.ssb_schema.specs.declared.table.Table.TheVariants.{Customer, Supplier, Part, Date, Lineorder}
 use Rattle.small_data.specs.SmallTexts.{small_texts}
 use Rattle.small_data.proofs.tables.Goals as goal

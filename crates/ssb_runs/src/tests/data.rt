@@ -2,10 +2,10 @@
 
 use small_data::tables;
 use small_rows::adding;
-use ssb_load::load;
-use ssb_plans::{Query, Question};
-use ssb_schema::{Base, Limits};
+use ssb_base::{Base, Limits};
+use ssb_questions::{Query, Question};
 use ssb_script::{Block, Script};
+use ssb_text::load;
 use std::alloc::{AllocError, Global};
 use std::sync::Arc;
 use std::test::Fail;

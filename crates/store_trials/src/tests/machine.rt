@@ -5,7 +5,7 @@ use crate::tests::oracle::MOST_COMMITS;
 use crate::tests::random::{Changes, Random, draw};
 use history_core::{Event, Reply, Who, World};
 use small_rows::adding;
-use ssb_queries::{Query, Question, Unserved};
+use ssb_answers::{Query, Question, Unserved};
 use std::alloc::Global;
 use std::hash::RandomState;
 use std::sync::Arc;

@@ -3,7 +3,7 @@
 use crate::tests::data::{no_rows, row_of_1997, total};
 use history_core::{Reply, Who};
 use row_store::Cause;
-use ssb_queries::{Query, Question, ResultRow, Unserved};
+use ssb_answers::{Query, Question, ResultRow, Unserved};
 use ssb_schema::Items;
 use std::alloc::Global;
 use std::test::Fail;

@@ -4,7 +4,7 @@ use crate::tests::data::order;
 use crate::tests::oracle::{Change, Deed, reply};
 use history_core::{Event, Reply, Who};
 use small_rows::{order_like_nine, refresh};
-use ssb_queries::{Query, Question, Unserved};
+use ssb_answers::{Query, Question, Unserved};
 use ssb_schema::{Action, Refresh};
 use std::alloc::Global;
 use std::sync::Arc;

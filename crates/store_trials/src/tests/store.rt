@@ -2,7 +2,8 @@
 
 use row_store::{ApplyError, Cause, Follower, PlainLines, Replica, RowStore};
 use small_rows::{Sale, base_of_lines, lines, order_nine, small_base};
-use ssb_schema::{Action, Limits, Line, Order, Refresh};
+use ssb_base::Limits;
+use ssb_schema::{Action, Line, Order, Refresh};
 use std::alloc::{AllocError, Global};
 use std::hash::{BuildHasher, BuildHasherDefault, FoldHasher, RandomState};
 use std::sync::Arc;
@@ -338,7 +339,7 @@ fn a_client_is_told_the_commits_so_far(rt: HostRuntime) -> Result<(), Fail> {
 }
 
 // Four lines of three orders, which do not stand in the order of their keys.
-fn scattered(alloc: Global) -> Result<Vec<Line>, Fail> {
+fn sparse(alloc: Global) -> Result<Vec<Line>, Fail> {
     let mut sales = Vec::new(alloc);
     for (key, number, customer) in [(3, 1, 1), (1, 2, 2), (2, 1, 3), (1, 1, 1)] {
         sales.push(sale(key, number, (customer, 1, 1, 19930101)))?;
@@ -347,9 +348,9 @@ fn scattered(alloc: Global) -> Result<Vec<Line>, Fail> {
 }
 
 #[test]
-fn loaded_orders_may_be_scattered(rt: HostRuntime) -> Result<(), Fail> {
+fn loaded_orders_may_be_sparse(rt: HostRuntime) -> Result<(), Fail> {
     let alloc = rt.alloc();
-    let base = base_of_lines(alloc, Limits::standard(), scattered(alloc)?)?;
+    let base = base_of_lines(alloc, Limits::standard(), sparse(alloc)?)?;
     let store = RowStore::new(alloc, base, RandomState::new(&rt)?)?;
     let told = lines_told(alloc, &store, 1)?;
     assert_eq!(rt; told.as_str(), "2:2 1:1 ");

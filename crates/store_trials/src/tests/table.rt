@@ -1,7 +1,7 @@
 //! Three clients and two dispatchers at one table, each in a thread of its own, until the table is closed.
 ghost use Rattle.std.specs.Prelude.{◌≡◌, ◌≤◌, ℕ, false, [], ◌∷◌, Some, IfOk, IfSome, MatchOption, All};
-ghost use Rattle.ssb_queries.specs.declared.answer.Answer.TheVariants.{Unserved as GivenUp};
-ghost use Rattle.ssb_queries.specs.declared.answer.Unserved.TheVariants.{OutOfMemory};
+ghost use Rattle.ssb_answers.specs.declared.answer.Answer.TheVariants.{Unserved as GivenUp};
+ghost use Rattle.ssb_answers.specs.declared.answer.Unserved.TheVariants.{OutOfMemory};
 ghost use Rattle.history_core.specs.declared.event.Who.TheVariants.{Client, Dispatcher};
 ghost use Rattle.history.specs.Words.{request};
 ghost use Rattle.history.specs.Tokens.{IsDispatcher, MayAnswer, without};
@@ -11,9 +11,10 @@ use history::{Opened, Pass, Shared};
 use history_core::Who;
 use row_store::{PlainLines, RowStore};
 use small_rows::{adding, base_of_lines};
-use ssb_plans::{Query, Question};
-use ssb_queries::{Answer, Unserved};
-use ssb_schema::{Limits, Refresh};
+use ssb_answers::{Answer, Unserved};
+use ssb_base::Limits;
+use ssb_questions::{Query, Question};
+use ssb_schema::Refresh;
 use std::alloc::{AllocError, Global};
 use std::hash::RandomState;
 use std::sync::atomic::{AtomicU64, Ordering};

@@ -1,10 +1,8 @@
 //! Texts that are read as a trace, which is written again, and a line that is made.
-use ssb_plans::{Query, Question};
+use ssb_questions::{Query, Question};
 use ssb_schema::{LineFields, Text};
 use ssb_script::ScriptError;
-use ssb_trace::{Trace, write_trace};
-use ssb_trace_laws::{allowed_line, question_is_allowed};
-use ssb_trace_read::read_trace;
+use ssb_trace::{Trace, allowed_line, question_is_allowed, read_trace, write_trace};
 use std::alloc::Global;
 use std::process::Abort;
 use std::test::Fail;

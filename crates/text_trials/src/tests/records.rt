@@ -1,7 +1,7 @@
 //! Records, their fields, and what fields spell.
 
 use csv::ByteRecord;
-use ssb_records::{
+use ssb_text::{
     ReadError, field_at, has_columns, next_record, number, record_reader, text, trimmed, trimmed_at,
 };
 use std::io;

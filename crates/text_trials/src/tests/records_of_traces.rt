@@ -1,10 +1,10 @@
 //! What one record of a trace spells.
 use csv::ByteRecord;
-use ssb_plans::{Query, Question, Value};
-use ssb_queries::ResultRow;
-use ssb_records::{next_record, record_reader};
+use ssb_answers::ResultRow;
+use ssb_questions::{Query, Question, Value};
 use ssb_schema::{Items, Text};
-use ssb_trace_read::{client_of_commit, head_of, row_of};
+use ssb_text::{next_record, record_reader};
+use ssb_trace::{client_of_commit, head_of, row_of};
 use std::alloc::Global;
 use std::process::Abort;
 use std::test::Fail;

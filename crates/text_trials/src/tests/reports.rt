@@ -3,12 +3,12 @@ ghost use Rattle.ssb_report.specs.Report.{IsBehind};
 
 use row_store::{Cause, PlainLines, Receipt, RefreshError, RowStore};
 use small_data::{stored, tables};
-use ssb_load::load;
-use ssb_plans::{Query, Question};
-use ssb_queries::{Answer, Unserved};
+use ssb_answers::{Answer, Unserved};
+use ssb_base::{Base, Limits};
+use ssb_questions::{Query, Question};
 use ssb_report::{RunError, run_store, write_answer, write_receipt, write_refusal};
-use ssb_schema::{Base, Limits};
 use ssb_script::ScriptError;
+use ssb_text::load;
 use stand_ins::{Cut, Room};
 use std::alloc::Global;
 use std::hash::RandomState;

@@ -1,6 +1,6 @@
 //! Scripts that are read, and the faults of those that are not.
 
-use ssb_plans::{Query, Question, Value};
+use ssb_questions::{Query, Question, Value};
 use ssb_schema::{Action, Refresh, Text};
 use ssb_script::{Block, ScriptError, read_script};
 use stand_ins::Cut;

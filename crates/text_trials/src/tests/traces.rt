@@ -1,11 +1,11 @@
 //! Traces that are read, and the faults of those that are not.
 use row_store::Commit;
+use ssb_answers::ResultRow;
 use ssb_audit::{Told, Trace};
-use ssb_plans::{Query, Question, Value};
-use ssb_queries::ResultRow;
+use ssb_questions::{Query, Question, Value};
 use ssb_schema::{Action, Items, Text};
 use ssb_script::ScriptError;
-use ssb_trace_read::read_trace;
+use ssb_trace::read_trace;
 use stand_ins::Cut;
 use std::alloc::Global;
 use std::process::Abort;

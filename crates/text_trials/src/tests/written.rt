@@ -1,9 +1,9 @@
 //! Traces that are written.
 use row_store::Commit;
 use small_rows::order_like_nine;
+use ssb_answers::ResultRow;
 use ssb_audit::{Told, Trace};
-use ssb_plans::{Query, Question, Value};
-use ssb_queries::ResultRow;
+use ssb_questions::{Query, Question, Value};
 use ssb_report::WriteFault;
 use ssb_schema::{Action, Items, Refresh, Text};
 use ssb_trace::write_trace;

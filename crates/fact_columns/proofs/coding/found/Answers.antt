@@ -1,7 +1,7 @@
 use Rattle.std.proofs.Common.{◌∙◌, sym}
 use Rattle.std.specs.Prelude.{nat_eq}
 use Rattle.std.proofs.lemmas.List.Quantifiers.{position-Some}
-use Rattle.dim_index.specs.Keys.{keys_of}
+use Rattle.dimension_index.specs.Keys.{keys_of}
 use Rattle.fact_columns.proofs.coding.found.Goals as goal
 
 pub class-requires : goal.class-requires

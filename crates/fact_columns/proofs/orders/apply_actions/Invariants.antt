@@ -1,7 +1,7 @@
 use Rattle.std.proofs.Common.{◌≡◌, ◌+◌, ◌≤◌, length, fold, take, drop, flat_map, nat_eq}
 use Rattle.std.specs.List.{All}
 use Rattle.std.specs.HashMap.{get, spare}
-use Rattle.ssb_schema.specs.Base.{Dimensions}
+use Rattle.ssb_base.specs.Base.{Dimensions}
 use Rattle.ssb_schema.specs.Facts.{facts_of}
 use Rattle.row_store.specs.Lines.{added_by}
 use Rattle.row_store.specs.State.{counts_after_action}

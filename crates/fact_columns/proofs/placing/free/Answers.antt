@@ -1,7 +1,7 @@
 use Rattle.std.proofs.Common.{get_or}
 use Rattle.std.proofs.lemmas.List.{length-set}
 use Rattle.std.proofs.lemmas.List.Elements.{All-set}
-use Rattle.fact_table.specs.Places.{freed}
+use Rattle.fact_columns.specs.Places.{freed}
 use Rattle.fact_columns.specs.Classed.{IsPlaceOf}
 use Rattle.fact_columns.proofs.PlaceLaws.{live_within, live_at_freed, live_at_set_other, count_freed, within_freed}
 use Rattle.fact_columns.proofs.placing.free.Goals as goal

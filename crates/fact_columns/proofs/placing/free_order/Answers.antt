@@ -1,6 +1,6 @@
 use Rattle.std.proofs.Common.{arith, ◌≡◌, ◌∙◌, ℕ, Option, refl, sym, ap, eqb, Some}
 use Rattle.std.specs.Option.{option_map, option_eq}
-use Rattle.fact_table.specs.declared.place.Place.{Place}
+use Rattle.fact_columns.specs.declared.place.Place.{Place}
 use Rattle.fact_columns.specs.Spans.{live_at, kept, is_of_other}
 use Rattle.fact_columns.proofs.PlaceLaws.{gone_more, goes, stays, is_of_key, is_of_none}
 use Rattle.fact_columns.proofs.placing.free_order.Goals as goal

@@ -1,5 +1,5 @@
 use Rattle.std.proofs.Common.{arith, ◌∙◌}
-use Rattle.fact_table.specs.declared.place.Place.{Place}
+use Rattle.fact_columns.specs.declared.place.Place.{Place}
 use Rattle.fact_columns.specs.Coded.{counts_at}
 use Rattle.fact_columns.proofs.PlaceLaws.{mine_more, with_more}
 use Rattle.fact_columns.proofs.placing.put_all.Goals as goal

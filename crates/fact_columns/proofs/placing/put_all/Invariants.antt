@@ -1,7 +1,7 @@
 use Rattle.std.proofs.Common.{◌≡◌, ◌+◌, ◌<◌, ◌≤◌, ℕ, length, take, get_or, Some}
 use Rattle.std.specs.List.{All}
-use Rattle.ssb_schema.specs.Base.{Dimensions}
-use Rattle.fact_table.specs.declared.place.Place.{Place}
+use Rattle.ssb_base.specs.Base.{Dimensions}
+use Rattle.fact_columns.specs.declared.place.Place.{Place}
 use Rattle.fact_columns.specs.Classed.{IsPlaceOf}
 use Rattle.fact_columns.specs.Spans.{live_at, live_count}
 use Rattle.fact_columns.specs.Coded.{counts_at, with_places}

@@ -1,6 +1,6 @@
 use Rattle.std.proofs.Common.{◌≡◌, ◌∙◌, IfOk, sym, subst}
-use Rattle.ssb_schema.specs.Base.{Tables}
-use Rattle.fact_table.specs.Places.{live_facts}
+use Rattle.ssb_base.specs.Base.{Tables}
+use Rattle.fact_columns.specs.Places.{live_facts}
 use Rattle.shared_scan.specs.Answers.{answers_over}
 use Rattle.shared_scan.specs.Lines.{AreOfBase, HavePlaces}
 use Rattle.shared_scan.proofs.ScanLaws.{if_ok_then}

@@ -1,9 +1,9 @@
 use Rattle.std.proofs.Common.{ℕ, ◌≡◌, ◌+◌, ◌*◌, ◌/◌, ◌%◌, ◌&&◌, List, length, get_or, subst, sym, ap, ◌∙◌, arith}
 use Rattle.std.proofs.lemmas.List.{length-map}
 use Rattle.std.proofs.lemmas.Option.{slice_get_within}
-use Rattle.ssb_schema.specs.Base.{customer_key, supplier_key, part_key, date_key}
-use Rattle.ssb_queries.specs.RowValues.{customer_value, supplier_value, part_value, date_value, is_within}
-use Rattle.scan_answers.specs.Masks.{IsMask}
+use Rattle.ssb_base.specs.Base.{customer_key, supplier_key, part_key, date_key}
+use Rattle.ssb_answers.specs.RowValues.{customer_value, supplier_value, part_value, date_value, is_within}
+use Rattle.scan_kernel.specs.Masks.{IsMask}
 use Rattle.shared_scan.proofs.RowMaskLaws.{tell_row}
 use Rattle.shared_scan.proofs.batch_masks.batch_masks.Goals as goal
 

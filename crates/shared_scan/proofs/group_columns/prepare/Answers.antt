@@ -2,14 +2,14 @@ use Rattle.std.proofs.Common.{ℕ, ◌≡◌, ◌≢◌, ◌*◌, ◌^◌, ◌<�
 use Rattle.std.specs.Int.{bit_at}
 use Rattle.std.proofs.Math.Nat.{mul-le-mul}
 use Rattle.std.proofs.lemmas.List.{get_or_default, length-map}
-use Rattle.ssb_plans.specs.declared.value.Value.{Value}
-use Rattle.ssb_plans.specs.declared.value.Value.TheVariants.{Number}
+use Rattle.ssb_questions.specs.declared.value.Value.{Value}
+use Rattle.ssb_questions.specs.declared.value.Value.TheVariants.{Number}
 use Rattle.scan_kernel.specs.Places.{mask_in}
-use Rattle.scan_answers.specs.Groups.{code_in}
+use Rattle.scan_kernel.specs.Groups.{code_in}
 use Rattle.shared_scan.specs.Numbering.{IsPreparedColumn}
 use Rattle.shared_scan.proofs.PartLaws.{is_prepared}
-use Rattle.dim_index.specs.Values.{values_of}
-use Rattle.dim_index.specs.Codes.{distinct, codes_of}
+use Rattle.dimension_index.specs.Values.{values_of}
+use Rattle.dimension_index.specs.Codes.{distinct, codes_of}
 use Rattle.shared_scan.proofs.DistinctLaws.{codes_within, distinct_few}
 use Rattle.shared_scan.proofs.group_columns.prepare.Goals as goal
 

@@ -1,8 +1,8 @@
 use Rattle.std.proofs.Common.{ℕ, ◌≡◌, [], ◌∷◌, ◌++◌, map, take, get_or, sym, ap, ◌∙◌}
 use Rattle.std.proofs.lemmas.List.{take_more, map_push}
 use Rattle.std.proofs.lemmas.Option.{get_or_from_slice_get}
-use Rattle.ssb_plans.specs.declared.value.Value.{Value}
-use Rattle.ssb_plans.specs.declared.value.Value.TheVariants.{Number}
+use Rattle.ssb_questions.specs.declared.value.Value.{Value}
+use Rattle.ssb_questions.specs.declared.value.Value.TheVariants.{Number}
 use Rattle.shared_scan.proofs.group_columns.values_at.Goals as goal
 
 pub loop-code-preserved : goal.loop-code-preserved

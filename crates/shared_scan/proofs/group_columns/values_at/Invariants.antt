@@ -1,5 +1,5 @@
 use Rattle.std.proofs.Common.{◌≡◌, map, take, get_or}
-use Rattle.ssb_plans.specs.declared.value.Value.TheVariants.{Number}
+use Rattle.ssb_questions.specs.declared.value.Value.TheVariants.{Number}
 use Rattle.shared_scan.proofs.group_columns.values_at.Given as goal
 
 abbrev pub invariant-loop-code : goal.invariant-loop-code

@@ -3,9 +3,9 @@ use Rattle.std.proofs.Math.Nat.{one-mul, mul-le-mul}
 use Rattle.std.proofs.lemmas.List.{take_more}
 use Rattle.ssb_schema.specs.declared.column.Column.{Column}
 use Rattle.ssb_schema.specs.declared.table.Table.TheVariants.{Customer}
-use Rattle.ssb_plans.specs.declared.value.Value.{Value}
-use Rattle.dim_index.specs.Values.{values_of}
-use Rattle.scan_answers.specs.Groups.{size_of, counts_of}
+use Rattle.ssb_questions.specs.declared.value.Value.{Value}
+use Rattle.dimension_index.specs.Values.{values_of}
+use Rattle.scan_kernel.specs.Groups.{size_of, counts_of}
 use Rattle.shared_scan.specs.Numbering.{IsPreparedColumn}
 use Rattle.shared_scan.specs.Prepared.{masks_in}
 use Rattle.shared_scan.proofs.GroupedLaws.{prepared_more, size_more}

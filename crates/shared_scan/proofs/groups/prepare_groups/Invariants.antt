@@ -1,5 +1,5 @@
 use Rattle.std.proofs.Common.{◌≡◌, ◌≤◌, ◌^◌, take}
-use Rattle.scan_answers.specs.Groups.{size_of, counts_of}
+use Rattle.scan_kernel.specs.Groups.{size_of, counts_of}
 use Rattle.shared_scan.specs.Grouped.{ArePrepared}
 use Rattle.shared_scan.proofs.groups.prepare_groups.Given as goal
 

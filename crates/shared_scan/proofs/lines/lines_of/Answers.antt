@@ -1,5 +1,5 @@
 use Rattle.std.proofs.Common.{sym, ◌∙◌}
-use Rattle.fact_table.specs.declared.place.Place.{Place}
+use Rattle.fact_columns.specs.declared.place.Place.{Place}
 use Rattle.shared_scan.specs.Classed.{classed}
 use Rattle.shared_scan.proofs.SumLaws.{map_twice}
 use Rattle.shared_scan.proofs.lines.lines_of.Goals as goal

@@ -1,7 +1,7 @@
 use Rattle.std.proofs.Common.{◌∙◌, ◌≡◌, length, Bool, Some, ap, sym, subst, arith}
 use Rattle.std.specs.Prelude.{slice_get}
 use Rattle.std.proofs.lemmas.Option.{slice_get-get_or}
-use Rattle.ssb_plans.specs.declared.plan.Plan.{Plan}
+use Rattle.ssb_questions.specs.declared.plan.Plan.{Plan}
 use Rattle.shared_scan.proofs.MaskingLaws.{IsMaskUpTo, mask_ends, mask_sets, mask_stays}
 use Rattle.shared_scan.proofs.masking.mask_of.Goals as goal
 use Rattle.shared_scan.proofs.masking.mask_of.Goals.{then-is_taken, else-is_taken}

@@ -19,10 +19,10 @@ use Rattle.std.proofs.Common.{
 }
 use Rattle.std.proofs.lemmas.List.{get_or_default, with_items_is}
 use Rattle.ssb_schema.specs.declared.column.Column.{Column}
-use Rattle.ssb_plans.specs.declared.value.Value.{Value}
-use Rattle.dim_index.specs.Keys.{keys_of}
-use Rattle.dim_index.specs.Values.{values_of}
-use Rattle.dim_index.specs.Codes.{distinct}
+use Rattle.ssb_questions.specs.declared.value.Value.{Value}
+use Rattle.dimension_index.specs.Keys.{keys_of}
+use Rattle.dimension_index.specs.Values.{values_of}
+use Rattle.dimension_index.specs.Codes.{distinct}
 use Rattle.shared_scan.specs.Masking.{AreCodeMasks, AreRowMasks}
 use Rattle.shared_scan.proofs.DistinctLaws.{codes_within}
 use Rattle.shared_scan.proofs.RowMaskLaws.{row_masks_start, row_masks_more}

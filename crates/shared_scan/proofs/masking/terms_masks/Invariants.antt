@@ -1,6 +1,6 @@
 use Rattle.std.proofs.Common.{◌≡◌, ℕ, ◌<◌, ◌≤◌, ◌/◌, ◌%◌, ◌&&◌, length, get_or}
-use Rattle.ssb_queries.specs.RowValues.{is_within}
-use Rattle.scan_answers.specs.Masks.{IsMask}
+use Rattle.ssb_answers.specs.RowValues.{is_within}
+use Rattle.scan_kernel.specs.Masks.{IsMask}
 use Rattle.shared_scan.proofs.masking.terms_masks.Given as goal
 
 abbrev pub invariant-loop-code : goal.invariant-loop-code

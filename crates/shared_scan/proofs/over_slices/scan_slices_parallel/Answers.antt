@@ -1,10 +1,10 @@
 use Rattle.std.proofs.Common.{◌≡◌, ℕ, length, List, map, IfOk, sym, subst, arith, ◌∙◌}
 use Rattle.std.specs.Prelude.{◌≤◌}
 use Rattle.std.specs.List.{range_with_len}
-use Rattle.ssb_schema.specs.Base.{Tables, IsSound}
-use Rattle.dim_index.specs.Classes.{reduced}
-use Rattle.fact_table.specs.declared.place.Place.{Place}
-use Rattle.fact_table.specs.Places.{live_facts}
+use Rattle.ssb_base.specs.Base.{Tables, IsSound}
+use Rattle.dimension_index.specs.Classes.{reduced}
+use Rattle.fact_columns.specs.declared.place.Place.{Place}
+use Rattle.fact_columns.specs.Places.{live_facts}
 use Rattle.scan_kernel.specs.Totals.{AreBatchTotals}
 use Rattle.shared_scan.specs.Answers.{Prepared, answers_over}
 use Rattle.shared_scan.specs.Batch.{questions_of}

@@ -1,5 +1,5 @@
 use Rattle.std.proofs.Common.{◌≡◌, ℕ, ◌<◌, true, get_or}
-use Rattle.ssb_plans.specs.declared.cond.Test.{Test}
+use Rattle.ssb_questions.specs.declared.cond.Test.{Test}
 use Rattle.shared_scan.specs.Tests.{is_place}
 use Rattle.shared_scan.proofs.plan_tests.add_places.Given as goal
 

@@ -1,6 +1,6 @@
 use Rattle.std.proofs.Common.{◌≡◌, ℕ, ◌<◌, true, Some}
 use Rattle.std.specs.Prelude.{All, slice_get}
-use Rattle.ssb_plans.specs.declared.plan.Plan.{Plan}
+use Rattle.ssb_questions.specs.declared.plan.Plan.{Plan}
 use Rattle.shared_scan.specs.Tests.{is_place, tests_of}
 use Rattle.shared_scan.proofs.plan_tests.tested_places.Given as goal
 

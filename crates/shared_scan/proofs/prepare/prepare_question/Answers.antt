@@ -1,5 +1,5 @@
 use Rattle.std.proofs.Common.{length, arith, ap}
-use Rattle.ssb_plans.specs.declared.plan.Plan.{Plan}
+use Rattle.ssb_questions.specs.declared.plan.Plan.{Plan}
 use Rattle.shared_scan.proofs.GroupLaws.{three_alone}
 use Rattle.shared_scan.proofs.prepare.prepare_question.Goals as goal
 

@@ -1,6 +1,6 @@
 use Rattle.std.proofs.Common.{◌≡◌, ℕ, ◌+◌, ◌<◌, List, [], ◌∷◌, ◌++◌, length, get_or, ap, sym, ◌∙◌, subst, arith}
 use Rattle.std.proofs.lemmas.List.{length-append, get_or_default}
-use Rattle.ssb_queries.specs.declared.answer.Rows.{Rows}
+use Rattle.ssb_answers.specs.declared.answer.Rows.{Rows}
 use Rattle.scan_kernel.specs.declared.totals.Totals.{Totals}
 use Rattle.shared_scan.specs.TotalRows.{AreRowsOf, CanAnswer}
 use Rattle.shared_scan.specs.declared.ready.Ready.{Ready}

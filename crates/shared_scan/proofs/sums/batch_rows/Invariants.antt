@@ -1,5 +1,5 @@
 use Rattle.std.proofs.Common.{◌≡◌, ℕ, ◌<◌, length, get_or}
-use Rattle.ssb_queries.specs.declared.answer.Rows.{Rows}
+use Rattle.ssb_answers.specs.declared.answer.Rows.{Rows}
 use Rattle.scan_kernel.specs.declared.totals.Totals.{Totals}
 use Rattle.shared_scan.specs.TotalRows.{AreRowsOf}
 use Rattle.shared_scan.specs.declared.ready.Ready.{Ready}

@@ -1,5 +1,5 @@
 use Rattle.std.proofs.Common.{ℕ, ◌<◌, length, arith, ◌∙◌}
-use Rattle.scan_answers.specs.Groups.{counts_of, size_of}
+use Rattle.scan_kernel.specs.Groups.{counts_of, size_of}
 use Rattle.shared_scan.proofs.sums.rows_of.Goals as goal
 
 pub returns : goal.returns

@@ -1,5 +1,5 @@
 use Rattle.std.proofs.Common.{◌∙◌, ap}
-use Rattle.ssb_schema.specs.Limits.{limits_of}
+use Rattle.ssb_base.specs.Limits.{limits_of}
 use Rattle.ssb_files.proofs.loading.base_of.Goals as goal
 
 pub returns-in-Ok-clause-base : goal.returns-in-Ok-clause-base

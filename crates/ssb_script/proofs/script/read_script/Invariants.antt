@@ -1,5 +1,5 @@
 use Rattle.std.proofs.Common.{map}
-use Rattle.ssb_records.specs.Records.{IsRecordReader}
+use Rattle.ssb_text.specs.Records.{IsRecordReader}
 use Rattle.ssb_script.specs.Requests.{request_of}
 use Rattle.ssb_script.specs.Scripts.{HasRoom}
 use Rattle.ssb_script.specs.Steps.{begun_in}

@@ -1,6 +1,6 @@
 use Rattle.std.proofs.Common.{◌≡◌, length}
 use Rattle.std.specs.Prelude.{All}
-use Rattle.ssb_schema.specs.Base.{Tables}
+use Rattle.ssb_base.specs.Base.{Tables}
 use Rattle.ssb_server.specs.Opening.{IsNewDispatcher, IsNewReader}
 use Rattle.ssb_server.proofs.opening.dispatchers_of.Given as goal
 

@@ -1,10 +1,10 @@
 use Rattle.std.proofs.Common.{◌≡◌, List, Bool, true, false, [], refl, ap, sym, ◌∙◌}
 use Rattle.std.specs.Prelude.{IsTrue, if◌then◌else◌}
-use Rattle.ssb_plans.specs.Queries.{standard_constants}
-use Rattle.ssb_plans.specs.QuestionEq.{question_eq}
-use Rattle.ssb_plans.specs.declared.query.Query.{Query}
-use Rattle.ssb_plans.specs.declared.value.Value.{Value}
-use Rattle.ssb_plans.proofs.QuestionLaws.{question_Decides}
+use Rattle.ssb_questions.specs.Queries.{standard_constants}
+use Rattle.ssb_questions.specs.QuestionEq.{question_eq}
+use Rattle.ssb_questions.specs.declared.query.Query.{Query}
+use Rattle.ssb_questions.specs.declared.value.Value.{Value}
+use Rattle.ssb_questions.proofs.QuestionLaws.{question_Decides}
 use Rattle.ssb_trace.specs.TraceText.{written_constants}
 use Rattle.ssb_trace.proofs.answers.write_constants.Goals as goal
 

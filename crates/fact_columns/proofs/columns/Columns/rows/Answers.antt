@@ -1,7 +1,7 @@
 use Rattle.std.proofs.Common.{rules, ◌≡◌, length, sym, ap, ◌∙◌}
 use Rattle.std.specs.List.{filter}
 use Rattle.std.proofs.lemmas.List.{length-map}
-use Rattle.fact_table.specs.Places.{is_live, fact_at}
+use Rattle.fact_columns.specs.Places.{is_live, fact_at}
 use Rattle.fact_columns.specs.Stored.{Stored}
 use Rattle.fact_columns.specs.Kept.{stored}
 use Rattle.fact_columns.proofs.ColumnLaws.{as_many_facts}

@@ -1,7 +1,7 @@
 use Rattle.std.proofs.Common.{rules, ◌≡◌, length, ap, arith}
 use Rattle.std.specs.List.{All}
 use Rattle.std.proofs.lemmas.List.Elements.{All-same}
-use Rattle.ssb_schema.specs.Base.{Dimensions}
+use Rattle.ssb_base.specs.Base.{Dimensions}
 use Rattle.fact_columns.specs.Classed.{IsPlaceOf}
 use Rattle.fact_columns.specs.Spans.{live_count}
 use Rattle.fact_columns.proofs.PlaceLaws.{live_few}

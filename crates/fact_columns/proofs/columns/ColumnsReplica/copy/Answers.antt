@@ -2,8 +2,8 @@ use Rattle.std.proofs.Common.{rules, ◌≡◌, ℕ, List, length, nat_eq, sym, 
 use Rattle.std.specs.List.{All}
 use Rattle.std.specs.Map.{lookup}
 use Rattle.std.proofs.lemmas.Map.Entries.{entries_from_clone}
-use Rattle.ssb_schema.specs.Base.{Tables}
-use Rattle.fact_table.specs.declared.place.Place.{Place}
+use Rattle.ssb_base.specs.Base.{Tables}
+use Rattle.fact_columns.specs.declared.place.Place.{Place}
 use Rattle.fact_columns.specs.Classed.{IsPlaceOf}
 use Rattle.fact_columns.specs.declared.span.Span.{Span}
 use Rattle.fact_columns.specs.Spans.{Spanned, live_count}

@@ -1,5 +1,5 @@
 use Rattle.std.proofs.Common.{refl, ap, sym, ◌∙◌, [], None}
-use Rattle.ssb_schema.specs.Base.{Tables}
+use Rattle.ssb_base.specs.Base.{Tables}
 use Rattle.row_store.specs.History.{Warehouse}
 use Rattle.history_core.specs.declared.world.World.TheInside.{Inside}
 use Rattle.history_core.proofs.OpeningLaws.{opening_kept, opening_shown}

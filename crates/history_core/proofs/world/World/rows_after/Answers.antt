@@ -1,5 +1,5 @@
 use Rattle.std.proofs.Common.{◌≡◌, ap, subst, ◌∙◌}
-use Rattle.ssb_schema.specs.Base.{IsSound}
+use Rattle.ssb_base.specs.Base.{IsSound}
 use Rattle.history_core.specs.World.{World}
 use Rattle.history_core.proofs.FewLaws.{few_lines}
 use Rattle.history_core.proofs.world.World.rows_after.Goals as goal

@@ -2,7 +2,7 @@ use Rattle.std.proofs.Common.{rules, ◌≡◌, ◌-◌, List, length, refl, sym
 use Rattle.ssb_schema.specs.declared.line.LineFields.{LineFields}
 use Rattle.ssb_schema.specs.declared.refresh.Action.TheVariants.{Add, Amend}
 use Rattle.ssb_schema.specs.Orders.{order_key}
-use Rattle.ssb_schema.specs.Base.{Tables}
+use Rattle.ssb_base.specs.Base.{Tables}
 use Rattle.row_store.specs.Lines.{lines_without, lines_after_refresh}
 use Rattle.row_store.specs.History.{lines_after}
 use Rattle.row_store.proofs.CountedLaws.{length_kept}

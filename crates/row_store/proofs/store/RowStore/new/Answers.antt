@@ -1,6 +1,6 @@
 use Rattle.std.proofs.Common.{◌≡◌, length, sym, ap, ◌∙◌, subst, arith}
 use Rattle.std.specs.List.Sorted.{IsNonDecreasingBy}
-use Rattle.ssb_schema.specs.Base.{is_same_line}
+use Rattle.ssb_base.specs.Base.{is_same_line}
 use Rattle.ssb_schema.specs.FirstFault.{AreDistinct}
 use Rattle.row_store.specs.Lines.{lines_of}
 use Rattle.row_store.specs.Keyed.{key_at, lines_at}

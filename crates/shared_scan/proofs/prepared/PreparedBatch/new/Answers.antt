@@ -2,10 +2,10 @@ use Rattle.std.proofs.Common.{ℕ, ◌≡◌, ◌+◌, ◌<◌, List, [], ◌∷
 use Rattle.std.specs.Prelude.{slice_get}
 use Rattle.std.proofs.lemmas.List.{length-append}
 use Rattle.std.proofs.lemmas.Option.{slice_get_within}
-use Rattle.ssb_schema.specs.Base.{Tables}
-use Rattle.dim_index.specs.Classes.{reduced}
-use Rattle.ssb_plans.specs.declared.query.Query.{Query}
-use Rattle.ssb_plans.specs.declared.value.Value.{Value}
+use Rattle.ssb_base.specs.Base.{Tables}
+use Rattle.dimension_index.specs.Classes.{reduced}
+use Rattle.ssb_questions.specs.declared.query.Query.{Query}
+use Rattle.ssb_questions.specs.declared.value.Value.{Value}
 use Rattle.shared_scan.specs.Prepared.{AreMasksOf}
 use Rattle.shared_scan.specs.Batch.{IsReady, AreReady, plans_of, questions_of}
 use Rattle.shared_scan.specs.declared.ready.Ready.{Ready}

@@ -1,8 +1,8 @@
 use Rattle.std.proofs.Common.{◌≡◌, ℕ, ◌<◌, List, length, get_or, Some}
 use Rattle.std.specs.Prelude.{slice_get}
-use Rattle.dim_index.specs.Classes.{reduced}
-use Rattle.ssb_plans.specs.declared.query.Query.{Query}
-use Rattle.ssb_plans.specs.declared.value.Value.{Value}
+use Rattle.dimension_index.specs.Classes.{reduced}
+use Rattle.ssb_questions.specs.declared.query.Query.{Query}
+use Rattle.ssb_questions.specs.declared.value.Value.{Value}
 use Rattle.shared_scan.specs.Batch.{IsReady}
 use Rattle.shared_scan.specs.declared.ready.Ready.{Ready}
 use Rattle.shared_scan.proofs.prepared.PreparedBatch.new.Given as goal

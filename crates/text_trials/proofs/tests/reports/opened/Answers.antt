@@ -1,5 +1,5 @@
 use Rattle.std.proofs.Common.{◌≡◌, [], ap, ◌∙◌, rules}
-use Rattle.ssb_schema.specs.Base.{Tables}
+use Rattle.ssb_base.specs.Base.{Tables}
 use Rattle.row_store.specs.History.{Warehouse}
 use Rattle.ssb_report.proofs.ServingLaws.{behind_at_start}
 use Rattle.text_trials.proofs.tests.reports.opened.Goals as goal

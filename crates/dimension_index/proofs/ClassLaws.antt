@@ -1,0 +1,258 @@
+-- The classes of rows, from their codes.
+use Rattle.std.proofs.Common.{◌≡◌, ℕ, ◌+◌, ◌<◌, Bool, true, false, cond, List, [], ◌∷◌, ◌++◌, length, map, get_or}
+use Rattle.std.proofs.Common.{Option, Some, None, zero, suc, sym, refl, ap, ◌∙◌, arith, unwrap_or, take}
+use Rattle.std.specs.Prelude.{nat_eq, ◌&&◌, if◌then◌else◌}
+use Rattle.std.specs.List.{position, position_from, range_with_len}
+use Rattle.std.specs.Option.{option_or}
+use Rattle.std.proofs.lemmas.Bool.{eqb-true, eq-eqb}
+use Rattle.std.proofs.lemmas.List.{length-map, length-take-le, take_more}
+use Rattle.std.proofs.lemmas.List.FromFn.{length-map-range_with_len}
+use Rattle.std.proofs.lemmas.Iterator.Adapters.{position_from-zero}
+use Rattle.ssb_base.specs.Base.{Dimensions, Tables, customer_key, supplier_key, part_key, date_key}
+use Rattle.ssb_schema.specs.declared.table.Table.{Table}
+use Rattle.ssb_schema.specs.declared.table.Table.TheVariants as table
+use Rattle.ssb_questions.specs.declared.value.Value.{Value}
+use Rattle.ssb_questions.specs.declared.value.Value.TheVariants.{Number}
+use Rattle.ssb_answers.specs.RowValues.{customer_value, supplier_value, part_value, date_value}
+use Rattle.dimension_index.specs.Codes.{codes_of, is_same}
+use Rattle.dimension_index.specs.Keys.{keys_of}
+use Rattle.dimension_index.specs.Classes.{are_alike, class_at, classes_by, classes_of, telling_columns, read_columns, rows_in}
+use Rattle.dimension_index.specs.Values.{values_of}
+use Rattle.ssb_schema.specs.declared.column.Column.{Column}
+use Rattle.dimension_index.specs.Told.{Told, same_told, told_at, told_rows, first_in, noted}
+use Rattle.dimension_index.proofs.CodeLaws.{same_codes}
+
+both : (a b : Bool) → (a && b) ≡ true → (a ≡ true) × (b ≡ true)
+both true b e = (refl, e)
+both false b e = absurd (cc)
+
+-- the same codes are equal
+told_equal : (x y : Told) → same_told x y ≡ true → x ≡ y
+told_equal x y same =
+    let first = both ((nat_eq x.0 y.0 && nat_eq x.1 y.1) && nat_eq x.2 y.2) (nat_eq x.3 y.3) same in
+    let second = both (nat_eq x.0 y.0 && nat_eq x.1 y.1) (nat_eq x.2 y.2) first.0 in
+    let third = both (nat_eq x.0 y.0) (nat_eq x.1 y.1) second.0 in
+    λ i. (
+      eqb-true x.0 y.0 third.0 i,
+      eqb-true x.1 y.1 third.1 i,
+      eqb-true x.2 y.2 second.1 i,
+      eqb-true x.3 y.3 first.1 i,
+    )
+
+-- codes that were seen are not noted again
+pub seen_before : (places : Told → Option ℕ) (told : Told) (place at : ℕ) (other : Told) → places told ≡ Some place
+    → places other ≡ noted places told at other
+seen_before places told place at other seen = step (same_told told other) refl
+  where
+    kept : (o p : Option ℕ) (q : ℕ) → o ≡ Some q → o ≡ option_or o p
+    kept None p q e = absurd (cc)
+    kept (Some x) p q e = refl
+
+    none : (o : Option ℕ) → o ≡ option_or o None
+    none None = refl
+    none (Some x) = refl
+
+    step : (b : Bool) → same_told told other ≡ b → places other ≡ noted places told at other
+    step true same = kept (places other) (if same_told told other then Some at else None) place
+        (ap places (sym (told_equal told other same)) ∙ seen)
+    step false apart = none (places other) ∙ ap (λ b. option_or (places other) (if b then Some at else None))
+        (sym apart)
+
+-- codes that are new are noted
+pub seen_now : (places later : Told → Option ℕ) (told : Told) (at : ℕ) (other : Told) → places told ≡ None
+    → later other ≡ cond (same_told told other) (Some at) (places other)
+    → later other ≡ noted places told at other
+seen_now places later told at other new is = is ∙ step (same_told told other) refl
+  where
+    none : (o : Option ℕ) → o ≡ option_or o None
+    none None = refl
+    none (Some x) = refl
+
+    step : (b : Bool) → same_told told other ≡ b → cond (same_told told other) (Some at) (places other) ≡ noted places
+        told at other
+    step true same =
+        let missing : places other ≡ None = ap places (sym (told_equal told other same)) ∙ new in
+        ap (λ b. cond b (Some at) (places other)) same
+        ∙ ap (λ b. option_or None (if b then Some at else None)) (sym same)
+        ∙ ap (λ o. option_or o (if same_told told other then Some at else None)) (sym missing)
+    step false apart = ap (λ b. cond b (Some at) (places other)) apart ∙ none (places other)
+        ∙ ap (λ b. option_or (places other) (if b then Some at else None)) (sym apart)
+
+-- the first place in a list with one element more
+position_push : {X : Type 0} (test : X → Bool) (a : ℕ) (xs : List X) (y : X)
+    → position_from test a (xs ++ y ∷ []) ≡ option_or (position_from test a xs)
+    (cond (test y) (Some (a + length xs)) None)
+position_push test a [] y = let here : a ≡ a + 0 = omega arith in ap (λ k. cond (test y) (Some k) None) here
+position_push test a (x ∷ xs) y =
+    let next : a + 1 + length xs ≡ a + suc (length xs) = omega arith in
+    ap (cond (test x) (Some a)) (position_push test (a + 1) xs y
+    ∙ ap (λ k. option_or (position_from test (a + 1) xs) (cond (test y) (Some k) None)) next) ∙ step (test x)
+  where
+    step : (b : Bool) → cond b (Some a) (option_or (position_from test (a + 1) xs)
+        (cond (test y) (Some (a + suc (length xs))) None))
+        ≡ option_or (cond b (Some a) (position_from test (a + 1) xs)) (cond (test y) (Some (a + suc (length xs))) None)
+    step true = refl
+    step false = refl
+
+pub first_push : (other : Told) (rows : List Told) (told : Told)
+    → position (λ own. same_told own other) (rows ++ told ∷ []) ≡ option_or (position (λ own. same_told own other) rows)
+    (if same_told told other then Some (length rows) else None)
+first_push other rows told =
+    let test : Told → Bool = λ own. same_told own other in
+    let start : 0 + length rows ≡ length rows = omega arith in
+    position_from-zero test (rows ++ told ∷ [])
+    ∙ position_push test 0 rows told
+    ∙ (λ i. option_or (sym (position_from-zero test rows) i) (cond (test told) (Some (start i)) None))
+
+-- a test and what it tests, place by place
+positions_agree : {X : Type 0} (f : ℕ → X) (test : X → Bool) (other : ℕ → Bool) (a n b : ℕ)
+    → ((j : ℕ) → j < a + n → test (f j) ≡ other j)
+    → position_from test b (map f (range_with_len a n)) ≡ position_from other b (range_with_len a n)
+positions_agree f test other a zero b same = refl
+positions_agree f test other a (suc n) b same = λ i. cond (same a (omega arith) i) (Some b)
+    (positions_agree f test other (a + 1) n (b + 1) (λ j h. same j (omega (arith, h))) i)
+
+maps_agree : {X Y : Type 0} (f : ℕ → X) (g : X → Y) (h : ℕ → Y) (a n : ℕ) → ((j : ℕ) → j < a + n → g (f j) ≡ h j)
+    → map g (map f (range_with_len a n)) ≡ map h (range_with_len a n)
+maps_agree f g h a zero same = refl
+maps_agree f g h a (suc n) same = λ i. same a (omega arith) i ∷ maps_agree f g h (a + 1) n
+    (λ j lt. same j (omega (arith, lt))) i
+
+four : (a b c d : Bool) → (((a && b) && c) && d) ≡ (a && (b && (c && (d && true))))
+four false b c d = refl
+four true false c d = refl
+four true true false d = refl
+four true true true false = refl
+four true true true true = refl
+
+-- the first places of rows' codes are the rows' classes
+pub classes_told : (a b c d : List Value) → length b ≡ length a → length c ≡ length a → length d ≡ length a
+    → map (first_in (told_rows (codes_of a) (codes_of b) (codes_of c) (codes_of d)))
+    (told_rows (codes_of a) (codes_of b) (codes_of c) (codes_of d)) ≡ classes_by (a ∷ b ∷ c ∷ d ∷ []) (length a)
+classes_told a b c d like_b like_c like_d =
+    maps_agree told (first_in rows) (class_at columns count) 0 count each
+    ∙ ap (λ n. map (class_at columns n) (range_with_len 0 n)) long
+  where
+    columns : List (List Value)
+    columns = a ∷ b ∷ c ∷ d ∷ []
+
+    told : ℕ → Told
+    told = told_at (codes_of a) (codes_of b) (codes_of c) (codes_of d)
+
+    rows : List Told
+    rows = told_rows (codes_of a) (codes_of b) (codes_of c) (codes_of d)
+
+    count : ℕ
+    count = length (codes_of a)
+
+    long : count ≡ length a
+    long = length-map a _
+
+    same_at : List Value → ℕ → ℕ → Bool
+    same_at column p q = is_same (get_or column p (Number 0)) (get_or column q (Number 0))
+
+    alike : (p q : ℕ) → p < count → q < count → same_told (told q) (told p) ≡ are_alike columns p q
+    alike p q at_p at_q =
+        let in_a = same_codes a p q (omega (arith, at_p, long)) (omega (arith, at_q, long)) in
+        let in_b = same_codes b p q (omega (arith, at_p, long, like_b)) (omega (arith, at_q, long, like_b)) in
+        let in_c = same_codes c p q (omega (arith, at_p, long, like_c)) (omega (arith, at_q, long, like_c)) in
+        let in_d = same_codes d p q (omega (arith, at_p, long, like_d)) (omega (arith, at_q, long, like_d)) in
+        (λ i. ((in_a i && in_b i) && in_c i) && in_d i)
+        ∙ four (same_at a p q) (same_at b p q) (same_at c p q) (same_at d p q)
+
+    each : (p : ℕ) → p < 0 + count → first_in rows (told p) ≡ class_at columns count p
+    each p at_p =
+        let test : Told → Bool = λ own. same_told own (told p) in
+        ap (λ o. unwrap_or o 0) (position_from-zero test rows
+        ∙ positions_agree told test (are_alike columns p) 0 count 0
+        (λ q at_q. alike p q (omega (arith, at_p)) (omega (arith, at_q)))
+        ∙ sym (position_from-zero (are_alike columns p) (range_with_len 0 count)))
+
+-- each row has a class
+pub classes_length : (d : Dimensions) (t : Table) → length (classes_of d t) ≡ rows_in d t
+unfolding classes_of
+classes_length d t = length-map-range_with_len (class_at (read_columns d t) (rows_in d t)) 0 (rows_in d t)
+
+-- the values of four columns of a base
+abbrev four_of : Tables → List Column → Column → List (List Value)
+four_of base columns d =
+    values_of base (get_or columns 0 d) ∷ values_of base (get_or columns 1 d) ∷ values_of base (get_or columns 2 d)
+    ∷ values_of base (get_or columns 3 d) ∷ []
+
+classes_read : (base : Tables) (t : Table) (d : Column)
+    → classes_by (four_of base (telling_columns t) d) (length (values_of base (get_or (telling_columns t) 0 d)))
+    ≡ classes_of base.dimensions t
+unfolding classes_of
+classes_read base table.Customer d = ap (classes_by (read_columns base.dimensions table.Customer))
+    (length-map base.dimensions.customers (customer_value 4))
+classes_read base table.Supplier d = ap (classes_by (read_columns base.dimensions table.Supplier))
+    (length-map base.dimensions.suppliers (supplier_value 4))
+classes_read base table.Part d = ap (classes_by (read_columns base.dimensions table.Part))
+    (length-map base.dimensions.parts (part_value 3))
+classes_read base table.Date d = ap (classes_by (read_columns base.dimensions table.Date))
+    (length-map base.dimensions.dates (date_value 5))
+classes_read base table.Lineorder d = refl
+
+-- the columns that queries read tell the classes
+pub classes_kept : (base : Tables) (t : Table) (columns : List Column) (d : Column) → columns ≡ telling_columns t
+    → classes_by (four_of base columns d) (length (values_of base (get_or columns 0 d))) ≡ classes_of base.dimensions t
+classes_kept base t columns d is =
+    ap (λ l. classes_by (four_of base l d) (length (values_of base (get_or l 0 d)))) is ∙ classes_read base t d
+
+-- there are as many classes as keys
+pub classes_keys : (base : Tables) (t : Table) → length (classes_of base.dimensions t) ≡ length (keys_of base t)
+classes_keys base table.Customer = classes_length base.dimensions table.Customer
+    ∙ sym (length-map base.dimensions.customers customer_key)
+classes_keys base table.Supplier = classes_length base.dimensions table.Supplier
+    ∙ sym (length-map base.dimensions.suppliers supplier_key)
+classes_keys base table.Part = classes_length base.dimensions table.Part
+    ∙ sym (length-map base.dimensions.parts part_key)
+classes_keys base table.Date = classes_length base.dimensions table.Date
+    ∙ sym (length-map base.dimensions.dates date_key)
+classes_keys base table.Lineorder = classes_length base.dimensions table.Lineorder
+
+first_at : {X : Type 0} (test : X → Bool) (a other : ℕ) (xs : List X) (i : ℕ) (d : X) → i < length xs
+    → test (get_or xs i d) ≡ true
+    → unwrap_or (position_from test a xs) other ≡ unwrap_or (position_from test a (take i xs)) (a + i)
+first_at test a other [] i d within passes = absurd (omega (arith, within))
+first_at test a other (x ∷ xs) zero d within passes =
+    let start : a ≡ a + 0 = omega arith in
+    ap (λ b. unwrap_or (cond b (Some a) (position_from test (a + 1) xs)) other) passes ∙ start
+first_at test a other (x ∷ xs) (suc i) d within passes =
+    step (test x) (first_at test (a + 1) other xs i d (omega (arith, within)) passes)
+  where
+    next : a + 1 + i ≡ a + suc i
+    next = omega arith
+
+    step : (b : Bool) → unwrap_or (position_from test (a + 1) xs) other ≡ unwrap_or
+        (position_from test (a + 1) (take i xs)) (a + 1 + i)
+        → unwrap_or (cond b (Some a) (position_from test (a + 1) xs)) other ≡ unwrap_or
+        (cond b (Some a) (position_from test (a + 1) (take i xs))) (a + suc i)
+    step true rest = refl
+    step false rest = rest ∙ ap (unwrap_or (position_from test (a + 1) (take i xs))) next
+
+same_self : (x : Told) → same_told x x ≡ true
+same_self x = λ i. ((eq-eqb x.0 x.0 refl i && eq-eqb x.1 x.1 refl i) && eq-eqb x.2 x.2 refl i) && eq-eqb x.3 x.3 refl i
+
+-- where codes stand first is known from the rows before them
+pub first_known : (rows : List Told) (i : ℕ) (told : Told) → i < length rows → told ≡ get_or rows i told
+    → first_in rows told ≡ unwrap_or (position (λ own. same_told own told) (take i rows)) i
+first_known rows i told within is =
+    let test : Told → Bool = λ own. same_told own told in
+    let start : 0 + i ≡ i = omega arith in
+    ap (λ o. unwrap_or o 0) (position_from-zero test rows)
+    ∙ first_at test 0 0 rows i told within (ap test (sym is) ∙ same_self told)
+    ∙ (λ j. unwrap_or (sym (position_from-zero test (take i rows)) j) (start j))
+
+-- one row more is noted
+pub noted_more : (rows : List Told) (i : ℕ) (told other : Told) → i < length rows → told ≡ get_or rows i told
+    → option_or (position (λ own. same_told own other) (take i rows))
+    (if same_told told other then Some i else None) ≡ position (λ own. same_told own other) (take (i + 1) rows)
+noted_more rows i told other within is =
+    let before : List Told = take i rows in
+    let long : length before ≡ i = length-take-le i rows (omega (arith, within)) in
+    ap (λ n. option_or (position (λ own. same_told own other) before) (if same_told told other then Some n else None))
+    (sym long)
+    ∙ sym (first_push other before told)
+    ∙ ap (λ l. position (λ own. same_told own other) l)
+    (ap (λ x. before ++ x ∷ []) is ∙ sym (take_more rows i told within))

@@ -1,0 +1,286 @@
+-- A list made place by place, after one place more or one write.
+use Rattle.std.proofs.Common.{
+  ◌≡◌,
+  ◌≢◌,
+  ℕ,
+  ◌+◌,
+  ◌<◌,
+  ◌≤◌,
+  List,
+  [],
+  ◌∷◌,
+  ◌++◌,
+  map,
+  set,
+  get_or,
+  length,
+  zero,
+  suc,
+  refl,
+  ap,
+  ◌∙◌,
+  sym,
+  arith,
+}
+use Rattle.std.specs.List.{range_with_len}
+use Rattle.std.proofs.lemmas.List.{
+  get_or-set_same,
+  get_or-set_other,
+  get_or_push,
+  get_or_append_left,
+  get_or-map,
+  get_or_default,
+  length-map,
+}
+use Rattle.std.proofs.lemmas.List.FromFn.{map-range_with_len_more, length-map-range_with_len, get_or-map-range_with_len}
+use Rattle.std.proofs.lemmas.Grind.{same_number_lists}
+use Rattle.fact_columns.specs.declared.place.Place.{Place}
+use Rattle.fact_columns.specs.Places.{freed}
+use Rattle.fact_columns.specs.Columns.{Held, place_at, held, AreAlike}
+use Rattle.fact_columns.specs.declared.fact_table.FactTable.TheInside.{Inside}
+use Rattle.std.specs.Vec.{vec_len}
+
+agree : {X : Type 0} (f g : ℕ → X) (a n : ℕ) → ((j : ℕ) → j < a + n → g j ≡ f j)
+    → map g (range_with_len a n) ≡ map f (range_with_len a n)
+agree f g a zero same = refl
+agree f g a (suc n) same = λ i. same a (omega arith) i ∷ agree f g (a + 1) n (λ j h. same j (omega (arith, h))) i
+
+later_agree : {X : Type 0} (f g : ℕ → X) (a n : ℕ) → ((j : ℕ) → a ≤ j → g j ≡ f j)
+    → map g (range_with_len a n) ≡ map f (range_with_len a n)
+later_agree f g a zero same = refl
+later_agree f g a (suc n) same = λ i. same a (omega arith) i ∷ later_agree f g (a + 1) n
+    (λ j h. same j (omega (arith, h))) i
+
+next : (a place : ℕ) → (a + 1) + place ≡ a + suc place
+next a place = omega arith
+
+-- one place is written
+write_one : {X : Type 0} (f g : ℕ → X) (a n place : ℕ) (x : X) → place < n → g (a + place) ≡ x
+    → ((j : ℕ) → j ≢ a + place → g j ≡ f j)
+    → map g (range_with_len a n) ≡ set (map f (range_with_len a n)) place x
+write_one f g a zero place x within here others = absurd (omega (arith, within))
+write_one f g a (suc n) zero x within here others =
+    let start : a ≡ a + 0 = omega arith in
+    λ i. (ap g start ∙ here) i ∷ later_agree f g (a + 1) n (λ j h. others j (λ e. omega (arith, h, e))) i
+write_one f g a (suc n) (suc place) x within here others =
+    λ i. others a (λ e. omega (arith, e)) i ∷ write_one f g (a + 1) n place x (omega (arith, within))
+    (ap g (next a place) ∙ here) (λ j h. others j (λ e. h (omega (arith, e)))) i
+
+-- one place more
+push_one : {X : Type 0} (f g : ℕ → X) (n : ℕ) (x : X) → g n ≡ x → ((j : ℕ) → j < n → g j ≡ f j)
+    → map g (range_with_len 0 (n + 1)) ≡ map f (range_with_len 0 n) ++ x ∷ []
+push_one f g n x here others = map-range_with_len_more g 0 n n (omega arith)
+    ∙ ap (λ xs. xs ++ g n ∷ []) (agree f g 0 n (λ j h. others j (omega (arith, h))))
+    ∙ ap (λ y. map f (range_with_len 0 n) ++ y ∷ []) here
+
+pub places_len : {X : Type 0} (f : ℕ → X) (n : ℕ) → length (map f (range_with_len 0 n)) ≡ n
+places_len f n = length-map-range_with_len f 0 n
+
+-- there are as many places as each column is long
+pub long : (t : Inside) (h : Held) → held t ≡ h → length h.places ≡ vec_len t.order
+long t h is =
+    ap (λ x. length (Held.places x)) (sym is)
+    ∙ places_len (place_at t.order.items t.customer.items t.supplier.items t.part.items t.date.items t.terms.items
+    t.price.items t.revenue.items t.cost.items t.customer_class.items t.supplier_class.items t.part_class.items
+    t.date_class.items) (vec_len t.order)
+
+zero_add : (n : ℕ) → 0 + n ≡ n
+zero_add n = omega arith
+
+-- a column after a write
+here : (xs : List ℕ) (place x n : ℕ) → length xs ≡ n → place < n → get_or (set xs place x) (0 + place) 0 ≡ x
+here xs place x n long within = ap (λ i. get_or (set xs place x) i 0) (zero_add place)
+    ∙ get_or-set_same xs place x 0 (omega (arith, long, within))
+
+elsewhere : (xs : List ℕ) (place x j : ℕ) → j ≢ 0 + place → get_or (set xs place x) j 0 ≡ get_or xs j 0
+elsewhere xs place x j other = get_or-set_other xs place j x 0 (λ e. other (e ∙ sym (zero_add place)))
+
+-- a column after one place more
+last : (xs : List ℕ) (x n : ℕ) → length xs ≡ n → get_or (xs ++ x ∷ []) n 0 ≡ x
+last xs x n long = get_or_push xs x 0 n long
+
+before : (xs : List ℕ) (x n j : ℕ) → length xs ≡ n → j < n → get_or (xs ++ x ∷ []) j 0 ≡ get_or xs j 0
+before xs x n j long within = get_or_append_left xs (x ∷ []) 0 j (omega (arith, long, within))
+
+-- the columns are so long
+pub record AreLong (order customer supplier part date terms price revenue cost customer_class supplier_class part_class
+    date_class : List ℕ) (n : ℕ) : Type 0 where
+  pub order_len : length order ≡ n
+  pub customer_len : length customer ≡ n
+  pub supplier_len : length supplier ≡ n
+  pub part_len : length part ≡ n
+  pub date_len : length date ≡ n
+  pub terms_len : length terms ≡ n
+  pub price_len : length price ≡ n
+  pub revenue_len : length revenue ≡ n
+  pub cost_len : length cost ≡ n
+  pub customer_class_len : length customer_class ≡ n
+  pub supplier_class_len : length supplier_class ≡ n
+  pub part_class_len : length part_class ≡ n
+  pub date_class_len : length date_class ≡ n
+
+pub write_places : (order customer supplier part date terms price revenue cost customer_class supplier_class part_class
+    date_class : List ℕ) (n place : ℕ) (x : Place) → AreLong order customer supplier part date terms price revenue cost
+    customer_class supplier_class part_class date_class n → place < n
+    → map (place_at (set order place x.order) (set customer place x.customer) (set supplier place x.supplier)
+    (set part place x.part) (set date place x.date) (set terms place x.terms) (set price place x.price)
+    (set revenue place x.revenue) (set cost place x.cost) (set customer_class place x.customer_class)
+    (set supplier_class place x.supplier_class) (set part_class place x.part_class)
+    (set date_class place x.date_class)) (range_with_len 0 n)
+    ≡ set (map (place_at order customer supplier part date terms price revenue cost customer_class supplier_class
+    part_class date_class) (range_with_len 0 n)) place x
+write_places order customer supplier part date terms price revenue cost customer_class supplier_class part_class
+    date_class n place x long within =
+    write_one (place_at order customer supplier part date terms price revenue cost customer_class supplier_class
+    part_class date_class)
+    (place_at (set order place x.order) (set customer place x.customer) (set supplier place x.supplier)
+    (set part place x.part) (set date place x.date) (set terms place x.terms) (set price place x.price)
+    (set revenue place x.revenue) (set cost place x.cost) (set customer_class place x.customer_class)
+    (set supplier_class place x.supplier_class) (set part_class place x.part_class)
+    (set date_class place x.date_class))
+    0 n place x within
+    (λ i. record {
+      order = here order place x.order n long.order_len within i;
+      customer = here customer place x.customer n long.customer_len within i;
+      supplier = here supplier place x.supplier n long.supplier_len within i;
+      part = here part place x.part n long.part_len within i;
+      date = here date place x.date n long.date_len within i;
+      terms = here terms place x.terms n long.terms_len within i;
+      price = here price place x.price n long.price_len within i;
+      revenue = here revenue place x.revenue n long.revenue_len within i;
+      cost = here cost place x.cost n long.cost_len within i;
+      customer_class = here customer_class place x.customer_class n long.customer_class_len within i;
+      supplier_class = here supplier_class place x.supplier_class n long.supplier_class_len within i;
+      part_class = here part_class place x.part_class n long.part_class_len within i;
+      date_class = here date_class place x.date_class n long.date_class_len within i;
+    })
+    (λ j other i. record {
+      order = elsewhere order place x.order j other i;
+      customer = elsewhere customer place x.customer j other i;
+      supplier = elsewhere supplier place x.supplier j other i;
+      part = elsewhere part place x.part j other i;
+      date = elsewhere date place x.date j other i;
+      terms = elsewhere terms place x.terms j other i;
+      price = elsewhere price place x.price j other i;
+      revenue = elsewhere revenue place x.revenue j other i;
+      cost = elsewhere cost place x.cost j other i;
+      customer_class = elsewhere customer_class place x.customer_class j other i;
+      supplier_class = elsewhere supplier_class place x.supplier_class j other i;
+      part_class = elsewhere part_class place x.part_class j other i;
+      date_class = elsewhere date_class place x.date_class j other i;
+    })
+
+-- the quantity and discount of a place are written over
+pub free_place : (order customer supplier part date terms price revenue cost customer_class supplier_class part_class
+    date_class : List ℕ) (n place : ℕ) → length terms ≡ n → place < n
+    → map (place_at order customer supplier part date (set terms place 0) price revenue cost customer_class
+    supplier_class part_class date_class) (range_with_len 0 n)
+    ≡ set (map (place_at order customer supplier part date terms price revenue cost customer_class supplier_class
+    part_class date_class) (range_with_len 0 n)) place
+    (freed (place_at order customer supplier part date terms price revenue cost customer_class supplier_class
+    part_class date_class place))
+free_place order customer supplier part date terms price revenue cost customer_class supplier_class part_class
+    date_class n place long within =
+    let f = place_at order customer supplier part date terms price revenue cost customer_class supplier_class part_class
+    date_class in
+    write_one f (place_at order customer supplier part date (set terms place 0) price revenue cost customer_class
+    supplier_class part_class date_class) 0 n place (freed (f place)) within
+    (λ i. record (f (zero_add place i)) { terms = here terms place 0 n long within i })
+    (λ j other i. record (f j) { terms = elsewhere terms place 0 j other i })
+
+pub push_places : (order customer supplier part date terms price revenue cost customer_class supplier_class part_class
+    date_class : List ℕ) (n : ℕ) (x : Place) → AreLong order customer supplier part date terms price revenue cost
+    customer_class supplier_class part_class date_class n
+    → map (place_at (order ++ x.order ∷ []) (customer ++ x.customer ∷ []) (supplier ++ x.supplier ∷ [])
+    (part ++ x.part ∷ []) (date ++ x.date ∷ []) (terms ++ x.terms ∷ []) (price ++ x.price ∷ [])
+    (revenue ++ x.revenue ∷ []) (cost ++ x.cost ∷ []) (customer_class ++ x.customer_class ∷ [])
+    (supplier_class ++ x.supplier_class ∷ []) (part_class ++ x.part_class ∷ []) (date_class ++ x.date_class ∷ []))
+    (range_with_len 0 (n + 1))
+    ≡ map (place_at order customer supplier part date terms price revenue cost customer_class supplier_class part_class
+    date_class) (range_with_len 0 n) ++ x ∷ []
+push_places order customer supplier part date terms price revenue cost customer_class supplier_class part_class
+    date_class n x long =
+    push_one (place_at order customer supplier part date terms price revenue cost customer_class supplier_class
+    part_class date_class)
+    (place_at (order ++ x.order ∷ []) (customer ++ x.customer ∷ []) (supplier ++ x.supplier ∷ []) (part ++ x.part ∷ [])
+    (date ++ x.date ∷ []) (terms ++ x.terms ∷ []) (price ++ x.price ∷ []) (revenue ++ x.revenue ∷ [])
+    (cost ++ x.cost ∷ []) (customer_class ++ x.customer_class ∷ []) (supplier_class ++ x.supplier_class ∷ [])
+    (part_class ++ x.part_class ∷ []) (date_class ++ x.date_class ∷ []))
+    n x
+    (λ i. record {
+      order = last order x.order n long.order_len i;
+      customer = last customer x.customer n long.customer_len i;
+      supplier = last supplier x.supplier n long.supplier_len i;
+      part = last part x.part n long.part_len i;
+      date = last date x.date n long.date_len i;
+      terms = last terms x.terms n long.terms_len i;
+      price = last price x.price n long.price_len i;
+      revenue = last revenue x.revenue n long.revenue_len i;
+      cost = last cost x.cost n long.cost_len i;
+      customer_class = last customer_class x.customer_class n long.customer_class_len i;
+      supplier_class = last supplier_class x.supplier_class n long.supplier_class_len i;
+      part_class = last part_class x.part_class n long.part_class_len i;
+      date_class = last date_class x.date_class n long.date_class_len i;
+    })
+    (λ j within i. record {
+      order = before order x.order n j long.order_len within i;
+      customer = before customer x.customer n j long.customer_len within i;
+      supplier = before supplier x.supplier n j long.supplier_len within i;
+      part = before part x.part n j long.part_len within i;
+      date = before date x.date n j long.date_len within i;
+      terms = before terms x.terms n j long.terms_len within i;
+      price = before price x.price n j long.price_len within i;
+      revenue = before revenue x.revenue n j long.revenue_len within i;
+      cost = before cost x.cost n j long.cost_len within i;
+      customer_class = before customer_class x.customer_class n j long.customer_class_len within i;
+      supplier_class = before supplier_class x.supplier_class n j long.supplier_class_len within i;
+      part_class = before part_class x.part_class n j long.part_class_len within i;
+      date_class = before date_class x.date_class n j long.date_class_len within i;
+    })
+
+-- a table's columns are so long
+pub alike_long : (t : Inside) → AreAlike t → AreLong t.order.items t.customer.items t.supplier.items t.part.items
+    t.date.items t.terms.items t.price.items t.revenue.items t.cost.items t.customer_class.items t.supplier_class.items
+    t.part_class.items t.date_class.items (vec_len t.order)
+alike_long t alike = record {
+  order_len = omega (arith, t.order.ok);
+  customer_len = omega (arith, t.customer.ok, alike.customer);
+  supplier_len = omega (arith, t.supplier.ok, alike.supplier);
+  part_len = omega (arith, t.part.ok, alike.part);
+  date_len = omega (arith, t.date.ok, alike.date);
+  terms_len = omega (arith, t.terms.ok, alike.terms);
+  price_len = omega (arith, t.price.ok, alike.price);
+  revenue_len = omega (arith, t.revenue.ok, alike.revenue);
+  cost_len = omega (arith, t.cost.ok, alike.cost);
+  customer_class_len = omega (arith, t.customer_class.ok, alike.customer_class);
+  supplier_class_len = omega (arith, t.supplier_class.ok, alike.supplier_class);
+  part_class_len = omega (arith, t.part_class.ok, alike.part_class);
+  date_class_len = omega (arith, t.date_class.ok, alike.date_class);
+}
+
+-- a column is read off the places
+pub column_of : (field : Place → ℕ) (f : ℕ → Place) (xs : List ℕ) (n : ℕ) → length xs ≡ n
+    → ((i : ℕ) → field (f i) ≡ get_or xs i 0) → xs ≡ map field (map f (range_with_len 0 n))
+column_of field f xs n same each = same_number_lists xs (map field (map f (range_with_len 0 n)))
+    (same ∙ sym (length-map (map f (range_with_len 0 n)) field ∙ places_len f n)) (λ i within.
+    let inside : i < n = omega (arith, within, same) in
+    let here : get_or (map f (range_with_len 0 n)) i (f 0) ≡ f i =
+    get_or-map-range_with_len f 0 n i i (f 0) inside (zero_add i) in
+    sym (get_or-map field (map f (range_with_len 0 n)) i (f 0) 0 (omega (arith, inside, places_len f n)) ∙ ap field here
+    ∙ each i))
+
+-- what stands at a place
+pub read_at : (t : Inside) (h : Held) → held t ≡ h → (i : ℕ) (d : Place) → i < vec_len t.order
+    → place_at t.order.items t.customer.items t.supplier.items t.part.items t.date.items t.terms.items t.price.items
+    t.revenue.items t.cost.items t.customer_class.items t.supplier_class.items t.part_class.items t.date_class.items
+    i ≡ get_or h.places i d
+read_at t h is i d within =
+    let f = place_at t.order.items t.customer.items t.supplier.items t.part.items t.date.items t.terms.items
+    t.price.items t.revenue.items t.cost.items t.customer_class.items t.supplier_class.items t.part_class.items
+    t.date_class.items in
+    sym (ap (λ (x : Held). get_or x.places i d) (sym is)
+    ∙ get_or-map-range_with_len f 0 (vec_len t.order) i i d within (zero_add i))
+
+-- an element at an index within
+pub element : (xs : List ℕ) (i x : ℕ) → i < length xs → x ≡ get_or xs i x → x ≡ get_or xs i 0
+element xs i x within is = is ∙ get_or_default xs i x 0 within

@@ -1,0 +1,80 @@
+-- The columns of the fact table as a list of places.
+use Rattle.std.specs.Prelude.{◌≡◌, ℕ, ◌-◌, ◌≤◌, List, map, slice_index, vec_len, vec_capacity}
+use Rattle.std.specs.List.{range_with_len}
+use Rattle.fact_columns.specs.declared.place.Place.{Place}
+use Rattle.fact_columns.specs.declared.slices.Slices.{Slices}
+use Rattle.fact_columns.specs.declared.fact_table.FactTable.TheInside.{Inside}
+
+-- the places, and for how many more there is memory
+pub record Held : Type 0 where
+  pub places : List Place
+  pub room : ℕ
+
+-- what the columns have at an index
+abbrev pub place_at : (order customer supplier part date terms price revenue cost customer_class supplier_class
+    part_class date_class : List ℕ) → ℕ → Place
+place_at order customer supplier part date terms price revenue cost customer_class supplier_class part_class date_class
+    i = record {
+      order = slice_index order i;
+      customer = slice_index customer i;
+      supplier = slice_index supplier i;
+      part = slice_index part i;
+      date = slice_index date i;
+      terms = slice_index terms i;
+      price = slice_index price i;
+      revenue = slice_index revenue i;
+      cost = slice_index cost i;
+      customer_class = slice_index customer_class i;
+      supplier_class = slice_index supplier_class i;
+      part_class = slice_index part_class i;
+      date_class = slice_index date_class i;
+    }
+
+-- the slices are the columns of the places, each as long as there are places
+pub record AreColumnsOf (places : List Place) (slices : Slices) : Type 0 where
+  pub customers : slices.customer.now ≡ map (λ place. place.customer_class) places
+  pub suppliers : slices.supplier.now ≡ map (λ place. place.supplier_class) places
+  pub parts : slices.part.now ≡ map (λ place. place.part_class) places
+  pub dates : slices.date.now ≡ map (λ place. place.date_class) places
+  pub terms : slices.terms.now ≡ map (λ place. place.terms) places
+  pub prices : slices.price.now ≡ map (λ place. place.price) places
+  pub revenues : slices.revenue.now ≡ map (λ place. place.revenue) places
+  pub costs : slices.cost.now ≡ map (λ place. place.cost) places
+
+-- a table's columns as one list of places
+abbrev pub held : Inside → Held
+held t = record {
+  places = map (place_at t.order.items t.customer.items t.supplier.items t.part.items t.date.items t.terms.items
+      t.price.items t.revenue.items t.cost.items t.customer_class.items t.supplier_class.items t.part_class.items
+      t.date_class.items) (range_with_len 0 (vec_len t.order));
+  room = t.capacity - vec_len t.order;
+}
+
+-- every column is as long as the first, and has memory for the table's capacity
+pub record AreAlike (t : Inside) : Type 0 where
+  pub customer : vec_len t.customer ≡ vec_len t.order
+  pub supplier : vec_len t.supplier ≡ vec_len t.order
+  pub part : vec_len t.part ≡ vec_len t.order
+  pub date : vec_len t.date ≡ vec_len t.order
+  pub terms : vec_len t.terms ≡ vec_len t.order
+  pub price : vec_len t.price ≡ vec_len t.order
+  pub revenue : vec_len t.revenue ≡ vec_len t.order
+  pub cost : vec_len t.cost ≡ vec_len t.order
+  pub customer_class : vec_len t.customer_class ≡ vec_len t.order
+  pub supplier_class : vec_len t.supplier_class ≡ vec_len t.order
+  pub part_class : vec_len t.part_class ≡ vec_len t.order
+  pub date_class : vec_len t.date_class ≡ vec_len t.order
+  pub within : vec_len t.order ≤ t.capacity
+  pub order_room : t.capacity ≤ vec_capacity t.order
+  pub customer_room : t.capacity ≤ vec_capacity t.customer
+  pub supplier_room : t.capacity ≤ vec_capacity t.supplier
+  pub part_room : t.capacity ≤ vec_capacity t.part
+  pub date_room : t.capacity ≤ vec_capacity t.date
+  pub terms_room : t.capacity ≤ vec_capacity t.terms
+  pub price_room : t.capacity ≤ vec_capacity t.price
+  pub revenue_room : t.capacity ≤ vec_capacity t.revenue
+  pub cost_room : t.capacity ≤ vec_capacity t.cost
+  pub customer_class_room : t.capacity ≤ vec_capacity t.customer_class
+  pub supplier_class_room : t.capacity ≤ vec_capacity t.supplier_class
+  pub part_class_room : t.capacity ≤ vec_capacity t.part_class
+  pub date_class_room : t.capacity ≤ vec_capacity t.date_class

@@ -1,0 +1,213 @@
+//! The columns.
+ghost use Rattle.std.specs.Prelude.{◌≡◌, ◌+◌, ◌≤◌, ◌<◌, ◌++◌, [], ◌∷◌, length, set, slice_index_or, IfOk, OnErr, OnOk};
+ghost use Rattle.std.specs.Prelude.{ℕ};
+ghost use Rattle.fact_columns.specs.declared.place.Place.{Place as PlainPlace};
+ghost use Rattle.fact_columns.specs.Columns.{Held, AreColumnsOf};
+ghost use Rattle.fact_columns.specs.Places.{freed};
+
+use crate::place::Place;
+use crate::slices::Slices;
+use std::alloc::{AllocError, Global};
+use std::marker::Model;
+
+/// The columns of the fact table, each as long as the others. Contracts see the places, and for how many more there is
+/// memory.
+#[derive(Drop)]
+pub struct FactTable {
+    order: Vec<u64>,
+    customer: Vec<u32>,
+    supplier: Vec<u32>,
+    part: Vec<u32>,
+    date: Vec<u32>,
+    terms: Vec<u16>,
+    price: Vec<u32>,
+    revenue: Vec<u32>,
+    cost: Vec<u32>,
+    customer_class: Vec<u32>,
+    supplier_class: Vec<u32>,
+    part_class: Vec<u32>,
+    date_class: Vec<u32>,
+    // No column has memory for fewer.
+    capacity: usize,
+}
+
+impl Model for FactTable {
+    ghost use Rattle.fact_columns.specs.Columns.{Held, held, AreAlike};
+
+    ghost Value = { Held };
+
+    ghost view = { held };
+
+    ghost invariant = { AreAlike };
+}
+
+impl FactTable {
+    /// A table without places.
+    pub fn new(alloc: Global) -> FactTable
+        ensures { result ≡ record { places = []; room = 0 } }
+    {
+        FactTable {
+            order: Vec::new(alloc),
+            customer: Vec::new(alloc),
+            supplier: Vec::new(alloc),
+            part: Vec::new(alloc),
+            date: Vec::new(alloc),
+            terms: Vec::new(alloc),
+            price: Vec::new(alloc),
+            revenue: Vec::new(alloc),
+            cost: Vec::new(alloc),
+            customer_class: Vec::new(alloc),
+            supplier_class: Vec::new(alloc),
+            part_class: Vec::new(alloc),
+            date_class: Vec::new(alloc),
+            capacity: 0,
+        }
+    }
+
+    /// How many places there are, live or free.
+    pub fn len(&self) -> usize
+        ensures { result ≡ length self.now.places }
+    {
+        self.order.len()
+    }
+
+    /// Takes memory for so many places more, in every column.
+    pub fn reserve(&mut self, count: usize) -> Result<(), AllocError>
+        ensures places { self.new.places ≡ self.old.places }
+        ensures room { OnOk result (count ≤ self.new.room) }
+        ensures unchanged { OnErr result (self.new ≡ self.old) }
+    {
+        self.order.reserve(count)?;
+        self.customer.reserve(count)?;
+        self.supplier.reserve(count)?;
+        self.part.reserve(count)?;
+        self.date.reserve(count)?;
+        self.terms.reserve(count)?;
+        self.price.reserve(count)?;
+        self.revenue.reserve(count)?;
+        self.cost.reserve(count)?;
+        self.customer_class.reserve(count)?;
+        self.supplier_class.reserve(count)?;
+        self.part_class.reserve(count)?;
+        self.date_class.reserve(count)?;
+        self.capacity = self.order.len() + count;
+        Ok(())
+    }
+
+    /// What stands at a place.
+    #[inline(always)]
+    pub fn at(&self, place: usize) -> Place
+        requires { place < length self.now.places }
+        ensures { (other : PlainPlace) → result ≡ slice_index_or self.now.places place other }
+    {
+        Place {
+            order: self.order[place],
+            customer: self.customer[place],
+            supplier: self.supplier[place],
+            part: self.part[place],
+            date: self.date[place],
+            terms: self.terms[place],
+            price: self.price[place],
+            revenue: self.revenue[place],
+            cost: self.cost[place],
+            customer_class: self.customer_class[place],
+            supplier_class: self.supplier_class[place],
+            part_class: self.part_class[place],
+            date_class: self.date_class[place],
+        }
+    }
+
+    /// Writes over what stands at a place.
+    #[inline(always)]
+    pub fn write(&mut self, place: usize, with: Place)
+        requires { place < length self.old.places }
+        ensures places { self.new.places ≡ set self.old.places place with }
+        ensures room { self.new.room ≡ self.old.room }
+    {
+        self.order[place] = with.order;
+        self.customer[place] = with.customer;
+        self.supplier[place] = with.supplier;
+        self.part[place] = with.part;
+        self.date[place] = with.date;
+        self.terms[place] = with.terms;
+        self.price[place] = with.price;
+        self.revenue[place] = with.revenue;
+        self.cost[place] = with.cost;
+        self.customer_class[place] = with.customer_class;
+        self.supplier_class[place] = with.supplier_class;
+        self.part_class[place] = with.part_class;
+        self.date_class[place] = with.date_class;
+    }
+
+    /// Frees a place.
+    #[inline(always)]
+    pub fn free(&mut self, place: usize)
+        requires { place < length self.old.places }
+        ensures places { (other : PlainPlace) → self.new.places ≡ set self.old.places place
+            (freed (slice_index_or self.old.places place other)) }
+        ensures room { self.new.room ≡ self.old.room }
+    {
+        self.terms[place] = 0;
+    }
+
+    /// Adds a place at the end, in the memory that was taken.
+    #[inline(always)]
+    pub fn push(&mut self, with: Place)
+        requires { 0 < self.old.room }
+        ensures places { self.new.places ≡ self.old.places ++ with ∷ [] }
+        ensures room { self.old.room ≡ self.new.room + 1 }
+    {
+        self.order.push_reserved(with.order);
+        self.customer.push_reserved(with.customer);
+        self.supplier.push_reserved(with.supplier);
+        self.part.push_reserved(with.part);
+        self.date.push_reserved(with.date);
+        self.terms.push_reserved(with.terms);
+        self.price.push_reserved(with.price);
+        self.revenue.push_reserved(with.revenue);
+        self.cost.push_reserved(with.cost);
+        self.customer_class.push_reserved(with.customer_class);
+        self.supplier_class.push_reserved(with.supplier_class);
+        self.part_class.push_reserved(with.part_class);
+        self.date_class.push_reserved(with.date_class);
+    }
+
+    /// The columns that queries read.
+    pub fn slices(&self) -> Slices<'_>
+        ensures { AreColumnsOf self.now.places result }
+    {
+        Slices {
+            customer: self.customer_class.as_slice(),
+            supplier: self.supplier_class.as_slice(),
+            part: self.part_class.as_slice(),
+            date: self.date_class.as_slice(),
+            terms: self.terms.as_slice(),
+            price: self.price.as_slice(),
+            revenue: self.revenue.as_slice(),
+            cost: self.cost.as_slice(),
+        }
+    }
+
+    /// Another table of the same places.
+    pub fn copy(&self) -> Result<FactTable, AllocError>
+        ensures { IfOk result (λ copy. copy.places ≡ self.now.places) }
+    {
+        let alloc = *self.order.allocator();
+        Ok(FactTable {
+            order: self.order.to_vec(alloc)?,
+            customer: self.customer.to_vec(alloc)?,
+            supplier: self.supplier.to_vec(alloc)?,
+            part: self.part.to_vec(alloc)?,
+            date: self.date.to_vec(alloc)?,
+            terms: self.terms.to_vec(alloc)?,
+            price: self.price.to_vec(alloc)?,
+            revenue: self.revenue.to_vec(alloc)?,
+            cost: self.cost.to_vec(alloc)?,
+            customer_class: self.customer_class.to_vec(alloc)?,
+            supplier_class: self.supplier_class.to_vec(alloc)?,
+            part_class: self.part_class.to_vec(alloc)?,
+            date_class: self.date_class.to_vec(alloc)?,
+            capacity: self.order.len(),
+        })
+    }
+}

@@ -1,2 +1,0 @@
-pub mod FilterLaws
-pub mod PlaceListLaws

@@ -1,0 +1,3 @@
+pub mod AskedLaws
+pub mod OpeningLaws
+pub mod ReportLaws

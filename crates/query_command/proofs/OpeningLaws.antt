@@ -1,0 +1,32 @@
+-- The columns and the answers before any commit.
+use Rattle.std.proofs.Common.{◌≡◌, ◌∙◌, ℕ, ◌≤◌, List, [], ◌∷◌, length, map, refl, sym, ap, subst, arith}
+use Rattle.fact_columns.specs.Stored.{Stored, columns_state}
+use Rattle.row_store.specs.History.{CommitRecord, lines_after}
+use Rattle.row_store.specs.State.{State, StandsFor, state_of}
+use Rattle.shared_scan.specs.Answers.{answers_after}
+use Rattle.query_command.specs.Reported.{opened, opening_answer}
+use Rattle.ssb_questions.specs.declared.query.Query.{Query}
+use Rattle.ssb_questions.specs.declared.value.Value.{Value}
+use Rattle.ssb_base.specs.Base.{Tables, IsSound}
+
+-- the rows of a batch after no commit, as answers
+pub opened_rows : (base : Tables) (questions : List (Query × List Value))
+    → map opened (answers_after base [] questions) ≡ map (λ question. opening_answer base question) questions
+opened_rows base [] = refl
+opened_rows base (question ∷ questions) = ap (λ answers. opening_answer base question ∷ answers)
+    (opened_rows base questions)
+
+at_most : (n most limit : ℕ) → n ≤ most → most ≤ limit → n ≤ limit
+at_most n most limit few within = omega (arith, few, within)
+
+-- columns of the loaded lines have no more of them than a warehouse may have
+pub small_columns : (columns : Stored) (base : Tables) → columns_state columns ≡ state_of base [] → IsSound base
+    → ((history : List CommitRecord) → StandsFor (columns_state columns) history
+    → length columns.facts ≡ length (lines_after columns.base history)) → length columns.facts ≤ 33554432
+small_columns columns base state sound lines =
+    let same : columns.base ≡ base = ap (λ (s : State). s.base) state in
+    let stands : StandsFor (columns_state columns) [] = state ∙ ap (λ b. state_of b []) (sym same) in
+    let counted : length columns.facts ≡ length columns.base.lines = lines [] stands in
+    let P : ℕ → Type 0 = λ n. n ≤ 33554432 in
+    subst P (sym (counted ∙ ap (λ (b : Tables). length b.lines) same))
+    (at_most (length base.lines) base.limits.lines 33554432 sound.few base.limits.lines_range)

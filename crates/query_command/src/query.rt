@@ -1,0 +1,208 @@
+//! `query`: the reports of one question or of all thirteen queries over five table files.
+
+ghost use Rattle.std.specs.Prelude.{◌≡◌, ◌≢◌, ◌⊎◌, ◌≤◌, ℕ, List, false, IfOk, IfErr, OnOk, OnErr, MatchResult};
+ghost use Rattle.std.specs.Prelude.{flat_map, length, map};
+ghost use Rattle.query_command.specs.Asked.{AskNothing};
+ghost use Rattle.query_command.specs.Reported.{HaveAnswers, HaveReport, Reports, ReportsPart, ReportsAll, ReportsAllPart};
+ghost use Rattle.ssb_files.specs.Loaded.{AreRefused};
+ghost use Rattle.ssb_files.specs.Status.{status_of};
+ghost use Rattle.ssb_text.specs.Load.{AreTexts};
+ghost use Rattle.ssb_report.specs.AnswerText.{answer_text};
+ghost use Rattle.ssb_report.specs.Written.{AppendsPart, Writes};
+ghost use Rattle.ssb_schema.specs.declared.table.Table.{Table};
+ghost use Rattle.std.specs.Io.KnownBytes.{Appends};
+
+use crate::asked::{ask, standard_questions};
+use crate::opening::opening_answers;
+use crate::stopwatch::{Step, Stopwatch};
+use ssb_answers::Answer;
+use ssb_base::Limits;
+use ssb_files::Fault;
+use ssb_questions::Question;
+use ssb_report::{WriteFault, write_answer};
+use ssb_text::{Tables, load};
+use std::hash::RandomState;
+use std::io::{Read, Write};
+use std::thread::Threads;
+use std::time::Clock;
+
+/// How questions are answered, whichever they are.
+#[derive(Drop)]
+pub struct Settings {
+    /// Hashes the keys of the loaded orders; at random, so that no data can make them collide.
+    pub hashing: RandomState,
+    /// Whether the times of the steps are told on standard error.
+    pub times: bool,
+}
+
+// The answers to the questions over the base that the tables spell.
+fn answers<R: Threads + Sync + Clock + AllocGlobal, I: Read + Drop>(
+    rt: &R,
+    hashing: RandomState,
+    tables: Tables<I>,
+    questions: &[Question],
+    watch: &mut Stopwatch,
+) -> Result<Vec<Answer>, Fault>
+    requires { length questions.now ≤ 16 }
+    ensures answers { IfOk result (λ answers. (texts : Table → List ℕ) → AreTexts I.remaining tables texts
+        → HaveAnswers texts questions.now answers.items) }
+    ensures data { IfErr result (λ fault. status_of fault ≡ 1 → (texts : Table → List ℕ)
+        → AreTexts I.remaining tables texts → AreRefused texts) }
+    ensures later { IfErr result (λ fault. status_of fault ≢ 2) }
+{
+    let base = match load(rt.alloc(), Limits::standard(), tables) {
+        Ok(base) => base,
+        Err(fault) => return Err(Fault::Data(fault)),
+    };
+    watch.lap(rt, Step::Load);
+    let answers = opening_answers(rt, rt.alloc(), hashing, base, questions, watch)?;
+    Ok(answers)
+}
+
+// Writes the reports of answers, one after another.
+fn write_answers<W: Write>(out: &mut W, answers: &[Answer]) -> Result<(), WriteFault>
+    ensures { Writes (W.contents out.old) (W.contents out.new) result (flat_map answer_text answers.now) }
+{
+    for answer in answers {
+        write_answer(out, answer)?;
+    }
+    Ok(())
+}
+
+// Writes the reports of answers, and has the writer hand on what it holds.
+fn write<W: Write>(out: &mut W, answers: &[Answer]) -> Result<(), Fault>
+    ensures written { MatchResult result
+        (λ _. Appends (W.contents out.old) (W.contents out.new) (flat_map answer_text answers.now))
+        (λ _. AppendsPart (W.contents out.old) (W.contents out.new) (flat_map answer_text answers.now)) }
+    ensures fault { IfErr result (λ fault. status_of fault ≡ 4) }
+{
+    if write_answers(out, answers).is_err() {
+        return Err(Fault::WriteFailed);
+    }
+    match out.flush() {
+        Ok(()) => Ok(()),
+        Err(_) => Err(Fault::WriteFailed),
+    }
+}
+
+// Writes the reports of the questions over the tables.
+fn report<R: Threads + Sync + Clock + AllocGlobal, I: Read + Drop, W: Write>(
+    rt: &R,
+    hashing: RandomState,
+    tables: Tables<I>,
+    questions: &[Question],
+    watch: &mut Stopwatch,
+    out: &mut W,
+) -> Result<(), Fault>
+    requires { length questions.now ≤ 16 }
+    ensures report { OnOk result ((texts : Table → List ℕ) → AreTexts I.remaining tables texts
+        → (report : List ℕ) × HaveReport texts questions.now report × Appends (W.contents out.old)
+        (W.contents out.new) report) }
+    ensures fault { OnErr result ((W.contents out.new ≡ W.contents out.old)
+        ⊎ ((texts : Table → List ℕ) → AreTexts I.remaining tables texts
+        → (report : List ℕ) × HaveReport texts questions.now report × AppendsPart (W.contents out.old)
+        (W.contents out.new) report)) }
+    ensures data { IfErr result (λ fault. status_of fault ≡ 1 → (texts : Table → List ℕ)
+        → AreTexts I.remaining tables texts → AreRefused texts) }
+    ensures later { IfErr result (λ fault. status_of fault ≢ 2) }
+{
+    let answers = answers(rt, hashing, tables, questions, watch)?;
+    write(out, answers.as_slice())
+}
+
+// Tells the times where they are asked for.
+fn tell_times<E: Write>(watch: &Stopwatch, times: bool, err: &mut E)
+    ensures { times ≡ false → err.new ≡ err.old }
+{
+    if !times {
+        return;
+    }
+    watch.tell(err);
+}
+
+// Writes the reports of the questions over the tables, and tells the times or a fault. The result is the exit status.
+fn run<R: Threads + Sync + Clock + AllocGlobal, I: Read + Drop, W: Write, E: Write>(
+    rt: &R,
+    settings: Settings,
+    tables: Tables<I>,
+    questions: &[Question],
+    out: &mut W,
+    err: &mut E,
+) -> u8
+    requires { length questions.now ≤ 16 }
+    ensures report { result ≡ 0 → (texts : Table → List ℕ) → AreTexts I.remaining tables texts
+        → (report : List ℕ) × HaveReport texts questions.now report × Appends (W.contents out.old)
+        (W.contents out.new) report }
+    ensures fault { result ≢ 0 → (W.contents out.new ≡ W.contents out.old)
+        ⊎ ((texts : Table → List ℕ) → AreTexts I.remaining tables texts
+        → (report : List ℕ) × HaveReport texts questions.now report × AppendsPart (W.contents out.old)
+        (W.contents out.new) report) }
+    ensures quiet { result ≡ 0 → settings.times ≡ false → err.new ≡ err.old }
+    ensures data { result ≡ 1 → (texts : Table → List ℕ) → AreTexts I.remaining tables texts → AreRefused texts }
+    ensures words { result ≢ 2 }
+{
+    let times = settings.times;
+    let mut watch = Stopwatch::start(rt, times);
+    match report(rt, settings.hashing, tables, questions, &mut watch, out) {
+        Ok(()) => {
+            tell_times(&watch, times, err);
+            0
+        }
+        Err(fault) => fault.tell(err),
+    }
+}
+
+/// Writes the report of the question of this name and these constants (without constants, the benchmark's) over the
+/// base that the tables spell; or a fault line to `err`. The question is looked at first. The result is the exit
+/// status: 0 with nothing written to `err` but the times, where they are asked for; 1 where the data is refused, 2
+/// where the question is, and else 4.
+pub fn run_query<R: Threads + Sync + Clock + AllocGlobal, I: Read + Drop, W: Write, E: Write>(
+    rt: &R,
+    settings: Settings,
+    tables: Tables<I>,
+    name: &str,
+    constants: &[&str],
+    out: &mut W,
+    err: &mut E,
+) -> u8
+    ensures report { result ≡ 0 → (texts : Table → List ℕ) → AreTexts I.remaining tables texts
+        → Reports texts name.now (map (λ word. word.now) constants.now) (W.contents out.old) (W.contents out.new) }
+    ensures fault { result ≢ 0 → (W.contents out.new ≡ W.contents out.old)
+        ⊎ ((texts : Table → List ℕ) → AreTexts I.remaining tables texts
+        → ReportsPart texts name.now (map (λ word. word.now) constants.now) (W.contents out.old) (W.contents out.new)) }
+    ensures quiet { result ≡ 0 → settings.times ≡ false → err.new ≡ err.old }
+    ensures data { result ≡ 1 → (texts : Table → List ℕ) → AreTexts I.remaining tables texts → AreRefused texts }
+    ensures words { result ≡ 2 → AskNothing name.now (map (λ word. word.now) constants.now) }
+{
+    let question = match ask(rt.alloc(), name, constants) {
+        Ok(question) => question,
+        Err(fault) => return fault.tell(err),
+    };
+    run(rt, settings, tables, &[question], out, err)
+}
+
+/// Writes the reports of the thirteen queries with the benchmark's constants, in order, over the base that the tables
+/// spell, from one pass over its lines; or a fault line to `err`. The result is the exit status, as of `run_query`, and
+/// never 2.
+pub fn run_all<R: Threads + Sync + Clock + AllocGlobal, I: Read + Drop, W: Write, E: Write>(
+    rt: &R,
+    settings: Settings,
+    tables: Tables<I>,
+    out: &mut W,
+    err: &mut E,
+) -> u8
+    ensures report { result ≡ 0 → (texts : Table → List ℕ) → AreTexts I.remaining tables texts
+        → ReportsAll texts (W.contents out.old) (W.contents out.new) }
+    ensures fault { result ≢ 0 → (W.contents out.new ≡ W.contents out.old)
+        ⊎ ((texts : Table → List ℕ) → AreTexts I.remaining tables texts → ReportsAllPart texts (W.contents out.old)
+        (W.contents out.new)) }
+    ensures quiet { result ≡ 0 → settings.times ≡ false → err.new ≡ err.old }
+    ensures data { result ≡ 1 → (texts : Table → List ℕ) → AreTexts I.remaining tables texts → AreRefused texts }
+    ensures words { result ≢ 2 }
+{
+    let questions = match standard_questions(rt.alloc()) {
+        Ok(questions) => questions,
+        Err(_) => return Fault::OutOfMemory.tell(err),
+    };
+    run(rt, settings, tables, questions.as_slice(), out, err)
+}

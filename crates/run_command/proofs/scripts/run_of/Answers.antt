@@ -1,0 +1,36 @@
+use Rattle.std.proofs.Common.{◌≡◌, ◌⊎◌, Err, List, inl, inr, map, rules, ℕ}
+use Rattle.ssb_files.specs.Loaded.{AreRefused}
+use Rattle.ssb_files.specs.Scripts.{HasRefused}
+use Rattle.ssb_files.specs.declared.job.JobFault.TheVariants.{Program}
+use Rattle.run_command.specs.Status.{serving_status}
+use Rattle.ssb_text.specs.Load.{AreTexts}
+use Rattle.ssb_schema.specs.declared.table.Table.{Table}
+use Rattle.run_command.proofs.scripts.run_of.Goals as goal
+
+pub returns-in_err-base-clause-refused : goal.returns-in_err-base-clause-refused
+returns-in_err-base-clause-refused g c =
+    let is : c.from_residual.result ≡ Err (Program c.in_err-base.field-0.0) = search rules in
+    let here : serving_status (Program c.in_err-base.field-0.0) ≡ 1 → (texts : Table → List ℕ)
+    → AreTexts g.I.Read.remaining c.args.tables texts → AreRefused texts
+    ⊎ HasRefused (map g.I.Read.remaining c.args.sources.items)
+    = λ status texts are. inl (c.in_err-base.ensures.data status texts are) in
+    rw is here
+
+pub returns-in_err-scripts-clause-refused : goal.returns-in_err-scripts-clause-refused
+returns-in_err-scripts-clause-refused g c =
+    let is : c.from_residual-in_err-scripts.result ≡ Err (Program c.in_err-scripts.field-0.0) = search rules in
+    let here : serving_status (Program c.in_err-scripts.field-0.0) ≡ 1 → (texts : Table → List ℕ)
+    → AreTexts g.I.Read.remaining c.args.tables texts → AreRefused texts
+    ⊎ HasRefused (map g.I.Read.remaining c.args.sources.items)
+    = λ status texts are. inr (c.in_err-scripts.ensures.refused status) in
+    rw is here
+
+pub returns-clause-run : goal.returns-clause-run
+returns-clause-run g c = λ texts are. record {
+  base = c.in_ok-base.base;
+  loaded = c.in_ok-base.ensures.base texts are;
+  scripts = c.in_ok-scripts.scripts.items;
+  spelled = c.in_ok-scripts.ensures.scripts;
+  run = c.in_ok-run.ensures.run;
+  legal = c.in_ok-run.ensures.legal;
+}

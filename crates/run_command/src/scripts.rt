@@ -1,0 +1,264 @@
+//! `run`: scripts served at once over five table files.
+
+ghost use Rattle.std.specs.Prelude.{◌≡◌, ◌≢◌, ◌⊎◌, ◌↔◌, ◌<◌, ◌≤◌, ℕ, List, false, IfOk, IfErr, OnOk};
+ghost use Rattle.std.specs.Prelude.{OnErr, MatchResult, map, vec_len};
+ghost use Rattle.std.specs.Io.KnownBytes.{Appends};
+ghost use Rattle.std.specs.Option.{option_and_then};
+ghost use Rattle.ssb_files.specs.Loaded.{AreRefused};
+ghost use Rattle.ssb_files.specs.Scripts.{HasRefused};
+ghost use Rattle.ssb_audit.specs.Legal.{IsLegalTrace};
+ghost use Rattle.run_command.specs.Served.{AreTold, AreToldInPart, IsServed, Serves, ServesPart, run_text};
+ghost use Rattle.run_command.specs.Status.{serving_status};
+ghost use Rattle.ssb_text.specs.Load.{AreTexts};
+ghost use Rattle.ssb_report.specs.Written.{AppendsPart};
+ghost use Rattle.ssb_runs.specs.Run.{IsRun};
+ghost use Rattle.ssb_schema.specs.declared.table.Table.{Table};
+ghost use Rattle.ssb_trace.specs.TraceText.{trace_text};
+
+use crate::fault::{NotRun, ServingFault};
+use crate::pace::Pace;
+use crate::printing::write_run;
+use ssb_base::Base;
+use ssb_files::{Fault, base_of, read_scripts};
+use ssb_runs::{Run, Timing, serve_scripts};
+use ssb_script::Script;
+use ssb_text::Tables;
+use ssb_trace::write_trace;
+use std::hash::RandomState;
+use std::io::{Read, Write};
+use std::sync::{Arc, Wait};
+use std::thread::Threads;
+use std::time::Clock;
+
+/// How many scripts a server takes, a client each.
+pub const MOST_SCRIPTS: usize = 16;
+
+/// How scripts are served, whichever they are.
+#[derive(Drop)]
+pub struct RunSettings {
+    /// Hashes the keys of the server's orders; at random, so that no client can make them collide.
+    pub hashing: RandomState,
+    /// 1 to 4, else no server is opened.
+    pub dispatchers: u32,
+    /// Whether the times are told on standard error.
+    pub times: bool,
+    /// How many pairs of stretches are told with the times: the first script is served alone, and the others at once.
+    /// With 0 all are served at once.
+    pub pairs: u32,
+}
+
+// What times are taken.
+fn timing_of(times: bool, pairs: u32) -> Timing {
+    match (times, pairs) {
+        (false, _) => Timing::Off,
+        (true, 0) => Timing::Requests,
+        (true, _) => Timing::Pairs(pairs),
+    }
+}
+
+// Serves scripts at once over a base.
+fn serve<R: Threads + Sync + Wait + Clock + AllocGlobal>(
+    rt: &R,
+    hashing: RandomState,
+    dispatchers: u32,
+    timing: Timing,
+    base: Base,
+    scripts: Vec<Script>,
+) -> Result<Run, ServingFault>
+    ensures run { IfOk result (λ run. IsRun base scripts.items dispatchers
+        (map (λ report. report.items) run.reports.items) run.trace) }
+    ensures legal { IfOk result (λ run. IsLegalTrace base run.trace) }
+    ensures fault { IfErr result (λ fault. serving_status fault ≡ 4) }
+{
+    let base = Arc::new(rt.alloc(), base)?;
+    match serve_scripts(rt, rt.alloc(), hashing, base, scripts, dispatchers, timing) {
+        Ok(run) => Ok(run),
+        Err(fault) => Err(ServingFault::Found(NotRun(fault))),
+    }
+}
+
+// The run of the scripts that the sources spell, over the base that the tables spell. All of it is read before the
+// server is opened.
+fn run_of<R: Threads + Sync + Wait + Clock + AllocGlobal, I: Read + Drop>(
+    rt: &R,
+    settings: RunSettings,
+    tables: Tables<I>,
+    sources: Vec<I>,
+    pace: &mut Pace,
+) -> Result<Run, ServingFault>
+    ensures run { IfOk result (λ run. (texts : Table → List ℕ) → AreTexts I.remaining tables texts
+        → IsServed texts (map I.remaining sources.items) settings.dispatchers
+        (map (λ report. report.items) run.reports.items) run.trace) }
+    ensures refused { IfErr result (λ fault. serving_status fault ≡ 1 → (texts : Table → List ℕ)
+        → AreTexts I.remaining tables texts
+        → AreRefused texts ⊎ HasRefused (map I.remaining sources.items)) }
+    ensures words { IfErr result (λ fault. serving_status fault ≢ 2) }
+    ensures trace { IfErr result (λ fault. serving_status fault ≢ 3) }
+{
+    let base = base_of(rt.alloc(), tables)?;
+    let scripts = read_scripts(rt.alloc(), sources)?;
+    pace.end_load(rt);
+    let RunSettings {
+        hashing,
+        dispatchers,
+        times,
+        pairs,
+    } = settings;
+    let timing = timing_of(times, pairs);
+    let run = serve(rt, hashing, dispatchers, timing, base, scripts)?;
+    pace.end_serving(rt, &run);
+    Ok(run)
+}
+
+// Writes what a run prints, and has the writer hand on what it holds.
+fn print<W: Write>(out: &mut W, run: &Run) -> Result<(), ServingFault>
+    ensures printed { MatchResult result
+        (λ _. Appends (W.contents out.old) (W.contents out.new)
+        (run_text (map (λ report. report.items) run.now.reports.items) run.now.trace))
+        (λ _. AppendsPart (W.contents out.old) (W.contents out.new)
+        (run_text (map (λ report. report.items) run.now.reports.items) run.now.trace)) }
+    ensures fault { IfErr result (λ fault. serving_status fault ≡ 4) }
+{
+    if write_run(out, run).is_err() {
+        return Err(ServingFault::Program(Fault::WriteFailed));
+    }
+    match out.flush() {
+        Ok(()) => Ok(()),
+        Err(_) => Err(ServingFault::Program(Fault::WriteFailed)),
+    }
+}
+
+// Writes the trace of a run, and has the writer hand on what it holds.
+fn write<T: Write>(file: &mut T, run: &Run) -> Result<(), ServingFault>
+    ensures kept { MatchResult result
+        (λ _. Appends (T.contents file.old) (T.contents file.new) (trace_text run.now.trace))
+        (λ _. AppendsPart (T.contents file.old) (T.contents file.new) (trace_text run.now.trace)) }
+    ensures fault { IfErr result (λ fault. serving_status fault ≡ 4) }
+{
+    if write_trace(file, &run.trace).is_err() {
+        return Err(ServingFault::Program(Fault::WriteFailed));
+    }
+    match file.flush() {
+        Ok(()) => Ok(()),
+        Err(_) => Err(ServingFault::Program(Fault::WriteFailed)),
+    }
+}
+
+// Keeps the trace of a run, where there is a file for it.
+fn keep<T: Write>(file: &mut Option<T>, run: &Run) -> Result<(), ServingFault>
+    ensures kept { MatchResult result
+        (λ _. Appends (option_and_then T.contents file.old) (option_and_then T.contents file.new)
+        (trace_text run.now.trace))
+        (λ _. AppendsPart (option_and_then T.contents file.old) (option_and_then T.contents file.new)
+        (trace_text run.now.trace)) }
+    ensures fault { IfErr result (λ fault. serving_status fault ≡ 4) }
+{
+    match file {
+        Some(file) => write(file, run),
+        None => Ok(()),
+    }
+}
+
+// Writes what a run prints, and then its trace.
+fn tell_run<W: Write, T: Write>(
+    out: &mut W,
+    file: &mut Option<T>,
+    run: &Run,
+) -> Result<(), ServingFault>
+    ensures told { OnOk result (AreTold (W.contents out.old) (W.contents out.new)
+        (option_and_then T.contents file.old) (option_and_then T.contents file.new)
+        (map (λ report. report.items) run.now.reports.items) run.now.trace) }
+    ensures part { OnErr result (AreToldInPart (W.contents out.old) (W.contents out.new)
+        (option_and_then T.contents file.old) (option_and_then T.contents file.new)
+        (map (λ report. report.items) run.now.reports.items) run.now.trace) }
+    ensures fault { IfErr result (λ fault. serving_status fault ≡ 4) }
+{
+    print(out, run)?;
+    keep(file, run)
+}
+
+// Serves the scripts, and writes what the run prints and its trace.
+fn report<R: Threads + Sync + Wait + Clock + AllocGlobal, I: Read + Drop, W: Write, T: Write>(
+    rt: &R,
+    settings: RunSettings,
+    tables: Tables<I>,
+    sources: Vec<I>,
+    out: &mut W,
+    file: &mut Option<T>,
+    pace: &mut Pace,
+) -> Result<(), ServingFault>
+    ensures served { OnOk result ((texts : Table → List ℕ) → AreTexts I.remaining tables texts
+        → Serves texts (map I.remaining sources.items) settings.dispatchers (W.contents out.old)
+        (W.contents out.new) (option_and_then T.contents file.old) (option_and_then T.contents file.new)) }
+    ensures part { OnErr result (((W.contents out.new ≡ W.contents out.old) × (file.new ≡ file.old))
+        ⊎ ((texts : Table → List ℕ) → AreTexts I.remaining tables texts
+        → ServesPart texts (map I.remaining sources.items) settings.dispatchers (W.contents out.old)
+        (W.contents out.new) (option_and_then T.contents file.old) (option_and_then T.contents file.new))) }
+    ensures refused { IfErr result (λ fault. serving_status fault ≡ 1 → (texts : Table → List ℕ)
+        → AreTexts I.remaining tables texts
+        → AreRefused texts ⊎ HasRefused (map I.remaining sources.items)) }
+    ensures words { IfErr result (λ fault. serving_status fault ≢ 2) }
+    ensures trace { IfErr result (λ fault. serving_status fault ≢ 3) }
+{
+    let run = run_of(rt, settings, tables, sources, pace)?;
+    tell_run(out, file, &run)
+}
+
+// Tells the times where they are asked for.
+fn tell_times<E: Write>(pace: &Pace, times: bool, err: &mut E)
+    ensures { times ≡ false → err.new ≡ err.old }
+{
+    if !times {
+        return;
+    }
+    pace.tell(err);
+}
+
+/// Serves 1 to 16 scripts at once over the base that the tables spell: each source is the script of a client of the
+/// live server. When all have ended it writes for each client, in order, the line `client K` and its report, and then
+/// the line `commits C`; and into the file, where there is one, the trace of the run. A fault is a line to `err`.
+///
+/// The tables are read first, then the scripts in order, and then the server is opened. The result is the exit status:
+/// 0 with nothing written to `err` but the times, where they are asked for; 1 where the data or a script is refused, 2
+/// where there are more than 16 scripts, and else 4. Where `out` or the file fails, what was written before stands.
+pub fn run_scripts<
+    R: Threads + Sync + Wait + Clock + AllocGlobal,
+    I: Read + Drop,
+    W: Write,
+    T: Write,
+    E: Write,
+>(
+    rt: &R,
+    settings: RunSettings,
+    tables: Tables<I>,
+    sources: Vec<I>,
+    out: &mut W,
+    file: &mut Option<T>,
+    err: &mut E,
+) -> u8
+    ensures served { result ≡ 0 → (texts : Table → List ℕ) → AreTexts I.remaining tables texts
+        → Serves texts (map I.remaining sources.items) settings.dispatchers (W.contents out.old)
+        (W.contents out.new) (option_and_then T.contents file.old) (option_and_then T.contents file.new) }
+    ensures part { result ≢ 0 → ((W.contents out.new ≡ W.contents out.old) × (file.new ≡ file.old))
+        ⊎ ((texts : Table → List ℕ) → AreTexts I.remaining tables texts
+        → ServesPart texts (map I.remaining sources.items) settings.dispatchers (W.contents out.old)
+        (W.contents out.new) (option_and_then T.contents file.old) (option_and_then T.contents file.new)) }
+    ensures quiet { result ≡ 0 → settings.times ≡ false → err.new ≡ err.old }
+    ensures refused { result ≡ 1 → (texts : Table → List ℕ) → AreTexts I.remaining tables texts
+        → AreRefused texts ⊎ HasRefused (map I.remaining sources.items) }
+    ensures many { (result ≡ 2) ↔ (16 < vec_len sources) }
+    ensures trace { result ≢ 3 }
+{
+    if sources.len() > MOST_SCRIPTS {
+        return Fault::TooManyScripts.tell(err);
+    }
+    let times = settings.times;
+    let mut pace = Pace::start(rt.alloc(), rt, times);
+    match report(rt, settings, tables, sources, out, file, &mut pace) {
+        Ok(()) => {
+            tell_times(&pace, times, err);
+            0
+        }
+        Err(fault) => fault.tell(err),
+    }
+}

@@ -1,0 +1,124 @@
+-- The sums of the groups that lines have are those of a question.
+use Rattle.std.proofs.Common.{
+  ℕ,
+  ◌≡◌,
+  ◌+◌,
+  ◌<◌,
+  ◌≤◌,
+  ◌^◌,
+  List,
+  [],
+  ◌∷◌,
+  ◌++◌,
+  length,
+  map,
+  take,
+  get_or,
+  Some,
+  None,
+  Bool,
+  true,
+  false,
+  refl,
+  sym,
+  ap,
+  ◌∙◌,
+  subst,
+  arith,
+}
+use Rattle.std.specs.Prelude.{nat_eq, slice_get, unwrap_or}
+use Rattle.std.specs.List.{All}
+use Rattle.std.specs.Map.{keys_of, values_of, lookup}
+use Rattle.std.specs.Cmp.{IsEquivalence}
+use Rattle.std.proofs.lemmas.List.{take_more, map-append, length-map, get_or-map}
+use Rattle.std.proofs.lemmas.Map.Entries.{lookup_from_place}
+use Rattle.std.proofs.lemmas.Option.{get_or_from_slice_get, slice_get-get_or, slice_get_within}
+use Rattle.indexmap.specs.IndexMap.{IndexMap, get, keys, IsUnique}
+use Rattle.ssb_questions.specs.declared.plan.Measure.{Measure}
+use Rattle.scan_kernel.specs.declared.columns.LineColumns.{LineColumns}
+use Rattle.scan_kernel.specs.declared.columns.GroupColumn.{GroupColumn}
+use Rattle.scan_kernel.specs.declared.masks.Masks.{Masks}
+use Rattle.scan_kernel.specs.declared.sparse.SparseColumn.{SparseColumn}
+use Rattle.scan_kernel.specs.declared.sparse.GroupSums.{GroupSums}
+use Rattle.scan_kernel.specs.Places.{group_at, gain_at, loss_at}
+use Rattle.scan_kernel.specs.Totals.{taken}
+use Rattle.scan_kernel.specs.Sparse.{
+  as_group_column,
+  as_group_columns,
+  nothing,
+  sums_in,
+  AreSumsOf,
+  AreSparseTotals,
+}
+use Rattle.scan_kernel.specs.SparseRows.{beside}
+use Rattle.shared_scan.specs.Summed.{IsSummed, AreSummed}
+use Rattle.shared_scan.proofs.EachLaws.{item_of}
+
+-- one entry more
+pub entry_more : {X : Type 0} (f : ℕ × GroupSums → X) (es : List (ℕ × GroupSums)) (i : ℕ) (e : ℕ × GroupSums)
+    → slice_get es i ≡ Some e → map f (take (i + 1) es) ≡ map f (take i es) ++ f e ∷ []
+entry_more f es i e at =
+    ap (map f) (take_more es i e (slice_get_within es i e at)
+    ∙ ap (λ (v : ℕ × GroupSums). take i es ++ v ∷ []) (get_or_from_slice_get es i e e at))
+    ∙ map-append f (take i es) (e ∷ [])
+
+pub value_more : {X : Type 0} (f : GroupSums → X) (es : List (ℕ × GroupSums)) (i : ℕ) (e : ℕ × GroupSums)
+    → slice_get es i ≡ Some e → map f (values_of (take (i + 1) es)) ≡ map f (values_of (take i es)) ++ f e.1 ∷ []
+value_more f es i e at = ap (map f) (entry_more (λ p. p.1) es i e at) ∙ map-append f (values_of (take i es)) (e.1 ∷ [])
+
+-- beside a number stands what the map has for it
+pub beside_is : {X : Type 0} (f : GroupSums → X) (es : List (ℕ × GroupSums)) (g : ℕ)
+    → beside (f nothing) (keys_of es) (map f (values_of es)) g ≡ f (unwrap_or (lookup (nat_eq g) es) nothing)
+beside_is f [] g = refl
+beside_is f (e ∷ es) g = by_test (beside_is f es g) (nat_eq g e.0) refl where
+  by_test : beside (f nothing) (keys_of es) (map f (values_of es)) g ≡ f (unwrap_or (lookup (nat_eq g) es) nothing)
+      → (b : Bool) → nat_eq g e.0 ≡ b
+      → beside (f nothing) (keys_of (e ∷ es)) (map f (values_of (e ∷ es))) g ≡ f
+      (unwrap_or (lookup (nat_eq g) (e ∷ es)) nothing)
+  by_test rest true is = rw is refl
+  by_test rest false is = rw is rest
+
+pub all_unmapped : (P : GroupColumn → Type 0) (xs : List SparseColumn) → All P (as_group_columns xs)
+    → All (λ x. P (as_group_column x)) xs
+all_unmapped P xs all i d below =
+    let inside : i < length (as_group_columns xs) = omega (arith, below, length-map xs as_group_column) in
+    subst P (get_or-map as_group_column xs i d (as_group_column d) below) (all i (as_group_column d) inside)
+
+module _ {S : Type 0} (totals : IndexMap ℕ GroupSums S) (size : ℕ) where
+  pub keys_below : IsEquivalence nat_eq → IsUnique nat_eq totals
+      → ((g : ℕ) (sums : GroupSums) → get nat_eq totals g ≡ Some sums → g < size) → All (λ n. n < size) (keys totals)
+  keys_below laws unique below i d inside =
+      let there : i < length totals.entries = omega (arith, inside, length-map totals.entries (λ p. p.0)) in
+      let e : ℕ × GroupSums = item_of totals.entries i there in
+      let at = get_or totals.entries i e in
+      let found = lookup_from_place laws totals.entries i at.0 at.1 unique (slice_get-get_or totals.entries i e there)
+      in
+      subst (λ (n : ℕ). n < size) (sym (get_or-map (λ p. p.0) totals.entries i e d there)) (below at.0 at.1 found)
+
+  -- no sums are beyond the size
+  module _ (lines : LineColumns) (masks : Masks) (k : ℕ) (measure : Measure) (groups : List GroupColumn)
+      (places : List ℕ) (are : AreSparseTotals lines measure groups (taken lines masks k places) size totals) where
+    none_past : (g : ℕ) → size ≤ g → sums_in totals g ≡ nothing
+    none_past g past = by_get (get nat_eq totals g) refl where
+      by_get : (o : _) → get nat_eq totals g ≡ o → unwrap_or o nothing ≡ nothing
+      by_get None is = refl
+      by_get (Some sums) is = absurd (omega (arith, past, are.below g sums is))
+
+    one_summed : (amount : ℕ → ℕ) (of : GroupSums → ℕ) → of nothing ≡ 0
+        → AreSumsOf amount (group_at groups) (taken lines masks k places) (λ g. of (sums_in totals g))
+        → ((g : ℕ) → of (sums_in totals g) < 2 ^ 64)
+        → IsSummed amount (group_at groups) size (taken lines masks k places) (λ g. of (sums_in totals g))
+    one_summed amount of zero sums fits = record {
+      each = λ g below. sums g;
+      past = λ g past. ap of (none_past g past)
+          ∙ zero;
+      fits = fits;
+    }
+
+    pub summed_sparse : AreSummed lines masks k measure groups size places (λ g. (sums_in totals g).count)
+        (λ g. (sums_in totals g).gain) (λ g. (sums_in totals g).loss)
+    summed_sparse = record {
+      counts = one_summed (λ place. 1) (λ s. s.count) refl are.counts_are (λ g. (are.fits g).count);
+      gains = one_summed (gain_at lines measure) (λ s. s.gain) refl are.gains_are (λ g. (are.fits g).gain);
+      losses = one_summed (loss_at lines measure) (λ s. s.loss) refl are.losses_are (λ g. (are.fits g).loss);
+    }

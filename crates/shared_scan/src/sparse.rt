@@ -1,0 +1,127 @@
+//! The rows of a question whose groups are too many for a number each.
+ghost use Rattle.std.specs.Prelude.{◌≡◌, ℕ, ◌<◌, ◌^◌, IfOk, Some, length, map, nat_eq};
+ghost use Rattle.indexmap.specs.IndexMap.{get, keys, values};
+ghost use Rattle.scan_kernel.specs.declared.sparse.GroupSums.{GroupSums as Sums};
+ghost use Rattle.scan_kernel.specs.Places.{CanSearch};
+ghost use Rattle.scan_kernel.specs.Sparse.{as_group_column, as_group_columns};
+ghost use Rattle.shared_scan.specs.GroupColumns.{AreGroupColumns, IsGroupColumn};
+ghost use Rattle.shared_scan.specs.Parts.{parts_in};
+ghost use Rattle.shared_scan.specs.Scanned.{IsScanned, net};
+ghost use Rattle.shared_scan.specs.Summed.{AreRowsOver};
+
+use crate::grouping::positions;
+use crate::ready::Ready;
+use crate::sums::difference;
+use dimension_index::FirstRows;
+use scan_kernel::{
+    GroupSums, LineColumns, Masks, SparseColumn, SparseTotals, answer_sparse, sparse_totals,
+};
+use ssb_answers::ResultRow;
+use ssb_schema::{Column, Items};
+use std::alloc::{AllocError, Global};
+
+/// One group column as the walk reads it.
+fn sparse_column<'a>(
+    index: &'a FirstRows,
+    lines: &LineColumns<'a>,
+    column: Column,
+    parts: &'a Items<u64>,
+) -> SparseColumn<'a>
+    ensures { IsGroupColumn index.now lines.now column parts.now (as_group_column result) }
+{
+    SparseColumn {
+        positions: positions(lines, column.table),
+        codes: index.codes_of(column),
+        parts: parts.as_slice(),
+    }
+}
+
+/// The group columns of a question as the walk reads them.
+fn sparse_columns<'a>(
+    alloc: Global,
+    index: &'a FirstRows,
+    lines: &LineColumns<'a>,
+    columns: &[Column],
+    parts: &'a [Items<u64>],
+) -> Result<Vec<SparseColumn<'a>>, AllocError>
+    requires { length parts.now ≡ length columns.now }
+    ensures { IfOk result (λ groups. AreGroupColumns index.now lines.now columns.now parts.now
+        (as_group_columns groups.items)) }
+{
+    let mut groups = Vec::with_capacity(alloc, columns.len())?;
+    for place in 0..columns.len() {
+        groups.push(sparse_column(index, lines, columns[place], &parts[place]))?;
+    }
+    Ok(groups)
+}
+
+/// The groups that have lines: their numbers, how many lines, and what these sum up to.
+#[derive(Drop)]
+struct Listed {
+    numbers: Vec<u64>,
+    counts: Vec<u64>,
+    sums: Vec<i64>,
+}
+
+/// The groups that have lines, in three lists.
+fn list_groups(alloc: Global, totals: &SparseTotals) -> Result<Listed, AllocError>
+    requires { (g : ℕ) (sums : Sums) → get nat_eq totals.now g ≡ Some sums → (sums.gain < 2 ^ 62)
+        × (sums.loss < 2 ^ 62) }
+    ensures numbers { IfOk result (λ list. list.numbers.items ≡ keys totals.now) }
+    ensures counts { IfOk result (λ list. list.counts.items ≡ map (λ sums. sums.count) (values totals.now)) }
+    ensures sums { IfOk result (λ list. list.sums.items ≡ map net (values totals.now)) }
+{
+    let mut numbers = Vec::with_capacity(alloc, totals.len())?;
+    let mut counts = Vec::with_capacity(alloc, totals.len())?;
+    let mut sums = Vec::with_capacity(alloc, totals.len())?;
+    for at in 0..totals.len() {
+        if let Some((number, group)) = totals.get_index(at) {
+            numbers.push(*number)?;
+            counts.push(group.count)?;
+            sums.push(difference(group.gain, group.loss))?;
+        }
+    }
+    Ok(Listed {
+        numbers,
+        counts,
+        sums,
+    })
+}
+
+/// The rows of a question, by one walk over the places that keeps the sums of the groups that it meets.
+pub fn sparse_rows(
+    alloc: Global,
+    index: &FirstRows,
+    lines: &LineColumns<'_>,
+    masks: &Masks,
+    ready: &Ready,
+    parts: &[Items<u64>],
+    number: usize,
+) -> Result<Vec<ResultRow>, AllocError>
+    requires few { number < 16 }
+    requires covers { CanSearch lines.now masks.now }
+    requires parts { parts_in ready.now.groups.parts ≡ parts.now }
+    requires scanned { IsScanned index.now lines.now masks.now number ready.now }
+    ensures { IfOk result (λ rows. AreRowsOver index.now lines.now masks.now number ready.now rows.items) }
+{
+    let columns = sparse_columns(alloc, index, lines, ready.plan.groups.as_slice(), parts)?;
+    let size = ready.groups.size;
+    let totals = sparse_totals(
+        alloc,
+        lines,
+        masks,
+        number,
+        ready.plan.measure,
+        &columns,
+        size,
+    )?;
+    let list = list_groups(alloc, &totals)?;
+    answer_sparse(
+        alloc,
+        &ready.question,
+        &ready.groups.columns,
+        &list.numbers,
+        &list.counts,
+        &list.sums,
+    )
+}

@@ -1,0 +1,3 @@
+pub mod BaseLaws
+pub mod PairLaws
+pub mod BitLaws

@@ -1,3 +1,0 @@
-pub mod ReadingLaws
-pub mod RowLaws
-pub mod LoadLaws

@@ -1,4 +1,0 @@
-pub mod Row
-pub mod DateColumns
-pub mod Tables
-pub mod Load

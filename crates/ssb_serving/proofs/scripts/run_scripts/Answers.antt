@@ -1,5 +1,0 @@
-use Rattle.std.proofs.Common.{◌∙◌, sym}
-use Rattle.ssb_serving.proofs.scripts.run_scripts.Goals as goal
-
-pub returns-clause-refused : goal.returns-clause-refused
-returns-clause-refused g c = λ status. c.in-Err.ensures.refused (sym c.tell-in-Err.ensures ∙ status)

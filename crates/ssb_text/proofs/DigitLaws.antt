@@ -1,0 +1,100 @@
+-- Laws of the number that digits write.
+use Rattle.std.proofs.Common.{
+  ◌≡◌,
+  ◌<◌,
+  ◌≤◌,
+  ◌+◌,
+  ◌-◌,
+  ◌*◌,
+  ◌^◌,
+  ℕ,
+  Bool,
+  true,
+  false,
+  ◌&&◌,
+  nat_lt,
+  nat_le,
+  List,
+  [],
+  ◌∷◌,
+  ◌++◌,
+  Some,
+  None,
+  length,
+  take,
+  drop,
+  append-nil,
+  append_assoc,
+  get_or,
+  length-append,
+  pow-suc,
+  add-one,
+  refl,
+  ap,
+  ◌∙◌,
+  arith,
+}
+use Rattle.std.specs.List.{list_all}
+use Rattle.std.specs.Char.{is_ascii_digit}
+use Rattle.std.proofs.lemmas.Bool.{le-ltb, lt-ltb, le-leb}
+use Rattle.std.proofs.lemmas.List.{take_more, take-append-drop}
+use Rattle.std.proofs.lemmas.List.Folds.{list_all_at}
+use Rattle.ssb_text.specs.Spelling.{decimal_value, is_numeral, number_of}
+
+power : (n : ℕ) → 10 ^ (n + 1) ≡ 10 ^ n * 10
+power n = rw (add-one, pow-suc) refl
+
+-- one digit more
+pub decimal_value-push : (cs : List ℕ) (c : ℕ) → decimal_value (cs ++ c ∷ []) ≡ decimal_value cs * 10 + (c - 48)
+decimal_value-push [] c = omega arith
+decimal_value-push (d ∷ cs) c = rw (length-append cs (c ∷ []), decimal_value-push cs c, power (length cs)) (omega arith)
+
+-- the first digits write no more than all of them
+pub decimal_value-push-le : (cs : List ℕ) (c : ℕ) → decimal_value cs ≤ decimal_value (cs ++ c ∷ [])
+decimal_value-push-le cs c = omega (arith, decimal_value-push cs c)
+
+decimal_value-append-le : (cs ds : List ℕ) → decimal_value cs ≤ decimal_value (cs ++ ds)
+decimal_value-append-le cs [] = rw (append-nil cs) (omega arith)
+decimal_value-append-le cs (d ∷ ds) =
+    let more : (cs ++ d ∷ []) ++ ds ≡ cs ++ d ∷ ds = append_assoc cs (d ∷ []) ds in
+    omega (arith, decimal_value-push-le cs d, decimal_value-append-le (cs ++ d ∷ []) ds, ap decimal_value more)
+
+decimal_value-take-le : (bytes : List ℕ) (i : ℕ) → decimal_value (take i bytes) ≤ decimal_value bytes
+decimal_value-take-le bytes i = omega (
+  arith,
+  decimal_value-append-le (take i bytes) (drop i bytes),
+  ap decimal_value (take-append-drop i bytes),
+)
+
+-- the digits up to a place, and one more
+pub decimal_value-take : (bytes : List ℕ) (i : ℕ) → i < length bytes
+    → decimal_value (take (i + 1) bytes) ≡ decimal_value (take i bytes) * 10 + (get_or bytes i 0 - 48)
+decimal_value-take bytes i lt = ap decimal_value (take_more bytes i 0 lt)
+    ∙ decimal_value-push (take i bytes) (get_or bytes i 0)
+
+and_false : (b : Bool) → (b && false) ≡ false
+and_false true = refl
+and_false false = refl
+
+-- bytes whose first digits write too large a number spell none
+pub number_of-too_large : (bytes : List ℕ) (i : ℕ) → 2 ^ 64 ≤ decimal_value (take i bytes) → number_of bytes ≡ None
+number_of-too_large bytes i large =
+    let over : nat_lt (decimal_value bytes) (2 ^ 64) ≡ false =
+    le-ltb _ _ (omega (arith, large, decimal_value-take-le bytes i)) in
+    rw (over, and_false (is_numeral bytes)) refl
+
+-- bytes that are no digits spell no number
+pub number_of-no_digits : (bytes : List ℕ) (i : ℕ) → i < length bytes → is_ascii_digit (get_or bytes i 0) ≡ false
+    → number_of bytes ≡ None
+number_of-no_digits bytes i lt bad = rw (
+  list_all_at is_ascii_digit bytes i 0 lt bad,
+  and_false (nat_lt 0 (length bytes) && nat_le (length bytes) 20),
+) refl
+
+pub number_of-digits : (bytes : List ℕ) → 0 < length bytes → length bytes ≤ 20 → list_all is_ascii_digit bytes ≡ true
+    → decimal_value bytes < 2 ^ 64 → number_of bytes ≡ Some (decimal_value bytes)
+number_of-digits bytes some few digits fits =
+    let a : nat_lt 0 (length bytes) ≡ true = lt-ltb _ _ some in
+    let b : nat_le (length bytes) 20 ≡ true = le-leb _ _ few in
+    let d : nat_lt (decimal_value bytes) (2 ^ 64) ≡ true = lt-ltb _ _ fits in
+    rw (a, b, digits, d) refl

@@ -1,0 +1,21 @@
+-- The columns of a date in two parts, which are read one after the other.
+use Rattle.std.specs.Prelude.{List, [], ◌∷◌}
+use Rattle.ssb_schema.specs.Columns.{Value, Number, Text, amount, key, text}
+use Rattle.ssb_schema.specs.declared.kind.Kind.{Kind}
+use Rattle.ssb_text.specs.declared.date.FirstColumns.{FirstColumns}
+use Rattle.ssb_text.specs.declared.date.LastColumns.{LastColumns}
+
+abbrev pub first_kinds : List Kind
+first_kinds = key ∷ text ∷ text ∷ text ∷ amount ∷ amount ∷ text ∷ []
+
+abbrev pub last_kinds : List Kind
+last_kinds = text ∷ text ∷ text ∷ text ∷ amount ∷ text ∷ text ∷ text ∷ text ∷ text ∷ []
+
+abbrev pub first_values : FirstColumns → List Value
+first_values row = Number row.key ∷ Text row.field2 ∷ Text row.field3 ∷ Text row.field4 ∷ Number row.year ∷ Number
+    row.year_month_number ∷ Text row.year_month ∷ []
+
+abbrev pub last_values : LastColumns → List Value
+last_values row =
+    Text row.field8 ∷ Text row.field9 ∷ Text row.field10 ∷ Text row.field11 ∷ Number row.week ∷ Text row.field13 ∷ Text
+    row.field14 ∷ Text row.field15 ∷ Text row.field16 ∷ Text row.field17 ∷ []

@@ -1,0 +1,245 @@
+-- The rows of an answer over dimensions that the schema takes may stand in an allowed trace.
+use Rattle.std.proofs.Common.{
+  ◌≡◌,
+  Bool,
+  true,
+  false,
+  cond,
+  List,
+  [],
+  ◌∷◌,
+  ◌++◌,
+  map,
+  filter,
+  Option,
+  Some,
+  None,
+  ℤ,
+  IfSome,
+  FitsSigned,
+  refl,
+  sym,
+  ap,
+  ◌∙◌,
+  subst,
+  arith,
+  inl,
+  inr,
+  ◌⊎◌,
+}
+use Rattle.std.specs.Int.{w64}
+use Rattle.std.specs.List.{AllByRecursion, AllZip, flat_map}
+use Rattle.std.specs.Ordering.{is_eq}
+use Rattle.std.specs.Prelude.{nat_eq}
+use Rattle.std.proofs.lemmas.Cmp.{tied_itself}
+use Rattle.std.proofs.lemmas.Option.{none-some}
+use Rattle.ssb_questions.specs.Members.{Has}
+use Rattle.ssb_questions.specs.Queries.{plan_of, plan_over}
+use Rattle.ssb_questions.specs.declared.plan.Plan.{Plan}
+use Rattle.ssb_questions.specs.declared.query.Query.{Query}
+use Rattle.ssb_questions.specs.declared.query.Query.TheVariants.{Q1_1, Q1_2, Q1_3, Q2_1, Q2_2, Q2_3, Q3_1, Q3_2, Q3_3, Q3_4}
+use Rattle.ssb_questions.specs.declared.query.Query.TheVariants.{Q4_1, Q4_2, Q4_3}
+use Rattle.ssb_questions.specs.declared.value.Value.{Value}
+use Rattle.ssb_answers.proofs.MemberLaws.{all_at, has_filter, has_from_map}
+use Rattle.ssb_answers.proofs.OrderLaws.{groups_cmp_total}
+use Rattle.ssb_answers.proofs.OrderedLaws.{has_from_in_order}
+use Rattle.ssb_answers.proofs.RowLaws.{some_sum}
+use Rattle.ssb_answers.specs.Answer.{group_of, groups_among, groups_cmp, in_group, row_cmp, row_of, rows_over}
+use Rattle.ssb_answers.specs.Combination.{Combination, combinations, joined, joined_with, passes, value_at}
+use Rattle.ssb_answers.specs.declared.answer.ResultRow.{ResultRow}
+use Rattle.ssb_base.specs.Base.{Dimensions}
+use Rattle.ssb_schema.specs.Columns.{column_kind, C_CITY, C_NATION, D_YEAR, P_BRAND1, P_CATEGORY, S_CITY, S_NATION}
+use Rattle.ssb_schema.specs.Rows.{customer_values, date_values, part_values, supplier_values}
+use Rattle.ssb_schema.specs.declared.column.Column.{Column}
+use Rattle.ssb_schema.specs.declared.fact.Fact.{Fact}
+use Rattle.ssb_schema.specs.declared.table.Table.TheVariants as table
+use Rattle.ssb_trace.specs.Rows.{group_kinds, has_no_groups, kind_in}
+use Rattle.ssb_trace.specs.Allowed.{AreTakenDimensions, IsAllowedRow, IsAllowedSum, IsGroup, IsTakenRow}
+use Rattle.ssb_trace.specs.RoundTrip.{AnswersHaveAllowedRows}
+use Rattle.ssb_trace.proofs.ColumnLaws.{customer_fits, date_fits, part_fits, supplier_fits}
+
+-- a combination of rows that the schema takes
+record IsTaken (c : Combination) : Type 0 where
+  customer : IsTakenRow table.Customer (customer_values c.customer)
+  supplier : IsTakenRow table.Supplier (supplier_values c.supplier)
+  part : IsTakenRow table.Part (part_values c.part)
+  date : IsTakenRow table.Date (date_values c.date)
+
+all-filter : {X : Type 0} (P : X → Type 0) (p : X → Bool) (xs : List X) → AllByRecursion P xs
+    → AllByRecursion P (filter p xs)
+all-filter P p [] all = tt
+all-filter P p (x ∷ xs) all =
+    elim (p x) as (λ b. AllByRecursion P (cond b (x ∷ filter p xs) (filter p xs))) [
+      | true ↦ (all.0, all-filter P p xs all.1)
+      | false ↦ all-filter P p xs all.1
+    ]
+
+all-append : {X : Type 0} (P : X → Type 0) (xs ys : List X) → AllByRecursion P xs → AllByRecursion P ys
+    → AllByRecursion P (xs ++ ys)
+all-append P [] ys a b = b
+all-append P (x ∷ xs) ys a b = (a.0, all-append P xs ys a.1 b)
+
+all-flat : {X Y : Type 0} (Q : X → Type 0) (P : Y → Type 0) (f : X → List Y) (xs : List X) → AllByRecursion Q xs
+    → ((x : X) → Q x → AllByRecursion P (f x))
+    → AllByRecursion P (flat_map f xs)
+all-flat Q P f [] all each = tt
+all-flat Q P f (x ∷ xs) all each = all-append P (f x) (flat_map f xs) (each x all.0) (all-flat Q P f xs all.1 each)
+
+all-map : {X Y : Type 0} (Q : X → Type 0) (P : Y → Type 0) (f : X → Y) (xs : List X) → AllByRecursion Q xs
+    → ((x : X) → Q x → P (f x)) → AllByRecursion P (map f xs)
+all-map Q P f [] all each = tt
+all-map Q P f (x ∷ xs) all each = (each x all.0, all-map Q P f xs all.1 each)
+
+module _ (dimensions : Dimensions) (taken : AreTakenDimensions dimensions) where
+  joined-taken : (fact : Fact) → AllByRecursion IsTaken (joined_with dimensions fact)
+  joined-taken fact =
+      all-flat (λ row. IsTakenRow table.Customer (customer_values row)) IsTaken _ _
+      (all-filter _ (λ row. nat_eq row.key fact.customer) dimensions.customers taken.customers) (λ customer a.
+      all-flat (λ row. IsTakenRow table.Supplier (supplier_values row)) IsTaken _ _
+      (all-filter _ (λ row. nat_eq row.key fact.supplier) dimensions.suppliers taken.suppliers) (λ supplier b.
+      all-flat (λ row. IsTakenRow table.Part (part_values row)) IsTaken _ _
+      (all-filter _ (λ row. nat_eq row.key fact.part) dimensions.parts taken.parts) (λ part c.
+      all-map (λ row. IsTakenRow table.Date (date_values row)) IsTaken _ _
+      (all-filter _ (λ row. nat_eq row.key fact.date) dimensions.dates taken.dates) (λ date d.
+      record { customer = a; supplier = b; part = c; date = d }))))
+
+  all-facts : (facts : List Fact) → AllByRecursion (λ fact. Unit {0}) facts
+  all-facts [] = tt
+  all-facts (fact ∷ facts) = (tt, all-facts facts)
+
+  found-taken : (plan : Plan) (facts : List Fact) → AllByRecursion IsTaken (combinations plan dimensions facts)
+  found-taken plan facts =
+      all-filter IsTaken (passes plan) (joined dimensions facts)
+      (all-flat (λ fact. Unit {0}) IsTaken (joined_with dimensions) facts (all-facts facts)
+      (λ fact any. joined-taken fact))
+
+-- what a combination has in a group column
+abbrev IsIn : Combination → Column → Type 0
+IsIn c column = IsGroup (kind_in column (column_kind column)) (value_at column c)
+
+in-customer-city : (c : Combination) → IsTaken c → IsIn c C_CITY
+in-customer-city c taken = (customer_fits c.customer taken.customer).1.1.1.0
+
+in-customer-nation : (c : Combination) → IsTaken c → IsIn c C_NATION
+in-customer-nation c taken = (customer_fits c.customer taken.customer).1.1.1.1.0
+
+in-supplier-city : (c : Combination) → IsTaken c → IsIn c S_CITY
+in-supplier-city c taken = (supplier_fits c.supplier taken.supplier).1.1.1.0
+
+in-supplier-nation : (c : Combination) → IsTaken c → IsIn c S_NATION
+in-supplier-nation c taken = (supplier_fits c.supplier taken.supplier).1.1.1.1.0
+
+in-category : (c : Combination) → IsTaken c → IsIn c P_CATEGORY
+in-category c taken = (part_fits c.part taken.part).1.1.1.0
+
+in-brand : (c : Combination) → IsTaken c → IsIn c P_BRAND1
+in-brand c taken = (part_fits c.part taken.part).1.1.1.1.0
+
+in-year : (c : Combination) → IsTaken c → IsIn c D_YEAR
+in-year c taken = let within = (date_fits c.date taken.date).1.1.1.1.0.0 in omega (arith, within)
+
+-- the group columns of a query do not depend on its constants, and a combination has what they hold
+groups-fit : (query : Query) (constants : List Value) (c : Combination) → IsTaken c
+    → AllZip IsGroup (group_kinds query) (group_of (plan_over query constants) c)
+groups-fit Q1_1 constants c taken = tt
+groups-fit Q1_2 constants c taken = tt
+groups-fit Q1_3 constants c taken = tt
+groups-fit Q2_1 constants c taken = (in-year c taken, (in-brand c taken, tt))
+groups-fit Q2_2 constants c taken = (in-year c taken, (in-brand c taken, tt))
+groups-fit Q2_3 constants c taken = (in-year c taken, (in-brand c taken, tt))
+groups-fit Q3_1 constants c taken = (in-customer-nation c taken, (in-supplier-nation c taken, (in-year c taken, tt)))
+groups-fit Q3_2 constants c taken = (in-customer-city c taken, (in-supplier-city c taken, (in-year c taken, tt)))
+groups-fit Q3_3 constants c taken = (in-customer-city c taken, (in-supplier-city c taken, (in-year c taken, tt)))
+groups-fit Q3_4 constants c taken = (in-customer-city c taken, (in-supplier-city c taken, (in-year c taken, tt)))
+groups-fit Q4_1 constants c taken = (in-year c taken, (in-customer-nation c taken, tt))
+groups-fit Q4_2 constants c taken = (in-year c taken, (in-supplier-nation c taken, (in-category c taken, tt)))
+groups-fit Q4_3 constants c taken = (in-year c taken, (in-supplier-city c taken, (in-brand c taken, tt)))
+
+same-groups : (query : Query) (constants : List Value) → (plan_of query).groups ≡ (plan_over query constants).groups
+same-groups Q1_1 constants = refl
+same-groups Q1_2 constants = refl
+same-groups Q1_3 constants = refl
+same-groups Q2_1 constants = refl
+same-groups Q2_2 constants = refl
+same-groups Q2_3 constants = refl
+same-groups Q3_1 constants = refl
+same-groups Q3_2 constants = refl
+same-groups Q3_3 constants = refl
+same-groups Q3_4 constants = refl
+same-groups Q4_1 constants = refl
+same-groups Q4_2 constants = refl
+same-groups Q4_3 constants = refl
+
+-- a group is that of a combination, unless there are no group columns
+module _ (group : Combination → List Value) (found : List Combination) where
+  Comes : List Column → List Value → Type 0
+  Comes columns groups =
+      ((columns ≡ []) × (groups ≡ [])) ⊎ ((c : Combination) × Has found c × (groups ≡ group c))
+
+  group-comes : (columns : List Column) (groups : List Value) → Has (groups_among columns group found) groups
+      → Comes columns groups
+  unfolding Comes
+  group-comes [] groups (inl e) = inl (refl, e)
+  group-comes [] groups (inr none) = absurd none
+  group-comes (column ∷ columns) groups has = inr (has_from_map group found groups has)
+
+-- the row of a group
+some-sum-allowed : (query : Query) (sum : Option ℤ) (z : ℤ) → sum ≡ Some z → IfSome sum (FitsSigned w64)
+    → IsAllowedSum query sum
+some-sum-allowed query None z e fits = absurd (none-some z e)
+some-sum-allowed query (Some sum) z e fits = fits
+
+total-allowed : (query : Query) (sum : Option ℤ) → has_no_groups (group_kinds query) ≡ true
+    → IfSome sum (FitsSigned w64) → IsAllowedSum query sum
+total-allowed query None none fits = none
+total-allowed query (Some sum) none fits = fits
+
+no-kinds : (query : Query) → (plan_of query).groups ≡ [] → group_kinds query ≡ []
+no-kinds query e = ap (map (λ column. kind_in column (column_kind column))) e
+
+module _ (question : Query × List Value) (dimensions : Dimensions) (facts : List Fact)
+    (taken : AreTakenDimensions dimensions) where
+  plan : Plan
+  plan = plan_over question.0 question.1
+
+  found : List Combination
+  unfolding plan
+  found = combinations plan dimensions facts
+
+  row-allowed : (groups : List Value) → Comes (group_of plan) found plan.groups groups
+      → IfSome (row_of plan found groups).sum (FitsSigned w64)
+      → IsAllowedRow question.0 (row_of plan found groups)
+  unfolding Comes found plan
+  row-allowed groups (inl (none, e)) fits =
+      let kinds : group_kinds question.0 ≡ [] = no-kinds question.0 (same-groups question.0 question.1 ∙ none) in
+      record {
+        groups = rw (kinds, e) tt;
+        sum = total-allowed question.0 (row_of plan found groups).sum (rw kinds refl)
+            fits;
+      }
+  row-allowed groups (inr (c, has, e)) fits =
+      let fit : AllZip IsGroup (group_kinds question.0) (group_of plan c)
+      = groups-fit question.0 question.1 c (all_at IsTaken found c (found-taken dimensions taken plan facts) has) in
+      let same : is_eq (groups_cmp (group_of plan c) groups) ≡ true =
+      rw e (ap is_eq (tied_itself groups_cmp_total (group_of plan c))) in
+      let sum = some_sum plan.measure (in_group plan groups found) c
+      (has_filter (λ other. is_eq (groups_cmp (group_of plan other) groups)) found c same has) in
+      record {
+        groups = subst (AllZip IsGroup (group_kinds question.0)) (sym e) fit;
+        sum = some-sum-allowed question.0 (row_of plan found groups).sum sum.0 sum.1 fits;
+      }
+
+  answered : (row : ResultRow) → Has (rows_over plan found) row → IfSome row.sum (FitsSigned w64)
+      → IsAllowedRow question.0 row
+  answered row has fits =
+      let target = has_from_map (row_of plan found) (groups_among plan.groups (group_of plan) found) row
+      (has_from_in_order (row_cmp plan.order) _ row has) in
+      let comes : Comes (group_of plan) found plan.groups target.0 =
+      group-comes (group_of plan) found plan.groups target.0 target.1 in
+      subst (IsAllowedRow question.0) (sym target.2)
+      (row-allowed target.0 comes (subst (λ (r : ResultRow). IfSome r.sum (FitsSigned w64)) target.2 fits))
+
+pub answers_have_allowed_rows : AnswersHaveAllowedRows
+unfolding found plan
+answers_have_allowed_rows question dimensions facts row taken has fits =
+    answered question dimensions facts taken row has fits

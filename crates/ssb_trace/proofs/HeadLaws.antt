@@ -1,0 +1,226 @@
+-- The text of an answer's first record spells the answer's head.
+use Rattle.std.proofs.Common.{
+  eq-eqb,
+  ne_eqb,
+  ◌≡◌,
+  ℕ,
+  ◌+◌,
+  ◌≤◌,
+  true,
+  false,
+  List,
+  [],
+  ◌∷◌,
+  ◌++◌,
+  length,
+  map,
+  decimal,
+  codes,
+  Some,
+  refl,
+  sym,
+  ap,
+  ◌∙◌,
+  append_assoc,
+  arith,
+  inl,
+  inr,
+}
+use Rattle.std.specs.List.{AllByRecursion, AllZip, flat_map}
+use Rattle.std.proofs.lemmas.Bool.{cases_Bool}
+use Rattle.std.proofs.lemmas.List.{append-nil}
+use Rattle.ssb_audit.specs.declared.trace.Told.{Told}
+use Rattle.ssb_text.specs.Records.{has_columns}
+use Rattle.ssb_text.specs.Spelling.{without_spaces}
+use Rattle.ssb_questions.proofs.QuestionLaws.{question_Decides}
+use Rattle.ssb_questions.specs.Kind.{constant_kinds}
+use Rattle.ssb_questions.specs.Queries.{standard_constants}
+use Rattle.ssb_questions.specs.Query.{name_of}
+use Rattle.ssb_questions.specs.QuestionEq.{question_eq}
+use Rattle.ssb_questions.specs.declared.query.Query.{Query}
+use Rattle.ssb_questions.specs.declared.query.Query.TheVariants.{Q1_1, Q1_2, Q1_3, Q2_1, Q2_2, Q2_3, Q3_1, Q3_2, Q3_3, Q3_4}
+use Rattle.ssb_questions.specs.declared.query.Query.TheVariants.{Q4_1, Q4_2, Q4_3}
+use Rattle.ssb_questions.specs.declared.value.Value.{Value}
+use Rattle.ssb_report.specs.AnswerText.{after_bar, value_text}
+use Rattle.ssb_report.specs.Numbers.{line_feed}
+use Rattle.ssb_script.specs.Lines.{constants_at, constants_from, query_named}
+use Rattle.ssb_trace.specs.TraceText.{fields_text, head_text, record_text, written_constants}
+use Rattle.ssb_trace.specs.Blocks.{head_of_told}
+use Rattle.ssb_trace.specs.Lines.{Answer, Says, word_of}
+use Rattle.ssb_trace.specs.Allowed.{HasAllowedHead, IsAllowedQuestion, IsGroup}
+use Rattle.ssb_trace.proofs.ClientLaws.{client_read, client_small}
+use Rattle.ssb_trace.proofs.NumberLaws.{number_kept, number_read}
+use Rattle.ssb_trace.proofs.RecordLaws.{IsPlainField, text_of_record}
+use Rattle.ssb_trace.proofs.ValueLaws.{as_many_values, constants_fit, values_plain, values_read}
+use Rattle.ssb_trace.proofs.WrittenLaws.{Written, written_as, written_one}
+
+-- the number of columns
+pub columns_exact : (count : ℕ) (fields : List (List ℕ)) → length fields ≡ count → has_columns count fields ≡ true
+columns_exact count fields many = rw (eq-eqb (length fields) count many) refl
+
+columns-more : (count : ℕ) (fields : List (List ℕ)) → count + 2 ≤ length fields → has_columns count fields ≡ false
+columns-more count fields many =
+    let one : (length fields ≡ count) → ⊥ = λ e. absurd (omega (arith, many, e)) in
+    let two : (length fields ≡ count + 1) → ⊥ = λ e. absurd (omega (arith, many, e)) in
+    rw (ne_eqb (length fields) count one, ne_eqb (length fields) (count + 1) two) refl
+
+-- the name of a query
+name-kept : (query : Query) → without_spaces (name_of query) ≡ name_of query
+unfolding without_spaces
+name-kept Q1_1 = refl
+name-kept Q1_2 = refl
+name-kept Q1_3 = refl
+name-kept Q2_1 = refl
+name-kept Q2_2 = refl
+name-kept Q2_3 = refl
+name-kept Q3_1 = refl
+name-kept Q3_2 = refl
+name-kept Q3_3 = refl
+name-kept Q3_4 = refl
+name-kept Q4_1 = refl
+name-kept Q4_2 = refl
+name-kept Q4_3 = refl
+
+name-plain : (query : Query) → IsPlainField (name_of query)
+name-plain Q1_1 = refl
+name-plain Q1_2 = refl
+name-plain Q1_3 = refl
+name-plain Q2_1 = refl
+name-plain Q2_2 = refl
+name-plain Q2_3 = refl
+name-plain Q3_1 = refl
+name-plain Q3_2 = refl
+name-plain Q3_3 = refl
+name-plain Q3_4 = refl
+name-plain Q4_1 = refl
+name-plain Q4_2 = refl
+name-plain Q4_3 = refl
+
+name-read : (query : Query) → query_named (name_of query) ≡ Some query
+name-read Q1_1 = refl
+name-read Q1_2 = refl
+name-read Q1_3 = refl
+name-read Q2_1 = refl
+name-read Q2_2 = refl
+name-read Q2_3 = refl
+name-read Q3_1 = refl
+name-read Q3_2 = refl
+name-read Q3_3 = refl
+name-read Q3_4 = refl
+name-read Q4_1 = refl
+name-read Q4_2 = refl
+name-read Q4_3 = refl
+
+-- no query has a single constant
+two-constants : (query : Query) → 2 ≤ length (constant_kinds query)
+two-constants Q1_1 = omega arith
+two-constants Q1_2 = omega arith
+two-constants Q1_3 = omega arith
+two-constants Q2_1 = omega arith
+two-constants Q2_2 = omega arith
+two-constants Q2_3 = omega arith
+two-constants Q3_1 = omega arith
+two-constants Q3_2 = omega arith
+two-constants Q3_3 = omega arith
+two-constants Q3_4 = omega arith
+two-constants Q4_1 = omega arith
+two-constants Q4_2 = omega arith
+two-constants Q4_3 = omega arith
+
+-- the constants behind five fields: those that are written, or those of the query where none are
+given-read : (question : Query × List Value) (a b c d e : List ℕ) → IsAllowedQuestion question
+    → constants_at 5 question.0 (a ∷ b ∷ c ∷ d ∷ e ∷ map value_text question.1) ≡ Some question.1
+unfolding constants_at
+given-read question a b c d e allowed =
+    let kinds = constant_kinds question.0 in
+    let fit : AllZip IsGroup kinds question.1 = constants_fit question allowed in
+    let many : length (map value_text question.1) ≡ length kinds = as_many_values kinds question.1 fit in
+    let fields : List (List ℕ) = a ∷ b ∷ c ∷ d ∷ e ∷ map value_text question.1 in
+    let some : has_columns 5 fields ≡ false = columns-more 5 fields (omega (arith, many, two-constants question.0)) in
+    let all : has_columns (5 + length kinds) fields ≡ true =
+    columns_exact (5 + length kinds) fields (omega (arith, many)) in
+    let end : a ∷ b ∷ c ∷ d ∷ e ∷ (map value_text question.1 ++ []) ≡ fields =
+    ap (λ more. a ∷ b ∷ c ∷ d ∷ e ∷ more) (append-nil (map value_text question.1)) in
+    let read : constants_from 5 kinds fields ≡ Some question.1
+    = ap (constants_from 5 kinds) (sym end) ∙ values_read (a ∷ b ∷ c ∷ d ∷ e ∷ []) kinds question.1 [] fit in
+    rw (some, all, read, allowed.taken) refl
+
+constants-read : (question : Query × List Value) (a b c d e : List ℕ) → IsAllowedQuestion question
+    → constants_at 5 question.0 (a ∷ b ∷ c ∷ d ∷ e ∷ map value_text (written_constants question)) ≡ Some question.1
+unfolding constants_at
+constants-read question a b c d e allowed = elim (cases_Bool
+    (question_eq question (question.0, standard_constants question.0))) [
+      | inl standard ↦
+          let same : question ≡ (question.0, standard_constants question.0) =
+          (question_Decides question (question.0, standard_constants question.0)).0 standard in
+          let constants : standard_constants question.0 ≡ question.1 =
+          sym (ap (λ (q : Query × List Value). q.1) same) in
+          rw standard (ap Some constants)
+      | inr own ↦ rw own (given-read question a b c d e allowed)
+    ]
+
+constants-plain : (question : Query × List Value) → IsAllowedQuestion question
+    → AllByRecursion IsPlainField (map value_text (written_constants question))
+constants-plain question allowed =
+    elim (cases_Bool (question_eq question (question.0, standard_constants question.0))) [
+      | inl standard ↦ rw standard tt
+      | inr own ↦ rw own (values_plain (constant_kinds question.0) question.1 (constants_fit question allowed))
+    ]
+
+-- the fields of the record
+head_fields : Told → List (List ℕ)
+head_fields told =
+    codes "answer" ∷ decimal told.client ∷ decimal told.at ∷ name_of told.question.0 ∷ decimal (length told.rows) ∷ map
+    value_text (written_constants told.question)
+
+says-head : (told : Told) → HasAllowedHead told → Says (head_fields told) (Answer (head_of_told told))
+unfolding head_fields word_of without_spaces
+says-head told allowed =
+    rw (
+      (number_kept told.client (client_small told.client allowed.client)).kept,
+      client_read told.client allowed.client,
+      (number_kept told.at allowed.at).kept,
+      number_read told.at allowed.at,
+      name-kept told.question.0,
+      name-read told.question.0,
+      constants-read told.question (codes "answer") (decimal told.client) (decimal told.at) (name_of told.question.0)
+          (decimal (length told.rows)) allowed.question,
+      (number_kept (length told.rows) allowed.count).kept,
+      number_read (length told.rows) allowed.count,
+    ) refl
+
+-- and their text
+bars : (values : List Value) → flat_map after_bar values ++ line_feed ≡ fields_text (map value_text values)
+bars [] = refl
+bars (v ∷ values) =
+    append_assoc (after_bar v) (flat_map after_bar values) line_feed
+    ∙ ap (λ rest. after_bar v ++ rest) (bars values)
+
+head-written : (told : Told) → record_text (codes "answer")
+    (decimal told.client ∷ decimal told.at ∷ name_of told.question.0 ∷ decimal (length told.rows) ∷ map value_text
+    (written_constants told.question)) ≡ head_text told
+head-written told = rw (← bars (written_constants told.question)) (simp append_assoc refl)
+
+pub written_head : (told : Told) → HasAllowedHead told → Written (head_text told) (Answer (head_of_told told) ∷ [])
+unfolding head_fields
+written_head told allowed =
+    written_as (text_of_record (head_fields told)) (head_text told) (Answer (head_of_told told) ∷ [])
+    (Answer (head_of_told told) ∷ []) (head-written told) refl
+    (written_one (head_fields told) (Answer (head_of_told told)) (
+      refl,
+      refl,
+      (
+        (number_kept told.client (client_small told.client allowed.client)).plain,
+        (
+          (number_kept told.at allowed.at).plain,
+          (
+            name-plain told.question.0,
+            (
+              (number_kept (length told.rows) allowed.count).plain,
+              constants-plain told.question allowed.question,
+            ),
+          ),
+        ),
+      ),
+    )
+    (says-head told allowed))

@@ -1,0 +1,60 @@
+-- A legal trace is allowed, where its parts are: its answers' rows are those of their questions.
+use Rattle.std.proofs.Common.{
+  ◌≡◌,
+  ℕ,
+  List,
+  [],
+  ◌∷◌,
+  Some,
+  IfSome,
+  FitsSigned,
+  refl,
+  suc,
+  zero,
+  subst,
+  inl,
+  inr,
+  slice_get,
+  take,
+}
+use Rattle.std.specs.Int.{w64}
+use Rattle.std.specs.List.{AllByRecursion}
+use Rattle.row_store.specs.History.{CommitRecord, lines_after}
+use Rattle.ssb_audit.specs.Legal.{IsTrueOf}
+use Rattle.ssb_audit.specs.declared.trace.Told.{Told}
+use Rattle.ssb_questions.specs.Members.{Has}
+use Rattle.ssb_answers.proofs.MemberLaws.{all_at}
+use Rattle.ssb_base.specs.Base.{Tables}
+use Rattle.ssb_schema.specs.Facts.{facts_of}
+use Rattle.ssb_trace.specs.Allowed.{AreTakenDimensions, HasAllowedHead, HasSums, IsAllowedRow, IsAllowedTold}
+use Rattle.ssb_trace.specs.RoundTrip.{LegalTracesAreAllowed}
+use Rattle.ssb_trace.proofs.AnsweredRowLaws.{answers_have_allowed_rows}
+
+all-from : {X : Type 0} (P : X → Type 0) (xs : List X) → ((x : X) → Has xs x → P x) → AllByRecursion P xs
+all-from P [] each = tt
+all-from P (x ∷ xs) each = (each x (inl refl), all-from P xs (λ y has. each y (inr has)))
+
+told-allowed : (base : Tables) (commits : List CommitRecord) (told : Told) → AreTakenDimensions base.dimensions
+    → IsTrueOf base commits told
+    → HasAllowedHead told → HasSums told → IsAllowedTold told
+told-allowed base commits told taken true_of head sums = record {
+  head = head;
+  rows = all-from (IsAllowedRow told.question.0) told.rows (λ row has.
+      answers_have_allowed_rows told.question base.dimensions (facts_of (lines_after base (take told.at commits))) row
+      taken
+      (subst (λ rows. Has rows row) true_of.rows has)
+      (all_at (λ r. IfSome r.sum (FitsSigned w64)) told.rows row sums has));
+}
+
+all-allowed : (base : Tables) (commits : List CommitRecord) (answers : List Told) → AreTakenDimensions base.dimensions
+    → ((i : ℕ) (told : Told) → slice_get answers i ≡ Some told → IsTrueOf base commits told)
+    → AllByRecursion HasAllowedHead answers → AllByRecursion HasSums answers → AllByRecursion IsAllowedTold answers
+all-allowed base commits [] taken true_of heads sums = tt
+all-allowed base commits (told ∷ answers) taken true_of heads sums = (
+  told-allowed base commits told taken (true_of zero told refl) heads.0 sums.0,
+  all-allowed base commits answers taken (λ i other there. true_of (suc i) other there) heads.1 sums.1,
+)
+
+pub legal_traces_are_allowed : LegalTracesAreAllowed
+legal_traces_are_allowed base trace taken legal commits heads sums =
+    record { commits = commits; answers = all-allowed base trace.commits trace.answers taken legal.answers heads sums }

@@ -1,0 +1,340 @@
+-- A text spells no two traces: its records spell one list of lines, and the blocks are read off its lines, from the
+-- last to
+-- the first.
+use Rattle.std.proofs.Common.{
+  ◌≡◌,
+  ℕ,
+  List,
+  [],
+  ◌∷◌,
+  ◌++◌,
+  map,
+  Option,
+  Some,
+  None,
+  Ok,
+  Err,
+  Result,
+  subst,
+  refl,
+  sym,
+  ap,
+  ◌∙◌,
+  append_assoc,
+}
+use Rattle.std.specs.List.{flat_map}
+use Rattle.std.specs.Option.{option_map}
+use Rattle.std.proofs.lemmas.Option.{none-some, same_Some}
+use Rattle.csv.specs.Machine.{Read, next_record}
+use Rattle.csv.specs.Reading.{Reached, strip_bom}
+use Rattle.csv.specs.declared.parser.Config.{Config}
+use Rattle.csv.specs.declared.parser.State.{State}
+use Rattle.csv.specs.declared.parser.State.TheVariants as st
+use Rattle.row_store.specs.History.{CommitRecord}
+use Rattle.ssb_audit.specs.declared.trace.Told.{Told}
+use Rattle.ssb_audit.specs.declared.trace.Trace.{Trace}
+use Rattle.ssb_text.specs.Records.{record_config}
+use Rattle.ssb_questions.specs.declared.query.Query.{Query}
+use Rattle.ssb_questions.specs.declared.query.Query.TheVariants.{Q1_1}
+use Rattle.ssb_answers.specs.declared.answer.ResultRow.{ResultRow}
+use Rattle.ssb_schema.specs.declared.line.LineFields.{LineFields}
+use Rattle.ssb_schema.specs.declared.refresh.Action.{Action}
+use Rattle.ssb_schema.specs.declared.refresh.Action.TheVariants as action
+use Rattle.ssb_script.specs.Lines.{ScriptLine, RecordFault}
+use Rattle.ssb_script.specs.Lines as script
+use Rattle.ssb_script.specs.Requests.{Refresh, action_of, lines_of_action, lines_of_request}
+use Rattle.ssb_script.specs.declared.control.Opening.TheVariants.{Add, Amend}
+use Rattle.ssb_trace.specs.Blocks.{answers_in, commits_in, in_commit, lines_of_blocks}
+use Rattle.ssb_trace.specs.Laws.{HasOneReading}
+use Rattle.ssb_trace.specs.Lines.{
+  TraceLine,
+  Begin,
+  Inside,
+  Answer,
+  Row,
+  AreLines,
+  SaysAfter,
+  block_begun,
+  line_inside,
+  row_after,
+  word_of,
+}
+use Rattle.ssb_trace.specs.declared.block.Block.{Block}
+use Rattle.ssb_trace.specs.declared.block.Block.TheVariants as block
+use Rattle.ssb_trace.specs.declared.word.Word.{Word}
+use Rattle.ssb_trace.specs.declared.word.Word.TheVariants as word
+
+-- the records of a text are one list
+one_list : (cfg : Config) (s s1 s2 : State) (text ys zs : List ℕ) (one other : List (List (List ℕ)))
+    → Reached cfg s text one s1 ys → next_record cfg s1 [] [] ys ≡ None → Reached cfg s text other s2 zs
+    → next_record cfg s2 [] [] zs ≡ None → one ≡ other
+unfolding Reached
+one_list cfg s s1 s2 text ys zs [] [] a enda b endb = refl
+one_list cfg s s1 s2 text ys zs [] (r ∷ other) a enda b endb =
+    let none : next_record cfg s [] [] text ≡ None = rw (a.0, a.1) enda in
+    absurd (none-some b.0 (sym none ∙ b.1))
+one_list cfg s s1 s2 text ys zs (r ∷ one) [] a enda b endb =
+    let none : next_record cfg s [] [] text ≡ None = rw (b.0, b.1) endb in
+    absurd (none-some a.0 (sym none ∙ a.1))
+one_list cfg s s1 s2 text ys zs (r ∷ one) (q ∷ other) a enda b endb =
+    let same : a.0 ≡ b.0 = same_Some a.0 b.0 (sym a.1 ∙ b.1) in
+    let Rest : Read → Type 0 = λ p. Reached cfg p.1 p.2 other s2 zs in
+    let first : r ≡ q = a.2 ∙ (ap (λ p. p.0) same ∙ sym b.2) in
+    let later : one ≡ other = one_list cfg a.0.1 s1 s2 a.0.2 ys zs one other a.3 enda (subst Rest (sym same) b.3) endb
+    in
+    rw (first, later) refl
+
+-- the line that a record says, where the rows of this query are read
+inside : Result ScriptLine RecordFault → Option TraceLine
+inside (Ok line) = Some (Inside line)
+inside (Err why) = None
+
+said : Query → Option Word → List (List ℕ) → Option TraceLine
+said query (Some word.Commit) fields = block_begun (Some word.Commit) fields
+said query (Some word.Answer) fields = block_begun (Some word.Answer) fields
+said query (Some word.Row) fields = option_map (Row query) (row_after query (Some word.Row) fields)
+said query w fields = inside (line_inside w fields)
+
+-- a line is a row of this query, if it is a row
+IsOf : Query → TraceLine → Type 0
+IsOf query (Begin client) = Unit {0}
+IsOf query (Inside line) = Unit {0}
+IsOf query (Answer head) = Unit {0}
+IsOf query (Row other row) = other ≡ query
+
+says_begin : (query : Query) (w : Option Word) (fields : List (List ℕ)) (line : TraceLine)
+    → block_begun w fields ≡ Some line → said query w fields ≡ Some line
+unfolding said
+says_begin query (Some word.Commit) fields line e = e
+says_begin query (Some word.Answer) fields line e = e
+says_begin query _ fields line e = absurd cc
+
+says_inside : (query : Query) (w : Option Word) (fields : List (List ℕ)) (line : ScriptLine)
+    → line_inside w fields ≡ Ok line → said query w fields ≡ Some (Inside line)
+unfolding inside said
+says_inside query (Some word.Commit) fields line e = absurd cc
+says_inside query (Some word.Answer) fields line e = absurd cc
+says_inside query (Some word.Row) fields line e = absurd cc
+says_inside query None fields line e = ap inside e
+says_inside query (Some word.Add) fields line e = ap inside e
+says_inside query (Some word.Amend) fields line e = ap inside e
+says_inside query (Some word.Line) fields line e = ap inside e
+says_inside query (Some word.Withdraw) fields line e = ap inside e
+says_inside query (Some word.End) fields line e = ap inside e
+
+says_row : (query : Query) (w : Option Word) (fields : List (List ℕ)) (row : ResultRow)
+    → row_after query w fields ≡ Some row → said query w fields ≡ Some (Row query row)
+unfolding said
+says_row query (Some word.Row) fields row e = ap (option_map (Row query)) e
+says_row query _ fields row e = absurd cc
+
+says_said : (query : Query) (w : Option Word) (fields : List (List ℕ)) (line : TraceLine) → IsOf query line
+    → SaysAfter w fields line → said query w fields ≡ Some line
+unfolding IsOf
+says_said query w fields (Begin client) of says = says_begin query w fields (Begin client) says
+says_said query w fields (Answer head) of says = says_begin query w fields (Answer head) says
+says_said query w fields (Inside line) of says = says_inside query w fields line says
+says_said query w fields (Row other row) of says = rw (← of) (says_row other w fields row says)
+
+-- the query whose rows may follow a line
+next_query : Query → TraceLine → Query
+next_query query (Begin client) = query
+next_query query (Inside line) = query
+next_query query (Answer head) = head.question.0
+next_query query (Row other row) = query
+
+-- each row is one of the query that was named last
+Follow : Query → List TraceLine → Type 0
+Follow query [] = Unit {0}
+Follow query (line ∷ lines) = IsOf query line × Follow (next_query query line) lines
+
+same_lines : (query : Query) (records : List (List (List ℕ))) (one other : List TraceLine) → AreLines records one
+    → AreLines records other → Follow query one → Follow query other → one ≡ other
+unfolding Follow
+same_lines query [] [] [] a b c d = refl
+same_lines query [] (l ∷ one) other a b c d = absurd a
+same_lines query [] [] (k ∷ other) a b c d = absurd b
+same_lines query (f ∷ records) [] other a b c d = absurd a
+same_lines query (f ∷ records) (l ∷ one) [] a b c d = absurd b
+same_lines query (f ∷ records) (l ∷ one) (k ∷ other) a b c d =
+    let first : l ≡ k = same_Some l k (sym (says_said query (word_of f) f l c.0 a.0)
+    ∙ says_said query (word_of f) f k d.0 b.0) in
+    let later : one ≡ other = same_lines (next_query query l) records one other a.1 b.1 c.1
+    (subst (λ line. Follow (next_query query line) other) (sym first) d.1) in
+    rw (first, later) refl
+
+follow_commit : (query : Query) (client : ℕ) (lines : List ScriptLine) (rest : List TraceLine) → Follow query rest
+    → Follow query (map (in_commit client) lines ++ rest)
+unfolding Follow IsOf next_query
+follow_commit query client [] rest f = f
+follow_commit query client (script.Begin ∷ lines) rest f = (tt, follow_commit query client lines rest f)
+follow_commit query client (_ ∷ lines) rest f = (tt, follow_commit query client lines rest f)
+
+follow_rows : (query : Query) (rows : List ResultRow) (rest : List TraceLine) → Follow query rest
+    → Follow query (map (Row query) rows ++ rest)
+unfolding Follow IsOf next_query
+follow_rows query [] rest f = f
+follow_rows query (row ∷ rows) rest f = (refl, follow_rows query rows rest f)
+
+follow_blocks : (query : Query) (blocks : List Block) → Follow query (lines_of_blocks blocks)
+unfolding Follow IsOf next_query
+follow_blocks query [] = tt
+follow_blocks query (block.Commit commit ∷ blocks) = follow_commit query commit.client
+    (lines_of_request (Refresh commit.actions)) (lines_of_blocks blocks) (follow_blocks query blocks)
+follow_blocks query (block.Answer told ∷ blocks) = (
+  tt,
+  follow_rows told.question.0 told.rows (lines_of_blocks blocks) (follow_blocks told.question.0 blocks),
+)
+
+-- what the lines from one on hold: lines of an order that began before it, actions of a commit that did, rows of an
+-- answer
+-- that did, and blocks
+record Tail : Type 0 where
+  lines : List LineFields
+  actions : List Action
+  rows : List ResultRow
+  blocks : List Block
+
+abbrev before_inside : ScriptLine → Tail → Tail
+before_inside (script.Query question) tail = tail
+before_inside script.Begin tail = tail
+before_inside (script.Open opening) tail = record {
+  lines = [];
+  actions = action_of opening tail.lines ∷ tail.actions;
+  rows = tail.rows;
+  blocks = tail.blocks;
+}
+before_inside (script.Line row) tail = record {
+  lines = row ∷ tail.lines;
+  actions = tail.actions;
+  rows = tail.rows;
+  blocks = tail.blocks;
+}
+before_inside (script.Withdraw key) tail = record {
+  lines = [];
+  actions = action.Withdraw key ∷ tail.actions;
+  rows = tail.rows;
+  blocks = tail.blocks;
+}
+before_inside script.Commit tail = record { lines = []; actions = []; rows = []; blocks = tail.blocks }
+
+abbrev before : TraceLine → Tail → Tail
+before (Begin client) tail = record {
+  lines = [];
+  actions = [];
+  rows = [];
+  blocks = block.Commit (record { client = client; actions = tail.actions }) ∷ tail.blocks;
+}
+before (Inside line) tail = before_inside line tail
+before (Answer head) tail =
+    record {
+      lines = [];
+      actions = [];
+      rows = [];
+      blocks = block.Answer
+          (record { client = head.client; at = head.at; question = head.question; rows = tail.rows }) ∷ tail.blocks;
+    }
+before (Row query row) tail = record {
+  lines = tail.lines;
+  actions = tail.actions;
+  rows = row ∷ tail.rows;
+  blocks = tail.blocks;
+}
+
+abbrev tail_of : List TraceLine → Tail
+tail_of [] = record { lines = []; actions = []; rows = []; blocks = [] }
+tail_of (line ∷ lines) = before line (tail_of lines)
+
+-- the lines of a commit, and then some
+abbrev tail_in : ℕ → List TraceLine → List ScriptLine → Tail
+tail_in client outer lines = tail_of (map (in_commit client) lines ++ outer)
+
+of_order : (client : ℕ) (outer : List TraceLine) (order : List LineFields) (rest : List ScriptLine)
+    → (tail_in client outer rest).lines ≡ []
+    → tail_in client outer (map script.Line order ++ rest) ≡ record (tail_in client outer rest) { lines = order }
+of_order client outer [] rest none = rw (← none) refl
+of_order client outer (row ∷ order) rest none = ap (before (Inside (script.Line row)))
+    (of_order client outer order rest none)
+
+of_action : (client : ℕ) (outer : List TraceLine) (a : Action) (rest : List ScriptLine)
+    → (tail_in client outer rest).lines ≡ []
+    → tail_in client outer (lines_of_action a ++ rest) ≡ record (tail_in client outer rest)
+    { lines = []; actions = a ∷ (tail_in client outer rest).actions }
+of_action client outer (action.Add order) rest none = ap (before (Inside (script.Open Add)))
+    (of_order client outer order rest none)
+of_action client outer (action.Amend order) rest none =
+    ap (before (Inside (script.Open Amend))) (of_order client outer order rest none)
+of_action client outer (action.Withdraw key) rest none = refl
+
+of_actions : (client : ℕ) (outer : List TraceLine) (actions : List Action)
+    → tail_in client outer (flat_map lines_of_action actions ++ script.Commit ∷ []) ≡ record {
+      lines = [];
+      actions = actions;
+      rows = [];
+      blocks = (tail_of outer).blocks;
+    }
+of_actions client outer [] = refl
+of_actions client outer (a ∷ actions) =
+    let rest : List ScriptLine = flat_map lines_of_action actions ++ script.Commit ∷ [] in
+    let later : tail_in client outer rest ≡ record {
+      lines = [];
+      actions = actions;
+      rows = [];
+      blocks = (tail_of outer).blocks;
+    } = of_actions client outer actions in
+    ap (tail_in client outer) (append_assoc (lines_of_action a) (flat_map lines_of_action actions) (script.Commit ∷ []))
+    ∙ (of_action client outer a rest (ap (λ t. t.lines) later)
+    ∙ ap (λ t. record { lines = []; actions = a ∷ t.actions; rows = t.rows; blocks = t.blocks }) later)
+
+of_rows : (query : Query) (rows : List ResultRow) (rest : List TraceLine) → (tail_of rest).rows ≡ []
+    → (tail_of (map (Row query) rows ++ rest)).rows ≡ rows
+of_rows query [] rest none = none
+of_rows query (row ∷ rows) rest none = ap (λ more. row ∷ more) (of_rows query rows rest none)
+
+past_rows : (query : Query) (rows : List ResultRow) (rest : List TraceLine)
+    → (tail_of (map (Row query) rows ++ rest)).blocks ≡ (tail_of rest).blocks
+past_rows query [] rest = refl
+past_rows query (row ∷ rows) rest = past_rows query rows rest
+
+no_rows : (blocks : List Block) → (tail_of (lines_of_blocks blocks)).rows ≡ []
+no_rows [] = refl
+no_rows (block.Commit commit ∷ blocks) = refl
+no_rows (block.Answer told ∷ blocks) = refl
+
+of_blocks : (blocks : List Block) → (tail_of (lines_of_blocks blocks)).blocks ≡ blocks
+of_blocks [] = refl
+of_blocks (block.Commit commit ∷ blocks) =
+    ap (λ t. (before (Begin commit.client) t).blocks) (of_actions commit.client (lines_of_blocks blocks) commit.actions)
+    ∙ ap (λ rest. block.Commit commit ∷ rest) (of_blocks blocks)
+of_blocks (block.Answer told ∷ blocks) =
+    let rest : List TraceLine = lines_of_blocks blocks in
+    let rows : (tail_of (map (Row told.question.0) told.rows ++ rest)).rows ≡ told.rows =
+    of_rows told.question.0 told.rows rest (no_rows blocks) in
+    let later : (tail_of (map (Row told.question.0) told.rows ++ rest)).blocks ≡ blocks =
+    past_rows told.question.0 told.rows rest ∙ of_blocks blocks in
+    ap (λ found. block.Answer (record told { rows = found }) ∷
+    (tail_of (map (Row told.question.0) told.rows ++ rest)).blocks) rows
+    ∙ ap (λ rest. block.Answer told ∷ rest) later
+
+same_trace : (one other : Trace) → one.commits ≡ other.commits → one.answers ≡ other.answers → one ≡ other
+same_trace one other commits answers =
+    ap (λ (found : List CommitRecord). record one { commits = found }) commits
+    ∙ ap (λ (found : List Told). record other { answers = found }) answers
+
+-- the query that rows would be of before any is named: none are there
+abbrev some_query : Query
+some_query = Q1_1
+
+pub one_reading : (text : List ℕ) → HasOneReading text
+one_reading text most more one other a b =
+    let records : a.records ≡ b.records = one_list record_config st.StartRecord a.all.0 b.all.0 (strip_bom text) a.all.1
+    b.all.1 a.records b.records a.all.2 a.all.3 b.all.2 b.all.3 in
+    let spelled : AreLines a.records (lines_of_blocks b.blocks) =
+    subst (λ found. AreLines found (lines_of_blocks b.blocks)) (sym records) b.spelled in
+    let lines : lines_of_blocks a.blocks ≡ lines_of_blocks b.blocks
+    = same_lines some_query a.records (lines_of_blocks a.blocks) (lines_of_blocks b.blocks) a.spelled spelled
+    (follow_blocks some_query a.blocks) (follow_blocks some_query b.blocks) in
+    let blocks : a.blocks ≡ b.blocks = sym (of_blocks a.blocks)
+    ∙ (ap (λ found. (tail_of found).blocks) lines ∙ of_blocks b.blocks) in
+    same_trace one other (sym a.commits ∙ (ap commits_in blocks ∙ b.commits))
+    (sym a.answers ∙ (ap answers_in blocks ∙ b.answers))

@@ -1,0 +1,176 @@
+-- The text of an answer's row spells the row, and that of an answer its lines.
+use Rattle.std.proofs.Common.{
+  ◌≡◌,
+  ℕ,
+  ℤ,
+  ◌+◌,
+  true,
+  false,
+  List,
+  [],
+  ◌∷◌,
+  ◌++◌,
+  length,
+  map,
+  codes,
+  Option,
+  Some,
+  None,
+  refl,
+  sym,
+  ap,
+  ◌∙◌,
+  append_assoc,
+  length-append,
+  arith,
+  inl,
+  inr,
+}
+use Rattle.std.specs.List.{AllByRecursion, flat_map, join_with_byte}
+use Rattle.std.proofs.lemmas.Bool.{cases_Bool}
+use Rattle.std.proofs.lemmas.List.{append-nil}
+use Rattle.ssb_audit.specs.declared.trace.Told.{Told}
+use Rattle.ssb_text.specs.Records.{has_columns}
+use Rattle.ssb_text.specs.Spelling.{field, without_spaces}
+use Rattle.ssb_questions.specs.Query.{sum_first}
+use Rattle.ssb_questions.specs.declared.query.Query.{Query}
+use Rattle.ssb_answers.specs.declared.answer.ResultRow.{ResultRow}
+use Rattle.ssb_report.specs.AnswerText.{columns_of, row_text, value_text}
+use Rattle.ssb_report.specs.Numbers.{line_feed, sum_text}
+use Rattle.ssb_script.specs.Lines.{constants_from}
+use Rattle.ssb_trace.specs.TraceText.{fields_text, head_text, record_text, told_row_text, told_text}
+use Rattle.ssb_trace.specs.Blocks.{head_of_told, lines_of_told}
+use Rattle.ssb_trace.specs.Lines.{Answer, Row, Says, word_of}
+use Rattle.ssb_trace.specs.Rows.{group_kinds, row_of, sum_of}
+use Rattle.ssb_trace.specs.Allowed.{IsAllowedRow, IsAllowedSum, IsAllowedTold}
+use Rattle.ssb_trace.proofs.FieldLaws.{IsKept, field_there}
+use Rattle.ssb_trace.proofs.HeadLaws.{columns_exact, written_head}
+use Rattle.ssb_trace.proofs.NumberLaws.{sum_kept, sum_no_null, sum_read}
+use Rattle.ssb_trace.proofs.RecordLaws.{IsPlainField}
+use Rattle.ssb_trace.proofs.ValueLaws.{as_many_values, values_plain, values_read}
+use Rattle.ssb_trace.proofs.WrittenLaws.{Written, written_as, written_both, written_map, written_one}
+
+-- a row's sum
+null-kept : without_spaces (codes "NULL") ≡ codes "NULL"
+unfolding without_spaces
+null-kept = refl
+
+sum-text-kept : (query : Query) (sum : Option ℤ) → IsAllowedSum query sum → IsKept (sum_text sum)
+sum-text-kept query None allowed = record { plain = refl; kept = null-kept }
+sum-text-kept query (Some sum) allowed = sum_kept sum allowed.sfits
+
+sum-text-read : (query : Query) (sum : Option ℤ) → IsAllowedSum query sum → sum_of query (sum_text sum) ≡ Some sum
+sum-text-read query None allowed = rw allowed refl
+sum-text-read query (Some sum) allowed = rw (sum_no_null sum allowed.sfits, sum_read sum allowed.sfits) refl
+
+-- the fields of a row, behind its word
+fields-first : (query : Query) (row : ResultRow) → IsAllowedRow query row → sum_first query ≡ true
+    → row_of query (codes "row" ∷ sum_text row.sum ∷ map value_text row.groups) ≡ Some row
+fields-first query row allowed first =
+    let kinds = group_kinds query in
+    let fields : List (List ℕ) = codes "row" ∷ sum_text row.sum ∷ map value_text row.groups in
+    let many : has_columns (2 + length kinds) fields ≡ true =
+    columns_exact (2 + length kinds) fields (omega (arith, as_many_values kinds row.groups allowed.groups)) in
+    let end : codes "row" ∷ sum_text row.sum ∷ (map value_text row.groups ++ []) ≡ fields =
+    ap (λ more. codes "row" ∷ sum_text row.sum ∷ more) (append-nil (map value_text row.groups)) in
+    let groups : constants_from 2 kinds fields ≡ Some row.groups
+    = ap (constants_from 2 kinds) (sym end) ∙ values_read (codes "row" ∷ sum_text row.sum ∷ []) kinds row.groups []
+    allowed.groups in
+    rw (many, first, (sum-text-kept query row.sum allowed.sum).kept, sum-text-read query row.sum allowed.sum, groups)
+    refl
+
+fields-last : (query : Query) (row : ResultRow) → IsAllowedRow query row → sum_first query ≡ false
+    → row_of query (codes "row" ∷ (map value_text row.groups ++ sum_text row.sum ∷ [])) ≡ Some row
+fields-last query row allowed last =
+    let kinds = group_kinds query in
+    let fields : List (List ℕ) = codes "row" ∷ (map value_text row.groups ++ sum_text row.sum ∷ []) in
+    let count : length (map value_text row.groups) ≡ length kinds = as_many_values kinds row.groups allowed.groups in
+    let many : has_columns (2 + length kinds) fields ≡ true
+    = columns_exact (2 + length kinds) fields (omega (
+      arith,
+      count,
+      length-append (map value_text row.groups) (sum_text row.sum ∷ []),
+    )) in
+    let place : length (codes "row" ∷ map value_text row.groups) ≡ 1 + length kinds = omega (arith, count) in
+    let sum : field fields (1 + length kinds) ≡ sum_text row.sum
+    = ap (field fields) (sym place) ∙ field_there (codes "row" ∷ map value_text row.groups) (sum_text row.sum) []
+    (sum-text-kept query row.sum allowed.sum) in
+    let groups : constants_from 1 kinds fields ≡ Some row.groups =
+    values_read (codes "row" ∷ []) kinds row.groups (sum_text row.sum ∷ []) allowed.groups in
+    rw (many, last, sum, sum-text-read query row.sum allowed.sum, groups) refl
+
+row-read : (query : Query) (row : ResultRow) → IsAllowedRow query row
+    → row_of query (codes "row" ∷ columns_of query row) ≡ Some row
+row-read query row allowed = elim (cases_Bool (sum_first query)) [
+  | inl first ↦
+      let columns : columns_of query row ≡ sum_text row.sum ∷ map value_text row.groups = rw first refl in
+      ap (λ found. row_of query (codes "row" ∷ found)) columns ∙ fields-first query row allowed first
+  | inr last ↦
+      let columns : columns_of query row ≡ map value_text row.groups ++ sum_text row.sum ∷ [] = rw last refl in
+      ap (λ found. row_of query (codes "row" ∷ found)) columns ∙ fields-last query row allowed last
+]
+
+says-row : (query : Query) (row : ResultRow) → IsAllowedRow query row
+    → Says (codes "row" ∷ columns_of query row) (Row query row)
+unfolding word_of without_spaces
+says-row query row allowed = row-read query row allowed
+
+-- the columns are plain
+both-plain : (one other : List (List ℕ)) → AllByRecursion IsPlainField one → AllByRecursion IsPlainField other
+    → AllByRecursion IsPlainField (one ++ other)
+both-plain [] other a b = b
+both-plain (x ∷ one) other a b = (a.0, both-plain one other a.1 b)
+
+columns-plain : (query : Query) (row : ResultRow) → IsAllowedRow query row
+    → AllByRecursion IsPlainField (columns_of query row)
+columns-plain query row allowed =
+    let groups : AllByRecursion IsPlainField (map value_text row.groups) =
+    values_plain (group_kinds query) row.groups allowed.groups in
+    let sum : IsPlainField (sum_text row.sum) = (sum-text-kept query row.sum allowed.sum).plain in
+    elim (cases_Bool (sum_first query)) [
+      | inl first ↦ rw first (sum, groups)
+      | inr last ↦ rw last (both-plain (map value_text row.groups) (sum_text row.sum ∷ []) groups (sum, tt))
+    ]
+
+-- columns joined by bars are fields behind bars
+joined : (x : List ℕ) (xs : List (List ℕ)) → 124 ∷ (join_with_byte 124 (x ∷ xs) ++ line_feed) ≡ fields_text (x ∷ xs)
+joined x [] = refl
+joined x (y ∷ xs) =
+    ap (λ rest. 124 ∷ rest) (append_assoc x (124 ∷ join_with_byte 124 (y ∷ xs)) line_feed)
+    ∙ ap (λ rest. 124 ∷ (x ++ rest)) (joined y xs)
+
+joined-last : (xs : List (List ℕ)) (y : List ℕ) → 124 ∷ (join_with_byte 124 (xs ++ y ∷ []) ++ line_feed) ≡ fields_text
+    (xs ++ y ∷ [])
+joined-last [] y = joined y []
+joined-last (x ∷ xs) y = joined x (xs ++ y ∷ [])
+
+columns-joined : (query : Query) (row : ResultRow) → 124 ∷ row_text query row ≡ fields_text (columns_of query row)
+columns-joined query row = elim (cases_Bool (sum_first query)) [
+  | inl first ↦ rw first (joined (sum_text row.sum) (map value_text row.groups))
+  | inr last ↦ rw last (joined-last (map value_text row.groups) (sum_text row.sum))
+]
+
+row-written : (query : Query) (row : ResultRow) → record_text (codes "row") (columns_of query row) ≡ told_row_text query
+    row
+row-written query row = ap (λ rest. codes "row" ++ rest) (sym (columns-joined query row))
+
+written-row : (query : Query) (row : ResultRow) → IsAllowedRow query row
+    → Written (told_row_text query row) (Row query row ∷ [])
+written-row query row allowed =
+    written_as (record_text (codes "row") (columns_of query row)) (told_row_text query row) (Row query row ∷ [])
+    (Row query row ∷ []) (row-written query row) refl
+    (written_one (codes "row" ∷ columns_of query row) (Row query row) (refl, refl, columns-plain query row allowed)
+    (says-row query row allowed))
+
+each-row : (query : Query) (rows : List ResultRow) → AllByRecursion (IsAllowedRow query) rows
+    → AllByRecursion (λ row. Written (told_row_text query row) (Row query row ∷ [])) rows
+each-row query [] all = tt
+each-row query (row ∷ rows) all = (written-row query row all.0, each-row query rows all.1)
+
+pub written_told : (told : Told) → IsAllowedTold told → Written (told_text told) (lines_of_told told)
+written_told told allowed =
+    let query = told.question.0 in
+    written_both (head_text told) (flat_map (told_row_text query) told.rows) (Answer (head_of_told told) ∷ [])
+    (map (Row query) told.rows)
+    (written_head told allowed.head)
+    (written_map (told_row_text query) (Row query) told.rows (each-row query told.rows allowed.rows))

@@ -1,0 +1,170 @@
+-- The constants of a question and the group columns of a row are read back.
+use Rattle.std.proofs.Common.{
+  suc,
+  ltb-false,
+  lt-ltb,
+  eqb-true,
+  ◌≡◌,
+  ℕ,
+  ◌+◌,
+  ◌^◌,
+  ◌≤◌,
+  Bool,
+  true,
+  false,
+  not,
+  nat_eq,
+  nat_lt,
+  List,
+  [],
+  ◌∷◌,
+  ◌++◌,
+  length,
+  map,
+  zip,
+  position,
+  Option,
+  Some,
+  None,
+  option_map,
+  refl,
+  sym,
+  ap,
+  ◌∙◌,
+  append_assoc,
+  length-append,
+  arith,
+  inl,
+  inr,
+}
+use Rattle.std.specs.List.{AllByRecursion, AllZip, position_or_len}
+use Rattle.std.proofs.lemmas.Bool.{cases_Bool}
+use Rattle.std.proofs.lemmas.Option.{none-some}
+use Rattle.ssb_questions.specs.Kind.{constant_kinds, fits}
+use Rattle.ssb_questions.specs.Question.{constants_fault}
+use Rattle.ssb_questions.specs.declared.kind.ConstantKind.{ConstantKind}
+use Rattle.ssb_questions.specs.declared.kind.ConstantKind.TheVariants as kind
+use Rattle.ssb_questions.specs.declared.query.Query.{Query}
+use Rattle.ssb_questions.specs.declared.question.ConstantsFault.TheVariants.{BadConstant}
+use Rattle.ssb_questions.specs.declared.value.Value.{Value}
+use Rattle.ssb_questions.specs.declared.value.Value.TheVariants as value
+use Rattle.ssb_report.specs.AnswerText.{value_text}
+use Rattle.ssb_text.specs.Spelling.{field}
+use Rattle.ssb_schema.specs.Columns.{is_plain}
+use Rattle.ssb_schema.specs.declared.column.Column.{Column}
+use Rattle.ssb_script.specs.Lines.{constant_spelled, constants_from}
+use Rattle.ssb_trace.specs.Allowed.{IsAllowedQuestion, IsAllowedValue, IsGroup}
+use Rattle.ssb_trace.proofs.FieldLaws.{IsKept, field_there, text_kept, text_read}
+use Rattle.ssb_trace.proofs.NumberLaws.{number_kept, number_read}
+use Rattle.ssb_trace.proofs.RecordLaws.{IsPlainField}
+
+-- one value
+value-kept : (k : ConstantKind) (v : Value) → IsGroup k v → IsKept (value_text v)
+value-kept (kind.Text column) (value.Text bytes) fit = text_kept bytes fit.0
+value-kept kind.Number (value.Number n) fit = number_kept n (omega (arith, fit))
+value-kept (kind.Text column) (value.Number n) fit = absurd fit
+value-kept kind.Number (value.Text bytes) fit = absurd fit
+
+value-read : (k : ConstantKind) (v : Value) → IsGroup k v → constant_spelled k (value_text v) ≡ Some v
+value-read (kind.Text column) (value.Text bytes) fit = ap (option_map value.Text) (text_read bytes fit.1)
+value-read kind.Number (value.Number n) fit = rw (number_read n (omega (arith, fit)), lt-ltb n (2 ^ 32) fit) refl
+value-read (kind.Text column) (value.Number n) fit = absurd fit
+value-read kind.Number (value.Text bytes) fit = absurd fit
+
+-- values in a record, with fields before and behind them
+pub values_plain : (kinds : List ConstantKind) (values : List Value) → AllZip IsGroup kinds values
+    → AllByRecursion IsPlainField (map value_text values)
+values_plain [] [] fit = tt
+values_plain [] (v ∷ values) fit = absurd fit
+values_plain (k ∷ kinds) [] fit = absurd fit
+values_plain (k ∷ kinds) (v ∷ values) fit = ((value-kept k v fit.0).plain, values_plain kinds values fit.1)
+
+pub values_read : (front : List (List ℕ)) (kinds : List ConstantKind) (values : List Value) (back : List (List ℕ))
+    → AllZip IsGroup kinds values
+    → constants_from (length front) kinds (front ++ (map value_text values ++ back)) ≡ Some values
+unfolding constants_from
+values_read front [] [] back fit = refl
+values_read front [] (v ∷ values) back fit = absurd fit
+values_read front (k ∷ kinds) [] back fit = absurd fit
+values_read front (k ∷ kinds) (v ∷ values) back fit =
+    let rest : List (List ℕ) = map value_text values ++ back in
+    let there : field (front ++ value_text v ∷ rest) (length front) ≡ value_text v =
+    field_there front (value_text v) rest (value-kept k v fit.0) in
+    let later : constants_from (length front + 1) kinds (front ++ value_text v ∷ rest) ≡ Some values
+    = ap (λ n. constants_from n kinds (front ++ value_text v ∷ rest)) (sym (length-append front (value_text v ∷ [])))
+    ∙ (ap (constants_from (length (front ++ value_text v ∷ [])) kinds)
+    (sym (append_assoc front (value_text v ∷ []) rest))
+    ∙ values_read (front ++ value_text v ∷ []) kinds values back fit.1) in
+    rw (there, value-read k v fit.0, later) refl
+
+pub as_many_values : (kinds : List ConstantKind) (values : List Value) → AllZip IsGroup kinds values
+    → length (map value_text values) ≡ length kinds
+as_many_values [] [] fit = refl
+as_many_values [] (v ∷ values) fit = absurd fit
+as_many_values (k ∷ kinds) [] fit = absurd fit
+as_many_values (k ∷ kinds) (v ∷ values) fit = ap suc (as_many_values kinds values fit.1)
+
+false-true : false ≡ true → ⊥
+false-true e = cc
+
+-- constants that a query takes may stand in their places
+abbrev misfits : ConstantKind × Value → Bool
+misfits at = not (fits at.0 at.1)
+
+text-fits : (column : Column) (bytes : List ℕ) → fits (kind.Text column) (value.Text bytes) ≡ true
+    → is_plain bytes ≡ true
+text-fits column bytes fit = elim (cases_Bool (is_plain bytes)) [
+  | inl plain ↦ plain
+  | inr other ↦ elim (cases_Bool (nat_lt 64 (length bytes))) [
+    | inl long ↦ absurd (false-true (rw long at fit))
+    | inr short ↦ absurd (false-true (rw (short, other) at fit))
+  ]
+]
+
+one-fits : (k : ConstantKind) (v : Value) → fits k v ≡ true → IsAllowedValue v → IsGroup k v
+one-fits (kind.Text column) (value.Text bytes) fit allowed = (text-fits column bytes fit, allowed)
+one-fits kind.Number (value.Number n) fit allowed = allowed
+one-fits (kind.Text column) (value.Number n) fit allowed = absurd (false-true fit)
+one-fits kind.Number (value.Text bytes) fit allowed = absurd (false-true fit)
+
+all-fit : (kinds : List ConstantKind) (values : List Value) → length values ≡ length kinds
+    → length (zip kinds values) ≤ position_or_len misfits (zip kinds values)
+    → AllByRecursion IsAllowedValue values → AllZip IsGroup kinds values
+all-fit [] [] many past allowed = tt
+all-fit [] (v ∷ values) many past allowed = absurd (omega (arith, many))
+all-fit (k ∷ kinds) [] many past allowed = absurd (omega (arith, many))
+all-fit (k ∷ kinds) (v ∷ values) many past allowed = elim (cases_Bool (fits k v)) [
+  | inl fit ↦
+      let before : suc (length (zip kinds values)) ≤ 1 + position_or_len misfits (zip kinds values) = rw fit at past in
+      (one-fits k v fit allowed.0, all-fit kinds values (omega (arith, many)) (omega (arith, before)) allowed.1)
+  | inr other ↦ absurd (let none : suc (length (zip kinds values)) ≤ 0 = rw other at past in omega (arith, none))
+]
+
+not-mapped : {A B : Type 0} (f : A → B) (o : Option A) → option_map f o ≡ None → o ≡ None
+not-mapped f None e = refl
+not-mapped f (Some x) e = absurd (none-some _ (sym e))
+
+no-fault : (query : Query) (constants : List Value) → constants_fault query constants ≡ None
+    → (length constants ≡ length (constant_kinds query))
+    × (position misfits (zip (constant_kinds query) constants) ≡ None)
+no-fault query constants none = elim (cases_Bool (nat_eq (length constants) (length (constant_kinds query)))) [
+  | inl same ↦ (
+    eqb-true _ _ same,
+    not-mapped (λ place. BadConstant (place + 1))
+        (position misfits (zip (constant_kinds query) constants)) (rw same at none),
+  )
+  | inr other ↦ absurd (none-some _ (sym (rw other at none)))
+]
+
+nowhere : {X : Type 0} (p : X → Bool) (xs : List X) → position p xs ≡ None → length xs ≤ position_or_len p xs
+nowhere p xs none = elim (cases_Bool (nat_lt (position_or_len p xs) (length xs))) [
+  | inl within ↦ absurd (none-some _ (sym (rw within at none)))
+  | inr past ↦ ltb-false _ _ past
+]
+
+pub constants_fit : (question : Query × List Value) → IsAllowedQuestion question
+    → AllZip IsGroup (constant_kinds question.0) question.1
+constants_fit question allowed =
+    let found = no-fault question.0 question.1 allowed.taken in
+    all-fit (constant_kinds question.0) question.1 found.0
+    (nowhere misfits (zip (constant_kinds question.0) question.1) found.1) allowed.constants

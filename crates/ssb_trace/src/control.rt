@@ -1,0 +1,28 @@
+//! The records of a commit that are no `line`.
+ghost use Rattle.std.specs.Prelude.{◌≡◌, false, option_map};
+ghost use Rattle.csv.specs.Records.{fields_of};
+ghost use Rattle.ssb_script.specs.Lines.{line_or_bad};
+ghost use Rattle.ssb_script.specs.Steps.{line_of_control};
+ghost use Rattle.ssb_trace.specs.Lines.{is_line, line_inside};
+
+use crate::word::Word;
+use csv::ByteRecord;
+use ssb_script::{Control, Opening, key_of};
+
+/// What a record of this word says in a commit, in a script's terms, if it says anything: `end` is a script's `commit`.
+pub(crate) fn control_of(word: Option<Word>, fields: &ByteRecord) -> Option<Control>
+    requires { is_line word ≡ false }
+    ensures { line_inside word (fields_of fields.now) ≡ line_or_bad (option_map line_of_control result) }
+{
+    match word {
+        Some(Word::Add) => Control::Open(Opening::Add).alone(fields),
+        Some(Word::Amend) => Control::Open(Opening::Amend).alone(fields),
+        Some(Word::Withdraw) => key_of(fields).map(Control::Withdraw),
+        Some(Word::End) => Control::Commit.alone(fields),
+        Some(Word::Line) => None,
+        Some(Word::Commit) => None,
+        Some(Word::Answer) => None,
+        Some(Word::Row) => None,
+        None => None,
+    }
+}

@@ -1,4 +1,0 @@
-pub mod CommitLaws
-pub mod InOrderLaws
-pub mod OneReadingLaws
-pub mod ReadingLaws
