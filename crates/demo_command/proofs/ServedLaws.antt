@@ -2,7 +2,7 @@
 use Rattle.std.proofs.Common.{◌≡◌, ℕ, List, [], ◌∷◌, Option, get_or, refl, sym, ◌∙◌, ap, inl, inr}
 use Rattle.std.specs.Prelude.{Result, Ok, Err, OnOk, OnErr, IfErr}
 use Rattle.std.specs.Io.KnownBytes.{Keeps}
-use Rattle.history.specs.Tokens.{Hall, Token, new_clients, new_token}
+use Rattle.history.specs.Tokens.{TableRecord, TokenRecord, new_clients, new_token}
 use Rattle.history_core.specs.declared.event.Who.TheVariants.{Client}
 use Rattle.demo_command.specs.Demo.{ServesOver, StopsOver, EndsOver, ServesSmall, EndsEarly, IsOfScript}
 use Rattle.ssb_files.specs.Scripts.{IsRefusedScript}
@@ -16,26 +16,26 @@ use Rattle.ssb_base.specs.Base.{Tables}
 use Rattle.ssb_session.specs.Alone.{ServesScript, ServesPart, own}
 
 -- the client of a table that has one
-pub only_client : (hall : Hall) (clients : List Token) (client : Token) → hall.clients ≡ 1
-    → clients ≡ new_clients hall → clients ≡ client ∷ []
-    → client ≡ new_token hall (Client 1)
-only_client hall clients client one are is =
-    let first : new_clients hall ≡ new_token hall (Client 1) ∷ [] = rw one refl in
+pub only_client : (table : TableRecord) (clients : List TokenRecord) (client : TokenRecord) → table.clients ≡ 1
+    → clients ≡ new_clients table → clients ≡ client ∷ []
+    → client ≡ new_token table (Client 1)
+only_client table clients client one are is =
+    let first : new_clients table ≡ new_token table (Client 1) ∷ [] = rw one refl in
     ap (λ tokens. get_or tokens 0 client) (sym is ∙ are ∙ first)
 
 -- what a new client serves is served over the base of its table
-pub serves_over : (hall : Hall) (old new : Token) (remaining before after : Option (List ℕ)) (done : ℕ)
-    → old ≡ new_token hall (Client 1) → ServesScript remaining done old new before after
-    → ServesOver hall.base remaining before after
-serves_over hall old new remaining before after done is served =
-    let all : ServesScript remaining done (new_token hall (Client 1)) new before after = rw is at served in
+pub serves_over : (table : TableRecord) (old new : TokenRecord) (remaining before after : Option (List ℕ)) (done : ℕ)
+    → old ≡ new_token table (Client 1) → ServesScript remaining done old new before after
+    → ServesOver table.base remaining before after
+serves_over table old new remaining before after done is served =
+    let all : ServesScript remaining done (new_token table (Client 1)) new before after = rw is at served in
     record { requests = all.requests; asked = all.asked; ended = own new; served = all.served }
 
-pub stops_over : (hall : Hall) (old new : Token) (remaining before after : Option (List ℕ)) (done : ℕ)
-    → old ≡ new_token hall (Client 1) → ServesPart remaining done old new before after
-    → StopsOver hall.base remaining before after
-stops_over hall old new remaining before after done is stopped =
-    let part : ServesPart remaining done (new_token hall (Client 1)) new before after = rw is at stopped in
+pub stops_over : (table : TableRecord) (old new : TokenRecord) (remaining before after : Option (List ℕ)) (done : ℕ)
+    → old ≡ new_token table (Client 1) → ServesPart remaining done old new before after
+    → StopsOver table.base remaining before after
+stops_over table old new remaining before after done is stopped =
+    let part : ServesPart remaining done (new_token table (Client 1)) new before after = rw is at stopped in
     record { requests = part.requests; asked = part.asked; done = done; ended = own new; stopped = part.stopped }
 
 -- what is served over the base that the small data set spells

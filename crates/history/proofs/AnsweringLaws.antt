@@ -41,13 +41,13 @@ use Rattle.ssb_answers.specs.declared.answer.Answer.{Answer}
 use Rattle.history.specs.declared.request.Request.{Request}
 use Rattle.history.specs.declared.view.Held.{Held}
 use Rattle.history.specs.declared.view.View.{View}
-use Rattle.history.specs.declared.pass.Pass.TheInside.{Inside as Pass}
+use Rattle.history.specs.declared.token.Token.TheInside.{Inside as Token}
 use Rattle.history.specs.Words.{IsFresh, given_to}
 use Rattle.history.specs.Rule.{Slot, IsElsewhere}
 use Rattle.history.specs.Plays.{held, request_at, without_at, served, served_as}
 use Rattle.history.specs.Seats.{Place, turns}
-use Rattle.history.specs.Tokens.{Token, request_of, without, Answers}
-use Rattle.history.specs.Passes.{token, token_of_view, shown, grabbed_boxes, IsSeated}
+use Rattle.history.specs.Tokens.{TokenRecord, request_of, without, Answers}
+use Rattle.history.specs.TokenParts.{shown_token, token_of_view, shown, grabbed_boxes, IsSeated}
 use Rattle.history.proofs.HistoryLaws.{each_of}
 use Rattle.history.proofs.HandLaws.{request_there, Found, found_at, turns_split, few_apart}
 use Rattle.history.proofs.PassingLaws.{passed}
@@ -137,17 +137,17 @@ module _ (place k : ℕ) (hs : List Held) (f : Found place k hs) where
       ∙ (sym (map-append (λ (h : Held). h.place) f.front f.back) ∙ ap places (sym f.left)))))
 
 module _ {W : Type 0} where
-  pub answered_token : (p : Pass W) (hand : ArrayVec ℕ) (after : Place W) (place client : ℕ) (asked : Request)
+  pub answered_token : (p : Token W) (hand : ArrayVec ℕ) (after : Place W) (place client : ℕ) (asked : Request)
       (reply : Answer) (carried : List (ℕ × Slot W)) → place + 1 ≡ client
       → request_at place p.seat.me.0.grabbed ≡ Some asked → IsFresh (given_to (place + 1) asked reply)
       → after.table_id ≡ p.seat.table_id → after.me ≡ (served p.seat.me.0 place reply, carried)
-      → Answers (token p) client reply (token (passed p hand after p.seen_len))
+      → Answers (shown_token p) client reply (shown_token (passed p hand after p.seen_len))
   answered_token p hand after place client asked reply carried number has fresh table now = let v : View =
       p.seat.me.0 in let z = p.seat.table_id in let new : View = served_as v place (Some asked) reply in
-      let whole : token (passed p hand after p.seen_len) ≡ token_of_view z new =
+      let whole : shown_token (passed p hand after p.seen_len) ≡ token_of_view z new =
       (λ i. token_of_view (table i) (now i).0) ∙ ap (λ r. token_of_view z (served_as v place r reply)) has in
-      subst (λ n. Answers (token p) n reply (token (passed p hand after p.seen_len))) number
-      (subst (Answers (token p) (place + 1) reply) (sym whole) record {
+      subst (λ n. Answers (shown_token p) n reply (shown_token (passed p hand after p.seen_len))) number
+      (subst (Answers (shown_token p) (place + 1) reply) (sym whole) record {
         asked = asked;
         held = request_shown place v.grabbed ∙ has;
         fresh = fresh;
@@ -155,7 +155,7 @@ module _ {W : Type 0} where
       })
 
   -- there is room for one request more of a client that has none in hand
-  pub has_room : (p : Pass W) (place : ℕ) (asked : Request) → IsSeated p → place < p.seat.me.0.terms.clients
+  pub has_room : (p : Token W) (place : ℕ) (asked : Request) → IsSeated p → place < p.seat.me.0.terms.clients
       → IsElsewhere place p.seat.me.0.grabbed → length p.hand.items < 16
   has_room p place asked is near elsewhere = let hs = p.seat.me.0.grabbed in let few = is.few in
       let long = few_apart p.seat.me.0.terms.clients (held place asked ∷ hs) (elsewhere, is.apart)
@@ -163,16 +163,16 @@ module _ {W : Type 0} where
       let same = ap length is.hand ∙ length-places hs in omega (arith, few, long, same)
 
   -- a request in hand, by its client's number
-  pub record InHand (p : Pass W) (client : ℕ) (asked : Request) : Type 0 where
+  pub record InHand (p : Token W) (client : ℕ) (asked : Request) : Type 0 where
     pub one : 1 ≤ client
     pub number : (client - 1) + 1 ≡ client
     pub has : request_at (client - 1) p.seat.me.0.grabbed ≡ Some asked
     pub near : client - 1 < p.seat.me.0.terms.clients
     pub contains : Contains p.hand.items (client - 1)
 
-  pub in_hand : (p : Pass W) (t : Token) (client : ℕ) (asked : Request) → token p ≡ t → IsSeated p
+  pub in_hand : (p : Token W) (t : TokenRecord) (client : ℕ) (asked : Request) → shown_token p ≡ t → IsSeated p
       → request_of client t.grabbed ≡ Some asked → InHand p client asked
-  in_hand p t client asked view is found = go client (ap (λ (x : Token). request_of client x.grabbed) view ∙ found)
+  in_hand p t client asked view is found = go client (ap (λ (x : TokenRecord). request_of client x.grabbed) view ∙ found)
     where
       hs : List Held
       hs = p.seat.me.0.grabbed
@@ -198,13 +198,13 @@ module _ {W : Type 0} where
           }
 
   -- where its place stands in the hand stands its slot
-  pub found_of : (p : Pass W) (place k : ℕ) → IsSeated p → slice_get p.hand.items k ≡ Some place
+  pub found_of : (p : Token W) (place k : ℕ) → IsSeated p → slice_get p.hand.items k ≡ Some place
       → Found place k p.seat.me.0.grabbed
   found_of p place k is e = let hs = p.seat.me.0.grabbed in let h =
       at_slice place hs k (ap (λ l. slice_get l k) (sym is.hand) ∙ e) in found_at place k hs h.0 is.apart h.1 h.2
 
   -- the slots after the answer, turned on to where they were
-  pub slots_home : (p : Pass W) (place k n : ℕ) (f : Found place k p.seat.me.0.grabbed)
+  pub slots_home : (p : Token W) (place k n : ℕ) (f : Found place k p.seat.me.0.grabbed)
       → p.seat.me.1 ≡ grabbed_boxes p.seat.me.0.grabbed → n ≡ length f.back
       → turns n (rest (turns k p.seat.me.1)) ≡ grabbed_boxes (without_at place p.seat.me.0.grabbed)
   slots_home p place k n f carried count = let hs = p.seat.me.0.grabbed in

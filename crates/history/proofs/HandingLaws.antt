@@ -40,7 +40,7 @@ use Rattle.history.specs.Words.{Owns}
 use Rattle.history.specs.World.{who_at, number_of}
 use Rattle.history.specs.Plays.{gathers}
 use Rattle.history.specs.Seats.{members_of, AreAll, IsClosed}
-use Rattle.history.specs.Tokens.{Hall, Token}
+use Rattle.history.specs.Tokens.{TableRecord, TokenRecord}
 use Rattle.history.specs.Closing.{
   IsClientOf,
   IsDispatcherOf,
@@ -75,11 +75,11 @@ module _ {A : Type 0} where
   none_left [] e = refl
   none_left (x ∷ xs) e = absurd (omega arith)
 
-  -- where a test passes once, some element passes it
-  passes : (test : A → Bool) (xs : List A) → 1 ≤ length (filter test xs) → (k : ℕ) × (x : A) × (get_elem? xs k ≡ some x)
+  -- where a test tokens once, some element tokens it
+  tokens : (test : A → Bool) (xs : List A) → 1 ≤ length (filter test xs) → (k : ℕ) × (x : A) × (get_elem? xs k ≡ some x)
       × (test x ≡ true)
-  passes test [] h = absurd (omega arith)
-  passes test (x ∷ xs) h = go (passes test xs) (test x) refl
+  tokens test [] h = absurd (omega arith)
+  tokens test (x ∷ xs) h = go (tokens test xs) (test x) refl
     where
       go : (1 ≤ length (filter test xs) → (k : ℕ) × (y : A) × (get_elem? xs k ≡ some y) × (test y ≡ true)) → (b : Bool)
           → test x ≡ b → (k : ℕ) × (y : A) × (get_elem? (x ∷ xs) k ≡ some y) × (test y ≡ true)
@@ -89,7 +89,7 @@ module _ {A : Type 0} where
 
   pub counted_once : (test : A → Bool) (xs : List A) → count_by test xs ≡ 1 → (k : ℕ) × (x : A)
       × (get_elem? xs k ≡ some x) × (test x ≡ true)
-  counted_once test xs once = let n = length-filter test xs in passes test xs (omega (arith, n, once))
+  counted_once test xs once = let n = length-filter test xs in tokens test xs (omega (arith, n, once))
 
 pub at_map : {A B : Type 0} (f : A → B) (xs : List A) (k : ℕ) (x : A) → get_elem? xs k ≡ some x
     → get_elem? (map f xs) k ≡ some (f x)
@@ -97,24 +97,24 @@ at_map f [] k x e = absurd (some-ne-none x (sym e))
 at_map f (y ∷ ys) zero x e = ap (λ z. some (f z)) (some-injective y x e)
 at_map f (y ∷ ys) (suc k) x e = at_map f ys k x e
 
--- the last pass becomes the closing seat
-pub handed_first : (left : List Token) (t : Token) (v : View) → v.member ≡ member_of t → v.gathered ≡ []
+-- the last token becomes the closing seat
+pub handed_first : (left : List TokenRecord) (t : TokenRecord) (v : View) → v.member ≡ member_of t → v.gathered ≡ []
     → members_in (left ++ t ∷ []) ≡ members_in left ++ members_of v
 handed_first left t v member bare = map-append member_of left (t ∷ [])
     ∙ ap (λ ms. members_in left ++ ms) (λ i. sym bare i ++ sym member i ∷ [])
 
 -- the closing seat takes the next one in
-pub handed_more : (rest : List Token) (t : Token) (v o : View) → o.member ≡ member_of t → members_in (rest ++ t ∷ [])
+pub handed_more : (rest : List TokenRecord) (t : TokenRecord) (v o : View) → o.member ≡ member_of t → members_in (rest ++ t ∷ [])
     ++ members_of v ≡ members_in rest ++ members_of (gathers v o)
 handed_more rest t v o member = ap (λ ms. ms ++ members_of v) (map-append member_of rest (t ∷ []))
     ∙ (append_assoc (members_in rest) (member_of t ∷ []) (members_of v)
     ∙ ap (λ m. members_in rest ++ m ∷ members_of v) (sym member))
 
 -- what holds of all holds of the last, and of those before it
-pub last_has : (P : Token → Type 0) (all left : List Token) (t : Token) → All P all → all ≡ left ++ t ∷ [] → P t
+pub last_has : (P : TokenRecord → Type 0) (all left : List TokenRecord) (t : TokenRecord) → All P all → all ≡ left ++ t ∷ [] → P t
 last_has P all left t rest e = each_of P (left ++ t ∷ []) (subst (All P) e rest) (length left) t (at_back left t)
 
-pub left_have : (P : Token → Type 0) (all left : List Token) (t : Token) → All P all → all ≡ left ++ t ∷ [] → All P left
+pub left_have : (P : TokenRecord → Type 0) (all left : List TokenRecord) (t : TokenRecord) → All P all → all ≡ left ++ t ∷ [] → All P left
 left_have P all left t rest e = all_of P left (λ k u at. each_of P (left ++ t ∷ []) (subst (All P) e rest) k u
     (at_front left (t ∷ []) k u at))
 
@@ -122,35 +122,35 @@ is_number : (n m : ℕ) → (n == m) ≡ true → n ≡ m
 is_number n m e = grind (arith, nat_tests)
 
 -- the places of clients and of dispatchers are those of the tokens
-module _ (hall : Hall) (clients dispatchers : List Token) (firsts : AreClients hall clients)
-    (seconds : AreDispatchers hall dispatchers) where
-  pub all_there : AreAll (terms_in hall) (members_in clients ++ members_in dispatchers)
-  all_there place within = go (nat_lt place hall.clients) refl
+module _ (table : TableRecord) (clients dispatchers : List TokenRecord) (firsts : AreClients table clients)
+    (seconds : AreDispatchers table dispatchers) where
+  pub all_there : AreAll (terms_in table) (members_in clients ++ members_in dispatchers)
+  all_there place within = go (nat_lt place table.clients) refl
     where
       Goal : Type 0
       Goal = (k : ℕ) × (m : Member) × (get_elem? (members_in clients ++ members_in dispatchers) k ≡ some m)
-          × (m.who ≡ who_at hall.clients place)
+          × (m.who ≡ who_at table.clients place)
 
-      go : (b : Bool) → nat_lt place hall.clients ≡ b → Goal
-      go true low = let near : place < hall.clients = grind (arith, nat_tests) in let found =
-          counted_once (λ (t : Token). number_of t.who == place + 1) clients (firsts.numbered.each place near) in
-          let t : Token = found.1 in let is = (each_of (IsClientOf hall) clients firsts.left found.0 t found.2).client
+      go : (b : Bool) → nat_lt place table.clients ≡ b → Goal
+      go true low = let near : place < table.clients = grind (arith, nat_tests) in let found =
+          counted_once (λ (t : TokenRecord). number_of t.who == place + 1) clients (firsts.numbered.each place near) in
+          let t : TokenRecord = found.1 in let is = (each_of (IsClientOf table) clients firsts.left found.0 t found.2).client
           in
           let number : number_of t.who ≡ place + 1 = is_number (number_of t.who) (place + 1) found.3 in (
             found.0,
             member_of t,
             at_front (members_in clients) (members_in dispatchers) found.0 (member_of t)
                 (at_map member_of clients found.0 t found.2),
-            is.1 ∙ (ap (λ n. Client n) (sym (ap number_of is.1) ∙ number) ∙ sym (who_client hall.clients place near)),
+            is.1 ∙ (ap (λ n. Client n) (sym (ap number_of is.1) ∙ number) ∙ sym (who_client table.clients place near)),
           )
-      go false high = let far : hall.clients ≤ place = grind (arith, nat_tests) in let found =
-          counted_once (λ (t : Token). number_of t.who == (place - hall.clients) + 1) dispatchers
-          (seconds.numbered.each (place - hall.clients) (omega (arith, far, within))) in
-          let t : Token = found.1 in let is = (each_of (IsDispatcherOf hall) dispatchers seconds.left found.0 t
+      go false high = let far : table.clients ≤ place = grind (arith, nat_tests) in let found =
+          counted_once (λ (t : TokenRecord). number_of t.who == (place - table.clients) + 1) dispatchers
+          (seconds.numbered.each (place - table.clients) (omega (arith, far, within))) in
+          let t : TokenRecord = found.1 in let is = (each_of (IsDispatcherOf table) dispatchers seconds.left found.0 t
           found.2).dispatcher in
-          let number : number_of t.who ≡ (place - hall.clients) + 1 =
-          is_number (number_of t.who) ((place - hall.clients) + 1) found.3 in
-          let name : who_at hall.clients place ≡ Dispatcher ((place - hall.clients) + 1) = rw high refl in (
+          let number : number_of t.who ≡ (place - table.clients) + 1 =
+          is_number (number_of t.who) ((place - table.clients) + 1) found.3 in
+          let name : who_at table.clients place ≡ Dispatcher ((place - table.clients) + 1) = rw high refl in (
             length (members_in clients) + found.0,
             member_of t,
             at_behind (members_in clients) (members_in dispatchers) found.0 (member_of t)
@@ -159,23 +159,23 @@ module _ (hall : Hall) (clients dispatchers : List Token) (firsts : AreClients h
           )
 
 -- what is left, where all members of the closing seat are those of the two lists
-module _ (hall : Hall) (clients dispatchers : List Token) (rows : Warehouse)
-    (closed : IsClosed (terms_in hall) (members_in clients ++ members_in dispatchers) rows) where
-  pub clients_saw : All (λ (t : Token). IsPrefix t.seen rows.log) clients
-  clients_saw = all_of (λ (t : Token). IsPrefix t.seen rows.log) clients
+module _ (table : TableRecord) (clients dispatchers : List TokenRecord) (rows : Warehouse)
+    (closed : IsClosed (terms_in table) (members_in clients ++ members_in dispatchers) rows) where
+  pub clients_saw : All (λ (t : TokenRecord). IsPrefix t.seen rows.log) clients
+  clients_saw = all_of (λ (t : TokenRecord). IsPrefix t.seen rows.log) clients
       (λ k t at. closed.seen k (member_of t) (at_front (members_in clients) (members_in dispatchers) k (member_of t)
       (at_map member_of clients k t at)))
 
-  pub dispatchers_saw : All (λ (t : Token). IsPrefix t.seen rows.log) dispatchers
-  dispatchers_saw = all_of (λ (t : Token). IsPrefix t.seen rows.log) dispatchers
+  pub dispatchers_saw : All (λ (t : TokenRecord). IsPrefix t.seen rows.log) dispatchers
+  dispatchers_saw = all_of (λ (t : TokenRecord). IsPrefix t.seen rows.log) dispatchers
       (λ k t at. closed.seen (length (members_in clients) + k) (member_of t)
       (at_behind (members_in clients) (members_in dispatchers) k (member_of t)
       (at_map member_of dispatchers k t at)))
 
-  pub clients_own : All (λ (t : Token). Owns t.who t.mine rows.log) clients
-  clients_own = all_of (λ (t : Token). Owns t.who t.mine rows.log) clients
+  pub clients_own : All (λ (t : TokenRecord). Owns t.who t.mine rows.log) clients
+  clients_own = all_of (λ (t : TokenRecord). Owns t.who t.mine rows.log) clients
       (λ k t at. closed.owns k (member_of t) (at_front (members_in clients) (members_in dispatchers) k (member_of t)
       (at_map member_of clients k t at)))
 
-  pub log_is_true : IsLogOf hall clients dispatchers rows.log
-  log_is_true = has_true_run (terms_in hall) (members_in clients ++ members_in dispatchers) rows.log closed.has_run
+  pub log_is_true : IsLogOf table clients dispatchers rows.log
+  log_is_true = has_true_run (terms_in table) (members_in clients ++ members_in dispatchers) rows.log closed.has_run

@@ -1,4 +1,4 @@
--- What a pass keeps over each call, and what its token then is.
+-- What a token keeps over each call, and what its token then is.
 use Rattle.std.proofs.Common.{
   ◌≡◌,
   ◌≢◌,
@@ -46,7 +46,7 @@ use Rattle.history.specs.declared.view.Member.{Member}
 use Rattle.history.specs.declared.request.Request.{Request}
 use Rattle.history.specs.declared.view.Held.{Held}
 use Rattle.history.specs.declared.view.View.{View}
-use Rattle.history.specs.declared.pass.Pass.TheInside.{Inside as Pass}
+use Rattle.history.specs.declared.token.Token.TheInside.{Inside as Token}
 use Rattle.history.specs.Words.{store, IsAccepted, request, IsRight}
 use Rattle.history.specs.World.{marks, commits}
 use Rattle.history.specs.Rule.{Slot, IsElsewhere}
@@ -70,7 +70,7 @@ use Rattle.history.specs.Plays.{
 }
 use Rattle.history.specs.Seats.{Place, Adds}
 use Rattle.history.specs.Tokens.{
-  Token,
+  TokenRecord,
   IsClient,
   IsDispatcher,
   IsSound,
@@ -85,7 +85,7 @@ use Rattle.history.specs.Tokens.{
   Collected,
 }
 use Rattle.history.specs.Tokens as public
-use Rattle.history.specs.Passes.{token, token_of_view, hands, own_box, grabbed_boxes, boxes, IsSeated}
+use Rattle.history.specs.TokenParts.{shown_token, token_of_view, hands, own_box, grabbed_boxes, boxes, IsSeated}
 use Rattle.history.proofs.WorldLaws.{who_back, who_behind, owns_more}
 use Rattle.history.proofs.HandLaws.{apart_without, all_without}
 
@@ -97,13 +97,13 @@ module _ {W : Type 0} where
   boxes_behind v place far = let high : nat_lt place v.terms.clients ≡ false = grind (arith, nat_tests) in rw high refl
 
   -- the slots of a client that has asked something, and of one that has not
-  pub asking_carries : (p : Pass W) (asked : Request) → IsSeated p → p.place < p.seat.me.0.terms.clients
+  pub asking_carries : (p : Token W) (asked : Request) → IsSeated p → p.place < p.seat.me.0.terms.clients
       → p.seat.me.0.asked ≡ Some asked → p.seat.me.1 ≡ hands 0 p.seat.me.0.holds_rows []
   asking_carries p asked is near has = let v : View = p.seat.me.0 in
       is.carried ∙ ((λ i. hands 0 v.holds_rows (hands 1 ((is.in_hand.0 near).2 i) (boxes v p.place)))
       ∙ ap (hands 0 v.holds_rows) (boxes_client v p.place near ∙ ap (own_box p.place) has))
 
-  quiet_carries : (p : Pass W) → IsSeated p → p.place < p.seat.me.0.terms.clients → p.seat.me.0.asked ≡ None
+  quiet_carries : (p : Token W) → IsSeated p → p.place < p.seat.me.0.terms.clients → p.seat.me.0.asked ≡ None
       → p.seat.me.1 ≡ hands 0 p.seat.me.0.holds_rows ((2 + p.place, None) ∷ [])
   quiet_carries p is near has = let v : View = p.seat.me.0 in
       is.carried ∙ ((λ i. hands 0 v.holds_rows (hands 1 ((is.in_hand.0 near).2 i) (boxes v p.place)))
@@ -118,46 +118,46 @@ module _ {W : Type 0} where
   turned_back false x = refl
 
   -- a turn brings a client's mailbox to the front
-  pub box_in_front : (p : Pass W) → IsSeated p → p.place < p.seat.me.0.terms.clients → p.seat.me.0.asked ≡ None
+  pub box_in_front : (p : Token W) → IsSeated p → p.place < p.seat.me.0.terms.clients → p.seat.me.0.asked ≡ None
       → turned p.seat.me.1 ≡ (2 + p.place, None) ∷ hands 0 p.seat.me.0.holds_rows []
   box_in_front p is near has = ap turned (quiet_carries p is near has)
       ∙ turned_hands p.seat.me.0.holds_rows (2 + p.place, None)
 
   -- the slots of a dispatcher that holds neither part
-  pub dispatcher_carries : (p : Pass W) → IsSeated p → p.seat.me.0.terms.clients ≤ p.place
+  pub dispatcher_carries : (p : Token W) → IsSeated p → p.seat.me.0.terms.clients ≤ p.place
       → p.seat.me.0.holds_rows ≡ false → p.seat.me.0.holds_writer ≡ false
       → p.seat.me.1 ≡ grabbed_boxes p.seat.me.0.grabbed
   dispatcher_carries p is far free free' = let v : View = p.seat.me.0 in
       is.carried ∙ ((λ i. hands 0 (free i) (hands 1 (free' i) (boxes v p.place))) ∙ boxes_behind v p.place far)
 
   -- a client's place is among the first, a dispatcher's behind these
-  pub is_before : (p : Pass W) (t : Token) → token p ≡ t → IsSeated p → IsClient t → p.place < p.seat.me.0.terms.clients
+  pub is_before : (p : Token W) (t : TokenRecord) → shown_token p ≡ t → IsSeated p → IsClient t → p.place < p.seat.me.0.terms.clients
   is_before p t view is client = (who_back p.seat.me.0.terms.clients p.place client.0
-      (sym (is.member ∙ is.who) ∙ (ap (λ (x : Token). x.who) view ∙ client.1))).0
+      (sym (is.member ∙ is.who) ∙ (ap (λ (x : TokenRecord). x.who) view ∙ client.1))).0
 
-  pub is_behind : (p : Pass W) (t : Token) → token p ≡ t → IsSeated p → IsDispatcher t
+  pub is_behind : (p : Token W) (t : TokenRecord) → shown_token p ≡ t → IsSeated p → IsDispatcher t
       → p.seat.me.0.terms.clients ≤ p.place
   is_behind p t view is dispatcher = who_behind p.seat.me.0.terms.clients p.place dispatcher.0
-      (sym (is.member ∙ is.who) ∙ (ap (λ (x : Token). x.who) view ∙ dispatcher.1))
+      (sym (is.member ∙ is.who) ∙ (ap (λ (x : TokenRecord). x.who) view ∙ dispatcher.1))
 
-  -- the pass with this hand, this seat and this number
-  abbrev pub passed : Pass W → ArrayVec ℕ → Place W → ℕ → Pass W
+  -- the token with this hand, this seat and this number
+  abbrev pub passed : Token W → ArrayVec ℕ → Place W → ℕ → Token W
   passed p hand after seen_len = record { who = p.who; place = p.place; seen_len = seen_len; hand = hand; seat = after }
 
   -- it is enough to look at the new view and the new slots
-  by_view : (p : Pass W) (hand : ArrayVec ℕ) (after : Place W) (seen_len : ℕ) (v : View) (carried : List (ℕ × Slot W))
+  by_view : (p : Token W) (hand : ArrayVec ℕ) (after : Place W) (seen_len : ℕ) (v : View) (carried : List (ℕ × Slot W))
       → after.me ≡ (v, carried) → IsSeated (passed p hand (record after { me = (v, carried) }) seen_len)
       → IsSeated (passed p hand after seen_len)
   by_view p hand after seen_len v carried now is = subst
       (λ x. IsSeated (passed p hand (record after { me = x }) seen_len)) (sym now) is
 
   -- the new token, by the new view
-  token_is : (p : Pass W) (hand : ArrayVec ℕ) (after : Place W) (seen_len : ℕ) (v : View) (carried : List (ℕ × Slot W))
+  token_is : (p : Token W) (hand : ArrayVec ℕ) (after : Place W) (seen_len : ℕ) (v : View) (carried : List (ℕ × Slot W))
       → after.table_id ≡ p.seat.table_id → after.me ≡ (v, carried)
-      → token (passed p hand after seen_len) ≡ token_of_view p.seat.table_id v
+      → shown_token (passed p hand after seen_len) ≡ token_of_view p.seat.table_id v
   token_is p hand after seen_len v carried table now = λ i. token_of_view (table i) (now i).0
 
-  pub same_seated : (p : Pass W) (after : Place W) → IsSeated p → after.me ≡ (p.seat.me.0, p.seat.me.1)
+  pub same_seated : (p : Token W) (after : Place W) → IsSeated p → after.me ≡ (p.seat.me.0, p.seat.me.1)
       → IsSeated (passed p p.hand after p.seen_len)
   same_seated p after is now = by_view p p.hand after p.seen_len p.seat.me.0 p.seat.me.1 now record {
     role = is.role;
@@ -174,11 +174,11 @@ module _ {W : Type 0} where
     sound = record { legal = is.sound.legal; named = is.sound.named; owns = is.sound.owns };
   }
 
-  pub same_token : (p : Pass W) (after : Place W) → after.table_id ≡ p.seat.table_id
-      → after.me ≡ (p.seat.me.0, p.seat.me.1) → token (passed p p.hand after p.seen_len) ≡ token p
+  pub same_token : (p : Token W) (after : Place W) → after.table_id ≡ p.seat.table_id
+      → after.me ≡ (p.seat.me.0, p.seat.me.1) → shown_token (passed p p.hand after p.seen_len) ≡ shown_token p
   same_token p after table now = token_is p p.hand after p.seen_len p.seat.me.0 p.seat.me.1 table now
 
-  pub took_seated : (p : Pass W) (after : Place W) (history : List CommitRecord) (seen_len : ℕ) → IsSeated p
+  pub took_seated : (p : Token W) (after : Place W) (history : List CommitRecord) (seen_len : ℕ) → IsSeated p
       → p.seat.me.0.holds_rows ≡ false → seen_len ≡ length history → Learns p.seat.me.0 history
       → after.me ≡ (with_rows p.seat.me.0 history, (0, None) ∷ p.seat.me.1)
       → IsSeated (passed p p.hand after seen_len)
@@ -199,15 +199,15 @@ module _ {W : Type 0} where
         sound = record { legal = told.legal; named = told.named; owns = told.owns };
       }
 
-  pub took_token : (p : Pass W) (after : Place W) (history : List CommitRecord) (seen_len : ℕ)
+  pub took_token : (p : Token W) (after : Place W) (history : List CommitRecord) (seen_len : ℕ)
       → Learns p.seat.me.0 history → after.table_id ≡ p.seat.table_id
       → after.me ≡ (with_rows p.seat.me.0 history, (0, None) ∷ p.seat.me.1)
-      → Took (token p) (token (passed p p.hand after seen_len))
+      → Took (shown_token p) (shown_token (passed p p.hand after seen_len))
   took_token p after history seen_len told table now =
-      subst (Took (token p)) (sym (token_is p p.hand after seen_len (with_rows p.seat.me.0 history)
+      subst (Took (shown_token p)) (sym (token_is p p.hand after seen_len (with_rows p.seat.me.0 history)
       ((0, None) ∷ p.seat.me.1) table now)) record { begins = told.begins; beside = told.beside; now = refl }
 
-  pub looked_seated : (p : Pass W) (after : Place W) (beside : List (List CommitRecord)) (history : List CommitRecord)
+  pub looked_seated : (p : Token W) (after : Place W) (beside : List (List CommitRecord)) (history : List CommitRecord)
       (seen_len : ℕ) → IsSeated p → seen_len ≡ length history → Learns (record p.seat.me.0 { beside = beside }) history
       → after.me ≡ (looked (record p.seat.me.0 { beside = beside }) history, p.seat.me.1)
       → IsSeated (passed p p.hand after seen_len)
@@ -228,16 +228,16 @@ module _ {W : Type 0} where
       }
 
   -- a token that looked, after it heard of more
-  pub saw_token : (p : Pass W) (after : Place W) (n : ℕ) (beside : List (List CommitRecord))
+  pub saw_token : (p : Token W) (after : Place W) (n : ℕ) (beside : List (List CommitRecord))
       (history : List CommitRecord) → after.table_id ≡ p.seat.table_id
       → after.me ≡ (looked (record p.seat.me.0 { beside = beside }) history, p.seat.me.1)
       → IsPrefix p.seat.me.0.member.seen history → All (λ list. IsPrefix list history) p.seat.me.0.beside
-      → Saw (token p) (token (passed p p.hand after n))
+      → Saw (shown_token p) (shown_token (passed p p.hand after n))
   saw_token p after n beside history table now begins known =
-      subst (Saw (token p)) (sym (token_is p p.hand after n (looked (record p.seat.me.0 { beside = beside }) history)
+      subst (Saw (shown_token p)) (sym (token_is p p.hand after n (looked (record p.seat.me.0 { beside = beside }) history)
       p.seat.me.1 table now)) record { begins = begins; beside = known; now = refl }
 
-  pub posted_seated : (p : Pass W) (after : Place W) (asked : Request) → IsSeated p
+  pub posted_seated : (p : Token W) (after : Place W) (asked : Request) → IsSeated p
       → p.place < p.seat.me.0.terms.clients → after.me ≡ (posted p.seat.me.0 asked, hands 0 p.seat.me.0.holds_rows [])
       → IsSeated (passed p p.hand after p.seen_len)
   posted_seated p after asked is near now = let v : View = p.seat.me.0 in
@@ -257,14 +257,14 @@ module _ {W : Type 0} where
         sound = record { legal = is.sound.legal; named = is.sound.named; owns = is.sound.owns };
       }
 
-  pub posted_token : (p : Pass W) (after : Place W) (question : Question) (carried : List (ℕ × Slot W)) → IsSeated p
+  pub posted_token : (p : Token W) (after : Place W) (question : Question) (carried : List (ℕ × Slot W)) → IsSeated p
       → after.table_id ≡ p.seat.table_id → after.me ≡ (posted p.seat.me.0 (request question p.seen_len), carried)
-      → token (passed p p.hand after p.seen_len) ≡ public.posted (token p) question
+      → shown_token (passed p p.hand after p.seen_len) ≡ public.posted (shown_token p) question
   posted_token p after question carried is table now =
       token_is p p.hand after p.seen_len (posted p.seat.me.0 (request question p.seen_len)) carried table now
       ∙ ap (λ n. token_of_view p.seat.table_id (posted p.seat.me.0 (request question n))) is.seen_len
 
-  pub grabbed_seated : (p : Pass W) (hand : ArrayVec ℕ) (after : Place W) (client : ℕ) (asked : Request) → IsSeated p
+  pub grabbed_seated : (p : Token W) (hand : ArrayVec ℕ) (after : Place W) (client : ℕ) (asked : Request) → IsSeated p
       → p.seat.me.0.terms.clients ≤ p.place → p.seat.me.0.holds_rows ≡ false → p.seat.me.0.holds_writer ≡ false
       → client < p.seat.me.0.terms.clients
       → hand.items ≡ client ∷ p.hand.items → IsElsewhere client p.seat.me.0.grabbed
@@ -288,17 +288,17 @@ module _ {W : Type 0} where
         sound = record { legal = is.sound.legal; named = is.sound.named; owns = is.sound.owns };
       }
 
-  pub grabbed_token : (p : Pass W) (hand : ArrayVec ℕ) (after : Place W) (place client : ℕ) (asked : Request)
+  pub grabbed_token : (p : Token W) (hand : ArrayVec ℕ) (after : Place W) (place client : ℕ) (asked : Request)
       (carried : List (ℕ × Slot W)) → place + 1 ≡ client → after.table_id ≡ p.seat.table_id
       → after.me ≡ (grabbed p.seat.me.0 place asked, carried)
-      → Grabs (token p) client asked.query (token (passed p hand after p.seen_len))
+      → Grabs (shown_token p) client asked.query (shown_token (passed p hand after p.seen_len))
   grabbed_token p hand after place client asked carried number table now =
-      subst (λ n. Grabs (token p) n asked.query (token (passed p hand after p.seen_len))) number
-      (subst (Grabs (token p) (place + 1) asked.query)
+      subst (λ n. Grabs (shown_token p) n asked.query (shown_token (passed p hand after p.seen_len))) number
+      (subst (Grabs (shown_token p) (place + 1) asked.query)
       (sym (token_is p hand after p.seen_len (grabbed p.seat.me.0 place asked) carried table now))
       record { floor = asked.floor; now = refl })
 
-  pub answered_seated : (p : Pass W) (hand : ArrayVec ℕ) (after : Place W) (client : ℕ) (asked : Request)
+  pub answered_seated : (p : Token W) (hand : ArrayVec ℕ) (after : Place W) (client : ℕ) (asked : Request)
       (reply : Answer) → IsSeated p → p.seat.me.0.terms.clients ≤ p.place → p.seat.me.0.holds_rows ≡ false
       → p.seat.me.0.holds_writer ≡ false
       → request_at client p.seat.me.0.grabbed ≡ Some asked
@@ -323,7 +323,7 @@ module _ {W : Type 0} where
         sound = record { legal = is.sound.legal; named = is.sound.named; owns = is.sound.owns };
       }
 
-  pub collected_seated : (p : Pass W) (after : Place W) (history : List CommitRecord) (reply : Answer) (asked : Request)
+  pub collected_seated : (p : Token W) (after : Place W) (history : List CommitRecord) (reply : Answer) (asked : Request)
       → IsSeated p → p.place < p.seat.me.0.terms.clients → p.seat.me.0.asked ≡ Some asked
       → after.me ≡ (collected p.seat.me.0 history reply, turned ((2 + p.place, None) ∷ p.seat.me.1))
       → IsSeated (passed p p.hand after p.seen_len)
@@ -348,17 +348,17 @@ module _ {W : Type 0} where
         sound = record { legal = is.sound.legal; named = is.sound.named; owns = is.sound.owns };
       }
 
-  pub collected_token : (p : Pass W) (after : Place W) (history : List CommitRecord) (reply : Answer) (asked : Request)
+  pub collected_token : (p : Token W) (after : Place W) (history : List CommitRecord) (reply : Answer) (asked : Request)
       (carried : List (ℕ × Slot W)) → p.seat.me.0.asked ≡ Some asked
       → IsRight p.seat.me.0.terms.base history asked reply → after.table_id ≡ p.seat.table_id
       → after.me ≡ (collected p.seat.me.0 history reply, carried)
-      → Collected (token p) reply (token (passed p p.hand after p.seen_len))
+      → Collected (shown_token p) reply (shown_token (passed p p.hand after p.seen_len))
   collected_token p after history reply asked carried was right table now =
-      subst (Collected (token p) reply) (sym (token_is p p.hand after p.seen_len (collected p.seat.me.0 history reply)
+      subst (Collected (shown_token p) reply) (sym (token_is p p.hand after p.seen_len (collected p.seat.me.0 history reply)
       carried table now))
       record { asked = asked; was = was; history = history; right = right; now = refl }
 
-  pub writer_taken_seated : (p : Pass W) (after : Place W) (list : List CommitRecord) → IsSeated p
+  pub writer_taken_seated : (p : Token W) (after : Place W) (list : List CommitRecord) → IsSeated p
       → p.seat.me.0.terms.clients ≤ p.place → p.seat.me.0.holds_rows ≡ false → p.seat.me.0.holds_writer ≡ false
       → after.me ≡ (with_writer p.seat.me.0 list, (1, None) ∷ p.seat.me.1)
       → IsSeated (passed p p.hand after p.seen_len)
@@ -380,13 +380,13 @@ module _ {W : Type 0} where
         sound = record { legal = is.sound.legal; named = is.sound.named; owns = is.sound.owns };
       }
 
-  pub writer_taken_token : (p : Pass W) (after : Place W) (list : List CommitRecord) (carried : List (ℕ × Slot W))
+  pub writer_taken_token : (p : Token W) (after : Place W) (list : List CommitRecord) (carried : List (ℕ × Slot W))
       → after.table_id ≡ p.seat.table_id → after.me ≡ (with_writer p.seat.me.0 list, carried)
-      → token (passed p p.hand after p.seen_len) ≡ public.with_writer (token p) list
+      → shown_token (passed p p.hand after p.seen_len) ≡ public.with_writer (shown_token p) list
   writer_taken_token p after list carried table now = token_is p p.hand after p.seen_len (with_writer p.seat.me.0 list)
       carried table now
 
-  pub writer_back_seated : (p : Pass W) (after : Place W) → IsSeated p → p.seat.me.0.terms.clients ≤ p.place
+  pub writer_back_seated : (p : Token W) (after : Place W) → IsSeated p → p.seat.me.0.terms.clients ≤ p.place
       → p.seat.me.0.holds_rows ≡ false → p.seat.me.0.holds_writer ≡ true
       → after.me ≡ (without_writer p.seat.me.0, rest p.seat.me.1) → IsSeated (passed p p.hand after p.seen_len)
   writer_back_seated p after is far free taken now = let v : View = p.seat.me.0 in
@@ -406,9 +406,9 @@ module _ {W : Type 0} where
         sound = record { legal = is.sound.legal; named = is.sound.named; owns = is.sound.owns };
       }
 
-  pub writer_back_token : (p : Pass W) (after : Place W) (carried : List (ℕ × Slot W))
+  pub writer_back_token : (p : Token W) (after : Place W) (carried : List (ℕ × Slot W))
       → after.table_id ≡ p.seat.table_id → after.me ≡ (without_writer p.seat.me.0, carried)
-      → token (passed p p.hand after p.seen_len) ≡ public.without_writer (token p)
+      → shown_token (passed p p.hand after p.seen_len) ≡ public.without_writer (shown_token p)
   writer_back_token p after carried table now = token_is p p.hand after p.seen_len (without_writer p.seat.me.0) carried
       table now
 
@@ -431,7 +431,7 @@ gave_seen m log (commit ∷ more) = (refl, refl)
 
 module _ {W : Type 0} where
   -- a view that adds nothing, or one commit of its own, is as sound as before
-  put_sound : (p : Pass W) (rows : Warehouse) → IsSeated p → MayPut (token p) rows
+  put_sound : (p : Token W) (rows : Warehouse) → IsSeated p → MayPut (shown_token p) rows
       → IsSound (token_of_view p.seat.table_id (gave_back p.seat.me.0 rows.log))
   put_sound p rows is may = let v : View = p.seat.me.0 in let m : Member = v.member in let z : TableId =
       p.seat.table_id in ⊎_elim
@@ -450,8 +450,8 @@ module _ {W : Type 0} where
       })
       may.1
 
-  pub put_seated : (p : Pass W) (after : Place W) (rows : Warehouse) (seen_len : ℕ) → IsSeated p
-      → p.seat.me.0.holds_rows ≡ true → MayPut (token p) rows → seen_len ≡ length rows.log
+  pub put_seated : (p : Token W) (after : Place W) (rows : Warehouse) (seen_len : ℕ) → IsSeated p
+      → p.seat.me.0.holds_rows ≡ true → MayPut (shown_token p) rows → seen_len ≡ length rows.log
       → after.me ≡ (gave_back p.seat.me.0 rows.log, rest p.seat.me.1) → IsSeated (passed p p.hand after seen_len)
   put_seated p after rows seen_len is holds may long now = let v : View = p.seat.me.0 in let gave =
       gave_seen v.member rows.log (drop (length v.member.seen) rows.log) in
@@ -470,9 +470,9 @@ module _ {W : Type 0} where
         sound = let s = put_sound p rows is may in record { legal = s.legal; named = s.named; owns = s.owns };
       }
 
-  pub put_token : (p : Pass W) (after : Place W) (rows : Warehouse) (seen_len : ℕ) (carried : List (ℕ × Slot W))
+  pub put_token : (p : Token W) (after : Place W) (rows : Warehouse) (seen_len : ℕ) (carried : List (ℕ × Slot W))
       → after.table_id ≡ p.seat.table_id → after.me ≡ (gave_back p.seat.me.0 rows.log, carried)
-      → Put (token p) rows (token (passed p p.hand after seen_len))
+      → Put (shown_token p) rows (shown_token (passed p p.hand after seen_len))
   put_token p after rows seen_len carried table now = let v : View = p.seat.me.0 in let m : Member = v.member in let z :
       TableId = p.seat.table_id in let whole = token_is p p.hand after seen_len (gave_back v rows.log) carried table now
       in (
@@ -483,7 +483,7 @@ module _ {W : Type 0} where
       )
 
   -- one commit was added where the lengths differ
-  pub put_adds : (p : Pass W) (rows : Warehouse) → IsSeated p → MayPut (token p) rows → length rows.log ≢ p.seen_len
+  pub put_adds : (p : Token W) (rows : Warehouse) → IsSeated p → MayPut (shown_token p) rows → length rows.log ≢ p.seen_len
       → Adds p.seat rows.log
   put_adds p rows is may longer = ⊎_elim
       (λ (same : rows.log ≡ p.seat.me.0.member.seen). absurd (longer (ap length same ∙ sym is.seen_len)))
@@ -491,7 +491,7 @@ module _ {W : Type 0} where
       (more.0, p.place, is.role, low.0, low.1, more.2, more.3))
       may.1
 
-  pub put_same : (p : Pass W) (rows : Warehouse) → IsSeated p → MayPut (token p) rows → length rows.log ≡ p.seen_len
+  pub put_same : (p : Token W) (rows : Warehouse) → IsSeated p → MayPut (shown_token p) rows → length rows.log ≡ p.seen_len
       → rows ≡ store p.seat.me.0.terms.base p.seat.me.0.member.seen
   put_same p rows is may as_long = ⊎_elim
       (λ (same : rows.log ≡ p.seat.me.0.member.seen). λ i. store (may.0 i) (same i))

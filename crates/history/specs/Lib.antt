@@ -6,4 +6,4 @@ pub mod Seats
 pub mod Link
 pub mod Tokens
 pub mod Closing
-pub mod Passes
+pub mod TokenParts

@@ -120,7 +120,7 @@ hears v other = record v { beside = other.member.seen ∷ v.beside }
 abbrev pub leaves : View → View
 leaves v = record v { role = Spent }
 
--- a member whose pass was handed in
+-- a member whose token was handed in
 abbrev pub gathers : View → View → View
 gathers v other = record v { gathered = other.member ∷ v.gathered }
 

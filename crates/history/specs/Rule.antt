@@ -77,7 +77,7 @@ abbrev pub AreApart : List Held → Type 0
 AreApart [] = Unit {0}
 AreApart (h ∷ held) = IsElsewhere h.place held × AreApart held
 
--- a member whose pass was handed in: it does nothing more, holds neither part and has nothing in its mailbox
+-- a member whose token was handed in: it does nothing more, holds neither part and has nothing in its mailbox
 pub record Handed (w : World) (owner : ℕ → ℕ) (seat own : ℕ) (m : Member) : Type 0 where
   pub place : ℕ
   pub plays : owner place ≡ seat

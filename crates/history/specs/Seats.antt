@@ -101,7 +101,7 @@ module _ {W : Type 0} (base_of : W → Tables) (taken : W → List CommitRecord)
   abbrev pub MayPutWriter : Place W → W → Type 0
   MayPutWriter seat writer = (base_of writer ≡ seat.me.0.terms.base) × IsPrefix (taken writer) seat.me.0.member.seen
 
--- the members whose passes were handed in, and the one that took them in
+-- the members whose tokens were handed in, and the one that took them in
 abbrev pub members_of : View → List Member
 members_of v = v.gathered ++ v.member ∷ []
 

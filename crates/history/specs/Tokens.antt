@@ -1,4 +1,4 @@
--- What a pass shows: who it is, what it has seen, made, given and done, and what it holds; and what each call makes
+-- What a token shows: who it is, what it has seen, made, given and done, and what it holds; and what each call makes
 -- of that.
 use Rattle.std.specs.Prelude.{◌≡◌, ◌⊎◌, ℕ, ◌==◌, Bool, true, false, All, if◌then◌else◌, List, [], ◌∷◌, ◌++◌, length}
 use Rattle.std.specs.Prelude.{map, Option, Some, None}
@@ -25,15 +25,15 @@ use Rattle.history.specs.Words.{Owns, request, IsRight, IsRightAt, IsFresh, give
 use Rattle.history.specs.World.{number_of, mark_after, answer_named, told_by}
 
 -- a table, by its name and what it was opened with
-pub record Hall : Type 0 where
-  pub table : TableId
+pub record TableRecord : Type 0 where
+  pub id : TableId
   pub base : Tables
   pub clients : ℕ
   pub dispatchers : ℕ
 
--- a pass as contracts see it
-pub record Token : Type 0 where
-  pub hall : Hall
+-- a token as contracts see it
+pub record TokenRecord : Type 0 where
+  pub table : TableRecord
   pub who : Who
   -- the history as far as it has seen it, and the commits that it made
   pub seen : List CommitRecord
@@ -55,10 +55,10 @@ pub record Token : Type 0 where
   pub did : List Deed
 
 -- what a client or dispatcher that opens has
-abbrev pub new_token : Hall → Who → Token
-new_token hall who =
+abbrev pub new_token : TableRecord → Who → TokenRecord
+new_token table who =
     record {
-      hall = hall;
+      table = table;
       who = who;
       seen = [];
       mine = [];
@@ -74,30 +74,30 @@ new_token hall who =
     }
 
 -- one token for each client, and one for each dispatcher, by number from 1
-abbrev pub new_clients : Hall → List Token
-new_clients hall = map (λ number. new_token hall (Client number)) (range_with_len 1 hall.clients)
+abbrev pub new_clients : TableRecord → List TokenRecord
+new_clients table = map (λ number. new_token table (Client number)) (range_with_len 1 table.clients)
 
-abbrev pub new_dispatchers : Hall → List Token
-new_dispatchers hall = map (λ number. new_token hall (Dispatcher number)) (range_with_len 1 hall.dispatchers)
+abbrev pub new_dispatchers : TableRecord → List TokenRecord
+new_dispatchers table = map (λ number. new_token table (Dispatcher number)) (range_with_len 1 table.dispatchers)
 
-abbrev pub IsClient : Token → Type 0
+abbrev pub IsClient : TokenRecord → Type 0
 IsClient t = (number : ℕ) × (t.who ≡ Client number)
 
-abbrev pub IsDispatcher : Token → Type 0
+abbrev pub IsDispatcher : TokenRecord → Type 0
 IsDispatcher t = (number : ℕ) × (t.who ≡ Dispatcher number)
 
 -- what is true of each token: its history is legal, and has its commits
-pub record IsSound (t : Token) : Type 0 where
-  pub legal : IsLegal t.hall.base t.seen
-  pub named : IsOfClients t.hall.clients t.seen
+pub record IsSound (t : TokenRecord) : Type 0 where
+  pub legal : IsLegal t.table.base t.seen
+  pub named : IsOfClients t.table.clients t.seen
   pub owns : Owns t.who t.mine t.seen
 
 -- the token's record with one event more, and its reply
-abbrev pub did_more : Token → Event → Reply → List Deed
+abbrev pub did_more : TokenRecord → Event → Reply → List Deed
 did_more t event reply = t.did ++ record { event = event; reply = reply } ∷ []
 
 -- the token has looked: what it sees begins with what it had seen and with what it had beside that
-pub record Saw (before after : Token) : Type 0 where
+pub record Saw (before after : TokenRecord) : Type 0 where
   pub begins : IsPrefix before.seen after.seen
   pub beside : All (λ list. IsPrefix list after.seen) before.beside
   pub now : after ≡ record before {
@@ -107,7 +107,7 @@ pub record Saw (before after : Token) : Type 0 where
   }
 
 -- the token has looked, and took the row store
-pub record Took (before after : Token) : Type 0 where
+pub record Took (before after : TokenRecord) : Type 0 where
   pub begins : IsPrefix before.seen after.seen
   pub beside : All (λ list. IsPrefix list after.seen) before.beside
   pub now : after ≡ record before {
@@ -118,7 +118,7 @@ pub record Took (before after : Token) : Type 0 where
   }
 
 -- the token after it gave the rows back unchanged
-abbrev pub gave_back : Token → Token
+abbrev pub gave_back : TokenRecord → TokenRecord
 gave_back t = record t {
   has_rows = false;
   mark = mark_after t.who (length t.seen) t.mark;
@@ -126,7 +126,7 @@ gave_back t = record t {
 }
 
 -- the token after it gave the rows back with one commit more, which has a number from 1
-abbrev pub committed : Token → CommitRecord → Token
+abbrev pub committed : TokenRecord → CommitRecord → TokenRecord
 committed t commit =
     record t {
       seen = t.seen ++ commit ∷ [];
@@ -136,18 +136,18 @@ committed t commit =
     }
 
 -- the store as it was taken, or with one commit more of the token's client
-abbrev pub MayPut : Token → Warehouse → Type 0
-MayPut t rows = (rows.base ≡ t.hall.base)
+abbrev pub MayPut : TokenRecord → Warehouse → Type 0
+MayPut t rows = (rows.base ≡ t.table.base)
     × ((rows.log ≡ t.seen) ⊎ ((commit : CommitRecord) × (t.who ≡ Client commit.client)
-    × (refusal_of t.hall.base t.seen commit.actions ≡ None) × (rows.log ≡ t.seen ++ commit ∷ [])))
+    × (refusal_of t.table.base t.seen commit.actions ≡ None) × (rows.log ≡ t.seen ++ commit ∷ [])))
 
 -- the token after it gave this store back
-abbrev pub Put : Token → Warehouse → Token → Type 0
+abbrev pub Put : TokenRecord → Warehouse → TokenRecord → Type 0
 Put before rows after = ((rows.log ≡ before.seen) → after ≡ gave_back before)
     × ((commit : CommitRecord) → rows.log ≡ before.seen ++ commit ∷ [] → after ≡ committed before commit)
 
 -- the client asked a question, with the length of what it has seen as the floor
-abbrev pub posted : Token → Question → Token
+abbrev pub posted : TokenRecord → Question → TokenRecord
 posted t question =
     record t {
       asked = Some (request question (length t.seen));
@@ -165,7 +165,7 @@ without client [] = []
 without client (first ∷ others) = if first.client == client then others else first ∷ without client others
 
 -- a dispatcher has one request more in hand, and neither mark nor version
-pub record Grabs (before : Token) (client : ℕ) (question : Question) (after : Token) : Type 0 where
+pub record Grabs (before : TokenRecord) (client : ℕ) (question : Question) (after : TokenRecord) : Type 0 where
   pub floor : ℕ
   pub now : after ≡ record before {
     mark = None;
@@ -176,17 +176,17 @@ pub record Grabs (before : Token) (client : ℕ) (question : Question) (after : 
   }
 
 -- the answer is to this request, and right at the token's version
-abbrev pub Serves : Token → Request → Answer → Type 0
-Serves t asked reply = IsRightAt t.hall.base t.seen t.version asked reply
+abbrev pub Serves : TokenRecord → Request → Answer → Type 0
+Serves t asked reply = IsRightAt t.table.base t.seen t.version asked reply
 
 -- the client's request is in hand, and this answer serves it
-pub record MayAnswer (t : Token) (client : ℕ) (reply : Answer) : Type 0 where
+pub record MayAnswer (t : TokenRecord) (client : ℕ) (reply : Answer) : Type 0 where
   pub asked : Request
   pub held : request_of client t.grabbed ≡ Some asked
   pub serves : Serves t asked reply
 
 -- the client's request has left the hand, and its answer was given
-pub record Answers (before : Token) (client : ℕ) (reply : Answer) (after : Token) : Type 0 where
+pub record Answers (before : TokenRecord) (client : ℕ) (reply : Answer) (after : TokenRecord) : Type 0 where
   pub asked : Request
   pub held : request_of client before.grabbed ≡ Some asked
   pub fresh : IsFresh (given_to client asked reply)
@@ -199,11 +199,11 @@ pub record Answers (before : Token) (client : ℕ) (reply : Answer) (after : Tok
 
 -- a client has collected the answer to what it asked, which is right in a history that the next look shows to be a
 -- beginning
-pub record Collected (before : Token) (reply : Answer) (after : Token) : Type 0 where
+pub record Collected (before : TokenRecord) (reply : Answer) (after : TokenRecord) : Type 0 where
   pub asked : Request
   pub was : before.asked ≡ Some asked
   pub history : List CommitRecord
-  pub right : IsRight before.hall.base history asked reply
+  pub right : IsRight before.table.base history asked reply
   pub now : after ≡ record before {
     asked = None;
     beside = history ∷ before.beside;
@@ -211,7 +211,7 @@ pub record Collected (before : Token) (reply : Answer) (after : Token) : Type 0 
   }
 
 -- the token has the writer, and what that has taken lies beside what it has seen
-abbrev pub with_writer : Token → List CommitRecord → Token
+abbrev pub with_writer : TokenRecord → List CommitRecord → TokenRecord
 with_writer t taken =
     record t {
       beside = taken ∷ t.beside;
@@ -222,12 +222,12 @@ with_writer t taken =
     }
 
 -- the token gave the writer back
-abbrev pub without_writer : Token → Token
+abbrev pub without_writer : TokenRecord → TokenRecord
 without_writer t =
     record t { has_writer = false; version = t.mark; did = did_more t (event.PutWriter (number_of t.who)) Done }
 
 -- the token holds neither part, and has no request in hand
-pub record IsFree (t : Token) : Type 0 where
+pub record IsFree (t : TokenRecord) : Type 0 where
   pub rows : t.has_rows ≡ false
   pub writer : t.has_writer ≡ false
   pub hand : t.grabbed ≡ []

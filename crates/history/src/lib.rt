@@ -10,7 +10,7 @@
 //! ```
 //!
 //! **The contract.** Whatever the threads do, the table shows a world of the pure protocol (`history_core`) that events
-//! led to, each of them enabled (`specs/Rule`, `ShowsWorld`). A pass is a client's or dispatcher's token; its record
+//! led to, each of them enabled (`specs/Rule`, `ShowsWorld`). A token is a client's or dispatcher's token; its record
 //! tells what it has seen, made, asked, given and done (`specs/Tokens`, one equation for each call). At the end `close`
 //! gives the row store, whose log is that of a true run in which each token did, and was told, what its record says
 //! (`specs/Closing`).
@@ -22,27 +22,27 @@
 //! | load of word 0 | Look |
 //! | a mailbox's word becomes 1; from 1 to 2; 3; from 3 to 0. a miss: no change | Post; Grab; Answer, GiveUp; Collect |
 //! | try at word 1; word 1 becomes 0 | TakeWriter; PutWriter |
-//! | a value into or out of a slot in hand; cutting and joining passes; a client's first hold of its mailbox | none |
+//! | a value into or out of a slot in hand; cutting and joining tokens; a client's first hold of its mailbox | none |
 //!
-//! A client's commit, `pass` being its pass:
+//! A client's commit, `token` being its token:
 //!
 //! ```text
-//! let mut rows = shared.take_rows(rt, &mut pass);    // waits until the row store is home
+//! let mut rows = shared.take_rows(rt, &mut token);    // waits until the row store is home
 //! let answer = rows.apply(number, refresh);          // one commit more, or a refusal and no change
-//! shared.put_rows(&mut pass, rows);                  // all see it from here on
+//! shared.put_rows(&mut token, rows);                  // all see it from here on
 //! ```
 #![tactic(auto)]
 
 pub mod event;
 pub mod laws;
-mod pass;
 pub mod request;
 pub mod rule;
-mod shared;
+mod shared_table;
 mod steps;
+mod token;
 pub mod view;
 
 pub use event::{Deed, Event};
-pub use pass::Pass;
 pub use request::{Given, Grabbed, Outcome, Request};
-pub use shared::{Opened, Shared};
+pub use shared_table::{Opened, SharedTable};
+pub use token::Token;

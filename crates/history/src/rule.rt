@@ -21,10 +21,10 @@ impl<W: Follower> TableRule<Slot<W>, View, Opening> for OneHistory {
 }
 
 /// The table under its rule.
-pub type Board<W> = Table<Slot<W>, View, Opening, OneHistory, Global>;
+pub type RuledTable<W> = Table<Slot<W>, View, Opening, OneHistory, Global>;
 
 /// A seat at it.
-pub type Place<W> = Seat<Slot<W>, View>;
+pub type TableSeat<W> = Seat<Slot<W>, View>;
 
 /// Takes the row store where it is home.
 pub(crate) struct TryRows;

@@ -10,8 +10,8 @@ ghost use Rattle.history.specs.Seats.{Collects, TakesWriter, MayPutWriter};
 
 use crate::request::Request;
 use crate::rule::{
-    Board, Collect, Gather, Grab, Hear, Look, OpenBox, Place, Post, PutRows, PutWriter, Serve,
-    Tell, TryRows, TryWriter, Yield,
+    Collect, Gather, Grab, Hear, Look, OpenBox, Post, PutRows, PutWriter, RuledTable, Serve,
+    TableSeat, Tell, TryRows, TryWriter, Yield,
 };
 use crate::view::SlotValue;
 use row_store::{Follower, RowStore};
@@ -28,23 +28,23 @@ const COMMITS_A_RUN: u64 = 4_096;
 /// Waits until the row store is home, and takes it.
 pub(crate) fn take_rows<W: Follower + Drop, R: Wait>(
     rt: &R,
-    board: &Board<W>,
-    seat: &mut Place<W>,
+    ruled: &RuledTable<W>,
+    seat: &mut TableSeat<W>,
 ) -> RowStore
-    requires table { Has board.now.shared.table_id 0 × (seat.old.table_id ≡ board.now.shared.table_id) }
+    requires table { Has ruled.now.shared.table_id 0 × (seat.old.table_id ≡ ruled.now.shared.table_id) }
     requires token { IsToken seat.old }
     ensures { Takes seat.old result seat.new }
 {
     for _ in rt.forever() {
-        let found = board.shared.fetch_or::<TryRows>(seat, 0, 1);
+        let found = ruled.shared.fetch_or::<TryRows>(seat, 0, 1);
         if found % 2 == 0 {
-            let value = board.shared.exchange(seat, 0, None);
+            let value = ruled.shared.exchange(seat, 0, None);
             let Some(SlotValue::Rows(store)) = value else {
                 unreachable!()
             };
             return store;
         }
-        board.shared.park_timeout(
+        ruled.shared.park_timeout(
             rt,
             0,
             (found % (1 << 32)) as u32,
@@ -55,117 +55,133 @@ pub(crate) fn take_rows<W: Follower + Drop, R: Wait>(
 }
 
 /// Gives the row store back as it was taken.
-pub(crate) fn put_back<W: Follower + Drop>(board: &Board<W>, seat: &mut Place<W>, rows: RowStore)
-    requires table { Has board.now.shared.table_id 0 × (seat.old.table_id ≡ board.now.shared.table_id) }
+pub(crate) fn put_back<W: Follower + Drop>(
+    ruled: &RuledTable<W>,
+    seat: &mut TableSeat<W>,
+    rows: RowStore,
+)
+    requires table { Has ruled.now.shared.table_id 0 × (seat.old.table_id ≡ ruled.now.shared.table_id) }
     requires token { IsToken seat.old × (seat.old.me.0.holds_rows ≡ true) × Carries 0 seat.old }
     requires rows { rows ≡ store seat.old.me.0.terms.base seat.old.me.0.member.seen }
     ensures { Becomes seat.old (gave_back seat.old.me.0 rows.log) (rest seat.old.me.1) seat.new }
 {
-    board.shared.exchange(seat, 0, Some(SlotValue::Rows(rows)));
-    board.shared.fetch_sub::<PutRows>(seat, 0, 1);
-    board.shared.wake_one(0);
+    ruled.shared.exchange(seat, 0, Some(SlotValue::Rows(rows)));
+    ruled.shared.fetch_sub::<PutRows>(seat, 0, 1);
+    ruled.shared.wake_one(0);
 }
 
 /// Wakes one that waits for the row store where a run of commits has ended with this one.
-pub(crate) fn wake_by_runs<W: Follower + Drop>(board: &Board<W>, commit: u64)
-    requires { Has board.now.shared.table_id 0 }
+pub(crate) fn wake_by_runs<W: Follower + Drop>(ruled: &RuledTable<W>, commit: u64)
+    requires { Has ruled.now.shared.table_id 0 }
 {
     if commit % COMMITS_A_RUN == 0 {
-        board.shared.wake_one(0);
+        ruled.shared.wake_one(0);
     }
 }
 
 /// Wakes all who wait for the row store.
-pub(crate) fn wake_waiting<W: Follower + Drop>(board: &Board<W>)
-    requires { Has board.now.shared.table_id 0 }
+pub(crate) fn wake_waiting<W: Follower + Drop>(ruled: &RuledTable<W>)
+    requires { Has ruled.now.shared.table_id 0 }
 {
-    board.shared.wake_all(0);
+    ruled.shared.wake_all(0);
 }
 
 /// Gives the row store back with one commit more, and wakes nobody.
-pub(crate) fn put_commit<W: Follower + Drop>(board: &Board<W>, seat: &mut Place<W>, rows: RowStore)
-    requires table { Has board.now.shared.table_id 0 × (seat.old.table_id ≡ board.now.shared.table_id) }
+pub(crate) fn put_commit<W: Follower + Drop>(
+    ruled: &RuledTable<W>,
+    seat: &mut TableSeat<W>,
+    rows: RowStore,
+)
+    requires table { Has ruled.now.shared.table_id 0 × (seat.old.table_id ≡ ruled.now.shared.table_id) }
     requires token { (seat.old.me.0.holds_rows ≡ true) × Carries 0 seat.old }
     requires rows { (rows.base ≡ seat.old.me.0.terms.base) × Adds seat.old rows.log }
     ensures { Becomes seat.old (gave_back seat.old.me.0 rows.log) (rest seat.old.me.1) seat.new }
 {
-    board.shared.exchange(seat, 0, Some(SlotValue::Rows(rows)));
-    board.shared.fetch_add::<PutRows>(seat, 0, 1);
+    ruled.shared.exchange(seat, 0, Some(SlotValue::Rows(rows)));
+    ruled.shared.fetch_add::<PutRows>(seat, 0, 1);
 }
 
 /// The length of the history, which the seat has seen then.
-pub(crate) fn look<W: Follower + Drop>(board: &Board<W>, seat: &mut Place<W>) -> u64
-    requires table { Has board.now.shared.table_id 0 × (seat.old.table_id ≡ board.now.shared.table_id) }
+pub(crate) fn look<W: Follower + Drop>(ruled: &RuledTable<W>, seat: &mut TableSeat<W>) -> u64
+    requires table { Has ruled.now.shared.table_id 0 × (seat.old.table_id ≡ ruled.now.shared.table_id) }
     requires token { IsToken seat.old }
     ensures { LooksAt seat.old result seat.new }
 {
-    board.shared.load::<Look>(seat, 0) / 2
+    ruled.shared.load::<Look>(seat, 0) / 2
 }
 
 /// Lets a seat know what another has seen.
-pub(crate) fn hear<W: Follower + Drop>(board: &Board<W>, seat: &mut Place<W>, other: &mut Place<W>)
-    requires table { Has board.now.shared.table_id 0 × (seat.old.table_id ≡ board.now.shared.table_id)
-        × (other.old.table_id ≡ board.now.shared.table_id) }
+pub(crate) fn hear<W: Follower + Drop>(
+    ruled: &RuledTable<W>,
+    seat: &mut TableSeat<W>,
+    other: &mut TableSeat<W>,
+)
+    requires table { Has ruled.now.shared.table_id 0 × (seat.old.table_id ≡ ruled.now.shared.table_id)
+        × (other.old.table_id ≡ ruled.now.shared.table_id) }
     requires token { IsToken seat.old × IsToken other.old }
     ensures own { Becomes seat.old (hears seat.old.me.0 (note_of other.old.me.0)) seat.old.me.1 seat.new }
     ensures other { Becomes other.old other.old.me.0 other.old.me.1 other.new }
 {
-    let note = board.shared.split_seat::<Tell>(other);
-    board.shared.join_seat::<Hear>(seat, note);
+    let note = ruled.shared.split_seat::<Tell>(other);
+    ruled.shared.join_seat::<Hear>(seat, note);
 }
 
 /// A client takes the slot of its mailbox.
-pub(crate) fn open_box<W: Follower + Drop>(board: &Board<W>, seat: &mut Place<W>, place: usize)
-    requires table { Has board.now.shared.table_id 0 × (seat.old.table_id ≡ board.now.shared.table_id) }
+pub(crate) fn open_box<W: Follower + Drop>(
+    ruled: &RuledTable<W>,
+    seat: &mut TableSeat<W>,
+    place: usize,
+)
+    requires table { Has ruled.now.shared.table_id 0 × (seat.old.table_id ≡ ruled.now.shared.table_id) }
     requires token { IsClientAt seat.old place × (seat.old.me.0.has_box ≡ false) }
     ensures { Becomes seat.old (opened seat.old.me.0) ((2 + place, None) ∷ seat.old.me.1) seat.new }
 {
-    board.shared.load::<OpenBox>(seat, 0);
+    ruled.shared.load::<OpenBox>(seat, 0);
 }
 
 /// A client puts a request into its mailbox.
 pub(crate) fn post<W: Follower + Drop>(
-    board: &Board<W>,
-    seat: &mut Place<W>,
+    ruled: &RuledTable<W>,
+    seat: &mut TableSeat<W>,
     place: usize,
     request: Request,
 )
-    requires table { (place < 16) × Has board.now.shared.table_id (2 + place)
-        × (seat.old.table_id ≡ board.now.shared.table_id) }
+    requires table { (place < 16) × Has ruled.now.shared.table_id (2 + place)
+        × (seat.old.table_id ≡ ruled.now.shared.table_id) }
     requires token { IsClientAt seat.old place }
     requires mailbox { (seat.old.me.0.has_box ≡ true) × (seat.old.me.0.asked ≡ None) × Carries (2 + place) seat.old }
     requires floor { request.floor ≡ length seat.old.me.0.member.seen }
     ensures { Becomes seat.old (posted seat.old.me.0 request) (rest seat.old.me.1) seat.new }
 {
-    board
+    ruled
         .shared
         .exchange(seat, 2 + place, Some(SlotValue::Asked(request)));
-    board.shared.store::<Post>(seat, 2 + place, 1);
+    ruled.shared.store::<Post>(seat, 2 + place, 1);
 }
 
 /// A dispatcher takes a request out of a client's mailbox, where there is one.
 pub(crate) fn grab<W: Follower + Drop>(
-    board: &Board<W>,
-    seat: &mut Place<W>,
+    ruled: &RuledTable<W>,
+    seat: &mut TableSeat<W>,
     place: usize,
     client: usize,
 ) -> Option<Request>
-    requires table { (client < 16) × Has board.now.shared.table_id (2 + client)
-        × (seat.old.table_id ≡ board.now.shared.table_id) }
+    requires table { (client < 16) × Has ruled.now.shared.table_id (2 + client)
+        × (seat.old.table_id ≡ ruled.now.shared.table_id) }
     requires token { IsDispatcherAt seat.old place × (client < seat.old.me.0.terms.clients) }
     ensures { MatchOption result (Becomes seat.old seat.old.me.0 seat.old.me.1 seat.new)
         (λ request. Becomes seat.old (grabbed seat.old.me.0 client request) ((2 + client, None) ∷ seat.old.me.1)
         seat.new × IsElsewhere client seat.old.me.0.grabbed) }
 {
     let _ = place;
-    if board
+    if ruled
         .shared
         .compare_exchange::<Grab>(seat, 2 + client, 1, 2)
         != 1
     {
         return None;
     }
-    let value = board.shared.exchange(seat, 2 + client, None);
+    let value = ruled.shared.exchange(seat, 2 + client, None);
     let Some(SlotValue::Asked(request)) = value else {
         unreachable!()
     };
@@ -174,45 +190,45 @@ pub(crate) fn grab<W: Follower + Drop>(
 
 /// A dispatcher puts an answer into the mailbox of a client whose request it has in hand.
 pub(crate) fn serve<W: Follower + Drop>(
-    board: &Board<W>,
-    seat: &mut Place<W>,
+    ruled: &RuledTable<W>,
+    seat: &mut TableSeat<W>,
     place: usize,
     client: usize,
     answer: Answer,
 )
-    requires table { (client < 16) × Has board.now.shared.table_id (2 + client)
-        × (seat.old.table_id ≡ board.now.shared.table_id) }
+    requires table { (client < 16) × Has ruled.now.shared.table_id (2 + client)
+        × (seat.old.table_id ≡ ruled.now.shared.table_id) }
     requires token { IsDispatcherAt seat.old place × (client < seat.old.me.0.terms.clients) }
     requires answer { MayServe seat.old client answer }
     ensures { Serves seat.old client answer seat.new }
 {
     let _ = place;
-    board
+    ruled
         .shared
         .exchange(seat, 2 + client, Some(SlotValue::Answered(answer)));
-    board.shared.store::<Serve>(seat, 2 + client, 3);
+    ruled.shared.store::<Serve>(seat, 2 + client, 3);
 }
 
 /// A client takes an answer out of its mailbox, where there is one.
 pub(crate) fn collect<W: Follower + Drop>(
-    board: &Board<W>,
-    seat: &mut Place<W>,
+    ruled: &RuledTable<W>,
+    seat: &mut TableSeat<W>,
     place: usize,
 ) -> Option<Answer>
-    requires table { (place < 16) × Has board.now.shared.table_id (2 + place)
-        × (seat.old.table_id ≡ board.now.shared.table_id) }
+    requires table { (place < 16) × Has ruled.now.shared.table_id (2 + place)
+        × (seat.old.table_id ≡ ruled.now.shared.table_id) }
     requires token { IsClientAt seat.old place × (seat.old.me.0.has_box ≡ true) }
     ensures { MatchOption result (Becomes seat.old seat.old.me.0 seat.old.me.1 seat.new)
         (λ answer. Collects seat.old place answer seat.new) }
 {
-    if board
+    if ruled
         .shared
         .compare_exchange::<Collect>(seat, 2 + place, 3, 0)
         != 3
     {
         return None;
     }
-    let value = board.shared.exchange(seat, 2 + place, None);
+    let value = ruled.shared.exchange(seat, 2 + place, None);
     let Some(SlotValue::Answered(answer)) = value else {
         unreachable!()
     };
@@ -222,50 +238,50 @@ pub(crate) fn collect<W: Follower + Drop>(
 /// Waits until the writer is home, and takes it.
 pub(crate) fn take_writer<W: Follower + Drop, R: Wait>(
     rt: &R,
-    board: &Board<W>,
-    seat: &mut Place<W>,
+    ruled: &RuledTable<W>,
+    seat: &mut TableSeat<W>,
     place: usize,
 ) -> W
-    requires table { Has board.now.shared.table_id 1 × (seat.old.table_id ≡ board.now.shared.table_id) }
+    requires table { Has ruled.now.shared.table_id 1 × (seat.old.table_id ≡ ruled.now.shared.table_id) }
     requires token { IsDispatcherAt seat.old place }
     ensures { TakesWriter W.base W.commits seat.old result seat.new }
 {
     let _ = place;
     for _ in rt.forever() {
-        if board.shared.compare_exchange::<TryWriter>(seat, 1, 0, 1) == 0 {
-            let value = board.shared.exchange(seat, 1, None);
+        if ruled.shared.compare_exchange::<TryWriter>(seat, 1, 0, 1) == 0 {
+            let value = ruled.shared.exchange(seat, 1, None);
             let Some(SlotValue::Writer(writer)) = value else {
                 unreachable!()
             };
             return writer;
         }
-        board.shared.park(rt, 1, 1);
+        ruled.shared.park(rt, 1, 1);
     }
     unreachable!()
 }
 
 /// Gives the writer back, over the table's base; stands for a beginning of what the seat has seen.
 pub(crate) fn put_writer<W: Follower + Drop>(
-    board: &Board<W>,
-    seat: &mut Place<W>,
+    ruled: &RuledTable<W>,
+    seat: &mut TableSeat<W>,
     place: usize,
     writer: W,
 )
-    requires table { Has board.now.shared.table_id 1 × (seat.old.table_id ≡ board.now.shared.table_id) }
+    requires table { Has ruled.now.shared.table_id 1 × (seat.old.table_id ≡ ruled.now.shared.table_id) }
     requires token { IsDispatcherAt seat.old place × (seat.old.me.0.holds_writer ≡ true) × Carries 1 seat.old }
     requires writer { MayPutWriter W.base W.commits seat.old writer }
     ensures { Becomes seat.old (without_writer seat.old.me.0) (rest seat.old.me.1) seat.new }
 {
     let _ = place;
-    board
+    ruled
         .shared
         .exchange(seat, 1, Some(SlotValue::Writer(writer)));
-    board.shared.store::<PutWriter>(seat, 1, 0);
-    board.shared.wake_one(1);
+    ruled.shared.store::<PutWriter>(seat, 1, 0);
+    ruled.shared.wake_one(1);
 }
 
 /// So many of the slots in hand, from the first on, go behind the others.
-pub(crate) fn turn_by<W>(seat: &mut Place<W>, times: usize)
+pub(crate) fn turn_by<W>(seat: &mut TableSeat<W>, times: usize)
     ensures { Becomes seat.old seat.old.me.0 (turns times seat.old.me.1) seat.new }
 {
     for _ in 0..times {
@@ -274,26 +290,30 @@ pub(crate) fn turn_by<W>(seat: &mut Place<W>, times: usize)
 }
 
 /// Takes in the seat of a member that does nothing more.
-pub(crate) fn gather<W: Follower + Drop>(board: &Board<W>, seat: &mut Place<W>, mut other: Place<W>)
-    requires table { Has board.now.shared.table_id 0 × (seat.old.table_id ≡ board.now.shared.table_id)
-        × (other.table_id ≡ board.now.shared.table_id) }
+pub(crate) fn gather<W: Follower + Drop>(
+    ruled: &RuledTable<W>,
+    seat: &mut TableSeat<W>,
+    mut other: TableSeat<W>,
+)
+    requires table { Has ruled.now.shared.table_id 0 × (seat.old.table_id ≡ ruled.now.shared.table_id)
+        × (other.table_id ≡ ruled.now.shared.table_id) }
     requires token { IsToken seat.old }
     requires other { IsFree other }
     ensures { Becomes seat.old (gathers seat.old.me.0 other.me.0) seat.old.me.1 seat.new }
 {
-    let token = board.shared.split_seat::<Yield>(&mut other);
-    board.shared.join_seat::<Gather>(seat, token);
+    let token = ruled.shared.split_seat::<Yield>(&mut other);
+    ruled.shared.join_seat::<Gather>(seat, token);
 }
 
 /// Ends the table by the seat that took in all others. The row store is home.
-pub(crate) fn finish<W: Follower + Drop>(board: Board<W>, seat: Place<W>) -> RowStore
-    requires table { (seat.table_id ≡ board.shared.table_id) × (seat.me.0.terms ≡ terms_of board.shared.key) }
+pub(crate) fn finish<W: Follower + Drop>(ruled: RuledTable<W>, seat: TableSeat<W>) -> RowStore
+    requires table { (seat.table_id ≡ ruled.shared.table_id) × (seat.me.0.terms ≡ terms_of ruled.shared.key) }
     requires token { IsToken seat × (seat.me.0.holds_rows ≡ false) × (seat.me.0.holds_writer ≡ false)
         × (seat.me.0.asked ≡ None) }
     requires all { AreAll seat.me.0.terms (members_of seat.me.0) }
     ensures { IsClosed seat.me.0.terms (members_of seat.me.0) result }
 {
-    let mut closed = board.close_with(seat);
+    let mut closed = ruled.close_with(seat);
     let Some(SlotValue::Rows(rows)) = closed.take(0) else {
         unreachable!()
     };

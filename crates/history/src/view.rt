@@ -56,7 +56,7 @@ pub struct View {
     pub holds_writer: bool,
     /// Lists that the history begins with, which the member has not looked at since.
     pub beside: LinkedList<LinkedList<Commit>>,
-    /// The members whose passes were handed in at the close.
+    /// The members whose tokens were handed in at the close.
     pub gathered: LinkedList<Member>,
     /// A client has its mailbox's slot.
     pub has_box: bool,

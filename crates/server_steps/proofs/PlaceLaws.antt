@@ -8,7 +8,7 @@ use Rattle.row_store.specs.declared.refusal.RefreshError.TheVariants as refresh
 use Rattle.ssb_questions.specs.declared.query.Query.{Query}
 use Rattle.ssb_questions.specs.declared.value.Value.{Value}
 use Rattle.ssb_answers.specs.declared.answer.Answer.{Answer}
-use Rattle.history.specs.Tokens.{Hall, Token}
+use Rattle.history.specs.Tokens.{TableRecord, TokenRecord}
 use Rattle.ssb_server.specs.Clients.{Refreshed, Looks, Asks, Polls}
 use Rattle.ssb_server.specs.Tickets.{IsOf}
 use Rattle.ssb_server.proofs.StayingLaws.{new_clients_are_quiet, new_dispatchers_are_of_it}
@@ -16,22 +16,22 @@ use Rattle.ssb_server.proofs.StayingLaws.{new_clients_are_quiet, new_dispatchers
 -- whose the clients and dispatchers of a new server are
 pub ruleset new_are_its_own = (new_clients_are_quiet, new_dispatchers_are_of_it)
 
-module _ (hall : Hall) where
-  pub looks_stays : (before after : Token) → IsOf hall before → Looks before after → IsOf hall after
-  looks_stays before after here looks = ap (λ (t : Token). t.hall) looks.now ∙ here
+module _ (table : TableRecord) where
+  pub looks_stays : (before after : TokenRecord) → IsOf table before → Looks before after → IsOf table after
+  looks_stays before after here looks = ap (λ (t : TokenRecord). t.table) looks.now ∙ here
 
-  pub refreshed_stays : (number : ℕ) (actions : List Action) (before after : Token)
-      (result : Result Receipt RefreshError) → IsOf hall before → Refreshed before number actions result after
-      → IsOf hall after
-  refreshed_stays number actions before after (Ok receipt) here did = ap (λ (t : Token). t.hall) did.now ∙ here
+  pub refreshed_stays : (number : ℕ) (actions : List Action) (before after : TokenRecord)
+      (result : Result Receipt RefreshError) → IsOf table before → Refreshed before number actions result after
+      → IsOf table after
+  refreshed_stays number actions before after (Ok receipt) here did = ap (λ (t : TokenRecord). t.table) did.now ∙ here
   refreshed_stays number actions before after (Err (refresh.Refused at action cause)) here did =
       looks_stays before after here did.2
   refreshed_stays number actions before after (Err refresh.OutOfMemory) here did = looks_stays before after here did.1
 
-  pub asks_stays : (before after : Token) (question : Query × List Value) → IsOf hall before
-      → Asks before question after → IsOf hall after
-  asks_stays before after question here asks = ap (λ (t : Token). t.hall) asks.now ∙ here
+  pub asks_stays : (before after : TokenRecord) (question : Query × List Value) → IsOf table before
+      → Asks before question after → IsOf table after
+  asks_stays before after question here asks = ap (λ (t : TokenRecord). t.table) asks.now ∙ here
 
-  pub polls_stays : (before after : Token) (reply : Answer) → IsOf hall before → Polls before reply after
-      → IsOf hall after
-  polls_stays before after reply here polls = ap (λ (t : Token). t.hall) polls.now ∙ here
+  pub polls_stays : (before after : TokenRecord) (reply : Answer) → IsOf table before → Polls before reply after
+      → IsOf table after
+  polls_stays before after reply here polls = ap (λ (t : TokenRecord). t.table) polls.now ∙ here

@@ -63,7 +63,7 @@ pub fn turns<W: Wait + Drop, R: Wait + Threads + Sync, G: ScanGate>(
 // A client polls the answer, which is there.
 #[tactic(auto, using(ssb_server::proofs::StayingLaws::polls_stays))]
 fn polls<W: Wait + Drop>(server: &Server<W>, client: &mut Client<W>) -> Result<Answer, Fail>
-    requires { client.old.hall ≡ server.now }
+    requires { client.old.table ≡ server.now }
     ensures { OnOk result (IsQuiet server.now client.new) }
 {
     match client.poll(server) {
@@ -97,7 +97,7 @@ pub fn asks_and_is_told<W: Wait + Drop, R: Wait + Threads + Sync>(
 #[tactic(auto, using(ssb_server::proofs::StayingLaws::asks_stays))]
 pub fn asks_this<W: Wait + Drop>(server: &Server<W>, client: &mut Client<W>, question: Question)
     requires { IsQuiet server.now client.old }
-    ensures hall { client.new.hall ≡ server.now }
+    ensures table { client.new.table ≡ server.now }
     ensures asking { is_some client.new.asked ≡ true }
 {
     client.ask(server, question);
@@ -106,7 +106,7 @@ pub fn asks_this<W: Wait + Drop>(server: &Server<W>, client: &mut Client<W>, que
 /// A client awaits the answer.
 #[tactic(auto, using(ssb_server::proofs::StayingLaws::polls_stays))]
 pub fn awaits<W: Wait + Drop, R: Wait>(rt: &R, server: &Server<W>, client: &mut Client<W>) -> Answer
-    requires hall { client.old.hall ≡ server.now }
+    requires table { client.old.table ≡ server.now }
     requires asking { is_some client.old.asked ≡ true }
     ensures { IsQuiet server.now client.new }
 {

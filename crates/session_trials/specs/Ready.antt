@@ -1,10 +1,10 @@
 -- A client that can be served a script alone.
 use Rattle.std.specs.Prelude.{◌≡◌, None}
-use Rattle.history.specs.Tokens.{Hall, Token}
+use Rattle.history.specs.Tokens.{TableRecord, TokenRecord}
 use Rattle.ssb_session.specs.Alone.{IsAlone}
 
 -- the only client of this table, which asks nothing
-pub record IsReady (hall : Hall) (t : Token) : Type 0 where
-  pub hall_is : t.hall ≡ hall
+pub record IsReady (table : TableRecord) (t : TokenRecord) : Type 0 where
+  pub table_is : t.table ≡ table
   pub quiet : t.asked ≡ None
   pub alone : IsAlone t

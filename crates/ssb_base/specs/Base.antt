@@ -5,6 +5,7 @@ use Rattle.std.specs.List.{list_any, find}
 use Rattle.std.specs.Option.{option_map}
 use Rattle.ssb_schema.specs.Columns.{or_else}
 use Rattle.ssb_schema.specs.FirstFault.{rows_fault, AreDistinct}
+pub use Rattle.ssb_schema.specs.Keys.{customer_key, supplier_key, part_key, date_key}
 use Rattle.ssb_schema.specs.declared.customer.CustomerFields.{CustomerFields}
 use Rattle.ssb_schema.specs.declared.date.DateFields.{DateFields}
 use Rattle.ssb_schema.specs.declared.fault.SchemaFault.{SchemaFault}
@@ -36,18 +37,6 @@ has_key key rows k = list_any (λ row. nat_eq (key row) k) rows
 -- the first row that has the key
 abbrev pub row_with : {R : Type 0} → (R → ℕ) → List R → ℕ → Option R
 row_with key rows k = find (λ row. nat_eq (key row) k) rows
-
-abbrev pub customer_key : CustomerFields → ℕ
-customer_key customer = customer.key
-
-abbrev pub supplier_key : SupplierFields → ℕ
-supplier_key supplier = supplier.key
-
-abbrev pub part_key : PartFields → ℕ
-part_key part = part.key
-
-abbrev pub date_key : DateFields → ℕ
-date_key date = date.key
 
 abbrev pub has_key_of : {R : Type 0} → (R → ℕ) → R → R → Bool
 has_key_of key earlier row = nat_eq (key earlier) (key row)

@@ -5,7 +5,7 @@ use Rattle.std.specs.Result.{is_ok}
 use Rattle.std.proofs.lemmas.Grind.{flat_map-append}
 use Rattle.std.proofs.lemmas.List.{map-append}
 use Rattle.std.proofs.lemmas.List.Elements.{All-nil, All-cons, All-head, All-tail}
-use Rattle.history.specs.Tokens.{Hall, Token}
+use Rattle.history.specs.Tokens.{TableRecord, TokenRecord}
 use Rattle.ssb_runs.specs.Sessions.{Task, Session, IsTaskAt, AreTasksAt, AreSessionsOf, AreServed, AreStill, all_tasks}
 
 -- of two lists, each part
@@ -17,12 +17,12 @@ second_all : {X : Type 0} (P : X → Type 0) (xs ys : List X) → All P (xs ++ y
 second_all P [] ys all = all
 second_all P (x ∷ xs) ys all = second_all P xs ys (All-tail P x (xs ++ ys) all)
 
-pub groups_at : {Z : Type 0} (hall : Hall) (groups : List (Vec Task Z)) → All (IsTaskAt hall) (all_tasks groups)
-    → All (AreTasksAt hall) groups
-groups_at hall [] all = All-nil (AreTasksAt hall)
-groups_at hall (group ∷ groups) all =
-    All-cons (AreTasksAt hall) group groups (first_all (IsTaskAt hall) (vec_items group) (all_tasks groups) all)
-    (groups_at hall groups (second_all (IsTaskAt hall) (vec_items group) (all_tasks groups) all))
+pub groups_at : {Z : Type 0} (table : TableRecord) (groups : List (Vec Task Z)) → All (IsTaskAt table) (all_tasks groups)
+    → All (AreTasksAt table) groups
+groups_at table [] all = All-nil (AreTasksAt table)
+groups_at table (group ∷ groups) all =
+    All-cons (AreTasksAt table) group groups (first_all (IsTaskAt table) (vec_items group) (all_tasks groups) all)
+    (groups_at table groups (second_all (IsTaskAt table) (vec_items group) (all_tasks groups) all))
 
 -- the sessions of one group behind those of others
 pub sessions_both : (tasks others : List Task) (sessions more : List Session) → AreSessionsOf tasks sessions
@@ -68,7 +68,7 @@ served_groups group_of threads before groups sessions served started none =
     subst (λ all. AreServed all sessions) (started ∙ ap (λ first. map group_of first ++ groups) none) served
 
 -- the same of members
-pub still_members : {H : Type 0} (member_of : H → Token) (threads before : List H) (befores afters : List Token)
+pub still_members : {H : Type 0} (member_of : H → TokenRecord) (threads before : List H) (befores afters : List TokenRecord)
     → AreStill (map member_of threads) afters → map member_of threads ≡ map member_of before ++ befores → before ≡ []
     → AreStill befores afters
 still_members member_of threads before befores afters still started none =

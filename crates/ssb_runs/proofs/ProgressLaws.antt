@@ -2,7 +2,7 @@
 use Rattle.std.proofs.Common.{◌≡◌, ℕ, Bool, false, Result, Ok, Err, List, [], ◌∷◌, ◌++◌, map, Some, None, refl, sym, ◌∙◌, ap, subst, append_assoc, append-nil}
 use Rattle.std.specs.Prelude.{OnOk}
 use Rattle.std.specs.Result.{is_err}
-use Rattle.history.specs.Tokens.{Token}
+use Rattle.history.specs.Tokens.{TokenRecord}
 use Rattle.history.specs.World.{number_of}
 use Rattle.ssb_audit.specs.declared.trace.Told.{Told}
 use Rattle.ssb_script.specs.Requests.{request_of, requests_of}
@@ -22,7 +22,7 @@ when_ok (Err e) failed is not holds = absurd cc
 pub begun : (task : Task) (blocks : List Block) → task.client.asked ≡ None
     → requests_of task.script ≡ map request_of blocks → IsUnderWay task task.client blocks [] []
 begun task blocks quiet whole = record {
-  hall = refl;
+  table = refl;
   who = refl;
   quiet = quiet;
   front = [];
@@ -31,14 +31,14 @@ begun task blocks quiet whole = record {
 }
 
 -- one block more
-pub under_way : (task : Task) (before after : Token) (block : Block) (blocks left : List Block)
+pub under_way : (task : Task) (before after : TokenRecord) (block : Block) (blocks left : List Block)
     (report longer : List ℕ) (told kept : List Told)
     → IsUnderWay task before blocks report told → blocks ≡ block ∷ left
     → ServesOne (number_of before.who) before after (request_of block) told kept (Some report) (Some longer)
     → AreAlike before after → IsUnderWay task after left longer kept
 under_way task before after block blocks left report longer told kept was next one same =
     record {
-      hall = same.hall ∙ was.hall;
+      table = same.table ∙ was.table;
       who = same.who ∙ was.who;
       quiet = same.quiet;
       front = was.front ++ request_of block ∷ [];
@@ -52,7 +52,7 @@ under_way task before after block blocks left report longer told kept was next o
 pub session_of : (task : Task) (session : Session) (blocks : List Block)
     → IsUnderWay task session.client blocks session.report session.told → blocks ≡ [] → IsSessionOf task session
 session_of task session blocks was none = record {
-  hall = was.hall;
+  table = was.table;
   who = was.who;
   quiet = was.quiet;
   served = subst (λ requests. Serves (number_of task.client.who) task.client session.client requests [] session.told

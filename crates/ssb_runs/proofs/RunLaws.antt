@@ -30,7 +30,7 @@ use Rattle.std.proofs.lemmas.List.{length-map}
 use Rattle.std.proofs.lemmas.List.Elements.{All-nil, All-cons, All-head, All-tail}
 use Rattle.std.proofs.lemmas.Option.{slice_get_within, get_or_from_slice_get}
 use Rattle.history.specs.Closing.{IsLogOf}
-use Rattle.history.specs.Tokens.{Hall, Token, new_token, new_clients}
+use Rattle.history.specs.Tokens.{TableRecord, TokenRecord, new_token, new_clients}
 use Rattle.history.specs.Words.{Owns}
 use Rattle.history.specs.World.{number_of}
 use Rattle.history_core.specs.OwnCommits.{IsOfClients}
@@ -76,63 +76,63 @@ row_at make first (suc n) (suc i) x here = row_at make (first + 1) n i x here �
 all_at : {X : Type 0} (P : X → Type 0) (xs : List X) (i : ℕ) (x : X) → All P xs → slice_get xs i ≡ Some x → P x
 all_at P xs i x all here = subst P (get_or_from_slice_get xs i x x here) (all i x (slice_get_within xs i x here))
 
-all_of : (P : Token → Type 0) (sessions : List Session) → All P (map client_of_session sessions)
+all_of : (P : TokenRecord → Type 0) (sessions : List Session) → All P (map client_of_session sessions)
     → All (λ (s : Session). P s.client) sessions
 all_of P [] all = All-nil (λ (s : Session). P s.client)
 all_of P (s ∷ ss) all = All-cons (λ (s : Session). P s.client) s ss (All-head P s.client (map client_of_session ss) all)
     (all_of P ss (All-tail P s.client (map client_of_session ss) all))
 
 -- the task at a script's place is the new client of that number with that script
-record IsTaskOf (hall : Hall) (tasks : List Task) (i : ℕ) (script : Script) : Type 0 where
+record IsTaskOf (table : TableRecord) (tasks : List Task) (i : ℕ) (script : Script) : Type 0 where
   task : Task
   here : slice_get tasks i ≡ Some task
-  new : task.client ≡ new_token hall (Client (i + 1))
+  new : task.client ≡ new_token table (Client (i + 1))
   its : task.script ≡ script
 
-task_at : (hall : Hall) (tasks : List Task) (scripts : List Script) (i : ℕ) (script : Script)
-    → map client_of_task tasks ≡ new_clients hall → map script_of tasks ≡ scripts
-    → slice_get scripts i ≡ Some script → IsTaskOf hall tasks i script
-task_at hall tasks scripts i script clients of_scripts here =
+task_at : (table : TableRecord) (tasks : List Task) (scripts : List Script) (i : ℕ) (script : Script)
+    → map client_of_task tasks ≡ new_clients table → map script_of tasks ≡ scripts
+    → slice_get scripts i ≡ Some script → IsTaskOf table tasks i script
+task_at table tasks scripts i script clients of_scripts here =
     let found = get_mapped script_of tasks i script (ap (λ xs. slice_get xs i) of_scripts ∙ here) in
-    let client = row_at (λ number. new_token hall (Client number)) 1 hall.clients i found.0.client
+    let client = row_at (λ number. new_token table (Client number)) 1 table.clients i found.0.client
     (ap (λ xs. slice_get xs i) (sym clients) ∙ map_at client_of_task tasks i found.0 found.1) in
     record {
       task = found.0;
       here = found.1;
-      new = client ∙ ap (λ k. new_token hall (Client k)) (omega arith);
+      new = client ∙ ap (λ k. new_token table (Client k)) (omega arith);
       its = found.2;
     }
 
 -- what is served to a task is served to the new client
-served_new : (hall : Hall) (log : List CommitRecord) (number : ℕ) (script : Script) (task : Task) (session : Session)
-    → task.client ≡ new_token hall (Client number) → task.script ≡ script
+served_new : (table : TableRecord) (log : List CommitRecord) (number : ℕ) (script : Script) (task : Task) (session : Session)
+    → task.client ≡ new_token table (Client number) → task.script ≡ script
     → IsSessionOf task session → IsPrefix session.client.seen log → Owns session.client.who session.client.mine log
-    → IsServed hall log number script session
-served_new hall log number script task session new its is begins owns = record {
+    → IsServed table log number script session
+served_new table log number script task session new its is begins owns = record {
   served = subst (λ t. Serves (number_of t.who) t session.client (requests_of script) [] session.told (Some [])
       (Some session.report)) new
       (subst (λ s. Serves (number_of task.client.who) task.client session.client (requests_of s) [] session.told
       (Some []) (Some session.report)) its is.served);
   begins = begins;
-  made = subst (λ who. Owns who session.client.mine log) (is.who ∙ ap (λ (t : Token). t.who) new) owns;
+  made = subst (λ who. Owns who session.client.mine log) (is.who ∙ ap (λ (t : TokenRecord). t.who) new) owns;
 }
 
-pub is_run : (hall : Hall) (base : Tables) (dispatchers : ℕ) (scripts : List Script) (tasks : List Task)
-    (sessions : List Session) (ended : List Token) (reports : List (List ℕ)) (trace : Trace)
-    → hall.base ≡ base → hall.clients ≡ length scripts → hall.dispatchers ≡ dispatchers
-    → map client_of_task tasks ≡ new_clients hall → map script_of tasks ≡ scripts → AreSessionsOf tasks sessions
-    → Leaves hall sessions ended reports trace → IsRun base scripts dispatchers reports trace
-is_run hall base dispatchers scripts tasks sessions ended reports trace of_base clients_are dispatchers_are clients
+pub is_run : (table : TableRecord) (base : Tables) (dispatchers : ℕ) (scripts : List Script) (tasks : List Task)
+    (sessions : List Session) (ended : List TokenRecord) (reports : List (List ℕ)) (trace : Trace)
+    → table.base ≡ base → table.clients ≡ length scripts → table.dispatchers ≡ dispatchers
+    → map client_of_task tasks ≡ new_clients table → map script_of tasks ≡ scripts → AreSessionsOf tasks sessions
+    → Leaves table sessions ended reports trace → IsRun base scripts dispatchers reports trace
+is_run table base dispatchers scripts tasks sessions ended reports trace of_base clients_are dispatchers_are clients
     of_scripts are leaves = record {
-      hall = hall;
+      table = table;
       base_is = of_base;
       clients_are = clients_are;
       dispatchers_are = dispatchers_are;
       sessions = sessions;
       one_each = as_many tasks sessions are ∙ (sym (length-map tasks script_of) ∙ ap length of_scripts);
       served = λ i script session at_script at_session.
-          let found = task_at hall tasks scripts i script clients of_scripts at_script in
-          served_new hall trace.commits (i + 1) script found.task session found.new found.its
+          let found = task_at table tasks scripts i script clients of_scripts at_script in
+          served_new table trace.commits (i + 1) script found.task session found.new found.its
           (session_at tasks sessions i found.task session are found.here at_session)
           (all_at (λ (s : Session). IsPrefix s.client.seen trace.commits) sessions i session leaves.begin at_session)
           (all_at (λ (s : Session). Owns s.client.who s.client.mine trace.commits) sessions i session leaves.own
@@ -146,41 +146,41 @@ is_run hall base dispatchers scripts tasks sessions ended reports trace of_base 
     }
 
 -- the server was closed with these clients and dispatchers, and their sessions left these reports and answers
-pub closed_leaves : (hall : Hall) (sessions : List Session) (clients ended : List Token) (log : List CommitRecord)
+pub closed_leaves : (table : TableRecord) (sessions : List Session) (clients ended : List TokenRecord) (log : List CommitRecord)
     (reports : List (List ℕ)) (told : List Told) (trace : Trace)
     → clients ≡ map client_of_session sessions → reports ≡ map (λ (s : Session). s.report) sessions
     → told ≡ flat_map (λ (s : Session). s.told) sessions
-    → trace.commits ≡ log → trace.answers ≡ told → IsLogOf hall clients ended log → IsLegal hall.base log
-    → IsOfClients hall.clients log
-    → All (λ (t : Token). IsPrefix t.seen log) clients → All (λ (t : Token). Owns t.who t.mine log) clients
-    → Leaves hall sessions ended reports trace
-closed_leaves hall sessions clients ended log reports told trace of_clients of_reports of_told commits answers true_log
+    → trace.commits ≡ log → trace.answers ≡ told → IsLogOf table clients ended log → IsLegal table.base log
+    → IsOfClients table.clients log
+    → All (λ (t : TokenRecord). IsPrefix t.seen log) clients → All (λ (t : TokenRecord). Owns t.who t.mine log) clients
+    → Leaves table sessions ended reports trace
+closed_leaves table sessions clients ended log reports told trace of_clients of_reports of_told commits answers true_log
     legal named seen own = record {
       reports_are = of_reports;
       answers_are = answers ∙ of_told;
-      true_log = subst (λ ts. IsLogOf hall ts ended trace.commits) of_clients
-          (subst (IsLogOf hall clients ended) (sym commits) true_log);
-      legal = subst (IsLegal hall.base) (sym commits) legal;
-      named = subst (IsOfClients hall.clients) (sym commits) named;
-      begin = all_of (λ (t : Token). IsPrefix t.seen trace.commits) sessions
-          (subst (λ l. All (λ (t : Token). IsPrefix t.seen l) (map client_of_session sessions)) (sym commits)
-          (subst (All (λ (t : Token). IsPrefix t.seen log)) of_clients seen));
-      own = all_of (λ (t : Token). Owns t.who t.mine trace.commits) sessions
-          (subst (λ l. All (λ (t : Token). Owns t.who t.mine l) (map client_of_session sessions)) (sym commits)
-          (subst (All (λ (t : Token). Owns t.who t.mine log)) of_clients own));
+      true_log = subst (λ ts. IsLogOf table ts ended trace.commits) of_clients
+          (subst (IsLogOf table clients ended) (sym commits) true_log);
+      legal = subst (IsLegal table.base) (sym commits) legal;
+      named = subst (IsOfClients table.clients) (sym commits) named;
+      begin = all_of (λ (t : TokenRecord). IsPrefix t.seen trace.commits) sessions
+          (subst (λ l. All (λ (t : TokenRecord). IsPrefix t.seen l) (map client_of_session sessions)) (sym commits)
+          (subst (All (λ (t : TokenRecord). IsPrefix t.seen log)) of_clients seen));
+      own = all_of (λ (t : TokenRecord). Owns t.who t.mine trace.commits) sessions
+          (subst (λ l. All (λ (t : TokenRecord). Owns t.who t.mine l) (map client_of_session sessions)) (sym commits)
+          (subst (All (λ (t : TokenRecord). Owns t.who t.mine log)) of_clients own));
     }
 
 -- what is left, where anything is, is a run
 pub run_where : {X E : Type 0} (result : Result X E) (reports_of : X → List (List ℕ)) (trace_of : X → Trace)
-    (hall : Hall) (scripts : List Script) (tasks : List Task) (sessions : List Session) (ended : List Token)
-    → hall.clients ≡ length scripts → map client_of_task tasks ≡ new_clients hall → map script_of tasks ≡ scripts
+    (table : TableRecord) (scripts : List Script) (tasks : List Task) (sessions : List Session) (ended : List TokenRecord)
+    → table.clients ≡ length scripts → map client_of_task tasks ≡ new_clients table → map script_of tasks ≡ scripts
     → AreSessionsOf tasks sessions
-    → IfOk result (λ x. Leaves hall sessions ended (reports_of x) (trace_of x))
-    → IfOk result (λ x. IsRun hall.base scripts hall.dispatchers (reports_of x) (trace_of x))
-run_where (Ok x) reports_of trace_of hall scripts tasks sessions ended count clients of_scripts are leaves =
-    is_run hall hall.base hall.dispatchers scripts tasks sessions ended (reports_of x) (trace_of x) refl count refl
+    → IfOk result (λ x. Leaves table sessions ended (reports_of x) (trace_of x))
+    → IfOk result (λ x. IsRun table.base scripts table.dispatchers (reports_of x) (trace_of x))
+run_where (Ok x) reports_of trace_of table scripts tasks sessions ended count clients of_scripts are leaves =
+    is_run table table.base table.dispatchers scripts tasks sessions ended (reports_of x) (trace_of x) refl count refl
     clients of_scripts are leaves
-run_where (Err e) reports_of trace_of hall scripts tasks sessions ended count clients of_scripts are leaves = leaves
+run_where (Err e) reports_of trace_of table scripts tasks sessions ended count clients of_scripts are leaves = leaves
 
 -- what clients were told, with their numbers from this one on
 abbrev told_from : ℕ → List Session → List (ℕ × List Told)
@@ -206,10 +206,10 @@ get_below [] i low = absurd (omega (arith, low))
 get_below (x ∷ xs) zero low = (x, refl)
 get_below (x ∷ xs) (suc i) low = get_below xs i (omega (arith, low))
 
-served_told : (hall : Hall) (log : List CommitRecord) (number : ℕ) (script : Script) (session : Session)
-    → IsServed hall log number script session → IsTold hall.base log number session.told
-served_told hall log number script session is = record {
-  opened = new_token hall (Client number);
+served_told : (table : TableRecord) (log : List CommitRecord) (number : ℕ) (script : Script) (session : Session)
+    → IsServed table log number script session → IsTold table.base log number session.told
+served_told table log number script session is = record {
+  opened = new_token table (Client number);
   closed = session.client;
   requests = requests_of script;
   replies = is.served.replies;
@@ -235,7 +235,7 @@ trace_is_legal base scripts dispatchers reports trace run =
           subst (λ (d : ℕ × List Told). IsTold base trace.commits d.0 d.1)
           (sym (found.2 ∙ ap (λ k. (k, found.0.told)) (omega arith)))
           (subst (λ b. IsTold b trace.commits (i + 1) found.0.told) run.base_is
-          (served_told run.hall trace.commits (i + 1) script.0 found.0
+          (served_told run.table trace.commits (i + 1) script.0 found.0
           (run.served i script.0 found.0 script.1 found.1)));
       once = λ i j first second lt at_i at_j same.
           let here = ap (λ (d : ℕ × List Told). d.0) (told_at 1 run.sessions i first at_i).2 in

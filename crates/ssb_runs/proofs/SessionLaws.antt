@@ -44,7 +44,7 @@ use Rattle.std.proofs.lemmas.List.FromFn.{length-range_with_len}
 use Rattle.row_store.proofs.FactCountLaws.{count_cons}
 use Rattle.history_core.specs.declared.event.Who.TheVariants.{Client, Dispatcher}
 use Rattle.history.specs.Closing.{AreNumbered}
-use Rattle.history.specs.Tokens.{Hall, Token, new_token, new_clients, new_dispatchers}
+use Rattle.history.specs.Tokens.{TableRecord, TokenRecord, new_token, new_clients, new_dispatchers}
 use Rattle.history.specs.World.{number_of}
 use Rattle.ssb_server.specs.Tickets.{IsQuiet, IsOf}
 use Rattle.ssb_runs.specs.Sessions.{Task, Session, IsTaskAt, IsSessionOf, AreSessionsOf, IsStill, AreStill, IsReady}
@@ -69,14 +69,14 @@ served_push (Ok x) tasks longer sessions more task session are is here there =
 served_push (Err e) tasks longer sessions more task session are is here there = are
 
 -- one member more
-pub still_push : (befores afters : List Token) (before after : Token) → AreStill befores afters → IsStill before after
+pub still_push : (befores afters : List TokenRecord) (before after : TokenRecord) → AreStill befores afters → IsStill before after
     → AreStill (befores ++ before ∷ []) (afters ++ after ∷ [])
 still_push [] [] before after are is = (is, tt)
 still_push [] (a ∷ others) before after are is = absurd are
 still_push (b ∷ others) [] before after are is = absurd are
 still_push (b ∷ befores) (a ∷ afters) before after are is = (are.0, still_push befores afters before after are.1 is)
 
-pub still_longer : (befores longer afters more : List Token) (before after : Token) → AreStill befores afters
+pub still_longer : (befores longer afters more : List TokenRecord) (before after : TokenRecord) → AreStill befores afters
     → IsStill before after → longer ≡ befores ++ before ∷ []
     → more ≡ afters ++ after ∷ [] → AreStill longer more
 still_longer befores longer afters more before after are is here there =
@@ -106,13 +106,13 @@ as_many [] (s ∷ ss) are = absurd are
 as_many (t ∷ ts) [] are = absurd are
 as_many (t ∷ ts) (s ∷ ss) are = ap suc (as_many ts ss are.1)
 
-abbrev pub client_of_task : Task → Token
+abbrev pub client_of_task : Task → TokenRecord
 client_of_task task = task.client
 
-abbrev pub client_of_session : Session → Token
+abbrev pub client_of_session : Session → TokenRecord
 client_of_session session = session.client
 
-abbrev pub number_in : Token → ℕ
+abbrev pub number_in : TokenRecord → ℕ
 number_in t = number_of t.who
 
 -- clients keep their numbers, and so do dispatchers
@@ -125,7 +125,7 @@ session_numbers (t ∷ ts) (s ∷ ss) are =
     ap (λ w. number_of w ∷ map number_in (map client_of_session ss)) are.0.who
     ∙ ap (λ ns. number_of t.client.who ∷ ns) (session_numbers ts ss are.1)
 
-still_numbers : (befores afters : List Token) → AreStill befores afters → map number_in afters ≡ map number_in befores
+still_numbers : (befores afters : List TokenRecord) → AreStill befores afters → map number_in afters ≡ map number_in befores
 still_numbers [] [] are = refl
 still_numbers [] (a ∷ others) are = absurd are
 still_numbers (b ∷ others) [] are = absurd are
@@ -169,76 +169,76 @@ once_in_row first (suc n) number low high = once_first first n number (eqb_tells
     (λ later. once_in_row (first + 1) n number later (omega (arith, high)))
 
 -- tokens whose numbers are a row from 1 are numbered
-pub row_numbered : (n : ℕ) (tokens : List Token) → map number_in tokens ≡ range_with_len 1 n → AreNumbered n tokens
+pub row_numbered : (n : ℕ) (tokens : List TokenRecord) → map number_in tokens ≡ range_with_len 1 n → AreNumbered n tokens
 row_numbered n tokens row = record {
   count_is = sym (length-map tokens number_in) ∙ (ap length row ∙ length-range_with_len 1 n);
   each = λ before low. count_map (λ x. x == before + 1) number_in tokens
       ∙ (ap (count_by (λ x. x == before + 1)) row ∙ once_in_row 1 n (before + 1) (omega arith) (omega (arith, low)));
 }
 
-new_numbers : (make : ℕ → Token) → ((n : ℕ) → number_in (make n) ≡ n) → (row : List ℕ)
+new_numbers : (make : ℕ → TokenRecord) → ((n : ℕ) → number_in (make n) ≡ n) → (row : List ℕ)
     → map number_in (map make row) ≡ row
 new_numbers make is [] = refl
 new_numbers make is (n ∷ row) = ap (λ k. k ∷ map number_in (map make row)) (is n)
     ∙ ap (λ ks. n ∷ ks) (new_numbers make is row)
 
 -- new clients ask nothing, and stand at their table
-pub new_clients_quiet : (hall : Hall) → All (IsQuiet hall) (new_clients hall)
-new_clients_quiet hall = All-map (IsQuiet hall) (λ number. new_token hall (Client number))
-    (range_with_len 1 hall.clients) (λ k d low. record { hall_is = refl; quiet = refl })
+pub new_clients_quiet : (table : TableRecord) → All (IsQuiet table) (new_clients table)
+new_clients_quiet table = All-map (IsQuiet table) (λ number. new_token table (Client number))
+    (range_with_len 1 table.clients) (λ k d low. record { table_is = refl; quiet = refl })
 
-pub new_dispatchers_of : (hall : Hall) → All (IsOf hall) (new_dispatchers hall)
-new_dispatchers_of hall = All-map (IsOf hall) (λ number. new_token hall (Dispatcher number))
-    (range_with_len 1 hall.dispatchers) (λ k d low. refl)
+pub new_dispatchers_of : (table : TableRecord) → All (IsOf table) (new_dispatchers table)
+new_dispatchers_of table = All-map (IsOf table) (λ number. new_token table (Dispatcher number))
+    (range_with_len 1 table.dispatchers) (λ k d low. refl)
 
-quiet_tasks : (hall : Hall) (tasks : List Task) → All (IsQuiet hall) (map client_of_task tasks)
-    → All (IsTaskAt hall) tasks
-quiet_tasks hall [] all = All-nil (IsTaskAt hall)
-quiet_tasks hall (t ∷ ts) all =
-    let first = All-head (IsQuiet hall) t.client (map client_of_task ts) all in
-    All-cons (IsTaskAt hall) t ts (record { hall_is = first.hall_is; quiet = first.quiet })
-    (quiet_tasks hall ts (All-tail (IsQuiet hall) t.client (map client_of_task ts) all))
+quiet_tasks : (table : TableRecord) (tasks : List Task) → All (IsQuiet table) (map client_of_task tasks)
+    → All (IsTaskAt table) tasks
+quiet_tasks table [] all = All-nil (IsTaskAt table)
+quiet_tasks table (t ∷ ts) all =
+    let first = All-head (IsQuiet table) t.client (map client_of_task ts) all in
+    All-cons (IsTaskAt table) t ts (record { table_is = first.table_is; quiet = first.quiet })
+    (quiet_tasks table ts (All-tail (IsQuiet table) t.client (map client_of_task ts) all))
 
-pub new_tasks : (hall : Hall) (tasks : List Task) → map client_of_task tasks ≡ new_clients hall
-    → All (IsTaskAt hall) tasks
-new_tasks hall tasks new = quiet_tasks hall tasks (subst (All (IsQuiet hall)) (sym new) (new_clients_quiet hall))
+pub new_tasks : (table : TableRecord) (tasks : List Task) → map client_of_task tasks ≡ new_clients table
+    → All (IsTaskAt table) tasks
+new_tasks table tasks new = quiet_tasks table tasks (subst (All (IsQuiet table)) (sym new) (new_clients_quiet table))
 
 -- where they end they still ask nothing
-quiet_sessions : (hall : Hall) (tasks : List Task) (sessions : List Session) → All (IsTaskAt hall) tasks
+quiet_sessions : (table : TableRecord) (tasks : List Task) (sessions : List Session) → All (IsTaskAt table) tasks
     → AreSessionsOf tasks sessions
-    → All (IsQuiet hall) (map client_of_session sessions)
-quiet_sessions hall [] [] all are = All-nil (IsQuiet hall)
-quiet_sessions hall [] (s ∷ ss) all are = absurd are
-quiet_sessions hall (t ∷ ts) [] all are = absurd are
-quiet_sessions hall (t ∷ ts) (s ∷ ss) all are =
-    let first = All-head (IsTaskAt hall) t ts all in
-    All-cons (IsQuiet hall) s.client (map client_of_session ss)
-    (record { hall_is = are.0.hall ∙ first.hall_is; quiet = are.0.quiet })
-    (quiet_sessions hall ts ss (All-tail (IsTaskAt hall) t ts all) are.1)
+    → All (IsQuiet table) (map client_of_session sessions)
+quiet_sessions table [] [] all are = All-nil (IsQuiet table)
+quiet_sessions table [] (s ∷ ss) all are = absurd are
+quiet_sessions table (t ∷ ts) [] all are = absurd are
+quiet_sessions table (t ∷ ts) (s ∷ ss) all are =
+    let first = All-head (IsTaskAt table) t ts all in
+    All-cons (IsQuiet table) s.client (map client_of_session ss)
+    (record { table_is = are.0.table ∙ first.table_is; quiet = are.0.quiet })
+    (quiet_sessions table ts ss (All-tail (IsTaskAt table) t ts all) are.1)
 
-still_of : (hall : Hall) (befores afters : List Token) → All (IsOf hall) befores → AreStill befores afters
-    → All (IsOf hall) afters
-still_of hall [] [] all are = All-nil (IsOf hall)
-still_of hall [] (a ∷ others) all are = absurd are
-still_of hall (b ∷ others) [] all are = absurd are
-still_of hall (b ∷ befores) (a ∷ afters) all are =
-    All-cons (IsOf hall) a afters (are.0.hall ∙ All-head (IsOf hall) b befores all)
-    (still_of hall befores afters (All-tail (IsOf hall) b befores all) are.1)
+still_of : (table : TableRecord) (befores afters : List TokenRecord) → All (IsOf table) befores → AreStill befores afters
+    → All (IsOf table) afters
+still_of table [] [] all are = All-nil (IsOf table)
+still_of table [] (a ∷ others) all are = absurd are
+still_of table (b ∷ others) [] all are = absurd are
+still_of table (b ∷ befores) (a ∷ afters) all are =
+    All-cons (IsOf table) a afters (are.0.table ∙ All-head (IsOf table) b befores all)
+    (still_of table befores afters (All-tail (IsOf table) b befores all) are.1)
 
 -- all that the server was opened with is there at the end
-pub ready : (hall : Hall) (tasks : List Task) (sessions : List Session) (befores afters : List Token)
-    → map client_of_task tasks ≡ new_clients hall
-    → AreSessionsOf tasks sessions → befores ≡ new_dispatchers hall → AreStill befores afters
-    → IsReady hall (map client_of_session sessions) afters
-ready hall tasks sessions befores afters clients are dispatchers still = record {
-  quiet = quiet_sessions hall tasks sessions (new_tasks hall tasks clients) are;
-  left = still_of hall befores afters (subst (All (IsOf hall)) (sym dispatchers) (new_dispatchers_of hall)) still;
+pub ready : (table : TableRecord) (tasks : List Task) (sessions : List Session) (befores afters : List TokenRecord)
+    → map client_of_task tasks ≡ new_clients table
+    → AreSessionsOf tasks sessions → befores ≡ new_dispatchers table → AreStill befores afters
+    → IsReady table (map client_of_session sessions) afters
+ready table tasks sessions befores afters clients are dispatchers still = record {
+  quiet = quiet_sessions table tasks sessions (new_tasks table tasks clients) are;
+  left = still_of table befores afters (subst (All (IsOf table)) (sym dispatchers) (new_dispatchers_of table)) still;
   there = record {
-    clients_are = row_numbered hall.clients (map client_of_session sessions)
+    clients_are = row_numbered table.clients (map client_of_session sessions)
         (session_numbers tasks sessions are ∙ (ap (map number_in) clients
-        ∙ new_numbers (λ number. new_token hall (Client number)) (λ n. refl) (range_with_len 1 hall.clients)));
-    dispatchers_are = row_numbered hall.dispatchers afters
+        ∙ new_numbers (λ number. new_token table (Client number)) (λ n. refl) (range_with_len 1 table.clients)));
+    dispatchers_are = row_numbered table.dispatchers afters
         (still_numbers befores afters still ∙ (ap (map number_in) dispatchers
-        ∙ new_numbers (λ number. new_token hall (Dispatcher number)) (λ n. refl) (range_with_len 1 hall.dispatchers)));
+        ∙ new_numbers (λ number. new_token table (Dispatcher number)) (λ n. refl) (range_with_len 1 table.dispatchers)));
   };
 }

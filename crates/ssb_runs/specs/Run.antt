@@ -1,7 +1,7 @@
 -- What a run of scripts leaves.
 use Rattle.std.specs.Prelude.{◌≡◌, ◌≢◌, ℕ, ◌+◌, All, List, [], length, map, flat_map, Some, slice_get}
 use Rattle.history.specs.Closing.{IsLogOf}
-use Rattle.history.specs.Tokens.{Hall, Token, new_token}
+use Rattle.history.specs.Tokens.{TableRecord, TokenRecord, new_token}
 use Rattle.history.specs.Words.{Owns}
 use Rattle.history_core.specs.OwnCommits.{IsOfClients, commits_of}
 use Rattle.history_core.specs.declared.event.Who.TheVariants.{Client}
@@ -22,9 +22,9 @@ use Rattle.ssb_runs.specs.declared.fault.RunFault.TheVariants.{Open, OutOfMemory
 -- the new client of this number was served the script whole, and was reported and told what the session says; what it
 -- sees
 -- at the end is a beginning of the log, and the commits that it made are those of its number in the log
-pub record IsServed (hall : Hall) (log : List CommitRecord) (number : ℕ) (script : Script) (session : Session) :
+pub record IsServed (table : TableRecord) (log : List CommitRecord) (number : ℕ) (script : Script) (session : Session) :
     Type 0 where
-  pub served : Serves number (new_token hall (Client number)) session.client (requests_of script) [] session.told
+  pub served : Serves number (new_token table (Client number)) session.client (requests_of script) [] session.told
       (Some []) (Some session.report)
   pub begins : IsPrefix session.client.seen log
   pub made : session.client.mine ≡ commits_of number log
@@ -33,30 +33,30 @@ pub record IsServed (hall : Hall) (log : List CommitRecord) (number : ℕ) (scri
 -- scripts, and was closed: these are their reports, and the trace has the log and what each of them was told, in order
 pub record IsRun (base : Tables) (scripts : List Script) (dispatchers : ℕ) (reports : List (List ℕ)) (trace : Trace) :
     Type 0 where
-  pub hall : Hall
-  pub base_is : hall.base ≡ base
-  pub clients_are : hall.clients ≡ length scripts
-  pub dispatchers_are : hall.dispatchers ≡ dispatchers
+  pub table : TableRecord
+  pub base_is : table.base ≡ base
+  pub clients_are : table.clients ≡ length scripts
+  pub dispatchers_are : table.dispatchers ≡ dispatchers
   pub sessions : List Session
   pub one_each : length sessions ≡ length scripts
   pub served : (i : ℕ) (script : Script) (session : Session) → slice_get scripts i ≡ Some script
       → slice_get sessions i ≡ Some session
-      → IsServed hall trace.commits (i + 1) script session
+      → IsServed table trace.commits (i + 1) script session
   pub reports_are : reports ≡ map (λ (session : Session). session.report) sessions
   pub answers_are : trace.answers ≡ flat_map (λ (session : Session). session.told) sessions
-  pub ended : List Token
-  pub true_log : IsLogOf hall (map (λ (session : Session). session.client) sessions) ended trace.commits
+  pub ended : List TokenRecord
+  pub true_log : IsLogOf table (map (λ (session : Session). session.client) sessions) ended trace.commits
   pub legal : IsLegal base trace.commits
   pub named : IsOfClients (length scripts) trace.commits
 
 -- what a closed server and the sessions of its clients leave
-pub record Leaves (hall : Hall) (sessions : List Session) (ended : List Token) (reports : List (List ℕ))
+pub record Leaves (table : TableRecord) (sessions : List Session) (ended : List TokenRecord) (reports : List (List ℕ))
     (trace : Trace) : Type 0 where
   pub reports_are : reports ≡ map (λ (session : Session). session.report) sessions
   pub answers_are : trace.answers ≡ flat_map (λ (session : Session). session.told) sessions
-  pub true_log : IsLogOf hall (map (λ (session : Session). session.client) sessions) ended trace.commits
-  pub legal : IsLegal hall.base trace.commits
-  pub named : IsOfClients hall.clients trace.commits
+  pub true_log : IsLogOf table (map (λ (session : Session). session.client) sessions) ended trace.commits
+  pub legal : IsLegal table.base trace.commits
+  pub named : IsOfClients table.clients trace.commits
   pub begin : All (λ (session : Session). IsPrefix session.client.seen trace.commits) sessions
   pub own : All (λ (session : Session). Owns session.client.who session.client.mine trace.commits) sessions
 

@@ -1,6 +1,6 @@
 -- What the threads of a run do.
 use Rattle.std.specs.Prelude.{◌≡◌, ℕ, Bool, false, All, List, [], ◌∷◌, ◌++◌, map, flat_map, Some, None, Vec, vec_items}
-use Rattle.history.specs.Tokens.{Hall, Token}
+use Rattle.history.specs.Tokens.{TableRecord, TokenRecord}
 use Rattle.history.specs.World.{number_of}
 use Rattle.ssb_audit.specs.declared.trace.Told.{Told}
 use Rattle.ssb_script.specs.declared.block.Script.{Script}
@@ -11,23 +11,23 @@ use Rattle.ssb_session.specs.Served.{Serves}
 
 -- a client, and the script that it is to be served
 pub record Task : Type 0 where
-  pub client : Token
+  pub client : TokenRecord
   pub script : Script
 
 -- what a script that was served leaves: the client, what was reported to it, and what it was told
 pub record Session : Type 0 where
-  pub client : Token
+  pub client : TokenRecord
   pub report : List ℕ
   pub told : List Told
 
 -- a client of this table that asks nothing
-pub record IsTaskAt (hall : Hall) (task : Task) : Type 0 where
-  pub hall_is : task.client.hall ≡ hall
+pub record IsTaskAt (table : TableRecord) (task : Task) : Type 0 where
+  pub table_is : task.client.table ≡ table
   pub quiet : task.client.asked ≡ None
 
 -- each task of a group is one at this table
-abbrev pub AreTasksAt : {Z : Type 0} → Hall → Vec Task Z → Type 0
-AreTasksAt hall group = All (IsTaskAt hall) (vec_items group)
+abbrev pub AreTasksAt : {Z : Type 0} → TableRecord → Vec Task Z → Type 0
+AreTasksAt table group = All (IsTaskAt table) (vec_items group)
 
 -- the tasks of all groups, in order
 abbrev pub all_tasks : {Z : Type 0} → List (Vec Task Z) → List Task
@@ -35,9 +35,9 @@ all_tasks groups = flat_map vec_items groups
 
 -- the task's client was served the first requests of its script, with nothing reported and told before, and asks
 -- nothing; these blocks are left
-pub record IsUnderWay (task : Task) (client : Token) (left : List Block) (report : List ℕ) (told : List Told) :
+pub record IsUnderWay (task : Task) (client : TokenRecord) (left : List Block) (report : List ℕ) (told : List Told) :
     Type 0 where
-  pub hall : client.hall ≡ task.client.hall
+  pub table : client.table ≡ task.client.table
   pub who : client.who ≡ task.client.who
   pub quiet : client.asked ≡ None
   pub front : List Request
@@ -45,13 +45,13 @@ pub record IsUnderWay (task : Task) (client : Token) (left : List Block) (report
   pub served : Serves (number_of task.client.who) task.client client front [] told (Some []) (Some report)
 
 -- the same, but where memory was wanting
-abbrev pub IsProgress : Bool → Task → Token → List Block → List ℕ → List Told → Type 0
+abbrev pub IsProgress : Bool → Task → TokenRecord → List Block → List ℕ → List Told → Type 0
 IsProgress lacks_memory task client left report told =
     lacks_memory ≡ false → IsUnderWay task client left report told
 
 -- the task's client was served its script whole, with nothing reported and told before, and asks nothing at the end
 pub record IsSessionOf (task : Task) (session : Session) : Type 0 where
-  pub hall : session.client.hall ≡ task.client.hall
+  pub table : session.client.table ≡ task.client.table
   pub who : session.client.who ≡ task.client.who
   pub quiet : session.client.asked ≡ None
   pub served : Serves (number_of task.client.who) task.client session.client (requests_of task.script) [] session.told
@@ -69,19 +69,19 @@ pub record AreServed {Z : Type 0} (groups : List (Vec Task Z)) (sessions : List 
   pub are : AreSessionsOf (all_tasks groups) sessions
 
 -- the same member of the same table
-pub record IsStill (before after : Token) : Type 0 where
-  pub hall : after.hall ≡ before.hall
+pub record IsStill (before after : TokenRecord) : Type 0 where
+  pub table : after.table ≡ before.table
   pub who : after.who ≡ before.who
 
 -- the same members, in order
-abbrev pub AreStill : List Token → List Token → Type 0
+abbrev pub AreStill : List TokenRecord → List TokenRecord → Type 0
 AreStill [] [] = Unit {0}
 AreStill (before ∷ befores) (after ∷ afters) = IsStill before after × AreStill befores afters
 AreStill [] (after ∷ afters) = ⊥
 AreStill (before ∷ befores) [] = ⊥
 
 -- the server can be closed with these: each client asks nothing, and each client and dispatcher is there once
-pub record IsReady (hall : Hall) (clients dispatchers : List Token) : Type 0 where
-  pub quiet : All (IsQuiet hall) clients
-  pub left : All (IsOf hall) dispatchers
-  pub there : AreAllThere hall clients dispatchers
+pub record IsReady (table : TableRecord) (clients dispatchers : List TokenRecord) : Type 0 where
+  pub quiet : All (IsQuiet table) clients
+  pub left : All (IsOf table) dispatchers
+  pub there : AreAllThere table clients dispatchers

@@ -1,7 +1,7 @@
 //! The threads of the dispatchers.
 ghost use Rattle.std.specs.Prelude.{◌≡◌, ◌+◌, ◌≤◌, [], ◌++◌, All, IfOk, OnOk, map, length, vec_len, vec_capacity};
 ghost use Rattle.std.specs.Thread.{IsSync};
-ghost use Rattle.history.specs.Tokens.{Token};
+ghost use Rattle.history.specs.Tokens.{TokenRecord};
 ghost use Rattle.ssb_runs.specs.Sessions.{IsStill, AreStill};
 ghost use Rattle.ssb_server.specs.Tickets.{IsOf};
 
@@ -15,7 +15,7 @@ use std::thread::{Promise, PromisedHandle, Scope, Threads};
 
 /// What contracts see as a token.
 pub(crate) trait HasToken {
-    ghost token: { Self → Token };
+    ghost token: { Self → TokenRecord };
 }
 
 impl<W: Wait + Drop> HasToken for Dispatcher<W> {
@@ -27,7 +27,7 @@ impl<W: Wait + Drop> HasToken for Dispatcher<W> {
 pub(crate) trait TakesTurns<W: Wait + Drop>: HasToken {
     fn take_turn<R: Wait + Threads + Sync>(&mut self, rt: &R, server: &Server<W>) -> Turn
         requires shared { IsSync R.row }
-        requires table { (Self.token self.old).hall ≡ server.now }
+        requires table { (Self.token self.old).table ≡ server.now }
         ensures { IsStill (Self.token self.old) (Self.token self.new) };
 
     fn pause<R: Wait>(&self, rt: &R, server: &Server<W>);

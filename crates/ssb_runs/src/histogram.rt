@@ -98,7 +98,7 @@ impl Histogram {
         self.greatest
     }
 
-    /// A time that so many of a hundred don't pass: the greatest of the first place up to which there are as many, and
+    /// A time that so many of a hundred don't token: the greatest of the first place up to which there are as many, and
     /// never more than the greatest time.
     pub(crate) fn within(&self, percent: u64) -> u64
         ensures { result ≤ self.now.greatest }

@@ -77,7 +77,7 @@ impl<W: Wait + Drop> Progress<W> {
         meter: &mut M,
         read: &AtomicU64,
     )
-        requires { self.old.client.hall ≡ server.now }
+        requires { self.old.client.table ≡ server.now }
         ensures { self.new ≡ self.old }
     {
         read.store(read_ahead(&self.blocks), Ordering::SeqCst);
@@ -88,7 +88,7 @@ impl<W: Wait + Drop> Progress<W> {
 
     // Serves the next block, where one is left.
     fn serve_next<R: Wait, M: Meter>(&mut self, rt: &R, server: &Server<W>, meter: &mut M)
-        requires { self.old.client.hall ≡ server.now }
+        requires { self.old.client.table ≡ server.now }
         ensures { self.new ≡ self.old }
     {
         if self.lacks_memory {
@@ -117,7 +117,7 @@ impl<W: Wait + Drop> Progress<W> {
         server: &Server<W>,
         meter: &mut M,
     ) -> Result<Session<W>, AllocError>
-        requires { self.client.hall ≡ server.now }
+        requires { self.client.table ≡ server.now }
         ensures { IfOk result (λ session. IsSessionOf self session) }
     {
         let Progress {

@@ -1,6 +1,7 @@
 -- what the values are
 pub mod Columns
 pub mod Rows
+pub mod Keys
 pub mod Facts
 pub mod FirstFault
 pub mod Orders

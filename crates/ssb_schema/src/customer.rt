@@ -1,7 +1,7 @@
 //! Customer rows.
 
 ghost use Rattle.ssb_schema.specs.declared.table.Table.TheVariants as table;
-ghost use Rattle.ssb_base.specs.Base.{customer_key};
+ghost use Rattle.ssb_schema.specs.Keys.{customer_key};
 ghost use Rattle.ssb_schema.specs.Rows.{customer_values};
 
 use crate::fault::SchemaFault;

@@ -2,7 +2,7 @@
 
 ghost use Rattle.std.specs.Prelude.{◌≡◌};
 ghost use Rattle.ssb_schema.specs.declared.table.Table.TheVariants as table;
-ghost use Rattle.ssb_base.specs.Base.{date_key};
+ghost use Rattle.ssb_schema.specs.Keys.{date_key};
 ghost use Rattle.ssb_schema.specs.Rows.{date_values};
 
 use crate::fault::SchemaFault;

@@ -1,7 +1,7 @@
 //! Part rows.
 
 ghost use Rattle.ssb_schema.specs.declared.table.Table.TheVariants as table;
-ghost use Rattle.ssb_base.specs.Base.{part_key};
+ghost use Rattle.ssb_schema.specs.Keys.{part_key};
 ghost use Rattle.ssb_schema.specs.Rows.{part_values};
 
 use crate::fault::SchemaFault;

@@ -1,7 +1,7 @@
 //! Supplier rows.
 
 ghost use Rattle.ssb_schema.specs.declared.table.Table.TheVariants as table;
-ghost use Rattle.ssb_base.specs.Base.{supplier_key};
+ghost use Rattle.ssb_schema.specs.Keys.{supplier_key};
 ghost use Rattle.ssb_schema.specs.Rows.{supplier_values};
 
 use crate::fault::SchemaFault;

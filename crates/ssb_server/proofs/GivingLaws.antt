@@ -35,7 +35,7 @@ use Rattle.history_core.specs.World.{rows_after}
 use Rattle.history.specs.declared.request.Grabbed.{Grabbed}
 use Rattle.history.specs.declared.request.Given.{Given}
 use Rattle.history.specs.declared.request.Outcome.{Outcome}
-use Rattle.history.specs.Tokens.{Token, MayAnswer, Answers, request_of, without}
+use Rattle.history.specs.Tokens.{TokenRecord, MayAnswer, Answers, request_of, without}
 use Rattle.history.specs.Words.{IsCause, IsFresh, given_to, outcome_of}
 use Rattle.ssb_server.specs.Hand.{Hand, no_hand, clients_of, questions_of, Keeps}
 use Rattle.ssb_server.specs.Turns.{answers_after, HasInHand, Answered, GaveOne, Gave}
@@ -53,9 +53,9 @@ without_first grabbed client newest others is e = ap (without client) is
     ∙ ap (λ b. cond b others (newest ∷ without client others)) (eq-eqb newest.client client e)
 
 -- the rows at the length of what was seen serve the newest request
-pub may_serve : (t : Token) (client at : ℕ) (question : Query × List Value) (rows : List ResultRow)
+pub may_serve : (t : TokenRecord) (client at : ℕ) (question : Query × List Value) (rows : List ResultRow)
     → HasInHand t.grabbed client question → at ≡ length t.seen → t.version ≡ Some at
-    → rows ≡ rows_after t.hall.base question t.seen
+    → rows ≡ rows_after t.table.base question t.seen
     → MayAnswer t client (answer.Rows question at rows)
 may_serve t client at question rows has e version is = record {
   asked = has.newest.request;
@@ -63,12 +63,12 @@ may_serve t client at question rows has e version is = record {
   serves = (
     sym has.question_is,
     version,
-    is ∙ ap (λ xs. rows_after t.hall.base question xs)
+    is ∙ ap (λ xs. rows_after t.table.base question xs)
         (sym (ap (λ n. take n t.seen) e ∙ take_all (length t.seen) t.seen (omega arith))),
   );
 }
 
-pub may_give_up : (t : Token) (client : ℕ) (question : Query × List Value) (cause : Unserved)
+pub may_give_up : (t : TokenRecord) (client : ℕ) (question : Query × List Value) (cause : Unserved)
     → HasInHand t.grabbed client question → IsCause cause → MayAnswer t client (answer.Unserved question cause)
 may_give_up t client question cause has is = record {
   asked = has.newest.request;
@@ -77,7 +77,7 @@ may_give_up t client question cause has is = record {
 }
 
 -- an answer to the newest request
-pub gave_one : (t : Token) (client : ℕ) (question : Query × List Value) (reply : Answer) (after : Token)
+pub gave_one : (t : TokenRecord) (client : ℕ) (question : Query × List Value) (reply : Answer) (after : TokenRecord)
     → HasInHand t.grabbed client question → Answers t client reply after → GaveOne t (outcome_of reply) after
 gave_one t client question reply after has answers = record {
   newest = has.newest;
@@ -126,7 +126,7 @@ pub none_grabbed : (grabbed : List Grabbed) → Keeps no_hand grabbed → grabbe
 none_grabbed [] keeps = refl
 none_grabbed (newest ∷ others) keeps = absurd (not_empty (clients_of others) newest.client (sym keeps.clients))
 
-pub gave_none : (t : Token) (outcome : Outcome) → Gave t 0 outcome t
+pub gave_none : (t : TokenRecord) (outcome : Outcome) → Gave t 0 outcome t
 gave_none t outcome = record {
   more = [];
   count_is = refl;
@@ -135,7 +135,7 @@ gave_none t outcome = record {
   now = ap (λ gs. record t { given = gs }) (sym (append-nil t.given));
 }
 
-pub gave_more : (before t after : Token) (count : ℕ) (outcome : Outcome) → Gave before count outcome t
+pub gave_more : (before t after : TokenRecord) (count : ℕ) (outcome : Outcome) → Gave before count outcome t
     → GaveOne t outcome after → Gave before (count + 1) outcome after
 gave_more before t after count outcome gave one =
     let n : length gave.more ≡ count = gave.count_is in
@@ -149,18 +149,18 @@ gave_more before t after count outcome gave one =
         given = before.given ++ (gave.more ++ one.given ∷ []);
         did = u.did;
       }) (sym one.now)
-          (ap (λ (u : Token). record u { grabbed = one.others; given = u.given ++ one.given ∷ []; did = after.did })
+          (ap (λ (u : TokenRecord). record u { grabbed = one.others; given = u.given ++ one.given ∷ []; did = after.did })
           gave.now ∙ ap (λ gs. record before { grabbed = one.others; given = gs; did = after.did })
           (append_assoc before.given gave.more (one.given ∷ [])));
     }
 
-pub left_keeps : (t : Token) (outcome : Outcome) (after : Token) (hand : Hand) (client : ℕ)
+pub left_keeps : (t : TokenRecord) (outcome : Outcome) (after : TokenRecord) (hand : Hand) (client : ℕ)
     (question : Query × List Value) → GaveOne t outcome after → Popped hand t.grabbed client question
     → Keeps hand after.grabbed
 left_keeps t outcome after hand client question one last =
     let both : one.newest ∷ one.others ≡ last.has.newest ∷ last.has.others = sym one.grabbed_is ∙ last.has.grabbed_is in
     let same : one.others ≡ last.has.others = cc in
-    subst (λ gs. Keeps hand gs) (sym (ap (λ (u : Token). u.grabbed) one.now ∙ same)) last.keeps
+    subst (λ gs. Keeps hand gs) (sym (ap (λ (u : TokenRecord). u.grabbed) one.now ∙ same)) last.keeps
 
 -- the last of the rows answers the last of the questions
 pub record RowsPopped (base : Tables) (seen : List CommitRecord) (questions : List (Query × List Value))

@@ -9,7 +9,7 @@ use Rattle.ssb_answers.specs.declared.answer.Answer.{Answer}
 use Rattle.ssb_answers.specs.declared.answer.Answer.TheVariants.{Rows, Unserved}
 use Rattle.history.specs.declared.request.Request.{Request}
 use Rattle.history_core.specs.World.{rows_after}
-use Rattle.history.specs.Tokens.{Token, Collected, Saw}
+use Rattle.history.specs.Tokens.{TokenRecord, Collected, Saw}
 use Rattle.history.specs.Words.{IsRight}
 use Rattle.ssb_server.specs.Clients.{Polls}
 use Rattle.ssb_server.proofs.DeedLaws.{done}
@@ -25,17 +25,17 @@ right_later base history later asked (Rows query at rows) p (q, floor, within, i
     (q, floor, omega arith, is ∙ ap (λ xs. rows_after base query xs) (sym (take_prefix at history later p within)))
 right_later base history later asked (Unserved query cause) p is = is
 
-pub polled : (before between after : Token) (reply : Answer) → Collected before reply between → Saw between after
+pub polled : (before between after : TokenRecord) (reply : Answer) → Collected before reply between → Saw between after
     → Polls before reply after
 polled before between after reply col saw =
-    let all = subst (λ (t : Token). All (λ list. IsPrefix list after.seen) t.beside) col.now saw.beside in
+    let all = subst (λ (t : TokenRecord). All (λ list. IsPrefix list after.seen) t.beside) col.now saw.beside in
     let p : IsPrefix col.history after.seen = All-head (λ list. IsPrefix list after.seen) col.history before.beside all
     in
     record {
       asked = col.asked;
       was = col.was;
-      right = right_later before.hall.base col.history after.seen col.asked reply p col.right;
-      begins = subst (λ (t : Token). IsPrefix t.seen after.seen) col.now saw.begins;
+      right = right_later before.table.base col.history after.seen col.asked reply p col.right;
+      begins = subst (λ (t : TokenRecord). IsPrefix t.seen after.seen) col.now saw.begins;
       now = done (λ d. record between { seen = after.seen; beside = []; did = d }) (λ d. refl) saw.now
-          ∙ ap (λ (t : Token). record t { seen = after.seen; beside = []; did = after.did }) col.now;
+          ∙ ap (λ (t : TokenRecord). record t { seen = after.seen; beside = []; did = after.did }) col.now;
     }

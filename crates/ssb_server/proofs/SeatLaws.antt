@@ -8,7 +8,7 @@ use Rattle.row_store.specs.History.{CommitRecord}
 use Rattle.history_core.specs.declared.event.Who.{Who}
 use Rattle.history_core.specs.declared.event.Who.TheVariants.{Client, Dispatcher}
 use Rattle.history.specs.Words.{Owns}
-use Rattle.history.specs.Tokens.{Hall, Token, IsSound, IsFree, new_token, new_clients, new_dispatchers}
+use Rattle.history.specs.Tokens.{TableRecord, TokenRecord, IsSound, IsFree, new_token, new_clients, new_dispatchers}
 use Rattle.history.specs.Closing.{IsClientOf, IsDispatcherOf, AreNumbered, AreClients, AreDispatchers}
 use Rattle.ssb_server.specs.Tickets.{IsNewClient, IsResting, IsLeft, IsQuiet, IsOf}
 use Rattle.ssb_server.specs.Opening.{IsNewDispatcher}
@@ -16,55 +16,55 @@ use Rattle.ssb_server.specs.Opening.{IsNewDispatcher}
 none_there : (i : ℕ) (commit : CommitRecord) → slice_get [] i ≡ Some commit → ⊥
 none_there i commit here = let low : i < 0 = slice_get_within [] i commit here in omega (arith, low)
 
-new_sound : (hall : Hall) (who : Who) → Owns who [] [] → IsSound (new_token hall who)
-new_sound hall who owns = record {
+new_sound : (table : TableRecord) (who : Who) → Owns who [] [] → IsSound (new_token table who)
+new_sound table who owns = record {
   legal = record { accepted = λ i commit here. absurd (none_there i commit here) };
   named = record { named = λ place commit here. absurd (none_there place commit here) };
   owns = owns;
 }
 
-new_free : (hall : Hall) (who : Who) → IsFree (new_token hall who)
-new_free hall who = record { rows = refl; writer = refl; hand = refl }
+new_free : (table : TableRecord) (who : Who) → IsFree (new_token table who)
+new_free table who = record { rows = refl; writer = refl; hand = refl }
 
-pub clients_are_new : (hall : Hall) → All IsNewClient (new_clients hall)
-clients_are_new hall = All-map IsNewClient (λ number. new_token hall (Client number)) (range_with_len 1 hall.clients)
+pub clients_are_new : (table : TableRecord) → All IsNewClient (new_clients table)
+clients_are_new table = All-map IsNewClient (λ number. new_token table (Client number)) (range_with_len 1 table.clients)
     (λ k d low. record {
       number = _;
       who_is = refl;
-      free = new_free hall _;
+      free = new_free table _;
       quiet = refl;
-      sound = new_sound hall _ refl;
+      sound = new_sound table _ refl;
     })
 
-pub dispatchers_are_new : (hall : Hall) → All (IsNewDispatcher hall.base) (new_dispatchers hall)
-dispatchers_are_new hall = All-map (IsNewDispatcher hall.base) (λ number. new_token hall (Dispatcher number))
-    (range_with_len 1 hall.dispatchers) (λ k d low. record {
+pub dispatchers_are_new : (table : TableRecord) → All (IsNewDispatcher table.base) (new_dispatchers table)
+dispatchers_are_new table = All-map (IsNewDispatcher table.base) (λ number. new_token table (Dispatcher number))
+    (range_with_len 1 table.dispatchers) (λ k d low. record {
       base_is = refl;
       number = _;
       who_is = refl;
-      free = new_free hall _;
-      sound = new_sound hall _ refl;
+      free = new_free table _;
+      sound = new_sound table _ refl;
     })
 
-pub clients_left : (hall : Hall) (tokens : List Token) → All IsResting tokens → All (IsQuiet hall) tokens
-    → All (IsClientOf hall) tokens
-clients_left hall tokens rest quiet k d low =
+pub clients_left : (table : TableRecord) (tokens : List TokenRecord) → All IsResting tokens → All (IsQuiet table) tokens
+    → All (IsClientOf table) tokens
+clients_left table tokens rest quiet k d low =
     let r = rest k d low in
     let q = quiet k d low in
-    record { hall_is = q.hall_is; client = (r.number, r.who_is); rows = r.rows; quiet = q.quiet }
+    record { table_is = q.table_is; client = (r.number, r.who_is); rows = r.rows; quiet = q.quiet }
 
-pub dispatchers_left : (hall : Hall) (tokens : List Token) → All IsLeft tokens → All (IsOf hall) tokens
-    → All (IsDispatcherOf hall) tokens
-dispatchers_left hall tokens left here k d low =
+pub dispatchers_left : (table : TableRecord) (tokens : List TokenRecord) → All IsLeft tokens → All (IsOf table) tokens
+    → All (IsDispatcherOf table) tokens
+dispatchers_left table tokens left here k d low =
     let r = left k d low in
-    record { hall_is = here k d low; dispatcher = (r.number, r.who_is); free = r.free }
+    record { table_is = here k d low; dispatcher = (r.number, r.who_is); free = r.free }
 
-pub all_clients : (hall : Hall) (tokens room : List Token) → room ≡ tokens → AreNumbered hall.clients tokens
-    → All IsResting tokens → All (IsQuiet hall) tokens → AreClients hall room
-all_clients hall tokens room is numbered rest quiet = subst (AreClients hall) (sym is)
-    record { numbered = numbered; left = clients_left hall tokens rest quiet }
+pub all_clients : (table : TableRecord) (tokens room : List TokenRecord) → room ≡ tokens → AreNumbered table.clients tokens
+    → All IsResting tokens → All (IsQuiet table) tokens → AreClients table room
+all_clients table tokens room is numbered rest quiet = subst (AreClients table) (sym is)
+    record { numbered = numbered; left = clients_left table tokens rest quiet }
 
-pub all_dispatchers : (hall : Hall) (tokens room : List Token) → room ≡ tokens → AreNumbered hall.dispatchers tokens
-    → All IsLeft tokens → All (IsOf hall) tokens → AreDispatchers hall room
-all_dispatchers hall tokens room is numbered left here =
-    subst (AreDispatchers hall) (sym is) record { numbered = numbered; left = dispatchers_left hall tokens left here }
+pub all_dispatchers : (table : TableRecord) (tokens room : List TokenRecord) → room ≡ tokens → AreNumbered table.dispatchers tokens
+    → All IsLeft tokens → All (IsOf table) tokens → AreDispatchers table room
+all_dispatchers table tokens room is numbered left here =
+    subst (AreDispatchers table) (sym is) record { numbered = numbered; left = dispatchers_left table tokens left here }

@@ -35,7 +35,7 @@ use Rattle.row_store.proofs.PrefixLaws.{
 }
 use Rattle.row_store.specs.State.{State, StandsFor}
 use Rattle.ssb_base.specs.Base.{Tables}
-use Rattle.history.specs.Tokens.{Hall, Token, Took, IsSound, with_writer, without_writer}
+use Rattle.history.specs.Tokens.{TableRecord, TokenRecord, Took, IsSound, with_writer, without_writer}
 use Rattle.twin_cell.specs.Twin.{Writing, Known, Entered}
 use Rattle.ssb_server.proofs.DeedLaws.{done}
 use Rattle.ssb_server.specs.Turns.{
@@ -56,13 +56,13 @@ pub prefix_yielded : (list yielded : List CommitRecord) → map (λ y. y) yielde
 prefix_yielded list yielded e = subst (λ xs. IsPrefix xs list) (sym (sym (map-id yielded) ∙ e))
     (prefix_take (length yielded) list)
 
-pub beside_seen : (t : Token) (count : ℕ) (seen : List CommitRecord) (has : HasBeside t count)
+pub beside_seen : (t : TokenRecord) (count : ℕ) (seen : List CommitRecord) (has : HasBeside t count)
     → All (λ list. IsPrefix list seen) t.beside → IsPrefix has.list seen
 beside_seen t count seen has all = All-head (λ list. IsPrefix list seen) has.list has.more
     (subst (λ lists. All (λ list. IsPrefix list seen) lists) has.beside_is all)
 
 -- the writer has not taken more commits than the token sees
-pub within_seen : (before : Token) (count : ℕ) (after : Token) → HasBeside before count → Took before after
+pub within_seen : (before : TokenRecord) (count : ℕ) (after : TokenRecord) → HasBeside before count → Took before after
     → count ≤ length after.seen
 within_seen before count after has took =
     let e : count ≡ length has.list = has.count_is in
@@ -171,7 +171,7 @@ renewed_is before commits (Ok _) after is ok = is
 renewed_is before commits (Err _) after is ok = absurd (cc)
 
 -- a writer's list and the commits that were fetched after it are all that the token sees
-pub fetched_all : (t : Token) (writer : Writing) (taken : ℕ) (after : Token) (commits : List CommitRecord)
+pub fetched_all : (t : TokenRecord) (writer : Writing) (taken : ℕ) (after : TokenRecord) (commits : List CommitRecord)
     → HasTaken t writer → taken ≡ length (writer.published ++ writer.pending) → Fetches t after
     → commits ≡ drop taken after.seen
     → writer.published ++ writer.pending ++ commits ≡ after.seen
@@ -181,10 +181,10 @@ fetched_all t writer taken after commits has count fetches is =
     (record { list = list; more = has.more; beside_is = has.beside_is; count_is = count }) fetches.beside in
     ap (λ xs. list ++ xs) (is ∙ ap (λ n. drop n after.seen) count) ∙ prefix_drop list after.seen p
 
-pub taken_follows : (t : Token) (writer : Writing) (after : Token) → HasTaken t writer → Fetches t after
-    → Follows after.hall.base after.seen writer
+pub taken_follows : (t : TokenRecord) (writer : Writing) (after : TokenRecord) → HasTaken t writer → Fetches t after
+    → Follows after.table.base after.seen writer
 taken_follows t writer after has fetches = record {
-  base_is = has.base_is ∙ sym (ap (λ (u : Token). u.hall.base) fetches.now);
+  base_is = has.base_is ∙ sym (ap (λ (u : TokenRecord). u.table.base) fetches.now);
   taken = beside_seen t (length (writer.published ++ writer.pending)) after.seen
       (record {
         list = writer.published ++ writer.pending;
@@ -194,42 +194,42 @@ taken_follows t writer after has fetches = record {
       }) fetches.beside;
 }
 
-pub knows_later : (t : Token) (reader : Known) (after : Token) → Fetches t after → Knows t.hall.base t.seen reader
-    → Knows after.hall.base after.seen reader
+pub knows_later : (t : TokenRecord) (reader : Known) (after : TokenRecord) → Fetches t after → Knows t.table.base t.seen reader
+    → Knows after.table.base after.seen reader
 knows_later t reader after fetches knows = record {
-  base_is = knows.base_is ∙ sym (ap (λ (u : Token). u.hall.base) fetches.now);
+  base_is = knows.base_is ∙ sym (ap (λ (u : TokenRecord). u.table.base) fetches.now);
   told = beginnings_chain reader.told t.seen after.seen knows.told fetches.begins;
 }
 
 -- the writer's base is that of the token, before and after
-pub same_base : (t : Token) (writer : Writing) (after : Token) → HasTaken t writer → Fetches t after
-    → after.hall.base ≡ writer.base
-same_base t writer after has fetches = ap (λ (u : Token). u.hall.base) fetches.now ∙ sym has.base_is
+pub same_base : (t : TokenRecord) (writer : Writing) (after : TokenRecord) → HasTaken t writer → Fetches t after
+    → after.table.base ≡ writer.base
+same_base t writer after has fetches = ap (λ (u : TokenRecord). u.table.base) fetches.now ∙ sym has.base_is
 
 -- what is said of a base and a list holds of equal ones
 pub along : (P : Tables → List CommitRecord → Type 0) {base other : Tables} {list more : List CommitRecord}
     → base ≡ other → list ≡ more → P base list → P other more
 along P {base} {other} {list} {more} e f h = subst (λ xs. P other xs) f (subst (λ b. P b list) e h)
 
-pub dispatcher_with : (hall : Hall) (t : Token) (list : List CommitRecord) (u : Token) → u ≡ with_writer t list
-    → IsDispatcher hall t → IsDispatcher hall u
-dispatcher_with hall t list u e is = subst (λ x. IsDispatcher hall x) (sym e)
-    record { hall_is = is.hall_is; number = is.number; who_is = is.who_is }
+pub dispatcher_with : (table : TableRecord) (t : TokenRecord) (list : List CommitRecord) (u : TokenRecord) → u ≡ with_writer t list
+    → IsDispatcher table t → IsDispatcher table u
+dispatcher_with table t list u e is = subst (λ x. IsDispatcher table x) (sym e)
+    record { table_is = is.table_is; number = is.number; who_is = is.who_is }
 
-pub dispatcher_fetched : (hall : Hall) (t u : Token) → Fetches t u → IsDispatcher hall t → IsDispatcher hall u
-dispatcher_fetched hall t u fetches is = subst (λ x. IsDispatcher hall x) (sym fetches.now)
-    record { hall_is = is.hall_is; number = is.number; who_is = is.who_is }
+pub dispatcher_fetched : (table : TableRecord) (t u : TokenRecord) → Fetches t u → IsDispatcher table t → IsDispatcher table u
+dispatcher_fetched table t u fetches is = subst (λ x. IsDispatcher table x) (sym fetches.now)
+    record { table_is = is.table_is; number = is.number; who_is = is.who_is }
 
-pub taken_with : (t : Token) (writer : Writing) (u : Token) → u ≡ with_writer t (writer.published ++ writer.pending)
-    → writer.base ≡ t.hall.base → HasTaken u writer
+pub taken_with : (t : TokenRecord) (writer : Writing) (u : TokenRecord) → u ≡ with_writer t (writer.published ++ writer.pending)
+    → writer.base ≡ t.table.base → HasTaken u writer
 taken_with t writer u e base = subst (λ x. HasTaken x writer) (sym e)
     record { more = t.beside; beside_is = refl; base_is = base }
 
-pub knows_with : (t : Token) (list : List CommitRecord) (u : Token) (reader : Known) → u ≡ with_writer t list
-    → Knows t.hall.base t.seen reader → Knows u.hall.base u.seen reader
-knows_with t list u reader e knows = subst (λ (x : Token). Knows x.hall.base x.seen reader) (sym e) knows
+pub knows_with : (t : TokenRecord) (list : List CommitRecord) (u : TokenRecord) (reader : Known) → u ≡ with_writer t list
+    → Knows t.table.base t.seen reader → Knows u.table.base u.seen reader
+knows_with t list u reader e knows = subst (λ (x : TokenRecord). Knows x.table.base x.seen reader) (sym e) knows
 
-pub snapshot_fetched : (before : Token) (list : List CommitRecord) (taken fetched after : Token)
+pub snapshot_fetched : (before : TokenRecord) (list : List CommitRecord) (taken fetched after : TokenRecord)
     → before.has_writer ≡ false → taken ≡ with_writer before list → Fetches taken fetched
     → after ≡ without_writer fetched → HasFetched before after
 snapshot_fetched before list taken fetched after free first fetches put =
@@ -241,7 +241,7 @@ snapshot_fetched before list taken fetched after free first fetches put =
       version = None;
       did = fetched.did;
     } =
-    fetches.now ∙ ap (λ (u : Token). record u {
+    fetches.now ∙ ap (λ (u : TokenRecord). record u {
       seen = fetched.seen;
       beside = [];
       mark = Some (length fetched.seen);
@@ -257,7 +257,7 @@ snapshot_fetched before list taken fetched after free first fetches put =
       version = Some (length fetched.seen);
       did = after.did;
     } =
-    e1 ∙ ap (λ (u : Token). record u { has_writer = false; version = u.mark; did = after.did }) e2 in
+    e1 ∙ ap (λ (u : TokenRecord). record u { has_writer = false; version = u.mark; did = after.did }) e2 in
     let e4 : after ≡ record before {
       seen = fetched.seen;
       beside = [];
@@ -273,9 +273,9 @@ snapshot_fetched before list taken fetched after free first fetches put =
       version = Some (length fetched.seen);
       did = after.did;
     }) (sym free) in
-    let s : after.seen ≡ fetched.seen = ap (λ (u : Token). u.seen) put in
+    let s : after.seen ≡ fetched.seen = ap (λ (u : TokenRecord). u.seen) put in
     record {
-      begins = subst (λ xs. IsPrefix xs after.seen) (ap (λ (u : Token). u.seen) first)
+      begins = subst (λ xs. IsPrefix xs after.seen) (ap (λ (u : TokenRecord). u.seen) first)
           (subst (λ xs. IsPrefix taken.seen xs) (sym s) fetches.begins);
       now = subst (λ xs. after ≡ record before {
         seen = xs;
@@ -286,5 +286,5 @@ snapshot_fetched before list taken fetched after free first fetches put =
       }) (sym s) e4;
     }
 
-pub sound_without : (t u : Token) → u ≡ without_writer t → IsSound t → IsSound u
+pub sound_without : (t u : TokenRecord) → u ≡ without_writer t → IsSound t → IsSound u
 sound_without t u e sound = subst IsSound (sym e) record { legal = sound.legal; named = sound.named; owns = sound.owns }

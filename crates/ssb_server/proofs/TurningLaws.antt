@@ -7,7 +7,7 @@ use Rattle.twin_cell.specs.Twin.{Known, Entered}
 use Rattle.fact_columns.specs.Stored.{Stored, columns_state}
 use Rattle.history.specs.declared.request.Outcome.{Outcome}
 use Rattle.history.specs.declared.request.Outcome.TheVariants.{Served, GivenUp}
-use Rattle.history.specs.Tokens.{Hall, Token, IsSound, IsFree}
+use Rattle.history.specs.Tokens.{TableRecord, TokenRecord, IsSound, IsFree}
 use Rattle.ssb_server.specs.Hand.{Hand, no_hand, Keeps}
 use Rattle.ssb_server.specs.Turns.{IsDispatcher, HoldsNothing, HasGrabbed, HasFetched, Knows, StandsAt, IsCopy, Gave}
 use Rattle.ssb_server.specs.declared.turn.Turn.{Turn}
@@ -15,7 +15,7 @@ use Rattle.ssb_server.specs.declared.turn.Turn.TheVariants.{Idle, Answered, Unse
 use Rattle.ssb_server.specs.Ends.{Finishes, Ends, Grows, Turned}
 use Rattle.ssb_server.proofs.GivingLaws.{none_grabbed}
 
-pub grows : (t0 t1 t2 t3 : Token) (hand : Hand) (count : ℕ) (outcome : Outcome) → t0.grabbed ≡ []
+pub grows : (t0 t1 t2 t3 : TokenRecord) (hand : Hand) (count : ℕ) (outcome : Outcome) → t0.grabbed ≡ []
     → HasGrabbed t0 hand t1 → HasFetched t1 t2 → Gave t2 count outcome t3 → 1 ≤ count → Keeps no_hand t3.grabbed
     → Grows t0 count outcome t3
 grows t0 t1 t2 t3 hand count outcome none grabbed fetched gave some keeps =
@@ -29,7 +29,7 @@ grows t0 t1 t2 t3 hand count outcome none grabbed fetched gave some keeps =
       grabbed = t1.grabbed;
       did = t2.did;
     } =
-    fetched.now ∙ ap (λ (u : Token). record u {
+    fetched.now ∙ ap (λ (u : TokenRecord). record u {
       seen = t2.seen;
       beside = [];
       mark = Some (length t2.seen);
@@ -45,9 +45,9 @@ grows t0 t1 t2 t3 hand count outcome none grabbed fetched gave some keeps =
       given = t0.given ++ gave.more;
       did = t3.did;
     } =
-    gave.now ∙ ap (λ (u : Token). record u { grabbed = t3.grabbed; given = u.given ++ gave.more; did = t3.did }) e2 in
+    gave.now ∙ ap (λ (u : TokenRecord). record u { grabbed = t3.grabbed; given = u.given ++ gave.more; did = t3.did }) e2 in
     let home : t3.grabbed ≡ t0.grabbed = none_grabbed t3.grabbed keeps ∙ sym none in
-    let s : t3.seen ≡ t2.seen = ap (λ (u : Token). u.seen) gave.now in
+    let s : t3.seen ≡ t2.seen = ap (λ (u : TokenRecord). u.seen) gave.now in
     let e4 : t3 ≡ record t0 {
       seen = t2.seen;
       beside = [];
@@ -67,7 +67,7 @@ grows t0 t1 t2 t3 hand count outcome none grabbed fetched gave some keeps =
     }) home in
     record {
       begins = subst (λ xs. IsPrefix t0.seen xs) (sym s)
-          (subst (λ xs. IsPrefix xs t2.seen) (ap (λ (u : Token). u.seen) e1) fetched.begins);
+          (subst (λ xs. IsPrefix xs t2.seen) (ap (λ (u : TokenRecord). u.seen) e1) fetched.begins);
       more = gave.more;
       count_is = gave.count_is;
       some = some;
@@ -83,11 +83,11 @@ grows t0 t1 t2 t3 hand count outcome none grabbed fetched gave some keeps =
       }) (sym s) e4;
     }
 
-pub turned : (t0 t1 t3 : Token) (hand : Hand) (turn : Turn) → t0.grabbed ≡ [] → HasGrabbed t0 hand t1 → Ends t1 turn t3
+pub turned : (t0 t1 t3 : TokenRecord) (hand : Hand) (turn : Turn) → t0.grabbed ≡ [] → HasGrabbed t0 hand t1 → Ends t1 turn t3
     → Keeps no_hand t3.grabbed → Turned t0 turn t3
 turned t0 t1 t3 hand Idle none grabbed ends keeps = absurd ends.finished
 turned t0 t1 t3 hand (Answered at count) none grabbed ends keeps = (
-  ends.finished.0 ∙ ap (λ (u : Token). length u.seen) (sym ends.finished.2.now),
+  ends.finished.0 ∙ ap (λ (u : TokenRecord). length u.seen) (sym ends.finished.2.now),
   grows t0 t1 ends.between t3 hand count (Served at) none grabbed ends.fetched ends.finished.2 ends.finished.1
       keeps,
 )
@@ -96,63 +96,63 @@ turned t0 t1 t3 hand (Unserved count cause) none grabbed ends keeps =
     keeps
 
 -- after the parts are home the token is still the dispatcher's, and holds nothing
-pub dispatcher_later : (hall : Hall) (t u : Token) → HasFetched t u → IsDispatcher hall t → IsDispatcher hall u
-dispatcher_later hall t u fetched is = subst (λ x. IsDispatcher hall x) (sym fetched.now)
-    record { hall_is = is.hall_is; number = is.number; who_is = is.who_is }
+pub dispatcher_later : (table : TableRecord) (t u : TokenRecord) → HasFetched t u → IsDispatcher table t → IsDispatcher table u
+dispatcher_later table t u fetched is = subst (λ x. IsDispatcher table x) (sym fetched.now)
+    record { table_is = is.table_is; number = is.number; who_is = is.who_is }
 
-pub nothing_later : (t u : Token) → HasFetched t u → HoldsNothing t → HoldsNothing u
+pub nothing_later : (t u : TokenRecord) → HasFetched t u → HoldsNothing t → HoldsNothing u
 nothing_later t u fetched is = subst HoldsNothing (sym fetched.now) record { rows = is.rows; writer = is.writer }
 
-pub keeps_later : (t u : Token) (hand : Hand) → HasFetched t u → Keeps hand t.grabbed → Keeps hand u.grabbed
-keeps_later t u hand fetched is = subst (λ (x : Token). Keeps hand x.grabbed) (sym fetched.now) is
+pub keeps_later : (t u : TokenRecord) (hand : Hand) → HasFetched t u → Keeps hand t.grabbed → Keeps hand u.grabbed
+keeps_later t u hand fetched is = subst (λ (x : TokenRecord). Keeps hand x.grabbed) (sym fetched.now) is
 
-pub version_later : (t u : Token) → HasFetched t u → u.version ≡ Some (length u.seen)
-version_later t u fetched = ap (λ (x : Token). x.version) fetched.now
+pub version_later : (t u : TokenRecord) → HasFetched t u → u.version ≡ Some (length u.seen)
+version_later t u fetched = ap (λ (x : TokenRecord). x.version) fetched.now
 
-pub sound_later : (t u : Token) (count : ℕ) (outcome : Outcome) → Gave t count outcome u → IsSound t → IsSound u
+pub sound_later : (t u : TokenRecord) (count : ℕ) (outcome : Outcome) → Gave t count outcome u → IsSound t → IsSound u
 sound_later t u count outcome gave is = subst IsSound (sym gave.now)
     record { legal = is.legal; named = is.named; owns = is.owns }
 
-pub sound_finished : (t u : Token) (turn : Turn) → Finishes t turn u → IsSound t → IsSound u
+pub sound_finished : (t u : TokenRecord) (turn : Turn) → Finishes t turn u → IsSound t → IsSound u
 sound_finished t u Idle ends is = absurd ends
 sound_finished t u (Answered at count) ends is = sound_later t u count (Served at) ends.2 is
 sound_finished t u (Unserved count cause) ends is = sound_later t u count (GivenUp cause) ends.1 is
 
--- the hall and what was seen stay
-pub seen_finished : (P : Hall → List CommitRecord → Type 0) (t u : Token) (turn : Turn) → Finishes t turn u
-    → P t.hall t.seen → P u.hall u.seen
+-- the table and what was seen stay
+pub seen_finished : (P : TableRecord → List CommitRecord → Type 0) (t u : TokenRecord) (turn : Turn) → Finishes t turn u
+    → P t.table t.seen → P u.table u.seen
 seen_finished P t u Idle ends is = absurd ends
-seen_finished P t u (Answered at count) ends is = subst (λ (x : Token). P x.hall x.seen) (sym ends.2.now) is
-seen_finished P t u (Unserved count cause) ends is = subst (λ (x : Token). P x.hall x.seen) (sym ends.1.now) is
+seen_finished P t u (Answered at count) ends is = subst (λ (x : TokenRecord). P x.table x.seen) (sym ends.2.now) is
+seen_finished P t u (Unserved count cause) ends is = subst (λ (x : TokenRecord). P x.table x.seen) (sym ends.1.now) is
 
-pub dispatcher_grabbed : (hall : Hall) (t u : Token) (hand : Hand) → HasGrabbed t hand u → IsDispatcher hall t
-    → IsDispatcher hall u
-dispatcher_grabbed hall t u hand grabbed is = subst (λ x. IsDispatcher hall x) (sym grabbed.now)
-    record { hall_is = is.hall_is; number = is.number; who_is = is.who_is }
+pub dispatcher_grabbed : (table : TableRecord) (t u : TokenRecord) (hand : Hand) → HasGrabbed t hand u → IsDispatcher table t
+    → IsDispatcher table u
+dispatcher_grabbed table t u hand grabbed is = subst (λ x. IsDispatcher table x) (sym grabbed.now)
+    record { table_is = is.table_is; number = is.number; who_is = is.who_is }
 
-pub nothing_grabbed : (t u : Token) (hand : Hand) → HasGrabbed t hand u → HoldsNothing t → HoldsNothing u
+pub nothing_grabbed : (t u : TokenRecord) (hand : Hand) → HasGrabbed t hand u → HoldsNothing t → HoldsNothing u
 nothing_grabbed t u hand grabbed is = subst HoldsNothing (sym grabbed.now) record { rows = is.rows; writer = is.writer }
 
 -- the entered columns stand for all that the token sees
-pub is_copy : (t : Token) (guard : Entered) (columns : Stored) → StandsAt t.hall.base t.seen guard
-    → columns_state columns ≡ guard.state → length (lines_after t.hall.base t.seen) ≤ t.hall.base.limits.lines
+pub is_copy : (t : TokenRecord) (guard : Entered) (columns : Stored) → StandsAt t.table.base t.seen guard
+    → columns_state columns ≡ guard.state → length (lines_after t.table.base t.seen) ≤ t.table.base.limits.lines
     → IsCopy columns
 is_copy t guard columns at same few =
-    let base : columns.base ≡ t.hall.base = ap (λ (s : State). s.base) same ∙ at.base_is in
-    let n : t.hall.base.limits.lines ≤ 33554432 = t.hall.base.limits.lines_range in
-    let m : length (lines_after t.hall.base t.seen) ≤ 33554432 = omega arith in
+    let base : columns.base ≡ t.table.base = ap (λ (s : State). s.base) same ∙ at.base_is in
+    let n : t.table.base.limits.lines ≤ 33554432 = t.table.base.limits.lines_range in
+    let m : length (lines_after t.table.base t.seen) ≤ 33554432 = omega arith in
     record {
       history = t.seen;
       stands = subst (λ s. StandsFor s t.seen) (sym same) at.stands;
       few = subst (λ b. length (lines_after b t.seen) ≤ 33554432) (sym base) m;
     }
 
-pub copy_stands : (t : Token) (guard : Entered) (columns : Stored) → StandsAt t.hall.base t.seen guard
+pub copy_stands : (t : TokenRecord) (guard : Entered) (columns : Stored) → StandsAt t.table.base t.seen guard
     → columns_state columns ≡ guard.state → StandsFor (columns_state columns) t.seen
 copy_stands t guard columns at same = subst (λ s. StandsFor s t.seen) (sym same) at.stands
 
-pub copy_base : (t : Token) (guard : Entered) (columns : Stored) → StandsAt t.hall.base t.seen guard
-    → columns_state columns ≡ guard.state → columns.base ≡ t.hall.base
+pub copy_base : (t : TokenRecord) (guard : Entered) (columns : Stored) → StandsAt t.table.base t.seen guard
+    → columns_state columns ≡ guard.state → columns.base ≡ t.table.base
 copy_base t guard columns at same = ap (λ (s : State). s.base) same ∙ at.base_is
 
 -- the reader that left knows what is seen
@@ -163,21 +163,21 @@ left base seen guard back at back_base back_told = record {
   told = subst (λ xs. IsPrefix xs seen) (sym back_told) at.told;
 }
 
-pub knows_grabbed : (t u : Token) (hand : Hand) (reader : Known) → HasGrabbed t hand u → Knows t.hall.base t.seen reader
-    → Knows u.hall.base u.seen reader
-knows_grabbed t u hand reader grabbed knows = subst (λ (x : Token). Knows x.hall.base x.seen reader) (sym grabbed.now)
+pub knows_grabbed : (t u : TokenRecord) (hand : Hand) (reader : Known) → HasGrabbed t hand u → Knows t.table.base t.seen reader
+    → Knows u.table.base u.seen reader
+knows_grabbed t u hand reader grabbed knows = subst (λ (x : TokenRecord). Knows x.table.base x.seen reader) (sym grabbed.now)
     knows
 
-grown_free : (t u : Token) (count : ℕ) (outcome : Outcome) → Grows t count outcome u → IsFree t → IsFree u
+grown_free : (t u : TokenRecord) (count : ℕ) (outcome : Outcome) → Grows t count outcome u → IsFree t → IsFree u
 grown_free t u count outcome grows free = subst IsFree (sym grows.now)
     record { rows = free.rows; writer = free.writer; hand = free.hand }
 
-pub turned_free : (t u : Token) (turn : Turn) → Turned t turn u → IsFree t → IsFree u
+pub turned_free : (t u : TokenRecord) (turn : Turn) → Turned t turn u → IsFree t → IsFree u
 turned_free t u Idle turned free = subst IsFree (sym turned) free
 turned_free t u (Answered at count) turned free = grown_free t u count (Served at) turned.1 free
 turned_free t u (Unserved count cause) turned free = grown_free t u count (GivenUp cause) turned free
 
-pub turned_who : (t u : Token) (turn : Turn) → Turned t turn u → u.who ≡ t.who
-turned_who t u Idle turned = ap (λ (x : Token). x.who) turned
-turned_who t u (Answered at count) turned = ap (λ (x : Token). x.who) turned.1.now
-turned_who t u (Unserved count cause) turned = ap (λ (x : Token). x.who) turned.now
+pub turned_who : (t u : TokenRecord) (turn : Turn) → Turned t turn u → u.who ≡ t.who
+turned_who t u Idle turned = ap (λ (x : TokenRecord). x.who) turned
+turned_who t u (Answered at count) turned = ap (λ (x : TokenRecord). x.who) turned.1.now
+turned_who t u (Unserved count cause) turned = ap (λ (x : TokenRecord). x.who) turned.now

@@ -14,17 +14,17 @@ use Rattle.ssb_questions.specs.declared.value.Value.{Value}
 use Rattle.ssb_answers.specs.declared.answer.Answer.{Answer}
 use Rattle.history_core.specs.declared.event.Who.TheVariants.{Client}
 use Rattle.history.specs.declared.request.Request.{Request}
-use Rattle.history.specs.Tokens.{Hall, Token, IsSound}
+use Rattle.history.specs.Tokens.{TableRecord, TokenRecord, IsSound}
 use Rattle.history.specs.Words.{IsRight, request}
 
--- the pass is a client's at this table, and does not hold the rows
-pub record IsClient (hall : Hall) (number : ℕ) (t : Token) : Type 0 where
-  pub hall_is : t.hall ≡ hall
+-- the token is a client's at this table, and does not hold the rows
+pub record IsClient (table : TableRecord) (number : ℕ) (t : TokenRecord) : Type 0 where
+  pub table_is : t.table ≡ table
   pub who_is : t.who ≡ Client number
   pub rows : t.has_rows ≡ false
 
 -- a client between two calls
-pub record IsAtRest (number : ℕ) (asking : Bool) (t : Token) : Type 0 where
+pub record IsAtRest (number : ℕ) (asking : Bool) (t : TokenRecord) : Type 0 where
   pub who_is : t.who ≡ Client number
   pub rows : t.has_rows ≡ false
   pub asking_is : asking ≡ is_some t.asked
@@ -37,10 +37,10 @@ reply_of at (Err (apply.Refused refusal)) = Err (refresh.Refused at refusal.acti
 reply_of at (Err apply.OutOfMemory) = Err refresh.OutOfMemory
 
 -- the client sees a history that begins with what it had seen, and one commit of its own after that
-pub record Commits (before : Token) (commit : CommitRecord) (number : ℕ) (after : Token) : Type 0 where
+pub record Commits (before : TokenRecord) (commit : CommitRecord) (number : ℕ) (after : TokenRecord) : Type 0 where
   pub history : List CommitRecord
   pub begins : IsPrefix before.seen history
-  pub accepted : refusal_of before.hall.base history commit.actions ≡ None
+  pub accepted : refusal_of before.table.base history commit.actions ≡ None
   pub number_is : number ≡ length after.seen
   pub now : after ≡ record before {
     seen = history ++ commit ∷ [];
@@ -50,22 +50,22 @@ pub record Commits (before : Token) (commit : CommitRecord) (number : ℕ) (afte
   }
 
 -- the client sees more, and nothing else of it changed
-pub record Looks (before after : Token) : Type 0 where
+pub record Looks (before after : TokenRecord) : Type 0 where
   pub begins : IsPrefix before.seen after.seen
   pub now : after ≡ record before { seen = after.seen; beside = []; did = after.did }
 
 -- a refresh: a commit, or a refusal after what is seen then, or want of memory where there is none
-abbrev pub Refreshed : Token → ℕ → List Action → Result Receipt RefreshError → Token → Type 0
+abbrev pub Refreshed : TokenRecord → ℕ → List Action → Result Receipt RefreshError → TokenRecord → Type 0
 Refreshed before client actions (Ok receipt) after = Commits before (record { client = client; actions = actions })
     receipt.number after
 Refreshed before client actions (Err (refresh.Refused at action cause)) after =
-    (at ≡ length after.seen) × (refusal_of after.hall.base after.seen actions ≡ Some
+    (at ≡ length after.seen) × (refusal_of after.table.base after.seen actions ≡ Some
     (record { action = action; cause = cause })) × Looks before after
 Refreshed before client actions (Err refresh.OutOfMemory) after =
-    (refusal_of after.hall.base after.seen actions ≡ None) × Looks before after
+    (refusal_of after.table.base after.seen actions ≡ None) × Looks before after
 
 -- the client has asked, with what it sees then as floor
-pub record Asks (before : Token) (question : Query × List Value) (after : Token) : Type 0 where
+pub record Asks (before : TokenRecord) (question : Query × List Value) (after : TokenRecord) : Type 0 where
   pub begins : IsPrefix before.seen after.seen
   pub now : after ≡ record before {
     seen = after.seen;
@@ -75,9 +75,9 @@ pub record Asks (before : Token) (question : Query × List Value) (after : Token
   }
 
 -- the client got an answer to what it had asked, right in what it sees then
-pub record Polls (before : Token) (reply : Answer) (after : Token) : Type 0 where
+pub record Polls (before : TokenRecord) (reply : Answer) (after : TokenRecord) : Type 0 where
   pub asked : Request
   pub was : before.asked ≡ Some asked
-  pub right : IsRight before.hall.base after.seen asked reply
+  pub right : IsRight before.table.base after.seen asked reply
   pub begins : IsPrefix before.seen after.seen
   pub now : after ≡ record before { seen = after.seen; beside = []; asked = None; did = after.did }

@@ -2,7 +2,7 @@
 use Rattle.std.specs.Prelude.{◌≡◌, ℕ, ◌≤◌, All, List, [], length}
 use Rattle.ssb_base.specs.Base.{Tables}
 use Rattle.history_core.specs.declared.event.Who.TheVariants.{Dispatcher}
-use Rattle.history.specs.Tokens.{Token, IsSound, IsFree}
+use Rattle.history.specs.Tokens.{TokenRecord, IsSound, IsFree}
 use Rattle.twin_cell.specs.Twin.{Known}
 use Rattle.ssb_server.specs.declared.opening.OpenFault.{OpenFault}
 use Rattle.ssb_server.specs.declared.opening.OpenFault.TheVariants.{ClientCount, DispatcherCount, NoReader, OutOfMemory}
@@ -25,8 +25,8 @@ IsOpenFault clients dispatchers NoReader = AreCounts clients dispatchers
 IsOpenFault clients dispatchers OutOfMemory = AreCounts clients dispatchers
 
 -- a dispatcher's token over this base that has done nothing yet
-pub record IsNewDispatcher (base : Tables) (t : Token) : Type 0 where
-  pub base_is : t.hall.base ≡ base
+pub record IsNewDispatcher (base : Tables) (t : TokenRecord) : Type 0 where
+  pub base_is : t.table.base ≡ base
   pub number : ℕ
   pub who_is : t.who ≡ Dispatcher number
   pub free : IsFree t
@@ -36,9 +36,9 @@ pub record IsNewDispatcher (base : Tables) (t : Token) : Type 0 where
 abbrev pub IsNewReader : Tables → Known → Type 0
 IsNewReader base reader = reader ≡ record { base = base; told = [] }
 
--- passes of new dispatchers, and as many new readers, all over one base
-pub record AreSeats (passes : List Token) (readers : List Known) : Type 0 where
+-- tokens of new dispatchers, and as many new readers, all over one base
+pub record AreSeats (tokens : List TokenRecord) (readers : List Known) : Type 0 where
   pub base : Tables
-  pub passes_are : All (IsNewDispatcher base) passes
+  pub tokens_are : All (IsNewDispatcher base) tokens
   pub readers_are : All (IsNewReader base) readers
-  pub count : length readers ≡ length passes
+  pub count : length readers ≡ length tokens

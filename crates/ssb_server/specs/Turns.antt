@@ -7,7 +7,7 @@ use Rattle.ssb_base.specs.Base.{Tables}
 use Rattle.history_core.specs.declared.event.Who.TheVariants.{Dispatcher}
 use Rattle.history.specs.declared.request.Given.{Given}
 use Rattle.history.specs.declared.request.Outcome.{Outcome}
-use Rattle.history.specs.Tokens.{Hall, Token}
+use Rattle.history.specs.Tokens.{TableRecord, TokenRecord}
 use Rattle.history.specs.Words.{IsFresh, IsCause}
 use Rattle.twin_cell.specs.Twin.{Writing, Known, Entered}
 use Rattle.ssb_answers.specs.declared.answer.Unserved.{Unserved}
@@ -20,19 +20,19 @@ use Rattle.ssb_questions.specs.declared.value.Value.{Value}
 use Rattle.ssb_base.specs.declared.limits.TheConstants.{MOST_LINES}
 use Rattle.ssb_server.specs.Hand.{Hand, Keeps}
 
--- the pass is a dispatcher's at this table
-pub record IsDispatcher (hall : Hall) (t : Token) : Type 0 where
-  pub hall_is : t.hall ≡ hall
+-- the token is a dispatcher's at this table
+pub record IsDispatcher (table : TableRecord) (t : TokenRecord) : Type 0 where
+  pub table_is : t.table ≡ table
   pub number : ℕ
   pub who_is : t.who ≡ Dispatcher number
 
 -- it holds neither part
-pub record HoldsNothing (t : Token) : Type 0 where
+pub record HoldsNothing (t : TokenRecord) : Type 0 where
   pub rows : t.has_rows ≡ false
   pub writer : t.has_writer ≡ false
 
 -- the token has the requests of the hand, and where there is none it is as before
-pub record HasGrabbed (before : Token) (hand : Hand) (after : Token) : Type 0 where
+pub record HasGrabbed (before : TokenRecord) (hand : Hand) (after : TokenRecord) : Type 0 where
   pub now : after ≡ record before {
     mark = after.mark;
     version = after.version;
@@ -43,7 +43,7 @@ pub record HasGrabbed (before : Token) (hand : Hand) (after : Token) : Type 0 wh
   pub none : hand.clients ≡ [] → after ≡ before
 
 -- the token has given both parts back, with the length of what it sees as mark and version
-pub record HasFetched (before after : Token) : Type 0 where
+pub record HasFetched (before after : TokenRecord) : Type 0 where
   pub begins : IsPrefix before.seen after.seen
   pub now : after ≡ record before {
     seen = after.seen;
@@ -66,13 +66,13 @@ pub record StandsAt (base : Tables) (history : List CommitRecord) (guard : Enter
 
 -- the token has looked at the rows and given them back: its mark is the length of what it sees, which begins with what
 -- it had beside
-pub record Fetches (before after : Token) : Type 0 where
+pub record Fetches (before after : TokenRecord) : Type 0 where
   pub begins : IsPrefix before.seen after.seen
   pub beside : All (λ list. IsPrefix list after.seen) before.beside
   pub now : after ≡ record before { seen = after.seen; beside = []; mark = Some (length after.seen); did = after.did }
 
 -- beside what the token has seen lies a list of so many commits
-pub record HasBeside (t : Token) (count : ℕ) : Type 0 where
+pub record HasBeside (t : TokenRecord) (count : ℕ) : Type 0 where
   pub list : List CommitRecord
   pub more : List (List CommitRecord)
   pub beside_is : t.beside ≡ list ∷ more
@@ -100,10 +100,10 @@ pub record Misses (base : Tables) (history : List CommitRecord) (missed : Known 
   pub cause : IsCause missed.1
 
 -- the token has this writer, over the table's base, and what it has taken lies beside what the token has seen
-pub record HasTaken (t : Token) (writer : Writing) : Type 0 where
+pub record HasTaken (t : TokenRecord) (writer : Writing) : Type 0 where
   pub more : List (List CommitRecord)
   pub beside_is : t.beside ≡ (writer.published ++ writer.pending) ∷ more
-  pub base_is : writer.base ≡ t.hall.base
+  pub base_is : writer.base ≡ t.table.base
 
 -- the columns stand for a history that leaves no more lines than can be summed
 pub record IsCopy (columns : Stored) : Type 0 where
@@ -129,7 +129,7 @@ abbrev pub Answered : Tables → List CommitRecord → Rows → Type 0
 Answered base history found = found.list ≡ rows_after base found.query history
 
 -- the newest request has left the hand, and one answer more was given
-pub record GaveOne (before : Token) (outcome : Outcome) (after : Token) : Type 0 where
+pub record GaveOne (before : TokenRecord) (outcome : Outcome) (after : TokenRecord) : Type 0 where
   pub newest : Grabbed
   pub others : List Grabbed
   pub grabbed_is : before.grabbed ≡ newest ∷ others
@@ -139,7 +139,7 @@ pub record GaveOne (before : Token) (outcome : Outcome) (after : Token) : Type 0
   pub now : after ≡ record before { grabbed = others; given = before.given ++ given ∷ []; did = after.did }
 
 -- so many answers more were given, all with this outcome
-pub record Gave (before : Token) (count : ℕ) (outcome : Outcome) (after : Token) : Type 0 where
+pub record Gave (before : TokenRecord) (count : ℕ) (outcome : Outcome) (after : TokenRecord) : Type 0 where
   pub more : List Given
   pub count_is : length more ≡ count
   pub outcomes : All (λ (given : Given). given.outcome ≡ outcome) more

@@ -10,7 +10,7 @@ ghost use Rattle.ssb_server.specs.Turns.{answers_after, IsDispatcher, HoldsNothi
 ghost use Rattle.ssb_server.specs.Turns.{GaveOne, Gave};
 
 use crate::batch::Batch;
-use crate::server::{Pass, Server};
+use crate::server::{Server, Token};
 use dimension_index::DimIndex;
 use fact_columns::Columns;
 use shared_scan::{PreparedBatch, scan_parallel};
@@ -43,71 +43,71 @@ pub(crate) fn scan_batch<R: Threads + Sync>(
 // Answers the request that was grabbed last by its rows.
 fn serve_one<W: Wait + Drop>(
     server: &Server<W>,
-    pass: &mut Pass<W>,
+    token: &mut Token<W>,
     client: u32,
     at: u64,
     found: Rows,
 )
-    requires dispatcher { IsDispatcher server.now pass.old }
-    requires free { HoldsNothing pass.old }
-    requires hand { HasInHand pass.old.grabbed client found.query }
-    requires at { (at ≡ length pass.old.seen) × (pass.old.version ≡ Some at) }
-    requires rows { Answered pass.old.hall.base pass.old.seen found }
-    ensures { GaveOne pass.old (Served at) pass.new }
+    requires dispatcher { IsDispatcher server.now token.old }
+    requires free { HoldsNothing token.old }
+    requires hand { HasInHand token.old.grabbed client found.query }
+    requires at { (at ≡ length token.old.seen) × (token.old.version ≡ Some at) }
+    requires rows { Answered token.old.table.base token.old.seen found }
+    ensures { GaveOne token.old (Served at) token.new }
 {
     let answer = Answer::Rows {
         query: found.query,
         at,
         rows: found.list,
     };
-    server.hall.answer(pass, client, answer);
+    server.table.answer(token, client, answer);
     server.bells.ring_client(client);
 }
 
 // Gives up the request that was grabbed last.
 fn give_up_one<W: Wait + Drop>(
     server: &Server<W>,
-    pass: &mut Pass<W>,
+    token: &mut Token<W>,
     client: u32,
     query: Question,
     cause: Unserved,
 )
-    requires dispatcher { IsDispatcher server.now pass.old }
-    requires free { HoldsNothing pass.old }
-    requires hand { HasInHand pass.old.grabbed client query }
+    requires dispatcher { IsDispatcher server.now token.old }
+    requires free { HoldsNothing token.old }
+    requires hand { HasInHand token.old.grabbed client query }
     requires cause { IsCause cause }
-    ensures { GaveOne pass.old (GivenUp cause) pass.new }
+    ensures { GaveOne token.old (GivenUp cause) token.new }
 {
     server
-        .hall
-        .answer(pass, client, Answer::Unserved { query, cause });
+        .table
+        .answer(token, client, Answer::Unserved { query, cause });
     server.bells.ring_client(client);
 }
 
 /// Answers every request in hand by its rows. It tells how many there were.
 pub(crate) fn serve_all<W: Wait + Drop>(
     server: &Server<W>,
-    pass: &mut Pass<W>,
+    token: &mut Token<W>,
     batch: &mut Batch,
     at: u64,
     mut rows: Vec<Rows>,
 ) -> usize
-    requires dispatcher { IsDispatcher server.now pass.old }
-    requires free { HoldsNothing pass.old }
-    requires hand { Keeps batch.old pass.old.grabbed }
-    requires at { (at ≡ length pass.old.seen) × (pass.old.version ≡ Some at) }
-    requires rows { rows.items ≡ answers_after pass.old.hall.base pass.old.seen batch.old.questions }
-    ensures gave { Gave pass.old result (Served at) pass.new }
+    requires dispatcher { IsDispatcher server.now token.old }
+    requires free { HoldsNothing token.old }
+    requires hand { Keeps batch.old token.old.grabbed }
+    requires at { (at ≡ length token.old.seen) × (token.old.version ≡ Some at) }
+    requires rows { rows.items ≡ answers_after token.old.table.base token.old.seen batch.old.questions }
+    ensures gave { Gave token.old result (Served at) token.new }
     ensures count { result ≡ length batch.old.clients }
     ensures empty { batch.new ≡ no_hand }
-    ensures hand { Keeps no_hand pass.new.grabbed }
+    ensures hand { Keeps no_hand token.new.grabbed }
 {
     let count = batch.len();
     while let Some((client, _)) = batch.pop() {
         let Some(found) = rows.pop() else {
             unreachable!()
         };
-        serve_one(server, pass, client, at, found);
+        serve_one(server, token, client, at, found);
     }
     count
 }
@@ -115,22 +115,22 @@ pub(crate) fn serve_all<W: Wait + Drop>(
 /// Gives up every request in hand, with the cause. It tells how many there were.
 pub(crate) fn give_up_all<W: Wait + Drop>(
     server: &Server<W>,
-    pass: &mut Pass<W>,
+    token: &mut Token<W>,
     batch: &mut Batch,
     cause: Unserved,
 ) -> usize
-    requires dispatcher { IsDispatcher server.now pass.old }
-    requires free { HoldsNothing pass.old }
-    requires hand { Keeps batch.old pass.old.grabbed }
+    requires dispatcher { IsDispatcher server.now token.old }
+    requires free { HoldsNothing token.old }
+    requires hand { Keeps batch.old token.old.grabbed }
     requires cause { IsCause cause }
-    ensures gave { Gave pass.old result (GivenUp cause) pass.new }
+    ensures gave { Gave token.old result (GivenUp cause) token.new }
     ensures count { result ≡ length batch.old.clients }
     ensures empty { batch.new ≡ no_hand }
-    ensures hand { Keeps no_hand pass.new.grabbed }
+    ensures hand { Keeps no_hand token.new.grabbed }
 {
     let count = batch.len();
     while let Some((client, question)) = batch.pop() {
-        give_up_one(server, pass, client, question, cause);
+        give_up_one(server, token, client, question, cause);
     }
     count
 }

@@ -8,7 +8,7 @@ ghost use Rattle.ssb_server.specs.Tickets.{IsNewClient, IsResting};
 ghost use Rattle.history.specs.World.{number_of};
 ghost use Rattle.ssb_server.specs.Clients.{IsClient, reply_of, Refreshed, Looks, Asks, Polls};
 
-use crate::server::{Hall, Pass, Server};
+use crate::server::{Server, SharedTable, Token};
 use history_core::Who;
 use row_store::{ApplyError, Receipt, RefreshError};
 use ssb_answers::Answer;
@@ -20,21 +20,21 @@ use std::sync::{Arc, Wait};
 /// A client's token. Contracts see it.
 #[derive(Drop)]
 pub struct Client<W: Wait + Drop> {
-    pass: Pass<W>,
+    token: Token<W>,
     number: u32,
     asking: bool,
 }
 
 impl<W: Wait + Drop> Model for Client<W> {
-    ghost use Rattle.history.specs.Tokens.{Token};
+    ghost use Rattle.history.specs.Tokens.{TokenRecord};
 
-    ghost Value = { Token };
+    ghost Value = { TokenRecord };
 
     ghost use Rattle.ssb_server.specs.Clients.{IsAtRest};
 
-    ghost view = { λ c. c.pass };
+    ghost view = { λ c. c.token };
 
-    ghost invariant = { λ c. IsAtRest c.number c.asking c.pass };
+    ghost invariant = { λ c. IsAtRest c.number c.asking c.token };
 }
 
 // What the row store answered, as the client is told.
@@ -55,55 +55,60 @@ fn reply(at: u64, applied: Result<Receipt, ApplyError>) -> Result<Receipt, Refre
 // Takes the rows, applies the refresh, and gives the rows back.
 fn apply<W: Wait + Drop, R: Wait>(
     rt: &R,
-    hall: &Hall<W>,
-    pass: &mut Pass<W>,
+    table: &SharedTable<W>,
+    token: &mut Token<W>,
     number: u32,
     refresh: Arc<Refresh>,
 ) -> Result<Receipt, RefreshError>
-    requires { IsClient hall.now number pass.old }
-    ensures refreshed { Refreshed pass.old number refresh.value result pass.new }
-    ensures sound { IsSound pass.new }
+    requires { IsClient table.now number token.old }
+    ensures refreshed { Refreshed token.old number refresh.value result token.new }
+    ensures sound { IsSound token.new }
 {
-    let mut rows = hall.take_rows(rt, pass);
+    let mut rows = table.take_rows(rt, token);
     let at = rows.len() as u64;
     let applied = rows.apply(number, refresh);
-    hall.put_rows(pass, rows);
+    table.put_rows(token, rows);
     reply(at, applied)
 }
 
 // Looks, and asks.
-fn ask<W: Wait + Drop>(hall: &Hall<W>, pass: &mut Pass<W>, number: u32, question: Question)
-    requires client { IsClient hall.now number pass.old }
-    requires mailbox { pass.old.asked ≡ None }
-    ensures asked { Asks pass.old question pass.new }
-    ensures sound { IsSound pass.new }
+fn ask<W: Wait + Drop>(
+    table: &SharedTable<W>,
+    token: &mut Token<W>,
+    number: u32,
+    question: Question,
+)
+    requires client { IsClient table.now number token.old }
+    requires mailbox { token.old.asked ≡ None }
+    ensures asked { Asks token.old question token.new }
+    ensures sound { IsSound token.new }
 {
-    hall.look(pass);
-    hall.post(pass, question);
+    table.look(token);
+    table.post(token, question);
 }
 
 // Collects an answer, if there is one, and then looks.
-fn poll<W: Wait + Drop>(hall: &Hall<W>, pass: &mut Pass<W>, number: u32) -> Option<Answer>
-    requires client { IsClient hall.now number pass.old }
-    requires sound { IsSound pass.old }
-    ensures polled { MatchOption result (pass.new ≡ pass.old) (λ answer. Polls pass.old answer pass.new) }
-    ensures sound { IsSound pass.new }
+fn poll<W: Wait + Drop>(table: &SharedTable<W>, token: &mut Token<W>, number: u32) -> Option<Answer>
+    requires client { IsClient table.now number token.old }
+    requires sound { IsSound token.old }
+    ensures polled { MatchOption result (token.new ≡ token.old) (λ answer. Polls token.old answer token.new) }
+    ensures sound { IsSound token.new }
 {
-    let answer = hall.collect(pass)?;
-    hall.look(pass);
+    let answer = table.collect(token)?;
+    table.look(token);
     Some(answer)
 }
 
-/// A client of a pass that was just dealt.
-pub(crate) fn new_client<W: Wait + Drop>(pass: Pass<W>) -> Client<W>
-    requires { IsNewClient pass }
-    ensures { result ≡ pass }
+/// A client of a token that was just dealt.
+pub(crate) fn new_client<W: Wait + Drop>(token: Token<W>) -> Client<W>
+    requires { IsNewClient token }
+    ensures { result ≡ token }
 {
-    let Who::Client(number) = pass.who() else {
+    let Who::Client(number) = token.who() else {
         unreachable!()
     };
     Client {
-        pass,
+        token,
         number,
         asking: false,
     }
@@ -119,16 +124,16 @@ impl<W: Wait + Drop> Client<W> {
     }
 
     /// The client's token.
-    pub(crate) fn into_pass(self) -> Pass<W>
-        ensures pass { result ≡ self }
+    pub(crate) fn into_token(self) -> Token<W>
+        ensures token { result ≡ self }
         ensures rest { IsResting self }
     {
         let Client {
-            pass,
+            token,
             number: _,
             asking: _,
         } = self;
-        pass
+        token
     }
 
     /// Whether a question is outstanding.
@@ -145,37 +150,43 @@ impl<W: Wait + Drop> Client<W> {
         server: &Server<W>,
         refresh: Arc<Refresh>,
     ) -> Result<Receipt, RefreshError>
-        requires { self.old.hall ≡ server.now }
+        requires { self.old.table ≡ server.now }
         ensures refreshed { (number : ℕ) → self.old.who ≡ IsNumbered number
             → Refreshed self.old number refresh.value result self.new }
         ensures sound { IsSound self.new }
     {
-        let applied = apply(rt, &server.hall, &mut self.pass, self.number, refresh);
+        let applied = apply(rt, &server.table, &mut self.token, self.number, refresh);
         if let Ok(receipt) = &applied {
-            server.pace.keep(rt, &server.hall, &server.bells, self.number, receipt.number);
+            server.pace.keep(
+                rt,
+                &server.table,
+                &server.bells,
+                self.number,
+                receipt.number,
+            );
         }
         applied
     }
 
     /// Asks a question. Its floor is the number of commits that the client sees then.
     pub fn ask(&mut self, server: &Server<W>, question: Question)
-        requires hall { self.old.hall ≡ server.now }
+        requires table { self.old.table ≡ server.now }
         requires quiet { is_some self.old.asked ≡ false }
         ensures asked { Asks self.old question self.new }
         ensures sound { IsSound self.new }
     {
-        ask(&server.hall, &mut self.pass, self.number, question);
+        ask(&server.table, &mut self.token, self.number, question);
         self.asking = true;
         server.bells.ring_dispatchers();
     }
 
     /// The answer to the outstanding question; none where nothing is outstanding or no answer is there yet.
     pub fn poll(&mut self, server: &Server<W>) -> Option<Answer>
-        requires { self.old.hall ≡ server.now }
+        requires { self.old.table ≡ server.now }
         ensures polled { MatchOption result (self.new ≡ self.old) (λ answer. Polls self.old answer self.new) }
         ensures sound { IsSound self.new }
     {
-        let answer = poll(&server.hall, &mut self.pass, self.number);
+        let answer = poll(&server.table, &mut self.token, self.number);
         if answer.is_some() {
             self.asking = false;
         }
@@ -184,7 +195,7 @@ impl<W: Wait + Drop> Client<W> {
 
     /// Waits for the answer to the outstanding question.
     pub fn await_answer<R: Wait>(&mut self, rt: &R, server: &Server<W>) -> Answer
-        requires hall { self.old.hall ≡ server.now }
+        requires table { self.old.table ≡ server.now }
         requires asking { is_some self.old.asked ≡ true }
         ensures polled { Polls self.old result self.new }
         ensures sound { IsSound self.new }
@@ -200,14 +211,14 @@ impl<W: Wait + Drop> Client<W> {
 
     /// Lets the client see all that the other has seen.
     pub fn meet(&mut self, server: &Server<W>, other: &mut Client<W>) -> u64
-        requires hall { self.old.hall ≡ server.now }
-        requires other { other.old.hall ≡ server.now }
+        requires table { self.old.table ≡ server.now }
+        requires other { other.old.table ≡ server.now }
         ensures length { result ≡ length self.new.seen }
         ensures looks { Looks self.old self.new }
         ensures met { IsPrefix other.old.seen self.new.seen }
         ensures other { Looks other.old other.new }
         ensures sound { IsSound self.new }
     {
-        server.hall.meet(&mut self.pass, &mut other.pass)
+        server.table.meet(&mut self.token, &mut other.token)
     }
 }

@@ -72,7 +72,7 @@ impl<W: Wait + Drop> Server<W> {
             });
         }
         let Server {
-            hall,
+            table,
             index: _,
             clients: _,
             dispatchers: _,
@@ -82,12 +82,12 @@ impl<W: Wait + Drop> Server<W> {
             room,
         } = self;
         let Room {
-            clients: mut client_passes,
-            dispatchers: mut dispatcher_passes,
+            clients: mut client_tokens,
+            dispatchers: mut dispatcher_tokens,
         } = room.into_inner();
-        gather_clients(&mut client_passes, clients);
-        gather_dispatchers(&mut dispatcher_passes, dispatchers);
-        let (base, log) = hall.close(client_passes, dispatcher_passes).into_parts();
+        gather_clients(&mut client_tokens, clients);
+        gather_dispatchers(&mut dispatcher_tokens, dispatchers);
+        let (base, log) = table.close(client_tokens, dispatcher_tokens).into_parts();
         Ok(Closed { base, log })
     }
 }

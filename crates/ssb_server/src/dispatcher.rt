@@ -9,7 +9,7 @@ ghost use Rattle.ssb_server.specs.Opening.{IsNewDispatcher};
 ghost use Rattle.ssb_server.specs.Tickets.{IsLeft};
 
 use crate::batch::Batch;
-use crate::server::{Pass, Server};
+use crate::server::{Server, Token};
 use crate::turn::{ScanGate, Turn, take_turn};
 use fact_columns::Columns;
 use history_core::Who;
@@ -22,37 +22,37 @@ use twin_cell::TwinReader;
 /// turns it holds nothing.
 #[derive(Drop)]
 pub struct Dispatcher<W: Wait + Drop> {
-    pass: Pass<W>,
+    token: Token<W>,
     reader: Option<TwinReader<Columns>>,
     batch: Batch,
     number: u32,
 }
 
 impl<W: Wait + Drop> Model for Dispatcher<W> {
-    ghost use Rattle.history.specs.Tokens.{Token};
+    ghost use Rattle.history.specs.Tokens.{TokenRecord};
 
-    ghost Value = { Token };
+    ghost Value = { TokenRecord };
 
     ghost use Rattle.ssb_server.specs.Ready.{IsReady};
 
-    ghost view = { λ d. d.pass };
+    ghost view = { λ d. d.token };
 
-    ghost invariant = { λ d. IsReady d.number d.pass d.reader d.batch };
+    ghost invariant = { λ d. IsReady d.number d.token d.reader d.batch };
 }
 
 impl<W: Wait + Drop> Dispatcher<W> {
-    /// A dispatcher of a pass that was just dealt, with a reader over its base that was told nothing.
-    pub(crate) fn new(pass: Pass<W>, reader: TwinReader<Columns>, batch: Batch) -> Dispatcher<W>
-        requires pass { IsNewDispatcher reader.base pass }
+    /// A dispatcher of a token that was just dealt, with a reader over its base that was told nothing.
+    pub(crate) fn new(token: Token<W>, reader: TwinReader<Columns>, batch: Batch) -> Dispatcher<W>
+        requires token { IsNewDispatcher reader.base token }
         requires reader { reader.told ≡ [] }
         requires batch { batch ≡ no_hand }
-        ensures { result ≡ pass }
+        ensures { result ≡ token }
     {
-        let Who::Dispatcher(number) = pass.who() else {
+        let Who::Dispatcher(number) = token.who() else {
             unreachable!()
         };
         Dispatcher {
-            pass,
+            token,
             reader: Some(reader),
             batch,
             number,
@@ -60,17 +60,17 @@ impl<W: Wait + Drop> Dispatcher<W> {
     }
 
     /// The dispatcher's token.
-    pub(crate) fn into_pass(self) -> Pass<W>
-        ensures pass { result ≡ self }
+    pub(crate) fn into_token(self) -> Token<W>
+        ensures token { result ≡ self }
         ensures left { IsLeft self }
     {
         let Dispatcher {
-            pass,
+            token,
             reader: _,
             batch: _,
             number: _,
         } = self;
-        pass
+        token
     }
 
     /// Sleeps until something was posted since the last turn began, or until `Server::ring`. It may return for no
@@ -94,7 +94,7 @@ impl<W: Wait + Drop> Dispatcher<W> {
         server: &Server<W>,
         gate: &G,
     ) -> Turn
-        requires { self.old.hall ≡ server.now }
+        requires { self.old.table ≡ server.now }
         ensures turned { Turned self.old result self.new }
         ensures free { IsFree self.new }
         ensures sound { IsSound self.new }
@@ -102,7 +102,7 @@ impl<W: Wait + Drop> Dispatcher<W> {
         let Some(reader) = self.reader.take() else {
             unreachable!()
         };
-        let (reader, turn) = take_turn(rt, server, gate, &mut self.pass, &mut self.batch, reader);
+        let (reader, turn) = take_turn(rt, server, gate, &mut self.token, &mut self.batch, reader);
         self.reader = Some(reader);
         turn
     }

@@ -3,26 +3,26 @@ ghost use Rattle.std.specs.Prelude.{◌≡◌, ◌≤◌, [], length};
 ghost use Rattle.ssb_server.specs.Turns.{IsDispatcher, HoldsNothing, HasGrabbed};
 
 use crate::batch::Batch;
-use crate::server::{Hall, Pass};
+use crate::server::{SharedTable, Token};
 use std::sync::Wait;
 
 /// One try at each client's mailbox, in the order of clients.
 pub(crate) fn grab_all<W: Wait + Drop>(
-    hall: &Hall<W>,
+    table: &SharedTable<W>,
     clients: u32,
-    pass: &mut Pass<W>,
+    token: &mut Token<W>,
     batch: &mut Batch,
 )
-    requires dispatcher { IsDispatcher hall.now pass.old }
-    requires free { HoldsNothing pass.old × (pass.old.grabbed ≡ []) }
-    requires clients { (clients ≡ hall.now.clients) × (clients ≤ 16) }
+    requires dispatcher { IsDispatcher table.now token.old }
+    requires free { HoldsNothing token.old × (token.old.grabbed ≡ []) }
+    requires clients { (clients ≡ table.now.clients) × (clients ≤ 16) }
     requires empty { batch.old ≡ record { clients = []; questions = [] } }
-    ensures grabbed { HasGrabbed pass.old batch.new pass.new }
+    ensures grabbed { HasGrabbed token.old batch.new token.new }
     ensures few { length batch.new.clients ≤ 16 }
 {
     for before in 0..clients {
         let client = before + 1;
-        if let Some(question) = hall.grab(pass, client) {
+        if let Some(question) = table.grab(token, client) {
             batch.push(client, question);
         }
     }

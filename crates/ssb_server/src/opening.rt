@@ -11,7 +11,7 @@ use crate::client::Client;
 use crate::dispatcher::Dispatcher;
 use crate::pace::Pace;
 use crate::room::Room;
-use crate::server::{Hall, Pass, Server};
+use crate::server::{Server, SharedTable, Token};
 use crate::tickets::clients_of;
 use dimension_index::DimIndex;
 use fact_columns::Columns;
@@ -59,22 +59,22 @@ pub struct Opened<W: Wait + Drop> {
     pub dispatchers: Vec<Dispatcher<W>>,
 }
 
-// A dispatcher of each pass, with a reader and room for a batch.
+// A dispatcher of each token, with a reader and room for a batch.
 fn dispatchers_of<W: Wait + Drop>(
     alloc: Global,
-    passes: Vec<Pass<W>>,
+    tokens: Vec<Token<W>>,
     mut readers: Vec<TwinReader<Columns>>,
 ) -> Result<Vec<Dispatcher<W>>, AllocError>
-    requires { AreSeats passes.items readers.items }
-    ensures { IfOk result (λ dispatchers. dispatchers.items ≡ passes.items) }
+    requires { AreSeats tokens.items readers.items }
+    ensures { IfOk result (λ dispatchers. dispatchers.items ≡ tokens.items) }
 {
     let mut dispatchers = Vec::new(alloc);
-    for pass in passes {
+    for token in tokens {
         let Some(reader) = readers.pop() else {
             unreachable!()
         };
         let batch = Batch::new(alloc)?;
-        dispatchers.push(Dispatcher::new(pass, reader, batch))?;
+        dispatchers.push(Dispatcher::new(token, reader, batch))?;
     }
     Ok(dispatchers)
 }
@@ -90,18 +90,18 @@ fn index_of(alloc: Global, base: &Arc<Base>) -> Result<Arc<DimIndex>, AllocError
 // The server over a table that was just made.
 fn server_over<W: Wait + Drop>(
     alloc: Global,
-    hall: Hall<W>,
+    table: SharedTable<W>,
     index: Arc<DimIndex>,
     clients: u32,
     dispatchers: u32,
 ) -> Result<Server<W>, AllocError>
-    requires index { index.value ≡ hall.base }
-    requires counts { (clients ≡ hall.clients) × (dispatchers ≡ hall.dispatchers) }
+    requires index { index.value ≡ table.base }
+    requires counts { (clients ≡ table.clients) × (dispatchers ≡ table.dispatchers) }
     requires few { (clients ≤ 16) × (dispatchers ≤ 4) }
-    ensures { IfOk result (λ server. server ≡ hall) }
+    ensures { IfOk result (λ server. server ≡ table) }
 {
     Ok(Server {
-        hall,
+        table,
         index,
         clients,
         dispatchers,

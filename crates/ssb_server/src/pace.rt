@@ -1,7 +1,7 @@
 //! How far clients run ahead of a batch.
 
 use crate::bells::Bells;
-use crate::server::Hall;
+use crate::server::SharedTable;
 use std::sync::Wait;
 use std::sync::atomic::{AtomicU64, Ordering};
 use std::time::Duration;
@@ -54,13 +54,13 @@ impl Pace {
     pub(crate) fn keep<W: Wait + Drop, R: Wait>(
         &self,
         rt: &R,
-        hall: &Hall<W>,
+        table: &SharedTable<W>,
         bells: &Bells,
         number: u32,
         commit: u64,
     ) {
         if commit > self.limit.load(Ordering::Relaxed) {
-            hall.wake_waiting();
+            table.wake_waiting();
             bells.await_client_for(rt, number, Duration::from_millis(LONGEST_WAIT));
         }
     }

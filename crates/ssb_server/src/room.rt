@@ -1,15 +1,15 @@
-//! Room for the passes that `close` gathers.
+//! Room for the tokens that `close` gathers.
 ghost use Rattle.std.specs.Prelude.{◌≡◌, ◌≤◌, [], vec_capacity};
 
-use crate::server::Pass;
+use crate::server::Token;
 use std::alloc::{AllocError, Global};
 use std::sync::Wait;
 
-/// Room for the passes of 16 clients and 4 dispatchers, and nothing in it.
+/// Room for the tokens of 16 clients and 4 dispatchers, and nothing in it.
 #[derive(Drop)]
 pub(crate) struct Room<W: Wait + Drop> {
-    pub(crate) clients: Vec<Pass<W>>,
-    pub(crate) dispatchers: Vec<Pass<W>>,
+    pub(crate) clients: Vec<Token<W>>,
+    pub(crate) dispatchers: Vec<Token<W>>,
     ghost no_clients: { clients.items ≡ [] },
     ghost no_dispatchers: { dispatchers.items ≡ [] },
     ghost client_room: { 16 ≤ vec_capacity clients },

@@ -12,17 +12,17 @@ use std::sync::{Arc, Mutex, Wait};
 use twin_cell::TwinWriter;
 
 /// The table of a server: its two parts are the row store, and the writer of the columns.
-pub(crate) type Hall<W> = history::Shared<TwinWriter<Columns, W>>;
+pub(crate) type SharedTable<W> = history::SharedTable<TwinWriter<Columns, W>>;
 
-/// The pass of a client or dispatcher to that table.
-pub(crate) type Pass<W> = history::Pass<TwinWriter<Columns, W>>;
+/// The token of a client or dispatcher to that table.
+pub(crate) type Token<W> = history::Token<TwinWriter<Columns, W>>;
 
 /// What clients and dispatchers share: the table, the index that the columns are coded by, and the places where they
 /// sleep. Contracts see the table: its name, the base, and how many clients and dispatchers there are. `W` is the
 /// handle by which the writer of the columns waits.
 #[derive(Drop)]
 pub struct Server<W: Wait + Drop> {
-    pub(crate) hall: Hall<W>,
+    pub(crate) table: SharedTable<W>,
     pub(crate) index: Arc<DimIndex>,
     pub(crate) clients: u32,
     pub(crate) dispatchers: u32,
@@ -34,14 +34,14 @@ pub struct Server<W: Wait + Drop> {
 }
 
 impl<W: Wait + Drop> Model for Server<W> {
-    ghost use Rattle.history.specs.Tokens.{Hall as Table};
+    ghost use Rattle.history.specs.Tokens.{TableRecord};
     ghost use Rattle.ssb_server.specs.Served.{IsServed};
 
-    ghost Value = { Table };
+    ghost Value = { TableRecord };
 
-    ghost view = { λ s. s.hall };
+    ghost view = { λ s. s.table };
 
-    ghost invariant = { λ s. IsServed s.hall s.index.value s.clients s.dispatchers };
+    ghost invariant = { λ s. IsServed s.table s.index.value s.clients s.dispatchers };
 }
 
 impl<W: Wait + Drop> Server<W> {
@@ -49,6 +49,6 @@ impl<W: Wait + Drop> Server<W> {
     /// its script, or when a run ends, and the flag that the dispatchers are to look at is set before.
     pub fn ring(&self) {
         self.bells.ring_dispatchers();
-        self.hall.wake_waiting();
+        self.table.wake_waiting();
     }
 }

@@ -9,7 +9,7 @@ ghost use Rattle.ssb_server.specs.Turns.{HasTaken, Appends, Follows, Misses};
 
 use crate::bells::Bells;
 use crate::pace::Pace;
-use crate::server::{Hall, Pass};
+use crate::server::{SharedTable, Token};
 use fact_columns::Columns;
 use row_store::{Commit, Follower, Replica};
 use ssb_answers::Unserved;
@@ -30,31 +30,31 @@ fn copy_of(alloc: Global, commits: &[Commit]) -> Result<Vec<Commit>, AllocError>
     Ok(copies)
 }
 
-// Takes the rows, copies the commits that the writer lacks, and gives the rows back as they were. Clients let it pass,
+// Takes the rows, copies the commits that the writer lacks, and gives the rows back as they were. Clients let it token,
 // and keep near to these commits from then on.
 fn fetch<W: Wait + Drop, R: Wait>(
     rt: &R,
     alloc: Global,
-    hall: &Hall<W>,
+    table: &SharedTable<W>,
     pace: &Pace,
     bells: &Bells,
-    pass: &mut Pass<W>,
+    token: &mut Token<W>,
     taken: u64,
 ) -> Result<Vec<Commit>, AllocError>
-    requires dispatcher { IsDispatcher hall.now pass.old }
-    requires free { pass.old.has_rows ≡ false }
-    requires taken { HasBeside pass.old taken }
-    ensures fetched { Fetches pass.old pass.new }
-    ensures commits { IfOk result (λ commits. commits.items ≡ drop taken pass.new.seen) }
-    ensures sound { IsSound pass.new }
-    ensures few { length (lines_after pass.new.hall.base pass.new.seen) ≤ pass.new.hall.base.limits.lines }
+    requires dispatcher { IsDispatcher table.now token.old }
+    requires free { token.old.has_rows ≡ false }
+    requires taken { HasBeside token.old taken }
+    ensures fetched { Fetches token.old token.new }
+    ensures commits { IfOk result (λ commits. commits.items ≡ drop taken token.new.seen) }
+    ensures sound { IsSound token.new }
+    ensures few { length (lines_after token.new.table.base token.new.seen) ≤ token.new.table.base.limits.lines }
 {
     pace.hold();
-    let rows = hall.take_rows(rt, pass);
+    let rows = table.take_rows(rt, token);
     pace.begin(rows.len() as u64);
     let commits = copy_of(alloc, rows.log_from(taken as usize));
     rows.soundness();
-    hall.put_rows(pass, rows);
+    table.put_rows(token, rows);
     bells.ring_clients();
     commits
 }
@@ -155,26 +155,26 @@ fn catch_up<W: Wait + Drop, R: Wait>(
 fn bring_up<W: Wait + Drop, R: Wait>(
     rt: &R,
     alloc: Global,
-    hall: &Hall<W>,
+    table: &SharedTable<W>,
     pace: &Pace,
     bells: &Bells,
-    pass: &mut Pass<W>,
+    token: &mut Token<W>,
     writer: TwinWriter<Columns, W>,
     reader: TwinReader<Columns>,
 ) -> (TwinWriter<Columns, W>, Result<Guard<Columns>, Missed>)
-    requires dispatcher { IsDispatcher hall.now pass.old }
-    requires free { pass.old.has_rows ≡ false }
-    requires writer { HasTaken pass.old writer }
-    requires reader { Knows pass.old.hall.base pass.old.seen reader }
-    ensures fetched { Fetches pass.old pass.new }
-    ensures sound { IsSound pass.new }
-    ensures few { length (lines_after pass.new.hall.base pass.new.seen) ≤ pass.new.hall.base.limits.lines }
-    ensures writer { Follows pass.new.hall.base pass.new.seen result.0 }
-    ensures entered { MatchResult result.1 (StandsAt pass.new.hall.base pass.new.seen)
-        (Misses pass.new.hall.base pass.new.seen) }
+    requires dispatcher { IsDispatcher table.now token.old }
+    requires free { token.old.has_rows ≡ false }
+    requires writer { HasTaken token.old writer }
+    requires reader { Knows token.old.table.base token.old.seen reader }
+    ensures fetched { Fetches token.old token.new }
+    ensures sound { IsSound token.new }
+    ensures few { length (lines_after token.new.table.base token.new.seen) ≤ token.new.table.base.limits.lines }
+    ensures writer { Follows token.new.table.base token.new.seen result.0 }
+    ensures entered { MatchResult result.1 (StandsAt token.new.table.base token.new.seen)
+        (Misses token.new.table.base token.new.seen) }
 {
     let taken = writer.taken();
-    match fetch(rt, alloc, hall, pace, bells, pass, taken) {
+    match fetch(rt, alloc, table, pace, bells, token, taken) {
         Ok(commits) => catch_up(rt, writer, commits, reader),
         Err(_) => (writer, Err((reader, Unserved::OutOfMemory))),
     }
@@ -184,23 +184,23 @@ fn bring_up<W: Wait + Drop, R: Wait>(
 pub(crate) fn snapshot<W: Wait + Drop, R: Wait>(
     rt: &R,
     alloc: Global,
-    hall: &Hall<W>,
+    table: &SharedTable<W>,
     pace: &Pace,
     bells: &Bells,
-    pass: &mut Pass<W>,
+    token: &mut Token<W>,
     reader: TwinReader<Columns>,
 ) -> Result<Guard<Columns>, Missed>
-    requires dispatcher { IsDispatcher hall.now pass.old }
-    requires free { HoldsNothing pass.old }
-    requires reader { Knows pass.old.hall.base pass.old.seen reader }
-    ensures fetched { HasFetched pass.old pass.new }
-    ensures sound { IsSound pass.new }
-    ensures few { length (lines_after pass.new.hall.base pass.new.seen) ≤ pass.new.hall.base.limits.lines }
-    ensures entered { MatchResult result (StandsAt pass.new.hall.base pass.new.seen)
-        (Misses pass.new.hall.base pass.new.seen) }
+    requires dispatcher { IsDispatcher table.now token.old }
+    requires free { HoldsNothing token.old }
+    requires reader { Knows token.old.table.base token.old.seen reader }
+    ensures fetched { HasFetched token.old token.new }
+    ensures sound { IsSound token.new }
+    ensures few { length (lines_after token.new.table.base token.new.seen) ≤ token.new.table.base.limits.lines }
+    ensures entered { MatchResult result (StandsAt token.new.table.base token.new.seen)
+        (Misses token.new.table.base token.new.seen) }
 {
-    let writer = hall.take_writer(rt, pass);
-    let (writer, entered) = bring_up(rt, alloc, hall, pace, bells, pass, writer, reader);
-    hall.put_writer(pass, writer);
+    let writer = table.take_writer(rt, token);
+    let (writer, entered) = bring_up(rt, alloc, table, pace, bells, token, writer, reader);
+    table.put_writer(token, writer);
     entered
 }

@@ -1,27 +1,27 @@
 //! The tokens that a server is opened with, and that it is closed with.
 ghost use Rattle.std.specs.Prelude.{◌≡◌, ◌+◌, ◌≤◌, ◌++◌, ◌↔◌, ◌==◌, IsTrue, All, IfOk, count_by, vec_len, vec_capacity};
-ghost use Rattle.history.specs.Tokens.{Token};
+ghost use Rattle.history.specs.Tokens.{TokenRecord};
 ghost use Rattle.ssb_server.specs.Tickets.{IsNewClient, IsResting, IsLeft};
 ghost use Rattle.history.specs.World.{number_of};
 ghost use Rattle.history.specs.Closing.{AreNumbered};
 
 use crate::client::{Client, new_client};
 use crate::dispatcher::Dispatcher;
-use crate::server::Pass;
+use crate::server::Token;
 use std::alloc::{AllocError, Global};
 use std::sync::Wait;
 
-/// A client of each pass.
+/// A client of each token.
 pub(crate) fn clients_of<W: Wait + Drop>(
     alloc: Global,
-    passes: Vec<Pass<W>>,
+    tokens: Vec<Token<W>>,
 ) -> Result<Vec<Client<W>>, AllocError>
-    requires { All IsNewClient passes.items }
-    ensures { IfOk result (λ clients. clients.items ≡ passes.items) }
+    requires { All IsNewClient tokens.items }
+    ensures { IfOk result (λ clients. clients.items ≡ tokens.items) }
 {
     let mut clients = Vec::new(alloc);
-    for pass in passes {
-        let client = new_client(pass);
+    for token in tokens {
+        let client = new_client(token);
         clients.push(client)?;
     }
     Ok(clients)
@@ -29,7 +29,7 @@ pub(crate) fn clients_of<W: Wait + Drop>(
 
 // Whether just one client has the number.
 fn has_once<W: Wait + Drop>(clients: &[Client<W>], number: u32) -> bool
-    ensures { result ≡ (count_by (λ (t : Token). number_of t.who == number) clients.now == 1) }
+    ensures { result ≡ (count_by (λ (t : TokenRecord). number_of t.who == number) clients.now == 1) }
 {
     clients
         .iter()
@@ -54,21 +54,21 @@ pub(crate) fn are_clients_numbered<W: Wait + Drop>(clients: &[Client<W>], count:
 }
 
 /// The tokens of the clients, in room that is there.
-pub(crate) fn gather_clients<W: Wait + Drop>(passes: &mut Vec<Pass<W>>, clients: Vec<Client<W>>)
-    requires { vec_len passes.old + vec_len clients ≤ vec_capacity passes.old }
-    ensures items { passes.new.items ≡ passes.old.items ++ clients.items }
-    ensures len { vec_len passes.new ≡ vec_len passes.old + vec_len clients }
-    ensures capacity { vec_capacity passes.new ≡ vec_capacity passes.old }
+pub(crate) fn gather_clients<W: Wait + Drop>(tokens: &mut Vec<Token<W>>, clients: Vec<Client<W>>)
+    requires { vec_len tokens.old + vec_len clients ≤ vec_capacity tokens.old }
+    ensures items { tokens.new.items ≡ tokens.old.items ++ clients.items }
+    ensures len { vec_len tokens.new ≡ vec_len tokens.old + vec_len clients }
+    ensures capacity { vec_capacity tokens.new ≡ vec_capacity tokens.old }
     ensures rest { All IsResting clients.items }
 {
     for client in clients {
-        passes.push_reserved(client.into_pass());
+        tokens.push_reserved(client.into_token());
     }
 }
 
 // Whether just one dispatcher has the number.
 fn has_dispatcher_once<W: Wait + Drop>(dispatchers: &[Dispatcher<W>], number: u32) -> bool
-    ensures { result ≡ (count_by (λ (t : Token). number_of t.who == number) dispatchers.now == 1) }
+    ensures { result ≡ (count_by (λ (t : TokenRecord). number_of t.who == number) dispatchers.now == 1) }
 {
     dispatchers
         .iter()
@@ -97,14 +97,14 @@ pub(crate) fn are_dispatchers_numbered<W: Wait + Drop>(
 
 /// The tokens of the dispatchers, in room that is there.
 pub(crate) fn gather_dispatchers<W: Wait + Drop>(
-    passes: &mut Vec<Pass<W>>,
+    tokens: &mut Vec<Token<W>>,
     dispatchers: Vec<Dispatcher<W>>,
 )
-    requires { vec_len passes.old + vec_len dispatchers ≤ vec_capacity passes.old }
-    ensures items { passes.new.items ≡ passes.old.items ++ dispatchers.items }
+    requires { vec_len tokens.old + vec_len dispatchers ≤ vec_capacity tokens.old }
+    ensures items { tokens.new.items ≡ tokens.old.items ++ dispatchers.items }
     ensures left { All IsLeft dispatchers.items }
 {
     for dispatcher in dispatchers {
-        passes.push_reserved(dispatcher.into_pass());
+        tokens.push_reserved(dispatcher.into_token());
     }
 }

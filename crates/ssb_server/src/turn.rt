@@ -8,7 +8,7 @@ ghost use Rattle.ssb_server.specs.Ends.{Finishes, Ends, Turned};
 use crate::answers::{give_up_all, scan_batch, serve_all};
 use crate::batch::Batch;
 use crate::grabbing::grab_all;
-use crate::server::{Pass, Server};
+use crate::server::{Server, Token};
 use crate::snapshot::snapshot;
 use fact_columns::Columns;
 use ssb_answers::{Rows, Unserved};
@@ -45,30 +45,30 @@ impl ScanGate for OpenGate {
 // Answers every request in hand by the rows that were found, or gives it up.
 fn finish<W: Wait + Drop>(
     server: &Server<W>,
-    pass: &mut Pass<W>,
+    token: &mut Token<W>,
     batch: &mut Batch,
     at: u64,
     scanned: Result<Vec<Rows>, AllocError>,
 ) -> Turn
-    requires dispatcher { IsDispatcher server.now pass.old }
-    requires free { HoldsNothing pass.old }
-    requires hand { Keeps batch.old pass.old.grabbed }
+    requires dispatcher { IsDispatcher server.now token.old }
+    requires free { HoldsNothing token.old }
+    requires hand { Keeps batch.old token.old.grabbed }
     requires some { 0 < length batch.old.clients }
-    requires at { (at ≡ length pass.old.seen) × (pass.old.version ≡ Some at) }
-    requires rows { IfOk scanned (λ rows. rows.items ≡ answers_after pass.old.hall.base pass.old.seen
+    requires at { (at ≡ length token.old.seen) × (token.old.version ≡ Some at) }
+    requires rows { IfOk scanned (λ rows. rows.items ≡ answers_after token.old.table.base token.old.seen
         batch.old.questions) }
-    ensures finished { Finishes pass.old result pass.new }
+    ensures finished { Finishes token.old result token.new }
     ensures empty { batch.new ≡ no_hand }
-    ensures hand { Keeps no_hand pass.new.grabbed }
+    ensures hand { Keeps no_hand token.new.grabbed }
 {
     match scanned {
         Ok(rows) => {
-            let count = serve_all(server, pass, batch, at, rows);
+            let count = serve_all(server, token, batch, at, rows);
             Turn::Answered { at, count }
         }
         Err(_) => {
             let cause = Unserved::OutOfMemory;
-            let count = give_up_all(server, pass, batch, cause);
+            let count = give_up_all(server, token, batch, cause);
             Turn::Unserved { count, cause }
         }
     }
@@ -79,32 +79,32 @@ fn serve<W: Wait + Drop, R: Wait + Threads + Sync, G: ScanGate>(
     rt: &R,
     server: &Server<W>,
     gate: &G,
-    pass: &mut Pass<W>,
+    token: &mut Token<W>,
     batch: &mut Batch,
     reader: TwinReader<Columns>,
 ) -> (TwinReader<Columns>, Turn)
-    requires dispatcher { IsDispatcher server.now pass.old }
-    requires free { HoldsNothing pass.old }
-    requires hand { Keeps batch.old pass.old.grabbed }
+    requires dispatcher { IsDispatcher server.now token.old }
+    requires free { HoldsNothing token.old }
+    requires hand { Keeps batch.old token.old.grabbed }
     requires some { (0 < length batch.old.clients) × (length batch.old.questions ≤ 16) }
-    requires reader { Knows pass.old.hall.base pass.old.seen reader }
-    ensures ended { Ends pass.old result.1 pass.new }
-    ensures reader { Knows pass.new.hall.base pass.new.seen result.0 }
-    ensures sound { IsSound pass.new }
+    requires reader { Knows token.old.table.base token.old.seen reader }
+    ensures ended { Ends token.old result.1 token.new }
+    ensures reader { Knows token.new.table.base token.new.seen result.0 }
+    ensures sound { IsSound token.new }
     ensures empty { batch.new ≡ no_hand }
-    ensures hand { Keeps no_hand pass.new.grabbed }
+    ensures hand { Keeps no_hand token.new.grabbed }
 {
     match snapshot(
         rt,
         server.alloc,
-        &server.hall,
+        &server.table,
         &server.pace,
         &server.bells,
-        pass,
+        token,
         reader,
     ) {
         Ok(guard) => {
-            let at = pass.seen_len();
+            let at = token.seen_len();
             gate.scanning(at);
             let scanned = scan_batch(
                 rt,
@@ -114,12 +114,12 @@ fn serve<W: Wait + Drop, R: Wait + Threads + Sync, G: ScanGate>(
                 batch.questions(),
             );
             let reader = guard.leave();
-            let turn = finish(server, pass, batch, at, scanned);
+            let turn = finish(server, token, batch, at, scanned);
             (reader, turn)
         }
         Err(missed) => {
             let (reader, cause) = missed;
-            let count = give_up_all(server, pass, batch, cause);
+            let count = give_up_all(server, token, batch, cause);
             (reader, Turn::Unserved { count, cause })
         }
     }
@@ -130,26 +130,26 @@ pub(crate) fn take_turn<W: Wait + Drop, R: Wait + Threads + Sync, G: ScanGate>(
     rt: &R,
     server: &Server<W>,
     gate: &G,
-    pass: &mut Pass<W>,
+    token: &mut Token<W>,
     batch: &mut Batch,
     reader: TwinReader<Columns>,
 ) -> (TwinReader<Columns>, Turn)
-    requires dispatcher { IsDispatcher server.now pass.old }
-    requires free { HoldsNothing pass.old }
-    requires hand { pass.old.grabbed ≡ [] }
-    requires sound { IsSound pass.old }
+    requires dispatcher { IsDispatcher server.now token.old }
+    requires free { HoldsNothing token.old }
+    requires hand { token.old.grabbed ≡ [] }
+    requires sound { IsSound token.old }
     requires empty { batch.old ≡ no_hand }
-    requires reader { Knows pass.old.hall.base pass.old.seen reader }
-    ensures turned { Turned pass.old result.1 pass.new }
-    ensures reader { Knows pass.new.hall.base pass.new.seen result.0 }
-    ensures sound { IsSound pass.new }
+    requires reader { Knows token.old.table.base token.old.seen reader }
+    ensures turned { Turned token.old result.1 token.new }
+    ensures reader { Knows token.new.table.base token.new.seen result.0 }
+    ensures sound { IsSound token.new }
     ensures empty { batch.new ≡ no_hand }
 {
-    grab_all(&server.hall, server.clients, pass, batch);
+    grab_all(&server.table, server.clients, token, batch);
     if batch.len() == 0 {
         return (reader, Turn::Idle);
     }
-    let served = serve(rt, server, gate, pass, batch, reader);
+    let served = serve(rt, server, gate, token, batch, reader);
     server.pace.end(&server.bells);
     served
 }

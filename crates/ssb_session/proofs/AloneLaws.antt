@@ -48,7 +48,7 @@ use Rattle.row_store.specs.declared.refusal.RefreshError.TheVariants as refusal
 use Rattle.history_core.specs.OwnCommits.{IsOfClients, commits_of}
 use Rattle.history_core.specs.World.{rows_after}
 use Rattle.history_core.proofs.HistoryLaws.{some_injective}
-use Rattle.history.specs.Tokens.{Token, IsSound}
+use Rattle.history.specs.Tokens.{TokenRecord, IsSound}
 use Rattle.history.specs.Words.{Owns, IsCause, IsRight, request}
 use Rattle.history.specs.declared.request.Request.{Request as Asked}
 use Rattle.ssb_script.specs.Requests.{Refresh, Ask}
@@ -71,15 +71,15 @@ all_of_one (commit ∷ history) named =
     { named = λ place other at. named.named (suc place) other at })))
 
 -- what it has made is what it sees
-pub alone_sees : (t : Token) → IsAlone t → IsSound t → t.mine ≡ t.seen
+pub alone_sees : (t : TokenRecord) → IsAlone t → IsSound t → t.mine ≡ t.seen
 alone_sees t alone sound =
     subst (λ who. Owns who t.mine t.seen) alone.who sound.owns
     ∙ all_of_one t.seen (subst (λ clients. IsOfClients clients t.seen) alone.clients sound.named)
 
-pub alone_still : (before after : Token) → AreAlike before after → IsAlone before → IsAlone after
+pub alone_still : (before after : TokenRecord) → AreAlike before after → IsAlone before → IsAlone after
 alone_still before after alike alone = record {
   who = alike.who ∙ alone.who;
-  clients = ap (λ hall. hall.clients) alike.hall ∙ alone.clients;
+  clients = ap (λ table. table.clients) alike.table ∙ alone.clients;
 }
 
 -- a receipt tells the number of commits then
@@ -89,44 +89,44 @@ committed_reply : (number : ℕ) (history : List CommitRecord) (actions : List A
 committed_reply number history actions receipt is = ap (λ n. Ok (record { number = n })) is
 
 -- the reply to a refresh
-pub refreshed_reply : (before after : Token) (actions : List Action) (reply : Result Receipt RefreshError)
+pub refreshed_reply : (before after : TokenRecord) (actions : List Action) (reply : Result Receipt RefreshError)
     → client.Refreshed before 1 actions reply after → IsAlone after → IsSound after
-    → IsRefreshReply before.hall.base before.mine actions reply
+    → IsRefreshReply before.table.base before.mine actions reply
 refreshed_reply before after actions (Ok receipt) refreshed alone sound =
     let commit : CommitRecord = record { client = 1; actions = actions } in
     let same : before.mine ++ commit ∷ [] ≡ refreshed.history ++ commit ∷ [] =
-    sym (ap (λ (t : Token). t.mine) refreshed.now) ∙ alone_sees after alone sound
-    ∙ ap (λ (t : Token). t.seen) refreshed.now in
+    sym (ap (λ (t : TokenRecord). t.mine) refreshed.now) ∙ alone_sees after alone sound
+    ∙ ap (λ (t : TokenRecord). t.seen) refreshed.now in
     let history : before.mine ≡ refreshed.history = append_cancel_right before.mine refreshed.history (commit ∷ []) same
     in
     let number : receipt.number ≡ length before.mine + 1 =
-    refreshed.number_is ∙ ap (λ (t : Token). length t.seen) refreshed.now ∙ ap length (sym same)
+    refreshed.number_is ∙ ap (λ (t : TokenRecord). length t.seen) refreshed.now ∙ ap length (sym same)
     ∙ length-append before.mine (commit ∷ []) in
-    let accepted : refusal_of before.hall.base before.mine actions ≡ None =
-    ap (λ h. refusal_of before.hall.base h actions) history ∙ refreshed.accepted in
+    let accepted : refusal_of before.table.base before.mine actions ≡ None =
+    ap (λ h. refusal_of before.table.base h actions) history ∙ refreshed.accepted in
     inl (committed_reply receipt.number before.mine actions receipt number
     ∙ ap (λ r. reply_at (length before.mine) r) (sym accepted))
 refreshed_reply before after actions (Err (refusal.Refused at action cause)) refreshed alone sound =
     let looks = refreshed.2 in
-    let seen : after.seen ≡ before.mine = sym (alone_sees after alone sound) ∙ ap (λ (t : Token). t.mine) looks.now in
-    let base : after.hall.base ≡ before.hall.base = ap (λ (t : Token). t.hall.base) looks.now in
-    let refused : refusal_of before.hall.base before.mine actions ≡ Some (record { action = action; cause = cause }) =
-    ap (λ b. refusal_of b before.mine actions) (sym base) ∙ ap (λ h. refusal_of after.hall.base h actions) (sym seen)
+    let seen : after.seen ≡ before.mine = sym (alone_sees after alone sound) ∙ ap (λ (t : TokenRecord). t.mine) looks.now in
+    let base : after.table.base ≡ before.table.base = ap (λ (t : TokenRecord). t.table.base) looks.now in
+    let refused : refusal_of before.table.base before.mine actions ≡ Some (record { action = action; cause = cause }) =
+    ap (λ b. refusal_of b before.mine actions) (sym base) ∙ ap (λ h. refusal_of after.table.base h actions) (sym seen)
     ∙ refreshed.1 in
     inl (ap (λ n. Err (refusal.Refused n action cause)) (refreshed.0 ∙ ap length seen)
     ∙ ap (λ r. reply_at (length before.mine) r) (sym refused))
 refreshed_reply before after actions (Err refusal.OutOfMemory) refreshed alone sound =
     let looks = refreshed.1 in
-    let seen : after.seen ≡ before.mine = sym (alone_sees after alone sound) ∙ ap (λ (t : Token). t.mine) looks.now in
-    let base : after.hall.base ≡ before.hall.base = ap (λ (t : Token). t.hall.base) looks.now in
+    let seen : after.seen ≡ before.mine = sym (alone_sees after alone sound) ∙ ap (λ (t : TokenRecord). t.mine) looks.now in
+    let base : after.table.base ≡ before.table.base = ap (λ (t : TokenRecord). t.table.base) looks.now in
     inr (
       refl,
       ap (λ b. refusal_of b before.mine actions) (sym base)
-          ∙ ap (λ h. refusal_of after.hall.base h actions) (sym seen) ∙ refreshed.0,
+          ∙ ap (λ h. refusal_of after.table.base h actions) (sym seen) ∙ refreshed.0,
     )
 
 -- its own commits then
-pub refreshed_own : (before after : Token) (actions : List Action) (reply : Result Receipt RefreshError)
+pub refreshed_own : (before after : TokenRecord) (actions : List Action) (reply : Result Receipt RefreshError)
     → client.Refreshed before 1 actions reply after → own after ≡ with_commits (own before)
     (committed_by 1 (Refresh actions) (Refreshed reply))
 refreshed_own before after actions (Ok receipt) refreshed = ap own refreshed.now
@@ -144,34 +144,34 @@ cause_may OutOfMemory is = refl
 cause_may (Twin told found) is = told_apart told found is
 
 -- what is seen when the question is asked, and when it is answered, are the client's own commits
-record Stays (before asking after : Token) : Type 0 where
-  base : asking.hall.base ≡ before.hall.base
+record Stays (before asking after : TokenRecord) : Type 0 where
+  base : asking.table.base ≡ before.table.base
   asked : asking.seen ≡ before.mine
   answered : after.seen ≡ before.mine
 
-stays : (before asking after : Token) (question : Named × List Value) (answer : Answer)
+stays : (before asking after : TokenRecord) (question : Named × List Value) (answer : Answer)
     → client.Asks before question asking → client.Polls asking answer after
     → IsAlone before → IsSound asking → IsSound after → Stays before asking after
 stays before asking after question answer asked polled alone sound ended =
     let one : IsAlone asking = record {
-      who = ap (λ (t : Token). t.who) asked.now ∙ alone.who;
-      clients = ap (λ (t : Token). t.hall.clients) asked.now ∙ alone.clients;
+      who = ap (λ (t : TokenRecord). t.who) asked.now ∙ alone.who;
+      clients = ap (λ (t : TokenRecord). t.table.clients) asked.now ∙ alone.clients;
     } in
     let two : IsAlone after = record {
-      who = ap (λ (t : Token). t.who) polled.now ∙ one.who;
-      clients = ap (λ (t : Token). t.hall.clients) polled.now ∙ one.clients;
+      who = ap (λ (t : TokenRecord). t.who) polled.now ∙ one.who;
+      clients = ap (λ (t : TokenRecord). t.table.clients) polled.now ∙ one.clients;
     } in
     record {
-      base = ap (λ (t : Token). t.hall.base) asked.now;
-      asked = sym (alone_sees asking one sound) ∙ ap (λ (t : Token). t.mine) asked.now;
-      answered = sym (alone_sees after two ended) ∙ ap (λ (t : Token). t.mine) polled.now
-          ∙ ap (λ (t : Token). t.mine) asked.now;
+      base = ap (λ (t : TokenRecord). t.table.base) asked.now;
+      asked = sym (alone_sees asking one sound) ∙ ap (λ (t : TokenRecord). t.mine) asked.now;
+      answered = sym (alone_sees after two ended) ∙ ap (λ (t : TokenRecord). t.mine) polled.now
+          ∙ ap (λ (t : TokenRecord). t.mine) asked.now;
     }
 
 -- an answer that is right within the floor and the whole history is the warehouse's
-right_answer : (before asking after : Token) (question : Named × List Value) (answer : Answer) (asked : Asked)
+right_answer : (before asking after : TokenRecord) (question : Named × List Value) (answer : Answer) (asked : Asked)
     → Stays before asking after
-    → asked ≡ request question (length asking.seen) → IsRight asking.hall.base after.seen asked answer
+    → asked ≡ request question (length asking.seen) → IsRight asking.table.base after.seen asked answer
     → IsAnswer may_be_told (own before) question answer
 right_answer before asking after question (Rows query at rows) asked stays was right =
     let query_is : query ≡ question = right.0 ∙ ap (λ (a : Asked). a.query) was in
@@ -185,33 +185,33 @@ right_answer before asking after question (Rows query at rows) asked stays was r
     ) in
     let all : take at after.seen ≡ before.mine = take_all at after.seen (omega (arith, at_is, ap length stays.answered))
     ∙ stays.answered in
-    let rows_are : rows ≡ rows_after before.hall.base question before.mine =
-    right.3 ∙ ap (λ h. rows_after asking.hall.base query h) all ∙ ap (λ b. rows_after b query before.mine) stays.base
-    ∙ ap (λ q. rows_after before.hall.base q before.mine) query_is in
+    let rows_are : rows ≡ rows_after before.table.base question before.mine =
+    right.3 ∙ ap (λ h. rows_after asking.table.base query h) all ∙ ap (λ b. rows_after b query before.mine) stays.base
+    ∙ ap (λ q. rows_after before.table.base q before.mine) query_is in
     ap (λ q. Rows q at rows) query_is ∙ ap (λ n. Rows question n rows) at_is
     ∙ ap (λ r. Rows question (length before.mine) r) rows_are
 right_answer before asking after question (Unserved query cause) asked stays was right =
     (right.0 ∙ ap (λ (a : Asked). a.query) was, cause_may cause right.1)
 
 -- the answer to a question
-pub answered_reply : (before asking after : Token) (question : Named × List Value) (answer : Answer)
+pub answered_reply : (before asking after : TokenRecord) (question : Named × List Value) (answer : Answer)
     → client.Asks before question asking → client.Polls asking answer after
     → IsAlone before → IsSound asking → IsSound after → IsAnswer may_be_told (own before) question answer
 answered_reply before asking after question answer asked polled alone sound ended =
     let was : polled.asked ≡ request question (length asking.seen) =
     some_injective polled.asked (request question (length asking.seen))
-    (sym polled.was ∙ ap (λ (t : Token). t.asked) asked.now) in
+    (sym polled.was ∙ ap (λ (t : TokenRecord). t.asked) asked.now) in
     right_answer before asking after question answer polled.asked
     (stays before asking after question answer asked polled alone sound ended) was polled.right
 
-pub answered_own : (before asking after : Token) (question : Named × List Value) (answer : Answer)
+pub answered_own : (before asking after : TokenRecord) (question : Named × List Value) (answer : Answer)
     → client.Asks before question asking → client.Polls asking answer after
     → own after ≡ with_commits (own before) (committed_by 1 (Ask question) (Answered answer))
 answered_own before asking after question answer asked polled =
     ap own polled.now ∙ ap own asked.now ∙ sym (with_none (own before))
 
 -- a turn leaves a dispatcher at its table
-pub turn_stays : (before after : Token) (turn : Turn) → Turned before turn after → after.hall ≡ before.hall
-turn_stays before after Idle turned = ap (λ (t : Token). t.hall) turned
-turn_stays before after (Served at count) turned = ap (λ (t : Token). t.hall) turned.1.now
-turn_stays before after (GivenUp count cause) turned = ap (λ (t : Token). t.hall) turned.now
+pub turn_stays : (before after : TokenRecord) (turn : Turn) → Turned before turn after → after.table ≡ before.table
+turn_stays before after Idle turned = ap (λ (t : TokenRecord). t.table) turned
+turn_stays before after (Served at count) turned = ap (λ (t : TokenRecord). t.table) turned.1.now
+turn_stays before after (GivenUp count cause) turned = ap (λ (t : TokenRecord). t.table) turned.now

@@ -41,7 +41,7 @@ use Rattle.row_store.specs.declared.refusal.RefreshError.{RefreshError}
 use Rattle.row_store.specs.declared.refusal.RefreshError.TheVariants as refusal
 use Rattle.row_store.specs.History.{CommitRecord, IsPrefix}
 use Rattle.row_store.proofs.PrefixLaws.{prefix_longer}
-use Rattle.history.specs.Tokens.{Token}
+use Rattle.history.specs.Tokens.{TokenRecord}
 use Rattle.history.specs.Words.{request}
 use Rattle.history.specs.declared.request.Request.{Request as Asked}
 use Rattle.history.proofs.HistoryLaws.{prefix_trans}
@@ -67,56 +67,56 @@ longer_length : (shorter longer : List CommitRecord) → IsPrefix shorter longer
 longer_length shorter longer begins = omega (arith, ap length begins.whole, length-append shorter begins.rest)
 
 -- the token is of the same table, and sees more
-record Goes (before after : Token) : Type 0 where
-  hall : after.hall ≡ before.hall
+record Goes (before after : TokenRecord) : Type 0 where
+  table : after.table ≡ before.table
   begins : IsPrefix before.seen after.seen
 
-goes_on : (a b c : Token) → Goes a b → Goes b c → Goes a c
+goes_on : (a b c : TokenRecord) → Goes a b → Goes b c → Goes a c
 goes_on a b c first second = record {
-  hall = second.hall ∙ first.hall;
+  table = second.table ∙ first.table;
   begins = prefix_trans a.seen b.seen c.seen first.begins second.begins;
 }
 
-goes_nowhere : (a : Token) → Goes a a
-goes_nowhere a = record { hall = refl; begins = record { rest = []; whole = sym (append-nil a.seen) } }
+goes_nowhere : (a : TokenRecord) → Goes a a
+goes_nowhere a = record { table = refl; begins = record { rest = []; whole = sym (append-nil a.seen) } }
 
 -- an answer that the client of this number was told between two tokens
-record IsBetween (base : Tables) (number : ℕ) (before after : Token) (told : Told) : Type 0 where
+record IsBetween (base : Tables) (number : ℕ) (before after : TokenRecord) (told : Told) : Type 0 where
   client : told.client ≡ number
   since : length before.seen ≤ told.at
   is_true : IsTrueOf base after.seen told
 
-refreshed_goes : (before : Token) (number : ℕ) (actions : List Action) (reply : Result Receipt RefreshError)
-    (after : Token)
+refreshed_goes : (before : TokenRecord) (number : ℕ) (actions : List Action) (reply : Result Receipt RefreshError)
+    (after : TokenRecord)
     → client.Refreshed before number actions reply after → Goes before after
 refreshed_goes before number actions (Ok receipt) after refreshed = record {
-  hall = ap (λ (t : Token). t.hall) refreshed.now;
-  begins = subst (IsPrefix before.seen) (sym (ap (λ (t : Token). t.seen) refreshed.now))
+  table = ap (λ (t : TokenRecord). t.table) refreshed.now;
+  begins = subst (IsPrefix before.seen) (sym (ap (λ (t : TokenRecord). t.seen) refreshed.now))
       (prefix_longer before.seen refreshed.history _ refreshed.begins);
 }
 refreshed_goes before number actions (Err (refusal.Refused at action cause)) after refreshed =
-    record { hall = ap (λ (t : Token). t.hall) refreshed.2.now; begins = refreshed.2.begins }
+    record { table = ap (λ (t : TokenRecord). t.table) refreshed.2.now; begins = refreshed.2.begins }
 refreshed_goes before number actions (Err refusal.OutOfMemory) after refreshed =
-    record { hall = ap (λ (t : Token). t.hall) refreshed.1.now; begins = refreshed.1.begins }
+    record { table = ap (λ (t : TokenRecord). t.table) refreshed.1.now; begins = refreshed.1.begins }
 
-answered_goes : (before : Token) (question : Query × List Value) (answer : Answer) (after : Token)
+answered_goes : (before : TokenRecord) (question : Query × List Value) (answer : Answer) (after : TokenRecord)
     → IsAnswered before question answer after → Goes before after
 answered_goes before question answer after answered = goes_on before answered.asking after
-    (record { hall = ap (λ (t : Token). t.hall) answered.asked.now; begins = answered.asked.begins })
-    (record { hall = ap (λ (t : Token). t.hall) answered.polled.now; begins = answered.polled.begins })
+    (record { table = ap (λ (t : TokenRecord). t.table) answered.asked.now; begins = answered.asked.begins })
+    (record { table = ap (λ (t : TokenRecord). t.table) answered.polled.now; begins = answered.polled.begins })
 
 -- rows that a client was told
-rows_between : (base : Tables) (number : ℕ) (before : Token) (question asked_for : Query × List Value) (at : ℕ)
-    (rows : _) (after : Token) → before.hall.base ≡ base
+rows_between : (base : Tables) (number : ℕ) (before : TokenRecord) (question asked_for : Query × List Value) (at : ℕ)
+    (rows : _) (after : TokenRecord) → before.table.base ≡ base
     → IsAnswered before question (Rows asked_for at rows) after
     → IsBetween base number before after (record { client = number; at = at; question = asked_for; rows = rows })
 rows_between base number before question asked_for at rows after over answered =
     let asking = answered.asking in
     let right = answered.polled.right in
     let was : Some answered.polled.asked ≡ Some (request question (length asking.seen)) =
-    sym answered.polled.was ∙ ap (λ (t : Token). t.asked) answered.asked.now in
+    sym answered.polled.was ∙ ap (λ (t : TokenRecord). t.asked) answered.asked.now in
     let floor : answered.polled.asked.floor ≡ length asking.seen = floor_of was in
-    let over_asking : asking.hall.base ≡ base = ap (λ (t : Token). t.hall.base) answered.asked.now ∙ over in
+    let over_asking : asking.table.base ≡ base = ap (λ (t : TokenRecord). t.table.base) answered.asked.now ∙ over in
     record {
       client = refl;
       since = omega (arith, right.1, floor, longer_length before.seen asking.seen answered.asked.begins);
@@ -131,7 +131,7 @@ rows_between base number before question asked_for at rows after over answered =
     floor_of e = cc
 
 -- a request goes on, and what it told is between
-one_goes : (number : ℕ) (before : Token) (request : Request) (reply : Reply) (after : Token)
+one_goes : (number : ℕ) (before : TokenRecord) (request : Request) (reply : Reply) (after : TokenRecord)
     → IsServed number before request reply after → Goes before after
 one_goes number before (Refresh actions) (Refreshed reply) after served =
     refreshed_goes before number actions reply after served
@@ -139,8 +139,8 @@ one_goes number before (Ask question) (Answered answer) after served = answered_
 one_goes number before (Refresh actions) (Answered answer) after served = absurd served
 one_goes number before (Ask question) (Refreshed reply) after served = absurd served
 
-one_told : (base : Tables) (number : ℕ) (before : Token) (request : Request) (reply : Reply) (after : Token)
-    → before.hall.base ≡ base → IsServed number before request reply after
+one_told : (base : Tables) (number : ℕ) (before : TokenRecord) (request : Request) (reply : Reply) (after : TokenRecord)
+    → before.table.base ≡ base → IsServed number before request reply after
     → AllByRecursion (IsBetween base number before after) (told_of number reply)
 one_told base number before (Refresh actions) (Refreshed reply) after over served = tt
 one_told base number before (Ask question) (Answered (Rows asked_for at rows)) after over served =
@@ -209,13 +209,13 @@ one_orderly number (Answered (Rows asked_for at rows)) = (tt, tt)
 one_orderly number (Answered (Unserved asked_for cause)) = tt
 
 -- what a client was told between two tokens
-record AreBetween (base : Tables) (number : ℕ) (before after : Token) (told : List Told) : Type 0 where
+record AreBetween (base : Tables) (number : ℕ) (before after : TokenRecord) (told : List Told) : Type 0 where
   goes : Goes before after
   each : AllByRecursion (IsBetween base number before after) told
   orderly : Orderly told
 
-are_between : (base : Tables) (number : ℕ) (before after : Token) (requests : List Request) (replies : List Reply)
-    → before.hall.base ≡ base
+are_between : (base : Tables) (number : ℕ) (before after : TokenRecord) (requests : List Request) (replies : List Reply)
+    → before.table.base ≡ base
     → AreServed number before requests replies after → AreBetween base number before after
     (flat_map (told_of number) replies)
 are_between base number before after [] [] over served =
@@ -226,7 +226,7 @@ are_between base number before after (request ∷ requests) (reply ∷ replies) 
     let between = served.0 in
     let first = one_goes number before request reply between served.1 in
     let head = one_told base number before request reply between over served.1 in
-    let rest = are_between base number between after requests replies (ap (λ h. h.base) first.hall ∙ over) served.2 in
+    let rest = are_between base number between after requests replies (ap (λ h. h.base) first.table ∙ over) served.2 in
     let earlier = longer_length before.seen between.seen first.begins in
     record {
       goes = goes_on before between after first rest.goes;

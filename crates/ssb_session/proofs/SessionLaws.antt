@@ -37,7 +37,7 @@ use Rattle.ssb_schema.specs.declared.refresh.Action.{Action}
 use Rattle.row_store.specs.declared.commit.Receipt.{Receipt}
 use Rattle.row_store.specs.declared.refusal.RefreshError.{RefreshError}
 use Rattle.row_store.specs.declared.refusal.RefreshError.TheVariants as refusal
-use Rattle.history.specs.Tokens.{Token}
+use Rattle.history.specs.Tokens.{TokenRecord}
 use Rattle.history.specs.World.{number_of}
 use Rattle.ssb_script.specs.Requests.{Request}
 use Rattle.ssb_report.specs.Replies.{Reply, reply_text}
@@ -59,23 +59,23 @@ asks_nothing None none = refl
 asks_nothing (Some x) none = absurd cc
 
 -- a refresh leaves the client what it is
-pub refreshed_alike : (before : Token) (number : ℕ) (actions : List Action) (reply : Result Receipt RefreshError)
-    (after : Token)
+pub refreshed_alike : (before : TokenRecord) (number : ℕ) (actions : List Action) (reply : Result Receipt RefreshError)
+    (after : TokenRecord)
     → client.Refreshed before number actions reply after → is_some before.asked ≡ false → AreAlike before after
 refreshed_alike before number actions (Ok receipt) after refreshed quiet = record {
-  hall = ap (λ (t : Token). t.hall) refreshed.now;
-  who = ap (λ (t : Token). t.who) refreshed.now;
-  quiet = ap (λ (t : Token). t.asked) refreshed.now ∙ asks_nothing before.asked quiet;
+  table = ap (λ (t : TokenRecord). t.table) refreshed.now;
+  who = ap (λ (t : TokenRecord). t.who) refreshed.now;
+  quiet = ap (λ (t : TokenRecord). t.asked) refreshed.now ∙ asks_nothing before.asked quiet;
 }
 refreshed_alike before number actions (Err (refusal.Refused at action cause)) after refreshed quiet = record {
-  hall = ap (λ (t : Token). t.hall) refreshed.2.now;
-  who = ap (λ (t : Token). t.who) refreshed.2.now;
-  quiet = ap (λ (t : Token). t.asked) refreshed.2.now ∙ asks_nothing before.asked quiet;
+  table = ap (λ (t : TokenRecord). t.table) refreshed.2.now;
+  who = ap (λ (t : TokenRecord). t.who) refreshed.2.now;
+  quiet = ap (λ (t : TokenRecord). t.asked) refreshed.2.now ∙ asks_nothing before.asked quiet;
 }
 refreshed_alike before number actions (Err refusal.OutOfMemory) after refreshed quiet = record {
-  hall = ap (λ (t : Token). t.hall) refreshed.1.now;
-  who = ap (λ (t : Token). t.who) refreshed.1.now;
-  quiet = ap (λ (t : Token). t.asked) refreshed.1.now ∙ asks_nothing before.asked quiet;
+  table = ap (λ (t : TokenRecord). t.table) refreshed.1.now;
+  who = ap (λ (t : TokenRecord). t.who) refreshed.1.now;
+  quiet = ap (λ (t : TokenRecord). t.asked) refreshed.1.now ∙ asks_nothing before.asked quiet;
 }
 
 -- what is as it was
@@ -83,17 +83,17 @@ keeps_same : (a : Option (List ℕ)) → Keeps a a
 keeps_same None = tt
 keeps_same (Some xs) = refl
 
-pub stops_before : (number : ℕ) (old : Token) (request : Request) (told : List Told) (a : Option (List ℕ))
+pub stops_before : (number : ℕ) (old : TokenRecord) (request : Request) (told : List Told) (a : Option (List ℕ))
     → StopsIn OutOfMemory number old old request told told a a
 stops_before number old request told a = (refl, refl, keeps_same a)
 
-pub alike_itself : (old : Token) → is_some old.asked ≡ false → AreAlike old old
-alike_itself old quiet = record { hall = refl; who = refl; quiet = asks_nothing old.asked quiet }
+pub alike_itself : (old : TokenRecord) → is_some old.asked ≡ false → AreAlike old old
+alike_itself old quiet = record { table = refl; who = refl; quiet = asks_nothing old.asked quiet }
 
 -- one client after another call
-pub alike_both : (a b c : Token) → AreAlike a b → AreAlike b c → AreAlike a c
+pub alike_both : (a b c : TokenRecord) → AreAlike a b → AreAlike b c → AreAlike a c
 alike_both a b c first second = record {
-  hall = second.hall ∙ first.hall;
+  table = second.table ∙ first.table;
   who = second.who ∙ first.who;
   quiet = second.quiet;
 }
@@ -102,21 +102,21 @@ pub asked_nothing : {X : Type 0} (asked : Option X) → asked ≡ None → is_so
 asked_nothing asked none = ap is_some none
 
 -- a question, and its answer
-pub answered : (before asking after : Token) (question : Named × List Value) (answer : Answer)
+pub answered : (before asking after : TokenRecord) (question : Named × List Value) (answer : Answer)
     → client.Asks before question asking → client.Polls asking answer after
     → IsAnswered before question answer after
 answered before asking after question answer asked polled = record { asking = asking; asked = asked; polled = polled }
 
-pub answered_alike : (before asking after : Token) (question : Named × List Value) (answer : Answer)
+pub answered_alike : (before asking after : TokenRecord) (question : Named × List Value) (answer : Answer)
     → client.Asks before question asking → client.Polls asking answer after → AreAlike before after
 answered_alike before asking after question answer asked polled = record {
-  hall = ap (λ (t : Token). t.hall) polled.now ∙ ap (λ (t : Token). t.hall) asked.now;
-  who = ap (λ (t : Token). t.who) polled.now ∙ ap (λ (t : Token). t.who) asked.now;
-  quiet = ap (λ (t : Token). t.asked) polled.now;
+  table = ap (λ (t : TokenRecord). t.table) polled.now ∙ ap (λ (t : TokenRecord). t.table) asked.now;
+  who = ap (λ (t : TokenRecord). t.who) polled.now ∙ ap (λ (t : TokenRecord). t.who) asked.now;
+  quiet = ap (λ (t : TokenRecord). t.asked) polled.now;
 }
 
 -- as many replies as requests
-same_count : (number : ℕ) (old new : Token) (requests : List Request) (replies : List Reply)
+same_count : (number : ℕ) (old new : TokenRecord) (requests : List Request) (replies : List Reply)
     → AreServed number old requests replies new → length replies ≡ length requests
 same_count number old new [] [] are = refl
 same_count number old new [] (reply ∷ replies) are = absurd are
@@ -125,7 +125,7 @@ same_count number old new (request ∷ requests) (reply ∷ replies) are =
     ap suc (same_count number are.0 new requests replies are.2)
 
 -- one request more
-served_more : (number : ℕ) (old mid new : Token) (requests : List Request) (replies : List Reply) (request : Request)
+served_more : (number : ℕ) (old mid new : TokenRecord) (requests : List Request) (replies : List Reply) (request : Request)
     (reply : Reply)
     → AreServed number old requests replies mid → IsServed number mid request reply new
     → AreServed number old (requests ++ request ∷ []) (replies ++ reply ∷ []) new
@@ -147,7 +147,7 @@ kept_more number replies reply told_old told_mid told_new so_far more =
     ∙ ap (λ t. flat_map (told_of number) replies ++ t) (append-nil (told_of number reply))))
 
 -- no request
-pub serves_none : (number : ℕ) (old : Token) (told : List Told) (before : Option (List ℕ))
+pub serves_none : (number : ℕ) (old : TokenRecord) (told : List Told) (before : Option (List ℕ))
     → Serves number old old [] told told before before
 serves_none number old told before = record {
   replies = [];
@@ -157,7 +157,7 @@ serves_none number old told before = record {
 }
 
 -- one request more
-pub serves_more : (number : ℕ) (old mid new : Token) (requests : List Request) (request : Request)
+pub serves_more : (number : ℕ) (old mid new : TokenRecord) (requests : List Request) (request : Request)
     (told_old told_mid told_new : List Told) (a b c : Option (List ℕ))
     → Serves number old mid requests told_old told_mid a b → ServesOne number mid new request told_mid told_new b c
     → Serves number old new (requests ++ request ∷ []) told_old told_new a c
@@ -173,7 +173,7 @@ serves_more number old mid new requests request told_old told_mid told_new a b c
     }
 
 -- the same by the number of the client, who is still the same
-pub serves_more_still : (old mid new : Token) (requests : List Request) (request : Request)
+pub serves_more_still : (old mid new : TokenRecord) (requests : List Request) (request : Request)
     (told_old told_mid told_new : List Told) (a b c : Option (List ℕ))
     → Serves (number_of old.who) old mid requests told_old told_mid a b → mid.who ≡ old.who
     → ServesOne (number_of mid.who) mid new request told_mid told_new b c
@@ -187,7 +187,7 @@ take_next : (front rest : List Request) (request : Request) → take (length fro
     ++ request ∷ []
 take_next front rest request = take-append-add front (request ∷ rest) 1
 
-stops_there : (number : ℕ) (old mid new : Token) (front rest : List Request) (request : Request)
+stops_there : (number : ℕ) (old mid new : TokenRecord) (front rest : List Request) (request : Request)
     (told_old told_mid told_new : List Told) (a b c : Option (List ℕ))
     → Serves number old mid front told_old told_mid a b → ServesInPart number mid new request told_mid told_new b c
     → StopsAfter (length front) number old new (front ++ request ∷ rest) told_old told_new a c
@@ -208,7 +208,7 @@ stops_there number old mid new front rest request told_old told_mid told_new a b
     }
 
 -- serving stops before a request
-stops_short : (number : ℕ) (old mid new : Token) (front rest : List Request) (request : Request)
+stops_short : (number : ℕ) (old mid new : TokenRecord) (front rest : List Request) (request : Request)
     (told_old told_mid told_new : List Told) (a b c : Option (List ℕ))
     → Serves number old mid front told_old told_mid a b
     → StopsIn OutOfMemory number mid new request told_mid told_new b c
@@ -231,7 +231,7 @@ stops_short number old mid new front rest request told_old told_mid told_new a b
     kept_written (Some xs) (Some ys) (Some zs) x first same = same ∙ first
 
 -- how a run ends at a request
-pub ends_there : (stop : Stop) (number : ℕ) (old mid new : Token) (front rest : List Request) (request : Request)
+pub ends_there : (stop : Stop) (number : ℕ) (old mid new : TokenRecord) (front rest : List Request) (request : Request)
     (told_old told_mid told_new : List Told) (a b c : Option (List ℕ))
     → Serves number old mid front told_old told_mid a b → StopsIn stop number mid new request told_mid told_new b c
     → Ends (error_after stop (length front)) number old new (front ++ request ∷ rest) told_old told_new a c
@@ -241,7 +241,7 @@ ends_there OutOfMemory number old mid new front rest request told_old told_mid t
     stops_short number old mid new front rest request told_old told_mid told_new a b c served stopped
 
 -- the same by the number of the client, who is still the same
-pub ends_there_still : (stop : Stop) (old mid new : Token) (front rest : List Request) (request : Request)
+pub ends_there_still : (stop : Stop) (old mid new : TokenRecord) (front rest : List Request) (request : Request)
     (told_old told_mid told_new : List Told) (a b c : Option (List ℕ))
     → Serves (number_of old.who) old mid front told_old told_mid a b → mid.who ≡ old.who
     → StopsIn stop (number_of mid.who) mid new request told_mid told_new b c

@@ -3,7 +3,7 @@ use Rattle.std.specs.Prelude.{◌≡◌, ◌≢◌, ℕ, ◌<◌, List, slice_ge
 use Rattle.ssb_base.specs.Base.{Tables}
 use Rattle.row_store.specs.History.{CommitRecord, IsPrefix}
 use Rattle.row_store.specs.Legal.{IsLegal}
-use Rattle.history.specs.Tokens.{Token}
+use Rattle.history.specs.Tokens.{TokenRecord}
 use Rattle.ssb_script.specs.Requests.{Request}
 use Rattle.ssb_report.specs.Replies.{Reply}
 use Rattle.ssb_audit.specs.declared.trace.Told.{Told}
@@ -12,11 +12,11 @@ use Rattle.ssb_session.specs.Served.{AreServed, told_of}
 
 -- a client of this number had requests served at a server over the base, sees a beginning of the log, and was told this
 pub record IsTold (base : Tables) (log : List CommitRecord) (number : ℕ) (told : List Told) : Type 0 where
-  pub opened : Token
-  pub closed : Token
+  pub opened : TokenRecord
+  pub closed : TokenRecord
   pub requests : List Request
   pub replies : List Reply
-  pub over : opened.hall.base ≡ base
+  pub over : opened.table.base ≡ base
   pub served : AreServed number opened requests replies closed
   pub begins : IsPrefix closed.seen log
   pub all : told ≡ flat_map (told_of number) replies

@@ -1,7 +1,7 @@
 -- Steps of serving a script.
 use Rattle.std.specs.Prelude.{◌≡◌, ℕ, List, ◌++◌, Option, None}
 use Rattle.std.specs.Io.KnownBytes.{Appends, Keeps}
-use Rattle.history.specs.Tokens.{Token}
+use Rattle.history.specs.Tokens.{TokenRecord}
 use Rattle.ssb_script.specs.Requests.{Request}
 use Rattle.ssb_report.specs.Replies.{Reply, reply_text}
 use Rattle.ssb_report.specs.Written.{StopsShort}
@@ -13,7 +13,7 @@ use Rattle.ssb_session.specs.declared.fault.Stop.{Stop}
 use Rattle.ssb_session.specs.declared.fault.Stop.TheVariants.{Write, OutOfMemory}
 
 -- a request was served, its report written, and its answer kept
-pub record ServesOne (number : ℕ) (old new : Token) (request : Request) (told_old told_new : List Told)
+pub record ServesOne (number : ℕ) (old new : TokenRecord) (request : Request) (told_old told_new : List Told)
     (before after : Option (List ℕ)) : Type 0 where
   pub reply : Reply
   pub served : IsServed number old request reply new
@@ -21,7 +21,7 @@ pub record ServesOne (number : ℕ) (old new : Token) (request : Request) (told_
   pub written : Appends before after (reply_text reply)
 
 -- a request was served and its answer kept, but a part of the report alone was written
-pub record ServesInPart (number : ℕ) (old new : Token) (request : Request) (told_old told_new : List Told)
+pub record ServesInPart (number : ℕ) (old new : TokenRecord) (request : Request) (told_old told_new : List Told)
     (before after : Option (List ℕ)) : Type 0 where
   pub reply : Reply
   pub served : IsServed number old request reply new
@@ -29,7 +29,7 @@ pub record ServesInPart (number : ℕ) (old new : Token) (request : Request) (to
   pub written : StopsShort before after (reply_text reply)
 
 -- where serving stops: at a report, or before the request, with everything as it was
-abbrev pub StopsIn : Stop → ℕ → Token → Token → Request → List Told → List Told → Option (List ℕ) → Option (List ℕ)
+abbrev pub StopsIn : Stop → ℕ → TokenRecord → TokenRecord → Request → List Told → List Told → Option (List ℕ) → Option (List ℕ)
     → Type 0
 StopsIn Write number old new request told_old told_new before after =
     ServesInPart number old new request told_old told_new before after
@@ -42,7 +42,7 @@ error_after Write done = error.Write done
 error_after OutOfMemory done = error.OutOfMemory done
 
 -- it is the same client of the same table, and asks nothing
-pub record AreAlike (old new : Token) : Type 0 where
-  pub hall : new.hall ≡ old.hall
+pub record AreAlike (old new : TokenRecord) : Type 0 where
+  pub table : new.table ≡ old.table
   pub who : new.who ≡ old.who
   pub quiet : new.asked ≡ None

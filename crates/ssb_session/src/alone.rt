@@ -25,7 +25,7 @@ fn refresh_alone<W: Wait + Drop, R: Wait, O: Write>(
     refresh: Arc<Refresh>,
     writer: &mut O,
 ) -> Result<(), WriteFault>
-    requires hall { client.old.hall ≡ server.now }
+    requires table { client.old.table ≡ server.now }
     requires alone { IsAlone client.old }
     requires quiet { is_some client.old.asked ≡ false }
     ensures reply { OnOk result (Answers may_be_told 1 (own client.old) (own client.new) (request.Refresh refresh.value)
@@ -46,8 +46,8 @@ fn ask_alone<W: Wait + Drop, R: Wait + Threads + Sync, O: Write>(
     question: Question,
     writer: &mut O,
 ) -> Result<(), WriteFault>
-    requires hall { client.old.hall ≡ server.now }
-    requires other { dispatcher.old.hall ≡ server.now }
+    requires table { client.old.table ≡ server.now }
+    requires other { dispatcher.old.table ≡ server.now }
     requires alone { IsAlone client.old }
     requires quiet { is_some client.old.asked ≡ false }
     ensures reply { OnOk result (Answers may_be_told 1 (own client.old) (own client.new) (request.Ask question)
@@ -55,7 +55,7 @@ fn ask_alone<W: Wait + Drop, R: Wait + Threads + Sync, O: Write>(
     ensures fault { OnErr result (AnswersInPart may_be_told 1 (own client.old) (own client.new) (request.Ask question)
         (O.contents writer.old) (O.contents writer.new)) }
     ensures same { AreAlike client.old client.new }
-    ensures other { dispatcher.new.hall ≡ dispatcher.old.hall }
+    ensures other { dispatcher.new.table ≡ dispatcher.old.table }
 {
     client.ask(server, question);
     let _ = dispatcher.turn(rt, server, &OpenGate);
@@ -71,8 +71,8 @@ fn serve_alone<W: Wait + Drop, R: Wait + Threads + Sync, O: Write>(
     block: Block,
     writer: &mut O,
 ) -> Result<(), WriteFault>
-    requires hall { client.old.hall ≡ server.now }
-    requires other { dispatcher.old.hall ≡ server.now }
+    requires table { client.old.table ≡ server.now }
+    requires other { dispatcher.old.table ≡ server.now }
     requires alone { IsAlone client.old }
     requires quiet { is_some client.old.asked ≡ false }
     ensures reply { OnOk result (Answers may_be_told 1 (own client.old) (own client.new) (request.request_of block)
@@ -80,7 +80,7 @@ fn serve_alone<W: Wait + Drop, R: Wait + Threads + Sync, O: Write>(
     ensures fault { OnErr result (AnswersInPart may_be_told 1 (own client.old) (own client.new)
         (request.request_of block) (O.contents writer.old) (O.contents writer.new)) }
     ensures same { AreAlike client.old client.new }
-    ensures other { dispatcher.new.hall ≡ dispatcher.old.hall }
+    ensures other { dispatcher.new.table ≡ dispatcher.old.table }
 {
     match block {
         Block::Refresh(refresh) => refresh_alone(rt, server, client, refresh, writer),
@@ -97,8 +97,8 @@ fn serve_blocks<W: Wait + Drop, R: Wait + Threads + Sync, O: Write>(
     script: Script,
     writer: &mut O,
 ) -> Result<u64, RunError>
-    requires hall { client.old.hall ≡ server.now }
-    requires other { dispatcher.old.hall ≡ server.now }
+    requires table { client.old.table ≡ server.now }
+    requires other { dispatcher.old.table ≡ server.now }
     requires alone { IsAlone client.old }
     requires quiet { is_some client.old.asked ≡ false }
     ensures count { IfOk result (λ done. done ≡ length (request.requests_of script)) }
@@ -107,7 +107,7 @@ fn serve_blocks<W: Wait + Drop, R: Wait + Threads + Sync, O: Write>(
     ensures stopped { IfErr result (λ error. StopsAlone error client.old client.new (request.requests_of script)
         (O.contents writer.old) (O.contents writer.new)) }
     ensures same { AreAlike client.old client.new }
-    ensures other { dispatcher.new.hall ≡ dispatcher.old.hall }
+    ensures other { dispatcher.new.table ≡ dispatcher.old.table }
 {
     let mut blocks = script.blocks.into_iter();
     let mut done = 0;
@@ -136,8 +136,8 @@ pub fn run_script<W: Wait + Drop, T: Wait + Threads + Sync, R: Read + Drop, O: W
     source: R,
     writer: &mut O,
 ) -> Result<u64, RunError>
-    requires hall { client.old.hall ≡ server.now }
-    requires other { dispatcher.old.hall ≡ server.now }
+    requires table { client.old.table ≡ server.now }
+    requires other { dispatcher.old.table ≡ server.now }
     requires alone { IsAlone client.old }
     requires quiet { is_some client.old.asked ≡ false }
     ensures served { IfOk result (λ done. ServesScript (R.remaining source) done client.old client.new
@@ -145,7 +145,7 @@ pub fn run_script<W: Wait + Drop, T: Wait + Threads + Sync, R: Read + Drop, O: W
     ensures ended { IfErr result (λ error. EndsAlone (R.remaining source) error client.old client.new dispatcher.old
         dispatcher.new (O.contents writer.old) (O.contents writer.new)) }
     ensures same { AreAlike client.old client.new }
-    ensures other { dispatcher.new.hall ≡ dispatcher.old.hall }
+    ensures other { dispatcher.new.table ≡ dispatcher.old.table }
 {
     match read_script(alloc, source, MOST_RECORDS) {
         Ok(script) => serve_blocks(rt, server, client, dispatcher, script, writer),

@@ -46,7 +46,7 @@ fn serve_refresh<W: Wait + Drop, R: Wait, O: Write>(
     refresh: Arc<Refresh>,
     writer: &mut O,
 ) -> Result<(), Stop>
-    requires hall { client.old.hall ≡ server.now }
+    requires table { client.old.table ≡ server.now }
     requires who { client.old.who ≡ IsNumbered number }
     requires quiet { is_some client.old.asked ≡ false }
     ensures served { (told : List PlainTold) → OnOk result
@@ -74,7 +74,7 @@ fn serve_question<W: Wait + Drop, R: Wait, O: Write>(
     writer: &mut O,
     told: &mut Vec<Told>,
 ) -> Result<(), Stop>
-    requires hall { client.old.hall ≡ server.now }
+    requires table { client.old.table ≡ server.now }
     requires who { client.old.who ≡ IsNumbered number }
     requires quiet { is_some client.old.asked ≡ false }
     ensures served { OnOk result (ServesOne number client.old client.new (request.Ask question) told.old.items
@@ -109,7 +109,7 @@ pub fn serve_block<W: Wait + Drop, R: Wait, O: Write, M: Meter>(
     told: &mut Vec<Told>,
     meter: &mut M,
 ) -> Result<(), Stop>
-    requires hall { client.old.hall ≡ server.now }
+    requires table { client.old.table ≡ server.now }
     requires quiet { is_some client.old.asked ≡ false }
     ensures served { OnOk result (ServesOne (number_of client.old.who) client.old client.new (request.request_of block)
         told.old.items told.new.items (O.contents writer.old) (O.contents writer.new)) }
@@ -144,7 +144,7 @@ pub fn run_blocks<W: Wait + Drop, R: Wait, O: Write, M: Meter>(
     told: &mut Vec<Told>,
     meter: &mut M,
 ) -> Result<(), BlocksError>
-    requires hall { client.old.hall ≡ server.now }
+    requires table { client.old.table ≡ server.now }
     requires quiet { is_some client.old.asked ≡ false }
     ensures served { OnOk result (Serves (number_of client.old.who) client.old client.new (request.requests_of script)
         told.old.items told.new.items (O.contents writer.old) (O.contents writer.new)) }

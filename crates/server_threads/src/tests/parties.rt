@@ -1,7 +1,7 @@
 //! Clients, dispatchers and trials as the threads take them. A thread is started for anything that does as they do:
 //! the prover compares all that a closure holds, part by part, and for these by name that is more than it can.
 ghost use Rattle.std.specs.Thread.{IsSync};
-ghost use Rattle.history.specs.Tokens.{Token};
+ghost use Rattle.history.specs.Tokens.{TokenRecord};
 ghost use Rattle.ssb_server.specs.Tickets.{IsOf, IsQuiet};
 
 use server_steps::steps::{asks_this, awaits, turns};
@@ -16,7 +16,7 @@ use std::thread::Threads;
 
 /// What contracts see as a token.
 pub trait HasToken {
-    ghost token: { Self → Token };
+    ghost token: { Self → TokenRecord };
 }
 
 impl<W: Wait + Drop> HasToken for Client<W> {

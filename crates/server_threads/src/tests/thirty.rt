@@ -1,7 +1,7 @@
 //! Three clients that refresh at once, each in a thread of its own.
 ghost use Rattle.std.specs.Prelude.{◌≡◌};
 ghost use Rattle.std.specs.Thread.{IsSync};
-ghost use Rattle.history.specs.Tokens.{Hall};
+ghost use Rattle.history.specs.Tokens.{TableRecord};
 ghost use Rattle.ssb_server.specs.Tickets.{IsQuiet};
 
 use server_steps::closing::{closes_three, commits_of};
@@ -42,7 +42,7 @@ struct Maker<'s, W: Wait + Drop> {
 }
 
 impl<'s, W: Wait + Drop> Model for Maker<'s, W> {
-    ghost Value = { Hall };
+    ghost Value = { TableRecord };
 
     ghost view = { λ m. m.server.now };
 
@@ -77,15 +77,15 @@ impl<'s, W: Wait + Drop> Maker<'s, W> {
 // holds the server too, since that beside a client and its refreshes is more than the prover can compare.
 trait Makes {
     // The server, which stays.
-    ghost hall: { Self → Hall };
+    ghost table: { Self → TableRecord };
 
     // Makes the refreshes, one after another.
     fn make_all<R: Wait>(&mut self, rt: &R)
-        ensures { Self.hall self.new ≡ Self.hall self.old };
+        ensures { Self.table self.new ≡ Self.table self.old };
 }
 
 impl<'s, W: Wait + Drop> Makes for Maker<'s, W> {
-    ghost hall = { λ m. m };
+    ghost table = { λ m. m };
 
     fn make_all<R: Wait>(&mut self, rt: &R) {
         make_each(rt, self.server, &mut self.client, &self.refreshes);
@@ -111,17 +111,17 @@ fn make_each<W: Wait + Drop, R: Wait>(
 
 // The second client and the third one make their refreshes at once.
 fn two_make<M: Makes + Send, R: Wait + Threads + Sync>(rt: &R, second: &mut M, third: &mut M)
-    ensures second { M.hall second.new ≡ M.hall second.old }
-    ensures third { M.hall third.new ≡ M.hall third.old }
+    ensures second { M.table second.new ≡ M.table second.old }
+    ensures third { M.table third.new ≡ M.table third.old }
 {
     join_mut(
         rt,
         &mut ||
             requires { IsSync R.row }
-            ensures { M.hall second.exit.now ≡ M.hall second.entry.now }
+            ensures { M.table second.exit.now ≡ M.table second.entry.now }
         { second.make_all(rt) },
         &mut ||
-            ensures { M.hall third.exit.now ≡ M.hall third.entry.now }
+            ensures { M.table third.exit.now ≡ M.table third.entry.now }
         { third.make_all(rt) },
     );
 }
@@ -133,20 +133,20 @@ fn three_make<M: Makes + Send, R: Wait + Threads + Sync>(
     second: &mut M,
     third: &mut M,
 )
-    ensures first { M.hall first.new ≡ M.hall first.old }
-    ensures second { M.hall second.new ≡ M.hall second.old }
-    ensures third { M.hall third.new ≡ M.hall third.old }
+    ensures first { M.table first.new ≡ M.table first.old }
+    ensures second { M.table second.new ≡ M.table second.old }
+    ensures third { M.table third.new ≡ M.table third.old }
 {
     join_mut(
         rt,
         &mut ||
             requires { IsSync R.row }
-            ensures { M.hall first.exit.now ≡ M.hall first.entry.now }
+            ensures { M.table first.exit.now ≡ M.table first.entry.now }
         { first.make_all(rt) },
         &mut ||
             requires { IsSync R.row }
-            ensures { M.hall second.exit.now ≡ M.hall second.entry.now
-                × M.hall third.exit.now ≡ M.hall third.entry.now }
+            ensures { M.table second.exit.now ≡ M.table second.entry.now
+                × M.table third.exit.now ≡ M.table third.entry.now }
         { two_make(rt, second, third) },
     );
 }

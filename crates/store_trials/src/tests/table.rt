@@ -7,7 +7,7 @@ ghost use Rattle.history.specs.Words.{request};
 ghost use Rattle.history.specs.Tokens.{IsDispatcher, MayAnswer, without};
 ghost use Rattle.history.specs.Closing.{IsClientOf, IsDispatcherOf};
 
-use history::{Opened, Pass, Shared};
+use history::{Opened, Token, SharedTable};
 use history_core::Who;
 use row_store::{PlainLines, RowStore};
 use small_rows::{adding, base_of_lines};
@@ -27,33 +27,33 @@ const REFRESHES: u64 = 10;
 
 const QUESTIONS: u64 = 1000;
 
-type Table = Shared<PlainLines>;
+type Table = SharedTable<PlainLines>;
 
-type Ticket = Pass<PlainLines>;
+type Ticket = Token<PlainLines>;
 
-// The client's pass that was dealt last.
-fn next_client(shared: &Table, passes: &mut Vec<Ticket>, number: u32) -> Option<Ticket>
-    requires { All (IsClientOf shared.now) passes.old.items }
-    ensures left { All (IsClientOf shared.now) passes.new.items }
-    ensures next { IfSome result (λ pass. IsClientOf shared.now pass × (pass.who ≡ Client number)) }
+// The client's token that was dealt last.
+fn next_client(shared: &Table, tokens: &mut Vec<Ticket>, number: u32) -> Option<Ticket>
+    requires { All (IsClientOf shared.now) tokens.old.items }
+    ensures left { All (IsClientOf shared.now) tokens.new.items }
+    ensures next { IfSome result (λ token. IsClientOf shared.now token × (token.who ≡ Client number)) }
 {
-    let pass = passes.pop()?;
-    if pass.who() == Who::Client(number) {
-        Some(pass)
+    let token = tokens.pop()?;
+    if token.who() == Who::Client(number) {
+        Some(token)
     } else {
         None
     }
 }
 
-// The dispatcher's pass that was dealt last.
-fn next_dispatcher(shared: &Table, passes: &mut Vec<Ticket>, number: u32) -> Option<Ticket>
-    requires { All (IsDispatcherOf shared.now) passes.old.items }
-    ensures left { All (IsDispatcherOf shared.now) passes.new.items }
-    ensures next { IfSome result (λ pass. IsDispatcherOf shared.now pass × (pass.who ≡ Dispatcher number)) }
+// The dispatcher's token that was dealt last.
+fn next_dispatcher(shared: &Table, tokens: &mut Vec<Ticket>, number: u32) -> Option<Ticket>
+    requires { All (IsDispatcherOf shared.now) tokens.old.items }
+    ensures left { All (IsDispatcherOf shared.now) tokens.new.items }
+    ensures next { IfSome result (λ token. IsDispatcherOf shared.now token × (token.who ≡ Dispatcher number)) }
 {
-    let pass = passes.pop()?;
-    if pass.who() == Who::Dispatcher(number) {
-        Some(pass)
+    let token = tokens.pop()?;
+    if token.who() == Who::Dispatcher(number) {
+        Some(token)
     } else {
         None
     }
@@ -61,24 +61,24 @@ fn next_dispatcher(shared: &Table, passes: &mut Vec<Ticket>, number: u32) -> Opt
 
 // A table for three clients and two dispatchers.
 fn opened(alloc: Global, hashing: RandomState) -> Result<Opened<PlainLines>, Fail>
-    ensures hall { IfOk result (λ r. (r.shared.clients ≡ 3) × (r.shared.dispatchers ≡ 2)) }
+    ensures table { IfOk result (λ r. (r.shared.clients ≡ 3) × (r.shared.dispatchers ≡ 2)) }
     ensures clients { IfOk result (λ r. All (IsClientOf r.shared) r.clients.items) }
     ensures dispatchers { IfOk result (λ r. All (IsDispatcherOf r.shared) r.dispatchers.items) }
 {
     let base = base_of_lines(alloc, Limits::standard(), Vec::new(alloc))?;
     let store = RowStore::new(alloc, Arc::try_clone(&base)?, hashing)?;
     let lines = PlainLines::new(alloc, base)?;
-    Ok(Shared::new(alloc, store, lines, 3, 2)?)
+    Ok(SharedTable::new(alloc, store, lines, 3, 2)?)
 }
 
-// Closes the table with all its passes, in some order.
+// Closes the table with all its tokens, in some order.
 fn closed(
     alloc: Global,
     shared: Table,
     clients: (Ticket, Ticket, Ticket),
     dispatchers: (Ticket, Ticket),
 ) -> Result<RowStore, AllocError>
-    requires hall { (shared.clients ≡ 3) × (shared.dispatchers ≡ 2) }
+    requires table { (shared.clients ≡ 3) × (shared.dispatchers ≡ 2) }
     requires first { IsClientOf shared clients.0 × (clients.0.who ≡ Client 1) }
     requires second { IsClientOf shared clients.1 × (clients.1.who ≡ Client 2) }
     requires third { IsClientOf shared clients.2 × (clients.2.who ≡ Client 3) }
@@ -105,29 +105,29 @@ fn refreshes(alloc: Global, from: u64) -> Result<Vec<Arc<Refresh>>, Fail> {
 fn commit_all<R: Wait>(
     rt: &R,
     shared: &Table,
-    mut pass: Ticket,
+    mut token: Ticket,
     client: u32,
     refreshes: Vec<Arc<Refresh>>,
 ) -> Ticket
-    requires { IsClientOf shared.now pass × (pass.who ≡ Client client) }
+    requires { IsClientOf shared.now token × (token.who ≡ Client client) }
     ensures { IsClientOf shared.now result × (result.who ≡ Client client) }
 {
     for refresh in refreshes {
-        let mut rows = shared.take_rows(rt, &mut pass);
+        let mut rows = shared.take_rows(rt, &mut token);
         let _ = rows.apply(client, refresh);
-        shared.put_rows(&mut pass, rows);
+        shared.put_rows(&mut token, rows);
     }
-    pass
+    token
 }
 
 // Waits for the answer to what a client asked.
-fn await_answer<R: Wait>(rt: &R, shared: &Table, pass: &mut Ticket, client: u32)
-    requires hall { pass.old.hall ≡ shared.now }
-    requires client { (pass.old.who ≡ Client client) × (pass.old.has_rows ≡ false) }
-    ensures { IsClientOf shared.now pass.new × (pass.new.who ≡ Client client) }
+fn await_answer<R: Wait>(rt: &R, shared: &Table, token: &mut Ticket, client: u32)
+    requires table { token.old.table ≡ shared.now }
+    requires client { (token.old.who ≡ Client client) × (token.old.has_rows ≡ false) }
+    ensures { IsClientOf shared.now token.new × (token.new.who ≡ Client client) }
 {
     for _ in rt.forever() {
-        if let Some(_answer) = shared.collect(pass) {
+        if let Some(_answer) = shared.collect(token) {
             return;
         }
         thread::yield_now();
@@ -139,31 +139,31 @@ fn await_answer<R: Wait>(rt: &R, shared: &Table, pass: &mut Ticket, client: u32)
 fn ask_all<R: Wait>(
     rt: &R,
     shared: &Table,
-    mut pass: Ticket,
+    mut token: Ticket,
     client: u32,
     questions: Vec<Question>,
 ) -> Ticket
-    requires { IsClientOf shared.now pass × (pass.who ≡ Client client) }
+    requires { IsClientOf shared.now token × (token.who ≡ Client client) }
     ensures { IsClientOf shared.now result × (result.who ≡ Client client) }
 {
     for question in questions {
-        shared.post(&mut pass, question);
-        await_answer(rt, shared, &mut pass, client);
+        shared.post(&mut token, question);
+        await_answer(rt, shared, &mut token, client);
     }
-    pass
+    token
 }
 
 // One try at a client's mailbox. A request is given up.
-fn serve_one(shared: &Table, pass: &mut Ticket, client: u32) -> bool
-    requires dispatcher { IsDispatcherOf shared.now pass.old }
+fn serve_one(shared: &Table, token: &mut Ticket, client: u32) -> bool
+    requires dispatcher { IsDispatcherOf shared.now token.old }
     requires client { (1 ≤ client) × (client ≤ shared.now.clients) }
-    ensures { IsDispatcherOf shared.now pass.new × (pass.new.who ≡ pass.old.who) }
+    ensures { IsDispatcherOf shared.now token.new × (token.new.who ≡ token.old.who) }
 {
-    let Some(query) = shared.grab(pass, client) else {
+    let Some(query) = shared.grab(token, client) else {
         return false;
     };
     let cause = Unserved::OutOfMemory;
-    shared.answer(pass, client, Answer::Unserved { query, cause });
+    shared.answer(token, client, Answer::Unserved { query, cause });
     true
 }
 
@@ -171,19 +171,19 @@ fn serve_one(shared: &Table, pass: &mut Ticket, client: u32) -> bool
 fn serve_all<R: Wait>(
     rt: &R,
     shared: &Table,
-    mut pass: Ticket,
+    mut token: Ticket,
     number: u32,
     answered: &AtomicU64,
 ) -> Ticket
-    requires dispatcher { IsDispatcherOf shared.now pass × (pass.who ≡ Dispatcher number) }
+    requires dispatcher { IsDispatcherOf shared.now token × (token.who ≡ Dispatcher number) }
     requires client { 1 ≤ shared.now.clients }
     ensures { IsDispatcherOf shared.now result × (result.who ≡ Dispatcher number) }
 {
     for _ in rt.forever() {
         if answered.load(Ordering::SeqCst) >= QUESTIONS {
-            return pass;
+            return token;
         }
-        if serve_one(shared, &mut pass, 1) {
+        if serve_one(shared, &mut token, 1) {
             answered.fetch_add(1, Ordering::SeqCst);
         } else {
             thread::yield_now();
@@ -193,70 +193,70 @@ fn serve_all<R: Wait>(
 }
 
 // Lets one client see what another has seen.
-fn meet(shared: &Table, pass: &mut Ticket, other: &mut Ticket) -> u64
-    requires own { IsClientOf shared.now pass.old }
+fn meet(shared: &Table, token: &mut Ticket, other: &mut Ticket) -> u64
+    requires own { IsClientOf shared.now token.old }
     requires other { IsClientOf shared.now other.old }
-    ensures own { IsClientOf shared.now pass.new × (pass.new.who ≡ pass.old.who) }
+    ensures own { IsClientOf shared.now token.new × (token.new.who ≡ token.old.who) }
     ensures other { IsClientOf shared.now other.new × (other.new.who ≡ other.old.who) }
 {
-    shared.meet(pass, other)
+    shared.meet(token, other)
 }
 
 // A client asks a question. The number is its floor.
-fn ask(shared: &Table, pass: &mut Ticket, client: u32, question: Question) -> u64
-    requires { IsClientOf shared.now pass.old × (pass.old.who ≡ Client client) }
-    ensures hall { pass.new.hall ≡ shared.now }
-    ensures client { (pass.new.who ≡ Client client) × (pass.new.has_rows ≡ false) }
-    ensures asked { pass.new.asked ≡ Some (request question result) }
+fn ask(shared: &Table, token: &mut Ticket, client: u32, question: Question) -> u64
+    requires { IsClientOf shared.now token.old × (token.old.who ≡ Client client) }
+    ensures table { token.new.table ≡ shared.now }
+    ensures client { (token.new.who ≡ Client client) × (token.new.has_rows ≡ false) }
+    ensures asked { token.new.asked ≡ Some (request question result) }
 {
-    let floor = pass.seen_len();
-    shared.post(pass, question);
+    let floor = token.seen_len();
+    shared.post(token, question);
     floor
 }
 
 // What a client collects, if there is something.
-fn collect(shared: &Table, pass: &mut Ticket, client: u32) -> Option<Answer>
-    requires hall { pass.old.hall ≡ shared.now }
-    requires client { (pass.old.who ≡ Client client) × (pass.old.has_rows ≡ false) }
-    ensures hall { pass.new.hall ≡ shared.now }
-    ensures client { (pass.new.who ≡ Client client) × (pass.new.has_rows ≡ false) }
+fn collect(shared: &Table, token: &mut Ticket, client: u32) -> Option<Answer>
+    requires table { token.old.table ≡ shared.now }
+    requires client { (token.old.who ≡ Client client) × (token.old.has_rows ≡ false) }
+    ensures table { token.new.table ≡ shared.now }
+    ensures client { (token.new.who ≡ Client client) × (token.new.has_rows ≡ false) }
 {
-    shared.collect(pass)
+    shared.collect(token)
 }
 
 // The requests of three clients in one hand, the third's grabbed last.
-fn grab_three(shared: &Table, pass: &mut Ticket) -> Option<(Question, Question, Question)>
-    requires dispatcher { IsDispatcherOf shared.now pass.old }
+fn grab_three(shared: &Table, token: &mut Ticket) -> Option<(Question, Question, Question)>
+    requires dispatcher { IsDispatcherOf shared.now token.old }
     requires clients { 3 ≤ shared.now.clients }
-    ensures hall { pass.new.hall ≡ shared.now }
-    ensures who { pass.new.who ≡ pass.old.who }
-    ensures free { (pass.new.has_rows ≡ false) × (pass.new.has_writer ≡ false) }
+    ensures table { token.new.table ≡ shared.now }
+    ensures who { token.new.who ≡ token.old.who }
+    ensures free { (token.new.has_rows ≡ false) × (token.new.has_writer ≡ false) }
     ensures hand { IfSome result (λ asked. (floors : ℕ × ℕ × ℕ)
-        × (pass.new.grabbed ≡ record { client = 3; request = request asked.2 floors.2 } ∷
+        × (token.new.grabbed ≡ record { client = 3; request = request asked.2 floors.2 } ∷
         record { client = 2; request = request asked.1 floors.1 } ∷
         record { client = 1; request = request asked.0 floors.0 } ∷ [])) }
 {
-    let first = shared.grab(pass, 1)?;
-    let second = shared.grab(pass, 2)?;
-    let third = shared.grab(pass, 3)?;
+    let first = shared.grab(token, 1)?;
+    let second = shared.grab(token, 2)?;
+    let third = shared.grab(token, 3)?;
     Some((first, second, third))
 }
 
 // Gives up a request in hand.
-fn give_up(shared: &Table, pass: &mut Ticket, client: u32, query: Question)
-    requires hall { pass.old.hall ≡ shared.now }
-    requires dispatcher { IsDispatcher pass.old }
-    requires free { (pass.old.has_rows ≡ false) × (pass.old.has_writer ≡ false) }
-    requires request { MayAnswer pass.old client (GivenUp query OutOfMemory) }
-    ensures now { pass.new ≡ record pass.old {
-      grabbed = without client pass.old.grabbed;
-      given = pass.new.given;
-      did = pass.new.did;
+fn give_up(shared: &Table, token: &mut Ticket, client: u32, query: Question)
+    requires table { token.old.table ≡ shared.now }
+    requires dispatcher { IsDispatcher token.old }
+    requires free { (token.old.has_rows ≡ false) × (token.old.has_writer ≡ false) }
+    requires request { MayAnswer token.old client (GivenUp query OutOfMemory) }
+    ensures now { token.new ≡ record token.old {
+      grabbed = without client token.old.grabbed;
+      given = token.new.given;
+      did = token.new.did;
     } }
-    ensures dispatcher { IsDispatcher pass.new }
+    ensures dispatcher { IsDispatcher token.new }
 {
     let cause = Unserved::OutOfMemory;
-    shared.answer(pass, client, Answer::Unserved { query, cause });
+    shared.answer(token, client, Answer::Unserved { query, cause });
 }
 
 // What a client gets whose question was given up.

@@ -10,7 +10,7 @@ use Rattle.history.proofs.steps.finish.Goals.{in_default-via-in-Some+in_default,
 use Rattle.history.proofs.steps.finish.Goals as goal
 
 pub unreachable-requires : goal.unreachable-requires
-unreachable-requires g c = let base_of = g.W.Follower.base in let key = terms_of c.args.board.shared.key in let v =
+unreachable-requires g c = let base_of = g.W.Follower.base in let key = terms_of c.args.ruled.shared.key in let v =
     c.args.seat.me.0 in
     let last = ends base_of g.W.Follower.commits key c.args.seat.id c.requires.token.0.0 v _ _
     c.close_with-closed.ensures.values.2 c.requires.token.0.1
@@ -24,7 +24,7 @@ unreachable-requires g c = let base_of = g.W.Follower.base in let key = terms_of
     ]
 
 pub returns : goal.returns
-returns g c = let base_of = g.W.Follower.base in let key = terms_of c.args.board.shared.key in let v =
+returns g c = let base_of = g.W.Follower.base in let key = terms_of c.args.ruled.shared.key in let v =
     c.args.seat.me.0 in
     let last = ends base_of g.W.Follower.commits key c.args.seat.id c.requires.token.0.0 v _ _
     c.close_with-closed.ensures.values.2 c.requires.token.0.1
@@ -37,7 +37,7 @@ returns g c = let base_of = g.W.Follower.base in let key = terms_of c.args.board
     (subst (λ t. IsClosed t (members_of v) (store key.base last.0)) (sym c.requires.table.1) last.2)
 
 pub loop-slot-init : goal.loop-slot-init
-loop-slot-init g c = let base_of = g.W.Follower.base in let key = terms_of c.args.board.shared.key in let was =
+loop-slot-init g c = let base_of = g.W.Follower.base in let key = terms_of c.args.ruled.shared.key in let was =
     c.close_with-closed.ensures in let took = c.take.ensures.others in
     let same : slots_filled c.take.new.self.slots ≡ set (slots_filled c.close_with-closed.result.slots) 0 false =
     took.1 in

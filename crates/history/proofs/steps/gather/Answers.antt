@@ -8,7 +8,7 @@ pub split_seat-token-requires : goal.split_seat-token-requires
 split_seat-token-requires g c = let base_of = g.W.Follower.base in let free = c.requires.other in (
   search rules,
   search rules,
-  yields base_of g.W.Follower.commits (terms_of c.args.board.now.shared.key) _ _
+  yields base_of g.W.Follower.commits (terms_of c.args.ruled.now.shared.key) _ _
       free.token.0 free.token.1 free.gathered,
 )
 
@@ -19,7 +19,7 @@ join_seat-requires g c = let base_of = g.W.Follower.base in let free = c.require
       search rules,
       ap (λ m. m.1) token,
       search rules,
-      gathers_token base_of g.W.Follower.commits (terms_of c.args.board.now.shared.key) _ _ _ _ c.requires.token.0
+      gathers_token base_of g.W.Follower.commits (terms_of c.args.ruled.now.shared.key) _ _ _ _ c.requires.token.0
           free.token.0 c.requires.token.1 (ap (λ m. m.0.role) token ∙ free.token.1) (
             ap (λ m. m.0.holds_rows) token ∙ free.rows,
             ap (λ m. m.0.holds_writer) token ∙ free.writer,

@@ -12,7 +12,7 @@ pub compare_exchange-requires : goal.compare_exchange-requires
 compare_exchange-requires g c = let base_of = g.W.Follower.base in let token = c.requires.token in (
   search rules,
   search rules,
-  grabs_one base_of g.W.Follower.commits (terms_of c.args.board.now.shared.key) _ _ _
+  grabs_one base_of g.W.Follower.commits (terms_of c.args.ruled.now.shared.key) _ _ _
       c.args.place c.args.client token.0.0 (token.1, token.0.1),
 )
 

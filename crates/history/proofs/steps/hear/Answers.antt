@@ -8,7 +8,7 @@ pub split_seat-note-requires : goal.split_seat-note-requires
 split_seat-note-requires g c = let base_of = g.W.Follower.base in (
   search rules,
   search rules,
-  tells base_of g.W.Follower.commits (terms_of c.args.board.now.shared.key) _ _
+  tells base_of g.W.Follower.commits (terms_of c.args.ruled.now.shared.key) _ _
       c.requires.token.1.0 c.requires.token.1.1,
 )
 
@@ -18,7 +18,7 @@ join_seat-requires g c = let base_of = g.W.Follower.base in let note = c.split_s
   search rules,
   ap (λ m. m.1) note,
   search rules,
-  hears_note base_of g.W.Follower.commits (terms_of c.args.board.now.shared.key) _ _ _ _ c.requires.token.0.0
+  hears_note base_of g.W.Follower.commits (terms_of c.args.ruled.now.shared.key) _ _ _ _ c.requires.token.0.0
       c.requires.token.0.1 (ap (λ m. m.0.role) note),
 )
 

@@ -7,7 +7,7 @@ pub load-requires : goal.load-requires
 load-requires g c = let base_of = g.W.Follower.base in (
   search rules,
   search rules,
-  looks base_of g.W.Follower.commits (terms_of c.args.board.now.shared.key) _ _ _
+  looks base_of g.W.Follower.commits (terms_of c.args.ruled.now.shared.key) _ _ _
       c.requires.token.0 c.requires.token.1,
 )
 

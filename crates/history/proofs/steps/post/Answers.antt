@@ -10,7 +10,7 @@ use Rattle.history.proofs.steps.post.Goals as goal
 
 pub store-requires : goal.store-requires
 store-requires g c = let base_of = g.W.Follower.base in let taken = g.W.Follower.commits in let key =
-    terms_of c.args.board.now.shared.key in let slots = c.args.board.now.shared.table_id.slots in
+    terms_of c.args.ruled.now.shared.key in let slots = c.args.ruled.now.shared.table_id.slots in
     let v = c.args.seat.now.me.0 in let mail = c.requires.mailbox in let word = 2 + c.args.place in
     let me : Me (Slot g.row.W.Denot) View = (v, (word, Some (Asked c.args.request)) ∷ rest c.args.seat.now.me.1) in
     let now : c.exchange.new.seat.me ≡ me = c.exchange.ensures.3 in (

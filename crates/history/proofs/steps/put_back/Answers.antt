@@ -10,7 +10,7 @@ use Rattle.history.proofs.steps.put_back.Goals as goal
 
 pub fetch_sub-requires : goal.fetch_sub-requires
 fetch_sub-requires g c = let base_of = g.W.Follower.base in let taken = g.W.Follower.commits in let key =
-    terms_of c.args.board.now.shared.key in let slots = c.args.board.now.shared.table_id.slots in let token =
+    terms_of c.args.ruled.now.shared.key in let slots = c.args.ruled.now.shared.table_id.slots in let token =
     c.requires.token in
     let me : Me (Slot g.row.W.Denot) View = (
       c.args.seat.now.me.0,

@@ -11,7 +11,7 @@ use Rattle.history.proofs.steps.put_commit.Goals as goal
 
 pub fetch_add-requires : goal.fetch_add-requires
 fetch_add-requires g c = let base_of = g.W.Follower.base in let taken = g.W.Follower.commits in let key =
-    terms_of c.args.board.now.shared.key in let slots = c.args.board.now.shared.table_id.slots in
+    terms_of c.args.ruled.now.shared.key in let slots = c.args.ruled.now.shared.table_id.slots in
     let same_base = c.requires.rows.0 in let adds = c.requires.rows.1 in
     let me : Me (Slot g.row.W.Denot) View = (
       c.args.seat.now.me.0,

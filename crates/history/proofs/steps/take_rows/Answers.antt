@@ -8,7 +8,7 @@ pub fetch_or-found-requires : goal.fetch_or-found-requires
 fetch_or-found-requires g c = let base_of = g.W.Follower.base in (
   search rules,
   search rules,
-  tries_rows base_of g.W.Follower.commits (terms_of c.args.board.now.shared.key) _ _ _
+  tries_rows base_of g.W.Follower.commits (terms_of c.args.ruled.now.shared.key) _ _ _
       c.requires.token.0 (ap (λ m. m.0.role) c.loop.invariant.2 ∙ c.requires.token.1),
 )
 

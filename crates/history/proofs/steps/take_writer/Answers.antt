@@ -9,7 +9,7 @@ pub compare_exchange-requires : goal.compare_exchange-requires
 compare_exchange-requires g c = let base_of = g.W.Follower.base in let same = c.loop.invariant.2 in (
   search rules,
   search rules,
-  tries_writer base_of g.W.Follower.commits (terms_of c.args.board.now.shared.key) _ _ _
+  tries_writer base_of g.W.Follower.commits (terms_of c.args.ruled.now.shared.key) _ _ _
       c.args.place (ap (λ m. m.0.role) same ∙ c.requires.token.0)
       (subst (λ m. m.0.terms.clients ≤ c.args.place) (sym same) c.requires.token.1),
 )

@@ -8,8 +8,8 @@ abbrev pub invariant-loop-client : goal.invariant-loop-client
 invariant-loop-client g l = record {
   given : ℕ;
   total : given + length l.batch.clients ≡ length l.initial.batch.clients;
-  gave : Gave l.initial.pass given (GivenUp l.cause) l.pass;
-  keeps : Keeps l.batch l.pass.grabbed;
+  gave : Gave l.initial.token given (GivenUp l.cause) l.token;
+  keeps : Keeps l.batch l.token.grabbed;
 }
 
 abbrev pub decreases-loop-client : goal.decreases-loop-client

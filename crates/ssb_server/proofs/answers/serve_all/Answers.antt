@@ -1,6 +1,6 @@
 use Rattle.std.proofs.Common.{arith, ◌≡◌, ◌+◌, length, subst, sym, ap, ◌∙◌}
 use Rattle.std.proofs.lemmas.List.{length_push}
-use Rattle.history.specs.Tokens.{Token}
+use Rattle.history.specs.Tokens.{TokenRecord}
 use Rattle.history.specs.declared.request.Outcome.TheVariants.{Served}
 use Rattle.ssb_server.specs.Hand.{Hand, Keeps}
 use Rattle.ssb_server.specs.Turns.{answers_after, Answered}
@@ -11,43 +11,43 @@ pub loop-client-init : goal.loop-client-init
 loop-client-init g c = record {
   given = 0;
   total = omega arith;
-  gave = gave_none c.args.pass.now (Served c.args.at);
+  gave = gave_none c.args.token.now (Served c.args.at);
   keeps = c.requires.hand;
   rows = c.requires.rows;
 }
 
 pub serve_one-requires-clause-hand : goal.serve_one-requires-clause-hand
 serve_one-requires-clause-hand g c =
-    let last = popped c.pop.new.self c.loop-client.pass.grabbed c.in-Some.client c.in-Some.field-0-1
-    (subst (λ (h : Hand). Keeps h c.loop-client.pass.grabbed) c.in-Some.ensures c.loop-client.invariant.keeps) in
-    let rows = rows_popped c.args.pass.now.hall.base c.args.pass.now.seen c.pop.new.self.questions c.in-Some.field-0-1
+    let last = popped c.pop.new.self c.loop-client.token.grabbed c.in-Some.client c.in-Some.field-0-1
+    (subst (λ (h : Hand). Keeps h c.loop-client.token.grabbed) c.in-Some.ensures c.loop-client.invariant.keeps) in
+    let rows = rows_popped c.args.token.now.table.base c.args.token.now.seen c.pop.new.self.questions c.in-Some.field-0-1
     c.loop-client.rows.items c.pop-in-Some.new.self.items c.in-Some-pop.found
-    (c.loop-client.invariant.rows ∙ ap (λ (h : Hand). answers_after c.args.pass.now.hall.base c.args.pass.now.seen
+    (c.loop-client.invariant.rows ∙ ap (λ (h : Hand). answers_after c.args.token.now.table.base c.args.token.now.seen
     h.questions) c.in-Some.ensures) c.in-Some-pop.ensures.items in
-    in_hand_of c.loop-client.pass.grabbed c.in-Some.client c.in-Some.field-0-1 c.in-Some-pop.found.query rows.query_is
+    in_hand_of c.loop-client.token.grabbed c.in-Some.client c.in-Some.field-0-1 c.in-Some-pop.found.query rows.query_is
     last.has
 
 pub serve_one-requires-clause-at : goal.serve_one-requires-clause-at
 serve_one-requires-clause-at g c =
     let now = c.loop-client.invariant.gave.now in
-    (c.requires.at.0 ∙ ap (λ (t : Token). length t.seen) (sym now), ap (λ (t : Token). t.version) now ∙ c.requires.at.1)
+    (c.requires.at.0 ∙ ap (λ (t : TokenRecord). length t.seen) (sym now), ap (λ (t : TokenRecord). t.version) now ∙ c.requires.at.1)
 
 pub serve_one-requires-clause-rows : goal.serve_one-requires-clause-rows
 serve_one-requires-clause-rows g c =
-    let rows = rows_popped c.args.pass.now.hall.base c.args.pass.now.seen c.pop.new.self.questions c.in-Some.field-0-1
+    let rows = rows_popped c.args.token.now.table.base c.args.token.now.seen c.pop.new.self.questions c.in-Some.field-0-1
     c.loop-client.rows.items c.pop-in-Some.new.self.items c.in-Some-pop.found
-    (c.loop-client.invariant.rows ∙ ap (λ (h : Hand). answers_after c.args.pass.now.hall.base c.args.pass.now.seen
+    (c.loop-client.invariant.rows ∙ ap (λ (h : Hand). answers_after c.args.token.now.table.base c.args.token.now.seen
     h.questions) c.in-Some.ensures) c.in-Some-pop.ensures.items in
-    subst (λ (t : Token). Answered t.hall.base t.seen c.in-Some-pop.found) (sym c.loop-client.invariant.gave.now)
+    subst (λ (t : TokenRecord). Answered t.table.base t.seen c.in-Some-pop.found) (sym c.loop-client.invariant.gave.now)
     rows.answered
 
 pub loop-client-preserved-in-Some-pop : goal.loop-client-preserved-in-Some-pop
 loop-client-preserved-in-Some-pop g c =
-    let last = popped c.pop.new.self c.loop-client.pass.grabbed c.in-Some.client c.in-Some.field-0-1
-    (subst (λ (h : Hand). Keeps h c.loop-client.pass.grabbed) c.in-Some.ensures c.loop-client.invariant.keeps) in
-    let rows = rows_popped c.args.pass.now.hall.base c.args.pass.now.seen c.pop.new.self.questions c.in-Some.field-0-1
+    let last = popped c.pop.new.self c.loop-client.token.grabbed c.in-Some.client c.in-Some.field-0-1
+    (subst (λ (h : Hand). Keeps h c.loop-client.token.grabbed) c.in-Some.ensures c.loop-client.invariant.keeps) in
+    let rows = rows_popped c.args.token.now.table.base c.args.token.now.seen c.pop.new.self.questions c.in-Some.field-0-1
     c.loop-client.rows.items c.pop-in-Some.new.self.items c.in-Some-pop.found
-    (c.loop-client.invariant.rows ∙ ap (λ (h : Hand). answers_after c.args.pass.now.hall.base c.args.pass.now.seen
+    (c.loop-client.invariant.rows ∙ ap (λ (h : Hand). answers_after c.args.token.now.table.base c.args.token.now.seen
     h.questions) c.in-Some.ensures) c.in-Some-pop.ensures.items in
     let n : length c.loop-client.batch.clients ≡ length c.pop.new.self.clients + 1 =
     ap (λ (h : Hand). length h.clients) c.in-Some.ensures ∙ length_push c.pop.new.self.clients c.in-Some.client in
@@ -55,9 +55,9 @@ loop-client-preserved-in-Some-pop g c =
     record {
       given = c.loop-client.invariant.given + 1;
       total = omega arith;
-      gave = gave_more c.args.pass.now c.loop-client.pass c.serve_one.new.pass c.loop-client.invariant.given
+      gave = gave_more c.args.token.now c.loop-client.token c.serve_one.new.token c.loop-client.invariant.given
           (Served c.args.at) c.loop-client.invariant.gave c.serve_one.ensures;
-      keeps = left_keeps c.loop-client.pass (Served c.args.at) c.serve_one.new.pass c.pop.new.self c.in-Some.client
+      keeps = left_keeps c.loop-client.token (Served c.args.at) c.serve_one.new.token c.pop.new.self c.in-Some.client
           c.in-Some.field-0-1 c.serve_one.ensures last;
       rows = rows.rest_is;
     }

@@ -8,9 +8,9 @@ abbrev pub invariant-loop-client : goal.invariant-loop-client
 invariant-loop-client g l = record {
   given : ℕ;
   total : given + length l.batch.clients ≡ length l.initial.batch.clients;
-  gave : Gave l.initial.pass given (Served l.at) l.pass;
-  keeps : Keeps l.batch l.pass.grabbed;
-  rows : l.rows.items ≡ answers_after l.initial.pass.hall.base l.initial.pass.seen l.batch.questions;
+  gave : Gave l.initial.token given (Served l.at) l.token;
+  keeps : Keeps l.batch l.token.grabbed;
+  rows : l.rows.items ≡ answers_after l.initial.token.table.base l.initial.token.seen l.batch.questions;
 }
 
 abbrev pub decreases-loop-client : goal.decreases-loop-client

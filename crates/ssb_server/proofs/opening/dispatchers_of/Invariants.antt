@@ -4,11 +4,11 @@ use Rattle.ssb_base.specs.Base.{Tables}
 use Rattle.ssb_server.specs.Opening.{IsNewDispatcher, IsNewReader}
 use Rattle.ssb_server.proofs.opening.dispatchers_of.Given as goal
 
-abbrev pub invariant-loop-pass : goal.invariant-loop-pass
-invariant-loop-pass g l = record {
+abbrev pub invariant-loop-token : goal.invariant-loop-token
+invariant-loop-token g l = record {
   base : Tables;
-  passes : All (IsNewDispatcher base) l.pass-iterator.rest.items;
+  tokens : All (IsNewDispatcher base) l.token-iterator.rest.items;
   readers : All (IsNewReader base) l.readers.items;
-  count : length l.readers.items ≡ length l.pass-iterator.rest.items;
+  count : length l.readers.items ≡ length l.token-iterator.rest.items;
   made : l.dispatchers.items ≡ l.yielded;
 }

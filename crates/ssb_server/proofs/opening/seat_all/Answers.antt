@@ -12,7 +12,7 @@ clients_of-requires g c = subst (All IsNewClient) (sym c.requires.clients) (clie
 pub dispatchers_of-requires : goal.dispatchers_of-requires
 dispatchers_of-requires g c = record {
   base = c.args.opened.shared.base;
-  passes_are = subst (All (IsNewDispatcher c.args.opened.shared.base)) (sym c.requires.dispatchers)
+  tokens_are = subst (All (IsNewDispatcher c.args.opened.shared.base)) (sym c.requires.dispatchers)
       (dispatchers_are_new c.args.opened.shared);
   readers_are = c.requires.readers;
   count = c.requires.each ∙ (c.requires.counts.1 ∙ (sym (length-map-range_with_len _ 1 c.args.opened.shared.dispatchers)

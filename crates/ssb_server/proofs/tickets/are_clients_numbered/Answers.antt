@@ -3,7 +3,7 @@ use Rattle.std.specs.Prelude.{◌==◌, count_by}
 use Rattle.std.proofs.lemmas.Bool.{eq-eqb}
 use Rattle.std.proofs.lemmas.Bool.Decides.{nat_tests}
 use borrow.Author.Count.{below_more}
-use Rattle.history.specs.Tokens.{Token}
+use Rattle.history.specs.Tokens.{TokenRecord}
 use Rattle.history.specs.World.{number_of}
 use Rattle.history.specs.Closing.{AreNumbered}
 use Rattle.ssb_server.proofs.tickets.are_clients_numbered.Goals as goal
@@ -13,16 +13,16 @@ returns-then-not-has_once g c = (
   (λ (h : IsTrue false). absurd (cc)),
   λ (are : AreNumbered c.args.count c.args.clients.now).
       let one = are.each c.loop-before.before (omega arith) in
-      let yes : (count_by (λ (t : Token). number_of t.who == c.loop-before.before + 1) c.args.clients.now == 1) ≡ true =
-      eq-eqb (count_by (λ (t : Token). number_of t.who == c.loop-before.before + 1) c.args.clients.now) 1 one in
+      let yes : (count_by (λ (t : TokenRecord). number_of t.who == c.loop-before.before + 1) c.args.clients.now == 1) ≡ true =
+      eq-eqb (count_by (λ (t : TokenRecord). number_of t.who == c.loop-before.before + 1) c.args.clients.now) 1 one in
       let made = c.has_once.ensures in let was = c.if-not-has_once.true in absurd (cc),
 )
 
 pub loop-before-preserved : goal.loop-before-preserved
 loop-before-preserved g c =
-    let P : ℕ → Type 0 = λ k. count_by (λ (t : Token). number_of t.who == k + 1) c.args.clients.now ≡ 1 in
+    let P : ℕ → Type 0 = λ k. count_by (λ (t : TokenRecord). number_of t.who == k + 1) c.args.clients.now ≡ 1 in
     let made = c.has_once.ensures in let was = c.if-not-has_once.false in
-    let here : count_by (λ (t : Token). number_of t.who == c.loop-before.before + 1) c.args.clients.now ≡ 1 =
+    let here : count_by (λ (t : TokenRecord). number_of t.who == c.loop-before.before + 1) c.args.clients.now ≡ 1 =
     grind (arith, nat_tests) in
     below_more P c.loop-before.before c.loop-before.invariant here
 

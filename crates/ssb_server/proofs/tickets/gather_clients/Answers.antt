@@ -8,9 +8,9 @@ use Rattle.ssb_server.proofs.tickets.gather_clients.Goals as goal
 
 pub loop-client-preserved : goal.loop-client-preserved
 loop-client-preserved g c = record {
-  items = c.push_reserved.ensures.items ∙ (ap (λ t. c.loop-client.passes.items ++ t ∷ []) c.into_pass.ensures.pass
+  items = c.push_reserved.ensures.items ∙ (ap (λ t. c.loop-client.tokens.items ++ t ∷ []) c.into_token.ensures.token
       ∙ (ap (λ xs. xs ++ c.in-Some.client ∷ []) c.loop-client.invariant.items
-      ∙ append_assoc c.args.passes.now.items c.loop-client.yielded (c.in-Some.client ∷ [])));
+      ∙ append_assoc c.args.tokens.now.items c.loop-client.yielded (c.in-Some.client ∷ [])));
   len = omega (
     arith,
     length_push c.loop-client.yielded c.in-Some.client,
@@ -19,7 +19,7 @@ loop-client-preserved g c = record {
   );
   capacity = c.push_reserved.ensures.capacity ∙ c.loop-client.invariant.capacity;
   rest = All-push IsResting c.loop-client.yielded c.in-Some.client c.loop-client.invariant.rest
-      c.into_pass.ensures.rest;
+      c.into_token.ensures.rest;
 }
 
 pub returns-clause-items : goal.returns-clause-items
@@ -28,5 +28,5 @@ returns-clause-items g c =
     let all = YieldsList-from_vec c.args.clients.items gives.0 (omega (arith, gives.1)) in
     let end = YieldsList-end all c.loop-client.yielded c.loop-client.client-iterator c.loop-client.yielded_by
     c.next.result c.next.new.self c.in-None.is c.next.ensures.steps in
-    c.loop-client.invariant.items ∙ ap (λ ys. c.args.passes.now.items ++ ys)
+    c.loop-client.invariant.items ∙ ap (λ ys. c.args.tokens.now.items ++ ys)
     (sym (map-id c.loop-client.yielded) ∙ end.0)

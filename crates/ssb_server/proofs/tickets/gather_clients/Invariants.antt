@@ -5,8 +5,8 @@ use Rattle.ssb_server.proofs.tickets.gather_clients.Given as goal
 
 abbrev pub invariant-loop-client : goal.invariant-loop-client
 invariant-loop-client g l = record {
-  items : l.passes.items ≡ l.initial.passes.items ++ l.yielded;
-  len : vec_len l.passes ≡ vec_len l.initial.passes + length l.yielded;
-  capacity : vec_capacity l.passes ≡ vec_capacity l.initial.passes;
+  items : l.tokens.items ≡ l.initial.tokens.items ++ l.yielded;
+  len : vec_len l.tokens ≡ vec_len l.initial.tokens + length l.yielded;
+  capacity : vec_capacity l.tokens ≡ vec_capacity l.initial.tokens;
   rest : All IsResting l.yielded;
 }

@@ -5,8 +5,8 @@ use Rattle.ssb_server.proofs.tickets.gather_dispatchers.Given as goal
 
 abbrev pub invariant-loop-dispatcher : goal.invariant-loop-dispatcher
 invariant-loop-dispatcher g l = record {
-  items : l.passes.items ≡ l.initial.passes.items ++ l.yielded;
-  len : vec_len l.passes ≡ vec_len l.initial.passes + length l.yielded;
-  capacity : vec_capacity l.passes ≡ vec_capacity l.initial.passes;
+  items : l.tokens.items ≡ l.initial.tokens.items ++ l.yielded;
+  len : vec_len l.tokens ≡ vec_len l.initial.tokens + length l.yielded;
+  capacity : vec_capacity l.tokens ≡ vec_capacity l.initial.tokens;
   left : All IsLeft l.yielded;
 }

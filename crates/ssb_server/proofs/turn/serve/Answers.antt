@@ -1,6 +1,6 @@
 use Rattle.std.proofs.Common.{◌≡◌, ◌∙◌, ◌≤◌, sym, subst, ap, Some, arith}
 use Rattle.std.specs.Prelude.{IfOk}
-use Rattle.history.specs.Tokens.{Hall}
+use Rattle.history.specs.Tokens.{TableRecord}
 use Rattle.ssb_server.specs.Turns.{answers_after, Knows}
 use Rattle.ssb_server.proofs.TurningLaws.{
   is_copy,
@@ -18,51 +18,51 @@ use Rattle.ssb_server.proofs.turn.serve.Goals as goal
 
 pub scan_batch-scanned-requires-clause-base : goal.scan_batch-scanned-requires-clause-base
 scan_batch-scanned-requires-clause-base g c = λ κs outlives.
-    let is = dispatcher_later c.args.server.now c.args.pass.now c.snapshot.new.pass c.in-Ok.ensures.fetched
+    let is = dispatcher_later c.args.server.now c.args.token.now c.snapshot.new.token c.in-Ok.ensures.fetched
     c.requires.dispatcher in
-    (c.server.invariant.index_is ∙ ap (λ (h : Hall). h.base) c.server.view_is)
-    ∙ (ap (λ (h : Hall). h.base) (sym is.hall_is) ∙ sym
-    (copy_base c.snapshot.new.pass c.in-Ok.guard c.replica.result.now c.in-Ok.ensures.entered
+    (c.server.invariant.index_is ∙ ap (λ (h : TableRecord). h.base) c.server.view_is)
+    ∙ (ap (λ (h : TableRecord). h.base) (sym is.table_is) ∙ sym
+    (copy_base c.snapshot.new.token c.in-Ok.guard c.replica.result.now c.in-Ok.ensures.entered
     c.replica.ensures.state))
 
 pub scan_batch-scanned-requires-clause-copy : goal.scan_batch-scanned-requires-clause-copy
-scan_batch-scanned-requires-clause-copy g c = λ κs outlives. is_copy c.snapshot.new.pass c.in-Ok.guard
+scan_batch-scanned-requires-clause-copy g c = λ κs outlives. is_copy c.snapshot.new.token c.in-Ok.guard
     c.replica.result.now c.in-Ok.ensures.entered c.replica.ensures.state c.in-Ok.ensures.few
 
 pub finish-turn-requires : goal.finish-turn-requires
 finish-turn-requires g c = record {
-  dispatcher = dispatcher_later c.args.server.now c.args.pass.now c.snapshot.new.pass c.in-Ok.ensures.fetched
+  dispatcher = dispatcher_later c.args.server.now c.args.token.now c.snapshot.new.token c.in-Ok.ensures.fetched
       c.requires.dispatcher;
-  free = nothing_later c.args.pass.now c.snapshot.new.pass c.in-Ok.ensures.fetched c.requires.free;
-  hand = keeps_later c.args.pass.now c.snapshot.new.pass c.args.batch.now c.in-Ok.ensures.fetched c.requires.hand;
+  free = nothing_later c.args.token.now c.snapshot.new.token c.in-Ok.ensures.fetched c.requires.free;
+  hand = keeps_later c.args.token.now c.snapshot.new.token c.args.batch.now c.in-Ok.ensures.fetched c.requires.hand;
   some = c.requires.some.0;
   at = (
     c.seen_len-at.ensures,
-    version_later c.args.pass.now c.snapshot.new.pass c.in-Ok.ensures.fetched
+    version_later c.args.token.now c.snapshot.new.token c.in-Ok.ensures.fetched
         ∙ ap (λ n. Some n) (sym c.seen_len-at.ensures),
   );
   rows = subst (λ base. IfOk c.scan_batch-scanned.result
-      (λ rows. rows.items ≡ answers_after base c.snapshot.new.pass.seen c.args.batch.now.questions))
-      (copy_base c.snapshot.new.pass c.in-Ok.guard c.replica.result.now c.in-Ok.ensures.entered c.replica.ensures.state)
+      (λ rows. rows.items ≡ answers_after base c.snapshot.new.token.seen c.args.batch.now.questions))
+      (copy_base c.snapshot.new.token c.in-Ok.guard c.replica.result.now c.in-Ok.ensures.entered c.replica.ensures.state)
       (subst (λ qs. IfOk c.scan_batch-scanned.result (λ rows. rows.items ≡ answers_after c.replica.result.now.base
-      c.snapshot.new.pass.seen qs)) c.questions.ensures
-      (c.scan_batch-scanned.ensures c.snapshot.new.pass.seen
-      (copy_stands c.snapshot.new.pass c.in-Ok.guard c.replica.result.now c.in-Ok.ensures.entered
+      c.snapshot.new.token.seen qs)) c.questions.ensures
+      (c.scan_batch-scanned.ensures c.snapshot.new.token.seen
+      (copy_stands c.snapshot.new.token c.in-Ok.guard c.replica.result.now c.in-Ok.ensures.entered
       c.replica.ensures.state)));
 }
 
 pub returns-in-Ok : goal.returns-in-Ok
 returns-in-Ok g c = record {
   ended = record {
-    between = c.snapshot.new.pass;
+    between = c.snapshot.new.token;
     fetched = c.in-Ok.ensures.fetched;
     finished = c.finish-turn.ensures.finished;
   };
-  reader = seen_finished (λ (hall : Hall) seen. Knows hall.base seen c.leave-reader.result) c.snapshot.new.pass
-      c.finish-turn.new.pass c.finish-turn.result c.finish-turn.ensures.finished
-      (left c.snapshot.new.pass.hall.base c.snapshot.new.pass.seen c.in-Ok.guard c.leave-reader.result
+  reader = seen_finished (λ (table : TableRecord) seen. Knows table.base seen c.leave-reader.result) c.snapshot.new.token
+      c.finish-turn.new.token c.finish-turn.result c.finish-turn.ensures.finished
+      (left c.snapshot.new.token.table.base c.snapshot.new.token.seen c.in-Ok.guard c.leave-reader.result
       c.in-Ok.ensures.entered c.leave-reader.ensures.base c.leave-reader.ensures.told);
-  sound = sound_finished c.snapshot.new.pass c.finish-turn.new.pass c.finish-turn.result c.finish-turn.ensures.finished
+  sound = sound_finished c.snapshot.new.token c.finish-turn.new.token c.finish-turn.result c.finish-turn.ensures.finished
       c.in-Ok.ensures.sound;
   empty = c.finish-turn.ensures.empty;
   hand = c.finish-turn.ensures.hand;
@@ -73,7 +73,7 @@ returns-in-Err-clause-ended g c =
     let some : 1 ≤ c.give_up_all-count.result = let n = c.give_up_all-count.ensures.count in let m =
     c.requires.some.0 in omega arith in
     record {
-      between = c.snapshot.new.pass;
+      between = c.snapshot.new.token;
       fetched = c.in-Err.ensures.fetched;
       finished = (some, c.give_up_all-count.ensures.gave);
     }

@@ -3,11 +3,11 @@ use Rattle.ssb_server.proofs.TurningLaws.{turned, dispatcher_grabbed, nothing_gr
 use Rattle.ssb_server.proofs.turn.take_turn.Goals as goal
 
 pub serve-served-requires-clause-dispatcher : goal.serve-served-requires-clause-dispatcher
-serve-served-requires-clause-dispatcher g c = λ κs outlives. dispatcher_grabbed c.args.server.now c.args.pass.now
-    c.grab_all.new.pass c.grab_all.new.batch c.grab_all.ensures.grabbed c.requires.dispatcher
+serve-served-requires-clause-dispatcher g c = λ κs outlives. dispatcher_grabbed c.args.server.now c.args.token.now
+    c.grab_all.new.token c.grab_all.new.batch c.grab_all.ensures.grabbed c.requires.dispatcher
 
 pub serve-served-requires-clause-free : goal.serve-served-requires-clause-free
-serve-served-requires-clause-free g c = λ κs outlives. nothing_grabbed c.args.pass.now c.grab_all.new.pass
+serve-served-requires-clause-free g c = λ κs outlives. nothing_grabbed c.args.token.now c.grab_all.new.token
     c.grab_all.new.batch c.grab_all.ensures.grabbed c.requires.free
 
 pub serve-served-requires-clause-some : goal.serve-served-requires-clause-some
@@ -17,10 +17,10 @@ serve-served-requires-clause-some g c = λ κs outlives. (
 )
 
 pub serve-served-requires-clause-reader : goal.serve-served-requires-clause-reader
-serve-served-requires-clause-reader g c = λ κs outlives. knows_grabbed c.args.pass.now c.grab_all.new.pass
+serve-served-requires-clause-reader g c = λ κs outlives. knows_grabbed c.args.token.now c.grab_all.new.token
     c.grab_all.new.batch c.args.reader c.grab_all.ensures.grabbed c.requires.reader
 
 pub returns-clause-turned : goal.returns-clause-turned
-returns-clause-turned g c = turned c.args.pass.now c.grab_all.new.pass c.serve-served.new.pass c.grab_all.new.batch
+returns-clause-turned g c = turned c.args.token.now c.grab_all.new.token c.serve-served.new.token c.grab_all.new.batch
     c.serve-served.result.1 c.requires.hand c.grab_all.ensures.grabbed c.serve-served.ensures.ended
     c.serve-served.ensures.hand

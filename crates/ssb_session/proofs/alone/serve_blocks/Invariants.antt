@@ -15,7 +15,7 @@ invariant-loop-block g l =
     × Serves may_be_told 1 (own l.fn.client) (own l.client) front (g.O.Write.contents l.fn.writer)
     (g.O.Write.contents l.writer)
     × AreAlike l.fn.client l.client
-    × (l.dispatcher.hall ≡ l.fn.dispatcher.hall)
+    × (l.dispatcher.table ≡ l.fn.dispatcher.table)
 
 abbrev pub decreases-loop-block : goal.decreases-loop-block
 decreases-loop-block g l = length (into_iter_items l.blocks)

@@ -1,6 +1,6 @@
 use Rattle.std.proofs.Common.{subst}
 use Rattle.ssb_server.specs.Tickets.{IsResting}
-use Rattle.ssb_server.proofs.client.Client.into_pass.Goals as goal
+use Rattle.ssb_server.proofs.client.Client.into_token.Goals as goal
 
 pub returns-clause-rest : goal.returns-clause-rest
 returns-clause-rest g c = subst IsResting c.self.view_is

@@ -4,13 +4,13 @@ use Rattle.ssb_server.proofs.dispatcher.Dispatcher.new.Goals as goal
 pub invariant_of-result : goal.invariant_of-result
 invariant_of-result g c = record {
   who_is = search rules;
-  free = c.requires.pass.free;
-  sound = c.requires.pass.sound;
+  free = c.requires.token.free;
+  sound = c.requires.token.sound;
   known = c.args.reader;
   reader_is = refl;
   knows = record {
-    base_is = sym c.requires.pass.base_is;
-    told = record { rest = c.args.pass.seen; whole = ap (λ told. told ++ c.args.pass.seen) (sym c.requires.reader) };
+    base_is = sym c.requires.token.base_is;
+    told = record { rest = c.args.token.seen; whole = ap (λ told. told ++ c.args.token.seen) (sym c.requires.reader) };
   };
   hand_is = c.requires.batch;
 }

@@ -4,9 +4,9 @@ use Rattle.ssb_server.proofs.dispatcher.Dispatcher.turn.Goals as goal
 
 pub invariant_of-self : goal.invariant_of-self
 invariant_of-self g c = record {
-  who_is = turned_who c.self.inside.pass c.take_turn-reader.new.pass c.take_turn-reader.result.1
+  who_is = turned_who c.self.inside.token c.take_turn-reader.new.token c.take_turn-reader.result.1
       c.take_turn-reader.ensures.turned ∙ c.self.invariant.who_is;
-  free = turned_free c.self.inside.pass c.take_turn-reader.new.pass c.take_turn-reader.result.1
+  free = turned_free c.self.inside.token c.take_turn-reader.new.token c.take_turn-reader.result.1
       c.take_turn-reader.ensures.turned c.self.invariant.free;
   sound = c.take_turn-reader.ensures.sound;
   known = c.take_turn-reader.result.0;

@@ -4,6 +4,6 @@ use Rattle.store_trials.proofs.tests.table.ask_all.Given as goal
 
 abbrev pub invariant-loop-question : goal.invariant-loop-question
 invariant-loop-question g l = record {
-  client : IsClientOf l.initial.pass.hall l.pass;
-  who : l.pass.who ≡ l.initial.pass.who;
+  client : IsClientOf l.initial.token.table l.token;
+  who : l.token.who ≡ l.initial.token.who;
 }

@@ -4,10 +4,10 @@ use Rattle.store_trials.proofs.tests.table.next_client.Goals as goal
 
 pub returns-then-eq-clause-left : goal.returns-then-eq-clause-left
 returns-then-eq-clause-left c =
-    left_have (IsClientOf c.args.shared.now) c.args.passes.now.items c.pop.new.self.items c.in_ok-pass.pass c.requires
-    c.in_ok-pass.ensures.items
+    left_have (IsClientOf c.args.shared.now) c.args.tokens.now.items c.pop.new.self.items c.in_ok-token.token c.requires
+    c.in_ok-token.ensures.items
 
 pub returns-else-eq-clause-left : goal.returns-else-eq-clause-left
 returns-else-eq-clause-left c =
-    left_have (IsClientOf c.args.shared.now) c.args.passes.now.items c.pop.new.self.items c.in_ok-pass.pass c.requires
-    c.in_ok-pass.ensures.items
+    left_have (IsClientOf c.args.shared.now) c.args.tokens.now.items c.pop.new.self.items c.in_ok-token.token c.requires
+    c.in_ok-token.ensures.items

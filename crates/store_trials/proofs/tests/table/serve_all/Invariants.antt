@@ -4,6 +4,6 @@ use Rattle.store_trials.proofs.tests.table.serve_all.Given as goal
 
 abbrev pub invariant-loop : goal.invariant-loop
 invariant-loop g l = record {
-  dispatcher : IsDispatcherOf l.initial.pass.hall l.pass;
-  who : l.pass.who ≡ l.initial.pass.who;
+  dispatcher : IsDispatcherOf l.initial.token.table l.token;
+  who : l.token.who ≡ l.initial.token.who;
 }
