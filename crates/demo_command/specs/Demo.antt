@@ -7,7 +7,7 @@ use Rattle.small_data.specs.SmallTexts.{small_texts}
 use Rattle.ssb_report.specs.Report.{Serves, StopsAfter}
 use Rattle.ssb_report.specs.Run.{AreAsked}
 use Rattle.ssb_base.specs.Base.{Tables}
-use Rattle.ssb_script.specs.Requests.{Request}
+use Rattle.ssb_script.specs.Requests.{RequestRecord}
 use Rattle.ssb_session.specs.Alone.{may_be_told}
 use Rattle.row_store.specs.History.{Warehouse}
 
@@ -17,14 +17,14 @@ opening base = record { base = base; log = [] }
 
 -- the script was served to its end over a base: what was written is its report from the loaded state on, as of client 1
 pub record ServesOver (base : Tables) (remaining : Option (List ℕ)) (before after : Option (List ℕ)) : Type 0 where
-  pub requests : List Request
+  pub requests : List RequestRecord
   pub asked : AreAsked remaining requests
   pub ended : Warehouse
   pub served : Serves may_be_told 1 (opening base) ended requests before after
 
 -- a write failed in the report of a reply
 pub record StopsOver (base : Tables) (remaining : Option (List ℕ)) (before after : Option (List ℕ)) : Type 0 where
-  pub requests : List Request
+  pub requests : List RequestRecord
   pub asked : AreAsked remaining requests
   pub done : ℕ
   pub ended : Warehouse

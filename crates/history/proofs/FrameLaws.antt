@@ -37,7 +37,7 @@ use Rattle.row_store.specs.History.{CommitRecord, IsPrefix}
 use Rattle.row_store.specs.Legal.{IsLegal}
 use Rattle.history.specs.declared.view.Terms.{Terms}
 use Rattle.history.specs.declared.view.Member.{Member}
-use Rattle.history.specs.declared.request.Request.{Request}
+use Rattle.history.specs.declared.request.PostedQuestion.{PostedQuestion}
 use Rattle.history.specs.declared.view.Role.{Role}
 use Rattle.history.specs.declared.view.Role.TheVariants.{Dealer, Token, Note, Spent}
 use Rattle.history.specs.declared.view.View.{View}
@@ -105,7 +105,7 @@ module _ {W : Type 0} where
     pub idle : (p : ℕ) → p ≢ place → w'.writer ≡ Some p → w.writer ≡ Some p
     pub requests : (p : ℕ) (box' : Mailbox) → p ≢ place → get_elem? w'.mailboxes p ≡ some box' → (box : Mailbox)
         × (get_elem? w.mailboxes p ≡ some box) × (request_of box ≡ request_of box')
-    pub hands : (p client : ℕ) (request : Request) → p ≢ place → get_elem? w.mailboxes client ≡ some (in_hand p request)
+    pub hands : (p client : ℕ) (request : PostedQuestion) → p ≢ place → get_elem? w.mailboxes client ≡ some (in_hand p request)
         → get_elem? w'.mailboxes client ≡ some (in_hand p request)
     pub vacant : (p : ℕ) → p ≢ place → (get_elem? w.mailboxes p ≡ some empty) × IsVacant homes p
         → (get_elem? w'.mailboxes p ≡ some empty) × IsVacant homes' p

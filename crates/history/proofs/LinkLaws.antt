@@ -59,7 +59,7 @@ use Rattle.history_core.proofs.HistoryLaws as lists
 use Rattle.history_core.specs.declared.event.Who.{Who}
 use Rattle.history_core.specs.declared.event.Who.TheVariants.{Client, Dispatcher}
 use Rattle.history.specs.declared.view.Terms.{Terms}
-use Rattle.history.specs.declared.request.Request.{Request}
+use Rattle.history.specs.declared.request.PostedQuestion.{PostedQuestion}
 use Rattle.history.specs.declared.view.Member.{Member}
 use Rattle.history_core.specs.World.{rows_after}
 use Rattle.history.specs.Words.{given_to}
@@ -475,7 +475,7 @@ module _ (key : Terms) (w : World) (k : Kept key w) (cs : List ClientState) (ds 
         boxes = boxes;
       }
 
-  stepped_post : (p : ℕ) (request : Request) → Enabled key (post p request) w → Stepped key (post p request) w cs ds
+  stepped_post : (p : ℕ) (request : PostedQuestion) → Enabled key (post p request) w → Stepped key (post p request) w cs ds
   stepped_post p request (m, at, (vacant, floor)) = let low = is_client p empty vacant in let box =
       own_mailbox p empty vacant in
       let f : ClientState → ClientState = λ x. record x { mailbox = core.asked request.query (length x.seen) } in
@@ -498,7 +498,7 @@ module _ (key : Terms) (w : World) (k : Kept key w) (cs : List ClientState) (ds 
         boxes = length-revised w.mailboxes p (λ _. asked request) ∙ boxes;
       }
 
-  stepped_grab : (p client : ℕ) (request : Request) → Enabled key (grab p client request) w
+  stepped_grab : (p client : ℕ) (request : PostedQuestion) → Enabled key (grab p client request) w
       → Stepped key (grab p client request) w cs ds
   stepped_grab p client request (m, at, (far, is_asked)) = let known = known_dispatcher p m far at in let box =
       mailbox_there client (asked request) is_asked in
@@ -548,7 +548,7 @@ module _ (key : Terms) (w : World) (k : Kept key w) (cs : List ClientState) (ds 
         boxes = boxes;
       }
 
-  stepped_answer : (p client : ℕ) (request : Request) (found : Answer) → Enabled key (answer p client request found) w
+  stepped_answer : (p client : ℕ) (request : PostedQuestion) (found : Answer) → Enabled key (answer p client request found) w
       → Stepped key (answer p client request found) w cs ds
   stepped_answer p client request (Rows question at found) (m, there', (far, hand, (same, version, rows))) =
       let n : ℕ = number_at key p in let box = mailbox_there client (in_hand p request) hand in
@@ -625,7 +625,7 @@ module _ (key : Terms) (w : World) (k : Kept key w) (cs : List ClientState) (ds 
         boxes = length-revised w.mailboxes client (λ _. new) ∙ boxes;
       }
 
-  emptied : (p : ℕ) (request : Request) (found : Answer) → get_elem? w.mailboxes p ≡ some (answered request found)
+  emptied : (p : ℕ) (request : PostedQuestion) (found : Answer) → get_elem? w.mailboxes p ≡ some (answered request found)
       → AreClients key (revised w.members p (collects found)) (revised w.mailboxes p (λ _. empty))
       (renewed cs (number_at key p) (λ x. record x { mailbox = core.empty }))
   emptied p request found at = let low = is_client p (answered request found) at in
@@ -635,7 +635,7 @@ module _ (key : Terms) (w : World) (k : Kept key w) (cs : List ClientState) (ds 
       (λ x. record x { mailbox = core.empty }) (number_low key p low) (λ x b _ _. refl))
       p (collects found) (λ m b low. refl)
 
-  stepped_collect : (p : ℕ) (request : Request) (found : Answer) → Enabled key (collect p request found) w
+  stepped_collect : (p : ℕ) (request : PostedQuestion) (found : Answer) → Enabled key (collect p request found) w
       → Stepped key (collect p request found) w cs ds
   stepped_collect p request (Rows question at found) (m, there', hand) = let low =
       is_client p (answered request (Rows question at found)) hand in let box =

@@ -66,7 +66,7 @@ use Rattle.ssb_answers.specs.declared.answer.Answer.TheVariants.{Rows, Unserved}
 use Rattle.row_store.specs.History.{CommitRecord, IsPrefix}
 use Rattle.history.specs.declared.view.Terms.{Terms}
 use Rattle.history.specs.declared.view.Member.{Member}
-use Rattle.history.specs.declared.request.Request.{Request}
+use Rattle.history.specs.declared.request.PostedQuestion.{PostedQuestion}
 use Rattle.history.specs.declared.view.Held.{Held}
 use Rattle.history.specs.declared.view.Role.{Role}
 use Rattle.history.specs.declared.view.Role.TheVariants.{Token}
@@ -156,13 +156,13 @@ only_empty (asked r) e = absurd (cc e)
 only_empty (in_hand p r) e = absurd (cc e)
 only_empty (answered r x) e = absurd (cc e)
 
-only_asked : (box : Mailbox) → stage box ≡ 1 → (request : Request) × (box ≡ asked request)
+only_asked : (box : Mailbox) → stage box ≡ 1 → (request : PostedQuestion) × (box ≡ asked request)
 only_asked empty e = absurd (omega arith)
 only_asked (asked r) e = (r, refl)
 only_asked (in_hand p r) e = absurd (omega arith)
 only_asked (answered r x) e = absurd (omega arith)
 
-only_answered : (box : Mailbox) → stage box ≡ 3 → (request : Request) × (reply : Answer)
+only_answered : (box : Mailbox) → stage box ≡ 3 → (request : PostedQuestion) × (reply : Answer)
     × (box ≡ answered request reply)
 only_answered empty e = absurd (omega arith)
 only_answered (asked r) e = absurd (omega arith)
@@ -189,7 +189,7 @@ module _ {W : Type 0} where
       → w'.writer ≡ w.writer
       → w'.members ≡ revised w.members place f → w'.mailboxes ≡ revised w.mailboxes client (λ _. box')
       → (client ≡ place) ⊎ ((request_of box ≡ request_of box') × (box ≢ empty))
-      → ((p : ℕ) (request : Request) → p ≢ place → box ≢ in_hand p request)
+      → ((p : ℕ) (request : PostedQuestion) → p ≢ place → box ≢ in_hand p request)
       → Grows place w w' homes (set homes (2 + client) y)
   box_grows w w' homes y place client f box box' at same rows writer line boxes own apart = record {
     members = λ p other. ap (λ ms. get_elem? ms p) line ∙ revised_else w.members place p f other;
@@ -269,7 +269,7 @@ module _ {W : Type 0} (base_of : W → Tables) (taken : W → List CommitRecord)
       (ap (λ bs. get_elem? bs c) (sym boxes) ∙ at))
       known
 
-  pub posts : (slots id : ℕ) (me : Me (Slot W) View) (place : ℕ) (request : Request) (others : List (ℕ × Slot W))
+  pub posts : (slots id : ℕ) (me : Me (Slot W) View) (place : ℕ) (request : PostedQuestion) (others : List (ℕ × Slot W))
       → me.0.role ≡ Token place → (place < me.0.terms.clients) × (me.0.has_box ≡ true) × (me.0.asked ≡ None)
       → me.1 ≡ (2 + place, Some (Asked request)) ∷ others
       → request.floor ≡ length me.0.member.seen → Allows Rule slots id me (2 + place) (λ _. 1)
@@ -361,7 +361,7 @@ module _ {W : Type 0} (base_of : W → Tables) (taken : W → List CommitRecord)
 
       hits : n ≡ 1 → Goal
       hits hit = let near = within in let far = outside in let here = box_of s w sh client within in let shown =
-          sh.mail client here.0 here.1 in let a = only_asked here.0 (sym shown.word ∙ hit) in let request : Request =
+          sh.mail client here.0 here.1 in let a = only_asked here.0 (sym shown.word ∙ hit) in let request : PostedQuestion =
           a.0 in
           let is_asked : get_elem? w.mailboxes client ≡ some (asked request) = here.1 ∙ ap some a.1 in let lies :
           LiesIn s.homes client (asked request) = subst (LiesIn s.homes client) a.1 shown.slot in
@@ -408,17 +408,17 @@ module _ {W : Type 0} (base_of : W → Tables) (taken : W → List CommitRecord)
             ),
           )
         where
-          elsewhere : (request : Request) → get_elem? w.mailboxes client ≡ some (asked request) → (i : ℕ) (g : Held)
+          elsewhere : (request : PostedQuestion) → get_elem? w.mailboxes client ≡ some (asked request) → (i : ℕ) (g : Held)
               → get_elem? me.0.grabbed i ≡ some g → g.place ≢ client
           elsewhere request is_asked i g h e = cc (some-injective (asked request) (in_hand place g.request)
               (sym is_asked ∙ (ap (get_elem? w.mailboxes) (sym e) ∙ k.grabbed i g h)))
 
-          all_elsewhere : (request : Request) → get_elem? w.mailboxes client ≡ some (asked request)
+          all_elsewhere : (request : PostedQuestion) → get_elem? w.mailboxes client ≡ some (asked request)
               → IsElsewhere client me.0.grabbed
           all_elsewhere request is_asked = all_of (λ (h : Held). h.place ≢ client) me.0.grabbed
               (elsewhere request is_asked)
 
-          in_hands : (request : Request) → get_elem? w.mailboxes client ≡ some (asked request) → (i : ℕ) (g : Held)
+          in_hands : (request : PostedQuestion) → get_elem? w.mailboxes client ≡ some (asked request) → (i : ℕ) (g : Held)
               → get_elem? (held client request ∷ me.0.grabbed) i ≡ some g
               → get_elem? (revised w.mailboxes client (λ _. in_hand place request)) g.place ≡ some
               (in_hand place g.request)
@@ -429,7 +429,7 @@ module _ {W : Type 0} (base_of : W → Tables) (taken : W → List CommitRecord)
           in_hands request is_asked (suc i) g h = revised_else w.mailboxes client g.place (λ _. in_hand place request)
               (elsewhere request is_asked i g h) ∙ k.grabbed i g h
 
-  pub serves : (slots id : ℕ) (me : Me (Slot W) View) (place client : ℕ) (request : Request) (reply : Answer)
+  pub serves : (slots id : ℕ) (me : Me (Slot W) View) (place client : ℕ) (request : PostedQuestion) (reply : Answer)
       (others : List (ℕ × Slot W)) → me.0.role ≡ Token place → (client < me.0.terms.clients)
       × (me.0.terms.clients ≤ place)
       → request_at client me.0.grabbed ≡ Some request → me.1 ≡ (2 + client, Some (Answered reply)) ∷ others
@@ -492,7 +492,7 @@ module _ {W : Type 0} (base_of : W → Tables) (taken : W → List CommitRecord)
               (λ i. (served_as me.0 (here i) ((has_later c here) i) (one i), rest me.1)),
               λ q e'. let asks : Some request ≡ Some q = sym has ∙ (ap (λ n. request_at n me.0.grabbed) here ∙ e') in
                   let ask : request ≡ q = cc asks in
-                  subst (λ (z : ℕ × Request × Answer). IsFresh (given_to (z.0 + 1) z.1 z.2))
+                  subst (λ (z : ℕ × PostedQuestion × Answer). IsFresh (given_to (z.0 + 1) z.1 z.2))
                   (λ i. (here i, ask i, one i))
                   (fresh (client + 1) w.history request reply can' above),
             ),
@@ -502,7 +502,7 @@ module _ {W : Type 0} (base_of : W → Tables) (taken : W → List CommitRecord)
       has_later : (c : ℕ) (here : client ≡ c) → Some request ≡ request_at c me.0.grabbed
       has_later c here = sym has ∙ ap (λ n. request_at n me.0.grabbed) here
 
-      right_in_all : (history : List CommitRecord) (request : Request) (x : Answer) → IsPrefix me.0.member.seen history
+      right_in_all : (history : List CommitRecord) (request : PostedQuestion) (x : Answer) → IsPrefix me.0.member.seen history
           → ((version : ℕ) → me.0.member.version ≡ Some version → version ≤ length me.0.member.seen)
           → IsRightAt me.0.terms.base me.0.member.seen me.0.member.version request x
           → IsRightAt me.0.terms.base history me.0.member.version request x
@@ -515,7 +515,7 @@ module _ {W : Type 0} (base_of : W → Tables) (taken : W → List CommitRecord)
           )
       right_in_all history request (Unserved question cause) begins versioned right = right
 
-      fresh : (n : ℕ) (history : List CommitRecord) (request : Request) (x : Answer)
+      fresh : (n : ℕ) (history : List CommitRecord) (request : PostedQuestion) (x : Answer)
           → IsRightAt key.base history me.0.member.version request x → IsAbove request.floor me.0.member
           → IsFresh (given_to n request x)
       fresh n history request (Rows question at found) (same, version, rows) above later e = let is_at : at ≡ later =
@@ -561,7 +561,7 @@ module _ {W : Type 0} (base_of : W → Tables) (taken : W → List CommitRecord)
 
       hits : n ≡ 3 → Goal
       hits hit = let near = within in let here = box_of s w sh place within in let shown =
-          sh.mail place here.0 here.1 in let a = only_answered here.0 (sym shown.word ∙ hit) in let request : Request =
+          sh.mail place here.0 here.1 in let a = only_answered here.0 (sym shown.word ∙ hit) in let request : PostedQuestion =
           a.0 in let reply : Answer = a.1 in
           let is_answered : get_elem? w.mailboxes place ≡ some (answered request reply) = here.1 ∙ ap some a.2 in
           let lies : LiesIn s.homes place (answered request reply) = subst (LiesIn s.homes place) a.2 shown.slot in

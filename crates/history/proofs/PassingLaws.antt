@@ -43,7 +43,7 @@ use Rattle.history_core.specs.Events.{Question}
 use Rattle.row_store.proofs.HistoryLaws.{accepted_stays_legal}
 use Rattle.history_core.proofs.HistoryLaws.{named_push}
 use Rattle.history.specs.declared.view.Member.{Member}
-use Rattle.history.specs.declared.request.Request.{Request}
+use Rattle.history.specs.declared.request.PostedQuestion.{PostedQuestion}
 use Rattle.history.specs.declared.view.Held.{Held}
 use Rattle.history.specs.declared.view.View.{View}
 use Rattle.history.specs.declared.token.Token.TheInside.{Inside as Token}
@@ -97,7 +97,7 @@ module _ {W : Type 0} where
   boxes_behind v place far = let high : nat_lt place v.terms.clients ≡ false = grind (arith, nat_tests) in rw high refl
 
   -- the slots of a client that has asked something, and of one that has not
-  pub asking_carries : (p : Token W) (asked : Request) → IsSeated p → p.place < p.seat.me.0.terms.clients
+  pub asking_carries : (p : Token W) (asked : PostedQuestion) → IsSeated p → p.place < p.seat.me.0.terms.clients
       → p.seat.me.0.asked ≡ Some asked → p.seat.me.1 ≡ hands 0 p.seat.me.0.holds_rows []
   asking_carries p asked is near has = let v : View = p.seat.me.0 in
       is.carried ∙ ((λ i. hands 0 v.holds_rows (hands 1 ((is.in_hand.0 near).2 i) (boxes v p.place)))
@@ -237,7 +237,7 @@ module _ {W : Type 0} where
       subst (Saw (shown_token p)) (sym (token_is p p.hand after n (looked (record p.seat.me.0 { beside = beside }) history)
       p.seat.me.1 table now)) record { begins = begins; beside = known; now = refl }
 
-  pub posted_seated : (p : Token W) (after : Place W) (asked : Request) → IsSeated p
+  pub posted_seated : (p : Token W) (after : Place W) (asked : PostedQuestion) → IsSeated p
       → p.place < p.seat.me.0.terms.clients → after.me ≡ (posted p.seat.me.0 asked, hands 0 p.seat.me.0.holds_rows [])
       → IsSeated (passed p p.hand after p.seen_len)
   posted_seated p after asked is near now = let v : View = p.seat.me.0 in
@@ -264,7 +264,7 @@ module _ {W : Type 0} where
       token_is p p.hand after p.seen_len (posted p.seat.me.0 (request question p.seen_len)) carried table now
       ∙ ap (λ n. token_of_view p.seat.table_id (posted p.seat.me.0 (request question n))) is.seen_len
 
-  pub grabbed_seated : (p : Token W) (hand : ArrayVec ℕ) (after : Place W) (client : ℕ) (asked : Request) → IsSeated p
+  pub grabbed_seated : (p : Token W) (hand : ArrayVec ℕ) (after : Place W) (client : ℕ) (asked : PostedQuestion) → IsSeated p
       → p.seat.me.0.terms.clients ≤ p.place → p.seat.me.0.holds_rows ≡ false → p.seat.me.0.holds_writer ≡ false
       → client < p.seat.me.0.terms.clients
       → hand.items ≡ client ∷ p.hand.items → IsElsewhere client p.seat.me.0.grabbed
@@ -288,7 +288,7 @@ module _ {W : Type 0} where
         sound = record { legal = is.sound.legal; named = is.sound.named; owns = is.sound.owns };
       }
 
-  pub grabbed_token : (p : Token W) (hand : ArrayVec ℕ) (after : Place W) (place client : ℕ) (asked : Request)
+  pub grabbed_token : (p : Token W) (hand : ArrayVec ℕ) (after : Place W) (place client : ℕ) (asked : PostedQuestion)
       (carried : List (ℕ × Slot W)) → place + 1 ≡ client → after.table_id ≡ p.seat.table_id
       → after.me ≡ (grabbed p.seat.me.0 place asked, carried)
       → Grabs (shown_token p) client asked.query (shown_token (passed p hand after p.seen_len))
@@ -298,7 +298,7 @@ module _ {W : Type 0} where
       (sym (token_is p hand after p.seen_len (grabbed p.seat.me.0 place asked) carried table now))
       record { floor = asked.floor; now = refl })
 
-  pub answered_seated : (p : Token W) (hand : ArrayVec ℕ) (after : Place W) (client : ℕ) (asked : Request)
+  pub answered_seated : (p : Token W) (hand : ArrayVec ℕ) (after : Place W) (client : ℕ) (asked : PostedQuestion)
       (reply : Answer) → IsSeated p → p.seat.me.0.terms.clients ≤ p.place → p.seat.me.0.holds_rows ≡ false
       → p.seat.me.0.holds_writer ≡ false
       → request_at client p.seat.me.0.grabbed ≡ Some asked
@@ -323,7 +323,7 @@ module _ {W : Type 0} where
         sound = record { legal = is.sound.legal; named = is.sound.named; owns = is.sound.owns };
       }
 
-  pub collected_seated : (p : Token W) (after : Place W) (history : List CommitRecord) (reply : Answer) (asked : Request)
+  pub collected_seated : (p : Token W) (after : Place W) (history : List CommitRecord) (reply : Answer) (asked : PostedQuestion)
       → IsSeated p → p.place < p.seat.me.0.terms.clients → p.seat.me.0.asked ≡ Some asked
       → after.me ≡ (collected p.seat.me.0 history reply, turned ((2 + p.place, None) ∷ p.seat.me.1))
       → IsSeated (passed p p.hand after p.seen_len)
@@ -348,7 +348,7 @@ module _ {W : Type 0} where
         sound = record { legal = is.sound.legal; named = is.sound.named; owns = is.sound.owns };
       }
 
-  pub collected_token : (p : Token W) (after : Place W) (history : List CommitRecord) (reply : Answer) (asked : Request)
+  pub collected_token : (p : Token W) (after : Place W) (history : List CommitRecord) (reply : Answer) (asked : PostedQuestion)
       (carried : List (ℕ × Slot W)) → p.seat.me.0.asked ≡ Some asked
       → IsRight p.seat.me.0.terms.base history asked reply → after.table_id ≡ p.seat.table_id
       → after.me ≡ (collected p.seat.me.0 history reply, carried)

@@ -45,7 +45,7 @@ use Rattle.row_store.specs.History.{CommitRecord, IsPrefix}
 use Rattle.history_core.specs.declared.event.Who.{Who}
 use Rattle.history_core.specs.declared.event.Who.TheVariants.{Client, Dispatcher}
 use Rattle.history.specs.declared.view.Terms.{Terms}
-use Rattle.history.specs.declared.request.Request.{Request}
+use Rattle.history.specs.declared.request.PostedQuestion.{PostedQuestion}
 use Rattle.history.specs.declared.view.Member.{Member}
 use Rattle.history.specs.Words.{Owns, IsRightAt, IsRight}
 use Rattle.history_core.specs.World.{rows_after}
@@ -206,7 +206,7 @@ kept_opening key = record {
         }
 
 -- an answer stays right in a longer history
-pub right_later : (base : Tables) (history now : List CommitRecord) (request : Request) (reply : Answer)
+pub right_later : (base : Tables) (history now : List CommitRecord) (request : PostedQuestion) (reply : Answer)
     → IsPrefix history now → IsRight base history request reply → IsRight base now request reply
 right_later base history now request (Rows question at found) more (same, low, high, rows) = let long =
     prefix_length history now more in (
@@ -322,7 +322,7 @@ mail_revised base history members boxes client box all here =
     each_revised (λ c b. MailKept base history members b) (λ c b. MailKept base history members b) boxes client
     (λ _. box) all (λ a at was. here) (λ c b other at was. was)
 
-serves_right : (key : Terms) (w : World) (k : Kept key w) (place client : ℕ) (request : Request) (reply : Answer)
+serves_right : (key : Terms) (w : World) (k : Kept key w) (place client : ℕ) (request : PostedQuestion) (reply : Answer)
     → get_elem? w.mailboxes client ≡ some (in_hand place request) → (m : Member) → get_elem? w.members place ≡ some m
     → IsRightAt key.base w.history m.version request reply → IsRight key.base w.history request reply
 serves_right key w k place client request (Rows question at found) hand m there (same, version, rows) = (

@@ -12,7 +12,7 @@ use Rattle.history_core.specs.declared.event.Who.TheVariants.{Client}
 use Rattle.history.specs.declared.view.Terms.{Terms}
 use Rattle.history.specs.declared.view.Opening.{Opening}
 use Rattle.history.specs.declared.view.Member.{Member}
-use Rattle.history.specs.declared.request.Request.{Request}
+use Rattle.history.specs.declared.request.PostedQuestion.{PostedQuestion}
 use Rattle.history.specs.declared.view.Held.{Held}
 use Rattle.history.specs.declared.view.Role.{Role}
 use Rattle.history.specs.declared.view.Role.TheVariants.{Dealer, Token, Note, Spent}
@@ -35,7 +35,7 @@ stage (in_hand place request) = 2
 stage (answered request reply) = 3
 
 -- what the client that asked has not collected yet
-abbrev pub request_of : Mailbox → Option Request
+abbrev pub request_of : Mailbox → Option PostedQuestion
 request_of empty = None
 request_of (asked request) = Some request
 request_of (in_hand place request) = Some request

@@ -18,7 +18,7 @@ use Rattle.history_core.specs.OwnCommits.{IsOfClients}
 use Rattle.history.specs.declared.event.Event.{Event}
 use Rattle.history.specs.declared.event.Event.TheVariants as event
 use Rattle.history.specs.declared.event.Deed.{Deed}
-use Rattle.history.specs.declared.request.Request.{Request}
+use Rattle.history.specs.declared.request.PostedQuestion.{PostedQuestion}
 use Rattle.history.specs.declared.request.Grabbed.{Grabbed}
 use Rattle.history.specs.declared.request.Given.{Given}
 use Rattle.history.specs.Words.{Owns, request, IsRight, IsRightAt, IsFresh, given_to}
@@ -43,7 +43,7 @@ pub record TokenRecord : Type 0 where
   pub has_rows : Bool
   pub has_writer : Bool
   -- what a client asked and has not collected
-  pub asked : Option Request
+  pub asked : Option PostedQuestion
   -- the length of the history at a dispatcher's last return of the rows, and the mark at its last return of the
   -- writer; a grab and taking the writer clear both
   pub mark : Option ℕ
@@ -155,7 +155,7 @@ posted t question =
     }
 
 -- the request of this client among those in hand
-abbrev pub request_of : ℕ → List Grabbed → Option Request
+abbrev pub request_of : ℕ → List Grabbed → Option PostedQuestion
 request_of client [] = None
 request_of client (first ∷ others) = if first.client == client then Some first.request else request_of client others
 
@@ -176,18 +176,18 @@ pub record Grabs (before : TokenRecord) (client : ℕ) (question : Question) (af
   }
 
 -- the answer is to this request, and right at the token's version
-abbrev pub Serves : TokenRecord → Request → Answer → Type 0
+abbrev pub Serves : TokenRecord → PostedQuestion → Answer → Type 0
 Serves t asked reply = IsRightAt t.table.base t.seen t.version asked reply
 
 -- the client's request is in hand, and this answer serves it
 pub record MayAnswer (t : TokenRecord) (client : ℕ) (reply : Answer) : Type 0 where
-  pub asked : Request
+  pub asked : PostedQuestion
   pub held : request_of client t.grabbed ≡ Some asked
   pub serves : Serves t asked reply
 
 -- the client's request has left the hand, and its answer was given
 pub record Answers (before : TokenRecord) (client : ℕ) (reply : Answer) (after : TokenRecord) : Type 0 where
-  pub asked : Request
+  pub asked : PostedQuestion
   pub held : request_of client before.grabbed ≡ Some asked
   pub fresh : IsFresh (given_to client asked reply)
   pub now : after ≡ record before {
@@ -200,7 +200,7 @@ pub record Answers (before : TokenRecord) (client : ℕ) (reply : Answer) (after
 -- a client has collected the answer to what it asked, which is right in a history that the next look shows to be a
 -- beginning
 pub record Collected (before : TokenRecord) (reply : Answer) (after : TokenRecord) : Type 0 where
-  pub asked : Request
+  pub asked : PostedQuestion
   pub was : before.asked ≡ Some asked
   pub history : List CommitRecord
   pub right : IsRight before.table.base history asked reply

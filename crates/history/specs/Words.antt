@@ -12,7 +12,7 @@ use Rattle.history_core.specs.declared.event.Who.TheVariants.{Client, Dispatcher
 use Rattle.history_core.specs.Events.{Question}
 use Rattle.history_core.specs.OwnCommits.{commits_of}
 use Rattle.history_core.specs.World.{rows_after}
-use Rattle.history.specs.declared.request.Request.{Request}
+use Rattle.history.specs.declared.request.PostedQuestion.{PostedQuestion}
 use Rattle.history.specs.declared.request.Outcome.{Outcome}
 use Rattle.history.specs.declared.request.Outcome.TheVariants.{Served, GivenUp}
 use Rattle.history.specs.declared.request.Given.{Given}
@@ -35,17 +35,17 @@ abbrev pub IsCause : Cause → Type 0
 IsCause OutOfMemory = Unit {0}
 IsCause (Twin told found) = told ≢ found
 
-abbrev pub request : Question → ℕ → Request
+abbrev pub request : Question → ℕ → PostedQuestion
 request question floor = record { query = question; floor = floor }
 
 -- the answer is to this request; its rows are right after the first commits of the history, so many as the version says
-abbrev pub IsRightAt : Tables → List CommitRecord → Option ℕ → Request → Answer → Type 0
+abbrev pub IsRightAt : Tables → List CommitRecord → Option ℕ → PostedQuestion → Answer → Type 0
 IsRightAt base history version asked (Rows query at rows) =
     (query ≡ asked.query) × (version ≡ Some at) × (rows ≡ rows_after base query (take at history))
 IsRightAt base history version asked (Unserved query cause) = (query ≡ asked.query) × IsCause cause
 
 -- the answer is to this request; its rows are right after the first commits of the history, no fewer than the floor
-abbrev pub IsRight : Tables → List CommitRecord → Request → Answer → Type 0
+abbrev pub IsRight : Tables → List CommitRecord → PostedQuestion → Answer → Type 0
 IsRight base history asked (Rows query at rows) = (query ≡ asked.query) × (asked.floor ≤ at)
     × (at ≤ length history) × (rows ≡ rows_after base query (take at history))
 IsRight base history asked (Unserved query cause) = (query ≡ asked.query) × IsCause cause
@@ -55,7 +55,7 @@ outcome_of (Rows query at rows) = Served at
 outcome_of (Unserved query cause) = GivenUp cause
 
 -- the entry of an answer to a client's request
-abbrev pub given_to : ℕ → Request → Answer → Given
+abbrev pub given_to : ℕ → PostedQuestion → Answer → Given
 given_to client asked reply = record { client = client; floor = asked.floor; outcome = outcome_of reply }
 
 -- rows that were given are not older than the floor

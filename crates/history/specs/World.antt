@@ -13,7 +13,7 @@ use Rattle.history_core.specs.declared.event.Who.TheVariants.{Client, Dispatcher
 use Rattle.history.specs.declared.event.Event.{Event as Named}
 use Rattle.history.specs.declared.event.Event.TheVariants as named
 use Rattle.history.specs.declared.view.Terms.{Terms}
-use Rattle.history.specs.declared.request.Request.{Request}
+use Rattle.history.specs.declared.request.PostedQuestion.{PostedQuestion}
 use Rattle.history.specs.declared.view.Member.{Member}
 use Rattle.history.specs.declared.event.Deed.{Deed}
 use Rattle.history_core.specs.declared.event.Reply.{Reply}
@@ -24,9 +24,9 @@ use Rattle.history.specs.Words.{IsAccepted, Owns, given_to, IsRightAt, IsRight}
 -- a client's mailbox. In hand: the place of the dispatcher that grabbed the request
 pub data Mailbox : Type 0 where
   empty : Mailbox
-  asked : Request → Mailbox
-  in_hand : ℕ → Request → Mailbox
-  answered : Request → Answer → Mailbox
+  asked : PostedQuestion → Mailbox
+  in_hand : ℕ → PostedQuestion → Mailbox
+  answered : PostedQuestion → Answer → Mailbox
 
 -- the history, the places of the members that hold the row store and the writer, the members, first the clients and
 -- then the dispatchers, and the clients' mailboxes
@@ -42,12 +42,12 @@ pub data Event : Type 0 where
   take_rows : ℕ → Event
   put_rows : ℕ → Option CommitRecord → Event
   look : ℕ → Event
-  post : ℕ → Request → Event
-  grab : ℕ → ℕ → Request → Event
+  post : ℕ → PostedQuestion → Event
+  grab : ℕ → ℕ → PostedQuestion → Event
   take_writer : ℕ → Event
   put_writer : ℕ → Event
-  answer : ℕ → ℕ → Request → Answer → Event
-  collect : ℕ → Request → Answer → Event
+  answer : ℕ → ℕ → PostedQuestion → Answer → Event
+  collect : ℕ → PostedQuestion → Answer → Event
 
 abbrev pub actor : Event → ℕ
 actor (take_rows place) = place
@@ -123,10 +123,10 @@ commits history commit m =
 abbrev pub sees : List CommitRecord → Member → Member
 sees history m = with_deed (named.Look m.who) (told.Length (length history)) record m { seen = history }
 
-abbrev pub posts : Request → Member → Member
+abbrev pub posts : PostedQuestion → Member → Member
 posts request m = with_deed (named.Post (number_of m.who) request.query) told.Done m
 
-abbrev pub grabs : ℕ → Request → Member → Member
+abbrev pub grabs : ℕ → PostedQuestion → Member → Member
 grabs client request m =
     with_deed (named.Grab (number_of m.who) (client + 1)) (told.Query request.query)
     record m { mark = None; version = None }
@@ -141,7 +141,7 @@ abbrev pub answer_named : ℕ → ℕ → Answer → Named
 answer_named dispatcher client (Rows question at found) = named.Answer dispatcher client
 answer_named dispatcher client (Unserved question cause) = named.GiveUp dispatcher client cause
 
-abbrev pub answers : ℕ → Request → Answer → Member → Member
+abbrev pub answers : ℕ → PostedQuestion → Answer → Member → Member
 answers client request reply m =
     with_deed (answer_named (number_of m.who) (client + 1) reply) told.Done
     record m { given = m.given ++ given_to (client + 1) request reply ∷ [] }

@@ -43,6 +43,6 @@ mod token;
 pub mod view;
 
 pub use event::{Deed, Event};
-pub use request::{Given, Grabbed, Outcome, Request};
+pub use request::{Given, Grabbed, Outcome, PostedQuestion};
 pub use shared_table::{Opened, SharedTable};
 pub use token::Token;

@@ -4,7 +4,7 @@ use ssb_answers::{Question, Unserved};
 
 /// A question, and its floor: how many commits the client had seen when it asked. The answer is over no fewer.
 #[derive(Drop)]
-pub struct Request {
+pub struct PostedQuestion {
     pub query: Question,
     pub floor: u64,
 }
@@ -12,7 +12,7 @@ pub struct Request {
 /// A client's request that a dispatcher has in hand. Contracts alone speak of it.
 pub struct Grabbed {
     pub client: u32,
-    pub request: Request,
+    pub request: PostedQuestion,
 }
 
 /// What became of a request: rows after so many commits, or none, for a cause.

@@ -14,7 +14,7 @@ ghost use Rattle.history.specs.Tokens.{Took, MayPut, Put, posted, Grabs, MayAnsw
 ghost use Rattle.history.specs.Tokens.{without_writer};
 ghost use Rattle.history.specs.Closing.{AreClients, AreDispatchers, IsLogOf};
 
-use crate::request::Request;
+use crate::request::PostedQuestion;
 use crate::rule::{Deal, RuledTable, TableSeat};
 use crate::steps;
 use crate::token::{Token, position};
@@ -220,7 +220,7 @@ impl<W: Follower + Drop> SharedTable<W> {
         ensures posted { token.new ≡ posted token.old question }
     {
         token.seat.turn();
-        let request = Request {
+        let request = PostedQuestion {
             query: question,
             floor: token.seen_len,
         };

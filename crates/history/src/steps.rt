@@ -8,7 +8,7 @@ ghost use Rattle.history.specs.Seats.{Has, Carries, IsToken, IsTokenAt, IsClient
 ghost use Rattle.history.specs.Seats.{members_of, IsClosed, Takes, LooksAt, Adds, Becomes, turns, MayServe, Serves};
 ghost use Rattle.history.specs.Seats.{Collects, TakesWriter, MayPutWriter};
 
-use crate::request::Request;
+use crate::request::PostedQuestion;
 use crate::rule::{
     Collect, Gather, Grab, Hear, Look, OpenBox, Post, PutRows, PutWriter, RuledTable, Serve,
     TableSeat, Tell, TryRows, TryWriter, Yield,
@@ -144,7 +144,7 @@ pub(crate) fn post<W: Follower + Drop>(
     ruled: &RuledTable<W>,
     seat: &mut TableSeat<W>,
     place: usize,
-    request: Request,
+    request: PostedQuestion,
 )
     requires table { (place < 16) × Has ruled.now.shared.table_id (2 + place)
         × (seat.old.table_id ≡ ruled.now.shared.table_id) }
@@ -165,7 +165,7 @@ pub(crate) fn grab<W: Follower + Drop>(
     seat: &mut TableSeat<W>,
     place: usize,
     client: usize,
-) -> Option<Request>
+) -> Option<PostedQuestion>
     requires table { (client < 16) × Has ruled.now.shared.table_id (2 + client)
         × (seat.old.table_id ≡ ruled.now.shared.table_id) }
     requires token { IsDispatcherAt seat.old place × (client < seat.old.me.0.terms.clients) }

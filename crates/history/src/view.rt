@@ -1,7 +1,7 @@
 //! What a seat at the table knows. Of these types only `Opening` and `SlotValue` have values.
 
 use crate::event::Deed;
-use crate::request::{Given, Request};
+use crate::request::{Given, PostedQuestion};
 use history_core::Who;
 use row_store::{Commit, RowStore};
 use ssb_answers::Answer;
@@ -32,7 +32,7 @@ pub struct Member {
 /// A request in a dispatcher's hand. The place of a client is its number less one.
 pub struct Held {
     pub place: u32,
-    pub request: Request,
+    pub request: PostedQuestion,
 }
 
 /// What a seat is for.
@@ -61,7 +61,7 @@ pub struct View {
     /// A client has its mailbox's slot.
     pub has_box: bool,
     /// What a client asked and has not collected.
-    pub asked: Option<Request>,
+    pub asked: Option<PostedQuestion>,
     /// What a dispatcher has grabbed and not answered, the newest first.
     pub grabbed: LinkedList<Held>,
 }
@@ -82,7 +82,7 @@ pub enum SlotValue<W> {
     /// The writer of the secondary replica, at home.
     Writer(W),
     /// A request that no dispatcher has in hand.
-    Asked(Request),
+    Asked(PostedQuestion),
     /// An answer that its client has not collected.
     Answered(Answer),
 }

@@ -10,7 +10,7 @@ use Rattle.ssb_report.specs.Written.{AppendsPart}
 use Rattle.ssb_runs.specs.Run.{IsRun}
 use Rattle.ssb_base.specs.Base.{Tables}
 use Rattle.ssb_schema.specs.declared.table.Table.{Table}
-use Rattle.ssb_script.specs.declared.block.Script.{Script}
+use Rattle.ssb_script.specs.declared.request.Script.{Script}
 use Rattle.ssb_trace.specs.TraceText.{trace_text}
 
 -- the line with a client's number, and its report

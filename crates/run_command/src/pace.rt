@@ -133,8 +133,8 @@ impl Pace {
         for pair in &self.pairs {
             let _ = writeln!(
                 err,
-                "ssb_live: {} blocks alone {}, at once {}",
-                pair.blocks,
+                "ssb_live: {} requests alone {}, at once {}",
+                pair.requests,
                 Seconds(pair.alone),
                 Seconds(pair.together)
             );

@@ -105,7 +105,7 @@ fn the_pairs_of_stretches_are_told_with_the_times(rt: HostRuntime) -> Result<(),
     );
     assert_eq!(rt; status, 0);
     let pace = std::str::from_utf8(err.as_slice())?;
-    assert_eq!(rt; pace.matches("ssb_live: 16 blocks alone ").count(), 2);
+    assert_eq!(rt; pace.matches("ssb_live: 16 requests alone ").count(), 2);
     assert_eq!(rt; pace.matches(" s, at once ").count(), 2);
     Ok(())
 }

@@ -1,5 +1,5 @@
 //! Scripts, served and compared.
-mod blocks;
+mod requests;
 mod data;
 mod ends;
 mod growths;

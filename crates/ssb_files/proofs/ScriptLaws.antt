@@ -3,7 +3,7 @@ use Rattle.std.proofs.Common.{ℕ, List, [], ◌∷◌, ◌++◌, Option}
 use Rattle.ssb_files.specs.Scripts.{AreScripts}
 use Rattle.ssb_report.specs.Run.{AreAsked}
 use Rattle.ssb_script.specs.Requests.{requests_of}
-use Rattle.ssb_script.specs.declared.block.Script.{Script}
+use Rattle.ssb_script.specs.declared.request.Script.{Script}
 
 -- one script more
 pub more_scripts : (sources : List (Option (List ℕ))) (scripts : List Script) (source : Option (List ℕ))

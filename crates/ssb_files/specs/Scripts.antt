@@ -5,7 +5,7 @@ use Rattle.ssb_files.specs.Status.{script_status}
 use Rattle.ssb_report.specs.Run.{AreAsked, most_records}
 use Rattle.ssb_script.specs.Requests.{requests_of}
 use Rattle.ssb_script.specs.Scripts.{IsScriptFault}
-use Rattle.ssb_script.specs.declared.block.Script.{Script}
+use Rattle.ssb_script.specs.declared.request.Script.{Script}
 use Rattle.ssb_script.specs.declared.error.ScriptError.{ScriptError}
 
 -- a script is refused: it has a fault, which is no failed read and no want of memory

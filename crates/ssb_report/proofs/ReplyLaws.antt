@@ -7,12 +7,12 @@ use Rattle.row_store.specs.History.{Warehouse}
 use Rattle.row_store.specs.Legal.{IsRefreshReply}
 use Rattle.row_store.specs.declared.commit.Receipt.{Receipt}
 use Rattle.row_store.specs.declared.refusal.RefreshError.{RefreshError}
-use Rattle.ssb_script.specs.Requests.{Request, Refresh, Ask}
+use Rattle.ssb_script.specs.Requests.{RequestRecord, Refresh, Ask}
 use Rattle.ssb_report.specs.Replies.{Reply, Refreshed, Answered, true_reply, IsReply, committed_by, with_commits}
 use Rattle.ssb_report.specs.Laws.{true_replies, gives_up, TrueRepliesAnswer, OthersGiveUp}
 
 -- a reply is that of the one-thread warehouse, or gives up
-abbrev TrueOrGivenUp : Warehouse → Request → Reply → Type 0
+abbrev TrueOrGivenUp : Warehouse → RequestRecord → Reply → Type 0
 TrueOrGivenUp warehouse request reply = (reply ≡ true_reply warehouse request) ⊎ (gives_up reply ≡ true)
 
 refreshed_so : (warehouse : Warehouse) (actions : List Action) (reply : Result Receipt RefreshError)
@@ -23,7 +23,7 @@ refreshed_so warehouse actions reply is = elim is [
   | inr full ↦ inr (ap (λ r. gives_up (Refreshed r)) full.0)
 ]
 
-true_or_given_up : (causes : Cause → Bool) (warehouse : Warehouse) (request : Request) (reply : Reply)
+true_or_given_up : (causes : Cause → Bool) (warehouse : Warehouse) (request : RequestRecord) (reply : Reply)
     → IsReply causes warehouse request reply → TrueOrGivenUp warehouse request reply
 true_or_given_up causes warehouse (Refresh actions) (Refreshed reply) is = refreshed_so warehouse actions reply is
 true_or_given_up causes warehouse (Refresh actions) (Answered answer) is = absurd is
@@ -31,7 +31,7 @@ true_or_given_up causes warehouse (Ask question) (Refreshed result) is = absurd 
 true_or_given_up causes warehouse (Ask question) (Answered (Rows query at rows)) is = inl (ap Answered is)
 true_or_given_up causes warehouse (Ask question) (Answered (Unserved query cause)) is = inr refl
 
-true_reply_may : (causes : Cause → Bool) (warehouse : Warehouse) (request : Request)
+true_reply_may : (causes : Cause → Bool) (warehouse : Warehouse) (request : RequestRecord)
     → IsReply causes warehouse request (true_reply warehouse request)
 true_reply_may causes warehouse (Refresh actions) = inl refl
 true_reply_may causes warehouse (Ask question) = refl

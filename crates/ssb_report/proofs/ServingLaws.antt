@@ -31,7 +31,7 @@ use Rattle.std.proofs.lemmas.List.Concat.{flat_map-append}
 use Rattle.std.specs.Io.KnownBytes.{Appends}
 use Rattle.ssb_base.specs.Base.{Tables}
 use Rattle.row_store.specs.History.{CommitRecord, Warehouse}
-use Rattle.ssb_script.specs.Requests.{Request, Refresh}
+use Rattle.ssb_script.specs.Requests.{RequestRecord, Refresh}
 use Rattle.ssb_report.specs.Written.{StopsShort}
 use Rattle.ssb_schema.specs.declared.refresh.Action.{Action}
 use Rattle.ssb_answers.specs.declared.answer.Unserved.{Unserved as Cause}
@@ -86,7 +86,7 @@ behind_at_start lines store base fresh_lines fresh_store = record {
 }
 
 -- as many replies as requests
-pub same_count : (causes : Cause → Bool) (client : ℕ) (old : Warehouse) (requests : List Request) (replies : List Reply)
+pub same_count : (causes : Cause → Bool) (client : ℕ) (old : Warehouse) (requests : List RequestRecord) (replies : List Reply)
     → AreReplies causes client old requests replies → length replies ≡ length requests
 same_count causes client old [] [] are = refl
 same_count causes client old [] (reply ∷ replies) are = absurd are
@@ -95,8 +95,8 @@ same_count causes client old (request ∷ requests) (reply ∷ replies) are =
     ap suc (same_count causes client _ requests replies are.1)
 
 -- replies, and one more
-replies_more : (causes : Cause → Bool) (client : ℕ) (old : Warehouse) (requests : List Request) (replies : List Reply)
-    (request : Request) (reply : Reply)
+replies_more : (causes : Cause → Bool) (client : ℕ) (old : Warehouse) (requests : List RequestRecord) (replies : List Reply)
+    (request : RequestRecord) (reply : Reply)
     → AreReplies causes client old requests replies → IsReply causes
     (with_commits old (committed client requests replies)) request reply
     → AreReplies causes client old (requests ++ request ∷ []) (replies ++ reply ∷ [])
@@ -111,8 +111,8 @@ replies_more causes client old (first ∷ requests) (answer ∷ replies) request
       (with_both old (committed_by client first answer) (committed client requests replies))) next),
 )
 
-committed_more : (causes : Cause → Bool) (client : ℕ) (old : Warehouse) (requests : List Request) (replies : List Reply)
-    (request : Request) (reply : Reply)
+committed_more : (causes : Cause → Bool) (client : ℕ) (old : Warehouse) (requests : List RequestRecord) (replies : List Reply)
+    (request : RequestRecord) (reply : Reply)
     → AreReplies causes client old requests replies
     → committed client (requests ++ request ∷ []) (replies ++ reply ∷ []) ≡ committed client requests replies
     ++ committed_by client request reply
@@ -135,7 +135,7 @@ refreshed_store client old new actions (Err error) grown same = same ∙ sym (wi
 
 -- a request whose reply was written, or a part of it
 pub answers_ok : {X E : Type 0} (r : Result X E) (causes : Cause → Bool) (client : ℕ) (old new : Warehouse)
-    (request : Request) (reply : Reply) (a b : Option (List ℕ))
+    (request : RequestRecord) (reply : Reply) (a b : Option (List ℕ))
     → IsReply causes old request reply → new ≡ with_commits old (committed_by client request reply)
     → OnOk r (Appends a b (reply_text reply)) → OnOk r (Answers causes client old new request a b)
 answers_ok (Ok v) causes client old new request reply a b answered grown written =
@@ -143,7 +143,7 @@ answers_ok (Ok v) causes client old new request reply a b answered grown written
 answers_ok (Err e) causes client old new request reply a b answered grown written = tt
 
 pub answers_part : {X E : Type 0} (r : Result X E) (causes : Cause → Bool) (client : ℕ) (old new : Warehouse)
-    (request : Request) (reply : Reply) (a b : Option (List ℕ))
+    (request : RequestRecord) (reply : Reply) (a b : Option (List ℕ))
     → IsReply causes old request reply → new ≡ with_commits old (committed_by client request reply)
     → OnErr r (StopsShort a b (reply_text reply)) → OnErr r (AnswersInPart causes client old new request a b)
 answers_part (Ok v) causes client old new request reply a b answered grown written = tt
@@ -161,8 +161,8 @@ serves_none causes client old before = record {
 }
 
 -- one request more
-pub serves_more : (causes : Cause → Bool) (client : ℕ) (old mid new : Warehouse) (requests : List Request)
-    (request : Request) (a b c : Option (List ℕ))
+pub serves_more : (causes : Cause → Bool) (client : ℕ) (old mid new : Warehouse) (requests : List RequestRecord)
+    (request : RequestRecord) (a b c : Option (List ℕ))
     → Serves causes client old mid requests a b → Answers causes client mid new request b c
     → Serves causes client old new (requests ++ request ∷ []) a c
 serves_more causes client old mid new requests request a b c served next =
@@ -181,12 +181,12 @@ serves_more causes client old mid new requests request a b c served next =
     }
 
 -- the first requests and one that follows
-take_next : (front rest : List Request) (request : Request) → take (length front + 1) (front ++ request ∷ rest) ≡ front
+take_next : (front rest : List RequestRecord) (request : RequestRecord) → take (length front + 1) (front ++ request ∷ rest) ≡ front
     ++ request ∷ []
 take_next front rest request = take-append-add front (request ∷ rest) 1
 
-pub stops_there : (causes : Cause → Bool) (client : ℕ) (old mid new : Warehouse) (front rest : List Request)
-    (request : Request) (a b c : Option (List ℕ))
+pub stops_there : (causes : Cause → Bool) (client : ℕ) (old mid new : Warehouse) (front rest : List RequestRecord)
+    (request : RequestRecord) (a b c : Option (List ℕ))
     → Serves causes client old mid front a b → AnswersInPart causes client mid new request b c
     → StopsAfter causes (length front) client old new (front ++ request ∷ rest) a c
 stops_there causes client old mid new front rest request a b c served next =

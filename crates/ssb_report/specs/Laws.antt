@@ -5,12 +5,12 @@ use Rattle.ssb_answers.specs.declared.answer.Answer.TheVariants.{Rows, Unserved}
 use Rattle.ssb_answers.specs.declared.answer.Unserved.{Unserved as Cause}
 use Rattle.row_store.specs.History.{Warehouse}
 use Rattle.row_store.specs.declared.refusal.RefreshError.TheVariants.{Refused, OutOfMemory}
-use Rattle.ssb_script.specs.Requests.{Request}
+use Rattle.ssb_script.specs.Requests.{RequestRecord}
 use Rattle.ssb_report.specs.Replies.{Reply, Refreshed, Answered, true_reply, committed_by, with_commits}
 use Rattle.ssb_report.specs.Report.{AreReplies}
 
 -- the replies of the one-thread warehouse to a client's requests, one after another
-abbrev pub true_replies : ℕ → Warehouse → List Request → List Reply
+abbrev pub true_replies : ℕ → Warehouse → List RequestRecord → List Reply
 true_replies client warehouse [] = []
 true_replies client warehouse (request ∷ requests) =
     true_reply warehouse request ∷ true_replies client
@@ -26,12 +26,12 @@ gives_up (Answered (Unserved query cause)) = true
 
 -- they answer every list of requests
 abbrev pub TrueRepliesAnswer : Type 0
-TrueRepliesAnswer = (causes : Cause → Bool) (client : ℕ) (warehouse : Warehouse) (requests : List Request)
+TrueRepliesAnswer = (causes : Cause → Bool) (client : ℕ) (warehouse : Warehouse) (requests : List RequestRecord)
     → AreReplies causes client warehouse requests (true_replies client warehouse requests)
 
 -- and no other replies do, where none tells that its request was given up
 abbrev pub OthersGiveUp : Type 0
 OthersGiveUp =
-    (causes : Cause → Bool) (client : ℕ) (warehouse : Warehouse) (requests : List Request) (replies : List Reply)
+    (causes : Cause → Bool) (client : ℕ) (warehouse : Warehouse) (requests : List RequestRecord) (replies : List Reply)
     → AreReplies causes client warehouse requests replies → AllByRecursion (λ reply. gives_up reply ≡ false) replies
     → replies ≡ true_replies client warehouse requests

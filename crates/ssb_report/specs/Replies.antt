@@ -12,7 +12,7 @@ use Rattle.row_store.specs.History.{CommitRecord, Warehouse, lines_after}
 use Rattle.row_store.specs.Legal.{warehouse_reply, IsRefreshReply}
 use Rattle.row_store.specs.declared.commit.Receipt.{Receipt}
 use Rattle.row_store.specs.declared.refusal.RefreshError.{RefreshError}
-use Rattle.ssb_script.specs.Requests.{Request}
+use Rattle.ssb_script.specs.Requests.{RequestRecord}
 use Rattle.ssb_script.specs.Requests.{Refresh, Ask}
 use Rattle.ssb_report.specs.RefreshText.{receipt_text, refusal_text}
 use Rattle.ssb_report.specs.AnswerText.{answer_text}
@@ -35,7 +35,7 @@ warehouse_answer warehouse question =
     (facts_of (lines_after warehouse.base warehouse.log)))
 
 -- the reply of the one-thread warehouse
-abbrev pub true_reply : Warehouse → Request → Reply
+abbrev pub true_reply : Warehouse → RequestRecord → Reply
 true_reply warehouse (Refresh actions) = Refreshed (warehouse_reply warehouse.base warehouse.log actions)
 true_reply warehouse (Ask question) = Answered (warehouse_answer warehouse question)
 
@@ -51,14 +51,14 @@ IsAnswer causes warehouse question (Unserved query cause) = (query ≡ question)
 
 -- a reply that may be given: to a refresh that of the one-thread warehouse, or that memory ran out where that is a
 -- receipt
-abbrev pub IsReply : (Cause → Bool) → Warehouse → Request → Reply → Type 0
+abbrev pub IsReply : (Cause → Bool) → Warehouse → RequestRecord → Reply → Type 0
 IsReply causes warehouse (Refresh actions) (Refreshed reply) = IsRefreshReply warehouse.base warehouse.log actions reply
 IsReply causes warehouse (Ask question) (Answered answer) = IsAnswer causes warehouse question answer
 IsReply causes warehouse (Refresh actions) (Answered answer) = ⊥
 IsReply causes warehouse (Ask question) (Refreshed reply) = ⊥
 
 -- the commit that a client's request becomes where the reply is a receipt
-abbrev pub committed_by : ℕ → Request → Reply → List CommitRecord
+abbrev pub committed_by : ℕ → RequestRecord → Reply → List CommitRecord
 committed_by client (Refresh actions) (Refreshed (Ok receipt)) = record { client = client; actions = actions } ∷ []
 committed_by client request reply = []
 

@@ -3,11 +3,11 @@ use Rattle.std.specs.Prelude.{◌≡◌, ℕ, ◌+◌, ◌<◌, Bool, List, [], 
 use Rattle.std.specs.Io.KnownBytes.{Appends}
 use Rattle.row_store.specs.History.{CommitRecord, Warehouse, IsPrefix}
 use Rattle.ssb_answers.specs.declared.answer.Unserved.{Unserved as Cause}
-use Rattle.ssb_script.specs.Requests.{Request}
+use Rattle.ssb_script.specs.Requests.{RequestRecord}
 use Rattle.ssb_report.specs.Replies.{Reply, IsReply, reply_text, committed_by, with_commits}
 
 -- the replies may be given to a client's requests, one after another, from a warehouse that each commit makes longer
-abbrev pub AreReplies : (Cause → Bool) → ℕ → Warehouse → List Request → List Reply → Type 0
+abbrev pub AreReplies : (Cause → Bool) → ℕ → Warehouse → List RequestRecord → List Reply → Type 0
 AreReplies causes client warehouse [] [] = Unit {0}
 AreReplies causes client warehouse (request ∷ requests) (reply ∷ replies) =
     IsReply causes warehouse request reply × AreReplies causes client
@@ -16,7 +16,7 @@ AreReplies causes client warehouse [] (reply ∷ replies) = ⊥
 AreReplies causes client warehouse (request ∷ requests) [] = ⊥
 
 -- the commits that a client's requests become by these replies, in order
-abbrev pub committed : ℕ → List Request → List Reply → List CommitRecord
+abbrev pub committed : ℕ → List RequestRecord → List Reply → List CommitRecord
 committed client [] replies = []
 committed client (request ∷ requests) [] = []
 committed client (request ∷ requests) (reply ∷ replies) =
@@ -28,7 +28,7 @@ report_of replies = flat_map reply_text replies
 
 -- all requests of a client were answered: what was written is a report of them, and the log is longer by what it calls
 -- committed
-pub record Serves (causes : Cause → Bool) (client : ℕ) (old new : Warehouse) (requests : List Request)
+pub record Serves (causes : Cause → Bool) (client : ℕ) (old new : Warehouse) (requests : List RequestRecord)
     (before after : Option (List ℕ)) : Type 0 where
   pub replies : List Reply
   pub answered : AreReplies causes client old requests replies
@@ -37,7 +37,7 @@ pub record Serves (causes : Cause → Bool) (client : ℕ) (old new : Warehouse)
 
 -- the first requests and one more were answered: what was written is a report of the first ones and a part of that of
 -- the last reply, of which something is left
-pub record StopsAfter (causes : Cause → Bool) (done client : ℕ) (old new : Warehouse) (requests : List Request)
+pub record StopsAfter (causes : Cause → Bool) (done client : ℕ) (old new : Warehouse) (requests : List RequestRecord)
     (before after : Option (List ℕ)) : Type 0 where
   pub replies : List Reply
   pub last : Reply

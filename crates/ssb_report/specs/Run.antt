@@ -2,7 +2,7 @@
 use Rattle.std.specs.Prelude.{◌≡◌, ℕ, List, length, Option, Some}
 use Rattle.std.specs.Io.KnownBytes.{Keeps}
 use Rattle.row_store.specs.History.{Warehouse}
-use Rattle.ssb_script.specs.Requests.{Request}
+use Rattle.ssb_script.specs.Requests.{RequestRecord}
 use Rattle.ssb_script.specs.Scripts.{SpellsScript, IsScriptFault}
 use Rattle.ssb_script.specs.declared.error.ScriptError.{ScriptError}
 use Rattle.ssb_report.specs.declared.fault.RunError.{RunError}
@@ -15,13 +15,13 @@ abbrev pub most_records : ℕ
 most_records = 1000000000
 
 -- the bytes that a reader had left, where they are known, spell these requests
-abbrev pub AreAsked : Option (List ℕ) → List Request → Type 0
+abbrev pub AreAsked : Option (List ℕ) → List RequestRecord → Type 0
 AreAsked remaining requests = (text : List ℕ) → remaining ≡ Some text → SpellsScript most_records text requests
 
 -- all requests of the script were answered by a report, as client 1
 pub record ServesAll (remaining : Option (List ℕ)) (done : ℕ) (old new : Warehouse) (before after : Option (List ℕ)) :
     Type 0 where
-  pub requests : List Request
+  pub requests : List RequestRecord
   pub asked : AreAsked remaining requests
   pub count : length requests ≡ done
   pub served : Serves memory_alone 1 old new requests before after
@@ -37,7 +37,7 @@ pub record IsUnread (remaining : Option (List ℕ)) (fault : ScriptError) (old n
 -- a write failed in the report of the reply after the first ones
 pub record ServesPart (remaining : Option (List ℕ)) (done : ℕ) (old new : Warehouse) (before after : Option (List ℕ)) :
     Type 0 where
-  pub requests : List Request
+  pub requests : List RequestRecord
   pub asked : AreAsked remaining requests
   pub stopped : StopsAfter memory_alone done 1 old new requests before after
 

@@ -13,7 +13,7 @@ pub enum RunError {
     /// The script could not be read. Nothing was served.
     #[error("{0}")]
     Script(ScriptError),
-    /// The report could not be written. So many blocks were served and reported before the one whose
+    /// The report could not be written. So many requests were served and reported before the one whose
     /// report failed.
     #[error("write failed")]
     Write(u64),

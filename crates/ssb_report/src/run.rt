@@ -13,11 +13,11 @@ use std::io::{Read, Write};
 /// The most records that a script may have.
 pub const MOST_RECORDS: u64 = 1_000_000_000;
 
-/// Reads a whole script, and then serves its blocks in order, as client 1; it gives their number.
+/// Reads a whole script, and then serves its requests in order, as client 1; it gives their number.
 ///
 /// A refresh is applied to the store. Before a question the lines take in the commits that they lack,
-/// and it is answered over them. Each reply is written before the next block is served. A script that
-/// can't be read changes and writes nothing. A failed write ends the run: the blocks before it and its
+/// and it is answered over them. Each reply is written before the next request is served. A script that
+/// can't be read changes and writes nothing. A failed write ends the run: the requests before it and its
 /// own have been served.
 pub fn run_store<R: Read + Drop, W: Write>(
     alloc: Global,

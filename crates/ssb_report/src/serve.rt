@@ -17,7 +17,7 @@ use row_store::{Commit, PlainLines, Receipt, RefreshError, Replica, RowStore};
 use ssb_answers::{Answer, ResultRow, Rows, Unserved, evaluate};
 use ssb_questions::Question;
 use ssb_schema::Items;
-use ssb_script::{Block, Script};
+use ssb_script::{Request, Script};
 use std::alloc::{AllocError, Global};
 use std::io::Write;
 
@@ -91,31 +91,31 @@ pub fn write_reply<W: Write>(
     }
 }
 
-// Serves a block, and writes its report.
-fn serve_block<W: Write>(
+// Serves a request, and writes its report.
+fn serve_request<W: Write>(
     alloc: Global,
     store: &mut RowStore,
     lines: &mut PlainLines,
-    block: Block,
+    request: Request,
     writer: &mut W,
 ) -> Result<(), WriteFault>
     requires { IsBehind lines.old store.old }
-    ensures reply { OnOk result (Answers memory_alone 1 store.old store.new (request.request_of block)
+    ensures reply { OnOk result (Answers memory_alone 1 store.old store.new (request.request_of request)
         (W.contents writer.old) (W.contents writer.new)) }
-    ensures fault { OnErr result (AnswersInPart memory_alone 1 store.old store.new (request.request_of block)
+    ensures fault { OnErr result (AnswersInPart memory_alone 1 store.old store.new (request.request_of request)
         (W.contents writer.old) (W.contents writer.new)) }
     ensures behind { IsBehind lines.new store.new }
 {
-    match block {
-        Block::Refresh(asked) => write_reply(writer, &store.refresh(CLIENT, asked)),
-        Block::Ask(question) => write_answer(writer, &ask(alloc, store, lines, question)),
+    match request {
+        Request::Refresh(asked) => write_reply(writer, &store.refresh(CLIENT, asked)),
+        Request::Ask(question) => write_answer(writer, &ask(alloc, store, lines, question)),
     }
 }
 
-/// Serves the blocks of a script in order, as client 1, and writes their report; it gives their number.
+/// Serves the requests of a script in order, as client 1, and writes their report; it gives their number.
 ///
 /// The lines stand for the first commits of the store, over the same base. A failed write ends it: the
-/// blocks before it and its own have been served.
+/// requests before it and its own have been served.
 pub fn serve_script<W: Write>(
     alloc: Global,
     store: &mut RowStore,
@@ -131,10 +131,10 @@ pub fn serve_script<W: Write>(
         (W.contents writer.old) (W.contents writer.new)) }
     ensures behind { IsBehind lines.new store.new }
 {
-    let mut blocks = script.blocks.into_iter();
+    let mut requests = script.requests.into_iter();
     let mut done = 0;
-    while let Some(block) = blocks.next() {
-        if serve_block(alloc, store, lines, block, writer).is_err() {
+    while let Some(request) = requests.next() {
+        if serve_request(alloc, store, lines, request, writer).is_err() {
             return Err(RunError::Write(done));
         }
         done += 1;

@@ -6,7 +6,7 @@ use Rattle.history.specs.Tokens.{TokenRecord}
 use Rattle.history.specs.World.{number_of}
 use Rattle.ssb_audit.specs.declared.trace.Told.{Told}
 use Rattle.ssb_script.specs.Requests.{request_of, requests_of}
-use Rattle.ssb_script.specs.declared.block.Block.{Block}
+use Rattle.ssb_script.specs.declared.request.Request.{Request}
 use Rattle.ssb_session.specs.Served.{Serves}
 use Rattle.ssb_session.specs.Steps.{ServesOne, AreAlike}
 use Rattle.ssb_session.proofs.SessionLaws.{serves_none, serves_more_still}
@@ -19,9 +19,9 @@ when_ok (Ok x) failed is not holds = holds
 when_ok (Err e) failed is not holds = absurd cc
 
 -- nothing is served yet
-pub begun : (task : Task) (blocks : List Block) → task.client.asked ≡ None
-    → requests_of task.script ≡ map request_of blocks → IsUnderWay task task.client blocks [] []
-begun task blocks quiet whole = record {
+pub begun : (task : Task) (requests : List Request) → task.client.asked ≡ None
+    → requests_of task.script ≡ map request_of requests → IsUnderWay task task.client requests [] []
+begun task requests quiet whole = record {
   table = refl;
   who = refl;
   quiet = quiet;
@@ -30,28 +30,28 @@ begun task blocks quiet whole = record {
   served = serves_none (number_of task.client.who) task.client [] (Some []);
 }
 
--- one block more
-pub under_way : (task : Task) (before after : TokenRecord) (block : Block) (blocks left : List Block)
+-- one request more
+pub under_way : (task : Task) (before after : TokenRecord) (request : Request) (requests left : List Request)
     (report longer : List ℕ) (told kept : List Told)
-    → IsUnderWay task before blocks report told → blocks ≡ block ∷ left
-    → ServesOne (number_of before.who) before after (request_of block) told kept (Some report) (Some longer)
+    → IsUnderWay task before requests report told → requests ≡ request ∷ left
+    → ServesOne (number_of before.who) before after (request_of request) told kept (Some report) (Some longer)
     → AreAlike before after → IsUnderWay task after left longer kept
-under_way task before after block blocks left report longer told kept was next one same =
+under_way task before after request requests left report longer told kept was next one same =
     record {
       table = same.table ∙ was.table;
       who = same.who ∙ was.who;
       quiet = same.quiet;
-      front = was.front ++ request_of block ∷ [];
+      front = was.front ++ request_of request ∷ [];
       whole = was.whole ∙ ap (λ rest. was.front ++ map request_of rest) next
-          ∙ sym (append_assoc was.front (request_of block ∷ []) (map request_of left));
-      served = serves_more_still task.client before after was.front (request_of block) [] told kept (Some [])
+          ∙ sym (append_assoc was.front (request_of request ∷ []) (map request_of left));
+      served = serves_more_still task.client before after was.front (request_of request) [] told kept (Some [])
           (Some report) (Some longer) was.served was.who one;
     }
 
--- where no block is left, it is served whole
-pub session_of : (task : Task) (session : Session) (blocks : List Block)
-    → IsUnderWay task session.client blocks session.report session.told → blocks ≡ [] → IsSessionOf task session
-session_of task session blocks was none = record {
+-- where no request is left, it is served whole
+pub session_of : (task : Task) (session : Session) (requests : List Request)
+    → IsUnderWay task session.client requests session.report session.told → requests ≡ [] → IsSessionOf task session
+session_of task session requests was none = record {
   table = was.table;
   who = was.who;
   quiet = was.quiet;

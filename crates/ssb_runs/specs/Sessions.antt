@@ -3,9 +3,9 @@ use Rattle.std.specs.Prelude.{◌≡◌, ℕ, Bool, false, All, List, [], ◌∷
 use Rattle.history.specs.Tokens.{TableRecord, TokenRecord}
 use Rattle.history.specs.World.{number_of}
 use Rattle.ssb_audit.specs.declared.trace.Told.{Told}
-use Rattle.ssb_script.specs.declared.block.Script.{Script}
-use Rattle.ssb_script.specs.Requests.{Request, request_of, requests_of}
-use Rattle.ssb_script.specs.declared.block.Block.{Block}
+use Rattle.ssb_script.specs.declared.request.Script.{Script}
+use Rattle.ssb_script.specs.Requests.{RequestRecord, request_of, requests_of}
+use Rattle.ssb_script.specs.declared.request.Request.{Request}
 use Rattle.ssb_server.specs.Tickets.{IsQuiet, IsOf, AreAllThere}
 use Rattle.ssb_session.specs.Served.{Serves}
 
@@ -34,18 +34,18 @@ abbrev pub all_tasks : {Z : Type 0} → List (Vec Task Z) → List Task
 all_tasks groups = flat_map vec_items groups
 
 -- the task's client was served the first requests of its script, with nothing reported and told before, and asks
--- nothing; these blocks are left
-pub record IsUnderWay (task : Task) (client : TokenRecord) (left : List Block) (report : List ℕ) (told : List Told) :
+-- nothing; these requests are left
+pub record IsUnderWay (task : Task) (client : TokenRecord) (left : List Request) (report : List ℕ) (told : List Told) :
     Type 0 where
   pub table : client.table ≡ task.client.table
   pub who : client.who ≡ task.client.who
   pub quiet : client.asked ≡ None
-  pub front : List Request
+  pub front : List RequestRecord
   pub whole : requests_of task.script ≡ front ++ map request_of left
   pub served : Serves (number_of task.client.who) task.client client front [] told (Some []) (Some report)
 
 -- the same, but where memory was wanting
-abbrev pub IsProgress : Bool → Task → TokenRecord → List Block → List ℕ → List Told → Type 0
+abbrev pub IsProgress : Bool → Task → TokenRecord → List Request → List ℕ → List Told → Type 0
 IsProgress lacks_memory task client left report told =
     lacks_memory ≡ false → IsUnderWay task client left report told
 

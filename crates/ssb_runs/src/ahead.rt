@@ -3,17 +3,17 @@
 //! are read here before the first of them is served: they do not wait for one another, so many are fetched at once.
 
 use ssb_schema::{Action, Line};
-use ssb_script::Block;
+use ssb_script::Request;
 use std::collections::VecDeque;
 
-/// How many blocks a client is served before it is another client's turn. What is read ahead for them, some 16 KB with
+/// How many requests a client is served before it is another client's turn. What is read ahead for them, some 16 KB with
 /// four lines an order, stays in the first cache of a processor until it is served.
 pub(crate) const BLOCKS_A_TURN: usize = 16;
 
-fn actions_of(block: &Block) -> &[Action] {
-    match block {
-        Block::Refresh(refresh) => refresh.actions(),
-        Block::Ask(_) => &[],
+fn actions_of(request: &Request) -> &[Action] {
+    match request {
+        Request::Refresh(refresh) => refresh.actions(),
+        Request::Ask(_) => &[],
     }
 }
 
@@ -24,9 +24,9 @@ fn lines_of(action: &Action) -> &[Line] {
     }
 }
 
-// The key of the first order that a block names. How many lines that has is not asked, so that nothing waits for it.
-fn first_key(block: &Block) -> u64 {
-    match actions_of(block).first() {
+// The key of the first order that a request names. How many lines that has is not asked, so that nothing waits for it.
+fn first_key(request: &Request) -> u64 {
+    match actions_of(request).first() {
         Some(Action::Add(order)) | Some(Action::Amend(order)) => order.key(),
         Some(Action::Withdraw(key)) => *key,
         None => 0,
@@ -34,13 +34,13 @@ fn first_key(block: &Block) -> u64 {
 }
 
 /// Reads the refreshes of the next turn: where each begins, and then each line. What it gives says nothing of them.
-pub(crate) fn read_ahead(blocks: &VecDeque<Block>) -> u64 {
+pub(crate) fn read_ahead(requests: &VecDeque<Request>) -> u64 {
     let mut read = 0;
-    for block in blocks.iter().take(BLOCKS_A_TURN) {
-        read ^= first_key(block);
+    for request in requests.iter().take(BLOCKS_A_TURN) {
+        read ^= first_key(request);
     }
-    for block in blocks.iter().take(BLOCKS_A_TURN) {
-        for action in actions_of(block) {
+    for request in requests.iter().take(BLOCKS_A_TURN) {
+        for action in actions_of(request) {
             for line in lines_of(action) {
                 read ^= line.order_date();
             }

@@ -4,15 +4,15 @@ ghost use Rattle.ssb_runs.specs.Sessions.{all_tasks};
 
 use crate::job::Job;
 use crate::latency::Timing;
-use ssb_script::{Block, Script};
+use ssb_script::{Request, Script};
 use std::alloc::{AllocError, Global};
 use std::sync::Wait;
 
 // Whether the script asks nothing.
 fn only_refreshes(script: &Script) -> bool {
-    script.blocks.iter().all(|block| match block {
-        Block::Refresh(_) => true,
-        Block::Ask(_) => false,
+    script.requests.iter().all(|request| match request {
+        Request::Refresh(_) => true,
+        Request::Ask(_) => false,
     })
 }
 

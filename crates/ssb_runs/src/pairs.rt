@@ -12,11 +12,11 @@ use std::alloc::{AllocError, Global};
 use std::sync::Wait;
 use std::time::{Clock, Duration};
 
-/// How long the first client took for so many blocks while it was served alone, and how long the others at once for as
+/// How long the first client took for so many requests while it was served alone, and how long the others at once for as
 /// many together. Figures for a reader: no contract tells them.
 #[derive(Clone, Copy, Debug, PartialEq, Eq)]
 pub struct Pair {
-    pub blocks: usize,
+    pub requests: usize,
     pub alone: Duration,
     pub together: Duration,
 }
@@ -70,13 +70,13 @@ fn serve_pair<W: Wait + Drop, R: Wait + Clock, M: Meter>(
         (alone, together)
     };
     Some(Pair {
-        blocks: turns.saturating_mul(BLOCKS_A_TURN),
+        requests: turns.saturating_mul(BLOCKS_A_TURN),
         alone: alone?,
         together: together?,
     })
 }
 
-// How many rounds of the others are as many blocks as one of so many equal parts of the first script.
+// How many rounds of the others are as many requests as one of so many equal parts of the first script.
 fn rounds_of<W: Wait + Drop>(begun: &[Progress<W>], pairs: u32) -> usize {
     let Some(first) = begun.first() else {
         return 0;

@@ -6,9 +6,9 @@ use crate::ahead::{BLOCKS_A_TURN, read_ahead};
 use crate::job::Job;
 use crate::session::Session;
 use ssb_audit::Told;
-use ssb_script::Block;
+use ssb_script::Request;
 use ssb_server::{Client, Server};
-use ssb_session::{Meter, serve_block};
+use ssb_session::{Meter, serve_request};
 use std::alloc::{AllocError, Global};
 use std::collections::VecDeque;
 use std::marker::Model;
@@ -16,14 +16,14 @@ use std::snapshot::Snapshot;
 use std::sync::Wait;
 use std::sync::atomic::{AtomicU64, Ordering};
 
-/// A job that was begun: the client, the blocks that are left of its script, what was reported and what the client was
-/// told so far. The report is in memory, so that want of memory alone can end it early; then no block is served any
+/// A job that was begun: the client, the requests that are left of its script, what was reported and what the client was
+/// told so far. The report is in memory, so that want of memory alone can end it early; then no request is served any
 /// more. Contracts see the job.
 #[derive(Drop)]
 pub(crate) struct Progress<W: Wait + Drop> {
     job: Snapshot<Job<W>>,
     client: Client<W>,
-    blocks: VecDeque<Block>,
+    requests: VecDeque<Request>,
     report: Vec<u8>,
     told: Vec<Told>,
     lacks_memory: bool,
@@ -38,7 +38,7 @@ impl<W: Wait + Drop> Model for Progress<W> {
 
     ghost view = { λ p. p.job.value };
 
-    ghost invariant = { λ p. IsProgress p.lacks_memory p.job.value p.client p.blocks.items p.report.items p.told.items };
+    ghost invariant = { λ p. IsProgress p.lacks_memory p.job.value p.client p.requests.items p.report.items p.told.items };
 }
 
 impl<W: Wait + Drop> Progress<W> {
@@ -56,19 +56,19 @@ impl<W: Wait + Drop> Progress<W> {
         Progress {
             job: begun,
             client,
-            blocks: VecDeque::from_vec(script.blocks),
+            requests: VecDeque::from_vec(script.requests),
             report: Vec::new(alloc),
             told: Vec::new(alloc),
             lacks_memory: false,
         }
     }
 
-    /// How many blocks are left.
+    /// How many requests are left.
     pub(crate) fn left(&self) -> usize {
-        self.blocks.len()
+        self.requests.len()
     }
 
-    /// Serves the blocks of a turn, or all that are left where they are fewer. `read` takes what was read ahead of them,
+    /// Serves the requests of a turn, or all that are left where they are fewer. `read` takes what was read ahead of them,
     /// so that no compiler leaves the reading out: nobody looks at it.
     pub(crate) fn serve_turn<R: Wait, M: Meter>(
         &mut self,
@@ -80,13 +80,13 @@ impl<W: Wait + Drop> Progress<W> {
         requires { self.old.client.table ≡ server.now }
         ensures { self.new ≡ self.old }
     {
-        read.store(read_ahead(&self.blocks), Ordering::SeqCst);
+        read.store(read_ahead(&self.requests), Ordering::SeqCst);
         for _ in 0..BLOCKS_A_TURN {
             self.serve_next(rt, server, meter);
         }
     }
 
-    // Serves the next block, where one is left.
+    // Serves the next request, where one is left.
     fn serve_next<R: Wait, M: Meter>(&mut self, rt: &R, server: &Server<W>, meter: &mut M)
         requires { self.old.client.table ≡ server.now }
         ensures { self.new ≡ self.old }
@@ -94,15 +94,15 @@ impl<W: Wait + Drop> Progress<W> {
         if self.lacks_memory {
             return;
         }
-        let Some(block) = self.blocks.pop_front() else {
+        let Some(request) = self.requests.pop_front() else {
             return;
         };
         let client = &mut self.client;
-        let served = serve_block(
+        let served = serve_request(
             rt,
             server,
             client,
-            block,
+            request,
             &mut self.report,
             &mut self.told,
             meter,
@@ -110,7 +110,7 @@ impl<W: Wait + Drop> Progress<W> {
         self.lacks_memory = served.is_err();
     }
 
-    /// Serves all blocks that are left.
+    /// Serves all requests that are left.
     pub(crate) fn serve_rest<R: Wait, M: Meter>(
         self,
         rt: &R,
@@ -123,7 +123,7 @@ impl<W: Wait + Drop> Progress<W> {
         let Progress {
             job: _,
             mut client,
-            mut blocks,
+            mut requests,
             mut report,
             mut told,
             lacks_memory,
@@ -131,12 +131,12 @@ impl<W: Wait + Drop> Progress<W> {
         if lacks_memory {
             return Err(AllocError);
         }
-        while let Some(block) = blocks.pop_front() {
-            match serve_block(
+        while let Some(request) = requests.pop_front() {
+            match serve_request(
                 rt,
                 server,
                 &mut client,
-                block,
+                request,
                 &mut report,
                 &mut told,
                 meter,

@@ -171,7 +171,7 @@ fn serve<W: Wait + Drop + Send, R: Wait + Threads + Sync + Clock>(
 }
 
 /// Serves 1 to 16 scripts by 1 to 4 dispatchers over a base; `hashing` keys the map of orders. Each dispatcher has a
-/// thread of its own, and so has each client, but that clients whose scripts ask nothing share one, some blocks of each in
+/// thread of its own, and so has each client, but that clients whose scripts ask nothing share one, some requests of each in
 /// turn, where they follow one another: their refreshes are one after another in any case. It waits until all of them
 /// have ended. With `Timing::Requests` the time of all threads is taken, and by each thread of clients that of their
 /// requests; with `Timing::Off` no clock is read. With `Timing::Pairs` all clients share a thread, whatever they ask: the

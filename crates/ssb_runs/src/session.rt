@@ -41,7 +41,7 @@ pub(crate) struct Sessions<W: Wait + Drop> {
     pub(crate) pairs: Vec<Pair>,
 }
 
-// The greatest number of blocks that are left of a script.
+// The greatest number of requests that are left of a script.
 fn most_left<W: Wait + Drop>(begun: &[Progress<W>]) -> usize {
     begun
         .iter()
@@ -74,7 +74,7 @@ fn begin<W: Wait + Drop>(
     Ok(begun)
 }
 
-/// So many rounds, in each of which the scripts from one place up to another are served the blocks of a turn.
+/// So many rounds, in each of which the scripts from one place up to another are served the requests of a turn.
 pub(crate) fn serve_in_turns<W: Wait + Drop, R: Wait, M: Meter>(
     rt: &R,
     server: &Server<W>,
@@ -96,7 +96,7 @@ pub(crate) fn serve_in_turns<W: Wait + Drop, R: Wait, M: Meter>(
     }
 }
 
-// Serves the blocks by turns, and as pairs of stretches where that is asked for.
+// Serves the requests by turns, and as pairs of stretches where that is asked for.
 fn serve_timed<W: Wait + Drop, R: Wait + Clock>(
     rt: &R,
     alloc: Global,
@@ -136,7 +136,7 @@ fn end<W: Wait + Drop, R: Wait, M: Meter>(
     Ok(sessions)
 }
 
-/// Serves each client its script, some blocks of each in turn.
+/// Serves each client its script, some requests of each in turn.
 pub(crate) fn serve_jobs<W: Wait + Drop, R: Wait + Clock>(
     rt: &R,
     alloc: Global,

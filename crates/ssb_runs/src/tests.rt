@@ -123,13 +123,13 @@ fn a_client_alone_and_the_others_are_timed_by_turns(rt: HostRuntime) -> Result<(
     scripts.push(refreshing_script(alloc, 200, 32)?)?;
     scripts.push(adding_script(alloc, 300, 33)?)?;
     let run = served(&rt, alloc, hashing, scripts, 1, Timing::Pairs(2))?;
-    // 32 blocks a stretch; then what is left of the first and of the third
+    // 32 requests a stretch; then what is left of the first and of the third
     let wanted = [(1, 32), (2, 16), (3, 16), (2, 16), (3, 16), (1, 38), (3, 1)];
     assert_eq!(rt; turns_of(alloc, &run)?.as_slice(), wanted.as_slice());
     assert_eq!(rt; run.trace.answers.len(), 1);
     assert_eq!(rt; run.pairs.len(), 2);
     for pair in &run.pairs {
-        assert_eq!(rt; pair.blocks, 32);
+        assert_eq!(rt; pair.requests, 32);
     }
     assert_eq!(rt; run.latencies.refreshes.count, 135);
     assert!(rt; audit(&rt, alloc, base(alloc)?, hashing, &run.trace).is_ok());

@@ -33,7 +33,7 @@ use Rattle.ssb_script.specs.Laws.{HasOneReading}
 use Rattle.ssb_script.specs.Lines.{ScriptLine, RecordFault, line_of}
 use Rattle.ssb_script.specs.Lines as line
 use Rattle.ssb_script.specs.Requests.{
-  Request,
+  RequestRecord,
   Refresh,
   Ask,
   action_of,
@@ -47,7 +47,7 @@ use Rattle.ssb_script.specs.declared.control.Opening.TheVariants.{Add, Amend}
 record Tail : Type 0 where
   lines : List LineFields
   actions : List Action
-  requests : List Request
+  requests : List RequestRecord
 
 abbrev before : ScriptLine → Tail → Tail
 before (line.Query question) tail = record { lines = []; actions = []; requests = Ask question ∷ tail.requests }
@@ -102,7 +102,7 @@ of_actions (a ∷ actions) rest =
     ∙ (of_action a (flat_map lines_of_action actions ++ line.Commit ∷ rest) (ap (λ t. t.lines) later)
     ∙ ap (λ t. record { lines = []; actions = a ∷ t.actions; requests = t.requests }) later)
 
-of_request : (one : Request) (rest : List ScriptLine) → (tail_of (lines_of_request one ++ rest)).requests ≡ one ∷
+of_request : (one : RequestRecord) (rest : List ScriptLine) → (tail_of (lines_of_request one ++ rest)).requests ≡ one ∷
     (tail_of rest).requests
 of_request (Refresh actions) rest =
     ap (λ lines. (tail_of (line.Begin ∷ lines)).requests)
@@ -110,7 +110,7 @@ of_request (Refresh actions) rest =
     ∙ ap (λ t. (before line.Begin t).requests) (of_actions actions rest)
 of_request (Ask question) rest = refl
 
-of_requests : (requests : List Request) → (tail_of (lines_of_requests requests)).requests ≡ requests
+of_requests : (requests : List RequestRecord) → (tail_of (lines_of_requests requests)).requests ≡ requests
 of_requests [] = refl
 of_requests (one ∷ requests) = of_request one (lines_of_requests requests)
     ∙ ap (λ rest. one ∷ rest) (of_requests requests)

@@ -38,7 +38,7 @@ use Rattle.ssb_text.specs.declared.records.ReadError.TheVariants as read
 use Rattle.ssb_script.specs.Begun.{Begun, Nothing}
 use Rattle.ssb_script.specs.Errors.{error_of_read}
 use Rattle.ssb_script.specs.Lines.{ScriptLine, line_of, word_of}
-use Rattle.ssb_script.specs.Requests.{Request, IsWholeRequest, lines_of_request, lines_of_requests, requests_of}
+use Rattle.ssb_script.specs.Requests.{RequestRecord, IsWholeRequest, lines_of_request, lines_of_requests, requests_of}
 use Rattle.ssb_script.specs.Scripts.{
   Spells,
   SpellsScript,
@@ -54,20 +54,20 @@ use Rattle.ssb_script.specs.Scripts.{
 }
 use Rattle.ssb_script.specs.Steps.{Follows, IsFoundBy, asked, begun_in}
 use Rattle.ssb_script.specs.declared.begun.Step.{Step}
-use Rattle.ssb_script.specs.declared.block.Script.{Script}
+use Rattle.ssb_script.specs.declared.request.Script.{Script}
 use Rattle.ssb_script.specs.declared.error.ScriptError.{ScriptError}
 use Rattle.ssb_script.specs.declared.error.ScriptError.TheVariants as error
 
 -- so many records that a reader has given of a text spell these requests, and what is begun
 pub record HasRead {R : Type 0} (remaining : R → Option (List ℕ)) (text : List ℕ) (reader : Reader R) (count : ℕ)
-    (requests : List Request) (begun : Begun) : Type 0 where
+    (requests : List RequestRecord) (begun : Begun) : Type 0 where
   pub records : List (List (List ℕ))
   pub given : HasGiven remaining text reader records
   pub many : length records ≡ count
   pub spells : Spells records requests begun
 
 -- the same, of whatever text is known
-abbrev pub HasReadKnown : {R : Type 0} → (R → Option (List ℕ)) → Option (List ℕ) → Reader R → ℕ → List Request → Begun
+abbrev pub HasReadKnown : {R : Type 0} → (R → Option (List ℕ)) → Option (List ℕ) → Reader R → ℕ → List RequestRecord → Begun
     → Type 0
 HasReadKnown remaining known reader count requests begun =
     (text : List ℕ) → known ≡ Some text → HasRead remaining text reader count requests begun
@@ -88,7 +88,7 @@ lines_more : (before begun asked begun' : List ScriptLine) (line : ScriptLine) �
 lines_more before begun asked begun' line e = append_assoc before begun (line ∷ []) ∙ ap (λ rest. before ++ rest) e
     ∙ sym (append_assoc before asked begun')
 
-spells_more : (records : List (List (List ℕ))) (requests : List Request) (old : Begun) (fields : List (List ℕ))
+spells_more : (records : List (List (List ℕ))) (requests : List RequestRecord) (old : Begun) (fields : List (List ℕ))
     (line : ScriptLine) (step : Step)
     → Spells records requests old → line_of fields ≡ Ok line → Follows (length records + 1) old line step
     → Spells (records ++ fields ∷ []) (requests ++ asked step) (begun_in step.begun)
@@ -109,7 +109,7 @@ spells_more records requests old fields line step so_far spelled follows = recor
 
 -- one more record was read
 pub read_more : {R : Type 0} (remaining : R → Option (List ℕ)) (text : List ℕ) (old new : Reader R) (count : ℕ)
-    (requests : List Request) (begun : Begun) (fields : List (List ℕ)) (line : ScriptLine) (step : Step)
+    (requests : List RequestRecord) (begun : Begun) (fields : List (List ℕ)) (line : ScriptLine) (step : Step)
     → HasRead remaining text old count requests begun → GivesNext remaining old new true fields
     → line_of fields ≡ Ok line → Follows (count + 1) begun line step
     → HasRead remaining text new (count + 1) (requests ++ asked step) (begun_in step.begun)
@@ -122,7 +122,7 @@ read_more remaining text old new count requests begun fields line step so_far ne
 
 -- there was no more record, and nothing is begun
 pub read_all : {R : Type 0} (remaining : R → Option (List ℕ)) (most : ℕ) (text : List ℕ) (old new : Reader R)
-    (count : ℕ) (requests : List Request) (fields : List (List ℕ))
+    (count : ℕ) (requests : List RequestRecord) (fields : List (List ℕ))
     → HasRead remaining text old count requests Nothing → GivesNext remaining old new false fields → count ≤ most
     → SpellsScript most text requests
 read_all remaining most text old new count requests fields so_far next few = record {
@@ -135,7 +135,7 @@ read_all remaining most text old new count requests fields so_far next few = rec
 
 -- there was no more record, and a refresh is begun
 pub ends_inside : {R : Type 0} (remaining : R → Option (List ℕ)) (most : ℕ) (text : List ℕ) (old new : Reader R)
-    (count : ℕ) (requests : List Request) (begun : Begun) (fields : List (List ℕ))
+    (count : ℕ) (requests : List RequestRecord) (begun : Begun) (fields : List (List ℕ))
     → HasRead remaining text old count requests begun → GivesNext remaining old new false fields → count ≤ most
     → is_outside begun ≡ false → EndsInRefresh most text
 ends_inside remaining most text old new count requests begun fields so_far next few inside = record {
@@ -150,7 +150,7 @@ ends_inside remaining most text old new count requests begun fields so_far next 
 
 -- one more record was read, and it has a fault
 pub first_fault : {R : Type 0} (remaining : R → Option (List ℕ)) (most : ℕ) (text : List ℕ) (old new : Reader R)
-    (count : ℕ) (requests : List Request) (begun : Begun) (fields : List (List ℕ)) (e : ScriptError)
+    (count : ℕ) (requests : List RequestRecord) (begun : Begun) (fields : List (List ℕ)) (e : ScriptError)
     → HasRead remaining text old count requests begun → GivesNext remaining old new true fields → count ≤ most
     → fault_of most (count + 1) begun fields ≡ Some e → IsFirstFault most text e
 first_fault remaining most text old new count requests begun fields e so_far next few bad =
@@ -178,7 +178,7 @@ within most number b fields few = rw (le-ltb most number few) refl
 
 -- what an error tells, where the other checks found it
 pub found_fault : {R : Type 0} (remaining : R → Option (List ℕ)) (most : ℕ) (known : Option (List ℕ))
-    (old new : Reader R) (count : ℕ) (requests : List Request) (begun : Begun) (fields : List (List ℕ))
+    (old new : Reader R) (count : ℕ) (requests : List RequestRecord) (begun : Begun) (fields : List (List ℕ))
     (e : ScriptError)
     → HasReadKnown remaining known old count requests begun → GivesNext remaining old new true fields → count < most
     → IsFoundBy (order_refused begun (word_of fields) ∷ checks_in (count + 1) begun (line_of fields)) e
@@ -196,7 +196,7 @@ read_fault most text read.OutOfMemory = inr (inl refl)
 
 -- what the reading gives where there is no more record
 pub read_script_all : {R : Type 0} (remaining : R → Option (List ℕ)) (most : ℕ) (known : Option (List ℕ))
-    (old new : Reader R) (count : ℕ) (requests : List Request) (begun : Begun) (fields : List (List ℕ))
+    (old new : Reader R) (count : ℕ) (requests : List RequestRecord) (begun : Begun) (fields : List (List ℕ))
     (result : Result Script ScriptError)
     → HasReadKnown remaining known old count requests begun → GivesNext remaining old new false fields → count ≤ most
     → IfOk result (λ script. (begun ≡ Nothing) × (requests_of script ≡ requests))
@@ -206,7 +206,7 @@ read_script_all remaining most known old new count requests begun fields (Ok scr
 read_script_all remaining most known old new count requests begun fields (Err e) so_far next few made = tt
 
 pub read_script_ends : {R : Type 0} (remaining : R → Option (List ℕ)) (most : ℕ) (known : Option (List ℕ))
-    (old new : Reader R) (count : ℕ) (requests : List Request) (begun : Begun) (fields : List (List ℕ))
+    (old new : Reader R) (count : ℕ) (requests : List RequestRecord) (begun : Begun) (fields : List (List ℕ))
     (result : Result Script ScriptError)
     → HasReadKnown remaining known old count requests begun → GivesNext remaining old new false fields → count ≤ most
     → IfErr result (λ e. (e ≡ error.NoCommit) × (is_outside begun ≡ false))

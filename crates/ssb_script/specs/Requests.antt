@@ -8,26 +8,26 @@ use Rattle.ssb_schema.specs.Refreshes.{refresh_fault}
 use Rattle.ssb_schema.specs.declared.line.LineFields.{LineFields}
 use Rattle.ssb_schema.specs.declared.refresh.Action.{Action}
 use Rattle.ssb_schema.specs.declared.refresh.Action.TheVariants as action
-use Rattle.ssb_script.specs.declared.block.Block.{Block}
-use Rattle.ssb_script.specs.declared.block.Block.TheVariants as block
-use Rattle.ssb_script.specs.declared.block.Script.{Script}
+use Rattle.ssb_script.specs.declared.request.Request.{Request}
+use Rattle.ssb_script.specs.declared.request.Request.TheVariants as request
+use Rattle.ssb_script.specs.declared.request.Script.{Script}
 use Rattle.ssb_script.specs.Lines.{ScriptLine}
 use Rattle.ssb_script.specs.Lines as line
 use Rattle.ssb_script.specs.declared.control.Opening.{Opening}
 use Rattle.ssb_script.specs.declared.control.Opening.TheVariants.{Add, Amend}
 
--- what a block asks: the actions of a refresh, or a query with its constants
-pub data Request : Type 0 where
-  Refresh : List Action → Request
-  Ask : Named × List Value → Request
+-- what a request asks: the actions of a refresh, or a query with its constants
+pub data RequestRecord : Type 0 where
+  Refresh : List Action → RequestRecord
+  Ask : Named × List Value → RequestRecord
 
-abbrev pub request_of : Block → Request
-request_of (block.Refresh refresh) = Refresh refresh.value
-request_of (block.Ask question) = Ask question
+abbrev pub request_of : Request → RequestRecord
+request_of (request.Refresh refresh) = Refresh refresh.value
+request_of (request.Ask question) = Ask question
 
 -- the requests of a script, in order
-abbrev pub requests_of : Script → List Request
-requests_of script = map request_of script.blocks.items
+abbrev pub requests_of : Script → List RequestRecord
+requests_of script = map request_of script.requests.items
 
 -- the lines of a script that spell an action, a refresh, a request
 abbrev pub lines_of_action : Action → List ScriptLine
@@ -35,11 +35,11 @@ lines_of_action (action.Add order) = line.Open Add ∷ map line.Line order
 lines_of_action (action.Amend order) = line.Open Amend ∷ map line.Line order
 lines_of_action (action.Withdraw key) = line.Withdraw key ∷ []
 
-abbrev pub lines_of_request : Request → List ScriptLine
+abbrev pub lines_of_request : RequestRecord → List ScriptLine
 lines_of_request (Refresh actions) = line.Begin ∷ (flat_map lines_of_action actions ++ line.Commit ∷ [])
 lines_of_request (Ask question) = line.Query question ∷ []
 
-abbrev pub lines_of_requests : List Request → List ScriptLine
+abbrev pub lines_of_requests : List RequestRecord → List ScriptLine
 lines_of_requests requests = flat_map lines_of_request requests
 
 -- the action of an order that began so
@@ -54,6 +54,6 @@ IsWholeAction (action.Amend order) = order_fault order ≡ None
 IsWholeAction (action.Withdraw key) = Unit {0}
 
 -- a refresh has 1 to 64 actions, on orders
-abbrev pub IsWholeRequest : Request → Type 0
+abbrev pub IsWholeRequest : RequestRecord → Type 0
 IsWholeRequest (Refresh actions) = (refresh_fault actions ≡ None) × All IsWholeAction actions
 IsWholeRequest (Ask question) = Unit {0}

@@ -39,13 +39,13 @@ use Rattle.ssb_script.specs.Begun.{Begun}
 use Rattle.ssb_script.specs.Begun as begun
 use Rattle.ssb_script.specs.Lines.{is_line, line_of, word_of, ScriptLine, RecordFault, Bad, Refused}
 use Rattle.ssb_script.specs.Lines as line
-use Rattle.ssb_script.specs.Requests.{Request, IsWholeAction, IsWholeRequest, lines_of_action, lines_of_requests}
+use Rattle.ssb_script.specs.Requests.{RequestRecord, IsWholeAction, IsWholeRequest, lines_of_action, lines_of_requests}
 use Rattle.ssb_script.specs.declared.error.ScriptError.{ScriptError}
 use Rattle.ssb_script.specs.declared.error.ScriptError.TheVariants as error
 use Rattle.ssb_script.specs.declared.word.Word.{Word}
 
 -- a text spells these requests: its records, at most so many, spell their lines and nothing else
-pub record SpellsScript (most : ℕ) (text : List ℕ) (requests : List Request) : Type 0 where
+pub record SpellsScript (most : ℕ) (text : List ℕ) (requests : List RequestRecord) : Type 0 where
   pub records : List (List (List ℕ))
   pub all : HasRecords text records
   pub few : length records ≤ most
@@ -85,7 +85,7 @@ IsSettled (begun.Refresh actions) = ends_in_order actions ≡ false
 IsSettled (begun.Order order) = Unit {0}
 
 -- records spell whole requests, and then what is begun
-pub record Spells (records : List (List (List ℕ))) (requests : List Request) (begun : Begun) : Type 0 where
+pub record Spells (records : List (List (List ℕ))) (requests : List RequestRecord) (begun : Begun) : Type 0 where
   pub spelled : map line_of records ≡ map Ok (lines_of_requests requests ++ lines_of_begun begun)
   pub whole : All IsWholeRequest requests
   pub room : HasRoom (length records) begun
@@ -165,9 +165,9 @@ too_many_actions number b spelled = if begins_action spelled && not (nat_lt (act
     (error.Row number schema.TooManyActions) else None
 
 -- 6. it is the `commit` of no action
-abbrev pub empty_block : ℕ → Begun → Result ScriptLine RecordFault → Option ScriptError
-empty_block number b (Ok line.Commit) = if nat_eq (actions_in b) 0 then Some (error.EmptyBlock number) else None
-empty_block _ _ _ = None
+abbrev pub empty_request : ℕ → Begun → Result ScriptLine RecordFault → Option ScriptError
+empty_request number b (Ok line.Commit) = if nat_eq (actions_in b) 0 then Some (error.EmptyBlock number) else None
+empty_request _ _ _ = None
 
 -- the first fault of several checks
 abbrev pub first_of : List (Option ScriptError) → Option ScriptError
@@ -182,7 +182,7 @@ checks_in number b spelled =
     ∷ line_refused number spelled
     ∷ too_many_lines b spelled
     ∷ too_many_actions number b spelled
-    ∷ empty_block number b spelled
+    ∷ empty_request number b spelled
     ∷ []
 
 abbrev pub checks : ℕ → ℕ → Begun → Option Word → Result ScriptLine RecordFault → List (Option ScriptError)
@@ -197,7 +197,7 @@ pub record IsFirstFault (most : ℕ) (text : List ℕ) (e : ScriptError) : Type 
   pub fields : List (List ℕ)
   pub begins : BeginsWith text (before ++ fields ∷ [])
   pub few : length before ≤ most
-  pub requests : List Request
+  pub requests : List RequestRecord
   pub begun : Begun
   pub spells : Spells before requests begun
   pub is : fault_of most (length before + 1) begun fields ≡ Some e
@@ -207,7 +207,7 @@ pub record EndsInRefresh (most : ℕ) (text : List ℕ) : Type 0 where
   pub records : List (List (List ℕ))
   pub all : HasRecords text records
   pub few : length records ≤ most
-  pub requests : List Request
+  pub requests : List RequestRecord
   pub begun : Begun
   pub spells : Spells records requests begun
   pub inside : is_outside begun ≡ false

@@ -6,7 +6,7 @@ use Rattle.ssb_script.specs.Begun.{Begun, BegunOrder}
 use Rattle.ssb_script.specs.Begun as begun
 use Rattle.ssb_script.specs.Lines.{ScriptLine, RecordFault}
 use Rattle.ssb_script.specs.Lines as line
-use Rattle.ssb_script.specs.Requests.{Request, IsWholeRequest, action_of, lines_of_requests, request_of}
+use Rattle.ssb_script.specs.Requests.{RequestRecord, IsWholeRequest, action_of, lines_of_requests, request_of}
 use Rattle.ssb_script.specs.Scripts.{HasRoom, IsSettled, first_of, lines_of_begun}
 use Rattle.ssb_script.specs.declared.begun.Begun.{Begun as Held}
 use Rattle.ssb_script.specs.declared.begun.Begun.TheVariants as held
@@ -59,8 +59,8 @@ begun_of None = begun.Nothing
 begun_of (Some actions) = begun.Refresh actions
 
 -- the request that a step ends
-abbrev pub asked : Step → List Request
-asked step = map request_of (option_to_list step.block)
+abbrev pub asked : Step → List RequestRecord
+asked step = map request_of (option_to_list step.request)
 
 -- a step takes up one more line, of the record of this number
 pub record Follows (number : ℕ) (old : Begun) (line : ScriptLine) (step : Step) : Type 0 where

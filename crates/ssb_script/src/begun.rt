@@ -12,11 +12,11 @@ ghost use Rattle.ssb_script.specs.Steps.{Follows, IsFoundBy, actions_at_end, beg
 ghost use Rattle.ssb_script.specs.Steps.{line_of_row};
 ghost use Rattle.ssb_script.specs.Begun as begun;
 
-use crate::block::Block;
 use crate::control::{Control, Opening};
 use crate::error::ScriptError;
 use crate::fields::word_of;
 use crate::order_line::OrderLine;
+use crate::request::Request;
 use crate::word::is_line;
 use csv::ByteRecord;
 use ssb_schema::{Action, Items, Line, Order, Refresh, SchemaFault};
@@ -47,11 +47,11 @@ pub enum Begun {
     Order(BegunOrder),
 }
 
-/// What comes of one record: the block that it ends, if it ends one, and what is begun after it.
+/// What comes of one record: the request that it ends, if it ends one, and what is begun after it.
 #[derive(Drop)]
 pub struct Step {
-    /// The block that the record ended, if it ended one.
-    pub block: Option<Block>,
+    /// The request that the record ended, if it ended one.
+    pub request: Option<Request>,
     /// What is begun after the record.
     pub begun: Begun,
 }
@@ -79,11 +79,11 @@ fn outside(alloc: Global, number: u64, control: Control) -> Result<Step, ScriptE
 {
     match control {
         Control::Query(question) => Ok(Step {
-            block: Some(Block::Ask(question)),
+            request: Some(Request::Ask(question)),
             begun: Begun::Nothing,
         }),
         Control::Begin => Ok(Step {
-            block: None,
+            request: None,
             begun: Begun::Refresh(Items::from_vec(Vec::new(alloc))),
         }),
         Control::Open(_) => Err(ScriptError::BadLine(number)),
@@ -108,7 +108,7 @@ fn begin_order(
     }
     let lines = Items::from_vec(Vec::new(alloc));
     Ok(Step {
-        block: None,
+        request: None,
         begun: Begun::Order(BegunOrder {
             actions,
             opening,
@@ -128,7 +128,7 @@ fn withdraw(number: u64, actions: Items<Action>, key: u64) -> Result<Step, Scrip
         return Err(ScriptError::Row(number, SchemaFault::TooManyActions));
     }
     Ok(Step {
-        block: None,
+        request: None,
         begun: Begun::Refresh(pushed(actions, Action::Withdraw(key))?),
     })
 }
@@ -141,7 +141,7 @@ fn commit(alloc: Global, number: u64, actions: Items<Action>) -> Result<Step, Sc
 {
     match Refresh::new(actions.into_vec()) {
         Ok(refresh) => Ok(Step {
-            block: Some(Block::Refresh(Arc::new(alloc, refresh)?)),
+            request: Some(Request::Refresh(Arc::new(alloc, refresh)?)),
             begun: Begun::Nothing,
         }),
         Err(_) => Err(ScriptError::EmptyBlock(number)),
@@ -194,7 +194,7 @@ impl BegunOrder {
         }
         let lines = pushed(self.lines, line)?;
         Ok(Step {
-            block: None,
+            request: None,
             begun: Begun::Order(BegunOrder {
                 actions: self.actions,
                 opening: self.opening,

@@ -1,33 +1,33 @@
-//! The warehouse's script language: from the bytes of a client's script to the blocks that it asks for, refreshes
+//! The warehouse's script language: from the bytes of a client's script to the requests that it asks for, refreshes
 //! (lists of whole-order actions, in the manner of TPC-H's refresh functions) and questions.
 //!
 //! A script is text, one record a line, fields parted by `|`: `query|Q4.1` asks, `begin` .. `commit` is a refresh, and
 //! in it `add`, `amend` (each with its `line` records) and `withdraw|KEY` are its actions. The one contract, of
-//! `read_script`: the blocks are exactly those whose lines the script's records spell, and an error is the first fault
+//! `read_script`: the requests are exactly those whose lines the script's records spell, and an error is the first fault
 //! that the script has, record by record and check by check; only a failed read and want of memory may come before it.
 //!
-//! The definitions stand in `specs/`: `Lines` (what one record says), `Requests` (the lines of a block) and `Scripts`
+//! The definitions stand in `specs/`: `Lines` (what one record says), `Requests` (the lines of a request) and `Scripts`
 //! (what a text spells, the checks in their order, and the first fault).
 //!
-//! `read_script(alloc, "query|Q1.1\n".as_bytes(), 1_000_000)?.blocks` is one block, the question of Q1.1.
+//! `read_script(alloc, "query|Q1.1\n".as_bytes(), 1_000_000)?.requests` is one request, the question of Q1.1.
 #![tactic(auto)]
 
 mod begun;
-mod block;
 mod control;
 mod error;
 mod fields;
 mod laws;
 mod order_line;
 mod question;
+mod request;
 mod script;
 mod word;
 
 pub use begun::{Begun, BegunOrder, Step};
-pub use block::{Block, Script};
 pub use control::{Control, Opening, key_of};
 pub use error::ScriptError;
 pub use laws::one_reading;
 pub use order_line::OrderLine;
 pub use question::{constants_from, question_at};
+pub use request::{Request, Script};
 pub use script::read_script;

@@ -9,32 +9,32 @@ ghost use Rattle.ssb_script.specs.Steps.{begun_in};
 ghost use Rattle.ssb_script.specs.declared.error.ScriptError.TheVariants.{NoCommit};
 
 use crate::begun::{Begun, Step};
-use crate::block::{Block, Script};
 use crate::error::ScriptError;
+use crate::request::{Request, Script};
 use csv::ByteRecord;
 use ssb_text::{next_record, record_reader};
 use std::alloc::{AllocError, Global};
 use std::io::Read;
 
-// Keeps the block that a record ended, if it ended one.
-fn keep(blocks: &mut Vec<Block>, block: Option<Block>) -> Result<(), AllocError>
-    ensures { IfOk result (λ _. map request_of blocks.new.items ≡ map request_of blocks.old.items
-        ++ map request_of (option_to_list block)) }
+// Keeps the request that a record ended, if it ended one.
+fn keep(requests: &mut Vec<Request>, request: Option<Request>) -> Result<(), AllocError>
+    ensures { IfOk result (λ _. map request_of requests.new.items ≡ map request_of requests.old.items
+        ++ map request_of (option_to_list request)) }
 {
-    if let Some(block) = block {
-        blocks.push(block)?;
+    if let Some(request) = request {
+        requests.push(request)?;
     }
     Ok(())
 }
 
-// The script of these blocks, where nothing more is begun.
-fn script_of(blocks: Vec<Block>, begun: Begun) -> Result<Script, ScriptError>
+// The script of these requests, where nothing more is begun.
+fn script_of(requests: Vec<Request>, begun: Begun) -> Result<Script, ScriptError>
     ensures script { IfOk result (λ script. (begun_in begun ≡ Nothing)
-        × (requests_of script ≡ map request_of blocks.items)) }
+        × (requests_of script ≡ map request_of requests.items)) }
     ensures fault { IfErr result (λ e. (e ≡ NoCommit) × (is_outside (begun_in begun) ≡ false)) }
 {
     match begun {
-        Begun::Nothing => Ok(Script { blocks }),
+        Begun::Nothing => Ok(Script { requests }),
         Begun::Refresh(_) => Err(ScriptError::NoCommit),
         Begun::Order(_) => Err(ScriptError::NoCommit),
     }
@@ -58,18 +58,21 @@ pub fn read_script<R: Read + Drop>(
 {
     let mut reader = record_reader(alloc, source);
     let mut fields = ByteRecord::new(alloc);
-    let mut blocks = Vec::new(alloc);
+    let mut requests = Vec::new(alloc);
     let mut begun = Begun::Nothing;
     for before in 0..max_records {
         if !next_record(&mut reader, &mut fields)? {
-            return script_of(blocks, begun);
+            return script_of(requests, begun);
         }
-        let Step { block, begun: next } = begun.after(alloc, before, &fields)?;
-        keep(&mut blocks, block)?;
+        let Step {
+            request,
+            begun: next,
+        } = begun.after(alloc, before, &fields)?;
+        keep(&mut requests, request)?;
         begun = next;
     }
     if next_record(&mut reader, &mut fields)? {
         return Err(ScriptError::TooLong);
     }
-    script_of(blocks, begun)
+    script_of(requests, begun)
 }

@@ -7,7 +7,7 @@ use Rattle.row_store.specs.History.{CommitRecord, IsPrefix}
 use Rattle.ssb_base.specs.Base.{Tables}
 use Rattle.ssb_answers.specs.declared.answer.Answer.{Answer}
 use Rattle.ssb_answers.specs.declared.answer.Answer.TheVariants.{Rows, Unserved}
-use Rattle.history.specs.declared.request.Request.{Request}
+use Rattle.history.specs.declared.request.PostedQuestion.{PostedQuestion}
 use Rattle.history_core.specs.World.{rows_after}
 use Rattle.history.specs.Tokens.{TokenRecord, Collected, Saw}
 use Rattle.history.specs.Words.{IsRight}
@@ -18,7 +18,7 @@ use Rattle.row_store.proofs.PrefixLaws.{beginnings_are_shorter}
 take_prefix : (n : ℕ) (a b : List CommitRecord) → IsPrefix a b → n ≤ length a → take n b ≡ take n a
 take_prefix n a b p le = ap (take n) p.whole ∙ take-append-le n a p.rest le
 
-pub right_later : (base : Tables) (history later : List CommitRecord) (asked : Request) (reply : Answer)
+pub right_later : (base : Tables) (history later : List CommitRecord) (asked : PostedQuestion) (reply : Answer)
     → IsPrefix history later → IsRight base history asked reply → IsRight base later asked reply
 right_later base history later asked (Rows query at rows) p (q, floor, within, is) =
     let n = beginnings_are_shorter history later p in

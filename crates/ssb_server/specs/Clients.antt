@@ -13,7 +13,7 @@ use Rattle.ssb_questions.specs.declared.query.Query.{Query}
 use Rattle.ssb_questions.specs.declared.value.Value.{Value}
 use Rattle.ssb_answers.specs.declared.answer.Answer.{Answer}
 use Rattle.history_core.specs.declared.event.Who.TheVariants.{Client}
-use Rattle.history.specs.declared.request.Request.{Request}
+use Rattle.history.specs.declared.request.PostedQuestion.{PostedQuestion}
 use Rattle.history.specs.Tokens.{TableRecord, TokenRecord, IsSound}
 use Rattle.history.specs.Words.{IsRight, request}
 
@@ -76,7 +76,7 @@ pub record Asks (before : TokenRecord) (question : Query × List Value) (after :
 
 -- the client got an answer to what it had asked, right in what it sees then
 pub record Polls (before : TokenRecord) (reply : Answer) (after : TokenRecord) : Type 0 where
-  pub asked : Request
+  pub asked : PostedQuestion
   pub was : before.asked ≡ Some asked
   pub right : IsRight before.table.base after.seen asked reply
   pub begins : IsPrefix before.seen after.seen

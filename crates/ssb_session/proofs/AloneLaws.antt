@@ -50,7 +50,7 @@ use Rattle.history_core.specs.World.{rows_after}
 use Rattle.history_core.proofs.HistoryLaws.{some_injective}
 use Rattle.history.specs.Tokens.{TokenRecord, IsSound}
 use Rattle.history.specs.Words.{Owns, IsCause, IsRight, request}
-use Rattle.history.specs.declared.request.Request.{Request as Asked}
+use Rattle.history.specs.declared.request.PostedQuestion.{PostedQuestion as Asked}
 use Rattle.ssb_script.specs.Requests.{Refresh, Ask}
 use Rattle.ssb_report.specs.Replies.{Refreshed, Answered, IsAnswer, committed_by, with_commits}
 use Rattle.ssb_report.proofs.ServingLaws.{with_none}

@@ -43,9 +43,9 @@ use Rattle.row_store.specs.History.{CommitRecord, IsPrefix}
 use Rattle.row_store.proofs.PrefixLaws.{prefix_longer}
 use Rattle.history.specs.Tokens.{TokenRecord}
 use Rattle.history.specs.Words.{request}
-use Rattle.history.specs.declared.request.Request.{Request as Asked}
+use Rattle.history.specs.declared.request.PostedQuestion.{PostedQuestion as Asked}
 use Rattle.history.proofs.HistoryLaws.{prefix_trans}
-use Rattle.ssb_script.specs.Requests.{Request, Refresh, Ask}
+use Rattle.ssb_script.specs.Requests.{RequestRecord, Refresh, Ask}
 use Rattle.ssb_report.specs.Replies.{Reply, Refreshed, Answered}
 use Rattle.ssb_audit.specs.declared.trace.Told.{Told}
 use Rattle.ssb_audit.specs.Traces.{rows_after}
@@ -131,7 +131,7 @@ rows_between base number before question asked_for at rows after over answered =
     floor_of e = cc
 
 -- a request goes on, and what it told is between
-one_goes : (number : ℕ) (before : TokenRecord) (request : Request) (reply : Reply) (after : TokenRecord)
+one_goes : (number : ℕ) (before : TokenRecord) (request : RequestRecord) (reply : Reply) (after : TokenRecord)
     → IsServed number before request reply after → Goes before after
 one_goes number before (Refresh actions) (Refreshed reply) after served =
     refreshed_goes before number actions reply after served
@@ -139,7 +139,7 @@ one_goes number before (Ask question) (Answered answer) after served = answered_
 one_goes number before (Refresh actions) (Answered answer) after served = absurd served
 one_goes number before (Ask question) (Refreshed reply) after served = absurd served
 
-one_told : (base : Tables) (number : ℕ) (before : TokenRecord) (request : Request) (reply : Reply) (after : TokenRecord)
+one_told : (base : Tables) (number : ℕ) (before : TokenRecord) (request : RequestRecord) (reply : Reply) (after : TokenRecord)
     → before.table.base ≡ base → IsServed number before request reply after
     → AllByRecursion (IsBetween base number before after) (told_of number reply)
 one_told base number before (Refresh actions) (Refreshed reply) after over served = tt
@@ -214,7 +214,7 @@ record AreBetween (base : Tables) (number : ℕ) (before after : TokenRecord) (t
   each : AllByRecursion (IsBetween base number before after) told
   orderly : Orderly told
 
-are_between : (base : Tables) (number : ℕ) (before after : TokenRecord) (requests : List Request) (replies : List Reply)
+are_between : (base : Tables) (number : ℕ) (before after : TokenRecord) (requests : List RequestRecord) (replies : List Reply)
     → before.table.base ≡ base
     → AreServed number before requests replies after → AreBetween base number before after
     (flat_map (told_of number) replies)

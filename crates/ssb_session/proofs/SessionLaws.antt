@@ -39,7 +39,7 @@ use Rattle.row_store.specs.declared.refusal.RefreshError.{RefreshError}
 use Rattle.row_store.specs.declared.refusal.RefreshError.TheVariants as refusal
 use Rattle.history.specs.Tokens.{TokenRecord}
 use Rattle.history.specs.World.{number_of}
-use Rattle.ssb_script.specs.Requests.{Request}
+use Rattle.ssb_script.specs.Requests.{RequestRecord}
 use Rattle.ssb_report.specs.Replies.{Reply, reply_text}
 use Rattle.ssb_report.specs.Report.{report_of}
 use Rattle.ssb_report.proofs.WrittenLaws.{appends_none, appends_both}
@@ -83,7 +83,7 @@ keeps_same : (a : Option (List ℕ)) → Keeps a a
 keeps_same None = tt
 keeps_same (Some xs) = refl
 
-pub stops_before : (number : ℕ) (old : TokenRecord) (request : Request) (told : List Told) (a : Option (List ℕ))
+pub stops_before : (number : ℕ) (old : TokenRecord) (request : RequestRecord) (told : List Told) (a : Option (List ℕ))
     → StopsIn OutOfMemory number old old request told told a a
 stops_before number old request told a = (refl, refl, keeps_same a)
 
@@ -116,7 +116,7 @@ answered_alike before asking after question answer asked polled = record {
 }
 
 -- as many replies as requests
-same_count : (number : ℕ) (old new : TokenRecord) (requests : List Request) (replies : List Reply)
+same_count : (number : ℕ) (old new : TokenRecord) (requests : List RequestRecord) (replies : List Reply)
     → AreServed number old requests replies new → length replies ≡ length requests
 same_count number old new [] [] are = refl
 same_count number old new [] (reply ∷ replies) are = absurd are
@@ -125,7 +125,7 @@ same_count number old new (request ∷ requests) (reply ∷ replies) are =
     ap suc (same_count number are.0 new requests replies are.2)
 
 -- one request more
-served_more : (number : ℕ) (old mid new : TokenRecord) (requests : List Request) (replies : List Reply) (request : Request)
+served_more : (number : ℕ) (old mid new : TokenRecord) (requests : List RequestRecord) (replies : List Reply) (request : RequestRecord)
     (reply : Reply)
     → AreServed number old requests replies mid → IsServed number mid request reply new
     → AreServed number old (requests ++ request ∷ []) (replies ++ reply ∷ []) new
@@ -157,7 +157,7 @@ serves_none number old told before = record {
 }
 
 -- one request more
-pub serves_more : (number : ℕ) (old mid new : TokenRecord) (requests : List Request) (request : Request)
+pub serves_more : (number : ℕ) (old mid new : TokenRecord) (requests : List RequestRecord) (request : RequestRecord)
     (told_old told_mid told_new : List Told) (a b c : Option (List ℕ))
     → Serves number old mid requests told_old told_mid a b → ServesOne number mid new request told_mid told_new b c
     → Serves number old new (requests ++ request ∷ []) told_old told_new a c
@@ -173,7 +173,7 @@ serves_more number old mid new requests request told_old told_mid told_new a b c
     }
 
 -- the same by the number of the client, who is still the same
-pub serves_more_still : (old mid new : TokenRecord) (requests : List Request) (request : Request)
+pub serves_more_still : (old mid new : TokenRecord) (requests : List RequestRecord) (request : RequestRecord)
     (told_old told_mid told_new : List Told) (a b c : Option (List ℕ))
     → Serves (number_of old.who) old mid requests told_old told_mid a b → mid.who ≡ old.who
     → ServesOne (number_of mid.who) mid new request told_mid told_new b c
@@ -183,11 +183,11 @@ serves_more_still old mid new requests request told_old told_mid told_new a b c 
     (subst (λ who. ServesOne (number_of who) mid new request told_mid told_new b c) same next)
 
 -- the first requests and one that follows
-take_next : (front rest : List Request) (request : Request) → take (length front + 1) (front ++ request ∷ rest) ≡ front
+take_next : (front rest : List RequestRecord) (request : RequestRecord) → take (length front + 1) (front ++ request ∷ rest) ≡ front
     ++ request ∷ []
 take_next front rest request = take-append-add front (request ∷ rest) 1
 
-stops_there : (number : ℕ) (old mid new : TokenRecord) (front rest : List Request) (request : Request)
+stops_there : (number : ℕ) (old mid new : TokenRecord) (front rest : List RequestRecord) (request : RequestRecord)
     (told_old told_mid told_new : List Told) (a b c : Option (List ℕ))
     → Serves number old mid front told_old told_mid a b → ServesInPart number mid new request told_mid told_new b c
     → StopsAfter (length front) number old new (front ++ request ∷ rest) told_old told_new a c
@@ -208,7 +208,7 @@ stops_there number old mid new front rest request told_old told_mid told_new a b
     }
 
 -- serving stops before a request
-stops_short : (number : ℕ) (old mid new : TokenRecord) (front rest : List Request) (request : Request)
+stops_short : (number : ℕ) (old mid new : TokenRecord) (front rest : List RequestRecord) (request : RequestRecord)
     (told_old told_mid told_new : List Told) (a b c : Option (List ℕ))
     → Serves number old mid front told_old told_mid a b
     → StopsIn OutOfMemory number mid new request told_mid told_new b c
@@ -231,7 +231,7 @@ stops_short number old mid new front rest request told_old told_mid told_new a b
     kept_written (Some xs) (Some ys) (Some zs) x first same = same ∙ first
 
 -- how a run ends at a request
-pub ends_there : (stop : Stop) (number : ℕ) (old mid new : TokenRecord) (front rest : List Request) (request : Request)
+pub ends_there : (stop : Stop) (number : ℕ) (old mid new : TokenRecord) (front rest : List RequestRecord) (request : RequestRecord)
     (told_old told_mid told_new : List Told) (a b c : Option (List ℕ))
     → Serves number old mid front told_old told_mid a b → StopsIn stop number mid new request told_mid told_new b c
     → Ends (error_after stop (length front)) number old new (front ++ request ∷ rest) told_old told_new a c
@@ -241,7 +241,7 @@ ends_there OutOfMemory number old mid new front rest request told_old told_mid t
     stops_short number old mid new front rest request told_old told_mid told_new a b c served stopped
 
 -- the same by the number of the client, who is still the same
-pub ends_there_still : (stop : Stop) (old mid new : TokenRecord) (front rest : List Request) (request : Request)
+pub ends_there_still : (stop : Stop) (old mid new : TokenRecord) (front rest : List RequestRecord) (request : RequestRecord)
     (told_old told_mid told_new : List Told) (a b c : Option (List ℕ))
     → Serves (number_of old.who) old mid front told_old told_mid a b → mid.who ≡ old.who
     → StopsIn stop (number_of mid.who) mid new request told_mid told_new b c

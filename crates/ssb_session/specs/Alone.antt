@@ -6,7 +6,7 @@ use Rattle.ssb_answers.specs.declared.answer.Unserved.{Unserved as Cause}
 use Rattle.ssb_answers.specs.declared.answer.Unserved.TheVariants.{OutOfMemory, Twin}
 use Rattle.history_core.specs.declared.event.Who.TheVariants.{Client}
 use Rattle.history.specs.Tokens.{TokenRecord}
-use Rattle.ssb_script.specs.Requests.{Request}
+use Rattle.ssb_script.specs.Requests.{RequestRecord}
 use Rattle.ssb_script.specs.Scripts.{IsScriptFault}
 use Rattle.ssb_script.specs.declared.error.ScriptError.{ScriptError}
 use Rattle.ssb_report.specs.declared.fault.RunError.{RunError}
@@ -31,7 +31,7 @@ may_be_told (Twin told found) = not (told == found)
 -- all requests of the script were answered by a report, as client 1
 pub record ServesScript (remaining : Option (List ℕ)) (done : ℕ) (old new : TokenRecord) (before after : Option (List ℕ)) :
     Type 0 where
-  pub requests : List Request
+  pub requests : List RequestRecord
   pub asked : AreAsked remaining requests
   pub count : length requests ≡ done
   pub served : Serves may_be_told 1 (own old) (own new) requests before after
@@ -47,7 +47,7 @@ pub record IsUnread (remaining : Option (List ℕ)) (fault : ScriptError) (old n
 -- a write failed in the report of the reply after the first ones
 pub record ServesPart (remaining : Option (List ℕ)) (done : ℕ) (old new : TokenRecord) (before after : Option (List ℕ)) :
     Type 0 where
-  pub requests : List Request
+  pub requests : List RequestRecord
   pub asked : AreAsked remaining requests
   pub stopped : StopsAfter may_be_told done 1 (own old) (own new) requests before after
 
@@ -60,7 +60,7 @@ EndsAlone remaining (Write done) old new other_old other_new before after =
     ServesPart remaining done old new before after
 
 -- serving stops only where a write fails
-abbrev pub StopsAlone : RunError → TokenRecord → TokenRecord → List Request → Option (List ℕ) → Option (List ℕ) → Type 0
+abbrev pub StopsAlone : RunError → TokenRecord → TokenRecord → List RequestRecord → Option (List ℕ) → Option (List ℕ) → Type 0
 StopsAlone (Script fault) old new requests before after = ⊥
 StopsAlone (Write done) old new requests before after =
     StopsAfter may_be_told done 1 (own old) (own new) requests before after

@@ -4,7 +4,7 @@ use Rattle.ssb_base.specs.Base.{Tables}
 use Rattle.row_store.specs.History.{CommitRecord, IsPrefix}
 use Rattle.row_store.specs.Legal.{IsLegal}
 use Rattle.history.specs.Tokens.{TokenRecord}
-use Rattle.ssb_script.specs.Requests.{Request}
+use Rattle.ssb_script.specs.Requests.{RequestRecord}
 use Rattle.ssb_report.specs.Replies.{Reply}
 use Rattle.ssb_audit.specs.declared.trace.Told.{Told}
 use Rattle.ssb_audit.specs.Legal.{IsLegalTrace}
@@ -14,7 +14,7 @@ use Rattle.ssb_session.specs.Served.{AreServed, told_of}
 pub record IsTold (base : Tables) (log : List CommitRecord) (number : ℕ) (told : List Told) : Type 0 where
   pub opened : TokenRecord
   pub closed : TokenRecord
-  pub requests : List Request
+  pub requests : List RequestRecord
   pub replies : List Reply
   pub over : opened.table.base ≡ base
   pub served : AreServed number opened requests replies closed

@@ -2,18 +2,18 @@
 use Rattle.std.specs.Prelude.{◌≡◌, ℕ, List, ◌++◌, Option, None}
 use Rattle.std.specs.Io.KnownBytes.{Appends, Keeps}
 use Rattle.history.specs.Tokens.{TokenRecord}
-use Rattle.ssb_script.specs.Requests.{Request}
+use Rattle.ssb_script.specs.Requests.{RequestRecord}
 use Rattle.ssb_report.specs.Replies.{Reply, reply_text}
 use Rattle.ssb_report.specs.Written.{StopsShort}
 use Rattle.ssb_session.specs.Served.{IsServed, told_of}
 use Rattle.ssb_audit.specs.declared.trace.Told.{Told}
-use Rattle.ssb_session.specs.declared.fault.BlocksError.{BlocksError}
-use Rattle.ssb_session.specs.declared.fault.BlocksError.TheVariants as error
+use Rattle.ssb_session.specs.declared.fault.ServeError.{ServeError}
+use Rattle.ssb_session.specs.declared.fault.ServeError.TheVariants as error
 use Rattle.ssb_session.specs.declared.fault.Stop.{Stop}
 use Rattle.ssb_session.specs.declared.fault.Stop.TheVariants.{Write, OutOfMemory}
 
 -- a request was served, its report written, and its answer kept
-pub record ServesOne (number : ℕ) (old new : TokenRecord) (request : Request) (told_old told_new : List Told)
+pub record ServesOne (number : ℕ) (old new : TokenRecord) (request : RequestRecord) (told_old told_new : List Told)
     (before after : Option (List ℕ)) : Type 0 where
   pub reply : Reply
   pub served : IsServed number old request reply new
@@ -21,7 +21,7 @@ pub record ServesOne (number : ℕ) (old new : TokenRecord) (request : Request) 
   pub written : Appends before after (reply_text reply)
 
 -- a request was served and its answer kept, but a part of the report alone was written
-pub record ServesInPart (number : ℕ) (old new : TokenRecord) (request : Request) (told_old told_new : List Told)
+pub record ServesInPart (number : ℕ) (old new : TokenRecord) (request : RequestRecord) (told_old told_new : List Told)
     (before after : Option (List ℕ)) : Type 0 where
   pub reply : Reply
   pub served : IsServed number old request reply new
@@ -29,7 +29,7 @@ pub record ServesInPart (number : ℕ) (old new : TokenRecord) (request : Reques
   pub written : StopsShort before after (reply_text reply)
 
 -- where serving stops: at a report, or before the request, with everything as it was
-abbrev pub StopsIn : Stop → ℕ → TokenRecord → TokenRecord → Request → List Told → List Told → Option (List ℕ) → Option (List ℕ)
+abbrev pub StopsIn : Stop → ℕ → TokenRecord → TokenRecord → RequestRecord → List Told → List Told → Option (List ℕ) → Option (List ℕ)
     → Type 0
 StopsIn Write number old new request told_old told_new before after =
     ServesInPart number old new request told_old told_new before after
@@ -37,7 +37,7 @@ StopsIn OutOfMemory number old new request told_old told_new before after =
     (new ≡ old) × (told_new ≡ told_old) × Keeps before after
 
 -- why the run ends then, so many requests having been served and reported before
-abbrev pub error_after : Stop → ℕ → BlocksError
+abbrev pub error_after : Stop → ℕ → ServeError
 error_after Write done = error.Write done
 error_after OutOfMemory done = error.OutOfMemory done
 

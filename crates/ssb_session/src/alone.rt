@@ -10,7 +10,7 @@ ghost use Rattle.ssb_session.specs.Steps.{AreAlike};
 use ssb_questions::Question;
 use ssb_report::{MOST_RECORDS, RunError, WriteFault, read_script, write_answer, write_reply};
 use ssb_schema::Refresh;
-use ssb_script::{Block, Script};
+use ssb_script::{Request, Script};
 use ssb_server::{Client, Dispatcher, OpenGate, Server};
 use std::alloc::Global;
 use std::io::{Read, Write};
@@ -62,34 +62,34 @@ fn ask_alone<W: Wait + Drop, R: Wait + Threads + Sync, O: Write>(
     write_answer(writer, &client.await_answer(rt, server))
 }
 
-// Serves a block.
+// Serves a request.
 fn serve_alone<W: Wait + Drop, R: Wait + Threads + Sync, O: Write>(
     rt: &R,
     server: &Server<W>,
     client: &mut Client<W>,
     dispatcher: &mut Dispatcher<W>,
-    block: Block,
+    request: Request,
     writer: &mut O,
 ) -> Result<(), WriteFault>
     requires table { client.old.table ≡ server.now }
     requires other { dispatcher.old.table ≡ server.now }
     requires alone { IsAlone client.old }
     requires quiet { is_some client.old.asked ≡ false }
-    ensures reply { OnOk result (Answers may_be_told 1 (own client.old) (own client.new) (request.request_of block)
+    ensures reply { OnOk result (Answers may_be_told 1 (own client.old) (own client.new) (request.request_of request)
         (O.contents writer.old) (O.contents writer.new)) }
     ensures fault { OnErr result (AnswersInPart may_be_told 1 (own client.old) (own client.new)
-        (request.request_of block) (O.contents writer.old) (O.contents writer.new)) }
+        (request.request_of request) (O.contents writer.old) (O.contents writer.new)) }
     ensures same { AreAlike client.old client.new }
     ensures other { dispatcher.new.table ≡ dispatcher.old.table }
 {
-    match block {
-        Block::Refresh(refresh) => refresh_alone(rt, server, client, refresh, writer),
-        Block::Ask(question) => ask_alone(rt, server, client, dispatcher, question, writer),
+    match request {
+        Request::Refresh(refresh) => refresh_alone(rt, server, client, refresh, writer),
+        Request::Ask(question) => ask_alone(rt, server, client, dispatcher, question, writer),
     }
 }
 
-// Serves the blocks of a script in order.
-fn serve_blocks<W: Wait + Drop, R: Wait + Threads + Sync, O: Write>(
+// Serves the requests of a script in order.
+fn serve_requests<W: Wait + Drop, R: Wait + Threads + Sync, O: Write>(
     rt: &R,
     server: &Server<W>,
     client: &mut Client<W>,
@@ -109,10 +109,10 @@ fn serve_blocks<W: Wait + Drop, R: Wait + Threads + Sync, O: Write>(
     ensures same { AreAlike client.old client.new }
     ensures other { dispatcher.new.table ≡ dispatcher.old.table }
 {
-    let mut blocks = script.blocks.into_iter();
+    let mut requests = script.requests.into_iter();
     let mut done = 0;
-    while let Some(block) = blocks.next() {
-        match serve_alone(rt, server, client, dispatcher, block, writer) {
+    while let Some(request) = requests.next() {
+        match serve_alone(rt, server, client, dispatcher, request, writer) {
             Ok(()) => done += 1,
             Err(_) => return Err(RunError::Write(done)),
         }
@@ -120,12 +120,12 @@ fn serve_blocks<W: Wait + Drop, R: Wait + Threads + Sync, O: Write>(
     Ok(done)
 }
 
-/// Reads a whole script, and then serves its blocks in order as the only client of a server, with its only dispatcher;
+/// Reads a whole script, and then serves its requests in order as the only client of a server, with its only dispatcher;
 /// it gives their number.
 ///
 /// Before the answer to a question is awaited the dispatcher takes its turn, all in this thread. Each reply is written
-/// before the next block is served. A script that can't be read changes and writes nothing. A failed write ends the
-/// run: the blocks before it and its own have been served. In each case nothing is outstanding then, and the client and
+/// before the next request is served. A script that can't be read changes and writes nothing. A failed write ends the
+/// run: the requests before it and its own have been served. In each case nothing is outstanding then, and the client and
 /// the dispatcher can be handed another script.
 pub fn run_script<W: Wait + Drop, T: Wait + Threads + Sync, R: Read + Drop, O: Write>(
     alloc: Global,
@@ -148,7 +148,7 @@ pub fn run_script<W: Wait + Drop, T: Wait + Threads + Sync, R: Read + Drop, O: W
     ensures other { dispatcher.new.table ≡ dispatcher.old.table }
 {
     match read_script(alloc, source, MOST_RECORDS) {
-        Ok(script) => serve_blocks(rt, server, client, dispatcher, script, writer),
+        Ok(script) => serve_requests(rt, server, client, dispatcher, script, writer),
         Err(fault) => Err(RunError::Script(fault)),
     }
 }

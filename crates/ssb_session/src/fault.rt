@@ -4,34 +4,34 @@ ghost use Rattle.ssb_session.specs.Steps.{error_after};
 
 use thiserror::Error;
 
-/// Why a script was not served to its end. So many blocks were served and reported before.
+/// Why a script was not served to its end. So many requests were served and reported before.
 #[derive(Clone, Copy, Debug, PartialEq, Eq, Error)]
-pub enum BlocksError {
-    /// The next block was served too, but its report could not be written whole.
+pub enum ServeError {
+    /// The next request was served too, but its report could not be written whole.
     #[error("write failed")]
     Write(u64),
-    /// There was no memory to keep the next block's answer, and it was not asked.
+    /// There was no memory to keep the next request's answer, and it was not asked.
     #[error("out of memory")]
     OutOfMemory(u64),
 }
 
-/// Why serving stopped at a block.
+/// Why serving stopped at a request.
 #[derive(Clone, Copy, Debug, PartialEq, Eq)]
 pub enum Stop {
-    /// The block was served, but its report could not be written whole.
+    /// The request was served, but its report could not be written whole.
     Write,
-    /// There was no memory to keep the block's answer, and it was not asked.
+    /// There was no memory to keep the request's answer, and it was not asked.
     OutOfMemory,
 }
 
 impl Stop {
-    /// The error where so many blocks were served and reported before.
-    pub(crate) fn after(self, done: u64) -> BlocksError
+    /// The error where so many requests were served and reported before.
+    pub(crate) fn after(self, done: u64) -> ServeError
         ensures { result ≡ error_after self done }
     {
         match self {
-            Stop::Write => BlocksError::Write(done),
-            Stop::OutOfMemory => BlocksError::OutOfMemory(done),
+            Stop::Write => ServeError::Write(done),
+            Stop::OutOfMemory => ServeError::OutOfMemory(done),
         }
     }
 }

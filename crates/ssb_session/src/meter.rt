@@ -1,8 +1,8 @@
 //! What looks on while a script is served.
 
-use ssb_script::Block;
+use ssb_script::Request;
 
-/// What a block of a script asks for.
+/// What a request of a script asks for.
 #[derive(Clone, Copy, Debug, PartialEq, Eq)]
 pub enum Kind {
     /// A refresh.
@@ -11,21 +11,21 @@ pub enum Kind {
     Question,
 }
 
-// The kind of a block.
-pub(crate) fn kind_of(block: &Block) -> Kind {
-    match block {
-        Block::Refresh(_) => Kind::Refresh,
-        Block::Ask(_) => Kind::Question,
+// The kind of a request.
+pub(crate) fn kind_of(request: &Request) -> Kind {
+    match request {
+        Request::Refresh(_) => Kind::Refresh,
+        Request::Ask(_) => Kind::Question,
     }
 }
 
-/// Is told when each block begins and ends, as a clock that takes the times. It promises nothing, and what is served is
+/// Is told when each request begins and ends, as a clock that takes the times. It promises nothing, and what is served is
 /// the same with any of them.
 pub trait Meter {
-    /// The next block is served from here on.
+    /// The next request is served from here on.
     fn begin(&mut self);
 
-    /// It was served, and its reply is reported. A block that ends the run has no end.
+    /// It was served, and its reply is reported. A request that ends the run has no end.
     fn end(&mut self, kind: Kind);
 }
 

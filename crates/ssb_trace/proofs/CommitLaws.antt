@@ -46,7 +46,7 @@ use Rattle.ssb_script.specs.Steps.{Follows as FollowsInScript, asked, begun_in}
 use Rattle.ssb_script.specs.declared.begun.Step.{Step as ScriptStep}
 use Rattle.ssb_questions.specs.declared.query.Query.{Query as Named}
 use Rattle.ssb_questions.specs.declared.value.Value.{Value}
-use Rattle.ssb_trace.specs.Blocks.{IsWholeBlock, in_commit, lines_of_commit}
+use Rattle.ssb_trace.specs.Entries.{IsWholeEntry, in_commit, lines_of_commit}
 use Rattle.ssb_script.specs.declared.begun.Begun.TheVariants as held
 use Rattle.ssb_script.specs.declared.error.ScriptError.{ScriptError}
 use Rattle.std.specs.Result.{IfOk}
@@ -54,7 +54,7 @@ use Rattle.ssb_trace.specs.Lines.{TraceLine, Begin, Inside, SaysAfter, line_insi
 use Rattle.ssb_trace.specs.Steps.{Follows, StandsInside, Takes, TakesRecord}
 use Rattle.ssb_trace.specs.declared.unfinished.Step.{Step}
 use Rattle.ssb_trace.specs.declared.unfinished.Unfinished.{Unfinished}
-use Rattle.ssb_trace.specs.declared.block.Block.TheVariants as block
+use Rattle.ssb_trace.specs.declared.entry.TraceEntry.TheVariants as entry
 use Rattle.ssb_trace.specs.declared.unfinished.Unfinished.TheVariants as unfinished
 use Rattle.ssb_trace.specs.declared.word.Word.{Word}
 use Rattle.ssb_trace.specs.declared.word.Word.TheVariants as word
@@ -217,7 +217,7 @@ module _ (number : ℕ) (old : Begun) (line : ScriptLine) (step : ScriptStep) (i
   pub takes_refresh : (client : ℕ) (actions : List Action) → asked step ≡ Refresh actions ∷ []
       → Takes number (map (in_commit client) (lines_of_begun old ++ line ∷ []))
       (record {
-        block = Some (block.Commit (record { client = client; actions = actions }));
+        entry = Some (entry.Commit (record { client = client; actions = actions }));
         unfinished = unfinished.Nothing;
       })
   takes_refresh client actions one =
@@ -226,17 +226,17 @@ module _ (number : ℕ) (old : Begun) (line : ScriptLine) (step : ScriptStep) (i
       record {
         lines = ap (map (in_commit client)) (lines_whole actions one)
             ∙ (sym (append-nil commit) ∙ sym (append-nil (commit ++ [])));
-        whole = All-push IsWholeBlock [] (block.Commit (record { client = client; actions = actions }))
-            (All-nil IsWholeBlock) (All-head IsWholeRequest (Refresh actions) [] whole);
+        whole = All-push IsWholeEntry [] (entry.Commit (record { client = client; actions = actions }))
+            (All-nil IsWholeEntry) (All-head IsWholeRequest (Refresh actions) [] whole);
         unfinished = tt;
       }
 
   pub takes_line : (client : ℕ) → asked step ≡ []
       → Takes number (map (in_commit client) (lines_of_begun old ++ line ∷ []))
-      (record { block = None; unfinished = unfinished.Commit (record { client = client; begun = step.begun }) })
+      (record { entry = None; unfinished = unfinished.Commit (record { client = client; begun = step.begun }) })
   takes_line client none = record {
     lines = ap (map (in_commit client)) (lines_still none);
-    whole = All-nil IsWholeBlock;
+    whole = All-nil IsWholeEntry;
     unfinished = (still_inside none, follows.room, follows.settled);
   }
 
@@ -257,12 +257,12 @@ lines-inside client lines line stands = map-append (in_commit client) lines (lin
 -- a commit that begins has no line but its first
 pub takes_first : (number client : ℕ) (actions : List Action) → actions ≡ []
     → Takes number (Begin client ∷ []) (record {
-      block = None;
+      entry = None;
       unfinished = unfinished.Commit (record { client = client; begun = held.Refresh actions });
     })
 takes_first number client actions none = rw none (record {
   lines = refl;
-  whole = All-nil IsWholeBlock;
+  whole = All-nil IsWholeEntry;
   unfinished = (refl, (omega arith, All-nil IsWholeAction), refl);
 })
 

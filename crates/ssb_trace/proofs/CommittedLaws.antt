@@ -12,7 +12,7 @@ use Rattle.ssb_script.specs.Lines as script
 use Rattle.ssb_script.specs.Requests.{lines_of_action}
 use Rattle.ssb_script.specs.declared.control.Opening.TheVariants as opening
 use Rattle.ssb_trace.specs.TraceText.{action_text, begun_text, column_text, commit_text, line_text, record_text}
-use Rattle.ssb_trace.specs.Blocks.{in_commit, lines_of_commit}
+use Rattle.ssb_trace.specs.Entries.{in_commit, lines_of_commit}
 use Rattle.ssb_trace.specs.Lines.{TraceLine, Begin, Inside, Says, word_of}
 use Rattle.ssb_trace.specs.Allowed.{IsAllowedAction, IsAllowedCommit, IsAllowedLine, IsClient}
 use Rattle.ssb_trace.proofs.ClientLaws.{client_read, client_small}

@@ -45,7 +45,7 @@ use Rattle.ssb_report.specs.AnswerText.{after_bar, value_text}
 use Rattle.ssb_report.specs.Numbers.{line_feed}
 use Rattle.ssb_script.specs.Lines.{constants_at, constants_from, query_named}
 use Rattle.ssb_trace.specs.TraceText.{fields_text, head_text, record_text, written_constants}
-use Rattle.ssb_trace.specs.Blocks.{head_of_told}
+use Rattle.ssb_trace.specs.Entries.{head_of_told}
 use Rattle.ssb_trace.specs.Lines.{Answer, Says, word_of}
 use Rattle.ssb_trace.specs.Allowed.{HasAllowedHead, IsAllowedQuestion, IsGroup}
 use Rattle.ssb_trace.proofs.ClientLaws.{client_read, client_small}

@@ -7,24 +7,24 @@ use Rattle.ssb_audit.specs.declared.trace.Told.{Told}
 use Rattle.ssb_audit.specs.declared.trace.Trace.{Trace}
 use Rattle.ssb_text.specs.Records.{HasRecords}
 use Rattle.ssb_script.specs.Requests.{IsWholeRequest, Refresh}
-use Rattle.ssb_trace.specs.Blocks.{
-  IsWholeBlock,
+use Rattle.ssb_trace.specs.Entries.{
+  IsWholeEntry,
   answers_in,
   commits_in,
-  lines_of_blocks,
+  lines_of_entries,
   lines_of_commit,
   lines_of_told,
 }
 use Rattle.ssb_trace.specs.Lines.{AreLines}
 use Rattle.ssb_trace.specs.Traces.{SpellsTrace}
-use Rattle.ssb_trace.specs.declared.block.Block.{Block}
-use Rattle.ssb_trace.specs.declared.block.Block.TheVariants as block
+use Rattle.ssb_trace.specs.declared.entry.TraceEntry.{TraceEntry}
+use Rattle.ssb_trace.specs.declared.entry.TraceEntry.TheVariants as entry
 use Rattle.std.proofs.Common.{append_assoc}
 
-in_order : List CommitRecord → List Told → List Block
+in_order : List CommitRecord → List Told → List TraceEntry
 in_order [] [] = []
-in_order [] (told ∷ answers) = block.Answer told ∷ in_order [] answers
-in_order (commit ∷ commits) answers = block.Commit commit ∷ in_order commits answers
+in_order [] (told ∷ answers) = entry.Answer told ∷ in_order [] answers
+in_order (commit ∷ commits) answers = entry.Commit commit ∷ in_order commits answers
 
 commits-of : (commits : List CommitRecord) (answers : List Told) → commits_in (in_order commits answers) ≡ commits
 unfolding in_order
@@ -39,7 +39,7 @@ answers-of [] (told ∷ answers) = ap (λ rest. told ∷ rest) (answers-of [] an
 answers-of (commit ∷ commits) answers = answers-of commits answers
 
 lines-of : (commits : List CommitRecord) (answers : List Told)
-    → flat_map lines_of_commit commits ++ flat_map lines_of_told answers ≡ lines_of_blocks (in_order commits answers)
+    → flat_map lines_of_commit commits ++ flat_map lines_of_told answers ≡ lines_of_entries (in_order commits answers)
 unfolding in_order
 lines-of [] [] = refl
 lines-of [] (told ∷ answers) = ap (λ rest. lines_of_told told ++ rest) (lines-of [] answers)
@@ -49,7 +49,7 @@ lines-of (commit ∷ commits) answers =
 
 all-whole : (commits : List CommitRecord) (answers : List Told)
     → AllByRecursion (λ commit. IsWholeRequest (Refresh commit.actions)) commits
-    → AllByRecursion IsWholeBlock (in_order commits answers)
+    → AllByRecursion IsWholeEntry (in_order commits answers)
 unfolding in_order
 all-whole [] [] whole = tt
 all-whole [] (told ∷ answers) whole = (tt, all-whole [] answers whole)
@@ -64,9 +64,9 @@ spells_in_order most text records trace all few said whole = record {
   records = records;
   all = all;
   few = few;
-  blocks = in_order trace.commits trace.answers;
+  entries = in_order trace.commits trace.answers;
   spelled = subst (AreLines records) (lines-of trace.commits trace.answers) said;
-  whole = All-from_recursion IsWholeBlock (in_order trace.commits trace.answers)
+  whole = All-from_recursion IsWholeEntry (in_order trace.commits trace.answers)
       (all-whole trace.commits trace.answers whole);
   commits = commits-of trace.commits trace.answers;
   answers = answers-of trace.commits trace.answers;

@@ -1,4 +1,4 @@
--- A text spells no two traces: its records spell one list of lines, and the blocks are read off its lines, from the
+-- A text spells no two traces: its records spell one list of lines, and the entries are read off its lines, from the
 -- last to
 -- the first.
 use Rattle.std.proofs.Common.{
@@ -44,7 +44,7 @@ use Rattle.ssb_script.specs.Lines.{ScriptLine, RecordFault}
 use Rattle.ssb_script.specs.Lines as script
 use Rattle.ssb_script.specs.Requests.{Refresh, action_of, lines_of_action, lines_of_request}
 use Rattle.ssb_script.specs.declared.control.Opening.TheVariants.{Add, Amend}
-use Rattle.ssb_trace.specs.Blocks.{answers_in, commits_in, in_commit, lines_of_blocks}
+use Rattle.ssb_trace.specs.Entries.{answers_in, commits_in, in_commit, lines_of_entries}
 use Rattle.ssb_trace.specs.Laws.{HasOneReading}
 use Rattle.ssb_trace.specs.Lines.{
   TraceLine,
@@ -54,13 +54,13 @@ use Rattle.ssb_trace.specs.Lines.{
   Row,
   AreLines,
   SaysAfter,
-  block_begun,
+  entry_begun,
   line_inside,
   row_after,
   word_of,
 }
-use Rattle.ssb_trace.specs.declared.block.Block.{Block}
-use Rattle.ssb_trace.specs.declared.block.Block.TheVariants as block
+use Rattle.ssb_trace.specs.declared.entry.TraceEntry.{TraceEntry}
+use Rattle.ssb_trace.specs.declared.entry.TraceEntry.TheVariants as entry
 use Rattle.ssb_trace.specs.declared.word.Word.{Word}
 use Rattle.ssb_trace.specs.declared.word.Word.TheVariants as word
 
@@ -90,8 +90,8 @@ inside (Ok line) = Some (Inside line)
 inside (Err why) = None
 
 said : Query → Option Word → List (List ℕ) → Option TraceLine
-said query (Some word.Commit) fields = block_begun (Some word.Commit) fields
-said query (Some word.Answer) fields = block_begun (Some word.Answer) fields
+said query (Some word.Commit) fields = entry_begun (Some word.Commit) fields
+said query (Some word.Answer) fields = entry_begun (Some word.Answer) fields
 said query (Some word.Row) fields = option_map (Row query) (row_after query (Some word.Row) fields)
 said query w fields = inside (line_inside w fields)
 
@@ -103,7 +103,7 @@ IsOf query (Answer head) = Unit {0}
 IsOf query (Row other row) = other ≡ query
 
 says_begin : (query : Query) (w : Option Word) (fields : List (List ℕ)) (line : TraceLine)
-    → block_begun w fields ≡ Some line → said query w fields ≡ Some line
+    → entry_begun w fields ≡ Some line → said query w fields ≡ Some line
 unfolding said
 says_begin query (Some word.Commit) fields line e = e
 says_begin query (Some word.Answer) fields line e = e
@@ -176,24 +176,24 @@ unfolding Follow IsOf next_query
 follow_rows query [] rest f = f
 follow_rows query (row ∷ rows) rest f = (refl, follow_rows query rows rest f)
 
-follow_blocks : (query : Query) (blocks : List Block) → Follow query (lines_of_blocks blocks)
+follow_entries : (query : Query) (entries : List TraceEntry) → Follow query (lines_of_entries entries)
 unfolding Follow IsOf next_query
-follow_blocks query [] = tt
-follow_blocks query (block.Commit commit ∷ blocks) = follow_commit query commit.client
-    (lines_of_request (Refresh commit.actions)) (lines_of_blocks blocks) (follow_blocks query blocks)
-follow_blocks query (block.Answer told ∷ blocks) = (
+follow_entries query [] = tt
+follow_entries query (entry.Commit commit ∷ entries) = follow_commit query commit.client
+    (lines_of_request (Refresh commit.actions)) (lines_of_entries entries) (follow_entries query entries)
+follow_entries query (entry.Answer told ∷ entries) = (
   tt,
-  follow_rows told.question.0 told.rows (lines_of_blocks blocks) (follow_blocks told.question.0 blocks),
+  follow_rows told.question.0 told.rows (lines_of_entries entries) (follow_entries told.question.0 entries),
 )
 
 -- what the lines from one on hold: lines of an order that began before it, actions of a commit that did, rows of an
 -- answer
--- that did, and blocks
+-- that did, and entries
 record Tail : Type 0 where
   lines : List LineFields
   actions : List Action
   rows : List ResultRow
-  blocks : List Block
+  entries : List TraceEntry
 
 abbrev before_inside : ScriptLine → Tail → Tail
 before_inside (script.Query question) tail = tail
@@ -202,28 +202,28 @@ before_inside (script.Open opening) tail = record {
   lines = [];
   actions = action_of opening tail.lines ∷ tail.actions;
   rows = tail.rows;
-  blocks = tail.blocks;
+  entries = tail.entries;
 }
 before_inside (script.Line row) tail = record {
   lines = row ∷ tail.lines;
   actions = tail.actions;
   rows = tail.rows;
-  blocks = tail.blocks;
+  entries = tail.entries;
 }
 before_inside (script.Withdraw key) tail = record {
   lines = [];
   actions = action.Withdraw key ∷ tail.actions;
   rows = tail.rows;
-  blocks = tail.blocks;
+  entries = tail.entries;
 }
-before_inside script.Commit tail = record { lines = []; actions = []; rows = []; blocks = tail.blocks }
+before_inside script.Commit tail = record { lines = []; actions = []; rows = []; entries = tail.entries }
 
 abbrev before : TraceLine → Tail → Tail
 before (Begin client) tail = record {
   lines = [];
   actions = [];
   rows = [];
-  blocks = block.Commit (record { client = client; actions = tail.actions }) ∷ tail.blocks;
+  entries = entry.Commit (record { client = client; actions = tail.actions }) ∷ tail.entries;
 }
 before (Inside line) tail = before_inside line tail
 before (Answer head) tail =
@@ -231,18 +231,18 @@ before (Answer head) tail =
       lines = [];
       actions = [];
       rows = [];
-      blocks = block.Answer
-          (record { client = head.client; at = head.at; question = head.question; rows = tail.rows }) ∷ tail.blocks;
+      entries = entry.Answer
+          (record { client = head.client; at = head.at; question = head.question; rows = tail.rows }) ∷ tail.entries;
     }
 before (Row query row) tail = record {
   lines = tail.lines;
   actions = tail.actions;
   rows = row ∷ tail.rows;
-  blocks = tail.blocks;
+  entries = tail.entries;
 }
 
 abbrev tail_of : List TraceLine → Tail
-tail_of [] = record { lines = []; actions = []; rows = []; blocks = [] }
+tail_of [] = record { lines = []; actions = []; rows = []; entries = [] }
 tail_of (line ∷ lines) = before line (tail_of lines)
 
 -- the lines of a commit, and then some
@@ -271,7 +271,7 @@ of_actions : (client : ℕ) (outer : List TraceLine) (actions : List Action)
       lines = [];
       actions = actions;
       rows = [];
-      blocks = (tail_of outer).blocks;
+      entries = (tail_of outer).entries;
     }
 of_actions client outer [] = refl
 of_actions client outer (a ∷ actions) =
@@ -280,11 +280,11 @@ of_actions client outer (a ∷ actions) =
       lines = [];
       actions = actions;
       rows = [];
-      blocks = (tail_of outer).blocks;
+      entries = (tail_of outer).entries;
     } = of_actions client outer actions in
     ap (tail_in client outer) (append_assoc (lines_of_action a) (flat_map lines_of_action actions) (script.Commit ∷ []))
     ∙ (of_action client outer a rest (ap (λ t. t.lines) later)
-    ∙ ap (λ t. record { lines = []; actions = a ∷ t.actions; rows = t.rows; blocks = t.blocks }) later)
+    ∙ ap (λ t. record { lines = []; actions = a ∷ t.actions; rows = t.rows; entries = t.entries }) later)
 
 of_rows : (query : Query) (rows : List ResultRow) (rest : List TraceLine) → (tail_of rest).rows ≡ []
     → (tail_of (map (Row query) rows ++ rest)).rows ≡ rows
@@ -292,29 +292,29 @@ of_rows query [] rest none = none
 of_rows query (row ∷ rows) rest none = ap (λ more. row ∷ more) (of_rows query rows rest none)
 
 past_rows : (query : Query) (rows : List ResultRow) (rest : List TraceLine)
-    → (tail_of (map (Row query) rows ++ rest)).blocks ≡ (tail_of rest).blocks
+    → (tail_of (map (Row query) rows ++ rest)).entries ≡ (tail_of rest).entries
 past_rows query [] rest = refl
 past_rows query (row ∷ rows) rest = past_rows query rows rest
 
-no_rows : (blocks : List Block) → (tail_of (lines_of_blocks blocks)).rows ≡ []
+no_rows : (entries : List TraceEntry) → (tail_of (lines_of_entries entries)).rows ≡ []
 no_rows [] = refl
-no_rows (block.Commit commit ∷ blocks) = refl
-no_rows (block.Answer told ∷ blocks) = refl
+no_rows (entry.Commit commit ∷ entries) = refl
+no_rows (entry.Answer told ∷ entries) = refl
 
-of_blocks : (blocks : List Block) → (tail_of (lines_of_blocks blocks)).blocks ≡ blocks
-of_blocks [] = refl
-of_blocks (block.Commit commit ∷ blocks) =
-    ap (λ t. (before (Begin commit.client) t).blocks) (of_actions commit.client (lines_of_blocks blocks) commit.actions)
-    ∙ ap (λ rest. block.Commit commit ∷ rest) (of_blocks blocks)
-of_blocks (block.Answer told ∷ blocks) =
-    let rest : List TraceLine = lines_of_blocks blocks in
+of_entries : (entries : List TraceEntry) → (tail_of (lines_of_entries entries)).entries ≡ entries
+of_entries [] = refl
+of_entries (entry.Commit commit ∷ entries) =
+    ap (λ t. (before (Begin commit.client) t).entries) (of_actions commit.client (lines_of_entries entries) commit.actions)
+    ∙ ap (λ rest. entry.Commit commit ∷ rest) (of_entries entries)
+of_entries (entry.Answer told ∷ entries) =
+    let rest : List TraceLine = lines_of_entries entries in
     let rows : (tail_of (map (Row told.question.0) told.rows ++ rest)).rows ≡ told.rows =
-    of_rows told.question.0 told.rows rest (no_rows blocks) in
-    let later : (tail_of (map (Row told.question.0) told.rows ++ rest)).blocks ≡ blocks =
-    past_rows told.question.0 told.rows rest ∙ of_blocks blocks in
-    ap (λ found. block.Answer (record told { rows = found }) ∷
-    (tail_of (map (Row told.question.0) told.rows ++ rest)).blocks) rows
-    ∙ ap (λ rest. block.Answer told ∷ rest) later
+    of_rows told.question.0 told.rows rest (no_rows entries) in
+    let later : (tail_of (map (Row told.question.0) told.rows ++ rest)).entries ≡ entries =
+    past_rows told.question.0 told.rows rest ∙ of_entries entries in
+    ap (λ found. entry.Answer (record told { rows = found }) ∷
+    (tail_of (map (Row told.question.0) told.rows ++ rest)).entries) rows
+    ∙ ap (λ rest. entry.Answer told ∷ rest) later
 
 same_trace : (one other : Trace) → one.commits ≡ other.commits → one.answers ≡ other.answers → one ≡ other
 same_trace one other commits answers =
@@ -329,12 +329,12 @@ pub one_reading : (text : List ℕ) → HasOneReading text
 one_reading text most more one other a b =
     let records : a.records ≡ b.records = one_list record_config st.StartRecord a.all.0 b.all.0 (strip_bom text) a.all.1
     b.all.1 a.records b.records a.all.2 a.all.3 b.all.2 b.all.3 in
-    let spelled : AreLines a.records (lines_of_blocks b.blocks) =
-    subst (λ found. AreLines found (lines_of_blocks b.blocks)) (sym records) b.spelled in
-    let lines : lines_of_blocks a.blocks ≡ lines_of_blocks b.blocks
-    = same_lines some_query a.records (lines_of_blocks a.blocks) (lines_of_blocks b.blocks) a.spelled spelled
-    (follow_blocks some_query a.blocks) (follow_blocks some_query b.blocks) in
-    let blocks : a.blocks ≡ b.blocks = sym (of_blocks a.blocks)
-    ∙ (ap (λ found. (tail_of found).blocks) lines ∙ of_blocks b.blocks) in
-    same_trace one other (sym a.commits ∙ (ap commits_in blocks ∙ b.commits))
-    (sym a.answers ∙ (ap answers_in blocks ∙ b.answers))
+    let spelled : AreLines a.records (lines_of_entries b.entries) =
+    subst (λ found. AreLines found (lines_of_entries b.entries)) (sym records) b.spelled in
+    let lines : lines_of_entries a.entries ≡ lines_of_entries b.entries
+    = same_lines some_query a.records (lines_of_entries a.entries) (lines_of_entries b.entries) a.spelled spelled
+    (follow_entries some_query a.entries) (follow_entries some_query b.entries) in
+    let entries : a.entries ≡ b.entries = sym (of_entries a.entries)
+    ∙ (ap (λ found. (tail_of found).entries) lines ∙ of_entries b.entries) in
+    same_trace one other (sym a.commits ∙ (ap commits_in entries ∙ b.commits))
+    (sym a.answers ∙ (ap answers_in entries ∙ b.answers))

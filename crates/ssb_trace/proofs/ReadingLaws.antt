@@ -43,14 +43,14 @@ use Rattle.ssb_script.specs.Scripts.{first_of}
 use Rattle.ssb_script.specs.Steps.{IsFoundBy}
 use Rattle.ssb_script.specs.declared.error.ScriptError.{ScriptError}
 use Rattle.ssb_script.specs.declared.error.ScriptError.TheVariants as error
-use Rattle.ssb_trace.specs.Blocks.{
-  IsWholeBlock,
+use Rattle.ssb_trace.specs.Entries.{
+  IsWholeEntry,
   answer_in,
   answers_in,
   commit_in,
   commits_in,
-  lines_of_block,
-  lines_of_blocks,
+  lines_of_entry,
+  lines_of_entries,
   lines_of_unfinished,
 }
 use Rattle.ssb_trace.specs.Lines.{TraceLine, AreLines, Says, word_of}
@@ -65,7 +65,7 @@ use Rattle.ssb_trace.specs.Traces.{
   checks_after,
   fault_of,
 }
-use Rattle.ssb_trace.specs.declared.block.Block.{Block}
+use Rattle.ssb_trace.specs.declared.entry.TraceEntry.{TraceEntry}
 use Rattle.ssb_trace.specs.declared.unfinished.Step.{Step}
 use Rattle.ssb_trace.specs.declared.unfinished.Unfinished.{Unfinished}
 use Rattle.ssb_trace.specs.declared.unfinished.Unfinished.TheVariants.{Nothing}
@@ -76,10 +76,10 @@ pub record HasRead {R : Type 0} (remaining : R → Option (List ℕ)) (text : Li
   pub records : List (List (List ℕ))
   pub given : HasGiven remaining text reader records
   pub many : length records ≡ count
-  pub blocks : List Block
-  pub spells : Spells records blocks begun
-  pub commits_are : commits_in blocks ≡ commits
-  pub answers_are : answers_in blocks ≡ answers
+  pub entries : List TraceEntry
+  pub spells : Spells records entries begun
+  pub commits_are : commits_in entries ≡ commits
+  pub answers_are : answers_in entries ≡ answers
 
 -- the same, of whatever text is known
 abbrev pub HasReadKnown : {R : Type 0} → (R → Option (List ℕ)) → Option (List ℕ) → Reader R → ℕ → List CommitRecord
@@ -94,8 +94,8 @@ read_nothing remaining text reader given = record {
   records = [];
   given = given;
   many = refl;
-  blocks = [];
-  spells = record { spelled = tt; whole = All-nil IsWholeBlock; unfinished = tt };
+  entries = [];
+  spells = record { spelled = tt; whole = All-nil IsWholeEntry; unfinished = tt };
   commits_are = refl;
   answers_are = refl;
 }
@@ -108,23 +108,23 @@ are_more [] (l ∷ lines) fields line are says = absurd are
 are_more (r ∷ records) [] fields line are says = absurd are
 are_more (r ∷ records) (l ∷ lines) fields line are says = (are.0, are_more records lines fields line are.1 says)
 
-lines_more : (blocks more : List Block) (begun next line : List TraceLine) → begun ++ line ≡ lines_of_blocks more
-    ++ next → (lines_of_blocks blocks ++ begun) ++ line ≡ lines_of_blocks (blocks ++ more) ++ next
-lines_more blocks more begun next line e =
-    append_assoc (lines_of_blocks blocks) begun line
-    ∙ (ap (λ rest. lines_of_blocks blocks ++ rest) e
-    ∙ (sym (append_assoc (lines_of_blocks blocks) (lines_of_blocks more) next)
-    ∙ ap (λ lines. lines ++ next) (sym (flat_map-append lines_of_block blocks more))))
+lines_more : (entries more : List TraceEntry) (begun next line : List TraceLine) → begun ++ line ≡ lines_of_entries more
+    ++ next → (lines_of_entries entries ++ begun) ++ line ≡ lines_of_entries (entries ++ more) ++ next
+lines_more entries more begun next line e =
+    append_assoc (lines_of_entries entries) begun line
+    ∙ (ap (λ rest. lines_of_entries entries ++ rest) e
+    ∙ (sym (append_assoc (lines_of_entries entries) (lines_of_entries more) next)
+    ∙ ap (λ lines. lines ++ next) (sym (flat_map-append lines_of_entry entries more))))
 
-spells_more : (records : List (List (List ℕ))) (blocks : List Block) (old : Unfinished) (fields : List (List ℕ))
+spells_more : (records : List (List (List ℕ))) (entries : List TraceEntry) (old : Unfinished) (fields : List (List ℕ))
     (line : TraceLine) (step : Step)
-    → Spells records blocks old → Says fields line → Follows (length records + 1) old line step
-    → Spells (records ++ fields ∷ []) (blocks ++ ended step) step.unfinished
-spells_more records blocks old fields line step so_far says follows = record {
-  spelled = subst (AreLines (records ++ fields ∷ [])) (lines_more blocks (ended step) (lines_of_unfinished old)
+    → Spells records entries old → Says fields line → Follows (length records + 1) old line step
+    → Spells (records ++ fields ∷ []) (entries ++ ended step) step.unfinished
+spells_more records entries old fields line step so_far says follows = record {
+  spelled = subst (AreLines (records ++ fields ∷ [])) (lines_more entries (ended step) (lines_of_unfinished old)
       (lines_of_unfinished step.unfinished) (line ∷ []) follows.lines)
-      (are_more records (lines_of_blocks blocks ++ lines_of_unfinished old) fields line so_far.spelled says);
-  whole = All-append IsWholeBlock blocks (ended step) so_far.whole follows.whole;
+      (are_more records (lines_of_entries entries ++ lines_of_unfinished old) fields line so_far.spelled says);
+  whole = All-append IsWholeEntry entries (ended step) so_far.whole follows.whole;
   unfinished = rw (length_push records fields) follows.unfinished;
 }
 
@@ -139,12 +139,12 @@ read_more remaining text old new count commits answers begun fields step so_far 
   records = so_far.records ++ fields ∷ [];
   given = next text so_far.records so_far.given;
   many = length_push so_far.records fields ∙ ap (λ n. n + 1) so_far.many;
-  blocks = so_far.blocks ++ ended step;
-  spells = spells_more so_far.records so_far.blocks begun fields takes.0 step so_far.spells takes.1
+  entries = so_far.entries ++ ended step;
+  spells = spells_more so_far.records so_far.entries begun fields takes.0 step so_far.spells takes.1
       (rw so_far.many takes.2);
-  commits_are = flat_map-append commit_in so_far.blocks (ended step)
+  commits_are = flat_map-append commit_in so_far.entries (ended step)
       ∙ ap (λ before. before ++ commits_in (ended step)) so_far.commits_are;
-  answers_are = flat_map-append answer_in so_far.blocks (ended step)
+  answers_are = flat_map-append answer_in so_far.entries (ended step)
       ∙ ap (λ before. before ++ answers_in (ended step)) so_far.answers_are;
 }
 
@@ -157,8 +157,8 @@ read_all remaining most text old new count commits answers fields so_far next fe
   records = so_far.records;
   all = next text so_far.records so_far.given;
   few = rw so_far.many few;
-  blocks = so_far.blocks;
-  spelled = subst (AreLines so_far.records) (append-nil (lines_of_blocks so_far.blocks)) so_far.spells.spelled;
+  entries = so_far.entries;
+  spelled = subst (AreLines so_far.records) (append-nil (lines_of_entries so_far.entries)) so_far.spells.spelled;
   whole = so_far.spells.whole;
   commits = so_far.commits_are;
   answers = so_far.answers_are;
@@ -173,7 +173,7 @@ ends_inside remaining most text old new count commits answers begun fields so_fa
   records = so_far.records;
   all = next text so_far.records so_far.given;
   few = rw so_far.many few;
-  blocks = so_far.blocks;
+  entries = so_far.entries;
   begun = begun;
   spells = so_far.spells;
   inside = inside;
@@ -191,7 +191,7 @@ first_fault remaining most text old new count commits answers begun fields e so_
       fields = fields;
       begins = (_, given.unread, given.reached);
       few = rw so_far.many few;
-      blocks = so_far.blocks;
+      entries = so_far.entries;
       begun = begun;
       spells = so_far.spells;
       is = rw so_far.many bad;

@@ -39,7 +39,7 @@ use Rattle.ssb_report.specs.AnswerText.{columns_of, row_text, value_text}
 use Rattle.ssb_report.specs.Numbers.{line_feed, sum_text}
 use Rattle.ssb_script.specs.Lines.{constants_from}
 use Rattle.ssb_trace.specs.TraceText.{fields_text, head_text, record_text, told_row_text, told_text}
-use Rattle.ssb_trace.specs.Blocks.{head_of_told, lines_of_told}
+use Rattle.ssb_trace.specs.Entries.{head_of_told, lines_of_told}
 use Rattle.ssb_trace.specs.Lines.{Answer, Row, Says, word_of}
 use Rattle.ssb_trace.specs.Rows.{group_kinds, row_of, sum_of}
 use Rattle.ssb_trace.specs.Allowed.{IsAllowedRow, IsAllowedSum, IsAllowedTold}

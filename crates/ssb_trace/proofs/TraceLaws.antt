@@ -7,7 +7,7 @@ use Rattle.ssb_audit.specs.declared.trace.Trace.{Trace}
 use Rattle.ssb_text.specs.Records.{HasRecords}
 use Rattle.ssb_script.specs.Requests.{IsWholeRequest, Refresh}
 use Rattle.ssb_trace.specs.TraceText.{commit_text, told_text, trace_text}
-use Rattle.ssb_trace.specs.Blocks.{lines_of_commit, lines_of_told}
+use Rattle.ssb_trace.specs.Entries.{lines_of_commit, lines_of_told}
 use Rattle.ssb_trace.proofs.InOrderLaws.{spells_in_order}
 use Rattle.ssb_trace.proofs.OneReadingLaws.{one_reading}
 use Rattle.ssb_trace.specs.Allowed.{IsAllowed, IsAllowedCommit, IsAllowedTold, lines_of_trace}

@@ -23,7 +23,7 @@ use Rattle.ssb_schema.specs.declared.refresh.Action.TheVariants as action
 use Rattle.ssb_schema.specs.declared.table.Table.{Table}
 use Rattle.ssb_schema.specs.declared.table.Table.TheVariants as table
 use Rattle.ssb_script.specs.Requests.{IsWholeRequest, Refresh}
-use Rattle.ssb_trace.specs.Blocks.{lines_of_commit, lines_of_told}
+use Rattle.ssb_trace.specs.Entries.{lines_of_commit, lines_of_told}
 use Rattle.ssb_trace.specs.Lines.{TraceLine}
 use Rattle.ssb_trace.specs.Rows.{group_kinds, has_no_groups}
 

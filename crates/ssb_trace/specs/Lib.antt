@@ -2,7 +2,7 @@ pub mod Allowed
 pub mod RoundTrip
 pub mod Heads
 pub mod Lines
-pub mod Blocks
+pub mod Entries
 pub mod Laws
 pub mod Rows
 pub mod Steps

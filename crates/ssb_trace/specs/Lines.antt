@@ -93,10 +93,10 @@ line_inside (Some word.End) fields = line_or_bad (alone Commit fields)
 line_inside _ _ = Err Bad
 
 -- the commit, or the answer, that a record of this word begins
-abbrev pub block_begun : Option Word → List (List ℕ) → Option TraceLine
-block_begun (Some word.Commit) fields = option_map Begin (commit_of fields)
-block_begun (Some word.Answer) fields = option_map Answer (head_of fields)
-block_begun _ _ = None
+abbrev pub entry_begun : Option Word → List (List ℕ) → Option TraceLine
+entry_begun (Some word.Commit) fields = option_map Begin (commit_of fields)
+entry_begun (Some word.Answer) fields = option_map Answer (head_of fields)
+entry_begun _ _ = None
 
 -- the row of an answer to the query that a record of this word spells
 abbrev pub row_after : Query → Option Word → List (List ℕ) → Option ResultRow
@@ -105,9 +105,9 @@ row_after _ _ _ = None
 
 -- a record of this word spells this
 abbrev pub SaysAfter : Option Word → List (List ℕ) → TraceLine → Type 0
-SaysAfter word fields (Begin client) = block_begun word fields ≡ Some (Begin client)
+SaysAfter word fields (Begin client) = entry_begun word fields ≡ Some (Begin client)
 SaysAfter word fields (Inside line) = line_inside word fields ≡ Ok line
-SaysAfter word fields (Answer head) = block_begun word fields ≡ Some (Answer head)
+SaysAfter word fields (Answer head) = entry_begun word fields ≡ Some (Answer head)
 SaysAfter word fields (Row query row) = row_after query word fields ≡ Some row
 
 -- a record spells this

@@ -7,21 +7,21 @@ use Rattle.ssb_script.specs.Lines as script
 use Rattle.ssb_script.specs.Scripts.{is_outside, lines_of_begun}
 use Rattle.ssb_script.specs.Steps.{Follows as FollowsInScript}
 use Rattle.ssb_script.specs.declared.begun.Step.{Step as ScriptStep}
-use Rattle.ssb_trace.specs.Blocks.{IsUnfinished, IsWholeBlock, in_commit, lines_of_blocks, lines_of_unfinished}
+use Rattle.ssb_trace.specs.Entries.{IsUnfinished, IsWholeEntry, in_commit, lines_of_entries, lines_of_unfinished}
 use Rattle.ssb_trace.specs.Lines.{TraceLine, SaysAfter}
-use Rattle.ssb_trace.specs.declared.block.Block.{Block}
+use Rattle.ssb_trace.specs.declared.entry.TraceEntry.{TraceEntry}
 use Rattle.ssb_trace.specs.declared.unfinished.Step.{Step}
 use Rattle.ssb_trace.specs.declared.unfinished.Unfinished.{Unfinished}
 use Rattle.ssb_trace.specs.declared.word.Word.{Word}
 
--- the block that a step ends
-abbrev pub ended : Step → List Block
-ended step = option_to_list step.block
+-- the entry that a step ends
+abbrev pub ended : Step → List TraceEntry
+ended step = option_to_list step.entry
 
 -- a step takes up these lines, the last of which is of the record of this number
 pub record Takes (number : ℕ) (taken : List TraceLine) (step : Step) : Type 0 where
-  pub lines : taken ≡ lines_of_blocks (ended step) ++ lines_of_unfinished step.unfinished
-  pub whole : All IsWholeBlock (ended step)
+  pub lines : taken ≡ lines_of_entries (ended step) ++ lines_of_unfinished step.unfinished
+  pub whole : All IsWholeEntry (ended step)
   pub unfinished : IsUnfinished number step.unfinished
 
 -- a step takes up one more line, of the record of this number

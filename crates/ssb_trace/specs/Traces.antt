@@ -23,16 +23,16 @@ use Rattle.ssb_script.specs.Scripts.{checks_in, first_of, refusal_at_end, too_lo
 use Rattle.ssb_script.specs.Steps.{begun_in}
 use Rattle.ssb_script.specs.declared.error.ScriptError.{ScriptError}
 use Rattle.ssb_script.specs.declared.error.ScriptError.TheVariants as error
-use Rattle.ssb_trace.specs.Blocks.{
+use Rattle.ssb_trace.specs.Entries.{
   IsUnfinished,
-  IsWholeBlock,
+  IsWholeEntry,
   answers_in,
   commits_in,
-  lines_of_blocks,
+  lines_of_entries,
   lines_of_unfinished,
 }
-use Rattle.ssb_trace.specs.Lines.{AreLines, block_begun, is_line, line_inside, row_after, word_of}
-use Rattle.ssb_trace.specs.declared.block.Block.{Block}
+use Rattle.ssb_trace.specs.Lines.{AreLines, entry_begun, is_line, line_inside, row_after, word_of}
+use Rattle.ssb_trace.specs.declared.entry.TraceEntry.{TraceEntry}
 use Rattle.ssb_trace.specs.declared.unfinished.Unfinished.{Unfinished}
 use Rattle.ssb_trace.specs.declared.unfinished.Unfinished.TheVariants as unfinished
 use Rattle.ssb_trace.specs.declared.word.Word.{Word}
@@ -44,16 +44,16 @@ pub record SpellsTrace (most : ℕ) (text : List ℕ) (trace : Trace) : Type 0 w
   pub records : List (List (List ℕ))
   pub all : HasRecords text records
   pub few : length records ≤ most
-  pub blocks : List Block
-  pub spelled : AreLines records (lines_of_blocks blocks)
-  pub whole : All IsWholeBlock blocks
-  pub commits : commits_in blocks ≡ trace.commits
-  pub answers : answers_in blocks ≡ trace.answers
+  pub entries : List TraceEntry
+  pub spelled : AreLines records (lines_of_entries entries)
+  pub whole : All IsWholeEntry entries
+  pub commits : commits_in entries ≡ trace.commits
+  pub answers : answers_in entries ≡ trace.answers
 
--- records spell whole blocks, and then what is begun and not ended
-pub record Spells (records : List (List (List ℕ))) (blocks : List Block) (begun : Unfinished) : Type 0 where
-  pub spelled : AreLines records (lines_of_blocks blocks ++ lines_of_unfinished begun)
-  pub whole : All IsWholeBlock blocks
+-- records spell whole entries, and then what is begun and not ended
+pub record Spells (records : List (List (List ℕ))) (entries : List TraceEntry) (begun : Unfinished) : Type 0 where
+  pub spelled : AreLines records (lines_of_entries entries ++ lines_of_unfinished begun)
+  pub whole : All IsWholeEntry entries
   pub unfinished : IsUnfinished (length records) begun
 
 -- a record has to spell something
@@ -67,7 +67,7 @@ order_refused begun word = if is_line word then None else refusal_at_end begun
 
 -- the checks of the record of a number, whose word this is: in a commit those of a script's refresh
 abbrev pub checks_after : ℕ → Unfinished → Option Word → List (List ℕ) → List (Option ScriptError)
-checks_after number unfinished.Nothing word fields = bad_unless number (block_begun word fields) ∷ []
+checks_after number unfinished.Nothing word fields = bad_unless number (entry_begun word fields) ∷ []
 checks_after number (unfinished.Commit commit) word fields =
     order_refused (begun_in commit.begun) word ∷ checks_in number (begun_in commit.begun) (line_inside word fields)
 checks_after number (unfinished.Answer answer) word fields =
@@ -77,15 +77,15 @@ checks_after number (unfinished.Answer answer) word fields =
 abbrev pub fault_of : ℕ → ℕ → Unfinished → List (List ℕ) → Option ScriptError
 fault_of most number begun fields = first_of (too_long most number ∷ checks_after number begun (word_of fields) fields)
 
--- a record is the first with a fault: those before it spell blocks and what is begun
+-- a record is the first with a fault: those before it spell entries and what is begun
 pub record IsFirstFault (most : ℕ) (text : List ℕ) (e : ScriptError) : Type 0 where
   pub before : List (List (List ℕ))
   pub fields : List (List ℕ)
   pub begins : BeginsWith text (before ++ fields ∷ [])
   pub few : length before ≤ most
-  pub blocks : List Block
+  pub entries : List TraceEntry
   pub begun : Unfinished
-  pub spells : Spells before blocks begun
+  pub spells : Spells before entries begun
   pub is : fault_of most (length before + 1) begun fields ≡ Some e
 
 -- whether something is begun
@@ -99,9 +99,9 @@ pub record EndsInBlock (most : ℕ) (text : List ℕ) : Type 0 where
   pub records : List (List (List ℕ))
   pub all : HasRecords text records
   pub few : length records ≤ most
-  pub blocks : List Block
+  pub entries : List TraceEntry
   pub begun : Unfinished
-  pub spells : Spells records blocks begun
+  pub spells : Spells records entries begun
   pub inside : IsBegun begun
 
 -- an error tells the first fault of a text; two tell nothing of it: that its reader failed, and that memory ran out

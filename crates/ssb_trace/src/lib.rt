@@ -49,10 +49,10 @@
 #![tactic(auto)]
 
 mod answers;
-mod block;
 mod commits;
 mod committed;
 mod control;
+mod entry;
 mod heads;
 mod held;
 mod laws;

@@ -2,11 +2,11 @@
 ghost use Rattle.std.specs.Prelude.{◌≡◌, ℕ, ◌++◌, List, Some, IfOk, IfErr};
 ghost use Rattle.std.specs.Option.{option_to_list};
 ghost use Rattle.ssb_script.specs.declared.error.ScriptError.TheVariants as error;
-ghost use Rattle.ssb_trace.specs.Blocks.{answers_in, commits_in};
+ghost use Rattle.ssb_trace.specs.Entries.{answers_in, commits_in};
 ghost use Rattle.ssb_trace.specs.Traces.{IsBegun, IsTraceFault, SpellsTrace};
 ghost use Rattle.ssb_trace.specs.declared.unfinished.Unfinished.TheVariants as unfinished;
 
-use crate::block::Block;
+use crate::entry::TraceEntry;
 use crate::unfinished::{Step, Unfinished};
 use csv::ByteRecord;
 use row_store::Commit;
@@ -17,18 +17,18 @@ use ssb_text::{next_record, record_reader};
 use std::alloc::{AllocError, Global};
 use std::io::Read;
 
-// Keeps the block that a record ended, if it ended one.
+// Keeps the entry that a record ended, if it ended one.
 fn keep(
     commits: &mut Vec<Commit>,
     answers: &mut Vec<Told>,
-    block: Option<Block>,
+    entry: Option<TraceEntry>,
 ) -> Result<(), AllocError>
-    ensures commits { IfOk result (λ _. commits.new.items ≡ commits.old.items ++ commits_in (option_to_list block)) }
-    ensures answers { IfOk result (λ _. answers.new.items ≡ answers.old.items ++ answers_in (option_to_list block)) }
+    ensures commits { IfOk result (λ _. commits.new.items ≡ commits.old.items ++ commits_in (option_to_list entry)) }
+    ensures answers { IfOk result (λ _. answers.new.items ≡ answers.old.items ++ answers_in (option_to_list entry)) }
 {
-    match block {
-        Some(Block::Commit(commit)) => commits.push(commit)?,
-        Some(Block::Answer(told)) => answers.push(told)?,
+    match entry {
+        Some(TraceEntry::Commit(commit)) => commits.push(commit)?,
+        Some(TraceEntry::Answer(told)) => answers.push(told)?,
         None => {}
     }
     Ok(())
@@ -81,10 +81,10 @@ pub fn read_trace<R: Read + Drop>(
             return trace_of(commits, answers, begun);
         }
         let Step {
-            block,
+            entry,
             unfinished: next,
         } = begun.after(alloc, before, &fields)?;
-        keep(&mut commits, &mut answers, block)?;
+        keep(&mut commits, &mut answers, entry)?;
         begun = next;
     }
     if next_record(&mut reader, &mut fields)? {

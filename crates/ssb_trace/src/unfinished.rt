@@ -5,7 +5,7 @@ ghost use Rattle.csv.specs.Records.{fields_of};
 ghost use Rattle.ssb_script.specs.Lines.{ScriptLine};
 ghost use Rattle.ssb_script.specs.Scripts.{HasRoom, checks_in, is_outside};
 ghost use Rattle.ssb_script.specs.Steps.{Follows as FollowsInScript, IsFoundBy, begun_in};
-ghost use Rattle.ssb_trace.specs.Blocks.{IsUnfinished, lines_of_unfinished};
+ghost use Rattle.ssb_trace.specs.Entries.{IsUnfinished, lines_of_unfinished};
 ghost use Rattle.ssb_trace.specs.Lines as spec;
 ghost use Rattle.ssb_trace.specs.Lines.{line_inside, row_after};
 ghost use Rattle.ssb_trace.specs.Steps.{CommitStep, Follows, Takes, TakesRecord};
@@ -14,8 +14,8 @@ ghost use Rattle.ssb_trace.specs.declared.unfinished.Unfinished.TheVariants as u
 ghost use Rattle.ssb_trace.specs.declared.word.Word.TheVariants as words;
 ghost use Rattle.ssb_script.specs.declared.error.ScriptError.TheVariants.{OutOfMemory};
 
-use crate::block::Block;
 use crate::control::control_of;
+use crate::entry::TraceEntry;
 use crate::heads::{AnswerHead, client_of_commit, head_of};
 use crate::rows::row_of;
 use crate::word::{Word, is_line};
@@ -49,7 +49,7 @@ pub(crate) struct UnfinishedAnswer {
 /// What is begun and not ended: nothing, a commit, or an answer.
 #[derive(Drop)]
 pub(crate) enum Unfinished {
-    /// The next record begins a block.
+    /// The next record begins a entry.
     Nothing,
     /// A commit whose `end` is to come.
     Commit(UnfinishedCommit),
@@ -57,11 +57,11 @@ pub(crate) enum Unfinished {
     Answer(UnfinishedAnswer),
 }
 
-/// What comes of one record: the block that it ends, if it ends one, and what is begun after it.
+/// What comes of one record: the entry that it ends, if it ends one, and what is begun after it.
 #[derive(Drop)]
 pub(crate) struct Step {
-    /// The block that the record ended, if it ended one.
-    pub block: Option<Block>,
+    /// The entry that the record ended, if it ended one.
+    pub entry: Option<TraceEntry>,
     /// What is begun after the record.
     pub unfinished: Unfinished,
 }
@@ -74,7 +74,7 @@ fn begin_commit(alloc: Global, number: u64, fields: &ByteRecord) -> Result<Step,
 {
     match client_of_commit(fields) {
         Some(client) => Ok(Step {
-            block: None,
+            entry: None,
             unfinished: Unfinished::Commit(UnfinishedCommit {
                 client,
                 begun: Begun::Refresh(Items::from_vec(Vec::new(alloc))),
@@ -142,14 +142,14 @@ fn after_in_refresh(
 fn step_of_commit(client: u32, step: ssb_script::Step) -> Step
     ensures { CommitStep client step result }
 {
-    let ssb_script::Step { block, begun } = step;
-    match block {
-        Some(ssb_script::Block::Refresh(refresh)) => Step {
-            block: Some(Block::Commit(Commit { client, refresh })),
+    let ssb_script::Step { entry, begun } = step;
+    match entry {
+        Some(ssb_script::TraceEntry::Refresh(refresh)) => Step {
+            entry: Some(TraceEntry::Commit(Commit { client, refresh })),
             unfinished: Unfinished::Nothing,
         },
         _ => Step {
-            block: None,
+            entry: None,
             unfinished: Unfinished::Commit(UnfinishedCommit { client, begun }),
         },
     }
@@ -199,7 +199,7 @@ impl UnfinishedAnswer {
     {
         if self.rows.len() as u64 == self.head.count {
             Step {
-                block: Some(Block::Answer(Told {
+                entry: Some(TraceEntry::Answer(Told {
                     client: self.head.client,
                     at: self.head.at,
                     question: self.head.question,
@@ -209,7 +209,7 @@ impl UnfinishedAnswer {
             }
         } else {
             Step {
-                block: None,
+                entry: None,
                 unfinished: Unfinished::Answer(self),
             }
         }

@@ -15,7 +15,7 @@ use Rattle.ssb_answers.specs.declared.answer.Answer.{Answer}
 use Rattle.ssb_answers.specs.declared.answer.Answer.TheVariants.{Unserved}
 use Rattle.ssb_answers.specs.declared.answer.Unserved.TheVariants.{OutOfMemory}
 use Rattle.history_core.specs.Events.{Question}
-use Rattle.history.specs.declared.request.Request.{Request}
+use Rattle.history.specs.declared.request.PostedQuestion.{PostedQuestion}
 use Rattle.history.specs.declared.request.Grabbed.{Grabbed}
 use Rattle.history.specs.Words.{store, request}
 use Rattle.std.proofs.lemmas.Bool.Decides.{nat_tests}
@@ -147,13 +147,13 @@ refreshed table before t u client actions rows after result is who took are acce
     (may_put t client actions rows after result name are accepted log same) put
 
 -- the request that was grabbed last may be given up
-newest_held : (client : ℕ) (asked : Request) (others : List Grabbed)
+newest_held : (client : ℕ) (asked : PostedQuestion) (others : List Grabbed)
     → request_of client (record { client = client; request = asked } ∷ others) ≡ Some asked
 newest_held client asked others = let same : (client == client) ≡ true = grind (arith, nat_tests) in rw same refl
 
 pub may_give_up : (before t : TokenRecord) (client : ℕ) (question : Question) → Grabs before client question t
     → MayAnswer t client (Unserved question OutOfMemory)
-may_give_up before t client question grabs = let asked : Request = request question grabs.floor in record {
+may_give_up before t client question grabs = let asked : PostedQuestion = request question grabs.floor in record {
   asked = asked;
   held = ap (λ (x : TokenRecord). request_of client x.grabbed) grabs.now ∙ newest_held client asked before.grabbed;
   serves = (refl, tt);

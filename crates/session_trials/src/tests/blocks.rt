@@ -1,8 +1,8 @@
-//! The blocks of a script that asks nothing.
+//! The requests of a script that asks nothing.
 
 use crate::tests::data::{REFRESHES, REFRESHES_REPORT};
 use crate::tests::serving::{for_one_client, refreshes, serves};
-use ssb_session::BlocksError;
+use ssb_session::ServeError;
 use stand_ins::Room;
 use std::alloc::Global;
 use std::hash::RandomState;
@@ -35,7 +35,7 @@ fn refreshes_are_reported_and_tell_no_answer(rt: HostRuntime) -> Result<(), Fail
 // Q4.1 then.
 #[derive(Drop)]
 struct Left {
-    ended: Result<(), BlocksError>,
+    ended: Result<(), ServeError>,
     written: Vec<u8>,
     then: Vec<u8>,
 }
@@ -82,10 +82,10 @@ fn a_commit_stands_after_a_failed_write(rt: HostRuntime) -> Result<(), Fail> {
     let alloc = rt.alloc();
     let hashing = RandomState::new(&rt)?;
     for (room, ended) in [
-        (0, Err(BlocksError::Write(0))),
-        (11, Err(BlocksError::Write(0))),
-        (12, Err(BlocksError::Write(1))),
-        (47, Err(BlocksError::Write(1))),
+        (0, Err(ServeError::Write(0))),
+        (11, Err(ServeError::Write(0))),
+        (12, Err(ServeError::Write(1))),
+        (47, Err(ServeError::Write(1))),
         (48, Ok(())),
     ] {
         let left = within(alloc, &rt, hashing, room)?;

@@ -39,7 +39,7 @@ fn within<T: Wait + Threads + Sync>(
 
 // The five replies of the stored run end after 40, 76, 116, 128 and 170 bytes.
 #[test]
-fn a_failed_write_tells_how_many_blocks_were_done(rt: HostRuntime) -> Result<(), Fail> {
+fn a_failed_write_tells_how_many_requests_were_done(rt: HostRuntime) -> Result<(), Fail> {
     let alloc = rt.alloc();
     let hashing = RandomState::new(&rt)?;
     for (room, ended) in [

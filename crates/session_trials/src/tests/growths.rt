@@ -10,30 +10,30 @@ use row_store::{PlainLines, RowStore};
 use ssb_report::{MOST_RECORDS, RunError, read_script, run_store};
 use ssb_script::{Script, ScriptError};
 use ssb_server::{Client, Dispatcher, Server};
-use ssb_session::{NoMeter, Told, run_blocks, run_script};
+use ssb_session::{NoMeter, Told, run_requests, run_script};
 use std::alloc::Global;
 use std::hash::RandomState;
 use std::sync::Wait;
 use std::test::Fail;
 use std::thread::Threads;
 
-// A block of a script, what tells that memory was wanting for it, and its report.
+// A request of a script, what tells that memory was wanting for it, and its report.
 struct Step {
-    block: &'static str,
+    request: &'static str,
     wanting: &'static str,
     report: &'static str,
 }
 
 // Over the small data set, whose order 3 has a profit of 760 - 100.
 const ASKED_FIRST: Step = Step {
-    block: "query|Q4.1\n",
+    request: "query|Q4.1\n",
     wanting: "Q4.1 unserved: out of memory\n",
     report: "Q4.1 at 0 rows 1\n1997|UNITED STATES|660\n",
 };
 
 // An absent order refuses the whole refresh.
 const REFUSED: Step = Step {
-    block: "begin
+    request: "begin
 add
 line|9|1|3|4|3|19971215|o|0|1|10|10|0|10|2000|0|19971215|AIR
 withdraw|77
@@ -45,7 +45,7 @@ commit
 
 // Order 9 has a profit of 10 - 2000.
 const ADDED: Step = Step {
-    block: "begin
+    request: "begin
 add
 line|9|1|3|4|3|19971215|o|0|1|10|10|0|10|2000|0|19971215|AIR
 commit
@@ -55,14 +55,14 @@ commit
 };
 
 const ASKED_THEN: Step = Step {
-    block: "query|Q4.1\n",
+    request: "query|Q4.1\n",
     wanting: "Q4.1 unserved: out of memory\n",
     report: "Q4.1 at 1 rows 1\n1997|UNITED STATES|-1330\n",
 };
 
 // Of the two lines of order 1, whose first one Q1.1 sums as 1000 * 3, one of 1000 * 2 is left.
 const AMENDED: Step = Step {
-    block: "begin
+    request: "begin
 amend
 line|1|1|2|2|2|19930101|o|0|24|1000|1000|2|980|600|0|19930101|AIR
 commit
@@ -72,7 +72,7 @@ commit
 };
 
 const ASKED_LAST: Step = Step {
-    block: "query|Q1.1\n",
+    request: "query|Q1.1\n",
     wanting: "Q1.1 unserved: out of memory\n",
     report: "Q1.1 at 2 rows 1\n2000\n",
 };
@@ -88,7 +88,7 @@ fn room(alloc: Global) -> Result<Vec<u8>, Fail> {
     Ok(out)
 }
 
-// Whether a block was served; where it was not, that memory was wanting is all that was told.
+// Whether a request was served; where it was not, that memory was wanting is all that was told.
 fn was_served(ended: Result<u64, RunError>, out: &[u8], step: &Step) -> Result<bool, Fail> {
     match ended {
         Ok(_) => Ok(out != step.wanting.as_bytes()),
@@ -105,7 +105,7 @@ fn is_told(out: &[u8], step: &Step) -> Result<(), Fail> {
     Ok(())
 }
 
-// Serves a block by the live server, once more where memory was wanting.
+// Serves a request by the live server, once more where memory was wanting.
 fn live<W: Wait + Drop, T: Wait + Threads + Sync>(
     alloc: Global,
     rt: &T,
@@ -121,7 +121,7 @@ fn live<W: Wait + Drop, T: Wait + Threads + Sync>(
     ensures dispatcher { IsOf server.now dispatcher.new }
 {
     out.clear();
-    let source = step.block.as_bytes();
+    let source = step.request.as_bytes();
     let ended = run_script(alloc, rt, server, client, dispatcher, source, out);
     if !was_served(ended, out.as_slice(), step)? {
         out.clear();
@@ -152,7 +152,7 @@ fn the_live_server_serves_again(rt: HostRuntime) -> Result<(), Fail> {
     Ok(())
 }
 
-// Serves a block by the one-thread warehouse, once more where memory was wanting.
+// Serves a request by the one-thread warehouse, once more where memory was wanting.
 fn one_thread(
     alloc: Global,
     store: &mut RowStore,
@@ -164,7 +164,7 @@ fn one_thread(
     ensures { IsBehind lines.new store.new }
 {
     out.clear();
-    let source = step.block.as_bytes();
+    let source = step.request.as_bytes();
     let ended = run_store(alloc, store, lines, source, out);
     if !was_served(ended, out.as_slice(), step)? {
         out.clear();
@@ -186,9 +186,9 @@ fn the_one_thread_warehouse_serves_again(rt: HostRuntime) -> Result<(), Fail> {
     Ok(())
 }
 
-// The script of a block, read once more where memory was wanting.
+// The script of a request, read once more where memory was wanting.
 fn script_of(alloc: Global, step: &Step) -> Result<Script, Fail> {
-    let source = step.block.as_bytes();
+    let source = step.request.as_bytes();
     match read_script(alloc, source, MOST_RECORDS) {
         Ok(script) => Ok(script),
         Err(ScriptError::OutOfMemory) => match read_script(alloc, source, MOST_RECORDS) {
@@ -215,11 +215,11 @@ fn refresh<W: Wait + Drop, T: Wait>(
     let mut meter = NoMeter;
     out.clear();
     let script = script_of(alloc, step)?;
-    run_blocks(rt, server, client, script, out, told, &mut meter)?;
+    run_requests(rt, server, client, script, out, told, &mut meter)?;
     if out.as_slice() == step.wanting.as_bytes() {
         out.clear();
         let script = script_of(alloc, step)?;
-        run_blocks(rt, server, client, script, out, told, &mut meter)?;
+        run_requests(rt, server, client, script, out, told, &mut meter)?;
     }
     is_told(out.as_slice(), step)
 }

@@ -13,7 +13,7 @@ use std::sync::{Arc, Wait};
 use std::test::Fail;
 use std::thread::Threads;
 
-// The number of blocks and the report, from a server that was just opened.
+// The number of requests and the report, from a server that was just opened.
 fn live<T: Wait + Threads + Sync>(
     alloc: Global,
     rt: &T,
@@ -57,16 +57,16 @@ fn one_thread(alloc: Global, hashing: RandomState, script: &str) -> Result<(u64,
 fn a_script_alone_has_the_report_of_the_one_thread_warehouse(rt: HostRuntime) -> Result<(), Fail> {
     let alloc = rt.alloc();
     let hashing = RandomState::new(&rt)?;
-    for (script, blocks, report) in [
+    for (script, requests, report) in [
         ("", 0, ""),
         (stored::SCRIPT, 5, stored::REPORT),
         (LONG, 12, LONG_REPORT),
     ] {
         let (done, out) = live(alloc, &rt, hashing, script)?;
-        assert_eq!(rt; done, blocks);
+        assert_eq!(rt; done, requests);
         assert_eq!(rt; str::from_utf8(out.as_slice())?, report);
         let (done, out) = one_thread(alloc, hashing, script)?;
-        assert_eq!(rt; done, blocks);
+        assert_eq!(rt; done, requests);
         assert_eq!(rt; str::from_utf8(out.as_slice())?, report);
     }
     Ok(())

@@ -7,7 +7,7 @@ use crate::tests::data::base;
 use ssb_report::{MOST_RECORDS, RunError, read_script};
 use ssb_script::ScriptError;
 use ssb_server::{Client, Dispatcher, Opened, Server, open};
-use ssb_session::{BlocksError, NoMeter, Told, run_blocks, run_script};
+use ssb_session::{ServeError, NoMeter, Told, run_requests, run_script};
 use std::alloc::Global;
 use std::hash::RandomState;
 use std::io::{Read, Write};
@@ -86,7 +86,7 @@ pub fn refuses<W: Wait + Drop, T: Wait + Threads + Sync, R: Read + Drop, O: Writ
     }
 }
 
-/// The blocks of a script, served with no dispatcher: none of them asks.
+/// The requests of a script, served with no dispatcher: none of them asks.
 pub fn refreshes<W: Wait + Drop, T: Wait, O: Write>(
     alloc: Global,
     rt: &T,
@@ -95,11 +95,11 @@ pub fn refreshes<W: Wait + Drop, T: Wait, O: Write>(
     script: &str,
     out: &mut O,
     told: &mut Vec<Told>,
-) -> Result<Result<(), BlocksError>, Fail>
+) -> Result<Result<(), ServeError>, Fail>
     requires { IsReady server.now client.old }
     ensures { IsReady server.now client.new }
 {
     let script = read_script(alloc, script.as_bytes(), MOST_RECORDS)?;
     let mut meter = NoMeter;
-    Ok(run_blocks(rt, server, client, script, out, told, &mut meter))
+    Ok(run_requests(rt, server, client, script, out, told, &mut meter))
 }

@@ -4,7 +4,7 @@ use small_data::tables;
 use small_rows::adding;
 use ssb_base::{Base, Limits};
 use ssb_questions::{Query, Question};
-use ssb_script::{Block, Script};
+use ssb_script::{Request, Script};
 use ssb_text::load;
 use std::alloc::{AllocError, Global};
 use std::sync::Arc;
@@ -21,18 +21,18 @@ fn question(alloc: Global) -> Result<Question, AllocError> {
 
 /// A script that adds so many orders, one after another and each under a key of its own after this one.
 pub fn refreshing_script(alloc: Global, after: u64, orders: u64) -> Result<Script, Fail> {
-    let mut blocks = Vec::new(alloc);
+    let mut requests = Vec::new(alloc);
     for before in 0..orders {
         let key = after.wrapping_add(before).wrapping_add(1);
-        blocks.push(Block::Refresh(adding(alloc, key)?))?;
+        requests.push(Request::Refresh(adding(alloc, key)?))?;
     }
-    Ok(Script { blocks })
+    Ok(Script { requests })
 }
 
 /// The same, and then it asks Q4.1.
 pub fn adding_script(alloc: Global, after: u64, orders: u64) -> Result<Script, Fail> {
     let mut script = refreshing_script(alloc, after, orders)?;
-    script.blocks.push(Block::Ask(question(alloc)?))?;
+    script.requests.push(Request::Ask(question(alloc)?))?;
     Ok(script)
 }
 

@@ -162,7 +162,7 @@ commit
 }
 
 #[test]
-fn failed_write_tells_how_many_blocks_were_done(rt: HostRuntime) -> Result<(), Fail> {
+fn failed_write_tells_how_many_requests_were_done(rt: HostRuntime) -> Result<(), Fail> {
     let alloc = rt.alloc();
     for (room, done) in [(0, 0), (39, 0), (40, 1), (75, 1), (76, 2), (120, 3)] {
         let (mut store, mut lines) = opened(&rt, Limits::standard())?;

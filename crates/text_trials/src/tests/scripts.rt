@@ -2,7 +2,7 @@
 
 use ssb_questions::{Query, Question, Value};
 use ssb_schema::{Action, Refresh, Text};
-use ssb_script::{Block, ScriptError, read_script};
+use ssb_script::{Request, ScriptError, read_script};
 use stand_ins::Cut;
 use std::alloc::Global;
 use std::process::Abort;
@@ -18,10 +18,10 @@ const STORED: &str = "query|Q4.1\n\
     begin\nadd\nline|9|1|3|4|3|19971215|o|0|1|10|10|0|10|2000|0|19971215|AIR\ncommit\n\
     query|Q4.1\n";
 
-// The blocks of a script.
-fn blocks_of(alloc: Global, text: &str) -> Result<Vec<Block>, Fail> {
+// The requests of a script.
+fn requests_of(alloc: Global, text: &str) -> Result<Vec<Request>, Fail> {
     match read_script(alloc, text.as_bytes(), 1000) {
-        Ok(script) => Ok(script.blocks),
+        Ok(script) => Ok(script.requests),
         Err(_) => Err("a fault")?,
     }
 }
@@ -34,17 +34,17 @@ fn fault_of(alloc: Global, text: &str) -> Result<String, Fail> {
     }
 }
 
-// The block at a place.
-fn refresh_at(blocks: &[Block], place: usize) -> Result<&Refresh, Fail> {
-    match blocks.get(place) {
-        Some(Block::Refresh(refresh)) => Ok(refresh),
+// The request at a place.
+fn refresh_at(requests: &[Request], place: usize) -> Result<&Refresh, Fail> {
+    match requests.get(place) {
+        Some(Request::Refresh(refresh)) => Ok(refresh),
         _ => Err("no refresh")?,
     }
 }
 
-fn question_at(blocks: &[Block], place: usize) -> Result<&Question, Fail> {
-    match blocks.get(place) {
-        Some(Block::Ask(question)) => Ok(question),
+fn question_at(requests: &[Request], place: usize) -> Result<&Question, Fail> {
+    match requests.get(place) {
+        Some(Request::Ask(question)) => Ok(question),
         _ => Err("no question")?,
     }
 }
@@ -68,17 +68,17 @@ fn assert_adds_nine(rt: &impl Abort, action: &Action) {
     }
 }
 
-fn assert_stored(rt: &impl Abort, blocks: &[Block]) -> Result<(), Fail> {
-    assert_eq!(rt; blocks.len(), 5);
+fn assert_stored(rt: &impl Abort, requests: &[Request]) -> Result<(), Fail> {
+    assert_eq!(rt; requests.len(), 5);
     for place in [0, 2, 4] {
-        assert_eq!(rt; question_at(blocks, place)?.query(), Query::Q4_1);
-        assert!(rt; question_at(blocks, place)?.is_standard());
+        assert_eq!(rt; question_at(requests, place)?.query(), Query::Q4_1);
+        assert!(rt; question_at(requests, place)?.is_standard());
     }
-    let first = refresh_at(blocks, 1)?.actions();
+    let first = refresh_at(requests, 1)?.actions();
     assert_eq!(rt; first.len(), 2);
     assert_adds_nine(rt, &first[0]);
     assert!(rt; matches!(&first[1], Action::Withdraw(77)));
-    let second = refresh_at(blocks, 3)?.actions();
+    let second = refresh_at(requests, 3)?.actions();
     assert_eq!(rt; second.len(), 1);
     assert_adds_nine(rt, &second[0]);
     Ok(())
@@ -86,19 +86,19 @@ fn assert_stored(rt: &impl Abort, blocks: &[Block]) -> Result<(), Fail> {
 
 #[test]
 fn the_stored_script_has_three_questions_and_two_refreshes(rt: HostRuntime) -> Result<(), Fail> {
-    assert_stored(&rt, &blocks_of(rt.alloc(), STORED)?)
+    assert_stored(&rt, &requests_of(rt.alloc(), STORED)?)
 }
 
 #[test]
 fn lines_may_end_with_carriage_returns_too(rt: HostRuntime) -> Result<(), Fail> {
     let text = STORED.replace(rt.alloc(), "\n", "\r\n")?;
-    assert_stored(&rt, &blocks_of(rt.alloc(), text.as_str())?)
+    assert_stored(&rt, &requests_of(rt.alloc(), text.as_str())?)
 }
 
 #[test]
-fn no_bytes_are_no_blocks(rt: HostRuntime) -> Result<(), Fail> {
-    assert_eq!(rt; blocks_of(rt.alloc(), "")?.len(), 0);
-    assert_eq!(rt; blocks_of(rt.alloc(), "\n\r\n")?.len(), 0);
+fn no_bytes_are_no_requests(rt: HostRuntime) -> Result<(), Fail> {
+    assert_eq!(rt; requests_of(rt.alloc(), "")?.len(), 0);
+    assert_eq!(rt; requests_of(rt.alloc(), "\n\r\n")?.len(), 0);
     Ok(())
 }
 
@@ -116,7 +116,7 @@ fn a_script_cut_inside_a_refresh_has_no_commit(rt: HostRuntime) -> Result<(), Fa
         text.push_str("\n")?;
     }
     assert_eq!(rt; whole.as_slice(), [0, 1, 6, 7, 11].as_slice());
-    assert_stored(&rt, &blocks_of(alloc, text.as_str())?)
+    assert_stored(&rt, &requests_of(alloc, text.as_str())?)
 }
 
 #[test]
@@ -151,9 +151,9 @@ fn each_fault_has_its_number_and_its_record(rt: HostRuntime) -> Result<(), Fail>
 #[test]
 fn fields_may_end_with_spaces_and_one_empty_field(rt: HostRuntime) -> Result<(), Fail> {
     let alloc = rt.alloc();
-    let blocks = blocks_of(alloc, "query|Q1.1 |\nbegin|\nwithdraw|007 |\ncommit \n")?;
-    assert_eq!(rt; question_at(&blocks, 0)?.query(), Query::Q1_1);
-    let actions = refresh_at(&blocks, 1)?.actions();
+    let requests = requests_of(alloc, "query|Q1.1 |\nbegin|\nwithdraw|007 |\ncommit \n")?;
+    assert_eq!(rt; question_at(&requests, 0)?.query(), Query::Q1_1);
+    let actions = refresh_at(&requests, 1)?.actions();
     assert_eq!(rt; actions.len(), 1);
     assert!(rt; matches!(&actions[0], Action::Withdraw(7)));
     Ok(())
@@ -225,8 +225,8 @@ fn an_order_has_at_most_seven_lines(rt: HostRuntime) -> Result<(), Fail> {
         seven.push_str(LINE.replace(alloc, "|9|1|3|", number)?.as_str())?;
     }
     let whole = repeated(alloc, seven.as_str(), "commit\n", 1)?;
-    let blocks = blocks_of(alloc, whole.as_str())?;
-    assert_eq!(rt; refresh_at(&blocks, 0)?.actions().len(), 1);
+    let requests = requests_of(alloc, whole.as_str())?;
+    assert_eq!(rt; refresh_at(&requests, 0)?.actions().len(), 1);
     let eight = repeated(alloc, "begin\nadd\n", LINE, 8)?;
     let short = repeated(alloc, seven.as_str(), "line|9\n", 1)?;
     let cases = [
@@ -241,8 +241,8 @@ fn a_refresh_has_at_most_sixty_four_actions(rt: HostRuntime) -> Result<(), Fail>
     let alloc = rt.alloc();
     let full = repeated(alloc, "begin\n", "withdraw|1\n", 64)?;
     let whole = repeated(alloc, full.as_str(), "commit\n", 1)?;
-    let blocks = blocks_of(alloc, whole.as_str())?;
-    assert_eq!(rt; refresh_at(&blocks, 0)?.actions().len(), 64);
+    let requests = requests_of(alloc, whole.as_str())?;
+    assert_eq!(rt; refresh_at(&requests, 0)?.actions().len(), 64);
     let withdraw = repeated(alloc, full.as_str(), "withdraw|1\n", 1)?;
     let add = repeated(alloc, full.as_str(), "add\n", 1)?;
     let amend = repeated(alloc, full.as_str(), "amend\n", 1)?;
@@ -274,8 +274,8 @@ fn an_order_may_be_amended_wherever_one_may_be_added(rt: HostRuntime) -> Result<
     let more = repeated(alloc, added.as_str(), "withdraw|1\n", 1)?;
     let last = repeated(alloc, more.as_str(), amends.as_str(), 1)?;
     let text = repeated(alloc, last.as_str(), "commit\n", 1)?;
-    let blocks = blocks_of(alloc, text.as_str())?;
-    let actions = refresh_at(&blocks, 0)?.actions();
+    let requests = requests_of(alloc, text.as_str())?;
+    let actions = refresh_at(&requests, 0)?.actions();
     assert_eq!(rt; actions.len(), 4);
     assert_adds_nine(&rt, &actions[0]);
     assert!(rt; matches!(&actions[1], Action::Amend(_)));
@@ -288,15 +288,15 @@ fn an_order_may_be_amended_wherever_one_may_be_added(rt: HostRuntime) -> Result<
 fn a_query_stands_alone_or_with_all_its_constants(rt: HostRuntime) -> Result<(), Fail> {
     let text = "query|Q2.1|\nquery|Q2.1|MFGR#12|AMERICA\nquery|Q2.1|MFGR#12 |AMERICA|\n\
         query|Q2.1|MFGR#12|\nquery|Q1.1|1994|1|3|0|4294967295\n";
-    let blocks = blocks_of(rt.alloc(), text)?;
+    let requests = requests_of(rt.alloc(), text)?;
     for place in [0, 1, 2] {
-        assert!(rt; question_at(&blocks, place)?.is_standard());
+        assert!(rt; question_at(&requests, place)?.is_standard());
     }
-    let constants = question_at(&blocks, 3)?.constants();
+    let constants = question_at(&requests, 3)?.constants();
     assert_eq!(rt; constants.len(), 2);
     let nothing = Value::Text(Text::from_str(rt.alloc(), "")?);
     assert_eq!(rt; &constants[1], &nothing);
-    let numbers = question_at(&blocks, 4)?.constants();
+    let numbers = question_at(&requests, 4)?.constants();
     assert_eq!(rt; numbers.len(), 5);
     assert_eq!(rt; &numbers[0], &Value::Number(1994));
     assert_eq!(rt; &numbers[4], &Value::Number(4294967295));

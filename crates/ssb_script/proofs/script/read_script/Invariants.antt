@@ -11,5 +11,5 @@ invariant-loop-before g l = record {
   ready : IsRecordReader l.reader;
   room : HasRoom l.before (begun_in l.begun);
   so_far : HasReadKnown g.R.Read.remaining (g.R.Read.remaining l.fn.source) l.reader l.before
-      (map request_of l.blocks.items) (begun_in l.begun);
+      (map request_of l.requests.items) (begun_in l.begun);
 }

@@ -24,7 +24,7 @@ pub loop-before-preserved : goal.loop-before-preserved
 loop-before-preserved g c =
     let inv = c.loop-before.invariant in
     let next = rw c.if-not-branch.false at c.in_ok-next_record.ensures.next in
-    let step = c.in_ok-block.ensures.step in
+    let step = c.in_ok-entry.ensures.step in
     let kept = c.in_ok-keep.ensures in
     record {
       ready = c.in_ok-next_record.ensures.ready;
@@ -32,7 +32,7 @@ loop-before-preserved g c =
       so_far = λ text known. rw (kept.commits, kept.answers)
           (read_more g.R.Read.remaining text c.loop-before.reader c.next_record.new.reader c.loop-before.before
           c.loop-before.commits.items c.loop-before.answers.items c.loop-before.begun (fields_of c.next_record.new.next)
-          c.in_ok-block.field-0 (inv.so_far text known) next step);
+          c.in_ok-entry.field-0 (inv.so_far text known) next step);
     }
 
 pub returns-then-not-branch-clause-trace : goal.returns-then-not-branch-clause-trace
@@ -53,14 +53,14 @@ returns-then-not-branch-clause-fault g c =
     c.loop-before.begun (fields_of c.next_record.new.next) c.trace_of.result c.loop-before.invariant.so_far next few
     c.trace_of.ensures.fault
 
-pub returns-in_err-block-clause-fault : goal.returns-in_err-block-clause-fault
-returns-in_err-block-clause-fault g c =
+pub returns-in_err-entry-clause-fault : goal.returns-in_err-entry-clause-fault
+returns-in_err-entry-clause-fault g c =
     let next = rw c.if-not-branch.false at c.in_ok-next_record.ensures.next in
-    let is : c.from_residual-in_err-block.result ≡ Err c.in_err-block.field-0.0 = search rules in
+    let is : c.from_residual-in_err-entry.result ≡ Err c.in_err-entry.field-0.0 = search rules in
     rw is (found_fault g.R.Read.remaining c.args.max_records (g.R.Read.remaining c.args.source) c.loop-before.reader
     c.next_record.new.reader c.loop-before.before c.loop-before.commits.items c.loop-before.answers.items
-    c.loop-before.begun (fields_of c.next_record.new.next) c.in_err-block.field-0.0 c.loop-before.invariant.so_far
-    next c.loop-before-test.true c.in_err-block.ensures.fault)
+    c.loop-before.begun (fields_of c.next_record.new.next) c.in_err-entry.field-0.0 c.loop-before.invariant.so_far
+    next c.loop-before-test.true c.in_err-entry.ensures.fault)
 
 pub returns-in_err-keep-clause-fault : goal.returns-in_err-keep-clause-fault
 returns-in_err-keep-clause-fault g c =

@@ -1,5 +1,5 @@
 use Rattle.ssb_text.specs.Records.{IsRecordReader}
-use Rattle.ssb_trace.specs.Blocks.{IsUnfinished}
+use Rattle.ssb_trace.specs.Entries.{IsUnfinished}
 use Rattle.ssb_trace.proofs.ReadingLaws.{HasReadKnown}
 use Rattle.ssb_trace.proofs.trace.read_trace.Given as goal
 

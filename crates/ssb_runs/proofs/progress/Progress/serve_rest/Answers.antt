@@ -1,8 +1,8 @@
 use Rattle.ssb_runs.proofs.ProgressLaws.{under_way}
 use Rattle.ssb_runs.proofs.progress.Progress.serve_rest.Goals as goal
 
-pub loop-block-preserved : goal.loop-block-preserved
-loop-block-preserved g c = under_way _ c.loop-block.client c.serve_block.new.client c.in-Some.block
-    c.loop-block.blocks.items c.pop_front.new.self.items c.loop-block.report.items c.serve_block.new.writer.items
-    c.loop-block.told.items c.serve_block.new.told.items c.loop-block.invariant c.in-Some.ensures.items
-    c.in-Ok.ensures.served c.serve_block.ensures.same
+pub loop-request-preserved : goal.loop-request-preserved
+loop-request-preserved g c = under_way _ c.loop-request.client c.serve_request.new.client c.in-Some.request
+    c.loop-request.requests.items c.pop_front.new.self.items c.loop-request.report.items c.serve_request.new.writer.items
+    c.loop-request.told.items c.serve_request.new.told.items c.loop-request.invariant c.in-Some.ensures.items
+    c.in-Ok.ensures.served c.serve_request.ensures.same

@@ -1,4 +1,4 @@
-//! What a script asks, block by block.
+//! What a script asks, request by request.
 
 use ssb_questions::Question;
 use ssb_schema::Refresh;
@@ -7,16 +7,16 @@ use std::sync::Arc;
 /// What a client asks of the warehouse: a refresh, whose actions take effect together or not at all,
 /// or a question.
 #[derive(Drop)]
-pub enum Block {
+pub enum Request {
     /// `begin` .. `commit`: a refresh, for the log and the server to share.
     Refresh(Arc<Refresh>),
     /// `query|NAME`: a question.
     Ask(Question),
 }
 
-/// The blocks of a script, in order.
+/// The requests of a script, in order.
 #[derive(Drop)]
 pub struct Script {
-    /// The blocks, each to be served before the next.
-    pub blocks: Vec<Block>,
+    /// The requests, each to be served before the next.
+    pub requests: Vec<Request>,
 }

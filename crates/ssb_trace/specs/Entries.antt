@@ -9,26 +9,26 @@ use Rattle.ssb_script.specs.Requests.{IsWholeRequest, Refresh, lines_of_request}
 use Rattle.ssb_script.specs.Scripts.{HasRoom, IsSettled, is_outside, lines_of_begun}
 use Rattle.ssb_script.specs.Steps.{begun_in}
 use Rattle.ssb_trace.specs.Lines.{TraceLine, Begin, Inside, Answer, Row}
-use Rattle.ssb_trace.specs.declared.block.Block.{Block}
-use Rattle.ssb_trace.specs.declared.block.Block.TheVariants as block
+use Rattle.ssb_trace.specs.declared.entry.TraceEntry.{TraceEntry}
+use Rattle.ssb_trace.specs.declared.entry.TraceEntry.TheVariants as entry
 use Rattle.ssb_trace.specs.declared.heads.AnswerHead.{AnswerHead}
 use Rattle.ssb_trace.specs.declared.unfinished.Unfinished.{Unfinished}
 use Rattle.ssb_trace.specs.declared.unfinished.Unfinished.TheVariants as unfinished
 
--- the commits and the answers among blocks
-abbrev pub commit_in : Block → List CommitRecord
-commit_in (block.Commit commit) = commit ∷ []
-commit_in (block.Answer told) = []
+-- the commits and the answers among entries
+abbrev pub commit_in : TraceEntry → List CommitRecord
+commit_in (entry.Commit commit) = commit ∷ []
+commit_in (entry.Answer told) = []
 
-abbrev pub commits_in : List Block → List CommitRecord
-commits_in blocks = flat_map commit_in blocks
+abbrev pub commits_in : List TraceEntry → List CommitRecord
+commits_in entries = flat_map commit_in entries
 
-abbrev pub answer_in : Block → List Told
-answer_in (block.Commit commit) = []
-answer_in (block.Answer told) = told ∷ []
+abbrev pub answer_in : TraceEntry → List Told
+answer_in (entry.Commit commit) = []
+answer_in (entry.Answer told) = told ∷ []
 
-abbrev pub answers_in : List Block → List Told
-answers_in blocks = flat_map answer_in blocks
+abbrev pub answers_in : List TraceEntry → List Told
+answers_in entries = flat_map answer_in entries
 
 -- a line of a script's refresh, in a commit of this client
 abbrev pub in_commit : ℕ → ScriptLine → TraceLine
@@ -46,17 +46,17 @@ head_of_told told = record { client = told.client; at = told.at; question = told
 abbrev pub lines_of_told : Told → List TraceLine
 lines_of_told told = Answer (head_of_told told) ∷ map (Row told.question.0) told.rows
 
-abbrev pub lines_of_block : Block → List TraceLine
-lines_of_block (block.Commit commit) = lines_of_commit commit
-lines_of_block (block.Answer told) = lines_of_told told
+abbrev pub lines_of_entry : TraceEntry → List TraceLine
+lines_of_entry (entry.Commit commit) = lines_of_commit commit
+lines_of_entry (entry.Answer told) = lines_of_told told
 
-abbrev pub lines_of_blocks : List Block → List TraceLine
-lines_of_blocks blocks = flat_map lines_of_block blocks
+abbrev pub lines_of_entries : List TraceEntry → List TraceLine
+lines_of_entries entries = flat_map lines_of_entry entries
 
 -- the refresh of a commit is one that a script may have
-abbrev pub IsWholeBlock : Block → Type 0
-IsWholeBlock (block.Commit commit) = IsWholeRequest (Refresh commit.actions)
-IsWholeBlock (block.Answer told) = Unit {0}
+abbrev pub IsWholeEntry : TraceEntry → Type 0
+IsWholeEntry (entry.Commit commit) = IsWholeRequest (Refresh commit.actions)
+IsWholeEntry (entry.Answer told) = Unit {0}
 
 -- the lines of the commit, or of the answer, that is begun and not ended
 abbrev pub lines_of_unfinished : Unfinished → List TraceLine

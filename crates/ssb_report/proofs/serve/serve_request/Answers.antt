@@ -2,7 +2,7 @@ use Rattle.std.proofs.Common.{sym}
 use Rattle.ssb_script.specs.Requests.{Refresh, Ask}
 use Rattle.ssb_report.specs.Replies.{Refreshed, Answered, memory_alone}
 use Rattle.ssb_report.proofs.ServingLaws.{with_none, refreshed_store, answers_ok, answers_part}
-use Rattle.ssb_report.proofs.serve.serve_block.Goals as goal
+use Rattle.ssb_report.proofs.serve.serve_request.Goals as goal
 
 pub returns-in-Refresh-clause-reply : goal.returns-in-Refresh-clause-reply
 returns-in-Refresh-clause-reply g c =

@@ -1,11 +1,11 @@
-//! What a trace holds, block by block.
+//! What a trace holds, entry by entry.
 
 use row_store::Commit;
 use ssb_audit::Told;
 
 /// A commit, or an answer.
 #[derive(Drop)]
-pub(crate) enum Block {
+pub(crate) enum TraceEntry {
     /// `commit|CLIENT` .. `end`.
     Commit(Commit),
     /// `answer|..` and its rows.

@@ -2,7 +2,7 @@ use Rattle.std.proofs.Common.{◌++◌, ◌∙◌, ap}
 use Rattle.ssb_report.specs.Replies.{Answered}
 use Rattle.ssb_session.specs.Served.{told_of}
 use Rattle.ssb_session.proofs.SessionLaws.{answered}
-use Rattle.ssb_session.proofs.blocks.serve_question.Goals as goal
+use Rattle.ssb_session.proofs.requests.serve_question.Goals as goal
 
 pub returns-in-Ok-clause-served : goal.returns-in-Ok-clause-served
 returns-in-Ok-clause-served g c = record {

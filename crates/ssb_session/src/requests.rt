@@ -1,4 +1,4 @@
-//! The blocks of a script, served one after another.
+//! The requests of a script, served one after another.
 ghost use Rattle.std.specs.Prelude.{◌≡◌, ◌<◌, ◌++◌, List, false, OnOk, IfErr, vec_len, vec_capacity};
 ghost use Rattle.std.specs.Option.{is_some};
 ghost use Rattle.history.specs.Tokens.{IsSound};
@@ -10,14 +10,14 @@ ghost use Rattle.ssb_session.specs.Served.{Serves, Ends, told_of};
 ghost use Rattle.ssb_session.specs.Steps.{AreAlike, ServesOne, StopsIn};
 ghost use Rattle.ssb_audit.specs.declared.trace.Told.{Told as PlainTold};
 
-use crate::fault::{BlocksError, Stop};
+use crate::fault::{ServeError, Stop};
 use crate::meter::{Meter, kind_of};
 use ssb_answers::Answer;
 use ssb_audit::Told;
 use ssb_questions::Question;
 use ssb_report::{write_answer, write_reply};
 use ssb_schema::Refresh;
-use ssb_script::{Block, Script};
+use ssb_script::{Request, Script};
 use ssb_server::{Client, Server};
 use std::io::Write;
 use std::sync::{Arc, Wait};
@@ -97,45 +97,45 @@ fn serve_question<W: Wait + Drop, R: Wait, O: Write>(
     }
 }
 
-/// Serves one block of a client's script, and writes its report. An answer with rows is kept behind what was told
-/// before. It waits as [`run_blocks`] does, and nothing is outstanding then. The meter is told when the block begins,
+/// Serves one request of a client's script, and writes its report. An answer with rows is kept behind what was told
+/// before. It waits as [`run_requests`] does, and nothing is outstanding then. The meter is told when the request begins,
 /// and when it ends where it was served and reported.
-pub fn serve_block<W: Wait + Drop, R: Wait, O: Write, M: Meter>(
+pub fn serve_request<W: Wait + Drop, R: Wait, O: Write, M: Meter>(
     rt: &R,
     server: &Server<W>,
     client: &mut Client<W>,
-    block: Block,
+    request: Request,
     writer: &mut O,
     told: &mut Vec<Told>,
     meter: &mut M,
 ) -> Result<(), Stop>
     requires table { client.old.table ≡ server.now }
     requires quiet { is_some client.old.asked ≡ false }
-    ensures served { OnOk result (ServesOne (number_of client.old.who) client.old client.new (request.request_of block)
+    ensures served { OnOk result (ServesOne (number_of client.old.who) client.old client.new (request.request_of request)
         told.old.items told.new.items (O.contents writer.old) (O.contents writer.new)) }
     ensures stopped { IfErr result (λ stop. StopsIn stop (number_of client.old.who) client.old client.new
-        (request.request_of block) told.old.items told.new.items (O.contents writer.old) (O.contents writer.new)) }
+        (request.request_of request) told.old.items told.new.items (O.contents writer.old) (O.contents writer.new)) }
     ensures same { AreAlike client.old client.new }
     ensures sound { IsSound client.old → IsSound client.new }
 {
     let number = client.number();
-    let kind = kind_of(&block);
+    let kind = kind_of(&request);
     meter.begin();
-    match block {
-        Block::Refresh(refresh) => serve_refresh(rt, server, client, number, refresh, writer)?,
-        Block::Ask(question) => serve_question(rt, server, client, number, question, writer, told)?,
+    match request {
+        Request::Refresh(refresh) => serve_refresh(rt, server, client, number, refresh, writer)?,
+        Request::Ask(question) => serve_question(rt, server, client, number, question, writer, told)?,
     }
     meter.end(kind);
     Ok(())
 }
 
-/// Serves the blocks of a client's script in order, and writes their report. The answers with rows are kept behind what
+/// Serves the requests of a client's script in order, and writes their report. The answers with rows are kept behind what
 /// was told before. It waits for the rows and for answers; a dispatcher has to take its turns meanwhile.
 ///
-/// A failed write ends it: the blocks before it and its own have been served. Want of memory for keeping an answer ends
-/// it before its question is asked. In each case nothing is outstanding then. The meter is told when each block begins
+/// A failed write ends it: the requests before it and its own have been served. Want of memory for keeping an answer ends
+/// it before its question is asked. In each case nothing is outstanding then. The meter is told when each request begins
 /// and ends.
-pub fn run_blocks<W: Wait + Drop, R: Wait, O: Write, M: Meter>(
+pub fn run_requests<W: Wait + Drop, R: Wait, O: Write, M: Meter>(
     rt: &R,
     server: &Server<W>,
     client: &mut Client<W>,
@@ -143,7 +143,7 @@ pub fn run_blocks<W: Wait + Drop, R: Wait, O: Write, M: Meter>(
     writer: &mut O,
     told: &mut Vec<Told>,
     meter: &mut M,
-) -> Result<(), BlocksError>
+) -> Result<(), ServeError>
     requires table { client.old.table ≡ server.now }
     requires quiet { is_some client.old.asked ≡ false }
     ensures served { OnOk result (Serves (number_of client.old.who) client.old client.new (request.requests_of script)
@@ -153,10 +153,10 @@ pub fn run_blocks<W: Wait + Drop, R: Wait, O: Write, M: Meter>(
     ensures same { AreAlike client.old client.new }
     ensures sound { IsSound client.old → IsSound client.new }
 {
-    let mut blocks = script.blocks.into_iter();
+    let mut requests = script.requests.into_iter();
     let mut done = 0;
-    while let Some(block) = blocks.next() {
-        match serve_block(rt, server, client, block, writer, told, meter) {
+    while let Some(request) = requests.next() {
+        match serve_request(rt, server, client, request, writer, told, meter) {
             Ok(()) => done += 1,
             Err(stop) => return Err(stop.after(done)),
         }

@@ -1,7 +1,7 @@
 use Rattle.std.proofs.Common.{append-nil, sym}
 use Rattle.ssb_report.specs.Replies.{Refreshed}
 use Rattle.ssb_session.proofs.SessionLaws.{refreshed_alike}
-use Rattle.ssb_session.proofs.blocks.serve_refresh.Goals as goal
+use Rattle.ssb_session.proofs.requests.serve_refresh.Goals as goal
 
 pub returns-in-Ok-clause-served : goal.returns-in-Ok-clause-served
 returns-in-Ok-clause-served g c = λ told. record {
