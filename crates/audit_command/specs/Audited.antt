@@ -8,7 +8,7 @@ use Rattle.ssb_audit.specs.declared.trace.Trace.{Trace}
 use Rattle.ssb_files.specs.Loaded.{IsLoaded}
 use Rattle.ssb_files.specs.Status.{script_status}
 use Rattle.ssb_report.specs.Numbers.{line_feed}
-use Rattle.ssb_report.specs.Run.{most_records}
+use Rattle.ssb_script.specs.Scripts.{most_records}
 use Rattle.ssb_report.specs.Written.{AppendsPart}
 use Rattle.ssb_base.specs.Base.{Tables}
 use Rattle.ssb_schema.specs.declared.table.Table.{Table}

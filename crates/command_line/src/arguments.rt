@@ -87,21 +87,6 @@ fn quiet_argument<'a>(alloc: Global) -> Arg<'a> {
         .action(ArgAction::SetTrue)
 }
 
-// How many pairs of stretches are timed.
-fn pairs_argument<'a>(alloc: Global) -> Result<Arg<'a>, AllocError> {
-    let pairs = Arg::new(alloc, "pairs")
-        .long("pairs")
-        .value_name("N")
-        .help(
-            "With --times: serves the first script alone and the others at once, by turns, N equal stretches of each, \
-             and tells how long each took",
-        )
-        .value_parser(value_parser!(u32).range(1..1001))
-        .requires_arg("times")?
-        .action(ArgAction::Set);
-    Ok(pairs)
-}
-
 // The words of `query`.
 fn query_command<'a>(alloc: Global) -> Result<Command<'a>, AllocError> {
     let all = Arg::new(alloc, "all")
@@ -166,7 +151,6 @@ fn run_command<'a>(alloc: Global) -> Result<Command<'a>, AllocError> {
         .arg(dispatchers)?
         .arg(trace)?
         .arg(times)?
-        .arg(pairs_argument(alloc)?)?
         .arg(quiet_argument(alloc))?
         .arg(scripts)
 }

@@ -1,7 +1,6 @@
 //! How fast a run of scripts was. What a clock says is in no contract.
 
-use ssb_runs::{Batches, Latencies, Latency, Pair, Run};
-use std::alloc::Global;
+use ssb_sessions::{Batches, Latencies, Latency, Run};
 use std::fmt;
 use std::io::Write;
 use std::time::{Clock, Duration, Instant};
@@ -19,7 +18,6 @@ pub struct Pace {
     answers: u64,
     batches: Batches,
     latencies: Latencies,
-    pairs: Vec<Pair>,
 }
 
 // Seconds with six decimals, rounded down.
@@ -65,7 +63,7 @@ fn tell_latency<E: Write>(err: &mut E, name: &str, times: Latency) {
 
 impl Pace {
     /// A pace that stands still, or that begins now.
-    pub fn start<C: Clock>(alloc: Global, clock: &C, runs: bool) -> Pace {
+    pub fn start<C: Clock>(clock: &C, runs: bool) -> Pace {
         let since = if runs { Instant::now(clock).ok() } else { None };
         Pace {
             since,
@@ -76,7 +74,6 @@ impl Pace {
             answers: 0,
             batches: Batches::default(),
             latencies: Latencies::default(),
-            pairs: Vec::new(alloc),
         }
     }
 
@@ -93,7 +90,7 @@ impl Pace {
         self.load = self.lap(clock);
     }
 
-    /// The server is closed, and left this run. Its pairs of stretches are kept where there is memory for them.
+    /// The server is closed, and left this run.
     pub fn end_serving<C: Clock>(&mut self, clock: &C, run: &Run) {
         self.serving = self.lap(clock);
         self.threads = run.threads;
@@ -101,12 +98,11 @@ impl Pace {
         self.answers = run.trace.answers.as_slice().len() as u64;
         self.batches = run.batches;
         self.latencies = run.latencies;
-        let _ = self.pairs.extend_from_slice(run.pairs.as_slice());
     }
 
     /// Writes the seconds of both steps and of the threads, the commits and the answers with how many there were a
-    /// second of the threads, the batches with the mean number of questions in one, the times of a refresh and of a
-    /// question, and those of each pair of stretches, as far as the writer takes them.
+    /// second of the threads, the batches with the mean number of questions in one, and the times of a refresh and of
+    /// a question, as far as the writer takes them.
     pub fn tell<E: Write>(&self, err: &mut E) {
         for (name, time) in [
             ("load", self.load),
@@ -126,19 +122,6 @@ impl Pace {
         self.tell_batches(err);
         tell_latency(err, "refreshes", self.latencies.refreshes);
         tell_latency(err, "questions", self.latencies.answers);
-        self.tell_pairs(err);
-    }
-
-    fn tell_pairs<E: Write>(&self, err: &mut E) {
-        for pair in &self.pairs {
-            let _ = writeln!(
-                err,
-                "ssb_live: {} requests alone {}, at once {}",
-                pair.requests,
-                Seconds(pair.alone),
-                Seconds(pair.together)
-            );
-        }
     }
 
     // The mean is told in hundredths, rounded down.

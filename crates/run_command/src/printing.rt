@@ -4,24 +4,9 @@ ghost use Rattle.std.specs.Prelude.{◌≡◌, ◌+◌, ◌<◌, ◌^◌, length
 ghost use Rattle.run_command.specs.Served.{client_text, clients_text, run_text};
 ghost use Rattle.ssb_report.specs.Written.{Writes};
 
-use ssb_report::{Piece, WriteFault, write_pieces};
-use ssb_runs::Run;
+use ssb_report::{Piece, WriteFault, write_bytes, write_pieces};
+use ssb_sessions::Run;
 use std::io::Write;
-
-// Writes all of the bytes. A write that fails or takes none of them is a fault.
-fn write_bytes<W: Write>(out: &mut W, bytes: &[u8]) -> Result<(), WriteFault>
-    ensures { Writes (W.contents out.old) (W.contents out.new) result bytes.now }
-{
-    let mut rest = bytes;
-    while !rest.is_empty() {
-        match out.write(rest) {
-            Ok(0) => return Err(WriteFault),
-            Ok(taken) => rest = &rest[taken..],
-            Err(_) => return Err(WriteFault),
-        }
-    }
-    Ok(())
-}
 
 // Writes a client's number and its report.
 fn write_client<W: Write>(out: &mut W, number: u64, report: &[u8]) -> Result<(), WriteFault>

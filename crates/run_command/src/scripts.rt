@@ -11,7 +11,7 @@ ghost use Rattle.run_command.specs.Served.{AreTold, AreToldInPart, IsServed, Ser
 ghost use Rattle.run_command.specs.Status.{serving_status};
 ghost use Rattle.ssb_text.specs.Load.{AreTexts};
 ghost use Rattle.ssb_report.specs.Written.{AppendsPart};
-ghost use Rattle.ssb_runs.specs.Run.{IsRun};
+ghost use Rattle.ssb_sessions.specs.Run.{IsRun};
 ghost use Rattle.ssb_schema.specs.declared.table.Table.{Table};
 ghost use Rattle.ssb_trace.specs.TraceText.{trace_text};
 
@@ -20,7 +20,7 @@ use crate::pace::Pace;
 use crate::printing::write_run;
 use ssb_base::Base;
 use ssb_files::{Fault, base_of, read_scripts};
-use ssb_runs::{Run, Timing, serve_scripts};
+use ssb_sessions::{Run, serve_scripts};
 use ssb_script::Script;
 use ssb_text::Tables;
 use ssb_trace::write_trace;
@@ -42,18 +42,6 @@ pub struct RunSettings {
     pub dispatchers: u32,
     /// Whether the times are told on standard error.
     pub times: bool,
-    /// How many pairs of stretches are told with the times: the first script is served alone, and the others at once.
-    /// With 0 all are served at once.
-    pub pairs: u32,
-}
-
-// What times are taken.
-fn timing_of(times: bool, pairs: u32) -> Timing {
-    match (times, pairs) {
-        (false, _) => Timing::Off,
-        (true, 0) => Timing::Requests,
-        (true, _) => Timing::Pairs(pairs),
-    }
 }
 
 // Serves scripts at once over a base.
@@ -61,7 +49,7 @@ fn serve<R: Threads + Sync + Wait + Clock + AllocGlobal>(
     rt: &R,
     hashing: RandomState,
     dispatchers: u32,
-    timing: Timing,
+    timed: bool,
     base: Base,
     scripts: Vec<Script>,
 ) -> Result<Run, ServingFault>
@@ -71,7 +59,7 @@ fn serve<R: Threads + Sync + Wait + Clock + AllocGlobal>(
     ensures fault { IfErr result (λ fault. serving_status fault ≡ 4) }
 {
     let base = Arc::new(rt.alloc(), base)?;
-    match serve_scripts(rt, rt.alloc(), hashing, base, scripts, dispatchers, timing) {
+    match serve_scripts(rt, rt.alloc(), hashing, base, scripts, dispatchers, timed) {
         Ok(run) => Ok(run),
         Err(fault) => Err(ServingFault::Found(NotRun(fault))),
     }
@@ -102,10 +90,8 @@ fn run_of<R: Threads + Sync + Wait + Clock + AllocGlobal, I: Read + Drop>(
         hashing,
         dispatchers,
         times,
-        pairs,
     } = settings;
-    let timing = timing_of(times, pairs);
-    let run = serve(rt, hashing, dispatchers, timing, base, scripts)?;
+    let run = serve(rt, hashing, dispatchers, times, base, scripts)?;
     pace.end_serving(rt, &run);
     Ok(run)
 }
@@ -253,7 +239,7 @@ pub fn run_scripts<
         return Fault::TooManyScripts.tell(err);
     }
     let times = settings.times;
-    let mut pace = Pace::start(rt.alloc(), rt, times);
+    let mut pace = Pace::start(rt, times);
     match report(rt, settings, tables, sources, out, file, &mut pace) {
         Ok(()) => {
             tell_times(&pace, times, err);

@@ -1,7 +1,7 @@
 -- Sources that spell scripts, one after another.
 use Rattle.std.proofs.Common.{ℕ, List, [], ◌∷◌, ◌++◌, Option}
 use Rattle.ssb_files.specs.Scripts.{AreScripts}
-use Rattle.ssb_report.specs.Run.{AreAsked}
+use Rattle.ssb_script.specs.Scripts.{AreAsked}
 use Rattle.ssb_script.specs.Requests.{requests_of}
 use Rattle.ssb_script.specs.declared.request.Script.{Script}
 

@@ -2,7 +2,7 @@
 use Rattle.std.specs.Prelude.{◌≡◌, ℕ, List, ◌∷◌, ◌++◌, Option, Some}
 use Rattle.std.specs.List.{AllZip}
 use Rattle.ssb_files.specs.Status.{script_status}
-use Rattle.ssb_report.specs.Run.{AreAsked, most_records}
+use Rattle.ssb_script.specs.Scripts.{AreAsked, most_records}
 use Rattle.ssb_script.specs.Requests.{requests_of}
 use Rattle.ssb_script.specs.Scripts.{IsScriptFault}
 use Rattle.ssb_script.specs.declared.request.Script.{Script}

@@ -5,8 +5,7 @@ ghost use Rattle.ssb_files.specs.Scripts.{AreScripts, HasRefused};
 ghost use Rattle.ssb_files.specs.Status.{status_of};
 
 use crate::fault::Fault;
-use ssb_report::MOST_RECORDS;
-use ssb_script::{Script, read_script};
+use ssb_script::{MOST_RECORDS, Script, read_script};
 use std::alloc::Global;
 use std::io::Read;
 

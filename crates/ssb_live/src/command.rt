@@ -3,9 +3,8 @@
 use audit_command::run_audit;
 use clap::ArgMatches;
 use command_line::{matches, tell};
-use demo_command::demo;
 use query_command::{Settings, run_all, run_query};
-use run_command::{RunSettings, run_scripts};
+use run_command::{RunSettings, demo, run_scripts};
 use ssb_files::{
     Fault, Screen, Source, make_file, open_file, open_files, open_tables, watch, watch_scripts,
     watch_tables,
@@ -88,7 +87,6 @@ where
         hashing,
         dispatchers: matches.get_one::<u32>("dispatchers").unwrap_or(1),
         times: matches.get_flag("times"),
-        pairs: matches.get_one::<u32>("pairs").unwrap_or(0),
     };
     Ok(OpenedRun {
         settings,
@@ -162,7 +160,7 @@ fn serve_script<R, I: Read + Drop, W: Write, E: Write>(
     err: &mut E,
 ) -> u8
 where
-    R: RandomSource + Threads + Sync + Wait + AllocGlobal,
+    R: Clock + RandomSource + Threads + Sync + Wait + AllocGlobal,
 {
     match RandomState::new(rt) {
         Ok(hashing) => demo(rt, hashing, input, out, err),

@@ -1,4 +1,4 @@
 pub mod WrittenLaws
 pub mod RowLaws
-pub mod ServingLaws
+pub mod CommitLaws
 pub mod ReplyLaws

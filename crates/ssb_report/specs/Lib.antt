@@ -5,6 +5,4 @@ pub mod AnswerText
 pub mod RefreshText
 pub mod Replies
 pub mod Report
-pub mod Serving
-pub mod Run
 pub mod Laws

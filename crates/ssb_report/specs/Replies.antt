@@ -1,5 +1,5 @@
 -- The replies to requests: those of the one-thread warehouse, and those that may stand in their place.
-use Rattle.std.specs.Prelude.{◌≡◌, ℕ, Bool, true, false, List, [], ◌∷◌, ◌++◌, length, Result, Ok, Err}
+use Rattle.std.specs.Prelude.{◌≡◌, ℕ, Bool, true, List, [], ◌∷◌, ◌++◌, length, Result, Ok, Err}
 use Rattle.ssb_questions.specs.declared.query.Query.{Query as Named}
 use Rattle.ssb_questions.specs.declared.value.Value.{Value}
 use Rattle.ssb_schema.specs.Facts.{facts_of}
@@ -7,7 +7,6 @@ use Rattle.ssb_answers.specs.Answer.{answer_of}
 use Rattle.ssb_answers.specs.declared.answer.Answer.{Answer}
 use Rattle.ssb_answers.specs.declared.answer.Answer.TheVariants.{Rows, Unserved}
 use Rattle.ssb_answers.specs.declared.answer.Unserved.{Unserved as Cause}
-use Rattle.ssb_answers.specs.declared.answer.Unserved.TheVariants.{OutOfMemory, Twin}
 use Rattle.row_store.specs.History.{CommitRecord, Warehouse, lines_after}
 use Rattle.row_store.specs.Legal.{warehouse_reply, IsRefreshReply}
 use Rattle.row_store.specs.declared.commit.Receipt.{Receipt}
@@ -38,11 +37,6 @@ warehouse_answer warehouse question =
 abbrev pub true_reply : Warehouse → RequestRecord → Reply
 true_reply warehouse (Refresh actions) = Refreshed (warehouse_reply warehouse.base warehouse.log actions)
 true_reply warehouse (Ask question) = Answered (warehouse_answer warehouse question)
-
--- whether a question may be left unanswered for this cause where one thread serves: memory ran out
-abbrev pub memory_alone : Cause → Bool
-memory_alone OutOfMemory = true
-memory_alone (Twin told found) = false
 
 -- a question has the answer of the one-thread warehouse, or is left unanswered for one of the causes that may stand
 abbrev pub IsAnswer : (Cause → Bool) → Warehouse → Named × List Value → Answer → Type 0

@@ -1,7 +1,7 @@
 -- The report of a list of requests. For which causes a question may be left unanswered is given.
-use Rattle.std.specs.Prelude.{◌≡◌, ℕ, ◌+◌, ◌<◌, Bool, List, [], ◌∷◌, ◌++◌, length, take, flat_map, Option}
+use Rattle.std.specs.Prelude.{◌≡◌, ℕ, Bool, List, [], ◌∷◌, ◌++◌, flat_map, Option}
 use Rattle.std.specs.Io.KnownBytes.{Appends}
-use Rattle.row_store.specs.History.{CommitRecord, Warehouse, IsPrefix}
+use Rattle.row_store.specs.History.{CommitRecord, Warehouse}
 use Rattle.ssb_answers.specs.declared.answer.Unserved.{Unserved as Cause}
 use Rattle.ssb_script.specs.Requests.{RequestRecord}
 use Rattle.ssb_report.specs.Replies.{Reply, IsReply, reply_text, committed_by, with_commits}
@@ -34,23 +34,3 @@ pub record Serves (causes : Cause → Bool) (client : ℕ) (old new : Warehouse)
   pub answered : AreReplies causes client old requests replies
   pub grown : new ≡ with_commits old (committed client requests replies)
   pub written : Appends before after (report_of replies)
-
--- the first requests and one more were answered: what was written is a report of the first ones and a part of that of
--- the last reply, of which something is left
-pub record StopsAfter (causes : Cause → Bool) (done client : ℕ) (old new : Warehouse) (requests : List RequestRecord)
-    (before after : Option (List ℕ)) : Type 0 where
-  pub replies : List Reply
-  pub last : Reply
-  pub count : length replies ≡ done
-  pub answered : AreReplies causes client old (take (done + 1) requests) (replies ++ last ∷ [])
-  pub grown : new ≡ with_commits old (committed client (take (done + 1) requests) (replies ++ last ∷ []))
-  pub part : List ℕ
-  pub rest : List ℕ
-  pub begins : reply_text last ≡ part ++ rest
-  pub left : 0 < length rest
-  pub written : Appends before after (report_of replies ++ part)
-
--- the lines have taken the first commits of the store, over the same base
-pub record IsBehind (lines store : Warehouse) : Type 0 where
-  pub base : lines.base ≡ store.base
-  pub log : IsPrefix lines.log store.log

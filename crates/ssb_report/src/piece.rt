@@ -19,7 +19,7 @@ pub enum Piece<'a> {
 }
 
 /// Writes all of the bytes. A write that fails or takes none of them is a fault.
-fn write_bytes<W: Write>(writer: &mut W, bytes: &[u8]) -> Result<(), WriteFault>
+pub fn write_bytes<W: Write>(writer: &mut W, bytes: &[u8]) -> Result<(), WriteFault>
     ensures { Writes (W.contents writer.old) (W.contents writer.new) result bytes.now }
 {
     let mut rest = bytes;

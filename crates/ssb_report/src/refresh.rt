@@ -2,6 +2,7 @@
 ghost use Rattle.std.specs.Prelude.{OnOk, OnErr};
 ghost use Rattle.std.specs.Io.KnownBytes.{Appends};
 ghost use Rattle.ssb_report.specs.Written.{StopsShort, Writes};
+ghost use Rattle.ssb_report.specs.Replies.{Refreshed, reply_text};
 ghost use Rattle.ssb_report.specs.RefreshText.{receipt_text, refusal_text, refused_text, cause_text};
 
 use crate::fault::WriteFault;
@@ -85,5 +86,21 @@ pub fn write_refusal<W: Write>(writer: &mut W, error: &RefreshError) -> Result<(
             writer,
             &[Piece::Text("refresh: out of memory\n")],
         ),
+    }
+}
+
+/// Writes the report of the reply to a refresh.
+pub fn write_reply<W: Write>(
+    writer: &mut W,
+    reply: &Result<Receipt, RefreshError>,
+) -> Result<(), WriteFault>
+    ensures report { OnOk result (Appends (W.contents writer.old) (W.contents writer.new)
+        (reply_text (Refreshed reply.now))) }
+    ensures fault { OnErr result (StopsShort (W.contents writer.old) (W.contents writer.new)
+        (reply_text (Refreshed reply.now))) }
+{
+    match reply {
+        Ok(receipt) => write_receipt(writer, receipt),
+        Err(error) => write_refusal(writer, error),
     }
 }

@@ -217,3 +217,11 @@ abbrev pub IsScriptFault : ℕ → List ℕ → ScriptError → Type 0
 IsScriptFault most text e =
     (e ≡ error.Read) ⊎ ((e ≡ error.OutOfMemory) ⊎ (IsFirstFault most text e
     ⊎ ((e ≡ error.NoCommit) × EndsInRefresh most text)))
+
+-- the most records of a script
+abbrev pub most_records : ℕ
+most_records = 1000000000
+
+-- the bytes that a reader had left, where they are known, spell these requests
+abbrev pub AreAsked : Option (List ℕ) → List RequestRecord → Type 0
+AreAsked remaining requests = (text : List ℕ) → remaining ≡ Some text → SpellsScript most_records text requests

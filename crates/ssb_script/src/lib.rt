@@ -30,4 +30,4 @@ pub use laws::one_reading;
 pub use order_line::OrderLine;
 pub use question::{constants_from, question_at};
 pub use request::{Request, Script};
-pub use script::read_script;
+pub use script::{MOST_RECORDS, read_script};

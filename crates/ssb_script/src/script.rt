@@ -16,6 +16,9 @@ use ssb_text::{next_record, record_reader};
 use std::alloc::{AllocError, Global};
 use std::io::Read;
 
+/// The most records that a script may have.
+pub const MOST_RECORDS: u64 = 1_000_000_000;
+
 // Keeps the request that a record ended, if it ended one.
 fn keep(requests: &mut Vec<Request>, request: Option<Request>) -> Result<(), AllocError>
     ensures { IfOk result (λ _. map request_of requests.new.items ≡ map request_of requests.old.items

@@ -15,7 +15,6 @@ use crate::server::{Server, SharedTable, Token};
 use crate::tickets::clients_of;
 use dimension_index::DimIndex;
 use fact_columns::Columns;
-use history::Shared;
 use row_store::RowStore;
 use ssb_base::Base;
 use std::alloc::{AllocError, Global};
@@ -192,7 +191,7 @@ fn build<W: Wait + Drop>(
         columns,
     } = parts;
     let (writer, readers) = twin(alloc, rt, columns, dispatchers as usize)?;
-    let Ok(opened) = Shared::new(alloc, rows, writer, clients, dispatchers) else {
+    let Ok(opened) = SharedTable::new(alloc, rows, writer, clients, dispatchers) else {
         return Err(TwinError::OutOfMemory);
     };
     let Ok(made) = seat_all(alloc, opened, index, readers, (clients, dispatchers)) else {

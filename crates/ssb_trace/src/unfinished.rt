@@ -142,9 +142,9 @@ fn after_in_refresh(
 fn step_of_commit(client: u32, step: ssb_script::Step) -> Step
     ensures { CommitStep client step result }
 {
-    let ssb_script::Step { entry, begun } = step;
-    match entry {
-        Some(ssb_script::TraceEntry::Refresh(refresh)) => Step {
+    let ssb_script::Step { request, begun } = step;
+    match request {
+        Some(ssb_script::Request::Refresh(refresh)) => Step {
             entry: Some(TraceEntry::Commit(Commit { client, refresh })),
             unfinished: Unfinished::Nothing,
         },

@@ -2,7 +2,7 @@
 
 use crate::tests::data::{REFRESHES, REFRESHES_REPORT};
 use crate::tests::serving::{for_one_client, refreshes, serves};
-use ssb_session::ServeError;
+use ssb_sessions::ServeError;
 use stand_ins::Room;
 use std::alloc::Global;
 use std::hash::RandomState;

@@ -10,7 +10,7 @@ use row_store::{PlainLines, RowStore};
 use ssb_report::{MOST_RECORDS, RunError, read_script, run_store};
 use ssb_script::{Script, ScriptError};
 use ssb_server::{Client, Dispatcher, Server};
-use ssb_session::{NoMeter, Told, run_requests, run_script};
+use ssb_sessions::{NoMeter, Told, run_requests, run_script};
 use std::alloc::Global;
 use std::hash::RandomState;
 use std::sync::Wait;

@@ -7,7 +7,7 @@ use crate::tests::data::base;
 use ssb_report::{MOST_RECORDS, RunError, read_script};
 use ssb_script::ScriptError;
 use ssb_server::{Client, Dispatcher, Opened, Server, open};
-use ssb_session::{ServeError, NoMeter, Told, run_requests, run_script};
+use ssb_sessions::{ServeError, NoMeter, Told, run_requests, run_script};
 use std::alloc::Global;
 use std::hash::RandomState;
 use std::io::{Read, Write};

@@ -1,2 +1,0 @@
-pub mod Demo
-pub mod Status

@@ -1,0 +1,50 @@
+-- The run of one script is that of the one-thread warehouse.
+use Rattle.std.proofs.Common.{◌≡◌, ◌∙◌, ℕ, List, [], ◌∷◌, length, map, get_or, Option, Some, refl, sym, ap, subst}
+use Rattle.std.specs.Prelude.{Result, Ok, Err, OnOk, OnErr, MatchResult, slice_get}
+use Rattle.std.proofs.lemmas.List.{length-map}
+use Rattle.run_command.specs.Demo.{IsReport, IsSmallReport, ServesSmall, ServesPartSmall, EndsEarly}
+use Rattle.ssb_audit.specs.declared.trace.Trace.{Trace}
+use Rattle.ssb_base.specs.Base.{Tables}
+use Rattle.ssb_report.specs.Report.{Serves}
+use Rattle.ssb_script.specs.Requests.{requests_of}
+use Rattle.ssb_script.specs.declared.request.Script.{Script}
+use Rattle.ssb_sessions.proofs.AloneLaws.{one_client_is_one_thread}
+use Rattle.ssb_sessions.specs.Alone.{may_be_told, own}
+use Rattle.ssb_sessions.specs.Run.{IsRun, IsServedWhole}
+use Rattle.ssb_sessions.specs.Sessions.{SessionRecord}
+
+-- one script has one report
+pub one_report : (base : Tables) (script : Script) (dispatchers : ℕ) (reports : List (List ℕ)) (trace : Trace)
+    → IsRun base (script ∷ []) dispatchers reports trace → length reports ≡ 1
+one_report base script dispatchers reports trace run =
+    ap length run.reports_are ∙ length-map run.sessions (λ (session : SessionRecord). session.report) ∙ run.one_each
+
+-- the report of the only session
+only_session : (sessions : List SessionRecord) → length sessions ≡ 1
+    → (session : SessionRecord) × (sessions ≡ session ∷ [])
+only_session [] one = absurd cc
+only_session (session ∷ []) one = (session, refl)
+only_session (session ∷ other ∷ others) one = absurd cc
+
+pub report_of_one : (base : Tables) (script : Script) (dispatchers : ℕ) (reports : List (List ℕ)) (trace : Trace)
+    (report : List ℕ) → IsRun base (script ∷ []) dispatchers reports trace → reports ≡ report ∷ []
+    → IsReport base (requests_of script) report
+report_of_one base script dispatchers reports trace report run only =
+    let found = only_session run.sessions run.one_each in
+    let session = found.0 in
+    let whole : IsServedWhole run.table trace.commits 1 script session =
+    run.served 0 script session refl (ap (λ sessions. slice_get sessions 0) found.1) in
+    let told : report ≡ session.report =
+    ap (λ all. get_or all 0 report) (sym only ∙ run.reports_are
+    ∙ ap (map (λ (session : SessionRecord). session.report)) found.1) in
+    let one = one_client_is_one_thread run.table session.client (requests_of script) session.told (Some [])
+    (Some session.report) run.clients_are whole.served in
+    record {
+      ended = own session.client;
+      served = subst
+          (λ (b : Tables). Serves may_be_told 1 (record { base = b; log = [] }) (own session.client)
+          (requests_of script) (Some []) (Some report)) run.base_is
+          (subst
+          (λ r. Serves may_be_told 1 (record { base = run.table.base; log = [] }) (own session.client)
+          (requests_of script) (Some []) (Some r)) (sym told) one);
+    }

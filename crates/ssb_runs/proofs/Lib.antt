@@ -1,5 +1,0 @@
-mod ListLaws
-mod SessionLaws
-mod RunLaws
-mod ProgressLaws
-mod GroupLaws

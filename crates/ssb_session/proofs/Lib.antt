@@ -1,3 +1,0 @@
-pub mod SessionLaws
-pub mod RunLaws
-pub mod AloneLaws

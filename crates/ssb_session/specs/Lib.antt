@@ -1,4 +1,0 @@
-pub mod Served
-pub mod Steps
-pub mod Runs
-pub mod Alone

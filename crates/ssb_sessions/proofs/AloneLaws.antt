@@ -1,0 +1,267 @@
+-- A client alone: what it has made is what it sees, so its replies are the one-thread warehouse's.
+use Rattle.std.proofs.Common.{
+  ◌≡◌,
+  ◌≢◌,
+  ℕ,
+  ◌+◌,
+  ◌==◌,
+  not,
+  true,
+  false,
+  suc,
+  List,
+  [],
+  ◌∷◌,
+  ◌++◌,
+  length,
+  take,
+  Some,
+  None,
+  Result,
+  Ok,
+  Err,
+  refl,
+  sym,
+  ◌∙◌,
+  ap,
+  subst,
+  inl,
+  inr,
+  length-append,
+  arith,
+}
+use Rattle.std.proofs.lemmas.Bool.Decides.{nat_tests}
+use Rattle.std.proofs.lemmas.List.{append_cancel_right, take_all}
+use Rattle.ssb_schema.specs.declared.refresh.Action.{Action}
+use Rattle.ssb_questions.specs.declared.query.Query.{Query as Named}
+use Rattle.ssb_questions.specs.declared.value.Value.{Value}
+use Rattle.ssb_answers.specs.declared.answer.Answer.{Answer}
+use Rattle.ssb_answers.specs.declared.answer.Answer.TheVariants.{Rows, Unserved}
+use Rattle.ssb_answers.specs.declared.answer.Unserved.{Unserved as Cause}
+use Rattle.ssb_answers.specs.declared.answer.Unserved.TheVariants.{OutOfMemory, Twin}
+use Rattle.row_store.specs.History.{CommitRecord}
+use Rattle.row_store.specs.Refusals.{refusal_of}
+use Rattle.row_store.specs.Legal.{IsRefreshReply, reply_at}
+use Rattle.row_store.specs.declared.commit.Receipt.{Receipt}
+use Rattle.row_store.specs.declared.refusal.RefreshError.{RefreshError}
+use Rattle.row_store.specs.declared.refusal.RefreshError.TheVariants as refusal
+use Rattle.history_core.specs.OwnCommits.{IsOfClients, commits_of}
+use Rattle.history_core.specs.World.{rows_after}
+use Rattle.history_core.proofs.HistoryLaws.{some_injective}
+use Rattle.history.specs.Tokens.{TokenRecord, IsSound, new_token}
+use Rattle.history.specs.Words.{Owns, IsCause, IsRight, request}
+use Rattle.history.specs.declared.request.PostedQuestion.{PostedQuestion as Asked}
+use Rattle.std.specs.Option.{is_some}
+use Rattle.history_core.specs.declared.event.Who.TheVariants.{Client}
+use Rattle.ssb_script.specs.Requests.{RequestRecord, Refresh, Ask}
+use Rattle.ssb_report.specs.Replies.{Reply, Refreshed, Answered, IsAnswer, IsReply, committed_by, with_commits}
+use Rattle.ssb_report.specs.Report.{AreReplies, committed}
+use Rattle.ssb_report.proofs.CommitLaws.{with_none, with_both}
+use Rattle.ssb_server.specs.Clients as client
+use Rattle.ssb_sessions.specs.Alone.{IsAlone, own, may_be_told, OneClientIsOneThread}
+use Rattle.ssb_sessions.specs.Served.{AreServed}
+use Rattle.ssb_sessions.specs.Steps.{AreAlike}
+use Rattle.ssb_sessions.proofs.RequestLaws.{refreshed_alike, answered_alike, asked_nothing}
+
+-- where there is one client, the commits of its number are all
+all_of_one : (history : List CommitRecord) → IsOfClients 1 history → commits_of 1 history ≡ history
+all_of_one [] named = refl
+all_of_one (commit ∷ history) named =
+    let bounds = named.named 0 commit refl in
+    let is : (commit.client == 1) ≡ true = grind (arith, nat_tests, bounds.0, bounds.1) in
+    rw is (ap (λ t. commit ∷ t) (all_of_one history (record
+    { named = λ place other at. named.named (suc place) other at })))
+
+-- what it has made is what it sees
+pub alone_sees : (t : TokenRecord) → IsAlone t → IsSound t → t.mine ≡ t.seen
+alone_sees t alone sound =
+    subst (λ who. Owns who t.mine t.seen) alone.who sound.owns
+    ∙ all_of_one t.seen (subst (λ clients. IsOfClients clients t.seen) alone.clients sound.named)
+
+pub alone_still : (before after : TokenRecord) → AreAlike before after → IsAlone before → IsAlone after
+alone_still before after alike alone = record {
+  who = alike.who ∙ alone.who;
+  clients = ap (λ table. table.clients) alike.table ∙ alone.clients;
+}
+
+-- a receipt tells the number of commits then
+committed_reply : (number : ℕ) (history : List CommitRecord) (actions : List Action) (receipt : Receipt)
+    → receipt.number ≡ length history + 1
+    → Ok receipt ≡ reply_at (length history) None
+committed_reply number history actions receipt is = ap (λ n. Ok (record { number = n })) is
+
+-- the reply to a refresh
+pub refreshed_reply : (before after : TokenRecord) (actions : List Action) (reply : Result Receipt RefreshError)
+    → client.Refreshed before 1 actions reply after → IsAlone after → IsSound after
+    → IsRefreshReply before.table.base before.mine actions reply
+refreshed_reply before after actions (Ok receipt) refreshed alone sound =
+    let commit : CommitRecord = record { client = 1; actions = actions } in
+    let same : before.mine ++ commit ∷ [] ≡ refreshed.history ++ commit ∷ [] =
+    sym (ap (λ (t : TokenRecord). t.mine) refreshed.now) ∙ alone_sees after alone sound
+    ∙ ap (λ (t : TokenRecord). t.seen) refreshed.now in
+    let history : before.mine ≡ refreshed.history = append_cancel_right before.mine refreshed.history (commit ∷ []) same
+    in
+    let number : receipt.number ≡ length before.mine + 1 =
+    refreshed.number_is ∙ ap (λ (t : TokenRecord). length t.seen) refreshed.now ∙ ap length (sym same)
+    ∙ length-append before.mine (commit ∷ []) in
+    let accepted : refusal_of before.table.base before.mine actions ≡ None =
+    ap (λ h. refusal_of before.table.base h actions) history ∙ refreshed.accepted in
+    inl (committed_reply receipt.number before.mine actions receipt number
+    ∙ ap (λ r. reply_at (length before.mine) r) (sym accepted))
+refreshed_reply before after actions (Err (refusal.Refused at action cause)) refreshed alone sound =
+    let looks = refreshed.2 in
+    let seen : after.seen ≡ before.mine = sym (alone_sees after alone sound) ∙ ap (λ (t : TokenRecord). t.mine) looks.now in
+    let base : after.table.base ≡ before.table.base = ap (λ (t : TokenRecord). t.table.base) looks.now in
+    let refused : refusal_of before.table.base before.mine actions ≡ Some (record { action = action; cause = cause }) =
+    ap (λ b. refusal_of b before.mine actions) (sym base) ∙ ap (λ h. refusal_of after.table.base h actions) (sym seen)
+    ∙ refreshed.1 in
+    inl (ap (λ n. Err (refusal.Refused n action cause)) (refreshed.0 ∙ ap length seen)
+    ∙ ap (λ r. reply_at (length before.mine) r) (sym refused))
+refreshed_reply before after actions (Err refusal.OutOfMemory) refreshed alone sound =
+    let looks = refreshed.1 in
+    let seen : after.seen ≡ before.mine = sym (alone_sees after alone sound) ∙ ap (λ (t : TokenRecord). t.mine) looks.now in
+    let base : after.table.base ≡ before.table.base = ap (λ (t : TokenRecord). t.table.base) looks.now in
+    inr (
+      refl,
+      ap (λ b. refusal_of b before.mine actions) (sym base)
+          ∙ ap (λ h. refusal_of after.table.base h actions) (sym seen) ∙ refreshed.0,
+    )
+
+-- its own commits then
+pub refreshed_own : (before after : TokenRecord) (actions : List Action) (reply : Result Receipt RefreshError)
+    → client.Refreshed before 1 actions reply after → own after ≡ with_commits (own before)
+    (committed_by 1 (Refresh actions) (Refreshed reply))
+refreshed_own before after actions (Ok receipt) refreshed = ap own refreshed.now
+refreshed_own before after actions (Err (refusal.Refused at action cause)) refreshed =
+    ap own refreshed.2.now ∙ sym (with_none (own before))
+refreshed_own before after actions (Err refusal.OutOfMemory) refreshed =
+    ap own refreshed.1.now ∙ sym (with_none (own before))
+
+-- a cause that a dispatcher may tell
+told_apart : (told found : ℕ) → told ≢ found → not (told == found) ≡ true
+told_apart told found apart = let differ : (told == found) ≡ false = grind (arith, nat_tests, apart) in ap not differ
+
+cause_may : (cause : Cause) → IsCause cause → may_be_told cause ≡ true
+cause_may OutOfMemory is = refl
+cause_may (Twin told found) is = told_apart told found is
+
+-- what is seen when the question is asked, and when it is answered, are the client's own commits
+record Stays (before asking after : TokenRecord) : Type 0 where
+  base : asking.table.base ≡ before.table.base
+  asked : asking.seen ≡ before.mine
+  answered : after.seen ≡ before.mine
+
+stays : (before asking after : TokenRecord) (question : Named × List Value) (answer : Answer)
+    → client.Asks before question asking → client.Polls asking answer after
+    → IsAlone before → IsSound asking → IsSound after → Stays before asking after
+stays before asking after question answer asked polled alone sound ended =
+    let one : IsAlone asking = record {
+      who = ap (λ (t : TokenRecord). t.who) asked.now ∙ alone.who;
+      clients = ap (λ (t : TokenRecord). t.table.clients) asked.now ∙ alone.clients;
+    } in
+    let two : IsAlone after = record {
+      who = ap (λ (t : TokenRecord). t.who) polled.now ∙ one.who;
+      clients = ap (λ (t : TokenRecord). t.table.clients) polled.now ∙ one.clients;
+    } in
+    record {
+      base = ap (λ (t : TokenRecord). t.table.base) asked.now;
+      asked = sym (alone_sees asking one sound) ∙ ap (λ (t : TokenRecord). t.mine) asked.now;
+      answered = sym (alone_sees after two ended) ∙ ap (λ (t : TokenRecord). t.mine) polled.now
+          ∙ ap (λ (t : TokenRecord). t.mine) asked.now;
+    }
+
+-- an answer that is right within the floor and the whole history is the warehouse's
+right_answer : (before asking after : TokenRecord) (question : Named × List Value) (answer : Answer) (asked : Asked)
+    → Stays before asking after
+    → asked ≡ request question (length asking.seen) → IsRight asking.table.base after.seen asked answer
+    → IsAnswer may_be_told (own before) question answer
+right_answer before asking after question (Rows query at rows) asked stays was right =
+    let query_is : query ≡ question = right.0 ∙ ap (λ (a : Asked). a.query) was in
+    let at_is : at ≡ length before.mine = omega (
+      arith,
+      right.1,
+      right.2,
+      ap (λ (a : Asked). a.floor) was,
+      ap length stays.asked,
+      ap length stays.answered,
+    ) in
+    let all : take at after.seen ≡ before.mine = take_all at after.seen (omega (arith, at_is, ap length stays.answered))
+    ∙ stays.answered in
+    let rows_are : rows ≡ rows_after before.table.base question before.mine =
+    right.3 ∙ ap (λ h. rows_after asking.table.base query h) all ∙ ap (λ b. rows_after b query before.mine) stays.base
+    ∙ ap (λ q. rows_after before.table.base q before.mine) query_is in
+    ap (λ q. Rows q at rows) query_is ∙ ap (λ n. Rows question n rows) at_is
+    ∙ ap (λ r. Rows question (length before.mine) r) rows_are
+right_answer before asking after question (Unserved query cause) asked stays was right =
+    (right.0 ∙ ap (λ (a : Asked). a.query) was, cause_may cause right.1)
+
+-- the answer to a question
+pub answered_reply : (before asking after : TokenRecord) (question : Named × List Value) (answer : Answer)
+    → client.Asks before question asking → client.Polls asking answer after
+    → IsAlone before → IsSound asking → IsSound after → IsAnswer may_be_told (own before) question answer
+answered_reply before asking after question answer asked polled alone sound ended =
+    let was : polled.asked ≡ request question (length asking.seen) =
+    some_injective polled.asked (request question (length asking.seen))
+    (sym polled.was ∙ ap (λ (t : TokenRecord). t.asked) asked.now) in
+    right_answer before asking after question answer polled.asked
+    (stays before asking after question answer asked polled alone sound ended) was polled.right
+
+pub answered_own : (before asking after : TokenRecord) (question : Named × List Value) (answer : Answer)
+    → client.Asks before question asking → client.Polls asking answer after
+    → own after ≡ with_commits (own before) (committed_by 1 (Ask question) (Answered answer))
+answered_own before asking after question answer asked polled =
+    ap own polled.now ∙ ap own asked.now ∙ sym (with_none (own before))
+
+-- the replies of the one-thread warehouse, and its commits
+record AreOneThreads (old new : TokenRecord) (requests : List RequestRecord) (replies : List Reply) : Type 0 where
+  answered : AreReplies may_be_told 1 (own old) requests replies
+  grown : own new ≡ with_commits (own old) (committed 1 requests replies)
+
+-- one reply, and those after it
+one_more : (old mid new : TokenRecord) (request : RequestRecord) (reply : Reply) (requests : List RequestRecord)
+    (replies : List Reply)
+    → IsReply may_be_told (own old) request reply → own mid ≡ with_commits (own old) (committed_by 1 request reply)
+    → AreOneThreads mid new requests replies → AreOneThreads old new (request ∷ requests) (reply ∷ replies)
+one_more old mid new request reply requests replies is grown rest = record {
+  answered = (is, subst (λ w. AreReplies may_be_told 1 w requests replies) grown rest.answered);
+  grown = rest.grown ∙ ap (λ w. with_commits w (committed 1 requests replies)) grown
+      ∙ with_both (own old) (committed_by 1 request reply) (committed 1 requests replies);
+}
+
+are_one_threads : (old new : TokenRecord) (requests : List RequestRecord) (replies : List Reply)
+    → AreServed 1 old requests replies new → IsAlone old → is_some old.asked ≡ false
+    → AreOneThreads old new requests replies
+are_one_threads old new [] [] served alone quiet =
+    record { answered = tt; grown = ap own served ∙ sym (with_none (own old)) }
+are_one_threads old new [] (reply ∷ replies) served alone quiet = absurd served
+are_one_threads old new (request ∷ requests) [] served alone quiet = absurd served
+are_one_threads old new (Refresh actions ∷ requests) (Refreshed reply ∷ replies) served alone quiet =
+    let mid = served.0 in
+    let refreshed = served.1.0 in
+    let alike = refreshed_alike old 1 actions reply mid refreshed quiet in
+    let still = alone_still old mid alike alone in
+    one_more old mid new (Refresh actions) (Refreshed reply) requests replies
+    (refreshed_reply old mid actions reply refreshed still served.1.1) (refreshed_own old mid actions reply refreshed)
+    (are_one_threads mid new requests replies served.2 still (asked_nothing mid.asked alike.quiet))
+are_one_threads old new (Ask question ∷ requests) (Answered answer ∷ replies) served alone quiet =
+    let mid = served.0 in
+    let is = served.1 in
+    let alike = answered_alike old is.asking mid question answer is.asked is.polled in
+    let still = alone_still old mid alike alone in
+    one_more old mid new (Ask question) (Answered answer) requests replies
+    (answered_reply old is.asking mid question answer is.asked is.polled alone is.asking_sound is.sound)
+    (answered_own old is.asking mid question answer is.asked is.polled)
+    (are_one_threads mid new requests replies served.2 still (asked_nothing mid.asked alike.quiet))
+are_one_threads old new (Refresh actions ∷ requests) (Answered answer ∷ replies) served alone quiet = absurd served.1
+are_one_threads old new (Ask question ∷ requests) (Refreshed reply ∷ replies) served alone quiet = absurd served.1
+
+pub one_client_is_one_thread : OneClientIsOneThread
+one_client_is_one_thread table after requests told was is one served =
+    let all = are_one_threads (new_token table (Client 1)) after requests served.replies served.served
+    (record { who = refl; clients = one }) refl in
+    record {
+      replies = served.replies;
+      answered = all.answered;
+      grown = all.grown;
+      written = served.written;
+    }

@@ -1,0 +1,6 @@
+pub mod Served
+pub mod Steps
+pub mod Traces
+pub mod Alone
+pub mod Sessions
+pub mod Run

@@ -1,0 +1,14 @@
+//! What follows of what clients are served: each law is the contract of a function that does nothing.
+ghost use Rattle.ssb_sessions.specs.Alone.{OneClientIsOneThread};
+ghost use Rattle.ssb_sessions.specs.Traces.{RunsAreLegal};
+
+/// The log of a closed server and what each of its clients was told, in any order of the clients, are a legal trace:
+/// nothing speaks against it in an audit.
+pub fn runs_are_legal()
+    ensures { RunsAreLegal }
+{}
+
+/// What the only client of a server is served from the beginning on is what the one-thread warehouse serves.
+pub fn one_client_is_one_thread()
+    ensures { OneClientIsOneThread }
+{}
