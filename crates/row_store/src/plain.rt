@@ -1,4 +1,4 @@
-//! A replica that keeps the live lines as a list.
+//! Reference, which no program runs: a replica that keeps the live lines as a list.
 ghost use Rattle.std.specs.Prelude.{◌≡◌, ◌++◌, ◌≤◌, [], flat_map, vec_len, vec_capacity, IfOk, OnOk, OnErr};
 ghost use Rattle.std.specs.Prelude.{MatchResult};
 ghost use Rattle.row_store.specs.Absorbing.{gone_by, lines_without_all};

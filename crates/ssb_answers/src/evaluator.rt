@@ -1,4 +1,4 @@
-//! The plain evaluator: the rows of a question, line by line.
+//! Reference, which no program runs: the evaluator, which gives the rows of a question line by line.
 ghost use Rattle.std.specs.Prelude.{◌≡◌, ◌≤◌, ◌∷◌, [], ◌*◌, pos, filter, length, IfOk, OnOk};
 ghost use Rattle.std.specs.BTreeMap.{get};
 ghost use Rattle.ssb_base.specs.Base.{IsSound};

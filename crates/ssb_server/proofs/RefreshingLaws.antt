@@ -9,6 +9,7 @@ use Rattle.std.proofs.Common.{
   ◌∷◌,
   ◌++◌,
   length,
+  length-append,
   Some,
   None,
   true,
@@ -22,42 +23,50 @@ use Rattle.std.proofs.Common.{
   subst,
   ◌∙◌,
 }
-use Rattle.std.specs.Prelude.{OnOk, OnErr, IfOk, IfErr}
+use Rattle.std.specs.Prelude.{◌+◌, OnOk, OnErr}
 use Rattle.ssb_schema.specs.declared.refresh.Action.{Action}
 use Rattle.row_store.specs.History.{CommitRecord, Warehouse, IsPrefix, with_commit}
 use Rattle.row_store.specs.Refusals.{refusal_of}
-use Rattle.row_store.specs.Legal.{Fails}
+use Rattle.row_store.specs.Legal.{IsRefreshReply, Tells}
+use Rattle.row_store.proofs.ReplyLaws.{replies_tell}
 use Rattle.row_store.specs.declared.commit.Receipt.{Receipt}
-use Rattle.row_store.specs.declared.refusal.ApplyError.{ApplyError}
-use Rattle.row_store.specs.declared.refusal.ApplyError.TheVariants as apply
+use Rattle.row_store.specs.declared.refusal.RefreshError.{RefreshError}
+use Rattle.row_store.specs.declared.refusal.RefreshError.TheVariants as refresh
 use Rattle.history_core.specs.declared.event.Who.TheVariants.{Client}
 use Rattle.history.specs.Tokens.{TokenRecord, Took, MayPut, Put, gave_back, committed}
 use Rattle.history.specs.World.{mark_after}
 use Rattle.ssb_server.proofs.DeedLaws.{done}
-use Rattle.ssb_server.specs.Clients.{reply_of, Refreshed, Looks}
+use Rattle.ssb_server.specs.Clients.{Refreshed, Looks}
 
 abbrev pub commit_by : ℕ → List Action → CommitRecord
 commit_by client actions = record { client = client; actions = actions }
 
 -- what was applied may be given back
-pub may_put : (t : TokenRecord) (old new : Warehouse) (client : ℕ) (actions : List Action)
-    (result : Result Receipt ApplyError) → t.who ≡ Client client → old ≡ record { base = t.table.base; log = t.seen }
-    → OnOk result (refusal_of old.base old.log actions ≡ None)
-    → OnOk result (new ≡ with_commit old (commit_by client actions)) → OnErr result (new ≡ old) → MayPut t new
-may_put t old new client actions (Ok receipt) who was accepted grown same =
+told_may_put : (t : TokenRecord) (old new : Warehouse) (client : ℕ) (actions : List Action)
+    (reply : Result Receipt RefreshError) → t.who ≡ Client client → old ≡ record { base = t.table.base; log = t.seen }
+    → Tells reply old.base old.log actions
+    → OnOk reply (new ≡ with_commit old (commit_by client actions)) → OnErr reply (new ≡ old) → MayPut t new
+told_may_put t old new client actions (Ok receipt) who was tells grown same =
     let e : new ≡ record { base = t.table.base; log = t.seen ++ commit_by client actions ∷ [] } =
     grown ∙ ap (λ w. with_commit w (commit_by client actions)) was in (
       ap (λ (w : Warehouse). w.base) e,
       inr (
         commit_by client actions,
         who,
-        subst (λ (w : Warehouse). refusal_of w.base w.log actions ≡ None) was accepted,
+        subst (λ (w : Warehouse). refusal_of w.base w.log actions ≡ None) was tells.0,
         ap (λ (w : Warehouse). w.log) e,
       ),
     )
-may_put t old new client actions (Err error) who was accepted grown same =
+told_may_put t old new client actions (Err error) who was tells grown same =
     let e : new ≡ record { base = t.table.base; log = t.seen } = same ∙ was in
     (ap (λ (w : Warehouse). w.base) e, inl (ap (λ (w : Warehouse). w.log) e))
+
+pub may_put : (t : TokenRecord) (old new : Warehouse) (client : ℕ) (actions : List Action)
+    (reply : Result Receipt RefreshError) → t.who ≡ Client client → old ≡ record { base = t.table.base; log = t.seen }
+    → IsRefreshReply old.base old.log actions reply
+    → OnOk reply (new ≡ with_commit old (commit_by client actions)) → OnErr reply (new ≡ old) → MayPut t new
+may_put t old new client actions reply who was is grown same =
+    told_may_put t old new client actions reply who was (replies_tell old.base old.log actions reply is) grown same
 
 looked : (before t after : TokenRecord) → before.who ≡ t.who → Took before t → before.has_rows ≡ false → (c : ℕ)
     → t.who ≡ Client c → after ≡ gave_back t → Looks before after
@@ -80,16 +89,12 @@ looked before t after same took free c who put =
       now = subst (λ xs. after ≡ record before { seen = xs; beside = []; did = after.did }) (sym s) e4;
     }
 
-pub refreshed : (before t after : TokenRecord) (old new : Warehouse) (client at : ℕ) (actions : List Action)
-    (result : Result Receipt ApplyError) → before.who ≡ Client client → before.has_rows ≡ false → Took before t
-    → old ≡ record { base = t.table.base; log = t.seen } → at ≡ length old.log
-    → OnOk result (refusal_of old.base old.log actions ≡ None)
-    → OnOk result (new ≡ with_commit old (commit_by client actions))
-    → IfOk result (λ receipt. receipt.number ≡ length new.log)
-    → IfErr result (λ error. Fails error (refusal_of old.base old.log actions)) → OnErr result (new ≡ old)
-    → Put t new after → Refreshed before client actions (reply_of at result) after
-refreshed before t after old new client at actions (Ok receipt) who free took was count accepted grown number failed
-    same put =
+told_refreshed : (before t after : TokenRecord) (old new : Warehouse) (client : ℕ) (actions : List Action)
+    (reply : Result Receipt RefreshError) → before.who ≡ Client client → before.has_rows ≡ false → Took before t
+    → old ≡ record { base = t.table.base; log = t.seen } → Tells reply old.base old.log actions
+    → OnOk reply (new ≡ with_commit old (commit_by client actions)) → OnErr reply (new ≡ old)
+    → Put t new after → Refreshed before client actions reply after
+told_refreshed before t after old new client actions (Ok receipt) who free took was tells grown same put =
     let c = commit_by client actions in
     let e : new ≡ record { base = t.table.base; log = t.seen ++ c ∷ [] } = grown ∙ ap (λ w. with_commit w c) was in
     let now : after ≡ committed t c = put.1 c (ap (λ (w : Warehouse). w.log) e) in
@@ -113,8 +118,9 @@ refreshed before t after old new client at actions (Ok receipt) who free took wa
       history = t.seen;
       begins = took.begins;
       accepted = subst (λ (u : TokenRecord). refusal_of u.table.base t.seen actions ≡ None) took.now
-          (subst (λ (w : Warehouse). refusal_of w.base w.log actions ≡ None) was accepted);
-      number_is = number ∙ (ap (λ (w : Warehouse). length w.log) e ∙ sym (ap (λ (u : TokenRecord). length u.seen) e1));
+          (subst (λ (w : Warehouse). refusal_of w.base w.log actions ≡ None) was tells.0);
+      number_is = tells.1 ∙ (ap (λ (w : Warehouse). length w.log + 1) was
+          ∙ (sym (length-append t.seen (c ∷ [])) ∙ sym (ap (λ (u : TokenRecord). length u.seen) e1)));
       now = e1 ∙ ap (λ b. record before {
         seen = t.seen ++ c ∷ [];
         mine = before.mine ++ c ∷ [];
@@ -123,22 +129,32 @@ refreshed before t after old new client at actions (Ok receipt) who free took wa
         did = after.did;
       }) (sym free);
     }
-refreshed before t after old new client at actions (Err (apply.Refused refusal)) who free took was count accepted grown
-    number failed same put =
+told_refreshed before t after old new client actions (Err (refresh.Refused at action cause)) who free took was tells
+    grown same put =
     let e : new ≡ record { base = t.table.base; log = t.seen } = same ∙ was in
     let w : t.who ≡ before.who = ap (λ (u : TokenRecord). u.who) took.now in
     let now : after ≡ gave_back t = put.0 (ap (λ (x : Warehouse). x.log) e) in (
-      count ∙ (ap (λ (x : Warehouse). length x.log) was ∙ sym (ap (λ (u : TokenRecord). length u.seen) now)),
-      subst (λ (u : TokenRecord). refusal_of u.table.base u.seen actions ≡ Some refusal) (sym now)
-          (subst (λ (x : Warehouse). refusal_of x.base x.log actions ≡ Some refusal) was failed),
+      tells.1 ∙ (ap (λ (x : Warehouse). length x.log) was ∙ sym (ap (λ (u : TokenRecord). length u.seen) now)),
+      subst (λ (u : TokenRecord). refusal_of u.table.base u.seen actions ≡ Some
+          (record { action = action; cause = cause })) (sym now)
+          (subst (λ (x : Warehouse). refusal_of x.base x.log actions ≡ Some
+          (record { action = action; cause = cause })) was tells.0),
       looked before t after (sym w) took free client (w ∙ who) now,
     )
-refreshed before t after old new client at actions (Err apply.OutOfMemory) who free took was count accepted grown number
-    failed same put =
+told_refreshed before t after old new client actions (Err refresh.OutOfMemory) who free took was tells grown same put =
     let e : new ≡ record { base = t.table.base; log = t.seen } = same ∙ was in
     let w : t.who ≡ before.who = ap (λ (u : TokenRecord). u.who) took.now in
     let now : after ≡ gave_back t = put.0 (ap (λ (x : Warehouse). x.log) e) in (
       subst (λ (u : TokenRecord). refusal_of u.table.base u.seen actions ≡ None) (sym now)
-          (subst (λ (x : Warehouse). refusal_of x.base x.log actions ≡ None) was failed),
+          (subst (λ (x : Warehouse). refusal_of x.base x.log actions ≡ None) was tells),
       looked before t after (sym w) took free client (w ∙ who) now,
     )
+
+pub refreshed : (before t after : TokenRecord) (old new : Warehouse) (client : ℕ) (actions : List Action)
+    (reply : Result Receipt RefreshError) → before.who ≡ Client client → before.has_rows ≡ false → Took before t
+    → old ≡ record { base = t.table.base; log = t.seen } → IsRefreshReply old.base old.log actions reply
+    → OnOk reply (new ≡ with_commit old (commit_by client actions)) → OnErr reply (new ≡ old)
+    → Put t new after → Refreshed before client actions reply after
+refreshed before t after old new client actions reply who free took was is grown same put =
+    told_refreshed before t after old new client actions reply who free took was
+    (replies_tell old.base old.log actions reply is) grown same put

@@ -5,8 +5,6 @@ use Rattle.ssb_schema.specs.declared.refresh.Action.{Action}
 use Rattle.row_store.specs.History.{CommitRecord, IsPrefix}
 use Rattle.row_store.specs.Refusals.{refusal_of}
 use Rattle.row_store.specs.declared.commit.Receipt.{Receipt}
-use Rattle.row_store.specs.declared.refusal.ApplyError.{ApplyError}
-use Rattle.row_store.specs.declared.refusal.ApplyError.TheVariants as apply
 use Rattle.row_store.specs.declared.refusal.RefreshError.{RefreshError}
 use Rattle.row_store.specs.declared.refusal.RefreshError.TheVariants as refresh
 use Rattle.ssb_questions.specs.declared.query.Query.{Query}
@@ -29,12 +27,6 @@ pub record IsAtRest (number : ℕ) (asking : Bool) (t : TokenRecord) : Type 0 wh
   pub rows : t.has_rows ≡ false
   pub asking_is : asking ≡ is_some t.asked
   pub sound : IsSound t
-
--- what the client is told of what the row store answered where so many commits were made
-abbrev pub reply_of : ℕ → Result Receipt ApplyError → Result Receipt RefreshError
-reply_of at (Ok receipt) = Ok receipt
-reply_of at (Err (apply.Refused refusal)) = Err (refresh.Refused at refusal.action refusal.cause)
-reply_of at (Err apply.OutOfMemory) = Err refresh.OutOfMemory
 
 -- the client sees a history that begins with what it had seen, and one commit of its own after that
 pub record Commits (before : TokenRecord) (commit : CommitRecord) (number : ℕ) (after : TokenRecord) : Type 0 where

@@ -6,11 +6,11 @@ ghost use Rattle.history_core.specs.declared.event.Who.TheVariants.{Client as Is
 ghost use Rattle.history.specs.Tokens.{IsSound};
 ghost use Rattle.ssb_server.specs.Tickets.{IsNewClient, IsResting};
 ghost use Rattle.history.specs.World.{number_of};
-ghost use Rattle.ssb_server.specs.Clients.{IsClient, reply_of, Refreshed, Looks, Asks, Polls};
+ghost use Rattle.ssb_server.specs.Clients.{IsClient, Refreshed, Looks, Asks, Polls};
 
 use crate::server::{Server, SharedTable, Token};
 use history_core::Who;
-use row_store::{ApplyError, Receipt, RefreshError};
+use row_store::{Receipt, RefreshError};
 use ssb_answers::Answer;
 use ssb_questions::Question;
 use ssb_schema::Refresh;
@@ -37,21 +37,6 @@ impl<W: Wait + Drop> Model for Client<W> {
     ghost invariant = { λ c. IsAtRest c.number c.asking c.token };
 }
 
-// What the row store answered, as the client is told.
-fn reply(at: u64, applied: Result<Receipt, ApplyError>) -> Result<Receipt, RefreshError>
-    ensures { result ≡ reply_of at applied }
-{
-    match applied {
-        Ok(receipt) => Ok(receipt),
-        Err(ApplyError::Refused(refusal)) => Err(RefreshError::Refused {
-            at,
-            action: refusal.action,
-            cause: refusal.cause,
-        }),
-        Err(ApplyError::OutOfMemory) => Err(RefreshError::OutOfMemory),
-    }
-}
-
 // Takes the rows, applies the refresh, and gives the rows back.
 fn apply<W: Wait + Drop, R: Wait>(
     rt: &R,
@@ -65,10 +50,9 @@ fn apply<W: Wait + Drop, R: Wait>(
     ensures sound { IsSound token.new }
 {
     let mut rows = table.take_rows(rt, token);
-    let at = rows.len() as u64;
-    let applied = rows.apply(number, refresh);
+    let reply = rows.refresh(number, refresh);
     table.put_rows(token, rows);
-    reply(at, applied)
+    reply
 }
 
 // Looks, and asks.
