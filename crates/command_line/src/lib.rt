@@ -1,20 +1,24 @@
-//! The words of the program's command line: what they ask for, the help, and what is told where they ask for nothing.
+//! The words of the program's command line, and which of the four jobs they ask for.
 //!
 //! ```text
-//! system ── words ─▶ words ── matches ─▶ query .. | run .. | audit .. | nothing
-//!                                └─ help, version, wrong words ── tell ─▶ standard output or error, and a status
+//! system ── words ─▶ words ── run_command_line ─┬─ query, run or none, audit ─▶ query_command, run_command,
+//!                                               │                               audit_command
+//!                                               └─ help, version, wrong words ─▶ a text and a status
 //! ```
 //!
-//! It stands on `clap` and promises no more than safety: its help and its statuses are tested.
+//! It stands on `clap` and promises no more than safety: what the jobs write is in the contracts of those three
+//! libraries, and what is written for which words is shown by the cases of the program `cases`.
 //!
 //! ```text
-//! let matches = matches(alloc, words.as_slice())?;
-//! matches.get_str("data")                 // Some("tables") of: ssb_live query --data tables Q4.1
+//! let words = words(&rt)?;                // ssb_live query --data tables Q4.1
+//! run_command_line(&rt, &rt, words.as_slice(), rt.stdin(), terminal, &mut out, &mut err)
 //! ```
 #![tactic(auto)]
 
 mod arguments;
+mod command;
 #[cfg(test)]
 mod tests;
 
-pub use arguments::{matches, tell, words};
+pub use arguments::words;
+pub use command::run_command_line;

@@ -1,6 +1,6 @@
 //! The places of the words of `query`, and words that are no text.
 
-use crate::{matches, words};
+use crate::arguments::{matches, words};
 use std::alloc::Global;
 use std::env::{Env, FillError};
 use std::io;

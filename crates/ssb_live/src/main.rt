@@ -4,17 +4,12 @@
 //! server, and prints the report. `ssb_live query --data DIR NAME [CONSTANT..]` loads five table files and prints the
 //! report of one question, `ssb_live query --data DIR --all` those of the thirteen queries, answered in one pass.
 //! `ssb_live run --data DIR SCRIPT..` serves scripts at once, a client of the live server each, and `ssb_live audit
-//! --data DIR TRACE` checks the trace that such a run left. The work is done by the libraries `demo_command`,
-//! `query_command`, `run_command` and `audit_command`, whose contracts name the bytes that they write; `command::run`
-//! finds what the words ask, and this file ends with a status.
+//! --data DIR TRACE` checks the trace that such a run left. The work is done by the libraries `run_command`,
+//! `query_command` and `audit_command`, whose contracts name the bytes that they write; the library `command_line` finds
+//! what the words ask, and this file ends with a status.
 #![tactic(auto)]
 
-mod command;
-#[cfg(test)]
-mod tests;
-
-use command::run;
-use command_line::words;
+use command_line::{run_command_line, words};
 use ssb_files::Fault;
 use std::io::{BufWriter, IsTerminal};
 use std::process::ExitCode;
@@ -31,7 +26,8 @@ fn main(rt: HostRuntime) -> ExitCode {
         None
     };
     ExitCode::from(match words(&rt) {
-        Ok(words) => run(
+        Ok(words) => run_command_line(
+            &rt,
             &rt,
             words.as_slice(),
             rt.stdin(),

@@ -1,8 +1,8 @@
 //! What the words of a command line do.
 
+use crate::arguments::{matches, tell};
 use audit_command::run_audit;
 use clap::ArgMatches;
-use command_line::{matches, tell};
 use query_command::{Settings, run_all, run_query};
 use run_command::{RunSettings, demo, run_scripts};
 use ssb_files::{
@@ -18,8 +18,8 @@ use std::sync::Wait;
 use std::thread::Threads;
 use std::time::Clock;
 
-/// The terminal, where there is one and the words let it show the progress of a load, which begins now.
-pub fn screen_of<'a, C: Clock, P: Print>(
+// The terminal, where there is one and the words let it show the progress of a load, which begins now.
+fn screen_of<'a, C: Clock, P: Print>(
     clock: &'a C,
     matches: &ArgMatches<'_>,
     terminal: Option<&'a P>,
@@ -31,17 +31,18 @@ pub fn screen_of<'a, C: Clock, P: Print>(
 }
 
 // Answers one question, or all, over the files of a folder.
-fn answer_query<R, P: Print, W: Write, E: Write>(
+fn answer_query<R, F: Files + AllocGlobal, P: Print, W: Write, E: Write>(
     rt: &R,
+    files: &F,
     matches: &ArgMatches<'_>,
     terminal: Option<&P>,
     out: &mut W,
     err: &mut E,
 ) -> u8
 where
-    R: Files + Clock + RandomSource + Threads + Sync + AllocGlobal,
+    R: Clock + RandomSource + Threads + Sync + AllocGlobal,
 {
-    let tables = match open_tables(rt, matches.get_str("data").unwrap_or("")) {
+    let tables = match open_tables(files, matches.get_str("data").unwrap_or("")) {
         Ok(tables) => tables,
         Err(fault) => return fault.tell(err),
     };
@@ -62,22 +63,23 @@ where
 
 // The files of a run, opened, and how its scripts are served.
 #[derive(Drop)]
-struct OpenedRun<F: Write + Drop> {
+struct OpenedRun<O: Write + Drop> {
     settings: RunSettings,
-    tables: Tables<F>,
-    scripts: Vec<F>,
-    trace: Option<BufWriter<F>>,
+    tables: Tables<O>,
+    scripts: Vec<O>,
+    trace: Option<BufWriter<O>>,
 }
 
 // Opens the files of a run. The trace is made once the others could be opened.
-fn open_run<R>(rt: &R, matches: &ArgMatches<'_>) -> Result<OpenedRun<R::File>, Fault>
-where
-    R: Files + RandomSource + AllocGlobal,
-{
-    let tables = open_tables(rt, matches.get_str("data").unwrap_or(""))?;
-    let scripts = open_files(rt, matches.get_strs("scripts").unwrap_or(&[]))?;
+fn open_run<R: RandomSource, F: Files + AllocGlobal>(
+    rt: &R,
+    files: &F,
+    matches: &ArgMatches<'_>,
+) -> Result<OpenedRun<F::File>, Fault> {
+    let tables = open_tables(files, matches.get_str("data").unwrap_or(""))?;
+    let scripts = open_files(files, matches.get_strs("scripts").unwrap_or(&[]))?;
     let trace = match matches.get_str("trace") {
-        Some(path) => Some(make_file(rt, path)?),
+        Some(path) => Some(make_file(files, path)?),
         None => None,
     };
     let Ok(hashing) = RandomState::new(rt) else {
@@ -97,22 +99,23 @@ where
 }
 
 // Serves scripts at once over the files of a folder.
-fn serve_scripts<R, P: Print, W: Write, E: Write>(
+fn serve_scripts<R, F: Files + AllocGlobal, P: Print, W: Write, E: Write>(
     rt: &R,
+    files: &F,
     matches: &ArgMatches<'_>,
     terminal: Option<&P>,
     out: &mut W,
     err: &mut E,
 ) -> u8
 where
-    R: Files + Clock + RandomSource + Threads + Sync + Wait + AllocGlobal,
+    R: Clock + RandomSource + Threads + Sync + Wait + AllocGlobal,
 {
     let OpenedRun {
         settings,
         tables,
         scripts,
         mut trace,
-    } = match open_run(rt, matches) {
+    } = match open_run(rt, files, matches) {
         Ok(opened) => opened,
         Err(fault) => return fault.tell(err),
     };
@@ -125,21 +128,22 @@ where
 }
 
 // Checks a trace over the files of a folder.
-fn check_trace<R, P: Print, W: Write, E: Write>(
+fn check_trace<R, F: Files + AllocGlobal, P: Print, W: Write, E: Write>(
     rt: &R,
+    files: &F,
     matches: &ArgMatches<'_>,
     terminal: Option<&P>,
     out: &mut W,
     err: &mut E,
 ) -> u8
 where
-    R: Files + Clock + RandomSource + Threads + Sync + AllocGlobal,
+    R: Clock + RandomSource + Threads + Sync + AllocGlobal,
 {
-    let tables = match open_tables(rt, matches.get_str("data").unwrap_or("")) {
+    let tables = match open_tables(files, matches.get_str("data").unwrap_or("")) {
         Ok(tables) => tables,
         Err(fault) => return fault.tell(err),
     };
-    let trace = match open_file(rt, matches.get_str("trace").unwrap_or("")) {
+    let trace = match open_file(files, matches.get_str("trace").unwrap_or("")) {
         Ok(trace) => trace,
         Err(fault) => return fault.tell(err),
     };
@@ -168,10 +172,12 @@ where
     }
 }
 
-/// Does what the words say, and gives the exit status. Without words the script `input` is served. A terminal shows the
-/// progress of a long load, and nothing of it goes to `err`.
-pub fn run<R, I: Read + Drop, P: Print, W: Write, E: Write>(
+/// Does what the words say, and gives the exit status. Without words the script `input` is served. The words name files
+/// of `files`; threads, waiting, random bytes and the time come from `rt`. A terminal shows the progress of a long load,
+/// and nothing of it goes to `err`.
+pub fn run_command_line<R, F, I: Read + Drop, P: Print, W: Write, E: Write>(
     rt: &R,
+    files: &F,
     words: &[String],
     input: I,
     terminal: Option<&P>,
@@ -179,16 +185,17 @@ pub fn run<R, I: Read + Drop, P: Print, W: Write, E: Write>(
     err: &mut E,
 ) -> u8
 where
-    R: Files + Clock + RandomSource + Threads + Sync + Wait + AllocGlobal,
+    R: Clock + RandomSource + Threads + Sync + Wait + AllocGlobal,
+    F: Files + AllocGlobal,
 {
     let matched = match matches(rt.alloc(), words) {
         Ok(matched) => matched,
         Err(answer) => return tell(&answer, out, err),
     };
     match matched.subcommand() {
-        Some(("run", words)) => serve_scripts(rt, words, terminal, out, err),
-        Some(("audit", words)) => check_trace(rt, words, terminal, out, err),
-        Some((_, words)) => answer_query(rt, words, terminal, out, err),
+        Some(("run", words)) => serve_scripts(rt, files, words, terminal, out, err),
+        Some(("audit", words)) => check_trace(rt, files, words, terminal, out, err),
+        Some((_, words)) => answer_query(rt, files, words, terminal, out, err),
         None => serve_script(rt, input, out, err),
     }
 }

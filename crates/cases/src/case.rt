@@ -1,0 +1,197 @@
+//! Reads a case: lines of prose, files that are there before, and commands with what they must write and leave.
+//!
+//! ```text
+//! # An order that is not there refuses the whole refresh: nothing of it is kept.
+//! == command
+//! ssb_live
+//! == input
+//! begin
+//! withdraw|77
+//! commit
+//! == output
+//! refused at 0 action 1: 47 Absent 77
+//! ```
+//!
+//! The sections, in the order in which they may stand; the last six may come again for another command:
+//!
+//! | section | says |
+//! |---|---|
+//! | `== file PATH` | a file that is there before the commands; the folder `small` always has the small data set |
+//! | `== command` | one line: words parted by spaces; one with a space stands in single quotes |
+//! | `== input` | what the command reads from standard input; without it nothing |
+//! | `== output`, `== errors` | what it must write to standard output and error; without them nothing |
+//! | `== status N` | the status that it must end with; without it 0 |
+//! | `== leaves PATH` | a file that must be there afterwards |
+//!
+//! A section's text is its lines, each with its LF. Behind a heading that ends with the word `escaped`, `\n`, `\r`, `\t`,
+//! `\\` and `\xHH` in the lines stand for bytes, and a lone `\` at a line's end drops its LF.
+
+use crate::section::{Part, Section};
+use anyhow::{Context, Result, bail, ensure};
+use std::alloc::{AllocError, Global};
+
+/// A file by its path.
+#[derive(Drop)]
+pub struct NamedFile {
+    pub path: String,
+    pub bytes: Vec<u8>,
+}
+
+/// A command line, what it reads, and what it must write and leave.
+#[derive(Drop)]
+pub struct Command {
+    pub words: Vec<String>,
+    pub input: Vec<u8>,
+    pub output: Vec<u8>,
+    pub errors: Vec<u8>,
+    pub status: u8,
+    pub leaves: Vec<NamedFile>,
+}
+
+/// What a case says.
+#[derive(Drop)]
+pub struct Case {
+    pub files: Vec<NamedFile>,
+    pub commands: Vec<Command>,
+}
+
+/// The case that a text spells, or what is wrong with it in which line.
+pub fn parse_case(alloc: Global, text: &str) -> Result<Case> {
+    let mut reader = Reader::new(alloc);
+    let mut number = 0u64;
+    for line in text.split_terminator('\n') {
+        number = number.saturating_add(1);
+        reader.read(line).context(format_args!("line {number}"))?;
+    }
+    let Reader { case, .. } = reader;
+    ensure!(!case.commands.is_empty(), "no command");
+    for command in &case.commands {
+        ensure!(!command.words.is_empty(), "a command without words");
+    }
+    Ok(case)
+}
+
+// A case as far as it is read, and its last section.
+#[derive(Drop)]
+struct Reader<'a> {
+    alloc: Global,
+    case: Case,
+    has_prose: bool,
+    section: Option<Section<'a>>,
+}
+
+impl<'a> Reader<'a> {
+    fn new(alloc: Global) -> Reader<'a> {
+        let case = Case {
+            files: Vec::new(alloc),
+            commands: Vec::new(alloc),
+        };
+        Reader {
+            alloc,
+            case,
+            has_prose: false,
+            section: None,
+        }
+    }
+
+    // Reads the next line.
+    fn read(&mut self, line: &'a str) -> Result<()> {
+        if let Some(heading) = line.strip_prefix("== ") {
+            ensure!(self.has_prose, "prose stands before the first section");
+            let section = Section::parse(heading).context("no heading of a section")?;
+            return self.begin(section);
+        }
+        match self.section {
+            Some(section) => self.read_text(section, line),
+            None => {
+                ensure!(line.starts_with("# "), "a line of prose begins with '# '");
+                self.has_prose = true;
+                Ok(())
+            }
+        }
+    }
+
+    // Begins the section that follows the last one.
+    fn begin(&mut self, section: Section<'a>) -> Result<()> {
+        let stands = section
+            .part
+            .may_follow(self.section.map(|section| section.part));
+        ensure!(stands, "this section does not stand here");
+        self.section = Some(section);
+        match (section.part, self.case.commands.last_mut()) {
+            (Part::File(path), _) => self.case.files.push(empty_file(self.alloc, path)?)?,
+            (Part::Command, _) => self.case.commands.push(Command::new(self.alloc))?,
+            (Part::Status(status), Some(command)) => command.status = status,
+            (Part::Leaves(path), Some(command)) => {
+                command.leaves.push(empty_file(self.alloc, path)?)?;
+            }
+            _ => {}
+        }
+        Ok(())
+    }
+
+    // Reads a line of a section's text.
+    fn read_text(&mut self, section: Section<'a>, line: &str) -> Result<()> {
+        match (section.part, self.case.commands.last_mut()) {
+            (Part::File(_), _) => append_to_last(&mut self.case.files, section, line)?,
+            (Part::Command, Some(command)) => command.take_words(self.alloc, line)?,
+            (Part::Input, Some(command)) => section.append(&mut command.input, line)?,
+            (Part::Output, Some(command)) => section.append(&mut command.output, line)?,
+            (Part::Errors, Some(command)) => section.append(&mut command.errors, line)?,
+            (Part::Leaves(_), Some(command)) => append_to_last(&mut command.leaves, section, line)?,
+            (Part::Status(_), _) | (_, None) => bail!("no text stands here"),
+        }
+        Ok(())
+    }
+}
+
+// A file without bytes.
+fn empty_file(alloc: Global, path: &str) -> Result<NamedFile, AllocError> {
+    Ok(NamedFile {
+        path: String::from_str(alloc, path)?,
+        bytes: Vec::new(alloc),
+    })
+}
+
+// Appends a line of its section's text to the last file.
+fn append_to_last(files: &mut Vec<NamedFile>, section: Section<'_>, line: &str) -> Result<()> {
+    if let Some(file) = files.last_mut() {
+        section.append(&mut file.bytes, line)?;
+    }
+    Ok(())
+}
+
+impl Command {
+    // A command without words, of which nothing is wanted but that it writes nothing.
+    fn new(alloc: Global) -> Command {
+        Command {
+            words: Vec::new(alloc),
+            input: Vec::new(alloc),
+            output: Vec::new(alloc),
+            errors: Vec::new(alloc),
+            status: 0,
+            leaves: Vec::new(alloc),
+        }
+    }
+
+    // Takes the words of its one line: those in single quotes whole, the others parted by spaces.
+    fn take_words(&mut self, alloc: Global, line: &str) -> Result<()> {
+        ensure!(self.words.is_empty(), "a command has one line");
+        let mut is_quoted = true;
+        for piece in line.split('\'') {
+            is_quoted = !is_quoted;
+            if is_quoted {
+                self.words.push(String::from_str(alloc, piece)?)?;
+                continue;
+            }
+            for word in piece.split(' ') {
+                if !word.is_empty() {
+                    self.words.push(String::from_str(alloc, word)?)?;
+                }
+            }
+        }
+        ensure!(!is_quoted, "a quote is left open");
+        ensure!(!self.words.is_empty(), "a command has words");
+        Ok(())
+    }
+}

@@ -1,0 +1,218 @@
+//! Files in memory, in place of the system's.
+
+use small_data::{CUSTOMER, DATE, LINEORDER, PART, SUPPLIER};
+use std::alloc::{Allocator, Global};
+use std::cell::RefCell;
+use std::collections::BTreeMap;
+use std::fs::{Metadata, OpenFile, OpenOptions};
+use std::io;
+use std::io::{Error, ErrorKind, Read, Seek, SeekFrom, Write};
+use std::rc::Rc;
+use std::rt::Files;
+
+// The bytes of a file, as all who opened it see them.
+type Contents = Rc<RefCell<Vec<u8>>>;
+
+/// Files by their paths. A path that has none is a folder where it stands before a slash of one that has.
+#[derive(Drop)]
+pub struct MemoryFiles {
+    alloc: Global,
+    files: RefCell<BTreeMap<String, Contents>>,
+}
+
+/// An opened file of [`MemoryFiles`], or an opened folder, which cannot be read.
+#[derive(Drop)]
+pub enum MemoryFile {
+    /// A file, and how many bytes of it were read.
+    Opened(Contents, usize),
+    /// A folder.
+    Folder,
+}
+
+impl MemoryFiles {
+    /// The small data set in the folder `small`.
+    pub fn with_small_data(alloc: Global) -> io::Result<MemoryFiles> {
+        let files = MemoryFiles {
+            alloc,
+            files: RefCell::new(BTreeMap::new(alloc)),
+        };
+        for (path, text) in [
+            ("small/customer.tbl", CUSTOMER),
+            ("small/supplier.tbl", SUPPLIER),
+            ("small/part.tbl", PART),
+            ("small/date.tbl", DATE),
+            ("small/lineorder.tbl", LINEORDER),
+        ] {
+            files.put(path, text.as_bytes())?;
+        }
+        Ok(files)
+    }
+
+    /// Makes a file of these bytes, in place of one that was there.
+    pub fn put(&self, path: &str, bytes: &[u8]) -> io::Result<()> {
+        let contents = Rc::new(self.alloc, RefCell::new(bytes.to_vec(self.alloc)?))?;
+        let path = String::from_str(self.alloc, path)?;
+        self.files.try_borrow_mut()?.insert(path, contents)?;
+        Ok(())
+    }
+
+    /// The bytes of a file, where there is one.
+    pub fn bytes_of(&self, path: &str) -> io::Result<Option<Vec<u8>>> {
+        match self.contents_of(path)? {
+            Some(contents) => Ok(Some(contents.try_borrow()?.clone()?)),
+            None => Ok(None),
+        }
+    }
+
+    fn contents_of(&self, path: &str) -> io::Result<Option<Contents>> {
+        match self.files.try_borrow()?.get(path) {
+            Some(contents) => Ok(Some(contents.clone()?)),
+            None => Ok(None),
+        }
+    }
+
+    fn is_folder(&self, path: &str) -> io::Result<bool> {
+        let files = self.files.try_borrow()?;
+        Ok(
+            files.keys().any(|file| match file.strip_prefix(path) {
+                Some(rest) => rest.starts_with('/'),
+                None => false,
+            }),
+        )
+    }
+
+    // An empty file at this path, in a folder that is there.
+    fn make(&self, path: &str) -> io::Result<Contents> {
+        if self.is_folder(path)? {
+            return Err(Error::from(ErrorKind::IsADirectory));
+        }
+        if let Some((folder, _)) = path.rsplit_once('/') {
+            if !self.is_folder(folder)? {
+                return Err(Error::from(ErrorKind::NotFound));
+            }
+        }
+        self.put(path, &[])?;
+        self.contents_of(path)?
+            .ok_or(Error::from(ErrorKind::NotFound))
+    }
+}
+
+impl Alloc for MemoryFiles {
+    type A = Global;
+
+    fn alloc(&self) -> Global {
+        self.alloc
+    }
+}
+
+fn unsupported<T>() -> io::Result<T> {
+    Err(Error::from(ErrorKind::Unsupported))
+}
+
+impl Files for MemoryFiles {
+    type File = MemoryFile;
+
+    type Dir = io::Empty;
+
+    fn open_file(&self, how: &OpenOptions, path: &str) -> io::Result<MemoryFile> {
+        if how.asks_create() {
+            return Ok(MemoryFile::Opened(self.make(path)?, 0));
+        }
+        match self.contents_of(path)? {
+            Some(contents) => Ok(MemoryFile::Opened(contents, 0)),
+            None if self.is_folder(path)? => Ok(MemoryFile::Folder),
+            None => Err(Error::from(ErrorKind::NotFound)),
+        }
+    }
+
+    fn open_dir(&self, _path: &str) -> io::Result<io::Empty> {
+        unsupported()
+    }
+
+    fn metadata(&self, _path: &str) -> io::Result<Metadata> {
+        unsupported()
+    }
+
+    fn symlink_metadata(&self, _path: &str) -> io::Result<Metadata> {
+        unsupported()
+    }
+
+    fn copy(&self, _from: &str, _to: &str) -> io::Result<u64> {
+        unsupported()
+    }
+
+    fn rename(&self, _from: &str, _to: &str) -> io::Result<()> {
+        unsupported()
+    }
+
+    fn remove_file(&self, _path: &str) -> io::Result<()> {
+        unsupported()
+    }
+
+    fn create_dir(&self, _path: &str) -> io::Result<()> {
+        unsupported()
+    }
+
+    fn remove_dir(&self, _path: &str) -> io::Result<()> {
+        unsupported()
+    }
+
+    fn remove_dir_all<B: Allocator>(&self, _alloc: B, _path: &str) -> io::Result<()> {
+        unsupported()
+    }
+}
+
+impl Read for MemoryFile {
+    fn read(&mut self, buf: &mut [u8]) -> io::Result<usize> {
+        match self {
+            MemoryFile::Opened(contents, at) => {
+                let contents = contents.try_borrow()?;
+                let mut rest = contents.get(*at..).unwrap_or(&[]);
+                let count = rest.read(buf)?;
+                *at = at.saturating_add(count);
+                Ok(count)
+            }
+            MemoryFile::Folder => Err(Error::from(ErrorKind::IsADirectory)),
+        }
+    }
+}
+
+impl Write for MemoryFile {
+    fn write(&mut self, buf: &[u8]) -> io::Result<usize> {
+        match self {
+            MemoryFile::Opened(contents, _) => {
+                contents.try_borrow_mut()?.extend_from_slice(buf)?;
+                Ok(buf.len())
+            }
+            MemoryFile::Folder => Err(Error::from(ErrorKind::IsADirectory)),
+        }
+    }
+
+    fn flush(&mut self) -> io::Result<()> {
+        Ok(())
+    }
+}
+
+impl Seek for MemoryFile {
+    fn seek(&mut self, _to: SeekFrom) -> io::Result<u64> {
+        unsupported()
+    }
+}
+
+impl OpenFile for MemoryFile {
+    fn metadata(&self) -> io::Result<Metadata> {
+        unsupported()
+    }
+
+    fn set_len(&self, _size: u64) -> io::Result<()> {
+        unsupported()
+    }
+
+    fn sync_all(&self) -> io::Result<()> {
+        unsupported()
+    }
+
+    fn sync_data(&self) -> io::Result<()> {
+        unsupported()
+    }
+}

@@ -1,0 +1,88 @@
+//! Runs the cases: command lines of `ssb_live`, and what they must write.
+//!
+//! ```text
+//! NAME.case ── case ─▶ files, commands ── running ─▶ statuses and bytes ── difference ─▶ what differs first
+//!                                            │
+//!                                          files: files in memory, in place of the system's
+//! ```
+//!
+//! A case is a text file that is read and written by people who need no Rattle; the folder `data` has them, and `case`
+//! says how one is written. Every case of the folder that the program runs in is run, in the order of names, or those
+//! that the words name:
+//!
+//! ```text
+//! cases                                   // 158 cases
+//! cases absent_order.case                 // absent_order.case: command 1, output, line 2: wanted "..", got ".."
+//! ```
+//!
+//! A line is printed for each case that differs, and at the end how many cases there were. The status is 0 where none
+//! differs, and else 1. A case runs whole command lines by the function that `ssb_live` itself calls, over files in
+//! memory; threads, waiting, random bytes and the clock are the system's. It is proved that the program is safe, and that
+//! two texts without a difference are the same bytes (`difference`).
+#![tactic(auto)]
+
+mod case;
+mod difference;
+mod files;
+mod running;
+mod section;
+
+use anyhow::Result;
+use case::parse_case;
+use running::run_case;
+use std::env::Env;
+use std::process::ExitCode;
+use std::random::RandomSource;
+use std::rt::Files;
+use std::sync::Wait;
+use std::thread::Threads;
+use std::time::Clock;
+use std::{env, fs};
+
+// The cases that the words name, or else those of the folder that the program runs in, in the order of names.
+fn case_paths<R>(rt: &R) -> Result<Vec<String>>
+where
+    R: Files + Env + AllocGlobal + Clone + Drop,
+{
+    let mut paths = Vec::new(rt.alloc());
+    for path in env::args(rt)?.skip(1) {
+        paths.push(path)?;
+    }
+    if !paths.is_empty() {
+        return Ok(paths);
+    }
+    for entry in fs::read_dir(rt, ".")? {
+        let entry = entry?;
+        let name = entry.file_name();
+        if name.ends_with(".case") {
+            paths.push(String::from_str(rt.alloc(), name)?)?;
+        }
+    }
+    paths.sort()?;
+    Ok(paths)
+}
+
+// What differs first from what a case wants.
+fn examine<R>(rt: &R, path: &str) -> Result<Option<String>>
+where
+    R: Files + Clock + RandomSource + Threads + Sync + Wait + AllocGlobal,
+{
+    let text = fs::read_to_string(rt, path)?;
+    let case = parse_case(rt.alloc(), text.as_str())?;
+    Ok(run_case(rt, &case)?)
+}
+
+fn main(rt: HostRuntime) -> Result<ExitCode> {
+    let paths = case_paths(&rt)?;
+    let mut status = ExitCode::SUCCESS;
+    for path in &paths {
+        match examine(&rt, path.as_str()) {
+            Ok(None) => continue,
+            Ok(Some(difference)) => println!(rt; "{path}: {difference}")?,
+            Err(error) => println!(rt; "{path}: {error:#}")?,
+        }
+        status = ExitCode::FAILURE;
+    }
+    println!(rt; "{} cases", paths.len())?;
+    Ok(status)
+}

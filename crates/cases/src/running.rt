@@ -1,0 +1,97 @@
+//! Runs a case, and finds what differs first from what it wants.
+
+use crate::case::{Case, Command};
+use crate::difference::first_difference;
+use crate::files::MemoryFiles;
+use command_line::run_command_line;
+use std::alloc::Global;
+use std::io;
+use std::io::Stderr;
+use std::random::RandomSource;
+use std::sync::Wait;
+use std::thread::Threads;
+use std::time::Clock;
+
+// What a command did.
+#[derive(Drop)]
+struct Outcome {
+    output: Vec<u8>,
+    errors: Vec<u8>,
+    status: u8,
+}
+
+// Runs a command over these files.
+fn run_command<R>(rt: &R, files: &MemoryFiles, command: &Command) -> Outcome
+where
+    R: Clock + RandomSource + Threads + Sync + Wait + AllocGlobal,
+{
+    let mut output = Vec::new(rt.alloc());
+    let mut errors = Vec::new(rt.alloc());
+    let status = run_command_line(
+        rt,
+        files,
+        command.words.as_slice(),
+        command.input.as_slice(),
+        None::<&Stderr>,
+        &mut output,
+        &mut errors,
+    );
+    Outcome {
+        output,
+        errors,
+        status,
+    }
+}
+
+// What differs first in what a command did, and in the files that it left.
+fn find_difference(
+    alloc: Global,
+    files: &MemoryFiles,
+    command: &Command,
+    outcome: &Outcome,
+) -> io::Result<Option<String>> {
+    let errors = first_difference(command.errors.as_slice(), outcome.errors.as_slice());
+    if let Some(difference) = errors {
+        return Ok(Some(format!(in alloc; "errors, {difference}")?));
+    }
+    let output = first_difference(command.output.as_slice(), outcome.output.as_slice());
+    if let Some(difference) = output {
+        return Ok(Some(format!(in alloc; "output, {difference}")?));
+    }
+    let (wanted, got) = (command.status, outcome.status);
+    if wanted != got {
+        return Ok(Some(format!(in alloc; "status: wanted {wanted}, got {got}")?));
+    }
+    for file in &command.leaves {
+        let path = file.path.as_str();
+        let Some(bytes) = files.bytes_of(path)? else {
+            return Ok(Some(format!(in alloc; "leaves {path}: no such file")?));
+        };
+        if let Some(difference) = first_difference(file.bytes.as_slice(), bytes.as_slice()) {
+            return Ok(Some(format!(in alloc; "leaves {path}, {difference}")?));
+        }
+    }
+    Ok(None)
+}
+
+/// Runs the commands of a case, one after the other over the same files, and says what differs first from what the case
+/// wants; nothing where all is as wanted.
+pub fn run_case<R>(rt: &R, case: &Case) -> io::Result<Option<String>>
+where
+    R: Clock + RandomSource + Threads + Sync + Wait + AllocGlobal,
+{
+    let alloc = rt.alloc();
+    let files = MemoryFiles::with_small_data(alloc)?;
+    for file in &case.files {
+        files.put(file.path.as_str(), file.bytes.as_slice())?;
+    }
+    let mut number = 0u64;
+    for command in &case.commands {
+        number = number.saturating_add(1);
+        let outcome = run_command(rt, &files, command);
+        if let Some(difference) = find_difference(alloc, &files, command, &outcome)? {
+            return Ok(Some(format!(in alloc; "command {number}, {difference}")?));
+        }
+    }
+    Ok(None)
+}

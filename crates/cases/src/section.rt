@@ -1,0 +1,141 @@
+//! The sections of a case: their headings, where they may stand, and the bytes that their lines spell.
+
+use anyhow::{Result, bail};
+
+/// What a section says.
+#[derive(Clone, Copy)]
+pub enum Part<'a> {
+    /// A file that is there before, by its path.
+    File(&'a str),
+    /// A command line.
+    Command,
+    /// Standard input.
+    Input,
+    /// Standard output.
+    Output,
+    /// Standard error.
+    Errors,
+    /// An exit status.
+    Status(u8),
+    /// A file that is there afterwards, by its path.
+    Leaves(&'a str),
+}
+
+/// A section, by its heading.
+#[derive(Clone, Copy)]
+pub struct Section<'a> {
+    pub part: Part<'a>,
+    is_escaped: bool,
+}
+
+impl<'a> Part<'a> {
+    // The place among the sections of a command.
+    fn place(self) -> u8 {
+        match self {
+            Part::File(_) => 0,
+            Part::Command => 1,
+            Part::Input => 2,
+            Part::Output => 3,
+            Part::Errors => 4,
+            Part::Status(_) => 5,
+            Part::Leaves(_) => 6,
+        }
+    }
+
+    /// Whether it may stand behind the last one, or as the first: files, and then the sections of each command.
+    pub fn may_follow(self, last: Option<Part<'_>>) -> bool {
+        match (self, last) {
+            (Part::Command, _) | (Part::File(_), None | Some(Part::File(_))) => true,
+            (Part::File(_), _) | (_, None | Some(Part::File(_))) => false,
+            (Part::Leaves(_), _) => true,
+            (part, Some(last)) => last.place() < part.place(),
+        }
+    }
+}
+
+// How far an escape is read.
+#[derive(Clone, Copy)]
+enum Escape {
+    Outside,
+    Begun,
+    Hex,
+    HexDigit(u8),
+}
+
+fn hex_digit(byte: u8) -> Option<u8> {
+    match byte {
+        b'0'..=b'9' => Some(byte - b'0'),
+        b'a'..=b'f' => Some(byte - b'a' + 10),
+        b'A'..=b'F' => Some(byte - b'A' + 10),
+        _ => None,
+    }
+}
+
+impl Escape {
+    // Reads the next byte of a line, and appends the byte that ends here.
+    fn read(self, text: &mut Vec<u8>, byte: u8) -> Result<Escape> {
+        let spelled = match (self, byte) {
+            (Escape::Outside, b'\\') => return Ok(Escape::Begun),
+            (Escape::Outside, byte) => byte,
+            (Escape::Begun, b'x') => return Ok(Escape::Hex),
+            (Escape::Begun, b'n') => b'\n',
+            (Escape::Begun, b'r') => b'\r',
+            (Escape::Begun, b't') => b'\t',
+            (Escape::Begun, b'\\') => b'\\',
+            (Escape::Begun, _) => bail!("no escape"),
+            (Escape::Hex, byte) => match hex_digit(byte) {
+                Some(high) => return Ok(Escape::HexDigit(high)),
+                None => bail!("no hexadecimal digit"),
+            },
+            (Escape::HexDigit(high), byte) => match hex_digit(byte) {
+                Some(low) => (high << 4) | low,
+                None => bail!("no hexadecimal digit"),
+            },
+        };
+        text.push(spelled)?;
+        Ok(Escape::Outside)
+    }
+}
+
+impl<'a> Section<'a> {
+    /// The section that a heading begins, which is a line without its `== `.
+    pub fn parse(heading: &'a str) -> Option<Section<'a>> {
+        let (words, is_escaped) = match heading.strip_suffix(" escaped") {
+            Some(words) => (words, true),
+            None => (heading, false),
+        };
+        let part = match words.split_once(' ') {
+            Some(("file", path)) => Part::File(path),
+            Some(("leaves", path)) => Part::Leaves(path),
+            Some(("status", number)) if !is_escaped => Part::Status(number.parse().ok()?),
+            Some(_) => return None,
+            None => match words {
+                "command" if !is_escaped => Part::Command,
+                "input" => Part::Input,
+                "output" => Part::Output,
+                "errors" => Part::Errors,
+                _ => return None,
+            },
+        };
+        Some(Section { part, is_escaped })
+    }
+
+    /// Appends the bytes that a line of the section spells.
+    pub fn append(self, text: &mut Vec<u8>, line: &str) -> Result<()> {
+        if !self.is_escaped {
+            text.extend_from_slice(line.as_bytes())?;
+            text.push(b'\n')?;
+            return Ok(());
+        }
+        let mut escape = Escape::Outside;
+        for byte in line.bytes() {
+            escape = escape.read(text, byte)?;
+        }
+        match escape {
+            Escape::Outside => Ok(text.push(b'\n')?),
+            // the lone backslash at the line's end
+            Escape::Begun => Ok(()),
+            Escape::Hex | Escape::HexDigit(_) => bail!("an escape is cut off"),
+        }
+    }
+}
