@@ -23,8 +23,8 @@
 //! | `== status N` | the status that it must end with; without it 0 |
 //! | `== leaves PATH` | a file that must be there afterwards |
 //!
-//! A section's text is its lines, each with its LF. Behind a heading that ends with the word `escaped`, `\n`, `\r`, `\t`,
-//! `\\` and `\xHH` in the lines stand for bytes, and a lone `\` at a line's end drops its LF.
+//! A section's text is its lines, each with its LF. Behind a heading that ends with the word `escaped`, `\n`, `\r`,
+//! `\t`, `\\` and `\xHH` in the lines stand for bytes, and a lone `\` at a line's end drops its LF.
 
 use crate::section::{Part, Section};
 use anyhow::{Context, Result, bail, ensure};

@@ -14,7 +14,7 @@ pub struct Difference<'a> {
     got: Option<&'a [u8]>,
 }
 
-// A line, its bytes escaped as a case spells them.
+// A line, its bytes escaped.
 #[derive(Drop)]
 struct Line<'a>(Option<&'a [u8]>);
 

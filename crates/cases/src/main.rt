@@ -17,8 +17,8 @@
 //!
 //! A line is printed for each case that differs, and at the end how many cases there were. The status is 0 where none
 //! differs, and else 1. A case runs whole command lines by the function that `ssb_live` itself calls, over files in
-//! memory; threads, waiting, random bytes and the clock are the system's. It is proved that the program is safe, and that
-//! two texts without a difference are the same bytes (`difference`).
+//! memory; threads, waiting, random bytes and the clock are the system's. It is proved that the program is safe, and
+//! that a command of which nothing differs wrote the bytes, and ended with the status, that its case wants (`running`).
 #![tactic(auto)]
 
 mod case;

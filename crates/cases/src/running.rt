@@ -1,5 +1,7 @@
 //! Runs a case, and finds what differs first from what it wants.
 
+ghost use Rattle.std.specs.Prelude.{◌≡◌, Ok, None};
+
 use crate::case::{Case, Command};
 use crate::difference::first_difference;
 use crate::files::MemoryFiles;
@@ -49,7 +51,11 @@ fn find_difference(
     files: &MemoryFiles,
     command: &Command,
     outcome: &Outcome,
-) -> io::Result<Option<String>> {
+) -> io::Result<Option<String>>
+    ensures errors { result ≡ Ok None → outcome.now.errors.items ≡ command.now.errors.items }
+    ensures output { result ≡ Ok None → outcome.now.output.items ≡ command.now.output.items }
+    ensures status { result ≡ Ok None → outcome.now.status ≡ command.now.status }
+{
     let errors = first_difference(command.errors.as_slice(), outcome.errors.as_slice());
     if let Some(difference) = errors {
         return Ok(Some(format!(in alloc; "errors, {difference}")?));

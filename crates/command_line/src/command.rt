@@ -173,8 +173,8 @@ where
 }
 
 /// Does what the words say, and gives the exit status. Without words the script `input` is served. The words name files
-/// of `files`; threads, waiting, random bytes and the time come from `rt`. A terminal shows the progress of a long load,
-/// and nothing of it goes to `err`.
+/// of `files`; threads, waiting, random bytes and the time come from `rt`. A terminal shows the progress of a long
+/// load, and nothing of it goes to `err`.
 pub fn run_command_line<R, F, I: Read + Drop, P: Print, W: Write, E: Write>(
     rt: &R,
     files: &F,
