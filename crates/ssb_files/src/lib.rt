@@ -1,32 +1,24 @@
-//! What the program reads: files that are opened in the order in which faults are told, the base that five tables
-//! spell, the scripts that sources spell, and the line on a terminal that shows how far a long load is.
+//! What the program reads, and why it stops: files that are opened in the order in which faults are told, the base that
+//! five tables spell, the scripts that sources spell, the line on a terminal that shows how far a long load is; and the
+//! fault line and status that it ends with.
 //!
 //! ```text
 //! paths ── open_tables, open_files ─▶ readers ── watch_tables ─▶ readers that show progress
 //!     readers ── base_of ─▶ base          readers ── read_scripts ─▶ scripts
-//! ```
 //!
-//! The contracts: [`base_of`] gives the base that the texts spell, within the greatest limits, or a fault that they
-//! have (`specs/Loaded.antt`); [`read_scripts`] the scripts, or the first fault (`specs/Scripts.antt`); a reader that
-//! is watched gives the bytes of the reader in it. That a file is opened, and what a terminal shows, is only tested.
-//!
-//! ```text
-//! let tables = open_tables(rt, "tables")?;
-//! let base = base_of(alloc, watch_tables(screen.as_ref(), tables))?;
-//! ```
-//!
-//! Why the program stops, and the status that it ends with.
-//!
-//! ```text
 //! refused data, script, trace ─▶ 1      wrong words ─▶ 2      something speaks against a trace ─▶ 3
 //! failed read, failed write, want of memory ─▶ 4              each with one line: ssb_live: WHAT
 //! ```
 //!
-//! The contract of [`Fault::status`] and [`Fault::tell`] (`specs/Status.antt`): the status is that of the fault. What
-//! speaks against a trace, and what keeps a server from being opened, are told by the crates that audit and serve, each
-//! as the [`Finding`] of a [`JobFault`].
+//! The contracts: [`base_of`] gives the base that the texts spell, within the greatest limits, or a fault that they
+//! have (`specs/Loaded.antt`); [`read_scripts`] the scripts, or the first fault (`specs/Scripts.antt`); a reader that is
+//! watched gives the bytes of the reader in it; [`Fault::status`] is that of the fault (`specs/Status.antt`). What only
+//! one job finds, as what speaks against a trace, is its [`Finding`] in a [`JobFault`]. That a file is opened, and what a
+//! terminal shows, is only tested.
 //!
 //! ```text
+//! let tables = open_tables(rt, "tables")?;
+//! let base = base_of(alloc, watch_tables(screen.as_ref(), tables))?;
 //! Err(fault) => fault.tell(&mut err)      // ssb_live: data: 21 FieldCount lineorder 2
 //! ```
 #![tactic(auto)]

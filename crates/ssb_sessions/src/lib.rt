@@ -1,5 +1,5 @@
-//! A run: the scripts of many clients served at once by a live server, each client and each dispatcher in a thread of
-//! its own.
+//! Sessions over the live server: a client's script from its first request to its last, and many clients' scripts at
+//! once, each client and each dispatcher in a thread of its own.
 //!
 //! ```text
 //! script 1 ── client 1 ─┐                    ┌─ dispatcher 1
@@ -8,31 +8,15 @@
 //!     └▶ report 1, report 2 ..      └▶ trace: the log, and what each client was told
 //! ```
 //!
-//! The contract of [`serve_scripts`] (`specs/Run.antt`): each script, in order, was served whole by a client of its own
-//! from a new token on, and its report is that of the replies; every commit of the log is one that some client made,
-//! and the log is legal; so the trace is legal, and an audit finds nothing against it. That a thread gets on is claimed
-//! by no proof.
+//! The contract of [`serve_requests`] (`specs/Served.antt`): request by request one reply, true as the server's calls
+//! say, whose report is written; the answers with rows are kept, in order. Whatever ends it, nothing is outstanding
+//! then. That of [`serve_scripts`] (`specs/Run.antt`): each script, in order, was served whole so by a client of its own
+//! from a new token on; every commit of the log is one that some client made, and the log is legal; so the trace is
+//! legal, and an audit finds nothing against it. That a thread gets on is claimed by no proof.
 //!
 //! ```text
 //! let run = serve_scripts(&rt, rt.alloc(), hashing, base, scripts, 2, false)?;
 //! write_trace(&mut file, &run.trace)?;
-//! ```
-//!
-//! A client's script over the live server: its requests one after another, their report, and the answers that it was
-//! told.
-//!
-//! ```text
-//! script ── request ─▶ client ── refresh, or ask and await ─▶ reply ── report ─▶ writer
-//!                                                             └── rows ─▶ told
-//! ```
-//!
-//! The contract of [`serve_requests`]: request by request one reply, true as the server's contracts say (`specs/Served.antt`),
-//! whose report is written; the answers with rows are kept, in order; the client's own commits grew by the refreshes
-//! that were told a receipt. Whatever ends it, nothing is outstanding then.
-//!
-//! ```text
-//! let script = read_script(alloc, file, MOST_RECORDS)?;
-//! serve_requests(&rt, &server, &mut client, script, &mut report, &mut told, &mut NoMeter)?;
 //! ```
 #![tactic(auto)]
 

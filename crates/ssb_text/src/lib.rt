@@ -1,30 +1,22 @@
-//! The warehouse's way in: from the bytes of the five table files of the Star Schema Benchmark to a base,
-//! the checked tables that every other part works on.
+//! The warehouse's one reader of text: records, one a line, whose fields are parted by `|`; and its way in, from the
+//! bytes of the five table files of the Star Schema Benchmark to a base.
 //!
-//! `load` reads `customer`, `supplier`, `part`, `date` and `lineorder`, one row a record, fields parted by
-//! `|`. Its contract: what is loaded is exactly what the files spell, row by row and column by column, and
-//! what is refused is refused for the first reason that there is, in the order of the files, their records
-//! and their columns. Only a failed read and want of memory may come before it.
+//! ```text
+//! bytes ── record_reader, next_record ─▶ record ── trimmed_at ─▶ field ── number, text ─▶ what it spells
+//! five files ── load ─▶ Base         a record's fields ── line_of ─▶ Line
+//! ```
 //!
-//! What a text's records are and what one field spells is defined in `ssb_text`; `specs/` says, from the bottom
-//! up, what follows for tables: `Row` (a record's row, or its first fault), `Tables` (a file's rows, or its first
-//! fault) and `Load` (the base of five files).
+//! The five tables, a client's script and a run's trace are all such texts, and are read by these calls alone. The
+//! contract of [`next_record`]: what is given is exactly the next record of the text, and where none is found, all of
+//! them were given. That of [`load`]: what is loaded is exactly what the files spell, and what is refused is refused for
+//! the first reason that there is, in the order of the files, their records and their columns; only a failed read and
+//! want of memory may come before it.
 //!
-//! `load(alloc, Limits::standard(), Tables { customer, supplier, part, date, lineorder })?` gives the base of
-//! five open files. `line_of(alloc, &fields)` reads one line of a script.
+//! The definitions stand in `specs/`, from the bottom up: `Records` (the records of a text), `Spelling` (what a field
+//! spells), `Row` (a record's row, or its first fault), `Tables` (a file's rows) and `Load` (the base of five files).
 //!
-//! The warehouse's one reader of text: records, one a line, whose fields are parted by `|`. The five table files of the
-//! Star Schema Benchmark, a client's script and a run's trace are all such texts, and are read by these calls alone.
-//!
-//! `record_reader` takes any reader of bytes and `next_record` gives its records one by one. The contract: what is
-//! given is exactly the next record of the text, and where none is found, all of them were given. A field is then read
-//! by `trimmed_at`, and what it spells by `number` and `text`.
-//!
-//! The definitions stand in `specs/`: `Records` (the records of a text, and how far a reader has come in them) and
-//! `Spelling` (a field without the spaces at its end, and the number or the text that bytes spell).
-//!
-//! Of the text `query|Q4.1 ` the first record has two columns (`has_columns(&record, 2)`), and `trimmed_at(&record, 1)`
-//! is `Q4.1`.
+//! `load(alloc, Limits::standard(), Tables { customer, supplier, part, date, lineorder })?` gives the base of five open
+//! files. Of the text `query|Q4.1 ` the first record has two columns, and `trimmed_at(&record, 1)` is `Q4.1`.
 #![tactic(auto)]
 
 mod customer;
