@@ -178,6 +178,14 @@ fn position<F: Keyed>(dimension: &Dimension<F>, key: u64) -> Option<u32>
     }
 }
 
+/// The index of a base, to be shared.
+pub fn index_of(alloc: Global, base: &Arc<Base>) -> Result<Arc<DimIndex>, AllocError>
+    ensures { IfOk result (λ index. index.value ≡ base.now.value) }
+{
+    let index = DimIndex::new(alloc, Arc::try_clone(base)?)?;
+    Ok(Arc::new(alloc, index)?)
+}
+
 impl DimIndex {
     /// The index of a base.
     pub fn new(alloc: Global, base: Arc<Base>) -> Result<DimIndex, AllocError>

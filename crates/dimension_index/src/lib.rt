@@ -45,4 +45,4 @@ pub use bitmap::Bitmap;
 pub use coded::CodedColumn;
 pub use dictionary::Dictionary;
 pub use first_rows::{Extents, FirstRows};
-pub use index::DimIndex;
+pub use index::{DimIndex, index_of};

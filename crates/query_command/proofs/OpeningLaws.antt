@@ -1,9 +1,8 @@
 -- The columns and the answers before any commit.
 use Rattle.std.proofs.Common.{◌≡◌, ◌∙◌, ℕ, ◌≤◌, List, [], ◌∷◌, length, map, refl, sym, ap, subst, arith}
 use Rattle.fact_columns.specs.Stored.{Stored, columns_state}
-use Rattle.row_store.specs.History.{CommitRecord, lines_after}
-use Rattle.row_store.specs.State.{State, StandsFor, state_of}
-use Rattle.shared_scan.specs.Answers.{answers_after}
+use Rattle.row_store.specs.State.{State, state_of}
+use Rattle.shared_scan.specs.Answers.{AreSnapshot, answers_after}
 use Rattle.query_command.specs.Reported.{opened, opening_answer}
 use Rattle.ssb_questions.specs.declared.query.Query.{Query}
 use Rattle.ssb_questions.specs.declared.value.Value.{Value}
@@ -19,14 +18,14 @@ opened_rows base (question ∷ questions) = ap (λ answers. opening_answer base 
 at_most : (n most limit : ℕ) → n ≤ most → most ≤ limit → n ≤ limit
 at_most n most limit few within = omega (arith, few, within)
 
--- columns of the loaded lines have no more of them than a warehouse may have
-pub small_columns : (columns : Stored) (base : Tables) → columns_state columns ≡ state_of base [] → IsSound base
-    → ((history : List CommitRecord) → StandsFor (columns_state columns) history
-    → length columns.facts ≡ length (lines_after columns.base history)) → length columns.facts ≤ 33554432
-small_columns columns base state sound lines =
+-- columns of the loaded lines of a sound base can be scanned
+pub loaded_snapshot : (columns : Stored) (base : Tables) → columns_state columns ≡ state_of base [] → IsSound base
+    → AreSnapshot columns
+loaded_snapshot columns base state sound =
     let same : columns.base ≡ base = ap (λ (s : State). s.base) state in
-    let stands : StandsFor (columns_state columns) [] = state ∙ ap (λ b. state_of b []) (sym same) in
-    let counted : length columns.facts ≡ length columns.base.lines = lines [] stands in
-    let P : ℕ → Type 0 = λ n. n ≤ 33554432 in
-    subst P (sym (counted ∙ ap (λ (b : Tables). length b.lines) same))
-    (at_most (length base.lines) base.limits.lines 33554432 sound.few base.limits.lines_range)
+    record {
+      history = [];
+      stands = state ∙ ap (λ b. state_of b []) (sym same);
+      few = subst (λ (b : Tables). length b.lines ≤ 33554432) (sym same)
+          (at_most (length base.lines) base.limits.lines 33554432 sound.few base.limits.lines_range);
+    }

@@ -1,5 +1,6 @@
 -- A batch made ready.
 use Rattle.std.specs.Prelude.{◌≤◌, length}
+use Rattle.ssb_base.specs.declared.limits.TheConstants.{MOST_LINES}
 use Rattle.dimension_index.specs.Classes.{reduced}
 use Rattle.shared_scan.specs.Prepared.{AreMasksOf}
 use Rattle.shared_scan.specs.Masking.{CoverRows}
@@ -9,13 +10,14 @@ use Rattle.shared_scan.specs.declared.prepared.PreparedBatch.TheInside.{Inside}
 
 -- a batch as contracts see it
 abbrev pub prepared : Inside → Prepared
-prepared batch = record { base = batch.index.value; questions = questions_of batch.questions.items }
+prepared batch = record { columns = batch.columns.now; questions = questions_of batch.questions.items }
 
--- the masks and the groups are those of the questions, over the rows of the base that begin a class
+-- no more lines are live than can be summed, and the masks and the groups are those of the questions, over the rows of the base that begin a class
 pub record IsPrepared (batch : Inside) : Type 0 where
+  pub small : length batch.columns.now.facts ≤ MOST_LINES
   pub few : length batch.questions.items ≤ 16
   pub masks_tell :
-      AreMasksOf (plans_of (questions_of batch.questions.items)) (reduced batch.index.value).dimensions batch.masks
-  pub masks_cover : CoverRows (reduced batch.index.value).dimensions batch.masks
+      AreMasksOf (plans_of (questions_of batch.questions.items)) (reduced batch.columns.now.base).dimensions batch.masks
+  pub masks_cover : CoverRows (reduced batch.columns.now.base).dimensions batch.masks
   pub ready :
-      AreReady (reduced batch.index.value) batch.masks (questions_of batch.questions.items) batch.questions.items
+      AreReady (reduced batch.columns.now.base) batch.masks (questions_of batch.questions.items) batch.questions.items

@@ -25,5 +25,5 @@ mod sparse;
 mod sums;
 mod tested;
 
-pub use answering::{scan, scan_parallel};
+pub use answering::answer;
 pub use prepared::PreparedBatch;

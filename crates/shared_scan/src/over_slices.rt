@@ -11,57 +11,32 @@ use crate::lines::lines_of;
 use crate::prepared::PreparedBatch;
 use crate::sums::{Scan, batch_rows};
 use fact_columns::Slices;
-use scan_kernel::{parallel_totals, range_totals};
+use scan_kernel::parallel_totals;
 use ssb_answers::Rows;
 use std::alloc::{AllocError, Global};
 use std::thread::Threads;
 
-/// The answers over columns, by one thread.
-pub fn scan_slices(
-    alloc: Global,
-    slices: Slices<'_>,
-    batch: &PreparedBatch,
-) -> Result<Vec<Rows>, AllocError>
-    requires { HavePlaces batch.now.base slices }
-    ensures { (places : List Place) → AreColumnsOf places slices.entry → AreOfBase batch.now.base places
-        → IfOk result (λ rows. rows.items ≡ answers_over batch.now.base.dimensions
-        (live_facts batch.now.base.dimensions places) batch.now.questions) }
-{
-    let index = batch.index.first_rows();
-    batch.index.base().soundness();
-    index.soundness();
-    let lines = lines_of(slices);
-    let groupings = groupings(alloc, index, &lines, &batch.questions)?;
-    let count = lines.customer.len();
-    let totals = range_totals(alloc, &lines, &batch.masks, &groupings, 0, count)?;
-    let scan = Scan {
-        index,
-        lines,
-        masks: &batch.masks,
-    };
-    batch_rows(alloc, scan, &batch.questions, &totals)
-}
-
 /// The answers over columns, by as many threads as there are processors.
-pub fn scan_slices_parallel<R: Threads + Sync>(
+pub fn scan_slices<R: Threads + Sync>(
     rt: &R,
     alloc: Global,
     slices: Slices<'_>,
-    batch: &PreparedBatch,
+    batch: &PreparedBatch<'_>,
 ) -> Result<Vec<Rows>, AllocError>
-    requires { HavePlaces batch.now.base slices }
-    ensures { (places : List Place) → AreColumnsOf places slices.entry → AreOfBase batch.now.base places
-        → IfOk result (λ rows. rows.items ≡ answers_over batch.now.base.dimensions
-        (live_facts batch.now.base.dimensions places) batch.now.questions) }
+    requires { HavePlaces batch.now.columns.base slices }
+    ensures { (places : List Place) → AreColumnsOf places slices.entry → AreOfBase batch.now.columns.base places
+        → IfOk result (λ rows. rows.items ≡ answers_over batch.now.columns.base.dimensions
+        (live_facts batch.now.columns.base.dimensions places) batch.now.questions) }
 {
-    let index = batch.index.first_rows();
-    batch.index.base().soundness();
-    index.soundness();
+    let index = batch.columns.index();
+    index.base().soundness();
+    let first_rows = index.first_rows();
+    first_rows.soundness();
     let lines = lines_of(slices);
-    let groupings = groupings(alloc, index, &lines, &batch.questions)?;
+    let groupings = groupings(alloc, first_rows, &lines, &batch.questions)?;
     let totals = parallel_totals(rt, alloc, &lines, &batch.masks, &groupings)?;
     let scan = Scan {
-        index,
+        index: first_rows,
         lines,
         masks: &batch.masks,
     };

@@ -1,26 +1,30 @@
 //! A batch of questions made ready.
-ghost use Rattle.std.specs.Prelude.{◌≡◌, ◌≤◌, IfOk, length};
+ghost use Rattle.std.specs.Prelude.{◌≡◌, ◌≤◌, List, IfOk, length};
+ghost use Rattle.row_store.specs.History.{CommitRecord};
+ghost use Rattle.row_store.specs.State.{StandsFor};
+ghost use Rattle.fact_columns.specs.Stored.{columns_state};
+ghost use Rattle.shared_scan.specs.Answers.{AreSnapshot, answers_after};
 
 use crate::batch_masks::batch_masks;
+use crate::over_slices::scan_slices;
 use crate::prepare::{plans_of, prepare_question};
 use crate::ready::Ready;
-use dimension_index::DimIndex;
+use fact_columns::Columns;
 use scan_kernel::Masks;
-use ssb_answers::Question;
+use ssb_answers::{Question, Rows};
 use std::alloc::{AllocError, Global};
 use std::marker::Model;
-use std::sync::Arc;
+use std::thread::Threads;
 
-/// At most 16 questions made ready for one pass over the columns. Contracts see the base that they were prepared on,
-/// and the questions.
+/// At most 16 questions made ready for one pass over columns. Contracts see the columns and the questions.
 #[derive(Drop)]
-pub struct PreparedBatch {
-    pub(crate) index: Arc<DimIndex>,
+pub struct PreparedBatch<'a> {
+    pub(crate) columns: &'a Columns,
     pub(crate) masks: Masks,
     pub(crate) questions: Vec<Ready>,
 }
 
-impl Model for PreparedBatch {
+impl<'a> Model for PreparedBatch<'a> {
     ghost use Rattle.shared_scan.specs.Answers.{Prepared};
     ghost use Rattle.shared_scan.specs.PreparedBatch.{prepared, IsPrepared};
 
@@ -31,17 +35,19 @@ impl Model for PreparedBatch {
     ghost invariant = { IsPrepared };
 }
 
-impl PreparedBatch {
-    /// The questions, made ready over an index of the dimensions.
+impl<'a> PreparedBatch<'a> {
+    /// The questions, made ready over the index of the columns.
     pub fn new(
         alloc: Global,
-        index: Arc<DimIndex>,
+        columns: &'a Columns,
         questions: &[Question],
-    ) -> Result<PreparedBatch, AllocError>
-        requires { length questions.now ≤ 16 }
-        ensures { IfOk result (λ batch. batch ≡ record { base = index.value; questions = questions.now }) }
+    ) -> Result<PreparedBatch<'a>, AllocError>
+        requires few { length questions.now ≤ 16 }
+        requires snapshot { AreSnapshot columns.now }
+        ensures { IfOk result (λ batch. batch ≡ record { columns = columns.now; questions = questions.now }) }
     {
-        let rows = index.first_rows();
+        columns.soundness();
+        let rows = columns.index().first_rows();
         rows.soundness();
         let plans = plans_of(alloc, questions)?;
         let masks = batch_masks(alloc, rows, &plans)?;
@@ -50,9 +56,18 @@ impl PreparedBatch {
             all.push(prepare_question(alloc, rows, &masks, &questions[number], number)?)?;
         }
         Ok(PreparedBatch {
-            index,
+            columns,
             masks,
             questions: all,
         })
+    }
+
+    /// For each question, in order, its rows as if it had been alone, by as many threads as there are processors. Fails
+    /// for want of memory alone.
+    pub fn scan<R: Threads + Sync>(&self, rt: &R, alloc: Global) -> Result<Vec<Rows>, AllocError>
+        ensures { (history : List CommitRecord) → StandsFor (columns_state self.now.columns) history
+            → IfOk result (λ rows. rows.items ≡ answers_after self.now.columns.base history self.now.questions) }
+    {
+        scan_slices(rt, alloc, self.columns.slices(), self)
     }
 }

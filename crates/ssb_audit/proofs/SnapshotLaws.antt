@@ -33,7 +33,7 @@ use Rattle.row_store.proofs.HistoryLaws.{beginnings_are_legal}
 use Rattle.row_store.proofs.PrefixLaws.{prefix_take}
 use Rattle.row_store.proofs.RearrangedLaws.{states_follow_commits}
 use Rattle.fact_columns.specs.Stored.{Stored, columns_state}
-use Rattle.ssb_audit.specs.Snapshots.{AreSnapshot}
+use Rattle.shared_scan.specs.Answers.{AreSnapshot}
 
 -- one commit more
 pub absorbed : (state new : State) (base : Tables) (front commits : List CommitRecord) (i : ℕ) (commit : CommitRecord)

@@ -6,16 +6,17 @@ ghost use Rattle.row_store.specs.History.{CommitRecord};
 ghost use Rattle.row_store.specs.Legal.{IsLegal};
 ghost use Rattle.row_store.specs.State.{StandsFor, state_of};
 ghost use Rattle.fact_columns.specs.Stored.{columns_state};
-ghost use Rattle.ssb_audit.specs.Snapshots.{AreSnapshot};
+ghost use Rattle.shared_scan.specs.Answers.{AreSnapshot};
 ghost use Rattle.ssb_audit.specs.Visits as spec;
 ghost use Rattle.ssb_audit.specs.Visits.{IsIn, AreAsked, has_rows, IsFirstOther, IsFirstWrongOf, IsFirstWrong};
 
-use crate::snapshot::{advance, index_of, rows_over};
+use crate::snapshot::advance;
 use crate::trace::Told;
 use crate::visits::{Visit, batch_end, visits_of};
-use dimension_index::DimIndex;
+use dimension_index::index_of;
 use fact_columns::Columns;
 use row_store::Commit;
+use shared_scan::answer;
 use ssb_answers::Rows;
 use ssb_base::Base;
 use ssb_questions::Question;
@@ -68,7 +69,6 @@ fn first_other(answers: &[Told], visits: &[Visit], found: &[Rows], limit: usize)
 fn check_batch<R: Threads + Sync>(
     rt: &R,
     alloc: Global,
-    index: &Arc<DimIndex>,
     columns: &Columns,
     answers: &[Told],
     visits: &[Visit],
@@ -76,13 +76,12 @@ fn check_batch<R: Threads + Sync>(
 ) -> Result<usize, AllocError>
     requires few { length visits.now ≤ 16 }
     requires answers { All (IsIn answers.now) visits.now }
-    requires base { index.now.value ≡ columns.now.base }
     requires snapshot { AreSnapshot columns.now }
     ensures { (history : List CommitRecord) → StandsFor (columns_state columns.now) history
         → IfOk result (λ place. IsFirstWrongOf columns.now.base history answers.now visits.now limit place) }
 {
     let questions = questions_of(alloc, answers, visits)?;
-    let found = rows_over(rt, alloc, index, columns, questions.as_slice())?;
+    let found = answer(rt, alloc, columns, questions.as_slice())?;
     Ok(first_other(answers, visits, found.as_slice(), limit))
 }
 
@@ -91,27 +90,27 @@ fn check_batch<R: Threads + Sync>(
 fn walk<R: Threads + Sync>(
     rt: &R,
     alloc: Global,
-    index: &Arc<DimIndex>,
+    base: &Base,
     columns: &mut Columns,
     commits: &[Commit],
     answers: &[Told],
     visits: &[Visit],
 ) -> Result<usize, AllocError>
-    requires loaded { columns_state columns.old ≡ state_of index.now.value [] }
-    requires legal { IsLegal index.now.value commits.now }
+    requires loaded { columns_state columns.old ≡ state_of base.now [] }
+    requires legal { IsLegal base.now commits.now }
     requires within { All (λ told. told.at ≤ length commits.now) answers.now }
     requires each { IsPermutation (spec.visits_of answers.now) visits.now }
     requires sorted { IsNonDecreasingBy (λ visit. visit.at) visits.now }
-    ensures { IfOk result (λ place. IsFirstWrong index.now.value commits.now answers.now place) }
+    ensures { IfOk result (λ place. IsFirstWrong base.now commits.now answers.now place) }
 {
-    index.base().soundness();
+    base.soundness();
     let mut first = answers.len();
     let mut begin = 0;
     while begin < visits.len() {
         let end = batch_end(visits, begin);
         advance(columns, commits, visits[begin].at as usize)?;
         let batch = &visits[begin..end];
-        first = check_batch(rt, alloc, index, columns, answers, batch, first)?;
+        first = check_batch(rt, alloc, columns, answers, batch, first)?;
         begin = end;
     }
     Ok(first)
@@ -133,11 +132,11 @@ pub(crate) fn first_wrong<R: Threads + Sync>(
 {
     let visits = visits_of(alloc, answers)?;
     let index = index_of(alloc, base)?;
-    let mut columns = Columns::new(alloc, Arc::try_clone(&index)?, hashing)?;
+    let mut columns = Columns::new(alloc, index, hashing)?;
     walk(
         rt,
         alloc,
-        &index,
+        base,
         &mut columns,
         commits,
         answers,

@@ -8,8 +8,9 @@ use Rattle.fact_columns.specs.Stored.{Stored, columns_state}
 use Rattle.history.specs.declared.request.Outcome.{Outcome}
 use Rattle.history.specs.declared.request.Outcome.TheVariants.{Served, GivenUp}
 use Rattle.history.specs.Tokens.{TableRecord, TokenRecord, IsSound, IsFree}
+use Rattle.shared_scan.specs.Answers.{AreSnapshot}
 use Rattle.ssb_server.specs.Hand.{Hand, no_hand, Keeps}
-use Rattle.ssb_server.specs.Turns.{IsDispatcher, HoldsNothing, HasGrabbed, HasFetched, Knows, StandsAt, IsCopy, Gave}
+use Rattle.ssb_server.specs.Turns.{IsDispatcher, HoldsNothing, HasGrabbed, HasFetched, Knows, StandsAt, Gave}
 use Rattle.ssb_server.specs.declared.turn.Turn.{Turn}
 use Rattle.ssb_server.specs.declared.turn.Turn.TheVariants.{Idle, Answered, Unserved}
 use Rattle.ssb_server.specs.Ends.{Finishes, Ends, Grows, Turned}
@@ -134,10 +135,10 @@ pub nothing_grabbed : (t u : TokenRecord) (hand : Hand) → HasGrabbed t hand u 
 nothing_grabbed t u hand grabbed is = subst HoldsNothing (sym grabbed.now) record { rows = is.rows; writer = is.writer }
 
 -- the entered columns stand for all that the token sees
-pub is_copy : (t : TokenRecord) (guard : Entered) (columns : Stored) → StandsAt t.table.base t.seen guard
+pub are_snapshot : (t : TokenRecord) (guard : Entered) (columns : Stored) → StandsAt t.table.base t.seen guard
     → columns_state columns ≡ guard.state → length (lines_after t.table.base t.seen) ≤ t.table.base.limits.lines
-    → IsCopy columns
-is_copy t guard columns at same few =
+    → AreSnapshot columns
+are_snapshot t guard columns at same few =
     let base : columns.base ≡ t.table.base = ap (λ (s : State). s.base) same ∙ at.base_is in
     let n : t.table.base.limits.lines ≤ 33554432 = t.table.base.limits.lines_range in
     let m : length (lines_after t.table.base t.seen) ≤ 33554432 = omega arith in

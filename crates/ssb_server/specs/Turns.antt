@@ -1,7 +1,7 @@
 -- What the steps of a turn do to a dispatcher's token.
-use Rattle.std.specs.Prelude.{◌≡◌, ℕ, ◌≤◌, All, false, List, [], ◌∷◌, ◌++◌, length, map, Some, Result, MatchResult}
+use Rattle.std.specs.Prelude.{◌≡◌, ℕ, All, false, List, [], ◌∷◌, ◌++◌, length, map, Some, Result, MatchResult}
 use Rattle.std.specs.declared.alloc.AllocError.{AllocError}
-use Rattle.row_store.specs.History.{CommitRecord, IsPrefix, lines_after}
+use Rattle.row_store.specs.History.{CommitRecord, IsPrefix}
 use Rattle.row_store.specs.State.{StandsFor}
 use Rattle.ssb_base.specs.Base.{Tables}
 use Rattle.history_core.specs.declared.event.Who.TheVariants.{Dispatcher}
@@ -12,12 +12,10 @@ use Rattle.history.specs.Words.{IsFresh, IsCause}
 use Rattle.twin_cell.specs.Twin.{Writing, Known, Entered}
 use Rattle.ssb_answers.specs.declared.answer.Unserved.{Unserved}
 use Rattle.history.specs.declared.request.Grabbed.{Grabbed}
-use Rattle.fact_columns.specs.Stored.{Stored, columns_state}
 use Rattle.history_core.specs.World.{rows_after}
 use Rattle.ssb_answers.specs.declared.answer.Rows.{Rows}
 use Rattle.ssb_questions.specs.declared.query.Query.{Query}
 use Rattle.ssb_questions.specs.declared.value.Value.{Value}
-use Rattle.ssb_base.specs.declared.limits.TheConstants.{MOST_LINES}
 use Rattle.ssb_server.specs.Hand.{Hand, Keeps}
 
 -- the token is a dispatcher's at this table
@@ -104,12 +102,6 @@ pub record HasTaken (t : TokenRecord) (writer : Writing) : Type 0 where
   pub more : List (List CommitRecord)
   pub beside_is : t.beside ≡ (writer.published ++ writer.pending) ∷ more
   pub base_is : writer.base ≡ t.table.base
-
--- the columns stand for a history that leaves no more lines than can be summed
-pub record IsCopy (columns : Stored) : Type 0 where
-  pub history : List CommitRecord
-  pub stands : StandsFor (columns_state columns) history
-  pub few : length (lines_after columns.base history) ≤ MOST_LINES
 
 -- the newest request in hand is this client's
 pub record HasInHand (grabbed : List Grabbed) (client : ℕ) (question : Query × List Value) : Type 0 where

@@ -1,44 +1,16 @@
-//! The end of a turn: the batch is scanned, and each request in hand is answered.
-ghost use Rattle.std.specs.Prelude.{◌≡◌, ◌≤◌, List, length, Some, IfOk};
-ghost use Rattle.row_store.specs.History.{CommitRecord};
-ghost use Rattle.row_store.specs.State.{StandsFor};
+//! The end of a turn: each request in hand is answered.
+ghost use Rattle.std.specs.Prelude.{◌≡◌, length, Some};
 ghost use Rattle.history.specs.declared.request.Outcome.TheVariants.{Served, GivenUp};
-ghost use Rattle.fact_columns.specs.Stored.{columns_state};
 ghost use Rattle.history.specs.Words.{IsCause};
 ghost use Rattle.ssb_server.specs.Hand.{Keeps, no_hand};
-ghost use Rattle.ssb_server.specs.Turns.{answers_after, IsDispatcher, HoldsNothing, IsCopy, HasInHand, Answered};
+ghost use Rattle.ssb_server.specs.Turns.{answers_after, IsDispatcher, HoldsNothing, HasInHand, Answered};
 ghost use Rattle.ssb_server.specs.Turns.{GaveOne, Gave};
 
 use crate::batch::Batch;
 use crate::server::{Server, Token};
-use dimension_index::DimIndex;
-use fact_columns::Columns;
-use shared_scan::{PreparedBatch, scan_parallel};
 use ssb_answers::{Answer, Rows, Unserved};
 use ssb_questions::Question;
-use std::alloc::{AllocError, Global};
-use std::sync::{Arc, Wait};
-use std::thread::Threads;
-
-/// The rows of each question, in one pass over the copy.
-pub(crate) fn scan_batch<R: Threads + Sync>(
-    rt: &R,
-    alloc: Global,
-    index: &Arc<DimIndex>,
-    columns: &Columns,
-    questions: &[Question],
-) -> Result<Vec<Rows>, AllocError>
-    requires few { length questions.now ≤ 16 }
-    requires base { index.now.value ≡ columns.now.base }
-    requires copy { IsCopy columns.now }
-    ensures { (history : List CommitRecord) → StandsFor (columns_state columns.now) history
-        → IfOk result (λ rows. rows.items ≡ answers_after columns.now.base history questions.now) }
-{
-    columns.soundness();
-    let index = Arc::try_clone(index)?;
-    let batch = PreparedBatch::new(alloc, index, questions)?;
-    scan_parallel(rt, alloc, columns, &batch)
-}
+use std::sync::Wait;
 
 // Answers the request that was grabbed last by its rows.
 fn serve_one<W: Wait + Drop>(

@@ -73,7 +73,6 @@ impl<W: Wait + Drop> Server<W> {
         }
         let Server {
             table,
-            index: _,
             clients: _,
             dispatchers: _,
             bells: _,

@@ -13,7 +13,7 @@ use crate::pace::Pace;
 use crate::room::Room;
 use crate::server::{Server, SharedTable, Token};
 use crate::tickets::clients_of;
-use dimension_index::DimIndex;
+use dimension_index::index_of;
 use fact_columns::Columns;
 use row_store::RowStore;
 use ssb_base::Base;
@@ -78,30 +78,19 @@ fn dispatchers_of<W: Wait + Drop>(
     Ok(dispatchers)
 }
 
-// The index of a base, for many owners.
-fn index_of(alloc: Global, base: &Arc<Base>) -> Result<Arc<DimIndex>, AllocError>
-    ensures { IfOk result (λ index. index.value ≡ base.now.value) }
-{
-    let index = DimIndex::new(alloc, Arc::try_clone(base)?)?;
-    Ok(Arc::new(alloc, index).map_err(AllocError::from)?)
-}
-
 // The server over a table that was just made.
 fn server_over<W: Wait + Drop>(
     alloc: Global,
     table: SharedTable<W>,
-    index: Arc<DimIndex>,
     clients: u32,
     dispatchers: u32,
 ) -> Result<Server<W>, AllocError>
-    requires index { index.value ≡ table.base }
     requires counts { (clients ≡ table.clients) × (dispatchers ≡ table.dispatchers) }
     requires few { (clients ≤ 16) × (dispatchers ≤ 4) }
     ensures { IfOk result (λ server. server ≡ table) }
 {
     Ok(Server {
         table,
-        index,
         clients,
         dispatchers,
         bells: Bells::new(alloc, clients, dispatchers)?,
@@ -115,11 +104,9 @@ fn server_over<W: Wait + Drop>(
 fn seat_all<W: Wait + Drop>(
     alloc: Global,
     opened: history::Opened<twin_cell::TwinWriter<Columns, W>>,
-    index: Arc<DimIndex>,
     readers: Vec<TwinReader<Columns>>,
     counts: (u32, u32),
 ) -> Result<Opened<W>, AllocError>
-    requires index { index.value ≡ opened.shared.base }
     requires counts { (counts.0 ≡ opened.shared.clients) × (counts.1 ≡ opened.shared.dispatchers) }
     requires few { (counts.0 ≤ 16) × (counts.1 ≤ 4) }
     requires clients { opened.clients.items ≡ new_clients opened.shared }
@@ -138,7 +125,7 @@ fn seat_all<W: Wait + Drop>(
     let clients = clients_of(alloc, clients)?;
     let dispatchers = dispatchers_of(alloc, dispatchers, readers)?;
     Ok(Opened {
-        server: server_over(alloc, shared, index, counts.0, counts.1)?,
+        server: server_over(alloc, shared, counts.0, counts.1)?,
         clients,
         dispatchers,
     })
@@ -147,24 +134,18 @@ fn seat_all<W: Wait + Drop>(
 // What a server is made of, but for the two copies.
 struct Parts {
     rows: RowStore,
-    index: Arc<DimIndex>,
     columns: Columns,
 }
 
 // The parts over a base.
 fn parts_of(alloc: Global, hashing: RandomState, base: &Arc<Base>) -> Result<Parts, AllocError>
     ensures rows { IfOk result (λ parts. parts.rows ≡ record { base = base.now.value; log = [] }) }
-    ensures index { IfOk result (λ parts. parts.index.value ≡ base.now.value) }
     ensures columns { IfOk result (λ parts. columns_state parts.columns ≡ state_of base.now.value []) }
 {
     let index = index_of(alloc, base)?;
     let rows = RowStore::new(alloc, Arc::try_clone(base)?, hashing)?;
-    let columns = Columns::new(alloc, Arc::try_clone(&index)?, hashing)?;
-    Ok(Parts {
-        rows,
-        index,
-        columns,
-    })
+    let columns = Columns::new(alloc, index, hashing)?;
+    Ok(Parts { rows, columns })
 }
 
 // Builds all parts over a base, for counts in their ranges.
@@ -185,16 +166,12 @@ fn build<W: Wait + Drop>(
     let Ok(parts) = parts_of(alloc, hashing, base) else {
         return Err(TwinError::OutOfMemory);
     };
-    let Parts {
-        rows,
-        index,
-        columns,
-    } = parts;
+    let Parts { rows, columns } = parts;
     let (writer, readers) = twin(alloc, rt, columns, dispatchers as usize)?;
     let Ok(opened) = SharedTable::new(alloc, rows, writer, clients, dispatchers) else {
         return Err(TwinError::OutOfMemory);
     };
-    let Ok(made) = seat_all(alloc, opened, index, readers, (clients, dispatchers)) else {
+    let Ok(made) = seat_all(alloc, opened, readers, (clients, dispatchers)) else {
         return Err(TwinError::OutOfMemory);
     };
     Ok(made)

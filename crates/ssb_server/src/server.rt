@@ -4,11 +4,10 @@ ghost use Rattle.std.specs.Prelude.{◌≡◌};
 use crate::bells::Bells;
 use crate::pace::Pace;
 use crate::room::Room;
-use dimension_index::DimIndex;
 use fact_columns::Columns;
 use std::alloc::Global;
 use std::marker::Model;
-use std::sync::{Arc, Mutex, Wait};
+use std::sync::{Mutex, Wait};
 use twin_cell::TwinWriter;
 
 /// The table of a server: its two parts are the row store, and the writer of the columns.
@@ -17,13 +16,11 @@ pub(crate) type SharedTable<W> = history::SharedTable<TwinWriter<Columns, W>>;
 /// The token of a client or dispatcher to that table.
 pub(crate) type Token<W> = history::Token<TwinWriter<Columns, W>>;
 
-/// What clients and dispatchers share: the table, the index that the columns are coded by, and the places where they
-/// sleep. Contracts see the table: its name, the base, and how many clients and dispatchers there are. `W` is the
+/// What clients and dispatchers share: the table, and the places where they sleep. Contracts see the table: its name, the base, and how many clients and dispatchers there are. `W` is the
 /// handle by which the writer of the columns waits.
 #[derive(Drop)]
 pub struct Server<W: Wait + Drop> {
     pub(crate) table: SharedTable<W>,
-    pub(crate) index: Arc<DimIndex>,
     pub(crate) clients: u32,
     pub(crate) dispatchers: u32,
     pub(crate) bells: Bells,
@@ -41,7 +38,7 @@ impl<W: Wait + Drop> Model for Server<W> {
 
     ghost view = { λ s. s.table };
 
-    ghost invariant = { λ s. IsServed s.table s.index.value s.clients s.dispatchers };
+    ghost invariant = { λ s. IsServed s.table s.clients s.dispatchers };
 }
 
 impl<W: Wait + Drop> Server<W> {

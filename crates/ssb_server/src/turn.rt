@@ -5,12 +5,13 @@ ghost use Rattle.ssb_server.specs.Hand.{Keeps, no_hand};
 ghost use Rattle.ssb_server.specs.Turns.{answers_after, IsDispatcher, HoldsNothing, Knows, HasFetched};
 ghost use Rattle.ssb_server.specs.Ends.{Finishes, Ends, Turned};
 
-use crate::answers::{give_up_all, scan_batch, serve_all};
+use crate::answers::{give_up_all, serve_all};
 use crate::batch::Batch;
 use crate::grabbing::grab_all;
 use crate::server::{Server, Token};
 use crate::snapshot::snapshot;
 use fact_columns::Columns;
+use shared_scan::answer;
 use ssb_answers::{Rows, Unserved};
 use std::alloc::AllocError;
 use std::sync::Wait;
@@ -106,13 +107,7 @@ fn serve<W: Wait + Drop, R: Wait + Threads + Sync, G: ScanGate>(
         Ok(guard) => {
             let at = token.seen_len();
             gate.scanning(at);
-            let scanned = scan_batch(
-                rt,
-                server.alloc,
-                &server.index,
-                guard.replica(),
-                batch.questions(),
-            );
+            let scanned = answer(rt, server.alloc, guard.replica(), batch.questions());
             let reader = guard.leave();
             let turn = finish(server, token, batch, at, scanned);
             (reader, turn)

@@ -1,9 +1,8 @@
 use Rattle.std.proofs.Common.{◌≡◌, ◌∙◌, ◌≤◌, sym, subst, ap, Some, arith}
 use Rattle.std.specs.Prelude.{IfOk}
-use Rattle.history.specs.Tokens.{TableRecord}
 use Rattle.ssb_server.specs.Turns.{answers_after, Knows}
 use Rattle.ssb_server.proofs.TurningLaws.{
-  is_copy,
+  are_snapshot,
   copy_stands,
   copy_base,
   left,
@@ -16,17 +15,8 @@ use Rattle.ssb_server.proofs.TurningLaws.{
 }
 use Rattle.ssb_server.proofs.turn.serve.Goals as goal
 
-pub scan_batch-scanned-requires-clause-base : goal.scan_batch-scanned-requires-clause-base
-scan_batch-scanned-requires-clause-base g c = λ κs outlives.
-    let is = dispatcher_later c.args.server.now c.args.token.now c.snapshot.new.token c.in-Ok.ensures.fetched
-    c.requires.dispatcher in
-    (c.server.invariant.index_is ∙ ap (λ (h : TableRecord). h.base) c.server.view_is)
-    ∙ (ap (λ (h : TableRecord). h.base) (sym is.table_is) ∙ sym
-    (copy_base c.snapshot.new.token c.in-Ok.guard c.replica.result.now c.in-Ok.ensures.entered
-    c.replica.ensures.state))
-
-pub scan_batch-scanned-requires-clause-copy : goal.scan_batch-scanned-requires-clause-copy
-scan_batch-scanned-requires-clause-copy g c = λ κs outlives. is_copy c.snapshot.new.token c.in-Ok.guard
+pub answer-scanned-requires-clause-snapshot : goal.answer-scanned-requires-clause-snapshot
+answer-scanned-requires-clause-snapshot g c = λ κs outlives. are_snapshot c.snapshot.new.token c.in-Ok.guard
     c.replica.result.now c.in-Ok.ensures.entered c.replica.ensures.state c.in-Ok.ensures.few
 
 pub finish-turn-requires : goal.finish-turn-requires
@@ -41,12 +31,12 @@ finish-turn-requires g c = record {
     version_later c.args.token.now c.snapshot.new.token c.in-Ok.ensures.fetched
         ∙ ap (λ n. Some n) (sym c.seen_len-at.ensures),
   );
-  rows = subst (λ base. IfOk c.scan_batch-scanned.result
+  rows = subst (λ base. IfOk c.answer-scanned.result
       (λ rows. rows.items ≡ answers_after base c.snapshot.new.token.seen c.args.batch.now.questions))
       (copy_base c.snapshot.new.token c.in-Ok.guard c.replica.result.now c.in-Ok.ensures.entered c.replica.ensures.state)
-      (subst (λ qs. IfOk c.scan_batch-scanned.result (λ rows. rows.items ≡ answers_after c.replica.result.now.base
+      (subst (λ qs. IfOk c.answer-scanned.result (λ rows. rows.items ≡ answers_after c.replica.result.now.base
       c.snapshot.new.token.seen qs)) c.questions.ensures
-      (c.scan_batch-scanned.ensures c.snapshot.new.token.seen
+      (c.answer-scanned.ensures c.snapshot.new.token.seen
       (copy_stands c.snapshot.new.token c.in-Ok.guard c.replica.result.now c.in-Ok.ensures.entered
       c.replica.ensures.state)));
 }
