@@ -1,7 +1,7 @@
 -- What a batch answers.
 use Rattle.std.specs.Prelude.{◌≤◌, List, length, map}
 use Rattle.ssb_base.specs.Base.{Tables, Dimensions}
-use Rattle.ssb_base.specs.declared.limits.TheConstants.{MOST_LINES}
+use Rattle.ssb_base.specs.Limits.{most_lines}
 use Rattle.ssb_schema.specs.Facts.{facts_of}
 use Rattle.ssb_schema.specs.declared.fact.Fact.{Fact}
 use Rattle.row_store.specs.History.{CommitRecord, lines_after}
@@ -21,7 +21,7 @@ pub record Prepared : Type 0 where
 pub record AreSnapshot (columns : Stored) : Type 0 where
   pub history : List CommitRecord
   pub stands : StandsFor (columns_state columns) history
-  pub few : length (lines_after columns.base history) ≤ MOST_LINES
+  pub few : length (lines_after columns.base history) ≤ most_lines
 
 -- each question with its rows over these facts, as if it had been alone
 abbrev pub answers_over : Dimensions → List Fact → List (Query × List Value) → List Rows

@@ -1,6 +1,6 @@
 -- A batch made ready.
 use Rattle.std.specs.Prelude.{◌≤◌, length}
-use Rattle.ssb_base.specs.declared.limits.TheConstants.{MOST_LINES}
+use Rattle.ssb_base.specs.Limits.{most_lines}
 use Rattle.dimension_index.specs.Classes.{reduced}
 use Rattle.shared_scan.specs.Prepared.{AreMasksOf}
 use Rattle.shared_scan.specs.Masking.{CoverRows}
@@ -14,7 +14,7 @@ prepared batch = record { columns = batch.columns.now; questions = questions_of 
 
 -- no more lines are live than can be summed, and the masks and the groups are those of the questions, over the rows of the base that begin a class
 pub record IsPrepared (batch : Inside) : Type 0 where
-  pub small : length batch.columns.now.facts ≤ MOST_LINES
+  pub small : length batch.columns.now.facts ≤ most_lines
   pub few : length batch.questions.items ≤ 16
   pub masks_tell :
       AreMasksOf (plans_of (questions_of batch.questions.items)) (reduced batch.columns.now.base).dimensions batch.masks

@@ -1,11 +1,21 @@
--- The ranges of the limits.
+-- How large a warehouse may grow at most, and the ranges of the limits.
 use Rattle.std.specs.Prelude.{ℕ, ◌≤◌}
 use Rattle.ssb_base.specs.declared.limits.Limits.{Limits}
 
+abbrev pub most_dimension_rows : ℕ
+most_dimension_rows = 1048576
+
+-- the sum of any measure over so many lines fits an `i64`
+abbrev pub most_lines : ℕ
+most_lines = 33554432
+
+abbrev pub most_commits : ℕ
+most_commits = 1000000
+
 pub record AreLimits (dimension_rows lines commits : ℕ) : Type 0 where
-  pub dimension_rows_range : (1 ≤ dimension_rows) × (dimension_rows ≤ 1048576)
-  pub lines_range : lines ≤ 33554432
-  pub commits_range : (1 ≤ commits) × (commits ≤ 1000000)
+  pub dimension_rows_range : (1 ≤ dimension_rows) × (dimension_rows ≤ most_dimension_rows)
+  pub lines_range : lines ≤ most_lines
+  pub commits_range : (1 ≤ commits) × (commits ≤ most_commits)
 
 -- the three numbers
 abbrev pub limits_of : Limits → ℕ × ℕ × ℕ

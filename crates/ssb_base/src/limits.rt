@@ -26,7 +26,7 @@ pub struct Limits {
 }
 
 impl Limits {
-    ghost use Rattle.ssb_base.specs.Limits.{AreLimits, limits_of};
+    ghost use Rattle.ssb_base.specs.Limits.{AreLimits, limits_of, most_dimension_rows, most_lines, most_commits};
 
     /// These limits; none unless there are 1 to 1,048,576 rows of a dimension, up to 33,554,432 lines and 1 to
     /// 1,000,000 commits.
@@ -49,7 +49,7 @@ impl Limits {
 
     /// The greatest limits.
     pub fn standard() -> Limits
-        ensures { limits_of result ≡ (1048576, 33554432, 1000000) }
+        ensures { limits_of result ≡ (most_dimension_rows, most_lines, most_commits) }
     {
         Limits {
             dimension_rows: MOST_DIMENSION_ROWS,

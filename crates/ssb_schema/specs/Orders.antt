@@ -20,17 +20,21 @@ abbrev pub repeated_number : List LineFields → LineFields → Option SchemaFau
 repeated_number earlier line =
     if list_any (λ e. has_number_of e line) earlier then Some (fault.LineRepeated line.line_number) else None
 
+-- the most lines of an order
+abbrev pub most_order_lines : ℕ
+most_order_lines = 7
+
 -- the first fault of the lines of an order
 abbrev pub order_fault : List LineFields → Option SchemaFault
 order_fault lines =
     if nat_eq (length lines) 0 then Some fault.NoLines
-    else if nat_lt 7 (length lines) then Some fault.TooManyLines
+    else if nat_lt most_order_lines (length lines) then Some fault.TooManyLines
     else if not (list_all (λ line. nat_eq line.order_key (order_key lines)) lines) then Some fault.KeysDiffer
     else rows_fault repeated_number [] lines
 
--- one to seven lines of one key, with distinct numbers
+-- one line or more, up to the most, of one key, with distinct numbers
 pub record IsOrder (lines : List LineFields) : Type 0 where
   pub some : 0 < length lines
-  pub few : length lines ≤ 7
+  pub few : length lines ≤ most_order_lines
   pub alike : All (λ line. line.order_key ≡ order_key lines) lines
   pub numbered : AreDistinct has_number_of lines

@@ -10,6 +10,9 @@ use crate::fault::{Refused, SchemaFault};
 use crate::line::Line;
 use std::marker::Model;
 
+/// The most lines of an order.
+pub const MOST_ORDER_LINES: usize = 7;
+
 /// The lines of one order: one to seven, of one order key, with distinct line numbers. Contracts see the list of lines.
 #[derive(Drop)]
 pub struct Order {
@@ -62,7 +65,7 @@ fn fault(lines: &[Line]) -> Option<SchemaFault>
     let Some(first) = lines.first() else {
         return Some(SchemaFault::NoLines);
     };
-    if lines.len() > 7 {
+    if lines.len() > MOST_ORDER_LINES {
         return Some(SchemaFault::TooManyLines);
     }
     let key = first.order_key();

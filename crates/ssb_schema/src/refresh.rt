@@ -7,6 +7,9 @@ use crate::fault::{Refused, SchemaFault};
 use crate::order::Order;
 use std::marker::Model;
 
+/// The most actions of a refresh.
+pub const MOST_ACTIONS: usize = 64;
+
 /// What a refresh does with one order.
 #[derive(Drop)]
 pub enum Action {
@@ -27,7 +30,7 @@ pub struct Refresh {
 impl Model for Refresh {
     ghost use Rattle.std.specs.Prelude.{◌≡◌, List, None};
     ghost use Rattle.ssb_schema.specs.declared.refresh.Action.{Action};
-    ghost use Rattle.ssb_schema.specs.Refreshes.{refresh_fault};
+    ghost use Rattle.ssb_schema.specs.Refreshes.{refresh_fault, most_actions};
 
     ghost Value = { List Action };
 
@@ -37,7 +40,7 @@ impl Model for Refresh {
 }
 
 impl Refresh {
-    ghost use Rattle.ssb_schema.specs.Refreshes.{refresh_fault};
+    ghost use Rattle.ssb_schema.specs.Refreshes.{refresh_fault, most_actions};
 
     /// A refresh of these actions, or its fault with the actions: none, or more than 64.
     pub fn new(actions: Vec<Action>) -> Result<Refresh, Refused<Vec<Action>>>
@@ -51,7 +54,7 @@ impl Refresh {
                 back: actions,
             });
         }
-        if actions.len() > 64 {
+        if actions.len() > MOST_ACTIONS {
             return Err(Refused {
                 fault: SchemaFault::TooManyActions,
                 back: actions,
@@ -70,7 +73,7 @@ impl Refresh {
     /// The actions.
     pub fn actions(&self) -> &[Action]
         ensures actions { result.now ≡ self.now }
-        ensures few { (0 < length self.now) × (length self.now ≤ 64) }
+        ensures few { (0 < length self.now) × (length self.now ≤ most_actions) }
     {
         self.actions.as_slice()
     }

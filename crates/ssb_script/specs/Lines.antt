@@ -43,7 +43,7 @@ use Rattle.ssb_questions.specs.Question.{constants_fault}
 use Rattle.ssb_questions.specs.declared.kind.ConstantKind.{ConstantKind}
 use Rattle.ssb_questions.specs.declared.kind.ConstantKind.TheVariants as kind
 use Rattle.ssb_questions.specs.declared.query.Query.{Query as Named}
-use Rattle.ssb_questions.specs.declared.query.TheConstants.{QUERIES}
+use Rattle.ssb_questions.specs.AllQueries.{all_queries}
 use Rattle.ssb_questions.specs.declared.value.Value.{Value}
 use Rattle.ssb_questions.specs.declared.value.Value.TheVariants as value
 use Rattle.ssb_schema.specs.declared.fault.SchemaFault.{SchemaFault}
@@ -89,7 +89,7 @@ word_of fields = word_spelled (field fields 0)
 
 -- the query that bytes name
 abbrev pub query_named : List ℕ → Option Named
-query_named name = find (λ query. pointwise nat_eq (name_of query) name) QUERIES
+query_named name = find (λ query. pointwise nat_eq (name_of query) name) all_queries
 
 -- the constant of a kind that bytes spell: a text, or a number of 32 bits
 abbrev pub constant_spelled : ConstantKind → List ℕ → Option Value

@@ -31,7 +31,8 @@ use Rattle.std.specs.Prelude.{
 }
 use Rattle.std.specs.List.{flat_map}
 use Rattle.ssb_text.specs.Records.{BeginsWith, HasRecords}
-use Rattle.ssb_schema.specs.Orders.{order_fault}
+use Rattle.ssb_schema.specs.Orders.{order_fault, most_order_lines}
+use Rattle.ssb_schema.specs.Refreshes.{most_actions}
 use Rattle.ssb_schema.specs.declared.fault.SchemaFault.TheVariants as schema
 use Rattle.ssb_schema.specs.declared.refresh.Action.{Action}
 use Rattle.ssb_schema.specs.declared.refresh.Action.TheVariants as action
@@ -62,9 +63,9 @@ lines_of_begun (begun.Order order) = line.Begin ∷ (flat_map lines_of_action or
 -- what is begun has room in a refresh and an order, and its order began at that record, of so many that were read
 abbrev pub HasRoom : ℕ → Begun → Type 0
 HasRoom count begun.Nothing = Unit {0}
-HasRoom count (begun.Refresh actions) = (length actions ≤ 64) × All IsWholeAction actions
+HasRoom count (begun.Refresh actions) = (length actions ≤ most_actions) × All IsWholeAction actions
 HasRoom count (begun.Order order) =
-    (length order.actions < 64) × All IsWholeAction order.actions × (length order.lines ≤ 7)
+    (length order.actions < most_actions) × All IsWholeAction order.actions × (length order.lines ≤ most_order_lines)
     × (order.number + length order.lines ≡ count)
 
 -- whether the last of these actions adds or amends an order
@@ -151,7 +152,7 @@ line_refused number (Ok spelled) = None
 
 abbrev pub too_many_lines : Begun → Result ScriptLine RecordFault → Option ScriptError
 too_many_lines (begun.Order order) (Ok (line.Line row)) =
-    if nat_lt (length order.lines) 7 then None else Some (error.Row order.number schema.TooManyLines)
+    if nat_lt (length order.lines) most_order_lines then None else Some (error.Row order.number schema.TooManyLines)
 too_many_lines _ _ = None
 
 -- 5. it begins the 65th action
@@ -161,7 +162,7 @@ begins_action (Ok (line.Withdraw key)) = true
 begins_action _ = false
 
 abbrev pub too_many_actions : ℕ → Begun → Result ScriptLine RecordFault → Option ScriptError
-too_many_actions number b spelled = if begins_action spelled && not (nat_lt (actions_in b) 64) then Some
+too_many_actions number b spelled = if begins_action spelled && not (nat_lt (actions_in b) most_actions) then Some
     (error.Row number schema.TooManyActions) else None
 
 -- 6. it is the `commit` of no action

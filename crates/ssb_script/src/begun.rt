@@ -4,6 +4,7 @@ ghost use Rattle.std.specs.Prelude.{◌≡◌, ◌+◌, ◌-◌, ◌<◌, ◌^�
 ghost use Rattle.std.specs.Prelude.{option_map};
 ghost use Rattle.csv.specs.Records.{fields_of};
 ghost use Rattle.ssb_schema.specs.Orders.{order_fault};
+ghost use Rattle.ssb_schema.specs.Refreshes.{most_actions};
 ghost use Rattle.ssb_script.specs.Lines as spec;
 ghost use Rattle.ssb_script.specs.Lines.{ScriptLine};
 ghost use Rattle.ssb_script.specs.Requests.{action_of};
@@ -19,7 +20,9 @@ use crate::order_line::OrderLine;
 use crate::request::Request;
 use crate::word::is_line;
 use csv::ByteRecord;
-use ssb_schema::{Action, Items, Line, Order, Refresh, SchemaFault};
+use ssb_schema::{
+    Action, Items, Line, MOST_ACTIONS, MOST_ORDER_LINES, Order, Refresh, SchemaFault,
+};
 use std::alloc::{AllocError, Global};
 use std::sync::Arc;
 
@@ -67,9 +70,9 @@ fn pushed<T: Drop>(items: Items<T>, item: T) -> Result<Items<T>, AllocError>
 
 // Whether a refresh of these actions takes one more.
 fn has_room(actions: &Items<Action>) -> bool
-    ensures { result ≡ nat_lt (length actions.now) 64 }
+    ensures { result ≡ nat_lt (length actions.now) most_actions }
 {
-    actions.len() < 64
+    actions.len() < MOST_ACTIONS
 }
 
 // What comes of the record of a number where no refresh is begun.
@@ -189,7 +192,7 @@ impl BegunOrder {
         ensures fault { IfErr result (IsFoundBy (checks_in number (begun.Order (begun_order self))
             (Ok (spec.Line line)))) }
     {
-        if self.lines.len() == 7 {
+        if self.lines.len() == MOST_ORDER_LINES {
             return Err(ScriptError::Row(self.number, SchemaFault::TooManyLines));
         }
         let lines = pushed(self.lines, line)?;

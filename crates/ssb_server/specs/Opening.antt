@@ -7,11 +7,19 @@ use Rattle.twin_cell.specs.Twin.{Known}
 use Rattle.ssb_server.specs.declared.opening.OpenFault.{OpenFault}
 use Rattle.ssb_server.specs.declared.opening.OpenFault.TheVariants.{ClientCount, DispatcherCount, NoReader, OutOfMemory}
 
+-- the most clients of a server
+abbrev pub most_clients : ℕ
+most_clients = 16
+
+-- the most dispatchers
+abbrev pub most_dispatchers : ℕ
+most_dispatchers = 4
+
 abbrev pub IsClientCount : ℕ → Type 0
-IsClientCount clients = (1 ≤ clients) × (clients ≤ 16)
+IsClientCount clients = (1 ≤ clients) × (clients ≤ most_clients)
 
 abbrev pub IsDispatcherCount : ℕ → Type 0
-IsDispatcherCount dispatchers = (1 ≤ dispatchers) × (dispatchers ≤ 4)
+IsDispatcherCount dispatchers = (1 ≤ dispatchers) × (dispatchers ≤ most_dispatchers)
 
 -- as many clients and dispatchers as a server may have
 abbrev pub AreCounts : ℕ → ℕ → Type 0
