@@ -2,7 +2,7 @@
 use Rattle.std.specs.Prelude.{◌≡◌, ℕ, ◌-◌, ◌≤◌, List, map, slice_index, vec_len, vec_capacity}
 use Rattle.std.specs.List.{range_with_len}
 use Rattle.fact_columns.specs.declared.place.Place.{Place}
-use Rattle.fact_columns.specs.declared.slices.Slices.{Slices}
+use Rattle.scan_kernel.specs.declared.columns.LineColumns.{LineColumns}
 use Rattle.fact_columns.specs.declared.fact_table.FactTable.TheInside.{Inside}
 
 -- the places, and for how many more there is memory
@@ -30,16 +30,16 @@ place_at order customer supplier part date terms price revenue cost customer_cla
       date_class = slice_index date_class i;
     }
 
--- the slices are the columns of the places, each as long as there are places
-pub record AreColumnsOf (places : List Place) (slices : Slices) : Type 0 where
-  pub customers : slices.customer.now ≡ map (λ place. place.customer_class) places
-  pub suppliers : slices.supplier.now ≡ map (λ place. place.supplier_class) places
-  pub parts : slices.part.now ≡ map (λ place. place.part_class) places
-  pub dates : slices.date.now ≡ map (λ place. place.date_class) places
-  pub terms : slices.terms.now ≡ map (λ place. place.terms) places
-  pub prices : slices.price.now ≡ map (λ place. place.price) places
-  pub revenues : slices.revenue.now ≡ map (λ place. place.revenue) places
-  pub costs : slices.cost.now ≡ map (λ place. place.cost) places
+-- the columns of the places, a row by its class; each is as long as there are places
+pub record AreColumnsOf (places : List Place) (lines : LineColumns) : Type 0 where
+  pub customers : lines.customer.now ≡ map (λ place. place.customer_class) places
+  pub suppliers : lines.supplier.now ≡ map (λ place. place.supplier_class) places
+  pub parts : lines.part.now ≡ map (λ place. place.part_class) places
+  pub dates : lines.date.now ≡ map (λ place. place.date_class) places
+  pub terms : lines.terms.now ≡ map (λ place. place.terms) places
+  pub prices : lines.price.now ≡ map (λ place. place.price) places
+  pub revenues : lines.revenue.now ≡ map (λ place. place.revenue) places
+  pub costs : lines.cost.now ≡ map (λ place. place.cost) places
 
 -- a table's columns as one list of places
 abbrev pub held : Inside → Held

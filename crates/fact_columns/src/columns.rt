@@ -12,10 +12,10 @@ use crate::hints::Hints;
 use crate::loading::{count_orders, span_all, table_of};
 use crate::orders::apply_actions;
 use crate::place::Place;
-use crate::slices::Slices;
 use crate::span::Spans;
 use dimension_index::DimIndex;
 use row_store::{Commit, Replica};
+use scan_kernel::LineColumns;
 use std::alloc::{AllocError, Global};
 use std::collections::HashMap;
 use std::hash::RandomState;
@@ -109,12 +109,12 @@ impl Columns {
         self.table.at(place)
     }
 
-    /// The columns that queries read.
-    pub fn slices(&self) -> Slices<'_>
+    /// The columns that queries read: a line's rows by their classes.
+    pub fn line_columns(&self) -> LineColumns<'_>
         ensures columns { AreColumnsOf self.now.places result }
         ensures read { IsRead self.now }
     {
-        self.table.slices()
+        self.table.line_columns()
     }
 
     /// The index of the dimensions.

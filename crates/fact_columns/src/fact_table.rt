@@ -6,7 +6,7 @@ ghost use Rattle.fact_columns.specs.Columns.{Held, AreColumnsOf};
 ghost use Rattle.fact_columns.specs.Places.{freed};
 
 use crate::place::Place;
-use crate::slices::Slices;
+use scan_kernel::LineColumns;
 use std::alloc::{AllocError, Global};
 use std::marker::Model;
 
@@ -172,11 +172,11 @@ impl FactTable {
         self.date_class.push_reserved(with.date_class);
     }
 
-    /// The columns that queries read.
-    pub fn slices(&self) -> Slices<'_>
+    /// The columns that queries read: a line's rows by their classes.
+    pub fn line_columns(&self) -> LineColumns<'_>
         ensures { AreColumnsOf self.now.places result }
     {
-        Slices {
+        LineColumns {
             customer: self.customer_class.as_slice(),
             supplier: self.supplier_class.as_slice(),
             part: self.part_class.as_slice(),

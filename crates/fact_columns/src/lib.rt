@@ -2,11 +2,11 @@
 //! date by absorbing commits.
 //!
 //! `Columns` is a `Replica`: it begins with the loaded lines of a base and takes commit after commit, accepted or not,
-//! all of it or nothing. The scan reads its columns through `Columns::slices` and nothing else: they name the rows of a
+//! all of it or nothing. The scan reads its columns through `Columns::line_columns` and nothing else: they name the rows of a
 //! line by class. A withdrawn line leaves its place free, and a later line is written there.
 //!
 //! ```text
-//!  commit ── lines in codes ──▶ free places of a hint, else the end ──▶ columns ── slices ──▶ the scan
+//!  commit ── lines in codes ──▶ free places of a hint, else the end ──▶ columns ── lent ──▶ the scan
 //!                                     ▲                                    │
 //!                                     └──────── withdrawn places ◀─────────┘ by the span of their order
 //! ```
@@ -19,7 +19,7 @@
 //! ```text
 //! let mut columns = Columns::new(alloc, index, RandomState::new(&rt)?)?;
 //! columns.absorb(&commit)?;
-//! let slices = columns.slices();       // slices.revenue[i] is of a line of the customers' class slices.customer[i]
+//! let lines = columns.line_columns();       // lines.revenue[i] is of a line of the customers' class lines.customer[i]
 //! ```
 //!
 //! The fact table in columns: places that hold a live line or are free, seen by contracts as one list.
@@ -27,7 +27,7 @@
 //! A line is kept by position and code: its customer, supplier, part and date as positions in the lists of the
 //! dimensions, its quantity and discount as one code. Beside each position stands the row's class, a number that rows
 //! share which no query can tell apart: lines are read back by position and scanned by class. Each column is a `Vec` of
-//! its own, so that a scan reads only what it needs; [`FactTable::slices`] lends what it reads. A place is free where its
+//! its own, so that a scan reads only what it needs; [`FactTable::line_columns`] lends what it reads. A place is free where its
 //! quantity is 0, and is then written again.
 //!
 //! The contract: whatever is written, the columns are those of one list of places (`specs/Columns.antt`), and the facts
@@ -37,7 +37,7 @@
 //! ```text
 //! table.reserve(1)?;
 //! table.push(place);                       // or table.write(free, place)
-//! let slices = table.slices();             // slices.revenue[i] belongs to the class slices.customer[i]
+//! let lines = table.line_columns();        // lines.revenue[i] belongs to the class lines.customer[i]
 //! ```
 #![tactic(auto)]
 
@@ -52,10 +52,8 @@ mod loading;
 mod orders;
 mod place;
 mod placing;
-mod slices;
 mod span;
 
 pub use columns::Columns;
 pub use fact_table::FactTable;
 pub use place::{Place, terms};
-pub use slices::Slices;

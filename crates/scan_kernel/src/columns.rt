@@ -3,15 +3,15 @@ ghost use Rattle.std.specs.Prelude.{◌≡◌, length};
 
 use ssb_questions::Measure;
 
-/// The columns of the fact table, a place for each line.
+/// The columns of the fact table that queries read, side by side: what stands at one index of each belongs to one place.
 #[derive(Clone, Copy)]
 pub struct LineColumns<'a> {
-    /// Where the line's customer stands in its table; likewise the next three.
+    /// The row of the line's customer, as the masks count them; likewise the next three.
     pub customer: &'a [u32],
     pub supplier: &'a [u32],
     pub part: &'a [u32],
     pub date: &'a [u32],
-    /// LO_QUANTITY times 16, and LO_DISCOUNT.
+    /// LO_QUANTITY times 16, and LO_DISCOUNT; below 16 where no line stands at the place.
     pub terms: &'a [u16],
     /// LO_EXTENDEDPRICE.
     pub price: &'a [u32],

@@ -59,7 +59,6 @@ mod totals;
 pub use columns::{GroupColumn, Grouping, LineColumns};
 pub use masks::Masks;
 pub use parts::parallel_totals;
-pub use range::range_totals;
 pub use rows::{answer_question, answer_rows};
 pub use sparse::{GroupSums, SparseColumn, SparseTotals, sparse_totals};
 pub use sparse_rows::answer_sparse;

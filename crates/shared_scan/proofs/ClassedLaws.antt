@@ -18,19 +18,36 @@ use Rattle.ssb_answers.specs.Combination.{Combination, passes, combinations}
 use Rattle.fact_columns.specs.declared.place.Place.{Place}
 use Rattle.fact_columns.specs.Places.{IsWithin, is_live, fact_at, live_facts}
 use Rattle.fact_columns.specs.Classed.{IsPlaceOf}
+use Rattle.fact_columns.specs.Columns.{AreColumnsOf}
 use Rattle.dimension_index.specs.Classes.{read_columns, classes_by, classes_of, extent_of, reduced}
 use Rattle.dimension_index.proofs.AlikeLaws.{class_found, below_extent, same_customers, same_suppliers, same_parts}
 use Rattle.dimension_index.proofs.AlikeLaws.{same_dates}
 use Rattle.scan_kernel.proofs.FoundLaws.{all_mapped}
+use Rattle.scan_kernel.specs.declared.columns.LineColumns.{LineColumns}
 use Rattle.scan_kernel.specs.Combined.{combine, passes_line}
 use Rattle.scan_kernel.proofs.CombinedLaws.{filter_mapped, combines_each_line}
 use Rattle.shared_scan.specs.Answers.{answers_over}
 use Rattle.shared_scan.specs.Classed.{classed}
+use Rattle.shared_scan.specs.Laws.{AreLinesOf}
 use Rattle.shared_scan.proofs.LineLaws.{rows_stand}
 use Rattle.shared_scan.proofs.SumLaws.{map_twice}
 use Rattle.fact_columns.proofs.FactCountLaws.{line_of, facts_of_lines}
 use Rattle.shared_scan.proofs.TotalLaws.{blank, known_all}
 use Rattle.shared_scan.proofs.AlikeLaws.{Alike, AllAlike, passes_alike, rows_alike}
+
+-- the columns of places are those of the places by class
+pub lines_classed : (places : List Place) (lines : LineColumns) → AreColumnsOf places lines
+    → AreLinesOf (map classed places) lines
+lines_classed places lines are = record {
+  customers_are = are.customers ∙ sym (map_twice (λ (place : Place). place.customer) classed places);
+  suppliers_are = are.suppliers ∙ sym (map_twice (λ (place : Place). place.supplier) classed places);
+  parts_are = are.parts ∙ sym (map_twice (λ (place : Place). place.part) classed places);
+  dates_are = are.dates ∙ sym (map_twice (λ (place : Place). place.date) classed places);
+  terms_are = are.terms ∙ sym (map_twice (λ (place : Place). place.terms) classed places);
+  prices_are = are.prices ∙ sym (map_twice (λ (place : Place). place.price) classed places);
+  revenues_are = are.revenues ∙ sym (map_twice (λ (place : Place). place.revenue) classed places);
+  costs_are = are.costs ∙ sym (map_twice (λ (place : Place). place.cost) classed places);
+}
 
 -- a row among the first ones stands at the same position among all
 among_all : {R : Type 0} (n : ℕ) (rows : List R) (p : ℕ) (row : R) → slice_get (take n rows) p ≡ Some row

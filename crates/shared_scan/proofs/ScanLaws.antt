@@ -42,8 +42,6 @@ use Rattle.ssb_answers.specs.declared.answer.Rows.{Rows}
 use Rattle.ssb_answers.specs.declared.answer.ResultRow.{ResultRow}
 use Rattle.ssb_questions.specs.declared.plan.Measure.{Measure}
 use Rattle.fact_columns.specs.declared.place.Place.{Place}
-use Rattle.fact_columns.specs.declared.slices.Slices.{Slices}
-use Rattle.fact_columns.specs.Columns.{AreColumnsOf}
 use Rattle.fact_columns.specs.Places.{IsWithin, live_facts}
 use Rattle.scan_kernel.specs.declared.columns.LineColumns.{LineColumns}
 use Rattle.scan_kernel.specs.declared.columns.Grouping.{Grouping}
@@ -59,7 +57,6 @@ use Rattle.shared_scan.specs.declared.parts.Parts.{Parts}
 use Rattle.shared_scan.specs.declared.parts.Parts.TheVariants.{Narrow, Wide}
 use Rattle.shared_scan.specs.Summed.{AreSummed}
 use Rattle.shared_scan.specs.Laws.{AreLinesOf}
-use Rattle.shared_scan.specs.Lines.{HaveOneLength}
 use Rattle.shared_scan.specs.Grouped.{ArePrepared}
 use Rattle.shared_scan.specs.Batch.{IsReady, AreReady, plans_of, questions_of}
 use Rattle.shared_scan.specs.Groupings.{IsDenseGrouping, IsGroupingWith, AreReadyGroupings}
@@ -78,21 +75,6 @@ if_ok_then (Err e) P Q h f = tt
 pub line_count : (places : List Place) (lines : LineColumns) → AreLinesOf places lines
     → length lines.customer.now ≡ length places
 line_count places lines are = ap length are.customers_are ∙ length-map places (λ place. place.customer)
-
--- the columns of places are of one length
-pub one_length : (places : List Place) (slices : Slices) → AreColumnsOf places slices → HaveOneLength slices
-one_length places slices are =
-    let customers : length slices.customer.now ≡ length places =
-    ap length are.customers ∙ length-map places (λ place. place.customer_class) in
-    record {
-      suppliers = ap length are.suppliers ∙ length-map places (λ place. place.supplier_class) ∙ sym customers;
-      parts = ap length are.parts ∙ length-map places (λ place. place.part_class) ∙ sym customers;
-      dates = ap length are.dates ∙ length-map places (λ place. place.date_class) ∙ sym customers;
-      terms = ap length are.terms ∙ length-map places (λ place. place.terms) ∙ sym customers;
-      prices = ap length are.prices ∙ length-map places (λ place. place.price) ∙ sym customers;
-      revenues = ap length are.revenues ∙ length-map places (λ place. place.revenue) ∙ sym customers;
-      costs = ap length are.costs ∙ length-map places (λ place. place.cost) ∙ sym customers;
-    }
 
 -- as many group columns are made ready as there are
 pub prepared_lengths : (base : Tables) (masks : Masks) (k : ℕ) (groups : List Column) (columns : List (List Value))

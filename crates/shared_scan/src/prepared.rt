@@ -6,7 +6,7 @@ ghost use Rattle.fact_columns.specs.Stored.{columns_state};
 ghost use Rattle.shared_scan.specs.Answers.{AreSnapshot, answers_after};
 
 use crate::batch_masks::batch_masks;
-use crate::over_slices::scan_slices;
+use crate::over_lines::scan_lines;
 use crate::prepare::{plans_of, prepare_question};
 use crate::ready::Ready;
 use fact_columns::Columns;
@@ -68,6 +68,6 @@ impl<'a> PreparedBatch<'a> {
         ensures { (history : List CommitRecord) → StandsFor (columns_state self.now.columns) history
             → IfOk result (λ rows. rows.items ≡ answers_after self.now.columns.base history self.now.questions) }
     {
-        scan_slices(rt, alloc, self.columns.slices(), self)
+        scan_lines(rt, alloc, self.columns.line_columns(), self)
     }
 }

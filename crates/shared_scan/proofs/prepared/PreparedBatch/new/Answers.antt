@@ -14,7 +14,7 @@ use Rattle.shared_scan.proofs.prepared.PreparedBatch.new.Goals as goal
 
 pub loop-number-preserved : goal.loop-number-preserved
 loop-number-preserved c =
-    let base : Tables = reduced c.args.index.value in
+    let base : Tables = reduced c.args.columns.now.base in
     let masks = c.in_ok-masks.masks in
     let questions = c.args.questions.now in
     let all = c.loop-number.all.items in
@@ -34,7 +34,7 @@ loop-number-preserved c =
 
 pub invariant_of-result : goal.invariant_of-result
 invariant_of-result c =
-    let base : Tables = reduced c.args.index.value in
+    let base : Tables = reduced c.args.columns.now.base in
     let masks = c.in_ok-masks.masks in
     let questions = c.args.questions.now in
     let all = c.loop-number.all.items in
@@ -57,12 +57,12 @@ invariant_of-result c =
 
 pub returns : goal.returns
 returns c =
-    let base : Tables = reduced c.args.index.value in
+    let base : Tables = reduced c.args.columns.now.base in
     let masks = c.in_ok-masks.masks in
     let questions = c.args.questions.now in
     let all = c.loop-number.all.items in
     let count : c.loop-number.number ≡ length questions = omega (arith, c.loop-number-test.false, c.loop-number.auto) in
     let ready : AreReady base masks questions all = λ k question r at. c.loop-number.invariant.ready k question r
     (omega (arith, slice_get_within questions k question at, count)) at in
-    ap (λ (qs : List (Query × List Value)). record { base = c.args.index.value; questions = qs })
+    ap (λ (qs : List (Query × List Value)). record { base = c.args.columns.now.base; questions = qs })
     (questions_are base masks questions all (c.loop-number.invariant.len ∙ count) ready)

@@ -11,5 +11,5 @@ abbrev pub invariant-loop-number : goal.invariant-loop-number
 invariant-loop-number l = record {
   len : length l.all.items ≡ l.number;
   ready : (k : ℕ) (question : Query × List Value) (r : Ready) → k < l.number → slice_get l.questions k ≡ Some question
-      → IsReady (reduced l.fn.index.value) l.masks k question (get_or l.all.items k r);
+      → IsReady (reduced l.fn.columns.base) l.masks k question (get_or l.all.items k r);
 }

@@ -11,62 +11,62 @@ use Rattle.shared_scan.specs.Batch.{questions_of}
 use Rattle.shared_scan.specs.Classed.{classed}
 use Rattle.shared_scan.specs.Lines.{AreOfBase, HavePlaces}
 use Rattle.shared_scan.proofs.CanScanLaws.{can_search}
-use Rattle.shared_scan.proofs.ClassedLaws.{classed_all, as_many_live, answers_classed}
+use Rattle.shared_scan.proofs.ClassedLaws.{lines_classed, classed_all, as_many_live, answers_classed}
 use Rattle.shared_scan.proofs.ScanLaws.{if_ok_then, line_count, parts_all, can_sum_all, can_answer_all, rows_answer}
-use Rattle.shared_scan.proofs.over_slices.scan_slices_parallel.Goals as goal
+use Rattle.shared_scan.proofs.over_lines.scan_lines.Goals as goal
 
 pub groupings-requires : goal.groupings-requires
 groupings-requires g c = rw (c.deref-3.ensures.value) (parts_all
-    (reduced c.batch.inside.index.value) c.batch.inside.masks c.batch.inside.questions.items c.batch.invariant.ready)
+    (reduced c.batch.inside.columns.now.base) c.batch.inside.masks c.batch.inside.questions.items c.batch.invariant.ready)
 
 pub parallel_totals-requires-clause-covers : goal.parallel_totals-requires-clause-covers
 parallel_totals-requires-clause-covers g c = λ κs outlives.
-    let base = c.batch.inside.index.value in
+    let base = c.batch.inside.columns.now.base in
     let first : Tables = reduced base in
-    let P : Prepared → Type 0 = λ p. HavePlaces p.base c.args.slices in
-    let have : HavePlaces base c.args.slices = subst P (sym c.batch.view_is) c.requires in
+    let P : Prepared → Type 0 = λ p. HavePlaces p.columns.base c.args.lines in
+    let have : HavePlaces base c.args.lines = subst P (sym c.batch.view_is) c.requires in
     let places : List Place = map classed have.places in
     let within = classed_all base have.places have.of_base.within in
-    let are = c.lines_of-lines.ensures have.places have.columns_are in
-    can_search first places c.lines_of-lines.result c.batch.inside.masks within are c.batch.invariant.masks_cover
+    let are = lines_classed have.places c.args.lines have.columns_are in
+    can_search first places c.args.lines c.batch.inside.masks within are c.batch.invariant.masks_cover
 
 pub parallel_totals-requires-clause-can_sum : goal.parallel_totals-requires-clause-can_sum
 parallel_totals-requires-clause-can_sum g c = λ κs outlives.
-    let base = c.batch.inside.index.value in
+    let base = c.batch.inside.columns.now.base in
     let first : Tables = reduced base in
-    let P : Prepared → Type 0 = λ p. HavePlaces p.base c.args.slices in
-    let have : HavePlaces base c.args.slices = subst P (sym c.batch.view_is) c.requires in
+    let P : Prepared → Type 0 = λ p. HavePlaces p.columns.base c.args.lines in
+    let have : HavePlaces base c.args.lines = subst P (sym c.batch.view_is) c.requires in
     let places : List Place = map classed have.places in
     let within = classed_all base have.places have.of_base.within in
-    let are = c.lines_of-lines.ensures have.places have.columns_are in
+    let are = lines_classed have.places c.args.lines have.columns_are in
     let sound : IsSound first = rw (c.first_rows-index.ensures, c.deref.ensures) at c.soundness-2.ensures in
     let grouped = rw (c.deref-3.ensures.value, c.first_rows-index.ensures, c.deref.ensures) at
     c.in_ok-groupings.ensures in
-    rw (c.deref-4.ensures.value) (can_sum_all first places c.lines_of-lines.result c.batch.inside.masks
+    rw (c.deref-4.ensures.value) (can_sum_all first places c.args.lines c.batch.inside.masks
     c.batch.inside.questions.items c.in_ok-groupings.groupings.items
     sound within are c.batch.invariant.masks_tell c.batch.invariant.ready grouped)
 
 pub batch_rows-requires-clause-covers : goal.batch_rows-requires-clause-covers
 batch_rows-requires-clause-covers g c =
-    let base = c.batch.inside.index.value in
+    let base = c.batch.inside.columns.now.base in
     let first : Tables = reduced base in
-    let P : Prepared → Type 0 = λ p. HavePlaces p.base c.args.slices in
-    let have : HavePlaces base c.args.slices = subst P (sym c.batch.view_is) c.requires in
+    let P : Prepared → Type 0 = λ p. HavePlaces p.columns.base c.args.lines in
+    let have : HavePlaces base c.args.lines = subst P (sym c.batch.view_is) c.requires in
     let places : List Place = map classed have.places in
     let within = classed_all base have.places have.of_base.within in
-    let are = c.lines_of-lines.ensures have.places have.columns_are in
-    can_search first places c.lines_of-lines.result c.batch.inside.masks within are c.batch.invariant.masks_cover
+    let are = lines_classed have.places c.args.lines have.columns_are in
+    can_search first places c.args.lines c.batch.inside.masks within are c.batch.invariant.masks_cover
 
 pub batch_rows-requires-clause-can : goal.batch_rows-requires-clause-can
 batch_rows-requires-clause-can g c =
-    let base = c.batch.inside.index.value in
+    let base = c.batch.inside.columns.now.base in
     let first : Tables = reduced base in
-    let P : Prepared → Type 0 = λ p. HavePlaces p.base c.args.slices in
-    let have : HavePlaces base c.args.slices = subst P (sym c.batch.view_is) c.requires in
+    let P : Prepared → Type 0 = λ p. HavePlaces p.columns.base c.args.lines in
+    let have : HavePlaces base c.args.lines = subst P (sym c.batch.view_is) c.requires in
     let places : List Place = map classed have.places in
     let within = classed_all base have.places have.of_base.within in
-    let are = c.lines_of-lines.ensures have.places have.columns_are in
-    let lines = c.lines_of-lines.result in
+    let are = lines_classed have.places c.args.lines have.columns_are in
+    let lines = c.args.lines in
     let masks = c.batch.inside.masks in
     let groupings = c.in_ok-groupings.groupings.items in
     let totals = c.in_ok-totals.totals.items in
@@ -84,15 +84,15 @@ batch_rows-requires-clause-can g c =
 
 pub returns : goal.returns
 returns g c = λ own_places columns_are of_base.
-    let base = c.batch.inside.index.value in
+    let base = c.batch.inside.columns.now.base in
     let first : Tables = reduced base in
     let places : List Place = map classed own_places in
-    let lines = c.lines_of-lines.result in
+    let lines = c.args.lines in
     let masks = c.batch.inside.masks in
     let all = c.batch.inside.questions.items in
     let groupings = c.in_ok-groupings.groupings.items in
     let totals = c.in_ok-totals.totals.items in
-    let are = c.lines_of-lines.ensures own_places columns_are in
+    let are = lines_classed own_places c.args.lines columns_are in
     let sound_all : IsSound base = rw (c.base.ensures, c.deref-2.ensures) at c.soundness.ensures in
     let sound : IsSound first = rw (c.first_rows-index.ensures, c.deref.ensures) at c.soundness-2.ensures in
     let grouped = rw (c.deref-3.ensures.value, c.first_rows-index.ensures, c.deref.ensures) at
@@ -102,9 +102,9 @@ returns g c = λ own_places columns_are of_base.
     let R : ℕ → Type 0 = λ n. AreBatchTotals lines masks groupings (range_with_len 0 n) totals in
     let right = rw (c.first_rows-index.ensures, c.deref.ensures, c.deref-5.ensures.value, c.deref-6.ensures.value) at
     c.batch_rows.ensures in
-    let P : Prepared → Type 0 = λ p. AreOfBase p.base own_places
-    → IfOk c.batch_rows.result (λ rows. rows.items ≡ answers_over p.base.dimensions
-    (live_facts p.base.dimensions own_places) p.questions) in
+    let P : Prepared → Type 0 = λ p. AreOfBase p.columns.base own_places
+    → IfOk c.batch_rows.result (λ rows. rows.items ≡ answers_over p.columns.base.dimensions
+    (live_facts p.columns.base.dimensions own_places) p.questions) in
     subst P c.batch.view_is (λ own. if_ok_then c.batch_rows.result _ _ right (λ rows is.
     let few : length (live_facts first.dimensions places) ≤ 33554432 = omega
     (arith, as_many_live base own_places, own.few_live) in

@@ -2,7 +2,7 @@ use Rattle.std.proofs.Common.{refl, ◌∙◌, ap, map, vec_len}
 use Rattle.fact_columns.specs.declared.place.Place.{Place}
 use Rattle.fact_columns.specs.Columns.{Held, place_at}
 use Rattle.fact_columns.proofs.PlaceListLaws.{alike_long, column_of}
-use Rattle.fact_columns.proofs.fact_table.FactTable.slices.Goals as goal
+use Rattle.fact_columns.proofs.fact_table.FactTable.line_columns.Goals as goal
 
 pub returns : goal.returns
 returns c =

@@ -7,24 +7,22 @@ ghost use Rattle.shared_scan.specs.Answers.{answers_over};
 ghost use Rattle.shared_scan.specs.Lines.{AreOfBase, HavePlaces};
 
 use crate::grouping::groupings;
-use crate::lines::lines_of;
 use crate::prepared::PreparedBatch;
 use crate::sums::{Scan, batch_rows};
-use fact_columns::Slices;
-use scan_kernel::parallel_totals;
+use scan_kernel::{LineColumns, parallel_totals};
 use ssb_answers::Rows;
 use std::alloc::{AllocError, Global};
 use std::thread::Threads;
 
 /// The answers over columns, by as many threads as there are processors.
-pub fn scan_slices<R: Threads + Sync>(
+pub fn scan_lines<R: Threads + Sync>(
     rt: &R,
     alloc: Global,
-    slices: Slices<'_>,
+    lines: LineColumns<'_>,
     batch: &PreparedBatch<'_>,
 ) -> Result<Vec<Rows>, AllocError>
-    requires { HavePlaces batch.now.columns.base slices }
-    ensures { (places : List Place) → AreColumnsOf places slices.entry → AreOfBase batch.now.columns.base places
+    requires { HavePlaces batch.now.columns.base lines }
+    ensures { (places : List Place) → AreColumnsOf places lines.entry → AreOfBase batch.now.columns.base places
         → IfOk result (λ rows. rows.items ≡ answers_over batch.now.columns.base.dimensions
         (live_facts batch.now.columns.base.dimensions places) batch.now.questions) }
 {
@@ -32,7 +30,6 @@ pub fn scan_slices<R: Threads + Sync>(
     index.base().soundness();
     let first_rows = index.first_rows();
     first_rows.soundness();
-    let lines = lines_of(slices);
     let groupings = groupings(alloc, first_rows, &lines, &batch.questions)?;
     let totals = parallel_totals(rt, alloc, &lines, &batch.masks, &groupings)?;
     let scan = Scan {
