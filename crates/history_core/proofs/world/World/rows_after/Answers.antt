@@ -4,8 +4,8 @@ use Rattle.history_core.specs.World.{World}
 use Rattle.history_core.proofs.FewLaws.{few_lines}
 use Rattle.history_core.proofs.world.World.rows_after.Goals as goal
 
-pub plain-requires : goal.plain-requires
-plain-requires c =
+pub evaluate-requires : goal.evaluate-requires
+evaluate-requires c =
     let here : c.deref.result.now ≡ c.args.self.now.base =
     c.deref.ensures ∙ c.self.invariant.base ∙ ap (λ (w : World). w.base) c.self.view_is in
     few_lines c.args.self.now.base c.args.self.now.history c.args.at c.in_ok-lines.lines c.lines-2.result.now
