@@ -6,8 +6,8 @@ use clap::ArgMatches;
 use query_command::{Settings, run_all, run_query};
 use run_command::{RunSettings, demo, run_scripts};
 use ssb_files::{
-    Fault, Screen, Source, make_file, open_file, open_files, open_tables, watch, watch_scripts,
-    watch_tables,
+    Fault, InputSource, Screen, make_file, open_file, open_files, open_tables, watch,
+    watch_scripts, watch_tables,
 };
 use ssb_text::Tables;
 use std::hash::RandomState;
@@ -149,7 +149,7 @@ where
     };
     let screen = screen_of(rt, matches, terminal);
     let tables = watch_tables(screen.as_ref(), tables);
-    let trace = watch(screen.as_ref(), Source::Trace, trace);
+    let trace = watch(screen.as_ref(), InputSource::Trace, trace);
     match RandomState::new(rt) {
         Ok(hashing) => run_audit(rt, hashing, tables, trace, out, err),
         Err(_) => Fault::NoRandomness.tell(err),

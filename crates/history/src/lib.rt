@@ -44,5 +44,5 @@ pub mod view;
 
 pub use event::{Deed, Event};
 pub use request::{Given, Grabbed, Outcome, PostedQuestion};
-pub use shared_table::{Opened, SharedTable};
+pub use shared_table::{OpenedTable, SharedTable};
 pub use token::Token;

@@ -50,7 +50,7 @@ impl<W: Follower + Drop> Model for SharedTable<W> {
 
 /// A new table, with the tokens of its clients and of its dispatchers, each by number from 1.
 #[derive(Drop)]
-pub struct Opened<W: Follower + Drop> {
+pub struct OpenedTable<W: Follower + Drop> {
     pub shared: SharedTable<W>,
     pub clients: Vec<Token<W>>,
     pub dispatchers: Vec<Token<W>>,
@@ -131,7 +131,7 @@ impl<W: Follower + Drop> SharedTable<W> {
         writer: W,
         clients: u32,
         dispatchers: u32,
-    ) -> Result<Opened<W>, AllocError>
+    ) -> Result<OpenedTable<W>, AllocError>
         requires clients { (1 ≤ clients) × (clients ≤ 16) }
         requires dispatchers { (1 ≤ dispatchers) × (dispatchers ≤ 4) }
         requires rows { rows.log ≡ [] }
@@ -155,7 +155,7 @@ impl<W: Follower + Drop> SharedTable<W> {
         for number in 0..dispatchers {
             second.push(deal(&ruled, &mut dealer, clients, clients + number))?;
         }
-        Ok(Opened {
+        Ok(OpenedTable {
             shared: SharedTable { ruled },
             clients: first,
             dispatchers: second,

@@ -7,7 +7,7 @@ ghost use Rattle.row_store.specs.State.{StandsFor, state_of};
 ghost use Rattle.shared_scan.specs.Answers.{AreSnapshot, answers_after};
 ghost use Rattle.query_command.specs.Reported.{opened, opening_answer};
 
-use crate::stopwatch::{Step, Stopwatch};
+use crate::stopwatch::{Stopwatch, TimedStep};
 use dimension_index::index_of;
 use fact_columns::Columns;
 use shared_scan::PreparedBatch;
@@ -34,9 +34,9 @@ fn columns_of<C: Clock>(
     base.soundness();
     let base = Arc::new(alloc, base)?;
     let index = index_of(alloc, &base)?;
-    watch.lap(clock, Step::Index);
+    watch.lap(clock, TimedStep::Index);
     let columns = Columns::new(alloc, index, hashing)?;
-    watch.lap(clock, Step::Columns);
+    watch.lap(clock, TimedStep::Columns);
     Ok(columns)
 }
 
@@ -54,9 +54,9 @@ fn rows_of<R: Threads + Sync + Clock>(
         → IfOk result (λ rows. rows.items ≡ answers_after columns.now.base history questions.now) }
 {
     let batch = PreparedBatch::new(alloc, columns, questions)?;
-    watch.lap(rt, Step::Preparation);
+    watch.lap(rt, TimedStep::Preparation);
     let rows = batch.scan(rt, alloc);
-    watch.lap(rt, Step::Scan);
+    watch.lap(rt, TimedStep::Scan);
     rows
 }
 

@@ -14,7 +14,7 @@ ghost use Rattle.std.specs.Io.KnownBytes.{Appends};
 
 use crate::asked::{ask, standard_questions};
 use crate::opening::opening_answers;
-use crate::stopwatch::{Step, Stopwatch};
+use crate::stopwatch::{Stopwatch, TimedStep};
 use ssb_answers::Answer;
 use ssb_base::Limits;
 use ssb_files::Fault;
@@ -54,7 +54,7 @@ fn answers<R: Threads + Sync + Clock + AllocGlobal, I: Read + Drop>(
         Ok(base) => base,
         Err(fault) => return Err(Fault::Data(fault)),
     };
-    watch.lap(rt, Step::Load);
+    watch.lap(rt, TimedStep::Load);
     let answers = opening_answers(rt, rt.alloc(), hashing, base, questions, watch)?;
     Ok(answers)
 }

@@ -5,7 +5,7 @@ use std::time::{Clock, Duration, Instant};
 
 /// A step whose time is told.
 #[derive(Clone, Copy)]
-pub enum Step {
+pub enum TimedStep {
     /// The five files are read.
     Load,
     /// The dimensions are indexed.
@@ -45,18 +45,18 @@ impl Stopwatch {
     }
 
     /// Ends this step, and begins the next.
-    pub fn lap<C: Clock>(&mut self, clock: &C, step: Step) {
+    pub fn lap<C: Clock>(&mut self, clock: &C, step: TimedStep) {
         let Some(since) = self.since else {
             return;
         };
         let now = Instant::now(clock).ok();
         let spent = now.map(|now| now.duration_since(since));
         match step {
-            Step::Load => self.load = spent,
-            Step::Index => self.index = spent,
-            Step::Columns => self.columns = spent,
-            Step::Preparation => self.preparation = spent,
-            Step::Scan => self.scan = spent,
+            TimedStep::Load => self.load = spent,
+            TimedStep::Index => self.index = spent,
+            TimedStep::Columns => self.columns = spent,
+            TimedStep::Preparation => self.preparation = spent,
+            TimedStep::Scan => self.scan = spent,
         }
         self.since = now;
     }

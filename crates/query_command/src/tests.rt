@@ -1,6 +1,6 @@
 //! The fault lines and statuses of `query`, and reports over the small data set.
 
-use crate::stopwatch::{Step, Stopwatch};
+use crate::stopwatch::{Stopwatch, TimedStep};
 use crate::{Settings, run_all, run_query};
 use small_data::{LINEORDER, stored, tables};
 use ssb_text::Tables;
@@ -93,9 +93,9 @@ fn each_of_the_thirteen_alone_has_the_report_that_it_has_among_them(
 fn each_step_has_its_seconds(rt: HostRuntime) -> Result<(), Fail> {
     let clock = Ticking::new(7000, 1250);
     let mut watch = Stopwatch::start(&clock, true);
-    watch.lap(&clock, Step::Load);
+    watch.lap(&clock, TimedStep::Load);
     clock.tick();
-    watch.lap(&clock, Step::Scan);
+    watch.lap(&clock, TimedStep::Scan);
     let mut told = Vec::new(rt.alloc());
     watch.tell(&mut told);
     let seconds = "\
@@ -109,9 +109,9 @@ ssb_live: scan 2.500000 s
 #[test]
 fn without_a_time_a_step_has_no_line(rt: HostRuntime) {
     let mut still = Stopwatch::start(&Ticking::new(7000, 1250), false);
-    still.lap(&Ticking::new(7000, 1250), Step::Load);
+    still.lap(&Ticking::new(7000, 1250), TimedStep::Load);
     let mut blind = Stopwatch::start(&Stopped, true);
-    blind.lap(&Stopped, Step::Load);
+    blind.lap(&Stopped, TimedStep::Load);
     let mut told = Vec::new(rt.alloc());
     still.tell(&mut told);
     blind.tell(&mut told);

@@ -21,9 +21,9 @@
 
 mod demo;
 mod fault;
-mod pace;
 mod printing;
 mod scripts;
+mod times;
 
 pub use demo::demo;
 pub use scripts::{MOST_SCRIPTS, RunSettings, run_scripts};

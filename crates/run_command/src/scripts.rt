@@ -16,8 +16,8 @@ ghost use Rattle.ssb_schema.specs.declared.table.Table.{Table};
 ghost use Rattle.ssb_trace.specs.TraceText.{trace_text};
 
 use crate::fault::{NotRun, ServingFault};
-use crate::pace::Pace;
 use crate::printing::write_run;
+use crate::times::RunTimes;
 use ssb_base::Base;
 use ssb_files::{Fault, base_of, read_scripts};
 use ssb_script::Script;
@@ -72,7 +72,7 @@ fn run_of<R: Threads + Sync + Wait + Clock + AllocGlobal, I: Read + Drop>(
     settings: RunSettings,
     tables: Tables<I>,
     sources: Vec<I>,
-    pace: &mut Pace,
+    pace: &mut RunTimes,
 ) -> Result<Run, ServingFault>
     ensures run { IfOk result (λ run. (texts : Table → List ℕ) → AreTexts I.remaining tables texts
         → IsServed texts (map I.remaining sources.items) settings.dispatchers
@@ -171,7 +171,7 @@ fn report<R: Threads + Sync + Wait + Clock + AllocGlobal, I: Read + Drop, W: Wri
     sources: Vec<I>,
     out: &mut W,
     file: &mut Option<T>,
-    pace: &mut Pace,
+    pace: &mut RunTimes,
 ) -> Result<(), ServingFault>
     ensures served { OnOk result ((texts : Table → List ℕ) → AreTexts I.remaining tables texts
         → Serves texts (map I.remaining sources.items) settings.dispatchers (W.contents out.old)
@@ -191,7 +191,7 @@ fn report<R: Threads + Sync + Wait + Clock + AllocGlobal, I: Read + Drop, W: Wri
 }
 
 // Tells the times where they are asked for.
-fn tell_times<E: Write>(pace: &Pace, times: bool, err: &mut E)
+fn tell_times<E: Write>(pace: &RunTimes, times: bool, err: &mut E)
     ensures { times ≡ false → err.new ≡ err.old }
 {
     if !times {
@@ -239,7 +239,7 @@ pub fn run_scripts<
         return Fault::TooManyScripts.tell(err);
     }
     let times = settings.times;
-    let mut pace = Pace::start(rt, times);
+    let mut pace = RunTimes::start(rt, times);
     match report(rt, settings, tables, sources, out, file, &mut pace) {
         Ok(()) => {
             tell_times(&pace, times, err);

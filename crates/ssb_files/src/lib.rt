@@ -38,5 +38,5 @@ pub use fault::Fault;
 pub use job::{Finding, JobFault};
 pub use loading::base_of;
 pub use opening::{make_file, open_file, open_files, open_tables};
-pub use progress::{Screen, Source, Watched, watch, watch_scripts, watch_tables};
+pub use progress::{InputSource, Screen, Watched, watch, watch_scripts, watch_tables};
 pub use reading::read_scripts;

@@ -23,7 +23,7 @@ const CLEARED: &str = "\r\x1b[K";
 
 /// What is read.
 #[derive(Clone, Copy)]
-pub enum Source {
+pub enum InputSource {
     /// A table, by its name.
     Table(&'static str),
     /// By its number from 1.
@@ -32,27 +32,27 @@ pub enum Source {
     Trace,
 }
 
-impl fmt::Display for Source {
+impl fmt::Display for InputSource {
     fn fmt<W: fmt::Write>(&self, f: &mut fmt::Formatter<W>) -> fmt::Result {
         match self {
-            Source::Table(name) => f.write_str(name),
-            Source::Script(number) => write!(f, "script {number}"),
-            Source::Trace => f.write_str("trace"),
+            InputSource::Table(name) => f.write_str(name),
+            InputSource::Script(number) => write!(f, "script {number}"),
+            InputSource::Trace => f.write_str("trace"),
         }
     }
 }
 
 // The line on the terminal.
 #[derive(Clone, Copy)]
-struct Line {
-    source: Source,
+struct ProgressLine {
+    source: InputSource,
     rows: u64,
     since_start: Duration,
 }
 
-impl fmt::Display for Line {
+impl fmt::Display for ProgressLine {
     fn fmt<W: fmt::Write>(&self, f: &mut fmt::Formatter<W>) -> fmt::Result {
-        let Line { source, rows, .. } = self;
+        let ProgressLine { source, rows, .. } = self;
         let seconds = self.since_start.as_secs();
         let tenth = self.since_start.subsec_millis() / 100;
         write!(
@@ -92,7 +92,7 @@ impl<'a, C: Clock, P: Print> Screen<'a, C, P> {
 // How far a source is read, and whether a line of it stands on the screen.
 struct Progress<'a, C: Clock, P: Print> {
     screen: Option<&'a Screen<'a, C, P>>,
-    source: Source,
+    source: InputSource,
     rows: u64,
     // When the line may be written again, since the load began.
     due: Duration,
@@ -115,7 +115,7 @@ impl<'a, C: Clock, P: Print> Progress<'a, C, P> {
     }
 
     fn show(&mut self, screen: &Screen<'a, C, P>, since_start: Duration) {
-        let line = Line {
+        let line = ProgressLine {
             source: self.source,
             rows: self.rows,
             since_start,
@@ -151,7 +151,7 @@ pub struct Watched<'a, I: Drop, C: Clock, P: Print> {
 /// The reader, watched.
 pub fn watch<'a, I: Read + Drop, C: Clock, P: Print>(
     screen: Option<&'a Screen<'a, C, P>>,
-    source: Source,
+    source: InputSource,
     reader: I,
 ) -> Watched<'a, I, C, P>
     ensures { result.reader ≡ reader }
@@ -172,11 +172,11 @@ pub fn watch_tables<'a, I: Read + Drop, C: Clock, P: Print>(
     tables: Tables<I>,
 ) -> Tables<Watched<'a, I, C, P>> {
     Tables {
-        customer: watch(screen, Source::Table("customer"), tables.customer),
-        supplier: watch(screen, Source::Table("supplier"), tables.supplier),
-        part: watch(screen, Source::Table("part"), tables.part),
-        date: watch(screen, Source::Table("date"), tables.date),
-        lineorder: watch(screen, Source::Table("lineorder"), tables.lineorder),
+        customer: watch(screen, InputSource::Table("customer"), tables.customer),
+        supplier: watch(screen, InputSource::Table("supplier"), tables.supplier),
+        part: watch(screen, InputSource::Table("part"), tables.part),
+        date: watch(screen, InputSource::Table("date"), tables.date),
+        lineorder: watch(screen, InputSource::Table("lineorder"), tables.lineorder),
     }
 }
 
@@ -188,7 +188,7 @@ pub fn watch_scripts<'a, I: Read + Drop, C: Clock, P: Print>(
 ) -> Result<Vec<Watched<'a, I, C, P>>, AllocError> {
     let mut readers = Vec::new(alloc);
     for script in scripts {
-        let source = Source::Script(readers.len() as u64 + 1);
+        let source = InputSource::Script(readers.len() as u64 + 1);
         readers.push(watch(screen, source, script))?;
     }
     Ok(readers)

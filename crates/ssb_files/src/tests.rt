@@ -1,6 +1,6 @@
 //! What a load shows on a terminal, and which file is named where one cannot be opened.
 
-use crate::{Screen, Source, open_tables, watch, watch_scripts};
+use crate::{InputSource, Screen, open_tables, watch, watch_scripts};
 use stand_ins::{Screened, Ticking};
 use std::io::Read;
 use std::test::Fail;
@@ -25,7 +25,7 @@ fn the_line_is_rewritten_where_it_is_due_and_then_cleared(rt: HostRuntime) -> Re
     let terminal = Screened::new(rt.alloc());
     let screen = Screen::start(&clock, Some(&terminal));
     {
-        let mut reader = watch(screen.as_ref(), Source::Table("part"), ROWS);
+        let mut reader = watch(screen.as_ref(), InputSource::Table("part"), ROWS);
         // after 0.2 s nothing is due; after 0.4 s it is, and 0.6 s is too soon; then 0.8 s; 1.0 s is too soon
         read_rows(&mut reader)?;
     }
@@ -43,7 +43,7 @@ fn a_load_that_ends_soon_or_has_no_terminal_shows_nothing(rt: HostRuntime) -> Re
     let terminal = Screened::new(rt.alloc());
     let screen = Screen::start(&clock, Some(&terminal));
     {
-        let mut reader = watch(screen.as_ref(), Source::Trace, ROWS);
+        let mut reader = watch(screen.as_ref(), InputSource::Trace, ROWS);
         let mut buf = [0; 100];
         assert_eq!(rt; reader.read(&mut buf)?, 13);
     }
@@ -51,7 +51,7 @@ fn a_load_that_ends_soon_or_has_no_terminal_shows_nothing(rt: HostRuntime) -> Re
     let none = Screen::start(&clock, None::<&Screened>);
     assert!(rt; none.is_none());
     let looks = clock.now();
-    read_rows(&mut watch(none.as_ref(), Source::Trace, ROWS))?;
+    read_rows(&mut watch(none.as_ref(), InputSource::Trace, ROWS))?;
     assert_eq!(rt; clock.now(), looks);
     Ok(())
 }

@@ -9,7 +9,7 @@ ghost use Rattle.ssb_server.specs.Tickets.{IsOf, IsQuiet, AreAllThere};
 
 use crate::client::Client;
 use crate::dispatcher::Dispatcher;
-use crate::room::Room;
+use crate::room::ClosingRoom;
 use crate::server::Server;
 use crate::tickets::{
     are_clients_numbered, are_dispatchers_numbered, gather_clients, gather_dispatchers,
@@ -80,7 +80,7 @@ impl<W: Wait + Drop> Server<W> {
             alloc: _,
             room,
         } = self;
-        let Room {
+        let ClosingRoom {
             clients: mut client_tokens,
             dispatchers: mut dispatcher_tokens,
         } = room.into_inner();

@@ -10,7 +10,7 @@ use crate::bells::Bells;
 use crate::client::Client;
 use crate::dispatcher::Dispatcher;
 use crate::pace::Pace;
-use crate::room::Room;
+use crate::room::ClosingRoom;
 use crate::server::{Server, SharedTable, Token};
 use crate::tickets::clients_of;
 use dimension_index::index_of;
@@ -96,14 +96,14 @@ fn server_over<W: Wait + Drop>(
         bells: Bells::new(alloc, clients, dispatchers)?,
         pace: Pace::new(),
         alloc,
-        room: Mutex::new(Room::new(alloc)?),
+        room: Mutex::new(ClosingRoom::new(alloc)?),
     })
 }
 
 // The clients and dispatchers of a table that was just made, with the server over it.
 fn seat_all<W: Wait + Drop>(
     alloc: Global,
-    opened: history::Opened<twin_cell::TwinWriter<Columns, W>>,
+    opened: history::OpenedTable<twin_cell::TwinWriter<Columns, W>>,
     readers: Vec<TwinReader<Columns>>,
     counts: (u32, u32),
 ) -> Result<Opened<W>, AllocError>
@@ -117,7 +117,7 @@ fn seat_all<W: Wait + Drop>(
     ensures clients { IfOk result (λ made. made.clients.items ≡ new_clients made.server) }
     ensures dispatchers { IfOk result (λ made. made.dispatchers.items ≡ new_dispatchers made.server) }
 {
-    let history::Opened {
+    let history::OpenedTable {
         shared,
         clients,
         dispatchers,
@@ -132,20 +132,24 @@ fn seat_all<W: Wait + Drop>(
 }
 
 // What a server is made of, but for the two copies.
-struct Parts {
+struct ServerParts {
     rows: RowStore,
     columns: Columns,
 }
 
 // The parts over a base.
-fn parts_of(alloc: Global, hashing: RandomState, base: &Arc<Base>) -> Result<Parts, AllocError>
+fn parts_of(
+    alloc: Global,
+    hashing: RandomState,
+    base: &Arc<Base>,
+) -> Result<ServerParts, AllocError>
     ensures rows { IfOk result (λ parts. parts.rows ≡ record { base = base.now.value; log = [] }) }
     ensures columns { IfOk result (λ parts. columns_state parts.columns ≡ state_of base.now.value []) }
 {
     let index = index_of(alloc, base)?;
     let rows = RowStore::new(alloc, Arc::try_clone(base)?, hashing)?;
     let columns = Columns::new(alloc, index, hashing)?;
-    Ok(Parts { rows, columns })
+    Ok(ServerParts { rows, columns })
 }
 
 // Builds all parts over a base, for counts in their ranges.
@@ -166,7 +170,7 @@ fn build<W: Wait + Drop>(
     let Ok(parts) = parts_of(alloc, hashing, base) else {
         return Err(TwinError::OutOfMemory);
     };
-    let Parts { rows, columns } = parts;
+    let ServerParts { rows, columns } = parts;
     let (writer, readers) = twin(alloc, rt, columns, dispatchers as usize)?;
     let Ok(opened) = SharedTable::new(alloc, rows, writer, clients, dispatchers) else {
         return Err(TwinError::OutOfMemory);

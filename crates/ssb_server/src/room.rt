@@ -7,7 +7,7 @@ use std::sync::Wait;
 
 /// Room for the tokens of 16 clients and 4 dispatchers, and nothing in it.
 #[derive(Drop)]
-pub(crate) struct Room<W: Wait + Drop> {
+pub(crate) struct ClosingRoom<W: Wait + Drop> {
     pub(crate) clients: Vec<Token<W>>,
     pub(crate) dispatchers: Vec<Token<W>>,
     ghost no_clients: { clients.items ≡ [] },
@@ -16,9 +16,9 @@ pub(crate) struct Room<W: Wait + Drop> {
     ghost dispatcher_room: { 4 ≤ vec_capacity dispatchers },
 }
 
-impl<W: Wait + Drop> Room<W> {
-    pub(crate) fn new(alloc: Global) -> Result<Room<W>, AllocError> {
-        Ok(Room {
+impl<W: Wait + Drop> ClosingRoom<W> {
+    pub(crate) fn new(alloc: Global) -> Result<ClosingRoom<W>, AllocError> {
+        Ok(ClosingRoom {
             clients: Vec::with_capacity(alloc, 16)?,
             dispatchers: Vec::with_capacity(alloc, 4)?,
         })

@@ -3,7 +3,7 @@ ghost use Rattle.std.specs.Prelude.{◌≡◌};
 
 use crate::bells::Bells;
 use crate::pace::Pace;
-use crate::room::Room;
+use crate::room::ClosingRoom;
 use fact_columns::Columns;
 use std::alloc::Global;
 use std::marker::Model;
@@ -27,7 +27,7 @@ pub struct Server<W: Wait + Drop> {
     pub(crate) pace: Pace,
     pub(crate) alloc: Global,
     // For `close`. Passes may not be shared between threads, and behind a lock they are not; nobody takes it.
-    pub(crate) room: Mutex<Room<W>>,
+    pub(crate) room: Mutex<ClosingRoom<W>>,
 }
 
 impl<W: Wait + Drop> Model for Server<W> {

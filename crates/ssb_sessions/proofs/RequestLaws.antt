@@ -49,8 +49,8 @@ use Rattle.ssb_questions.specs.declared.value.Value.{Value}
 use Rattle.ssb_answers.specs.declared.answer.Answer.{Answer}
 use Rattle.ssb_sessions.specs.Served.{IsAnswered, IsServed, AreServed, Serves, StopsAfter, Ends, told_of}
 use Rattle.ssb_sessions.specs.Steps.{ServesOne, ServesInPart, StopsIn, AreAlike, error_after}
-use Rattle.ssb_sessions.specs.declared.serve_error.Stop.{Stop}
-use Rattle.ssb_sessions.specs.declared.serve_error.Stop.TheVariants.{Write, OutOfMemory}
+use Rattle.ssb_sessions.specs.declared.serve_error.ServeStop.{ServeStop}
+use Rattle.ssb_sessions.specs.declared.serve_error.ServeStop.TheVariants.{Write, OutOfMemory}
 use Rattle.ssb_audit.specs.declared.trace.Told.{Told}
 
 -- nothing is asked where no question is outstanding
@@ -237,7 +237,7 @@ stops_short number old mid new front rest request told_old told_mid told_new a b
     kept_written (Some xs) (Some ys) (Some zs) x first same = same ∙ first
 
 -- how a run ends at a request
-pub ends_there : (stop : Stop) (number : ℕ) (old mid new : TokenRecord) (front rest : List RequestRecord) (request : RequestRecord)
+pub ends_there : (stop : ServeStop) (number : ℕ) (old mid new : TokenRecord) (front rest : List RequestRecord) (request : RequestRecord)
     (told_old told_mid told_new : List Told) (a b c : Option (List ℕ))
     → Serves number old mid front told_old told_mid a b → StopsIn stop number mid new request told_mid told_new b c
     → Ends (error_after stop (length front)) number old new (front ++ request ∷ rest) told_old told_new a c
@@ -247,7 +247,7 @@ ends_there OutOfMemory number old mid new front rest request told_old told_mid t
     stops_short number old mid new front rest request told_old told_mid told_new a b c served stopped
 
 -- the same by the number of the client, who is still the same
-pub ends_there_still : (stop : Stop) (old mid new : TokenRecord) (front rest : List RequestRecord) (request : RequestRecord)
+pub ends_there_still : (stop : ServeStop) (old mid new : TokenRecord) (front rest : List RequestRecord) (request : RequestRecord)
     (told_old told_mid told_new : List Told) (a b c : Option (List ℕ))
     → Serves (number_of old.who) old mid front told_old told_mid a b → mid.who ≡ old.who
     → StopsIn stop (number_of mid.who) mid new request told_mid told_new b c

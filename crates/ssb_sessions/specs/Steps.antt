@@ -9,8 +9,8 @@ use Rattle.ssb_sessions.specs.Served.{IsServed, told_of}
 use Rattle.ssb_audit.specs.declared.trace.Told.{Told}
 use Rattle.ssb_sessions.specs.declared.serve_error.ServeError.{ServeError}
 use Rattle.ssb_sessions.specs.declared.serve_error.ServeError.TheVariants as error
-use Rattle.ssb_sessions.specs.declared.serve_error.Stop.{Stop}
-use Rattle.ssb_sessions.specs.declared.serve_error.Stop.TheVariants.{Write, OutOfMemory}
+use Rattle.ssb_sessions.specs.declared.serve_error.ServeStop.{ServeStop}
+use Rattle.ssb_sessions.specs.declared.serve_error.ServeStop.TheVariants.{Write, OutOfMemory}
 
 -- a request was served, its report written, and its answer kept
 pub record ServesOne (number : ℕ) (old new : TokenRecord) (request : RequestRecord) (told_old told_new : List Told)
@@ -29,7 +29,7 @@ pub record ServesInPart (number : ℕ) (old new : TokenRecord) (request : Reques
   pub written : StopsShort before after (reply_text reply)
 
 -- where serving stops: at a report, or before the request, with everything as it was
-abbrev pub StopsIn : Stop → ℕ → TokenRecord → TokenRecord → RequestRecord → List Told → List Told → Option (List ℕ) → Option (List ℕ)
+abbrev pub StopsIn : ServeStop → ℕ → TokenRecord → TokenRecord → RequestRecord → List Told → List Told → Option (List ℕ) → Option (List ℕ)
     → Type 0
 StopsIn Write number old new request told_old told_new before after =
     ServesInPart number old new request told_old told_new before after
@@ -37,7 +37,7 @@ StopsIn OutOfMemory number old new request told_old told_new before after =
     (new ≡ old) × (told_new ≡ told_old) × Keeps before after
 
 -- why the run ends then, so many requests having been served and reported before
-abbrev pub error_after : Stop → ℕ → ServeError
+abbrev pub error_after : ServeStop → ℕ → ServeError
 error_after Write done = error.Write done
 error_after OutOfMemory done = error.OutOfMemory done
 

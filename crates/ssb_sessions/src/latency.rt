@@ -1,7 +1,7 @@
 //! How long requests took.
 
 use crate::histogram::Histogram;
-use crate::meter::{Kind, Meter};
+use crate::meter::{Meter, RequestKind};
 use std::alloc::{AllocError, Global};
 use std::time::{Clock, Duration, Instant};
 
@@ -59,11 +59,11 @@ impl Times {
         })
     }
 
-    fn add(&mut self, kind: Kind, time: Duration) {
+    fn add(&mut self, kind: RequestKind, time: Duration) {
         let nanos = u64::try_from(time.as_nanos()).unwrap_or(u64::MAX);
         match kind {
-            Kind::Refresh => self.refreshes.add(nanos),
-            Kind::Question => self.answers.add(nanos),
+            RequestKind::Refresh => self.refreshes.add(nanos),
+            RequestKind::Question => self.answers.add(nanos),
         }
     }
 
@@ -129,7 +129,7 @@ impl<'a, C: Clock> Meter for Timer<'a, C> {
         }
     }
 
-    fn end(&mut self, kind: Kind) {
+    fn end(&mut self, kind: RequestKind) {
         let (Some(times), Some(since)) = (&mut self.times, self.since) else {
             return;
         };

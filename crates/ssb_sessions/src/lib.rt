@@ -37,9 +37,9 @@ mod threads;
 
 pub use batches::Batches;
 pub use latency::{Latencies, Latency};
-pub use meter::{Kind, Meter, NoMeter};
+pub use meter::{Meter, NoMeter, RequestKind};
 pub use requests::{serve_request, serve_requests};
 pub use run::{Run, serve_scripts};
 pub use run_fault::RunFault;
-pub use serve_error::{ServeError, Stop};
+pub use serve_error::{ServeError, ServeStop};
 pub use ssb_audit::Told;

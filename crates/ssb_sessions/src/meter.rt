@@ -4,7 +4,7 @@ use ssb_script::Request;
 
 /// What a request of a script asks for.
 #[derive(Clone, Copy, Debug, PartialEq, Eq)]
-pub enum Kind {
+pub enum RequestKind {
     /// A refresh.
     Refresh,
     /// A question.
@@ -12,10 +12,10 @@ pub enum Kind {
 }
 
 // The kind of a request.
-pub(crate) fn kind_of(request: &Request) -> Kind {
+pub(crate) fn kind_of(request: &Request) -> RequestKind {
     match request {
-        Request::Refresh(_) => Kind::Refresh,
-        Request::Ask(_) => Kind::Question,
+        Request::Refresh(_) => RequestKind::Refresh,
+        Request::Ask(_) => RequestKind::Question,
     }
 }
 
@@ -26,7 +26,7 @@ pub trait Meter {
     fn begin(&mut self);
 
     /// It was served, and its reply is reported. A request that ends the run has no end.
-    fn end(&mut self, kind: Kind);
+    fn end(&mut self, kind: RequestKind);
 }
 
 /// Looks at nothing.
@@ -36,5 +36,5 @@ pub struct NoMeter;
 impl Meter for NoMeter {
     fn begin(&mut self) {}
 
-    fn end(&mut self, _kind: Kind) {}
+    fn end(&mut self, _kind: RequestKind) {}
 }

@@ -12,7 +12,7 @@ ghost use Rattle.ssb_sessions.specs.Steps.{AreAlike, ServesOne, StopsIn};
 ghost use Rattle.ssb_audit.specs.declared.trace.Told.{Told as PlainTold};
 
 use crate::meter::{Meter, kind_of};
-use crate::serve_error::{ServeError, Stop};
+use crate::serve_error::{ServeError, ServeStop};
 use ssb_answers::Answer;
 use ssb_audit::Told;
 use ssb_questions::Question;
@@ -46,7 +46,7 @@ fn serve_refresh<W: Wait + Drop, R: Wait, O: Write>(
     number: u32,
     refresh: Arc<Refresh>,
     writer: &mut O,
-) -> Result<(), Stop>
+) -> Result<(), ServeStop>
     requires table { client.old.table ≡ server.now }
     requires who { client.old.who ≡ IsNumbered number }
     requires quiet { is_some client.old.asked ≡ false }
@@ -61,7 +61,7 @@ fn serve_refresh<W: Wait + Drop, R: Wait, O: Write>(
 {
     match write_reply(writer, &client.refresh(rt, server, refresh)) {
         Ok(()) => Ok(()),
-        Err(_) => Err(Stop::Write),
+        Err(_) => Err(ServeStop::Write),
     }
 }
 
@@ -74,7 +74,7 @@ fn serve_question<W: Wait + Drop, R: Wait, O: Write>(
     question: Question,
     writer: &mut O,
     told: &mut Vec<Told>,
-) -> Result<(), Stop>
+) -> Result<(), ServeStop>
     requires table { client.old.table ≡ server.now }
     requires who { client.old.who ≡ IsNumbered number }
     requires quiet { is_some client.old.asked ≡ false }
@@ -86,7 +86,7 @@ fn serve_question<W: Wait + Drop, R: Wait, O: Write>(
     ensures sound { IsSound client.old → IsSound client.new }
 {
     if told.reserve(1).is_err() {
-        return Err(Stop::OutOfMemory);
+        return Err(ServeStop::OutOfMemory);
     }
     client.ask(server, question);
     let answer = client.await_answer(rt, server);
@@ -94,7 +94,7 @@ fn serve_question<W: Wait + Drop, R: Wait, O: Write>(
     keep(told, number, answer);
     match written {
         Ok(()) => Ok(()),
-        Err(_) => Err(Stop::Write),
+        Err(_) => Err(ServeStop::Write),
     }
 }
 
@@ -109,7 +109,7 @@ pub fn serve_request<W: Wait + Drop, R: Wait, O: Write, M: Meter>(
     writer: &mut O,
     told: &mut Vec<Told>,
     meter: &mut M,
-) -> Result<(), Stop>
+) -> Result<(), ServeStop>
     requires table { client.old.table ≡ server.now }
     requires quiet { is_some client.old.asked ≡ false }
     ensures served { OnOk result (ServesOne (number_of client.old.who) client.old client.new (request_of request)

@@ -17,21 +17,21 @@ pub enum ServeError {
 
 /// Why serving stopped at a request.
 #[derive(Clone, Copy, Debug, PartialEq, Eq)]
-pub enum Stop {
+pub enum ServeStop {
     /// The request was served, but its report could not be written whole.
     Write,
     /// There was no memory to keep the request's answer, and it was not asked.
     OutOfMemory,
 }
 
-impl Stop {
+impl ServeStop {
     /// The error where so many requests were served and reported before.
     pub(crate) fn after(self, done: u64) -> ServeError
         ensures { result ≡ error_after self done }
     {
         match self {
-            Stop::Write => ServeError::Write(done),
-            Stop::OutOfMemory => ServeError::OutOfMemory(done),
+            ServeStop::Write => ServeError::Write(done),
+            ServeStop::OutOfMemory => ServeError::OutOfMemory(done),
         }
     }
 }

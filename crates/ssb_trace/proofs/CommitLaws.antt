@@ -52,12 +52,12 @@ use Rattle.ssb_script.specs.declared.error.ScriptError.{ScriptError}
 use Rattle.std.specs.Result.{IfOk}
 use Rattle.ssb_trace.specs.Lines.{TraceLine, Begin, Inside, SaysAfter, line_inside}
 use Rattle.ssb_trace.specs.Steps.{Follows, StandsInside, Takes, TakesRecord}
-use Rattle.ssb_trace.specs.declared.unfinished.Step.{Step}
+use Rattle.ssb_trace.specs.declared.unfinished.TraceStep.{TraceStep}
 use Rattle.ssb_trace.specs.declared.unfinished.Unfinished.{Unfinished}
 use Rattle.ssb_trace.specs.declared.entry.TraceEntry.TheVariants as entry
 use Rattle.ssb_trace.specs.declared.unfinished.Unfinished.TheVariants as unfinished
-use Rattle.ssb_trace.specs.declared.word.Word.{Word}
-use Rattle.ssb_trace.specs.declared.word.Word.TheVariants as word
+use Rattle.ssb_trace.specs.declared.word.TraceWord.{TraceWord}
+use Rattle.ssb_trace.specs.declared.word.TraceWord.TheVariants as word
 
 -- a record that says something in a commit says what may stand in a refresh
 same_line : (spelled line : ScriptLine) → line_or_bad (Some spelled) ≡ Ok line → spelled ≡ line
@@ -82,7 +82,7 @@ of_row (Err (fault.NotUtf8 column)) line e = absurd cc
 of_row (Err (fault.NotANumber column)) line e = absurd cc
 of_row (Err fault.OutOfMemory) line e = absurd cc
 
-pub stands_inside : (w : Option Word) (fields : List (List ℕ)) (line : ScriptLine) → line_inside w fields ≡ Ok line
+pub stands_inside : (w : Option TraceWord) (fields : List (List ℕ)) (line : ScriptLine) → line_inside w fields ≡ Ok line
     → StandsInside line
 stands_inside None fields line e = absurd cc
 stands_inside (Some word.Commit) fields line e = absurd cc
@@ -267,7 +267,7 @@ takes_first number client actions none = rw none (record {
 })
 
 -- a record that says this line gives what follows it
-pub takes_said : (result : Result Step ScriptError) (number : ℕ) (old : Unfinished) (w : Option Word)
+pub takes_said : (result : Result TraceStep ScriptError) (number : ℕ) (old : Unfinished) (w : Option TraceWord)
     (fields : List (List ℕ)) (line : TraceLine)
     → SaysAfter w fields line → IfOk result (λ step. (n : ℕ) → Follows n old line step)
     → IfOk result (TakesRecord number old w fields)

@@ -61,8 +61,8 @@ use Rattle.ssb_trace.specs.Lines.{
 }
 use Rattle.ssb_trace.specs.declared.entry.TraceEntry.{TraceEntry}
 use Rattle.ssb_trace.specs.declared.entry.TraceEntry.TheVariants as entry
-use Rattle.ssb_trace.specs.declared.word.Word.{Word}
-use Rattle.ssb_trace.specs.declared.word.Word.TheVariants as word
+use Rattle.ssb_trace.specs.declared.word.TraceWord.{TraceWord}
+use Rattle.ssb_trace.specs.declared.word.TraceWord.TheVariants as word
 
 -- the records of a text are one list
 one_list : (cfg : Config) (s s1 s2 : State) (text ys zs : List ℕ) (one other : List (List (List ℕ)))
@@ -89,7 +89,7 @@ inside : Result ScriptLine RecordFault → Option TraceLine
 inside (Ok line) = Some (Inside line)
 inside (Err why) = None
 
-said : Query → Option Word → List (List ℕ) → Option TraceLine
+said : Query → Option TraceWord → List (List ℕ) → Option TraceLine
 said query (Some word.Commit) fields = entry_begun (Some word.Commit) fields
 said query (Some word.Answer) fields = entry_begun (Some word.Answer) fields
 said query (Some word.Row) fields = option_map (Row query) (row_after query (Some word.Row) fields)
@@ -102,14 +102,14 @@ IsOf query (Inside line) = Unit {0}
 IsOf query (Answer head) = Unit {0}
 IsOf query (Row other row) = other ≡ query
 
-says_begin : (query : Query) (w : Option Word) (fields : List (List ℕ)) (line : TraceLine)
+says_begin : (query : Query) (w : Option TraceWord) (fields : List (List ℕ)) (line : TraceLine)
     → entry_begun w fields ≡ Some line → said query w fields ≡ Some line
 unfolding said
 says_begin query (Some word.Commit) fields line e = e
 says_begin query (Some word.Answer) fields line e = e
 says_begin query _ fields line e = absurd cc
 
-says_inside : (query : Query) (w : Option Word) (fields : List (List ℕ)) (line : ScriptLine)
+says_inside : (query : Query) (w : Option TraceWord) (fields : List (List ℕ)) (line : ScriptLine)
     → line_inside w fields ≡ Ok line → said query w fields ≡ Some (Inside line)
 unfolding inside said
 says_inside query (Some word.Commit) fields line e = absurd cc
@@ -122,13 +122,13 @@ says_inside query (Some word.Line) fields line e = ap inside e
 says_inside query (Some word.Withdraw) fields line e = ap inside e
 says_inside query (Some word.End) fields line e = ap inside e
 
-says_row : (query : Query) (w : Option Word) (fields : List (List ℕ)) (row : ResultRow)
+says_row : (query : Query) (w : Option TraceWord) (fields : List (List ℕ)) (row : ResultRow)
     → row_after query w fields ≡ Some row → said query w fields ≡ Some (Row query row)
 unfolding said
 says_row query (Some word.Row) fields row e = ap (option_map (Row query)) e
 says_row query _ fields row e = absurd cc
 
-says_said : (query : Query) (w : Option Word) (fields : List (List ℕ)) (line : TraceLine) → IsOf query line
+says_said : (query : Query) (w : Option TraceWord) (fields : List (List ℕ)) (line : TraceLine) → IsOf query line
     → SaysAfter w fields line → said query w fields ≡ Some line
 unfolding IsOf
 says_said query w fields (Begin client) of says = says_begin query w fields (Begin client) says

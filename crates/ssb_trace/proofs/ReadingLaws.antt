@@ -66,7 +66,7 @@ use Rattle.ssb_trace.specs.Traces.{
   fault_of,
 }
 use Rattle.ssb_trace.specs.declared.entry.TraceEntry.{TraceEntry}
-use Rattle.ssb_trace.specs.declared.unfinished.Step.{Step}
+use Rattle.ssb_trace.specs.declared.unfinished.TraceStep.{TraceStep}
 use Rattle.ssb_trace.specs.declared.unfinished.Unfinished.{Unfinished}
 use Rattle.ssb_trace.specs.declared.unfinished.Unfinished.TheVariants.{Nothing}
 
@@ -117,7 +117,7 @@ lines_more entries more begun next line e =
     ∙ ap (λ lines. lines ++ next) (sym (flat_map-append lines_of_entry entries more))))
 
 spells_more : (records : List (List (List ℕ))) (entries : List TraceEntry) (old : Unfinished) (fields : List (List ℕ))
-    (line : TraceLine) (step : Step)
+    (line : TraceLine) (step : TraceStep)
     → Spells records entries old → Says fields line → Follows (length records + 1) old line step
     → Spells (records ++ fields ∷ []) (entries ++ ended step) step.unfinished
 spells_more records entries old fields line step so_far says follows = record {
@@ -130,7 +130,7 @@ spells_more records entries old fields line step so_far says follows = record {
 
 -- one more record was read
 pub read_more : {R : Type 0} (remaining : R → Option (List ℕ)) (text : List ℕ) (old new : Reader R) (count : ℕ)
-    (commits : List CommitRecord) (answers : List Told) (begun : Unfinished) (fields : List (List ℕ)) (step : Step)
+    (commits : List CommitRecord) (answers : List Told) (begun : Unfinished) (fields : List (List ℕ)) (step : TraceStep)
     → HasRead remaining text old count commits answers begun → GivesNext remaining old new true fields
     → TakesRecord (count + 1) begun (word_of fields) fields step
     → HasRead remaining text new (count + 1) (commits ++ commits_in (ended step)) (answers ++ answers_in (ended step))

@@ -42,8 +42,8 @@ use Rattle.ssb_script.specs.declared.control.Opening.TheVariants.{Add, Amend}
 use Rattle.ssb_trace.specs.Heads.{commit_of, head_of}
 use Rattle.ssb_trace.specs.Rows.{row_of}
 use Rattle.ssb_trace.specs.declared.heads.AnswerHead.{AnswerHead}
-use Rattle.ssb_trace.specs.declared.word.Word.{Word}
-use Rattle.ssb_trace.specs.declared.word.Word.TheVariants as word
+use Rattle.ssb_trace.specs.declared.word.TraceWord.{TraceWord}
+use Rattle.ssb_trace.specs.declared.word.TraceWord.TheVariants as word
 
 -- what a record may say
 pub data TraceLine : Type 0 where
@@ -57,7 +57,7 @@ pub data TraceLine : Type 0 where
   Row : Query → ResultRow → TraceLine
 
 -- the words that a record may begin with
-abbrev pub spelling_of : Word → List ℕ
+abbrev pub spelling_of : TraceWord → List ℕ
 spelling_of word.Commit = codes "commit"
 spelling_of word.Add = codes "add"
 spelling_of word.Amend = codes "amend"
@@ -67,24 +67,24 @@ spelling_of word.End = codes "end"
 spelling_of word.Answer = codes "answer"
 spelling_of word.Row = codes "row"
 
-abbrev pub words : List Word
+abbrev pub words : List TraceWord
 words = word.Commit ∷ word.Add ∷ word.Amend ∷ word.Line ∷ word.Withdraw ∷ word.End ∷ word.Answer ∷ word.Row ∷ []
 
 -- the word that bytes spell, letter for letter
-abbrev pub word_spelled : List ℕ → Option Word
+abbrev pub word_spelled : List ℕ → Option TraceWord
 word_spelled bytes = find (λ word. pointwise nat_eq (spelling_of word) bytes) words
 
 -- the word of a record, if its first field is one
-unfoldable pub word_of : List (List ℕ) → Option Word
+unfoldable pub word_of : List (List ℕ) → Option TraceWord
 word_of fields = word_spelled (field fields 0)
 
 -- whether a record is a `line`, which goes by its word alone
-abbrev pub is_line : Option Word → Bool
+abbrev pub is_line : Option TraceWord → Bool
 is_line (Some word.Line) = true
 is_line _ = false
 
 -- what a record of this word says in a commit, as a line of a script's refresh: `end` is a script's `commit`
-abbrev pub line_inside : Option Word → List (List ℕ) → Result ScriptLine RecordFault
+abbrev pub line_inside : Option TraceWord → List (List ℕ) → Result ScriptLine RecordFault
 line_inside (Some word.Add) fields = line_or_bad (alone (Open Add) fields)
 line_inside (Some word.Amend) fields = line_or_bad (alone (Open Amend) fields)
 line_inside (Some word.Line) fields = line_or_refusal (row.row_of table.Lineorder (drop 1 fields))
@@ -93,18 +93,18 @@ line_inside (Some word.End) fields = line_or_bad (alone Commit fields)
 line_inside _ _ = Err Bad
 
 -- the commit, or the answer, that a record of this word begins
-abbrev pub entry_begun : Option Word → List (List ℕ) → Option TraceLine
+abbrev pub entry_begun : Option TraceWord → List (List ℕ) → Option TraceLine
 entry_begun (Some word.Commit) fields = option_map Begin (commit_of fields)
 entry_begun (Some word.Answer) fields = option_map Answer (head_of fields)
 entry_begun _ _ = None
 
 -- the row of an answer to the query that a record of this word spells
-abbrev pub row_after : Query → Option Word → List (List ℕ) → Option ResultRow
+abbrev pub row_after : Query → Option TraceWord → List (List ℕ) → Option ResultRow
 row_after query (Some word.Row) fields = row_of query fields
 row_after _ _ _ = None
 
 -- a record of this word spells this
-abbrev pub SaysAfter : Option Word → List (List ℕ) → TraceLine → Type 0
+abbrev pub SaysAfter : Option TraceWord → List (List ℕ) → TraceLine → Type 0
 SaysAfter word fields (Begin client) = entry_begun word fields ≡ Some (Begin client)
 SaysAfter word fields (Inside line) = line_inside word fields ≡ Ok line
 SaysAfter word fields (Answer head) = entry_begun word fields ≡ Some (Answer head)

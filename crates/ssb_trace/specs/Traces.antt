@@ -35,7 +35,7 @@ use Rattle.ssb_trace.specs.Lines.{AreLines, entry_begun, is_line, line_inside, r
 use Rattle.ssb_trace.specs.declared.entry.TraceEntry.{TraceEntry}
 use Rattle.ssb_trace.specs.declared.unfinished.Unfinished.{Unfinished}
 use Rattle.ssb_trace.specs.declared.unfinished.Unfinished.TheVariants as unfinished
-use Rattle.ssb_trace.specs.declared.word.Word.{Word}
+use Rattle.ssb_trace.specs.declared.word.TraceWord.{TraceWord}
 
 -- a text spells this trace: its records, at most so many, spell the lines of commits and answers and nothing else, and
 -- these
@@ -62,11 +62,11 @@ bad_unless number (Some said) = None
 bad_unless number None = Some (error.BadLine number)
 
 -- a record that is no `line` ends the order that is being read, which then may be refused
-abbrev pub order_refused : Begun → Option Word → Option ScriptError
+abbrev pub order_refused : Begun → Option TraceWord → Option ScriptError
 order_refused begun word = if is_line word then None else refusal_at_end begun
 
 -- the checks of the record of a number, whose word this is: in a commit those of a script's refresh
-abbrev pub checks_after : ℕ → Unfinished → Option Word → List (List ℕ) → List (Option ScriptError)
+abbrev pub checks_after : ℕ → Unfinished → Option TraceWord → List (List ℕ) → List (Option ScriptError)
 checks_after number unfinished.Nothing word fields = bad_unless number (entry_begun word fields) ∷ []
 checks_after number (unfinished.Commit commit) word fields =
     order_refused (begun_in commit.begun) word ∷ checks_in number (begun_in commit.begun) (line_inside word fields)

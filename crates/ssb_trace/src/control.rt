@@ -5,24 +5,24 @@ ghost use Rattle.ssb_script.specs.Lines.{line_or_bad};
 ghost use Rattle.ssb_script.specs.Steps.{line_of_control};
 ghost use Rattle.ssb_trace.specs.Lines.{is_line, line_inside};
 
-use crate::word::Word;
+use crate::word::TraceWord;
 use csv::ByteRecord;
 use ssb_script::{Control, Opening, key_of};
 
 /// What a record of this word says in a commit, in a script's terms, if it says anything: `end` is a script's `commit`.
-pub(crate) fn control_of(word: Option<Word>, fields: &ByteRecord) -> Option<Control>
+pub(crate) fn control_of(word: Option<TraceWord>, fields: &ByteRecord) -> Option<Control>
     requires { is_line word ≡ false }
     ensures { line_inside word (fields_of fields.now) ≡ line_or_bad (option_map line_of_control result) }
 {
     match word {
-        Some(Word::Add) => Control::Open(Opening::Add).alone(fields),
-        Some(Word::Amend) => Control::Open(Opening::Amend).alone(fields),
-        Some(Word::Withdraw) => key_of(fields).map(Control::Withdraw),
-        Some(Word::End) => Control::Commit.alone(fields),
-        Some(Word::Line) => None,
-        Some(Word::Commit) => None,
-        Some(Word::Answer) => None,
-        Some(Word::Row) => None,
+        Some(TraceWord::Add) => Control::Open(Opening::Add).alone(fields),
+        Some(TraceWord::Amend) => Control::Open(Opening::Amend).alone(fields),
+        Some(TraceWord::Withdraw) => key_of(fields).map(Control::Withdraw),
+        Some(TraceWord::End) => Control::Commit.alone(fields),
+        Some(TraceWord::Line) => None,
+        Some(TraceWord::Commit) => None,
+        Some(TraceWord::Answer) => None,
+        Some(TraceWord::Row) => None,
         None => None,
     }
 }

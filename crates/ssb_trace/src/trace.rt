@@ -7,7 +7,7 @@ ghost use Rattle.ssb_trace.specs.Traces.{IsBegun, IsTraceFault, SpellsTrace};
 ghost use Rattle.ssb_trace.specs.declared.unfinished.Unfinished.TheVariants as unfinished;
 
 use crate::entry::TraceEntry;
-use crate::unfinished::{Step, Unfinished};
+use crate::unfinished::{TraceStep, Unfinished};
 use csv::ByteRecord;
 use row_store::Commit;
 use ssb_audit::{Told, Trace};
@@ -80,7 +80,7 @@ pub fn read_trace<R: Read + Drop>(
         if !next_record(&mut reader, &mut fields)? {
             return trace_of(commits, answers, begun);
         }
-        let Step {
+        let TraceStep {
             entry,
             unfinished: next,
         } = begun.after(alloc, before, &fields)?;

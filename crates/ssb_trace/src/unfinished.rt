@@ -11,14 +11,14 @@ ghost use Rattle.ssb_trace.specs.Lines.{line_inside, row_after};
 ghost use Rattle.ssb_trace.specs.Steps.{CommitStep, Follows, Takes, TakesRecord};
 ghost use Rattle.ssb_trace.specs.Traces.{checks_after, order_refused};
 ghost use Rattle.ssb_trace.specs.declared.unfinished.Unfinished.TheVariants as unfinished;
-ghost use Rattle.ssb_trace.specs.declared.word.Word.TheVariants as words;
+ghost use Rattle.ssb_trace.specs.declared.word.TraceWord.TheVariants as words;
 ghost use Rattle.ssb_script.specs.declared.error.ScriptError.TheVariants.{OutOfMemory};
 
 use crate::control::control_of;
 use crate::entry::TraceEntry;
 use crate::heads::{AnswerHead, client_of_commit, head_of};
 use crate::rows::row_of;
-use crate::word::{Word, is_line};
+use crate::word::{TraceWord, is_line};
 use csv::ByteRecord;
 use row_store::Commit;
 use ssb_answers::ResultRow;
@@ -59,7 +59,7 @@ pub(crate) enum Unfinished {
 
 /// What comes of one record: the entry that it ends, if it ends one, and what is begun after it.
 #[derive(Drop)]
-pub(crate) struct Step {
+pub(crate) struct TraceStep {
     /// The entry that the record ended, if it ended one.
     pub entry: Option<TraceEntry>,
     /// What is begun after the record.
@@ -67,13 +67,13 @@ pub(crate) struct Step {
 }
 
 // The record of a number begins a commit.
-fn begin_commit(alloc: Global, number: u64, fields: &ByteRecord) -> Result<Step, ScriptError>
+fn begin_commit(alloc: Global, number: u64, fields: &ByteRecord) -> Result<TraceStep, ScriptError>
     ensures step { IfOk result (TakesRecord number unfinished.Nothing (Some words.Commit) (fields_of fields.now)) }
     ensures fault { IfErr result (IsFoundBy (checks_after number unfinished.Nothing (Some words.Commit)
         (fields_of fields.now))) }
 {
     match client_of_commit(fields) {
-        Some(client) => Ok(Step {
+        Some(client) => Ok(TraceStep {
             entry: None,
             unfinished: Unfinished::Commit(UnfinishedCommit {
                 client,
@@ -85,7 +85,7 @@ fn begin_commit(alloc: Global, number: u64, fields: &ByteRecord) -> Result<Step,
 }
 
 // The record of a number begins an answer.
-fn begin_answer(alloc: Global, number: u64, fields: &ByteRecord) -> Result<Step, ScriptError>
+fn begin_answer(alloc: Global, number: u64, fields: &ByteRecord) -> Result<TraceStep, ScriptError>
     ensures step { IfOk result (TakesRecord number unfinished.Nothing (Some words.Answer) (fields_of fields.now)) }
     ensures fault { IfErr result (IsFoundBy (checks_after number unfinished.Nothing (Some words.Answer)
         (fields_of fields.now))) }
@@ -103,15 +103,15 @@ fn begin_answer(alloc: Global, number: u64, fields: &ByteRecord) -> Result<Step,
 fn outside(
     alloc: Global,
     number: u64,
-    word: Option<Word>,
+    word: Option<TraceWord>,
     fields: &ByteRecord,
-) -> Result<Step, ScriptError>
+) -> Result<TraceStep, ScriptError>
     ensures step { IfOk result (TakesRecord number unfinished.Nothing word (fields_of fields.now)) }
     ensures fault { IfErr result (IsFoundBy (checks_after number unfinished.Nothing word (fields_of fields.now))) }
 {
     match word {
-        Some(Word::Commit) => begin_commit(alloc, number, fields),
-        Some(Word::Answer) => begin_answer(alloc, number, fields),
+        Some(TraceWord::Commit) => begin_commit(alloc, number, fields),
+        Some(TraceWord::Answer) => begin_answer(alloc, number, fields),
         _ => Err(ScriptError::BadLine(number)),
     }
 }
@@ -121,7 +121,7 @@ fn after_in_refresh(
     begun: Begun,
     alloc: Global,
     before: u64,
-    word: Option<Word>,
+    word: Option<TraceWord>,
     fields: &ByteRecord,
 ) -> Result<ssb_script::Step, ScriptError>
     requires counted { before < 2 ^ 64 - 1 }
@@ -139,16 +139,16 @@ fn after_in_refresh(
 }
 
 // What comes of that in a commit of the client.
-fn step_of_commit(client: u32, step: ssb_script::Step) -> Step
+fn step_of_commit(client: u32, step: ssb_script::Step) -> TraceStep
     ensures { CommitStep client step result }
 {
     let ssb_script::Step { request, begun } = step;
     match request {
-        Some(ssb_script::Request::Refresh(refresh)) => Step {
+        Some(ssb_script::Request::Refresh(refresh)) => TraceStep {
             entry: Some(TraceEntry::Commit(Commit { client, refresh })),
             unfinished: Unfinished::Nothing,
         },
-        _ => Step {
+        _ => TraceStep {
             entry: None,
             unfinished: Unfinished::Commit(UnfinishedCommit { client, begun }),
         },
@@ -159,13 +159,13 @@ fn step_of_commit(client: u32, step: ssb_script::Step) -> Step
 fn row_in(
     alloc: Global,
     query: Query,
-    word: Option<Word>,
+    word: Option<TraceWord>,
     fields: &ByteRecord,
 ) -> Result<Option<ResultRow>, AllocError>
     ensures { IfOk result (λ row. row ≡ row_after query word (fields_of fields.now)) }
 {
     match word {
-        Some(Word::Row) => row_of(alloc, query, fields),
+        Some(TraceWord::Row) => row_of(alloc, query, fields),
         _ => Ok(None),
     }
 }
@@ -176,9 +176,9 @@ impl UnfinishedCommit {
         self,
         alloc: Global,
         before: u64,
-        word: Option<Word>,
+        word: Option<TraceWord>,
         fields: &ByteRecord,
-    ) -> Result<Step, ScriptError>
+    ) -> Result<TraceStep, ScriptError>
         requires counted { before < 2 ^ 64 - 1 }
         requires inside { is_outside (begun_in self.begun) ≡ false }
         requires room { HasRoom before (begun_in self.begun) }
@@ -193,12 +193,12 @@ impl UnfinishedCommit {
 
 impl UnfinishedAnswer {
     // The answer, once it has all its rows.
-    fn step(self) -> Step
+    fn step(self) -> TraceStep
         requires { length self.rows ≤ self.head.count }
         ensures { (number : ℕ) → Takes number (lines_of_unfinished (unfinished.Answer self)) result }
     {
         if self.rows.len() as u64 == self.head.count {
-            Step {
+            TraceStep {
                 entry: Some(TraceEntry::Answer(Told {
                     client: self.head.client,
                     at: self.head.at,
@@ -208,7 +208,7 @@ impl UnfinishedAnswer {
                 unfinished: Unfinished::Nothing,
             }
         } else {
-            Step {
+            TraceStep {
                 entry: None,
                 unfinished: Unfinished::Answer(self),
             }
@@ -216,7 +216,7 @@ impl UnfinishedAnswer {
     }
 
     // One more row.
-    fn with(self, row: ResultRow) -> Result<Step, ScriptError>
+    fn with(self, row: ResultRow) -> Result<TraceStep, ScriptError>
         requires { length self.rows < self.head.count }
         ensures step { IfOk result (λ step. (number : ℕ)
             → Follows number (unfinished.Answer self) (spec.Row self.head.question.0 row) step) }
@@ -237,9 +237,9 @@ impl UnfinishedAnswer {
         self,
         alloc: Global,
         number: u64,
-        word: Option<Word>,
+        word: Option<TraceWord>,
         fields: &ByteRecord,
-    ) -> Result<Step, ScriptError>
+    ) -> Result<TraceStep, ScriptError>
         requires { length self.rows < self.head.count }
         ensures step { IfOk result (TakesRecord number (unfinished.Answer self) word (fields_of fields.now)) }
         ensures fault { IfErr result (IsFoundBy (checks_after number (unfinished.Answer self) word
@@ -259,7 +259,7 @@ impl Unfinished {
         alloc: Global,
         before: u64,
         fields: &ByteRecord,
-    ) -> Result<Step, ScriptError>
+    ) -> Result<TraceStep, ScriptError>
         requires counted { before < 2 ^ 64 - 1 }
         requires unfinished { IsUnfinished before self }
         ensures step { IfOk result (TakesRecord (before + 1) self (spec.word_of (fields_of fields.now))
@@ -267,7 +267,7 @@ impl Unfinished {
         ensures fault { IfErr result (IsFoundBy (checks_after (before + 1) self (spec.word_of (fields_of fields.now))
             (fields_of fields.now))) }
     {
-        let word = Word::of(fields);
+        let word = TraceWord::of(fields);
         match self {
             Unfinished::Nothing => outside(alloc, before + 1, word, fields),
             Unfinished::Commit(commit) => commit.after(alloc, before, word, fields),

@@ -9,7 +9,7 @@ use ssb_text::trimmed_at;
 
 /// The first field of a record.
 #[derive(Clone, Copy, Debug, PartialEq, Eq)]
-pub(crate) enum Word {
+pub(crate) enum TraceWord {
     Commit,
     Add,
     Amend,
@@ -21,35 +21,35 @@ pub(crate) enum Word {
 }
 
 /// All words.
-pub(crate) const WORDS: [Word; 8] = [
-    Word::Commit,
-    Word::Add,
-    Word::Amend,
-    Word::Line,
-    Word::Withdraw,
-    Word::End,
-    Word::Answer,
-    Word::Row,
+pub(crate) const WORDS: [TraceWord; 8] = [
+    TraceWord::Commit,
+    TraceWord::Add,
+    TraceWord::Amend,
+    TraceWord::Line,
+    TraceWord::Withdraw,
+    TraceWord::End,
+    TraceWord::Answer,
+    TraceWord::Row,
 ];
 
-impl Word {
+impl TraceWord {
     fn spelling(self) -> &'static [u8]
         ensures { result.now ≡ spelling_of self }
     {
         match self {
-            Word::Commit => b"commit",
-            Word::Add => b"add",
-            Word::Amend => b"amend",
-            Word::Line => b"line",
-            Word::Withdraw => b"withdraw",
-            Word::End => b"end",
-            Word::Answer => b"answer",
-            Word::Row => b"row",
+            TraceWord::Commit => b"commit",
+            TraceWord::Add => b"add",
+            TraceWord::Amend => b"amend",
+            TraceWord::Line => b"line",
+            TraceWord::Withdraw => b"withdraw",
+            TraceWord::End => b"end",
+            TraceWord::Answer => b"answer",
+            TraceWord::Row => b"row",
         }
     }
 
     // The word that bytes spell, letter for letter.
-    fn spelled(bytes: &[u8]) -> Option<Word>
+    fn spelled(bytes: &[u8]) -> Option<TraceWord>
         ensures { result ≡ word_spelled bytes.now }
     {
         WORDS.iter().copied().find(|word| word.spelling() == bytes)
@@ -57,16 +57,16 @@ impl Word {
 
     /// The word of a record, if its first field is one.
     #[tactic(auto, unfolding(crate::specs::Lines::word_of))]
-    pub(crate) fn of(fields: &ByteRecord) -> Option<Word>
+    pub(crate) fn of(fields: &ByteRecord) -> Option<TraceWord>
         ensures { result ≡ spec.word_of (fields_of fields.now) }
     {
-        Word::spelled(trimmed_at(fields, 0))
+        TraceWord::spelled(trimmed_at(fields, 0))
     }
 }
 
 /// Whether a record of this word is a `line`.
-pub(crate) fn is_line(word: Option<Word>) -> bool
+pub(crate) fn is_line(word: Option<TraceWord>) -> bool
     ensures { result ≡ spec.is_line word }
 {
-    matches!(word, Some(Word::Line))
+    matches!(word, Some(TraceWord::Line))
 }

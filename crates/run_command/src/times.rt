@@ -8,7 +8,7 @@ use std::time::{Clock, Duration, Instant};
 /// The times of a run's two steps, where the clock told them, and what was served. A pace that is not asked for reads
 /// no clock.
 #[derive(Drop)]
-pub struct Pace {
+pub struct RunTimes {
     // When the step began that is going on.
     since: Option<Instant>,
     load: Option<Duration>,
@@ -61,11 +61,11 @@ fn tell_latency<E: Write>(err: &mut E, name: &str, times: Latency) {
     );
 }
 
-impl Pace {
+impl RunTimes {
     /// A pace that stands still, or that begins now.
-    pub fn start<C: Clock>(clock: &C, runs: bool) -> Pace {
+    pub fn start<C: Clock>(clock: &C, runs: bool) -> RunTimes {
         let since = if runs { Instant::now(clock).ok() } else { None };
-        Pace {
+        RunTimes {
             since,
             load: None,
             serving: None,
