@@ -1,3 +1,0 @@
-//! The scan beside the plain evaluator.
-mod data;
-mod rows;

@@ -1,0 +1,5 @@
+mod columns;
+mod copies;
+mod definition;
+mod machine;
+mod rows;
