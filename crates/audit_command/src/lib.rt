@@ -16,7 +16,5 @@
 
 mod audit;
 mod fault;
-#[cfg(test)]
-mod tests;
 
 pub use audit::run_audit;

@@ -17,8 +17,6 @@
 
 mod arguments;
 mod command;
-#[cfg(test)]
-mod tests;
 
 pub use arguments::words;
 pub use command::run_command_line;

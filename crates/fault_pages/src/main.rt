@@ -12,8 +12,6 @@
 
 mod faults;
 mod page;
-#[cfg(test)]
-mod tests;
 
 use faults::all_lines;
 use page::{Row, row_of};

@@ -19,7 +19,5 @@ mod asked;
 mod opening;
 mod query;
 mod stopwatch;
-#[cfg(test)]
-mod tests;
 
 pub use query::{Settings, run_all, run_query};

@@ -24,15 +24,11 @@
 #![tactic(auto)]
 
 mod fault;
-#[cfg(test)]
-mod fault_tests;
 mod job;
 mod loading;
 mod opening;
 mod progress;
 mod reading;
-#[cfg(test)]
-mod tests;
 
 pub use fault::Fault;
 pub use job::{Finding, JobFault};

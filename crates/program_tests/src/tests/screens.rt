@@ -1,9 +1,9 @@
-//! What a load shows on a terminal, and which file is named where one cannot be opened.
+//! What a load shows on a terminal.
 
-use crate::{InputSource, Screen, open_tables, watch, watch_scripts};
-use stand_ins::{Screened, Ticking};
+use ssb_files::{Screen, InputSource, watch, watch_scripts};
 use std::io::Read;
 use std::test::Fail;
+use test_fixtures::{Screened, Ticking};
 
 // Reads three rows by six bytes, and twice more at the end.
 fn read_rows<R: Read>(reader: &mut R) -> Result<(), Fail> {
@@ -75,14 +75,5 @@ fn scripts_are_shown_by_their_numbers(rt: HostRuntime) -> Result<(), Fail> {
 \r\x1b[Kssb_live: script 1 1 rows, 0.6 s\r\x1b[K\
 \r\x1b[Kssb_live: script 2 1 rows, 0.8 s\r\x1b[K";
     assert_eq!(rt; std::str::from_utf8(terminal.given().as_slice())?, shown);
-    Ok(())
-}
-
-#[test]
-fn the_first_file_that_cannot_be_opened_is_named(rt: HostRuntime) -> Result<(), Fail> {
-    let fault = open_tables(&rt, "no_such_folder").err().ok_or("opened")?;
-    let told = fault.to_string(rt.alloc())?;
-    assert_eq!(rt; told.as_str(), "cannot read no_such_folder/customer.tbl");
-    assert_eq!(rt; fault.status(), 4);
     Ok(())
 }

@@ -1,0 +1,7 @@
+mod again;
+mod jobs;
+mod readers;
+mod replies;
+mod screens;
+mod words;
+mod writers;
