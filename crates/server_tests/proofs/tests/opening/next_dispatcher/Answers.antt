@@ -1,0 +1,11 @@
+use Rattle.std.proofs.lemmas.List.Elements.{All-pop}
+use Rattle.ssb_server.specs.Tickets.{IsOf}
+use Rattle.server_tests.proofs.tests.opening.next_dispatcher.Goals as goal
+
+pub returns-clause-left : goal.returns-clause-left
+returns-clause-left g c = (All-pop (IsOf c.args.server.now) c.args.dispatchers.now.items c.pop.new.self.items
+    c.pop.result c.pop.ensures.items c.requires).0
+
+pub returns-clause-next : goal.returns-clause-next
+returns-clause-next g c = (All-pop (IsOf c.args.server.now) c.args.dispatchers.now.items c.pop.new.self.items
+    c.pop.result c.pop.ensures.items c.requires).1

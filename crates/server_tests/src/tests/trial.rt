@@ -1,0 +1,317 @@
+//! Trials: what clients and a dispatcher of a server do, step by step, and what they are told.
+ghost use Rattle.std.specs.Prelude.{All};
+ghost use Rattle.ssb_server.specs.Tickets.{IsOf, IsQuiet};
+
+use crate::tests::opening::{next_client, next_dispatcher, opened};
+use crate::tests::steps::{refreshed, turns};
+use ssb_report::{write_answer, write_reply};
+use ssb_server::{Client, Dispatcher, OpenGate, Opened, Server, Turn};
+use std::alloc::{AllocError, Global};
+use std::hash::RandomState;
+use std::marker::Model;
+use std::random::RandomSource;
+use std::sync::Wait;
+use std::test::Fail;
+use std::thread::Threads;
+use test_fixtures::{adding, question};
+
+/// What a client does.
+#[derive(Clone, Copy, Debug)]
+pub enum Deed {
+    /// It adds the order of this key.
+    Adds(u64),
+    /// It asks the query of this name, with the benchmark's constants.
+    Asks(&'static str),
+    /// It polls.
+    Polls,
+}
+
+/// A step of a trial.
+#[derive(Clone, Copy, Debug)]
+pub enum Step {
+    /// The first client does this.
+    First(Deed),
+    /// The second client does this.
+    Second(Deed),
+    /// The third client does this.
+    Third(Deed),
+    /// The second client meets the first one.
+    Meeting,
+    /// The dispatcher takes a turn.
+    Turn,
+}
+
+/// Three clients and a dispatcher of a server, which is theirs.
+#[derive(Drop)]
+pub struct Trial<'s, W: Wait + Drop> {
+    server: &'s Server<W>,
+    first: Client<W>,
+    second: Client<W>,
+    third: Client<W>,
+    dispatcher: Dispatcher<W>,
+}
+
+impl<'s, W: Wait + Drop> Model for Trial<'s, W> {
+    ghost Value = { Unit {0} };
+
+    ghost view = { λ t. tt };
+
+    ghost invariant = { λ t. IsOf t.server.now t.first × IsOf t.server.now t.second × IsOf t.server.now t.third
+        × IsOf t.server.now t.dispatcher };
+}
+
+// Room for what is told, so that its growth is never the one that is refused.
+fn room(alloc: Global) -> Result<Vec<u8>, AllocError> {
+    let mut told = Vec::new(alloc);
+    told.reserve(200)?;
+    Ok(told)
+}
+
+// What was written, without the end of its last line.
+fn text(alloc: Global, told: Vec<u8>) -> Result<String, Fail> {
+    let told = str::from_utf8(told.as_slice())?;
+    Ok(String::from_str(alloc, told.trim_end())?)
+}
+
+// What a turn did.
+fn report(alloc: Global, turn: Turn) -> Result<String, AllocError> {
+    match turn {
+        Turn::Idle => String::from_str(alloc, "idle"),
+        Turn::Answered { at, count } => format!(in alloc; "answered {count} at {at}"),
+        Turn::Unserved { count, cause } => format!(in alloc; "gave up {count}: {cause:?}"),
+    }
+}
+
+// A client adds the order of this key, and what it is told.
+fn refreshes<W: Wait + Drop, R: Wait>(
+    rt: &R,
+    alloc: Global,
+    server: &Server<W>,
+    client: &mut Client<W>,
+    order: u64,
+) -> Result<String, Fail>
+    requires { IsOf server.now client.old }
+    ensures { IsOf server.now client.new }
+{
+    let mut told = room(alloc)?;
+    let refresh = adding(alloc, order)?;
+    write_reply(&mut told, &refreshed(rt, server, client, refresh))?;
+    text(alloc, told)
+}
+
+// A client asks, where it is not asking.
+#[tactic(auto, using(crate::proofs::PlaceLaws::asks_stays))]
+fn asks<W: Wait + Drop>(
+    alloc: Global,
+    server: &Server<W>,
+    client: &mut Client<W>,
+    query: &str,
+) -> Result<String, Fail>
+    requires { IsOf server.now client.old }
+    ensures { IsOf server.now client.new }
+{
+    if client.is_asking() {
+        return Ok(String::from_str(alloc, "asking")?);
+    }
+    client.ask(server, question(alloc, query)?);
+    Ok(String::from_str(alloc, "asked")?)
+}
+
+// A client polls, and what it is told.
+#[tactic(auto, using(crate::proofs::PlaceLaws::polls_stays))]
+fn polls<W: Wait + Drop>(
+    alloc: Global,
+    server: &Server<W>,
+    client: &mut Client<W>,
+) -> Result<String, Fail>
+    requires { IsOf server.now client.old }
+    ensures { IsOf server.now client.new }
+{
+    let Some(answer) = client.poll(server) else {
+        return Ok(String::from_str(alloc, "no answer")?);
+    };
+    let mut told = room(alloc)?;
+    write_answer(&mut told, &answer)?;
+    text(alloc, told)
+}
+
+// A client meets another one, and how many commits it then sees.
+#[tactic(auto, using(crate::proofs::PlaceLaws::looks_stays))]
+fn meets<W: Wait + Drop>(
+    alloc: Global,
+    server: &Server<W>,
+    client: &mut Client<W>,
+    other: &mut Client<W>,
+) -> Result<String, AllocError>
+    requires client { IsOf server.now client.old }
+    requires other { IsOf server.now other.old }
+    ensures client { IsOf server.now client.new }
+    ensures other { IsOf server.now other.new }
+{
+    let seen = client.meet(server, other);
+    format!(in alloc; "sees {seen}")
+}
+
+// What a client does, and what it is told.
+fn does<W: Wait + Drop, R: Wait>(
+    rt: &R,
+    alloc: Global,
+    server: &Server<W>,
+    client: &mut Client<W>,
+    deed: Deed,
+) -> Result<String, Fail>
+    requires { IsOf server.now client.old }
+    ensures { IsOf server.now client.new }
+{
+    match deed {
+        Deed::Adds(order) => refreshes(rt, alloc, server, client, order),
+        Deed::Asks(query) => asks(alloc, server, client, query),
+        Deed::Polls => polls(alloc, server, client),
+    }
+}
+
+// Whether what a step told is what stands beside it.
+fn as_expected(alloc: Global, step: (Step, &str), told: String) -> Result<(), Fail> {
+    if told.as_str() != step.1 {
+        Err(format!(in alloc; "{:?}: {told}", step.0)?)?
+    }
+    Ok(())
+}
+
+impl<'s, W: Wait + Drop> Trial<'s, W> {
+    /// A trial of these clients and this dispatcher.
+    pub fn of(
+        server: &'s Server<W>,
+        clients: (Client<W>, Client<W>, Client<W>),
+        dispatcher: Dispatcher<W>,
+    ) -> Trial<'s, W>
+        requires first { IsOf server.now clients.0 }
+        requires second { IsOf server.now clients.1 }
+        requires third { IsOf server.now clients.2 }
+        requires dispatcher { IsOf server.now dispatcher }
+    {
+        let (first, second, third) = clients;
+        Trial {
+            server,
+            first,
+            second,
+            third,
+            dispatcher,
+        }
+    }
+
+    /// A trial of the last three of these clients and the last of these dispatchers, which leave.
+    pub fn new(
+        server: &'s Server<W>,
+        clients: &mut Vec<Client<W>>,
+        dispatchers: &mut Vec<Dispatcher<W>>,
+    ) -> Result<Trial<'s, W>, Fail>
+        requires clients { All (IsQuiet server.now) clients.old.items }
+        requires dispatchers { All (IsOf server.now) dispatchers.old.items }
+        ensures dispatchers { All (IsOf server.now) dispatchers.new.items }
+    {
+        Ok(Trial {
+            server,
+            first: next_client(server, clients).ok_or("no client")?,
+            second: next_client(server, clients).ok_or("no second client")?,
+            third: next_client(server, clients).ok_or("no third client")?,
+            dispatcher: next_dispatcher(server, dispatchers).ok_or("no dispatcher")?,
+        })
+    }
+
+    // Takes a step. What its client is told, or what the dispatcher did.
+    fn takes<R: Wait + Threads + Sync>(
+        &mut self,
+        rt: &R,
+        alloc: Global,
+        step: Step,
+    ) -> Result<String, Fail> {
+        match step {
+            Step::First(deed) => does(rt, alloc, self.server, &mut self.first, deed),
+            Step::Second(deed) => does(rt, alloc, self.server, &mut self.second, deed),
+            Step::Third(deed) => does(rt, alloc, self.server, &mut self.third, deed),
+            Step::Meeting => Ok(meets(alloc, self.server, &mut self.second, &mut self.first)?),
+            Step::Turn => {
+                let turn = turns(rt, self.server, &mut self.dispatcher, &OpenGate);
+                Ok(report(alloc, turn)?)
+            }
+        }
+    }
+
+    /// Takes the steps, one after another. It fails where one is told anything else than what stands beside it.
+    pub fn plays<R: Wait + Threads + Sync>(
+        &mut self,
+        rt: &R,
+        alloc: Global,
+        steps: &[(Step, &str)],
+    ) -> Result<(), Fail> {
+        for (step, expected) in steps {
+            let told = self.takes(rt, alloc, *step)?;
+            as_expected(alloc, (*step, *expected), told)?;
+        }
+        Ok(())
+    }
+
+    // Takes a step. Where it is told that memory lacks, the steps that come with that are taken.
+    fn plays_at_last<R: Wait + Threads + Sync>(
+        &mut self,
+        rt: &R,
+        alloc: Global,
+        step: (Step, &str),
+        lacking: (&str, &[(Step, &str)]),
+    ) -> Result<(), Fail> {
+        let told = self.takes(rt, alloc, step.0)?;
+        if told.as_str() == lacking.0 {
+            return self.plays(rt, alloc, lacking.1);
+        }
+        as_expected(alloc, step, told)
+    }
+}
+
+/// Takes the steps in a trial of the last clients and the last dispatcher of this server.
+pub fn plays_over<W: Wait + Drop, R: Wait + Threads + Sync>(
+    rt: &R,
+    alloc: Global,
+    made: Opened<W>,
+    steps: &[(Step, &str)],
+) -> Result<(), Fail>
+    requires clients { All (IsQuiet made.server) made.clients.items }
+    requires dispatchers { All (IsOf made.server) made.dispatchers.items }
+{
+    let Opened {
+        server,
+        mut clients,
+        mut dispatchers,
+    } = made;
+    let mut trial = Trial::new(&server, &mut clients, &mut dispatchers)?;
+    trial.plays(rt, alloc, steps)
+}
+
+/// Opens a server over the small data set, and takes the steps.
+pub fn played<R: Wait + Threads + Sync + AllocGlobal + RandomSource>(
+    rt: &R,
+    steps: &[(Step, &str)],
+) -> Result<(), Fail> {
+    let made = opened(rt.alloc(), rt, RandomState::new(rt)?, 3, 1)?;
+    plays_over(rt, rt.alloc(), made, steps)
+}
+
+/// The same of steps of which one may lack memory. Where that step is told so, the steps that come with it are taken
+/// too, and then those after it.
+pub fn played_at_last<R: Wait + Threads + Sync + AllocGlobal + RandomSource>(
+    rt: &R,
+    before: &[(Step, &str)],
+    step: (Step, &str),
+    lacking: (&str, &[(Step, &str)]),
+    after: &[(Step, &str)],
+) -> Result<(), Fail> {
+    let Opened {
+        server,
+        mut clients,
+        mut dispatchers,
+    } = opened(rt.alloc(), rt, RandomState::new(rt)?, 3, 1)?;
+    let mut trial = Trial::new(&server, &mut clients, &mut dispatchers)?;
+    trial.plays(rt, rt.alloc(), before)?;
+    trial.plays_at_last(rt, rt.alloc(), step, lacking)?;
+    trial.plays(rt, rt.alloc(), after)
+}
