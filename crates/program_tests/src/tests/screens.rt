@@ -1,6 +1,6 @@
 //! What a load shows on a terminal.
 
-use ssb_files::{Screen, InputSource, watch, watch_scripts};
+use ssb_files::{InputSource, Screen, watch, watch_scripts};
 use std::io::Read;
 use std::test::Fail;
 use test_fixtures::{Screened, Ticking};

@@ -1,12 +1,12 @@
 use Rattle.std.proofs.Common.{◌≡◌, true, ap, sym, subst, ◌∙◌}
 use Rattle.history.specs.Tokens.{MayPut, Put}
-use Rattle.history.specs.TokenParts.{IsSeated, token}
+use Rattle.history.specs.TokenParts.{IsSeated, shown_token}
 use Rattle.history.proofs.PassingLaws.{passed, put_seated, put_token, put_adds}
 use Rattle.history.proofs.shared_table.SharedTable.put_rows.Goals.{then-length-token, else-length-token}
 use Rattle.history.proofs.shared_table.SharedTable.put_rows.Goals as goal
 
 pub put_commit-requires-clause-rows : goal.put_commit-requires-clause-rows
-put_commit-requires-clause-rows g c = let may : MayPut (token c.token.inside) c.args.rows =
+put_commit-requires-clause-rows g c = let may : MayPut (shown_token c.token.inside) c.args.rows =
     subst (λ t. MayPut t c.args.rows) (sym c.token.view_is) c.requires.rows in (
       may.0,
       put_adds c.token.inside c.args.rows c.token.invariant may
@@ -14,7 +14,7 @@ put_commit-requires-clause-rows g c = let may : MayPut (token c.token.inside) c.
     )
 
 pub invariant_of-token : goal.invariant_of-token
-invariant_of-token g c = let may : MayPut (token c.token.inside) c.args.rows =
+invariant_of-token g c = let may : MayPut (shown_token c.token.inside) c.args.rows =
     subst (λ t. MayPut t c.args.rows) (sym c.token.view_is) c.requires.rows in let held :
     c.token.inside.seat.me.0.holds_rows ≡ true = ap (λ t. t.has_rows) c.token.view_is ∙ c.requires.taken in
     elim c.if-length-token.branch [
