@@ -138,7 +138,7 @@ fn add_to_groups(
     add_losses(lines, grouping.measure, places, groups, &mut totals.losses);
 }
 
-/// Adds the places that a question takes, each to its group; `groups` is written over.
+/// Adds the places that a question takes, each to its group; as many of `groups` are written over.
 pub fn add_places(
     lines: &LineColumns<'_>,
     grouping: &Grouping<'_>,
@@ -146,19 +146,17 @@ pub fn add_places(
     groups: &mut [u32],
     totals: &mut Totals,
 )
-    requires room { length groups.old ≡ length places.now }
+    requires room { length places.now ≤ length groups.old }
     requires places { All (λ place. place < length lines.now.customer.now) places.now }
     requires columns { All (CanNumber (length lines.now.customer.now)) grouping.now.columns.items }
     requires groups { All (λ place. group_at grouping.now.columns.items place < vec_len totals.old.counts) places.now }
     requires few { vec_len totals.old.counts ≤ 2 ^ 32 }
+    ensures room { length groups.new ≡ length groups.old }
     ensures size { vec_len totals.new.counts ≡ vec_len totals.old.counts }
     ensures added { AddsPlaces lines.now grouping.now places.now totals.old totals.new }
 {
-    number_groups(
-        grouping.columns.as_slice(),
-        places,
-        groups,
-        lines.customer.len(),
-    );
+    let groups = &mut groups[..places.len()];
+    let columns = grouping.columns.as_slice();
+    number_groups(columns, places, groups, lines.customer.len());
     add_to_groups(lines, grouping, places, groups, totals);
 }

@@ -7,7 +7,7 @@ ghost use Rattle.scan_kernel.specs.declared.columns.Grouping.{Grouping};
 ghost use Rattle.scan_kernel.specs.declared.totals.Totals.{Totals};
 ghost use Rattle.scan_kernel.specs.Totals.{CanSumAll, HaveSizes, AddsBatch, AreBatchTotals, AreZeros};
 
-use crate::batch::add_found;
+use crate::batch::{Found, Selected, add_found};
 use crate::columns::{Grouping, LineColumns};
 use crate::masks::Masks;
 use crate::search::search;
@@ -21,9 +21,8 @@ pub const CHUNK: usize = 2048;
 #[derive(Drop)]
 struct Room {
     places: Vec<u32>,
-    found: Vec<u16>,
-    selected: Vec<u32>,
-    groups: Vec<u32>,
+    masks: Vec<u16>,
+    selected: Selected,
 }
 
 /// Adds the places of one chunk to the totals of each question.
@@ -49,19 +48,14 @@ fn add_chunk(
     ensures added { AddsBatch lines.now masks.now groupings.now (range_with_len from (to - from)) totals.old
         totals.new }
 {
-    let count = search(lines, masks, from, to, &mut room.places, &mut room.found);
-    add_found(
-        lines,
-        masks,
-        groupings,
+    let count = search(lines, masks, from, to, &mut room.places, &mut room.masks);
+    let found = Found {
         from,
         to,
-        &room.places[..count],
-        &room.found[..count],
-        &mut room.selected,
-        &mut room.groups,
-        totals,
-    );
+        places: &room.places[..count],
+        masks: &room.masks[..count],
+    };
+    add_found(lines, masks, groupings, found, &mut room.selected, totals);
 }
 
 /// Adds the places of a range to the totals of each question, chunk by chunk.
@@ -117,14 +111,15 @@ fn room_for(alloc: Global, count: usize) -> Result<Room, AllocError>
     ensures { IfOk result (λ room. HasRoom count room) }
 {
     let places = places_room(alloc, count)?;
-    let found = masks_room(alloc, count)?;
-    let selected = places_room(alloc, count)?;
-    let groups = places_room(alloc, count)?;
+    let masks = masks_room(alloc, count)?;
+    let selected = Selected {
+        places: places_room(alloc, count)?,
+        groups: places_room(alloc, count)?,
+    };
     Ok(Room {
         places,
-        found,
+        masks,
         selected,
-        groups,
     })
 }
 

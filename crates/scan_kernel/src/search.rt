@@ -17,6 +17,15 @@ struct Tables<'a> {
     terms: &'a [u16],
 }
 
+/// Which dimensions some question tests.
+#[derive(Clone, Copy)]
+struct Tested {
+    customers: bool,
+    suppliers: bool,
+    parts: bool,
+    dates: bool,
+}
+
 #[inline(always)]
 fn mask_in<const TESTED: bool>(masks: &[u16], positions: &[u32], place: usize) -> u16
     requires within { place < length positions.now }
@@ -84,8 +93,7 @@ fn find_places<const C: bool, const S: bool, const P: bool, const D: bool>(
 fn search_with<const C: bool, const S: bool>(
     lines: LineColumns<'_>,
     tables: Tables<'_>,
-    parts: bool,
-    dates: bool,
+    tested: Tested,
     from: usize,
     to: usize,
     places: &mut [u32],
@@ -96,11 +104,11 @@ fn search_with<const C: bool, const S: bool>(
     requires small { length lines.customer.now ≤ 2 ^ 32 }
     requires room { to ≤ from + length places.old }
     requires marks { length found.old ≡ length places.old }
-    requires covers { CanSearch lines (masks_of C S parts dates tables) }
-    ensures { IsSearch lines.entry (masks_of C S parts dates tables.entry) from to result places.old places.new
-        found.old found.new }
+    requires covers { CanSearch lines (masks_of C S tested.parts tested.dates tables) }
+    ensures { IsSearch lines.entry (masks_of C S tested.parts tested.dates tables.entry) from to result places.old
+        places.new found.old found.new }
 {
-    match (parts, dates) {
+    match (tested.parts, tested.dates) {
         (true, true) => find_places::<C, S, true, true>(lines, tables, from, to, places, found),
         (true, false) => find_places::<C, S, true, false>(lines, tables, from, to, places, found),
         (false, true) => find_places::<C, S, false, true>(lines, tables, from, to, places, found),
@@ -108,14 +116,11 @@ fn search_with<const C: bool, const S: bool>(
     }
 }
 
-/// The search where flags say which dimensions are tested.
+/// The search where it is given which dimensions are tested.
 fn search_tables(
     lines: LineColumns<'_>,
     tables: Tables<'_>,
-    customers: bool,
-    suppliers: bool,
-    parts: bool,
-    dates: bool,
+    tested: Tested,
     from: usize,
     to: usize,
     places: &mut [u32],
@@ -126,23 +131,23 @@ fn search_tables(
     requires small { length lines.customer.now ≤ 2 ^ 32 }
     requires room { to ≤ from + length places.old }
     requires marks { length found.old ≡ length places.old }
-    requires covers { CanSearch lines (masks_of customers suppliers parts dates tables) }
-    ensures { IsSearch lines.entry (masks_of customers suppliers parts dates tables.entry) from to result places.old
-        places.new found.old found.new }
+    requires covers { CanSearch lines (masks_of tested.customers tested.suppliers tested.parts tested.dates tables) }
+    ensures { IsSearch lines.entry (masks_of tested.customers tested.suppliers tested.parts tested.dates tables.entry)
+        from to result places.old places.new found.old found.new }
 {
-    match (customers, suppliers) {
-        (true, true) => search_with::<true, true>(
-            lines, tables, parts, dates, from, to, places, found,
-        ),
-        (true, false) => search_with::<true, false>(
-            lines, tables, parts, dates, from, to, places, found,
-        ),
-        (false, true) => search_with::<false, true>(
-            lines, tables, parts, dates, from, to, places, found,
-        ),
-        (false, false) => search_with::<false, false>(
-            lines, tables, parts, dates, from, to, places, found,
-        ),
+    match (tested.customers, tested.suppliers) {
+        (true, true) => {
+            search_with::<true, true>(lines, tables, tested, from, to, places, found)
+        }
+        (true, false) => {
+            search_with::<true, false>(lines, tables, tested, from, to, places, found)
+        }
+        (false, true) => {
+            search_with::<false, true>(lines, tables, tested, from, to, places, found)
+        }
+        (false, false) => {
+            search_with::<false, false>(lines, tables, tested, from, to, places, found)
+        }
     }
 }
 
@@ -180,16 +185,11 @@ pub fn search(
         dates: table(&masks.dates),
         terms: masks.terms.as_slice(),
     };
-    search_tables(
-        *lines,
-        tables,
-        masks.customers.is_some(),
-        masks.suppliers.is_some(),
-        masks.parts.is_some(),
-        masks.dates.is_some(),
-        from,
-        to,
-        places,
-        found,
-    )
+    let tested = Tested {
+        customers: masks.customers.is_some(),
+        suppliers: masks.suppliers.is_some(),
+        parts: masks.parts.is_some(),
+        dates: masks.dates.is_some(),
+    };
+    search_tables(*lines, tables, tested, from, to, places, found)
 }

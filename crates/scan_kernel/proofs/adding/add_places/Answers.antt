@@ -13,6 +13,6 @@ add_to_groups-requires-clause-room c =
     let P : List ℕ → Type 0 = λ xs. All (λ g. g < vec_len c.args.totals.now.counts) xs in
     let are : c.number_groups.new.groups ≡ map (group_at columns) places =
     c.number_groups.ensures.groups ∙ ap (λ (cs : List GroupColumn). map (group_at cs) places)
-    c.as_slice.ensures.value in
+    c.as_slice-columns.ensures.value in
     subst P (sym are) (all_mapped _ _ (λ g. g < vec_len c.args.totals.now.counts) (group_at columns) places
     c.requires.groups)

@@ -30,7 +30,7 @@ pub loop-number-preserved : goal.loop-number-preserved
 loop-number-preserved c =
     let n = c.loop-number.number in
     let mine = c.index-totals-number.result in
-    let range = range_with_len c.args.from (c.args.to - c.args.from) in
+    let range = range_with_len c.args.found.from (c.args.found.to - c.args.found.from) in
     let adds = λ (k : ℕ) (q : Grouping) (old new : Totals). AddsPlaces c.args.lines.now q
     (taken c.args.lines.now c.args.masks.now k range) old new in
     let P : Grouping → Type 0 = λ q. adds n q (get_or c.loop-number.totals n mine) c.add_question.new.totals in
@@ -38,8 +38,8 @@ loop-number-preserved c =
     let in_mid : n < length c.loop-number.totals = omega (arith, c.loop-number.invariant.all) in
     let in_old : n < length c.args.totals.now = omega (arith, c.requires.sizes.all) in
     record {
-      room = c.add_question.ensures.room ∙ c.loop-number.invariant.room;
-      numbers = c.add_question.ensures.numbers ∙ c.loop-number.invariant.numbers;
+      places = c.add_question.ensures.places ∙ c.loop-number.invariant.places;
+      groups = c.add_question.ensures.groups ∙ c.loop-number.invariant.groups;
       all = length-set c.loop-number.totals n c.add_question.new.totals ∙ c.loop-number.invariant.all;
       done = written_more adds c.args.groupings.now c.args.totals.now c.loop-number.totals n
           c.index-groupings-number.result mine c.add_question.new.totals c.loop-number-test.true in_mid in_old
@@ -54,6 +54,6 @@ returns-clause-added c = λ k q t h. c.loop-number.invariant.done k q t (omega a
 pub returns-clause-sizes : goal.returns-clause-sizes
 returns-clause-sizes c =
     sizes_kept c.args.lines.now c.args.masks.now c.args.groupings.now
-    (range_with_len c.args.from (c.args.to - c.args.from)) c.args.totals.now c.loop-number.totals
+    (range_with_len c.args.found.from (c.args.found.to - c.args.found.from)) c.args.totals.now c.loop-number.totals
     (λ k q t h. c.loop-number.invariant.done k q t (omega arith))
     (c.loop-number.invariant.all ∙ sym c.requires.sizes.all) c.requires.sizes
