@@ -15,11 +15,11 @@ use std::alloc::{AllocError, Global};
 use std::thread::Threads;
 
 /// The answers over columns, by as many threads as there are processors.
-pub fn scan_lines<R: Threads + Sync>(
+pub fn scan_lines<'a, R: Threads + Sync>(
     rt: &R,
     alloc: Global,
-    lines: LineColumns<'_>,
-    batch: &PreparedBatch<'_>,
+    lines: LineColumns<'a>,
+    batch: &'a PreparedBatch<'a>,
 ) -> Result<Vec<Rows>, AllocError>
     requires { HavePlaces batch.now.columns.base lines }
     ensures { (places : List Place) → AreColumnsOf places lines.entry → AreOfBase batch.now.columns.base places

@@ -16,7 +16,7 @@ use Rattle.shared_scan.proofs.ScanLaws.{if_ok_then, line_count, parts_all, can_s
 use Rattle.shared_scan.proofs.over_lines.scan_lines.Goals as goal
 
 pub groupings-requires : goal.groupings-requires
-groupings-requires g c = rw (c.deref-3.ensures.value) (parts_all
+groupings-requires g c = rw (c.deref.ensures.value) (parts_all
     (reduced c.batch.inside.columns.now.base) c.batch.inside.masks c.batch.inside.questions.items c.batch.invariant.ready)
 
 pub parallel_totals-requires-clause-covers : goal.parallel_totals-requires-clause-covers
@@ -39,10 +39,10 @@ parallel_totals-requires-clause-can_sum g c = λ κs outlives.
     let places : List Place = map classed have.places in
     let within = classed_all base have.places have.of_base.within in
     let are = lines_classed have.places c.args.lines have.columns_are in
-    let sound : IsSound first = rw (c.first_rows-index.ensures, c.deref.ensures) at c.soundness-2.ensures in
-    let grouped = rw (c.deref-3.ensures.value, c.first_rows-index.ensures, c.deref.ensures) at
+    let sound : IsSound first = rw (c.first_rows-first_rows.ensures, c.index-index.ensures) at c.soundness-2.ensures in
+    let grouped = rw (c.deref.ensures.value, c.first_rows-first_rows.ensures, c.index-index.ensures) at
     c.in_ok-groupings.ensures in
-    rw (c.deref-4.ensures.value) (can_sum_all first places c.args.lines c.batch.inside.masks
+    rw (c.deref-2.ensures.value) (can_sum_all first places c.args.lines c.batch.inside.masks
     c.batch.inside.questions.items c.in_ok-groupings.groupings.items
     sound within are c.batch.invariant.masks_tell c.batch.invariant.ready grouped)
 
@@ -70,15 +70,15 @@ batch_rows-requires-clause-can g c =
     let masks = c.batch.inside.masks in
     let groupings = c.in_ok-groupings.groupings.items in
     let totals = c.in_ok-totals.totals.items in
-    let sound : IsSound first = rw (c.first_rows-index.ensures, c.deref.ensures) at c.soundness-2.ensures in
-    let grouped = rw (c.deref-3.ensures.value, c.first_rows-index.ensures, c.deref.ensures) at
+    let sound : IsSound first = rw (c.first_rows-first_rows.ensures, c.index-index.ensures) at c.soundness-2.ensures in
+    let grouped = rw (c.deref.ensures.value, c.first_rows-first_rows.ensures, c.index-index.ensures) at
     c.in_ok-groupings.ensures in
     let few : length (live_facts first.dimensions places) ≤ 33554432 = omega
     (arith, as_many_live base have.places, have.of_base.few_live) in
-    let added = rw (c.deref-4.ensures.value) at c.in_ok-totals.ensures in
+    let added = rw (c.deref-2.ensures.value) at c.in_ok-totals.ensures in
     let to : length lines.customer.now ≡ length places = omega (arith, line_count places lines are) in
     let R : ℕ → Type 0 = λ n. AreBatchTotals lines masks groupings (range_with_len 0 n) totals in
-    rw (c.first_rows-index.ensures, c.deref.ensures, c.deref-5.ensures.value, c.deref-6.ensures.value)
+    rw (c.first_rows-first_rows.ensures, c.index-index.ensures, c.deref-3.ensures.value, c.deref-4.ensures.value)
     (can_answer_all first places lines masks c.batch.inside.questions.items groupings
     sound within are c.batch.invariant.masks_tell c.batch.invariant.ready grouped totals (subst R to added) few)
 
@@ -93,14 +93,14 @@ returns g c = λ own_places columns_are of_base.
     let groupings = c.in_ok-groupings.groupings.items in
     let totals = c.in_ok-totals.totals.items in
     let are = lines_classed own_places c.args.lines columns_are in
-    let sound_all : IsSound base = rw (c.base.ensures, c.deref-2.ensures) at c.soundness.ensures in
-    let sound : IsSound first = rw (c.first_rows-index.ensures, c.deref.ensures) at c.soundness-2.ensures in
-    let grouped = rw (c.deref-3.ensures.value, c.first_rows-index.ensures, c.deref.ensures) at
+    let sound_all : IsSound base = rw (c.base.ensures, c.index-index.ensures) at c.soundness.ensures in
+    let sound : IsSound first = rw (c.first_rows-first_rows.ensures, c.index-index.ensures) at c.soundness-2.ensures in
+    let grouped = rw (c.deref.ensures.value, c.first_rows-first_rows.ensures, c.index-index.ensures) at
     c.in_ok-groupings.ensures in
-    let added = rw (c.deref-4.ensures.value) at c.in_ok-totals.ensures in
+    let added = rw (c.deref-2.ensures.value) at c.in_ok-totals.ensures in
     let to : length lines.customer.now ≡ length places = omega (arith, line_count places lines are) in
     let R : ℕ → Type 0 = λ n. AreBatchTotals lines masks groupings (range_with_len 0 n) totals in
-    let right = rw (c.first_rows-index.ensures, c.deref.ensures, c.deref-5.ensures.value, c.deref-6.ensures.value) at
+    let right = rw (c.first_rows-first_rows.ensures, c.index-index.ensures, c.deref-3.ensures.value, c.deref-4.ensures.value) at
     c.batch_rows.ensures in
     let P : Prepared → Type 0 = λ p. AreOfBase p.columns.base own_places
     → IfOk c.batch_rows.result (λ rows. rows.items ≡ answers_over p.columns.base.dimensions

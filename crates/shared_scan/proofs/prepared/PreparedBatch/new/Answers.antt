@@ -21,7 +21,7 @@ loop-number-preserved c =
     let n = c.loop-number.number in
     let item = c.index-questions-number.result in
     let made : Ready = c.in_ok-prepare_question.field-0 in
-    let one : IsReady base masks n item made = rw (c.first_rows-rows.ensures, c.deref.ensures) at
+    let one : IsReady base masks n item made = rw (c.first_rows-rows.ensures, c.index.ensures) at
     c.in_ok-prepare_question.ensures in
     let items : c.push.new.self.items ≡ all ++ made ∷ [] = c.in_ok-push.ensures.items in
     let P : List Ready → Type 0 = λ xs. (k : ℕ) (question : Query × List Value) (r : Ready) → k < n + 1
@@ -43,13 +43,15 @@ invariant_of-result c =
     (omega (arith, slice_get_within questions k question at, count)) at in
     let same : questions_of all ≡ questions = questions_are base masks questions all
     (c.loop-number.invariant.len ∙ count) ready in
-    let tell = rw (c.deref-2.ensures.value, c.in_ok-plans.ensures, c.first_rows-rows.ensures, c.deref.ensures) at
+    let tell = rw (c.deref.ensures.value, c.in_ok-plans.ensures, c.first_rows-rows.ensures, c.index.ensures) at
     c.in_ok-masks.ensures.tell in
-    let cover = rw (c.first_rows-rows.ensures, c.deref.ensures) at c.in_ok-masks.ensures.cover in
+    let cover = rw (c.first_rows-rows.ensures, c.index.ensures) at c.in_ok-masks.ensures.cover in
     let P : List (Query × List Value) → Type 0 = λ qs. AreMasksOf (plans_of qs) base.dimensions masks in
     let R : List (Query × List Value) → Type 0 = λ qs. AreReady base masks qs all in
     record {
-      few = omega (arith, c.requires, c.loop-number.invariant.len, count);
+      small = omega (arith, c.soundness.ensures c.requires.snapshot.history c.requires.snapshot.stands,
+          c.requires.snapshot.few);
+      few = omega (arith, c.requires.few, c.loop-number.invariant.len, count);
       masks_tell = subst P (sym same) tell;
       masks_cover = cover;
       ready = subst R (sym same) ready;
@@ -64,5 +66,5 @@ returns c =
     let count : c.loop-number.number ≡ length questions = omega (arith, c.loop-number-test.false, c.loop-number.auto) in
     let ready : AreReady base masks questions all = λ k question r at. c.loop-number.invariant.ready k question r
     (omega (arith, slice_get_within questions k question at, count)) at in
-    ap (λ (qs : List (Query × List Value)). record { base = c.args.columns.now.base; questions = qs })
+    ap (λ (qs : List (Query × List Value)). record { columns = c.args.columns.now; questions = qs })
     (questions_are base masks questions all (c.loop-number.invariant.len ∙ count) ready)
