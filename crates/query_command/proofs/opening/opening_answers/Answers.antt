@@ -1,9 +1,15 @@
-use Rattle.std.proofs.Common.{◌∙◌, map, ap}
+use Rattle.std.proofs.Common.{◌∙◌, [], map, ap}
 use Rattle.query_command.specs.Reported.{opened}
-use Rattle.query_command.proofs.OpeningLaws.{opened_rows}
+use Rattle.query_command.proofs.OpeningLaws.{opened_rows, loaded_base, loaded_stands}
+use Rattle.shared_scan.specs.Answers.{answers_after}
 use Rattle.ssb_files.proofs.ResultLaws.{if_ok_from}
 use Rattle.query_command.proofs.opening.opening_answers.Goals as goal
 
 pub returns : goal.returns
-returns g c = if_ok_from c.answers_of.result _ _ c.answers_of.ensures
-    (λ answers are. are ∙ ap (map opened) c.in_ok-rows.ensures ∙ opened_rows c.args.base c.args.questions.now)
+returns g c =
+    let state = c.in_ok-columns.ensures.loaded in
+    let rows = c.in_ok-rows.ensures [] (loaded_stands c.in_ok-columns.columns c.args.base state) in
+    if_ok_from c.answers_of.result _ _ c.answers_of.ensures
+    (λ answers are. are ∙ ap (map opened) (rows
+    ∙ ap (λ base. answers_after base [] c.args.questions.now) (loaded_base c.in_ok-columns.columns c.args.base state))
+    ∙ opened_rows c.args.base c.args.questions.now)

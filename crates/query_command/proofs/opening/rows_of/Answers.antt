@@ -1,10 +1,11 @@
-use Rattle.std.proofs.Common.{◌∙◌, [], ap}
+use Rattle.std.proofs.Common.{◌≡◌, IfOk, subst}
+use Rattle.fact_columns.specs.Stored.{columns_state}
+use Rattle.row_store.specs.State.{StandsFor}
 use Rattle.shared_scan.specs.Answers.{Prepared, answers_after}
-use Rattle.ssb_files.proofs.ResultLaws.{if_ok_from}
 use Rattle.query_command.proofs.opening.rows_of.Goals as goal
 
 pub returns : goal.returns
-returns g c =
-    if_ok_from c.scan_parallel-rows.result _ _ (c.scan_parallel-rows.ensures [] c.requires.stand) (λ rows are.
-    are ∙ ap (λ base. answers_after base [] c.in_ok-batch.batch.questions) c.requires.base
-    ∙ ap (λ (batch : Prepared). answers_after c.args.index.value [] batch.questions) c.in_ok-batch.ensures)
+returns g c = λ history stands.
+    let P : Prepared → Type 0 = λ p. StandsFor (columns_state p.columns) history
+    → IfOk c.scan-rows.result (λ rows. rows.items ≡ answers_after p.columns.base history p.questions) in
+    subst P c.in_ok-batch.ensures (c.scan-rows.ensures history) stands

@@ -9,11 +9,11 @@ use Rattle.ssb_audit.proofs.walk.first_wrong.Goals as goal
 
 pub walk-requires-clause-loaded : goal.walk-requires-clause-loaded
 walk-requires-clause-loaded g c = λ κs outlives. c.in_ok-columns.ensures
-    ∙ ap (λ base. state_of base []) c.in_ok-try_clone.ensures
+    ∙ ap (λ base. state_of base []) (c.in_ok-index.ensures ∙ sym c.deref.ensures)
 
 pub walk-requires-clause-legal : goal.walk-requires-clause-legal
 walk-requires-clause-legal g c = λ κs outlives. subst (λ base. IsLegal base c.args.commits.now)
-    (sym c.in_ok-index.ensures) c.requires.legal
+    (sym c.deref.ensures) c.requires.legal
 
 pub walk-requires-clause-each : goal.walk-requires-clause-each
 walk-requires-clause-each g c = λ κs outlives. subst (IsPermutation (visits_of c.args.answers.now))
@@ -25,4 +25,4 @@ walk-requires-clause-sorted g c = λ κs outlives. subst (IsNonDecreasingBy (λ 
 
 pub returns : goal.returns
 returns g c = subst (λ base. IfOk c.walk.result (λ place. IsFirstWrong base c.args.commits.now c.args.answers.now
-    place)) c.in_ok-index.ensures c.walk.ensures
+    place)) c.deref.ensures c.walk.ensures
