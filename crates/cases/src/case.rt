@@ -1,4 +1,5 @@
-//! Reads a case: lines of prose, files that are there before, and commands with what they must write and leave.
+//! Reads a case, as [the formats](../../../docs/FORMATS.md#cases) have it: lines of prose, files that are there before,
+//! and commands with what they must write and leave.
 //!
 //! ```text
 //! # An order that is not there refuses the whole refresh: nothing of it is kept.
@@ -11,20 +12,6 @@
 //! == output
 //! refused at 0 action 1: 47 Absent 77
 //! ```
-//!
-//! The sections, in the order in which they may stand; the last six may come again for another command:
-//!
-//! | section | says |
-//! |---|---|
-//! | `== file PATH` | a file that is there before the commands; the folder `small` always has the small data set |
-//! | `== command` | one line: words parted by spaces; one with a space stands in single quotes |
-//! | `== input` | what the command reads from standard input; without it nothing |
-//! | `== output`, `== errors` | what it must write to standard output and error; without them nothing |
-//! | `== status N` | the status that it must end with; without it 0 |
-//! | `== leaves PATH` | a file that must be there afterwards |
-//!
-//! A section's text is its lines, each with its LF. Behind a heading that ends with the word `escaped`, `\n`, `\r`,
-//! `\t`, `\\` and `\xHH` in the lines stand for bytes, and a lone `\` at a line's end drops its LF.
 
 use crate::section::{Part, Section};
 use anyhow::{Context, Result, bail, ensure};

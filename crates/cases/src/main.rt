@@ -6,19 +6,21 @@
 //!                                          files: files in memory, in place of the system's
 //! ```
 //!
-//! A case is a text file that is read and written by people who need no Rattle; the folder `data` has them, and `case`
-//! says how one is written. Every case of the folder that the program runs in is run, in the order of names, or those
-//! that the words name:
+//! A case is a text file for people who need no Rattle: the folder `data` has them, and the page of
+//! [formats](../../../docs/FORMATS.md#cases) says how one is written. Every case of the folder that the program runs in is
+//! run, in the order of names, or those that the words name:
 //!
 //! ```text
-//! cases                                   // 158 cases
-//! cases absent_order.case                 // absent_order.case: command 1, output, line 2: wanted "..", got ".."
+//! cases                    // 298 cases
+//! cases absent.case        // absent.case: command 1, output, line 2: wanted "77\n", got the end
+//!                          // 1 cases
 //! ```
 //!
-//! A line is printed for each case that differs, and at the end how many cases there were. The status is 0 where none
-//! differs, and else 1. A case runs whole command lines by the function that `ssb_live` itself calls, over files in
-//! memory; threads, waiting, random bytes and the clock are the system's. It is proved that the program is safe, and
-//! that a command of which nothing differs wrote the bytes, and ended with the status, that its case wants (`running`).
+//! A line tells of each case that differs or cannot be read, and the last line how many cases there were. The status is
+//! 0 where none differs, and else 1. A case runs whole command lines by the function that `ssb_live` itself calls, over
+//! files in memory; threads, waiting, random bytes and the clock are the system's. It is proved that the program is safe,
+//! and that a command of which nothing differs wrote the bytes, and ended with the status, that its case wants
+//! (`running`).
 #![tactic(auto)]
 
 mod case;
