@@ -7,8 +7,8 @@
 //! ```
 //!
 //! A case is a text file for people who need no Rattle: the folder `data` has them, and the page of
-//! [formats](../../../docs/FORMATS.md#cases) says how one is written. Every case of the folder that the program runs in is
-//! run, in the order of names, or those that the words name:
+//! [formats](../../../docs/FORMATS.md#cases) says how one is written. Every case of the folder that the program
+//! runs in is run, in the order of names, or those that the words name:
 //!
 //! ```text
 //! cases                    // 298 cases
@@ -16,11 +16,11 @@
 //!                          // 1 cases
 //! ```
 //!
-//! A line tells of each case that differs or cannot be read, and the last line how many cases there were. The status is
-//! 0 where none differs, and else 1. A case runs whole command lines by the function that `ssb_live` itself calls, over
-//! files in memory; threads, waiting, random bytes and the clock are the system's. It is proved that the program is safe,
-//! and that a command of which nothing differs wrote the bytes, and ended with the status, that its case wants
-//! (`running`).
+//! A line tells of each case that differs or cannot be read, and the last line how many cases there were. The
+//! status is 0 where none differs, and else 1. A case runs whole command lines by the function that `ssb_live`
+//! itself calls, over files in memory; threads, waiting, random bytes and the clock are the system's. It is proved
+//! that the program is safe, and that a command of which nothing differs wrote the bytes, and ended with the
+//! status, that its case wants (`running`).
 #![tactic(auto)]
 
 mod case;
