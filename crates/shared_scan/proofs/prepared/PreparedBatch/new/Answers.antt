@@ -49,8 +49,11 @@ invariant_of-result c =
     let P : List (Query × List Value) → Type 0 = λ qs. AreMasksOf (plans_of qs) base.dimensions masks in
     let R : List (Query × List Value) → Type 0 = λ qs. AreReady base masks qs all in
     record {
-      small = omega (arith, c.soundness.ensures c.requires.snapshot.history c.requires.snapshot.stands,
-          c.requires.snapshot.few);
+      small = omega (
+        arith,
+        c.soundness.ensures c.requires.snapshot.history c.requires.snapshot.stands,
+        c.requires.snapshot.few,
+      );
       few = omega (arith, c.requires.few, c.loop-number.invariant.len, count);
       masks_tell = subst P (sym same) tell;
       masks_cover = cover;
