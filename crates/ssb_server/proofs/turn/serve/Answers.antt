@@ -1,5 +1,6 @@
 use Rattle.std.proofs.Common.{◌≡◌, ◌∙◌, ◌≤◌, sym, subst, ap, Some, arith}
 use Rattle.std.specs.Prelude.{IfOk}
+use Rattle.history.specs.Tokens.{TableRecord}
 use Rattle.ssb_server.specs.Turns.{answers_after, Knows}
 use Rattle.ssb_server.proofs.TurningLaws.{
   are_snapshot,
