@@ -42,7 +42,7 @@ use Rattle.ssb_audit.specs.declared.trace.Told.{Told}
 use Rattle.ssb_audit.specs.declared.trace.Trace.{Trace}
 use Rattle.ssb_base.specs.Base.{Tables}
 use Rattle.ssb_script.specs.Requests.{requests_of}
-use Rattle.ssb_script.specs.declared.block.Script.{Script}
+use Rattle.ssb_script.specs.declared.request.Script.{Script}
 use Rattle.ssb_sessions.proofs.TraceLaws.{runs_are_legal}
 use Rattle.ssb_sessions.specs.Traces.{IsTold}
 use Rattle.ssb_sessions.specs.Served.{Serves}

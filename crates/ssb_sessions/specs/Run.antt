@@ -9,7 +9,7 @@ use Rattle.row_store.specs.History.{CommitRecord, IsPrefix}
 use Rattle.row_store.specs.Legal.{IsLegal}
 use Rattle.ssb_audit.specs.declared.trace.Trace.{Trace}
 use Rattle.ssb_base.specs.Base.{Tables}
-use Rattle.ssb_script.specs.declared.block.Script.{Script}
+use Rattle.ssb_script.specs.declared.request.Script.{Script}
 use Rattle.ssb_script.specs.Requests.{requests_of}
 use Rattle.ssb_server.specs.Opening.{AreCounts, IsOpenFault}
 use Rattle.ssb_server.specs.declared.opening.OpenFault.{OpenFault}

@@ -25,8 +25,7 @@ loop-task-preserved g c =
       tasks = All-tail at c.in-Some.task rest (subst (All at) c.in-Some.ensures.steps.0 inv.tasks);
       count = omega (arith, inv.count, c.push_reserved.ensures.len, ap length c.in-Some.ensures.steps.0);
       capacity = c.push_reserved.ensures.capacity ∙ inv.capacity;
-      started = map_push _ _ _ _ _ _ _ inv.started c.push_reserved.ensures.items
-          (ap (λ p. p.task.value) c.in_ok-thread.ensures.ok ∙ c.of.ensures);
+      started = map_push _ _ _ _ _ _ _ inv.started c.push_reserved.ensures.items c.in_ok-thread.ensures;
     }
 
 pub returns-in_err-thread-clause-room : goal.returns-in_err-thread-clause-room
