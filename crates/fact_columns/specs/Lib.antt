@@ -7,3 +7,4 @@ pub mod Spans
 pub mod Coded
 pub mod Kept
 pub mod Laws
+pub mod Applied

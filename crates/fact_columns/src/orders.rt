@@ -1,15 +1,8 @@
 //! The live lines in their places, found by the key of their order.
-ghost use Rattle.std.specs.Prelude.{◌≡◌, ◌+◌, ◌<◌, ◌≤◌, ◌^◌, ℕ, true, All, length, fold, flat_map, nat_eq};
-ghost use Rattle.std.specs.HashMap.{get, spare};
-ghost use Rattle.ssb_base.specs.Base.{Dimensions};
-ghost use Rattle.ssb_schema.specs.declared.refresh.Action.TheVariants.{Withdraw};
-ghost use Rattle.ssb_schema.specs.Facts.{facts_of};
-ghost use Rattle.row_store.specs.Lines.{added_by};
-ghost use Rattle.row_store.specs.State.{counts_after_action};
-ghost use Rattle.fact_columns.specs.Places.{is_live};
-ghost use Rattle.fact_columns.specs.Classed.{IsPlaceOf};
-ghost use Rattle.fact_columns.specs.Spans.{AreFree, Spanned, live_count};
-ghost use Rattle.fact_columns.specs.Coded.{AreCodesOf, counts_at, with_places, key_of};
+ghost use Rattle.std.specs.Prelude.{◌≡◌, ◌+◌, ◌<◌, ◌≤◌, ◌^◌, length, nat_eq};
+ghost use Rattle.std.specs.HashMap.{get};
+ghost use Rattle.fact_columns.specs.Spans.{AreFree, Spanned};
+ghost use Rattle.fact_columns.specs.Applied.{CanAdd, Added, Withdrawn, CanApply, Applied, CanApplyAll, AppliedAll};
 
 use crate::action::added;
 use crate::fact_table::FactTable;
@@ -21,24 +14,11 @@ use ssb_schema::Action;
 
 // Puts the lines of an order into places from the first on, and has its span cover them.
 fn put_order(table: &mut FactTable, spans: &mut Spans, first: usize, key: u64, lines: &[Place])
+    requires can { CanAdd table.old spans.old key lines.now }
     requires within { first ≤ length table.old.places }
     requires small { first + length lines.now < 2 ^ 32 }
     requires free { AreFree table.old.places first (length lines.now) }
-    requires room { length lines.now ≤ table.old.room }
-    requires spare { 0 < spare spans.old }
-    requires live { All (λ line. is_live line ≡ true) lines.now }
-    requires own { All (λ line. line.order ≡ key) lines.now }
-    requires spanned { Spanned (get nat_eq spans.old) table.old.places }
-    ensures spanned { Spanned (get nat_eq spans.new) table.new.places }
-    ensures counts { (dimensions : Dimensions)
-        → counts_at dimensions table.new.places
-        ≡ with_places dimensions (counts_at dimensions table.old.places) lines.now }
-    ensures count { live_count table.new.places ≡ live_count table.old.places + length lines.now }
-    ensures inside { (dimensions : Dimensions) → All (IsPlaceOf dimensions) lines.now
-        → All (IsPlaceOf dimensions) table.old.places → All (IsPlaceOf dimensions) table.new.places }
-    ensures len { length table.new.places ≤ length table.old.places + length lines.now }
-    ensures room { table.old.room ≤ table.new.room + length lines.now }
-    ensures spare { spare spans.old ≤ spare spans.new + 1 }
+    ensures { Added table.old table.new spans.old spans.new lines.now }
 {
     put_all(table, first, lines);
     widen(
@@ -53,17 +33,8 @@ fn put_order(table: &mut FactTable, spans: &mut Spans, first: usize, key: u64, l
 
 // Frees the places of an order. It answers where they may be, and how many lines went.
 fn take_order(table: &mut FactTable, spans: &mut Spans, key: u64) -> (Span, usize)
-    requires spanned { Spanned (get nat_eq spans.old) table.old.places }
-    ensures spanned { Spanned (get nat_eq spans.new) table.new.places }
-    ensures counts { (dimensions : Dimensions)
-        → counts_at dimensions table.new.places
-        ≡ counts_after_action (counts_at dimensions table.old.places) (Withdraw key) }
-    ensures count { live_count table.old.places ≡ live_count table.new.places + result.1 }
-    ensures inside { (dimensions : Dimensions) → All (IsPlaceOf dimensions) table.old.places
-        → All (IsPlaceOf dimensions) table.new.places }
-    ensures len { length table.new.places ≡ length table.old.places }
-    ensures room { table.new.room ≡ table.old.room }
-    ensures spare { spare spans.old ≤ spare spans.new }
+    requires { Spanned (get nat_eq spans.old) table.old.places }
+    ensures { Withdrawn table.old table.new spans.old spans.new key result.1 }
 {
     let span = take_span(spans, key);
     let freed = free_order(table, key, span);
@@ -84,22 +55,8 @@ fn wanted(table: &FactTable, hints: &mut Hints, count: usize) -> usize
 
 // Puts an order where there is room for it.
 fn add(table: &mut FactTable, spans: &mut Spans, hints: &mut Hints, key: u64, lines: &[Place])
-    requires room { length lines.now ≤ table.old.room }
-    requires small { length table.old.places + length lines.now < 2 ^ 32 }
-    requires spare { 0 < spare spans.old }
-    requires live { All (λ line. is_live line ≡ true) lines.now }
-    requires own { All (λ line. line.order ≡ key) lines.now }
-    requires spanned { Spanned (get nat_eq spans.old) table.old.places }
-    ensures spanned { Spanned (get nat_eq spans.new) table.new.places }
-    ensures counts { (dimensions : Dimensions)
-        → counts_at dimensions table.new.places
-        ≡ with_places dimensions (counts_at dimensions table.old.places) lines.now }
-    ensures count { live_count table.new.places ≡ live_count table.old.places + length lines.now }
-    ensures inside { (dimensions : Dimensions) → All (IsPlaceOf dimensions) lines.now
-        → All (IsPlaceOf dimensions) table.old.places → All (IsPlaceOf dimensions) table.new.places }
-    ensures len { length table.new.places ≤ length table.old.places + length lines.now }
-    ensures room { table.old.room ≤ table.new.room + length lines.now }
-    ensures spare { spare spans.old ≤ spare spans.new + 1 }
+    requires { CanAdd table.old spans.old key lines.now }
+    ensures { Added table.old table.new spans.old spans.new lines.now }
 {
     let first = wanted(table, hints, lines.len());
     put_order(table, spans, first, key, lines);
@@ -107,17 +64,8 @@ fn add(table: &mut FactTable, spans: &mut Spans, hints: &mut Hints, key: u64, li
 
 // Takes an order out, and answers how many lines it had.
 fn withdraw(table: &mut FactTable, spans: &mut Spans, hints: &mut Hints, key: u64) -> usize
-    requires spanned { Spanned (get nat_eq spans.old) table.old.places }
-    ensures spanned { Spanned (get nat_eq spans.new) table.new.places }
-    ensures counts { (dimensions : Dimensions)
-        → counts_at dimensions table.new.places
-        ≡ counts_after_action (counts_at dimensions table.old.places) (Withdraw key) }
-    ensures count { live_count table.old.places ≡ live_count table.new.places + result }
-    ensures inside { (dimensions : Dimensions) → All (IsPlaceOf dimensions) table.old.places
-        → All (IsPlaceOf dimensions) table.new.places }
-    ensures len { length table.new.places ≡ length table.old.places }
-    ensures room { table.new.room ≡ table.old.room }
-    ensures spare { spare spans.old ≤ spare spans.new }
+    requires { Spanned (get nat_eq spans.old) table.old.places }
+    ensures { Withdrawn table.old table.new spans.old spans.new key result }
 {
     let (span, freed) = take_order(table, spans, key);
     hints.offer(span);
@@ -132,22 +80,8 @@ fn apply_action(
     action: &Action,
     lines: &[Place],
 ) -> usize
-    requires room { length lines.now ≤ table.old.room }
-    requires small { length table.old.places + length lines.now < 2 ^ 32 }
-    requires spare { 0 < spare spans.old }
-    requires coded { (dimensions : Dimensions) × AreCodesOf dimensions (facts_of (added_by action.now)) lines.now }
-    requires alike { All (λ line. line.order_key ≡ key_of action.now) (added_by action.now) }
-    requires spanned { Spanned (get nat_eq spans.old) table.old.places }
-    ensures spanned { Spanned (get nat_eq spans.new) table.new.places }
-    ensures counts { (dimensions : Dimensions) → AreCodesOf dimensions (facts_of (added_by action.now)) lines.now
-        → counts_at dimensions table.new.places
-        ≡ counts_after_action (counts_at dimensions table.old.places) action.now }
-    ensures count { live_count table.new.places + result ≡ live_count table.old.places + length lines.now }
-    ensures inside { (dimensions : Dimensions) → All (IsPlaceOf dimensions) lines.now
-        → All (IsPlaceOf dimensions) table.old.places → All (IsPlaceOf dimensions) table.new.places }
-    ensures len { length table.new.places ≤ length table.old.places + length lines.now }
-    ensures room { table.old.room ≤ table.new.room + length lines.now }
-    ensures spare { spare spans.old ≤ spare spans.new + 1 }
+    requires { CanApply table.old spans.old action.now lines.now }
+    ensures { Applied table.old table.new spans.old spans.new action.now lines.now result }
 {
     match action {
         Action::Add(order) => {
@@ -171,21 +105,8 @@ pub fn apply_actions(
     actions: &[Action],
     fresh: &[Place],
 ) -> usize
-    requires room { length fresh.now ≤ table.old.room }
-    requires small { length table.old.places + length fresh.now < 2 ^ 32 }
-    requires spare { length actions.now ≤ spare spans.old }
-    requires coded { (dimensions : Dimensions)
-        × AreCodesOf dimensions (facts_of (flat_map added_by actions.now)) fresh.now }
-    requires spanned { Spanned (get nat_eq spans.old) table.old.places }
-    ensures spanned { Spanned (get nat_eq spans.new) table.new.places }
-    ensures counts { (dimensions : Dimensions)
-        → AreCodesOf dimensions (facts_of (flat_map added_by actions.now)) fresh.now
-        → counts_at dimensions table.new.places
-        ≡ fold counts_after_action (counts_at dimensions table.old.places) actions.now }
-    ensures count { live_count table.new.places + result ≡ live_count table.old.places + length fresh.now }
-    ensures inside { (dimensions : Dimensions) → All (IsPlaceOf dimensions) fresh.now
-        → All (IsPlaceOf dimensions) table.old.places → All (IsPlaceOf dimensions) table.new.places }
-    ensures len { length table.new.places ≤ length table.old.places + length fresh.now }
+    requires { CanApplyAll table.old spans.old actions.now fresh.now }
+    ensures { AppliedAll table.old table.new spans.new actions.now fresh.now result }
 {
     let mut rest = fresh;
     let mut freed = 0;

@@ -1,24 +1,69 @@
-use Rattle.std.proofs.Common.{sym, ap, ◌∙◌}
+use Rattle.std.proofs.Common.{◌≡◌, length, sym, ap, ◌∙◌, arith}
+use Rattle.std.proofs.lemmas.Grind.{common_steps}
+use Rattle.std.proofs.lemmas.List.{length-map}
+use Rattle.ssb_schema.specs.declared.refresh.Action.{Action}
+use Rattle.ssb_schema.specs.Facts.{facts_of}
 use Rattle.row_store.specs.Lines.{added_by}
 use Rattle.fact_columns.specs.Coded.{key_of}
+use Rattle.fact_columns.specs.Places.{fact_at}
 use Rattle.fact_columns.proofs.CodingLaws.{codes_own}
 use Rattle.fact_columns.proofs.orders.apply_action.Goals as goal
 
-pub add-requires-clause-own : goal.add-requires-clause-own
-add-requires-clause-own c =
+pub add-requires : goal.add-requires
+add-requires c =
     let action = c.args.action.now in
-    λ k d within. codes_own c.requires.coded.0 (added_by action) c.args.lines.now (key_of action) c.requires.coded.1
-    c.requires.alike k d within ∙ ap key_of c.in-Add.is ∙ sym c.key.ensures
+    record {
+      room = c.requires.room;
+      small = c.requires.small;
+      spare = c.requires.spare;
+      live = c.requires.coded.lives;
+      own = λ k d within. codes_own c.requires.dimensions (added_by action) c.args.lines.now (key_of action)
+          c.requires.coded c.requires.alike k d within ∙ ap key_of c.in-Add.is ∙ sym c.key.ensures;
+      spanned = c.requires.spanned;
+    }
 
-pub add-requires-in-Amend-clause-own : goal.add-requires-in-Amend-clause-own
-add-requires-in-Amend-clause-own c =
+pub add-requires-in-Amend : goal.add-requires-in-Amend
+add-requires-in-Amend c =
     let action = c.args.action.now in
-    λ k d within. codes_own c.requires.coded.0 (added_by action) c.args.lines.now (key_of action) c.requires.coded.1
-    c.requires.alike k d within ∙ ap key_of c.in-Amend.is ∙ sym c.key-in-Amend-2.ensures
+    record {
+      room = omega (arith, c.withdraw-freed.ensures.room, c.requires.room);
+      small = omega (arith, c.withdraw-freed.ensures.len, c.requires.small);
+      spare = omega (arith, c.withdraw-freed.ensures.spare, c.requires.spare);
+      live = c.requires.coded.lives;
+      own = λ k d within. codes_own c.requires.dimensions (added_by action) c.args.lines.now (key_of action)
+          c.requires.coded c.requires.alike k d within ∙ ap key_of c.in-Amend.is ∙ sym c.key-in-Amend-2.ensures;
+      spanned = c.withdraw-freed.ensures.spanned;
+    }
 
-pub returns-in-Amend-clause-inside : goal.returns-in-Amend-clause-inside
-returns-in-Amend-clause-inside c = λ dimensions fresh all. c.add-in-Amend.ensures.inside dimensions fresh
-    (c.withdraw-freed.ensures.inside dimensions all)
+pub returns-in-Amend : goal.returns-in-Amend
+returns-in-Amend c = record {
+  spanned = c.add-in-Amend.ensures.spanned;
+  counts = λ dimensions codes. grind (
+    arith,
+    common_steps,
+    c.withdraw-freed.ensures.counts dimensions,
+    c.add-in-Amend.ensures.counts dimensions,
+    codes.read,
+  );
+  count = omega (arith, c.add-in-Amend.ensures.count, c.withdraw-freed.ensures.count);
+  inside = λ dimensions fresh all. c.add-in-Amend.ensures.inside dimensions fresh
+      (c.withdraw-freed.ensures.inside dimensions all);
+  len = omega (arith, c.add-in-Amend.ensures.len, c.withdraw-freed.ensures.len);
+  room = omega (arith, c.add-in-Amend.ensures.room, c.withdraw-freed.ensures.room);
+  spare = omega (arith, c.add-in-Amend.ensures.spare, c.withdraw-freed.ensures.spare);
+}
 
-pub returns-in-Withdraw-clause-inside : goal.returns-in-Withdraw-clause-inside
-returns-in-Withdraw-clause-inside c = λ dimensions fresh all. c.withdraw.ensures.inside dimensions all
+pub returns-in-Withdraw : goal.returns-in-Withdraw
+returns-in-Withdraw c =
+    let lines = c.args.lines.now in
+    let none : length lines ≡ 0 = sym (length-map lines (fact_at c.requires.dimensions))
+    ∙ ap length c.requires.coded.read ∙ ap (λ (a : Action). length (facts_of (added_by a))) c.in-Withdraw.is in
+    record {
+  spanned = c.withdraw.ensures.spanned;
+  counts = λ dimensions codes. grind (arith, common_steps, c.withdraw.ensures.counts dimensions);
+  count = omega (arith, none, c.withdraw.ensures.count);
+  inside = λ dimensions fresh all. c.withdraw.ensures.inside dimensions all;
+  len = omega (arith, c.withdraw.ensures.len);
+  room = omega (arith, c.withdraw.ensures.room);
+  spare = omega (arith, c.withdraw.ensures.spare);
+}

@@ -1,24 +1,33 @@
-use Rattle.std.proofs.Common.{ℕ, List, length, sym, ap, ◌∙◌, arith}
+use Rattle.std.proofs.Common.{◌≡◌, ℕ, List, length, sym, ap, subst, ◌∙◌, arith}
+use Rattle.std.specs.List.{All}
 use Rattle.std.proofs.lemmas.List.Sums.{fold_more}
 use Rattle.std.proofs.lemmas.List.Elements.{All-same, All-take, All-drop}
 use Rattle.ssb_schema.specs.declared.refresh.Action.{Action}
+use Rattle.ssb_schema.specs.declared.line.LineFields.{LineFields}
 use Rattle.row_store.specs.State.{counts_after_action}
 use Rattle.fact_columns.specs.Classed.{IsPlaceOf}
-use Rattle.fact_columns.specs.Coded.{counts_at}
+use Rattle.fact_columns.specs.Coded.{counts_at, key_of}
 use Rattle.fact_columns.proofs.PlaceLaws.{live_few}
 use Rattle.fact_columns.proofs.CodingLaws.{codes_cut}
 use Rattle.fact_columns.proofs.orders.apply_actions.Goals as goal
 
-pub apply_action-freed-requires-clause-coded : goal.apply_action-freed-requires-clause-coded
-apply_action-freed-requires-clause-coded c =
+pub apply_action-freed-requires : goal.apply_action-freed-requires
+apply_action-freed-requires c =
     let so_far = c.loop-action.invariant in
-    let dimensions = c.requires.coded.0 in (
-      dimensions,
-      (codes_cut dimensions c.args.actions.now c.loop-action.action-index c.action-item.result c.loop-action.rest.now
-          c.split_at.result.0.now c.split_at.result.1.now (length c.added.result.now)
+    let dimensions = c.requires.dimensions in
+    record {
+      room = omega (arith, so_far.room, c.split_at.ensures.front_len, c.split_at.ensures.back_len);
+      small = omega (arith, so_far.len, c.requires.small, c.split_at.ensures.front_len, c.split_at.ensures.back_len);
+      spare = omega (arith, so_far.spare);
+      dimensions = dimensions;
+      coded = (codes_cut dimensions c.args.actions.now c.loop-action.action-index c.action-item.result
+          c.loop-action.rest.now c.split_at.result.0.now c.split_at.result.1.now (length c.added.result.now)
           c.loop-action-test.true c.action-item.is (ap length c.added.ensures.lines) c.split_at.ensures.front
-          c.split_at.ensures.back (so_far.coded dimensions c.requires.coded.1)).0,
-    )
+          c.split_at.ensures.back (so_far.coded dimensions c.requires.coded)).0;
+      alike = subst (λ (lines : List LineFields). All (λ line. line.order_key ≡ key_of c.action-item.result) lines)
+          c.added.ensures.lines c.added.ensures.alike;
+      spanned = so_far.spanned;
+    }
 
 pub overflow_add-freed : goal.overflow_add-freed
 overflow_add-freed c = omega (
