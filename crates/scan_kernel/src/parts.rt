@@ -6,7 +6,7 @@ ghost use Rattle.scan_kernel.specs.Places.{CanSearch};
 ghost use Rattle.scan_kernel.specs.Parts.{bound, part_places, MergesTotals, MergesBatch};
 ghost use Rattle.scan_kernel.specs.Sums.{Merges};
 ghost use Rattle.scan_kernel.specs.declared.totals.Totals.{Totals};
-ghost use Rattle.scan_kernel.specs.Totals.{CanSumAll, AreBatchTotals};
+ghost use Rattle.scan_kernel.specs.Totals.{CanScan, CanSumAll, AreBatchTotals};
 
 use crate::columns::{Grouping, LineColumns};
 use crate::masks::Masks;
@@ -86,11 +86,8 @@ fn parts_in_threads(
     size: usize,
 ) -> Result<Vec<Result<Vec<Totals>, AllocError>>, AllocError>
     requires parts { All (λ part. part < 16) parts.now }
-    requires few { length groupings.now ≤ 16 }
-    requires small { length lines.now.customer.now ≤ 2 ^ 32 }
     requires size { size ≤ 2 ^ 32 }
-    requires covers { CanSearch lines.now masks.now }
-    requires can_sum { CanSumAll lines.now masks.now groupings.now }
+    requires scan { CanScan lines.now masks.now groupings.now }
     ensures { IfOk result (λ v. AllZip (λ part r. IfOk r
         (λ t. AreBatchTotals lines.now masks.now groupings.now (part_places (length lines.now.customer.now) size part)
         t.items)) parts.now v.items) }
@@ -101,11 +98,8 @@ fn parts_in_threads(
         .map(
             |part: &u32| -> Result<Vec<Totals>, AllocError>
                 requires part { part.now < 16 }
-                requires few { length groupings.now ≤ 16 }
-                requires small { length lines.now.customer.now ≤ 2 ^ 32 }
                 requires size { size ≤ 2 ^ 32 }
-                requires covers { CanSearch lines.now masks.now }
-                requires can_sum { CanSumAll lines.now masks.now groupings.now }
+                requires scan { CanScan lines.now masks.now groupings.now }
                 ensures { IfOk result (λ t. AreBatchTotals lines.entry.now masks.entry.now groupings.entry.now
                     (part_places (length lines.entry.now.customer.now) size part.now) t.items) }
             {

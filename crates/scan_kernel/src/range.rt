@@ -1,11 +1,10 @@
 //! The totals of a batch over a range of places, in one thread.
 ghost use Rattle.std.specs.Prelude.{◌≡◌, ℕ, ◌<◌, ◌≤◌, ◌-◌, ◌^◌, IfOk, length, replicate, vec_len, slice_index_or};
 ghost use Rattle.std.specs.List.{range_with_len};
-ghost use Rattle.scan_kernel.specs.Places.{CanSearch};
 ghost use Rattle.scan_kernel.specs.Room.{HasRoom};
 ghost use Rattle.scan_kernel.specs.declared.columns.Grouping.{Grouping};
 ghost use Rattle.scan_kernel.specs.declared.totals.Totals.{Totals};
-ghost use Rattle.scan_kernel.specs.Totals.{CanSumAll, HaveSizes, AddsBatch, AreBatchTotals, AreZeros};
+ghost use Rattle.scan_kernel.specs.Totals.{CanScan, HaveSizes, AddsBatch, AreBatchTotals, AreZeros};
 
 use crate::batch::{Found, Selected, add_found};
 use crate::columns::{Grouping, LineColumns};
@@ -35,13 +34,10 @@ fn add_chunk(
     room: &mut Room,
     totals: &mut [Totals],
 )
-    requires few { length groupings.now ≤ 16 }
+    requires scan { CanScan lines.now masks.now groupings.now }
     requires within { to ≤ length lines.now.customer.now }
-    requires small { length lines.now.customer.now ≤ 2 ^ 32 }
     requires order { from ≤ to }
     requires room { HasRoom (to - from) room.old }
-    requires covers { CanSearch lines.now masks.now }
-    requires can_sum { CanSumAll lines.now masks.now groupings.now }
     requires sizes { HaveSizes groupings.now totals.old }
     ensures room { (count : ℕ) → HasRoom count room.old → HasRoom count room.new }
     ensures sizes { HaveSizes groupings.now totals.new }
@@ -68,13 +64,10 @@ fn add_range(
     room: &mut Room,
     totals: &mut [Totals],
 )
-    requires few { length groupings.now ≤ 16 }
+    requires scan { CanScan lines.now masks.now groupings.now }
     requires within { to ≤ length lines.now.customer.now }
-    requires small { length lines.now.customer.now ≤ 2 ^ 32 }
     requires order { from ≤ to }
     requires room { HasRoom 2048 room.old }
-    requires covers { CanSearch lines.now masks.now }
-    requires can_sum { CanSumAll lines.now masks.now groupings.now }
     requires sizes { HaveSizes groupings.now totals.old }
     ensures sizes { HaveSizes groupings.now totals.new }
     ensures added { AddsBatch lines.now masks.now groupings.now (range_with_len from (to - from)) totals.old
@@ -159,12 +152,9 @@ pub fn range_totals(
     from: usize,
     to: usize,
 ) -> Result<Vec<Totals>, AllocError>
-    requires few { length groupings.now ≤ 16 }
+    requires scan { CanScan lines.now masks.now groupings.now }
     requires within { to ≤ length lines.now.customer.now }
-    requires small { length lines.now.customer.now ≤ 2 ^ 32 }
     requires order { from ≤ to }
-    requires covers { CanSearch lines.now masks.now }
-    requires can_sum { CanSumAll lines.now masks.now groupings.now }
     ensures { IfOk result (λ v. AreBatchTotals lines.now masks.now groupings.now (range_with_len from (to - from))
         v.items) }
 {
