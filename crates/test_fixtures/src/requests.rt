@@ -2,39 +2,38 @@
 
 use ssb_questions::Question;
 use ssb_schema::Refresh;
-use ssb_script::{Request, read_script};
+use ssb_script::{Request, ScriptError, read_script};
 use std::alloc::Global;
 use std::sync::Arc;
-use std::test::Fail;
 
 // More records than any script of a test has.
 const MOST_RECORDS: u64 = 1000;
 
 /// The requests of a script.
-pub fn requests(alloc: Global, script: &str) -> Result<Vec<Request>, Fail> {
+pub fn requests(alloc: Global, script: &str) -> Result<Vec<Request>, ScriptError> {
     Ok(read_script(alloc, script.as_bytes(), MOST_RECORDS)?.requests)
 }
 
 /// The refresh of these actions: the records that stand between `begin` and `commit`.
-pub fn refresh(alloc: Global, actions: &str) -> Result<Arc<Refresh>, Fail> {
+pub fn refresh(alloc: Global, actions: &str) -> Result<Arc<Refresh>, ScriptError> {
     let script = format!(in alloc; "begin\n{actions}commit\n")?;
     match requests(alloc, script.as_str())?.pop() {
         Some(Request::Refresh(refresh)) => Ok(refresh),
-        _ => Err("no refresh")?,
+        _ => Err(ScriptError::NoCommit),
     }
 }
 
 /// The question of a record: the query's name, and its constants where they are not the benchmark's.
-pub fn question(alloc: Global, record: &str) -> Result<Question, Fail> {
+pub fn question(alloc: Global, record: &str) -> Result<Question, ScriptError> {
     let script = format!(in alloc; "query|{record}\n")?;
     match requests(alloc, script.as_str())?.pop() {
         Some(Request::Ask(question)) => Ok(question),
-        _ => Err("no question")?,
+        _ => Err(ScriptError::NoCommit),
     }
 }
 
 /// A refresh that adds an order of this key, whose one line takes 1,990 from the profit of query 4.1 in 1997.
-pub fn adding(alloc: Global, key: u64) -> Result<Arc<Refresh>, Fail> {
+pub fn adding(alloc: Global, key: u64) -> Result<Arc<Refresh>, ScriptError> {
     let actions = format!(in alloc;
         "add\nline|{key}|1|3|4|3|19971215|o|0|1|10|10|0|10|2000|0|19971215|AIR\n"
     )?;

@@ -3,14 +3,14 @@ ghost use Rattle.std.specs.Prelude.{All};
 ghost use Rattle.ssb_server.specs.Tickets.{IsOf, IsQuiet};
 
 use crate::tests::opening::{next_client, next_dispatcher, opened};
-use crate::tests::steps::{refreshed, turns};
-use ssb_report::{write_answer, write_reply};
+use row_store::{Receipt, RefreshError};
+use ssb_report::{WriteFault, write_answer, write_reply};
+use ssb_schema::Refresh;
 use ssb_server::{Client, Dispatcher, OpenGate, Opened, Server, Turn};
 use std::alloc::{AllocError, Global};
-use std::hash::RandomState;
 use std::marker::Model;
 use std::random::RandomSource;
-use std::sync::Wait;
+use std::sync::{Arc, Wait};
 use std::test::Fail;
 use std::thread::Threads;
 use test_fixtures::{adding, question};
@@ -43,15 +43,16 @@ pub enum Step {
 
 /// Three clients and a dispatcher of a server, which is theirs.
 #[derive(Drop)]
-pub struct Trial<'s, W: Wait + Drop> {
-    server: &'s Server<W>,
-    first: Client<W>,
-    second: Client<W>,
-    third: Client<W>,
-    dispatcher: Dispatcher<W>,
+pub struct Trial<'v, 's, R: Wait> {
+    rt: &'s R,
+    server: &'v Server<&'s R>,
+    first: Client<&'s R>,
+    second: Client<&'s R>,
+    third: Client<&'s R>,
+    dispatcher: Dispatcher<&'s R>,
 }
 
-impl<'s, W: Wait + Drop> Model for Trial<'s, W> {
+impl<'v, 's, R: Wait> Model for Trial<'v, 's, R> {
     ghost Value = { Unit {0} };
 
     ghost view = { λ t. tt };
@@ -67,10 +68,15 @@ fn room(alloc: Global) -> Result<Vec<u8>, AllocError> {
     Ok(told)
 }
 
-// What was written, without the end of its last line.
-fn text(alloc: Global, told: Vec<u8>) -> Result<String, Fail> {
-    let told = str::from_utf8(told.as_slice())?;
-    Ok(String::from_str(alloc, told.trim_end())?)
+// What was written, without the end of its last line. There is room for all of it, and it is UTF-8.
+fn text(
+    alloc: Global,
+    written: Result<(), WriteFault>,
+    told: Vec<u8>,
+) -> Result<String, AllocError> {
+    written.map_err(|_| AllocError)?;
+    let told = str::from_utf8(told.as_slice()).map_err(|_| AllocError)?;
+    String::from_str(alloc, told.trim_end())
 }
 
 // What a turn did.
@@ -82,66 +88,81 @@ fn report(alloc: Global, turn: Turn) -> Result<String, AllocError> {
     }
 }
 
-// A client adds the order of this key, and what it is told.
-fn refreshes<W: Wait + Drop, R: Wait>(
-    rt: &R,
-    alloc: Global,
-    server: &Server<W>,
-    client: &mut Client<W>,
-    order: u64,
-) -> Result<String, Fail>
+// A client's refresh.
+fn refreshed<'s, R: Wait>(
+    rt: &'s R,
+    server: &Server<&'s R>,
+    client: &mut Client<&'s R>,
+    refresh: Arc<Refresh>,
+) -> Result<Receipt, RefreshError>
     requires { IsOf server.now client.old }
     ensures { IsOf server.now client.new }
 {
+    let _ = client.number();
+    client.refresh(rt, server, refresh)
+}
+
+// A client adds the order of this key, and what it is told.
+fn adds<'s, R: Wait + AllocGlobal>(
+    rt: &'s R,
+    server: &Server<&'s R>,
+    client: &mut Client<&'s R>,
+    order: u64,
+) -> Result<String, AllocError>
+    requires { IsOf server.now client.old }
+    ensures { IsOf server.now client.new }
+{
+    let alloc = rt.alloc();
     let mut told = room(alloc)?;
-    let refresh = adding(alloc, order)?;
-    write_reply(&mut told, &refreshed(rt, server, client, refresh))?;
-    text(alloc, told)
+    let refresh = adding(alloc, order).map_err(|_| AllocError)?;
+    let written = write_reply(&mut told, &refreshed(rt, server, client, refresh));
+    text(alloc, written, told)
 }
 
 // A client asks, where it is not asking.
 #[tactic(auto, using(crate::proofs::PlaceLaws::asks_stays))]
-fn asks<W: Wait + Drop>(
+fn asks<'s, R: Wait>(
     alloc: Global,
-    server: &Server<W>,
-    client: &mut Client<W>,
+    server: &Server<&'s R>,
+    client: &mut Client<&'s R>,
     query: &str,
-) -> Result<String, Fail>
+) -> Result<String, AllocError>
     requires { IsOf server.now client.old }
     ensures { IsOf server.now client.new }
 {
     if client.is_asking() {
-        return Ok(String::from_str(alloc, "asking")?);
+        return String::from_str(alloc, "asking");
     }
-    client.ask(server, question(alloc, query)?);
-    Ok(String::from_str(alloc, "asked")?)
+    let question = question(alloc, query).map_err(|_| AllocError)?;
+    client.ask(server, question);
+    String::from_str(alloc, "asked")
 }
 
 // A client polls, and what it is told.
 #[tactic(auto, using(crate::proofs::PlaceLaws::polls_stays))]
-fn polls<W: Wait + Drop>(
+fn polls<'s, R: Wait>(
     alloc: Global,
-    server: &Server<W>,
-    client: &mut Client<W>,
-) -> Result<String, Fail>
+    server: &Server<&'s R>,
+    client: &mut Client<&'s R>,
+) -> Result<String, AllocError>
     requires { IsOf server.now client.old }
     ensures { IsOf server.now client.new }
 {
     let Some(answer) = client.poll(server) else {
-        return Ok(String::from_str(alloc, "no answer")?);
+        return String::from_str(alloc, "no answer");
     };
     let mut told = room(alloc)?;
-    write_answer(&mut told, &answer)?;
-    text(alloc, told)
+    let written = write_answer(&mut told, &answer);
+    text(alloc, written, told)
 }
 
 // A client meets another one, and how many commits it then sees.
 #[tactic(auto, using(crate::proofs::PlaceLaws::looks_stays))]
-fn meets<W: Wait + Drop>(
+fn meets<'s, R: Wait>(
     alloc: Global,
-    server: &Server<W>,
-    client: &mut Client<W>,
-    other: &mut Client<W>,
+    server: &Server<&'s R>,
+    client: &mut Client<&'s R>,
+    other: &mut Client<&'s R>,
 ) -> Result<String, AllocError>
     requires client { IsOf server.now client.old }
     requires other { IsOf server.now other.old }
@@ -152,21 +173,33 @@ fn meets<W: Wait + Drop>(
     format!(in alloc; "sees {seen}")
 }
 
+// A dispatcher's turn, and what it did.
+#[tactic(auto, using(ssb_server::proofs::StayingLaws::turned_stays))]
+fn turns<'s, R: Wait + Threads + Sync + AllocGlobal>(
+    rt: &'s R,
+    server: &Server<&'s R>,
+    dispatcher: &mut Dispatcher<&'s R>,
+) -> Result<String, AllocError>
+    requires { IsOf server.now dispatcher.old }
+    ensures { IsOf server.now dispatcher.new }
+{
+    report(rt.alloc(), dispatcher.turn(rt, server, &OpenGate))
+}
+
 // What a client does, and what it is told.
-fn does<W: Wait + Drop, R: Wait>(
-    rt: &R,
-    alloc: Global,
-    server: &Server<W>,
-    client: &mut Client<W>,
+fn does<'s, R: Wait + AllocGlobal>(
+    rt: &'s R,
+    server: &Server<&'s R>,
+    client: &mut Client<&'s R>,
     deed: Deed,
-) -> Result<String, Fail>
+) -> Result<String, AllocError>
     requires { IsOf server.now client.old }
     ensures { IsOf server.now client.new }
 {
     match deed {
-        Deed::Adds(order) => refreshes(rt, alloc, server, client, order),
-        Deed::Asks(query) => asks(alloc, server, client, query),
-        Deed::Polls => polls(alloc, server, client),
+        Deed::Adds(order) => adds(rt, server, client, order),
+        Deed::Asks(query) => asks(rt.alloc(), server, client, query),
+        Deed::Polls => polls(rt.alloc(), server, client),
     }
 }
 
@@ -178,39 +211,20 @@ fn as_expected(alloc: Global, step: (Step, &str), told: String) -> Result<(), Fa
     Ok(())
 }
 
-impl<'s, W: Wait + Drop> Trial<'s, W> {
-    /// A trial of these clients and this dispatcher.
-    pub fn of(
-        server: &'s Server<W>,
-        clients: (Client<W>, Client<W>, Client<W>),
-        dispatcher: Dispatcher<W>,
-    ) -> Trial<'s, W>
-        requires first { IsOf server.now clients.0 }
-        requires second { IsOf server.now clients.1 }
-        requires third { IsOf server.now clients.2 }
-        requires dispatcher { IsOf server.now dispatcher }
-    {
-        let (first, second, third) = clients;
-        Trial {
-            server,
-            first,
-            second,
-            third,
-            dispatcher,
-        }
-    }
-
+impl<'v, 's, R: Wait + Threads + Sync + AllocGlobal> Trial<'v, 's, R> {
     /// A trial of the last three of these clients and the last of these dispatchers, which leave.
     pub fn new(
-        server: &'s Server<W>,
-        clients: &mut Vec<Client<W>>,
-        dispatchers: &mut Vec<Dispatcher<W>>,
-    ) -> Result<Trial<'s, W>, Fail>
+        rt: &'s R,
+        server: &'v Server<&'s R>,
+        clients: &mut Vec<Client<&'s R>>,
+        dispatchers: &mut Vec<Dispatcher<&'s R>>,
+    ) -> Result<Trial<'v, 's, R>, Fail>
         requires clients { All (IsQuiet server.now) clients.old.items }
         requires dispatchers { All (IsOf server.now) dispatchers.old.items }
         ensures dispatchers { All (IsOf server.now) dispatchers.new.items }
     {
         Ok(Trial {
+            rt,
             server,
             first: next_client(server, clients).ok_or("no client")?,
             second: next_client(server, clients).ok_or("no second client")?,
@@ -220,71 +234,46 @@ impl<'s, W: Wait + Drop> Trial<'s, W> {
     }
 
     // Takes a step. What its client is told, or what the dispatcher did.
-    fn takes<R: Wait + Threads + Sync>(
-        &mut self,
-        rt: &R,
-        alloc: Global,
-        step: Step,
-    ) -> Result<String, Fail> {
+    fn takes(&mut self, step: Step) -> Result<String, AllocError> {
+        let (rt, server) = (self.rt, self.server);
         match step {
-            Step::First(deed) => does(rt, alloc, self.server, &mut self.first, deed),
-            Step::Second(deed) => does(rt, alloc, self.server, &mut self.second, deed),
-            Step::Third(deed) => does(rt, alloc, self.server, &mut self.third, deed),
-            Step::Meeting => Ok(meets(alloc, self.server, &mut self.second, &mut self.first)?),
-            Step::Turn => {
-                let turn = turns(rt, self.server, &mut self.dispatcher, &OpenGate);
-                Ok(report(alloc, turn)?)
-            }
+            Step::First(deed) => does(rt, server, &mut self.first, deed),
+            Step::Second(deed) => does(rt, server, &mut self.second, deed),
+            Step::Third(deed) => does(rt, server, &mut self.third, deed),
+            Step::Meeting => meets(rt.alloc(), server, &mut self.second, &mut self.first),
+            Step::Turn => turns(rt, server, &mut self.dispatcher),
+        }
+    }
+
+    /// Takes a step. Whether what is told is what stands beside it.
+    pub fn is_told(&mut self, step: (Step, &str)) -> bool {
+        match self.takes(step.0) {
+            Ok(told) => told.as_str() == step.1,
+            Err(_) => false,
         }
     }
 
     /// Takes the steps, one after another. It fails where one is told anything else than what stands beside it.
-    pub fn plays<R: Wait + Threads + Sync>(
-        &mut self,
-        rt: &R,
-        alloc: Global,
-        steps: &[(Step, &str)],
-    ) -> Result<(), Fail> {
+    pub fn plays(&mut self, steps: &[(Step, &str)]) -> Result<(), Fail> {
         for (step, expected) in steps {
-            let told = self.takes(rt, alloc, *step)?;
-            as_expected(alloc, (*step, *expected), told)?;
+            let told = self.takes(*step)?;
+            as_expected(self.rt.alloc(), (*step, *expected), told)?;
         }
         Ok(())
     }
 
     // Takes a step. Where it is told that memory lacks, the steps that come with that are taken.
-    fn plays_at_last<R: Wait + Threads + Sync>(
+    fn plays_at_last(
         &mut self,
-        rt: &R,
-        alloc: Global,
         step: (Step, &str),
         lacking: (&str, &[(Step, &str)]),
     ) -> Result<(), Fail> {
-        let told = self.takes(rt, alloc, step.0)?;
+        let told = self.takes(step.0)?;
         if told.as_str() == lacking.0 {
-            return self.plays(rt, alloc, lacking.1);
+            return self.plays(lacking.1);
         }
-        as_expected(alloc, step, told)
+        as_expected(self.rt.alloc(), step, told)
     }
-}
-
-/// Takes the steps in a trial of the last clients and the last dispatcher of this server.
-pub fn plays_over<W: Wait + Drop, R: Wait + Threads + Sync>(
-    rt: &R,
-    alloc: Global,
-    made: Opened<W>,
-    steps: &[(Step, &str)],
-) -> Result<(), Fail>
-    requires clients { All (IsQuiet made.server) made.clients.items }
-    requires dispatchers { All (IsOf made.server) made.dispatchers.items }
-{
-    let Opened {
-        server,
-        mut clients,
-        mut dispatchers,
-    } = made;
-    let mut trial = Trial::new(&server, &mut clients, &mut dispatchers)?;
-    trial.plays(rt, alloc, steps)
 }
 
 /// Opens a server over the small data set, and takes the steps.
@@ -292,8 +281,13 @@ pub fn played<R: Wait + Threads + Sync + AllocGlobal + RandomSource>(
     rt: &R,
     steps: &[(Step, &str)],
 ) -> Result<(), Fail> {
-    let made = opened(rt.alloc(), rt, RandomState::new(rt)?, 3, 1)?;
-    plays_over(rt, rt.alloc(), made, steps)
+    let Opened {
+        server,
+        mut clients,
+        mut dispatchers,
+    } = opened(rt, 3, 1)?;
+    let mut trial = Trial::new(rt, &server, &mut clients, &mut dispatchers)?;
+    trial.plays(steps)
 }
 
 /// The same of steps of which one may lack memory. Where that step is told so, the steps that come with it are taken
@@ -309,9 +303,9 @@ pub fn played_at_last<R: Wait + Threads + Sync + AllocGlobal + RandomSource>(
         server,
         mut clients,
         mut dispatchers,
-    } = opened(rt.alloc(), rt, RandomState::new(rt)?, 3, 1)?;
-    let mut trial = Trial::new(&server, &mut clients, &mut dispatchers)?;
-    trial.plays(rt, rt.alloc(), before)?;
-    trial.plays_at_last(rt, rt.alloc(), step, lacking)?;
-    trial.plays(rt, rt.alloc(), after)
+    } = opened(rt, 3, 1)?;
+    let mut trial = Trial::new(rt, &server, &mut clients, &mut dispatchers)?;
+    trial.plays(before)?;
+    trial.plays_at_last(step, lacking)?;
+    trial.plays(after)
 }

@@ -1,5 +1,0 @@
-use Rattle.ssb_server.specs.Tickets.{IsOf}
-use Rattle.server_tests.proofs.tests.thirty.make_each.Given as goal
-
-abbrev pub invariant-loop-refresh : goal.invariant-loop-refresh
-invariant-loop-refresh g l = IsOf l.server l.client
