@@ -2,6 +2,7 @@ mod again;
 mod jobs;
 mod readers;
 mod replies;
+mod runs;
 mod screens;
 mod words;
 mod writers;

@@ -124,6 +124,13 @@ fn a_trace_has_its_verdict_at_last(rt: HostRuntime) -> Result<(), Fail> {
     Ok(())
 }
 
+// Room for all that a run writes, so that its growth is never the one that is refused.
+fn room(alloc: Global) -> Result<Vec<u8>, Fail> {
+    let mut out = Vec::new(alloc);
+    out.reserve(1000)?;
+    Ok(out)
+}
+
 // Whether a run told that memory was wanting, for itself or for one of its requests.
 fn lacked_memory(status: u8, out: &[u8], err: &[u8]) -> Result<bool, Fail> {
     if status == 0 {
@@ -135,15 +142,13 @@ fn lacked_memory(status: u8, out: &[u8], err: &[u8]) -> Result<bool, Fail> {
 #[test]
 fn a_run_is_served_whole_at_last(rt: HostRuntime) -> Result<(), Fail> {
     let alloc = rt.alloc();
-    let mut out = Vec::new(alloc);
-    let mut err = Vec::new(alloc);
-    let mut trace = Some(Vec::new(alloc));
-    out.reserve(1000)?;
-    err.reserve(100)?;
+    let mut out = room(alloc)?;
+    let mut err = room(alloc)?;
+    let mut trace = Some(room(alloc)?);
     let mut status = serves(&rt, &mut out, &mut trace, &mut err)?;
     if lacked_memory(status, out.as_slice(), err.as_slice())? {
         out.clear();
-        trace = Some(Vec::new(alloc));
+        trace = Some(room(alloc)?);
         status = serves(&rt, &mut out, &mut trace, &mut err)?;
     }
     assert_eq!(rt; status, 0);

@@ -38,6 +38,7 @@ fn replies(rt: &HostRuntime, limits: Limits, script: &str) -> Result<String, Fai
     let alloc = rt.alloc();
     let mut store = opened(rt, limits)?;
     let mut told = Vec::new(alloc);
+    told.reserve(1000)?;
     for request in requests(alloc, script)? {
         if let Request::Refresh(refresh) = request {
             reply(&mut store, &mut told, refresh)?;
