@@ -11,14 +11,14 @@
 
 mod clock;
 mod reader;
-mod requests;
+mod records;
 mod small;
 mod terminal;
 mod writer;
 
 pub use clock::Ticking;
 pub use reader::Cut;
-pub use requests::{adding, question, refresh, requests};
+pub use records::{adding, question, refresh, requests};
 pub use small::{small_base, standard_base};
 pub use terminal::Screened;
 pub use writer::{Holding, Room};
