@@ -1,8 +1,8 @@
 -- The run of one script is that of the one-thread warehouse.
-use Rattle.std.proofs.Common.{◌≡◌, ◌∙◌, ℕ, List, [], ◌∷◌, length, map, get_or, Option, Some, refl, sym, ap, subst}
-use Rattle.std.specs.Prelude.{Result, Ok, Err, OnOk, OnErr, MatchResult, slice_get}
+use Rattle.std.proofs.Common.{◌≡◌, ◌∙◌, ℕ, List, [], ◌∷◌, length, map, get_or, Some, refl, sym, ap, subst}
+use Rattle.std.specs.Prelude.{slice_get}
 use Rattle.std.proofs.lemmas.List.{length-map}
-use Rattle.run_command.specs.Demo.{IsReport, IsSmallReport, ServesSmall, ServesPartSmall, EndsEarly}
+use Rattle.run_command.specs.Demo.{IsReport}
 use Rattle.ssb_audit.specs.declared.trace.Trace.{Trace}
 use Rattle.ssb_base.specs.Base.{Tables}
 use Rattle.ssb_report.specs.Report.{Serves}
@@ -14,19 +14,28 @@ use Rattle.ssb_sessions.specs.Run.{IsRun, IsServedWhole}
 use Rattle.ssb_sessions.specs.Sessions.{SessionRecord}
 
 -- one script has one report
-pub one_report : (base : Tables) (script : Script) (dispatchers : ℕ) (reports : List (List ℕ)) (trace : Trace)
+one_report : (base : Tables) (script : Script) (dispatchers : ℕ) (reports : List (List ℕ)) (trace : Trace)
     → IsRun base (script ∷ []) dispatchers reports trace → length reports ≡ 1
 one_report base script dispatchers reports trace run =
     ap length run.reports_are ∙ length-map run.sessions (λ (session : SessionRecord). session.report) ∙ run.one_each
 
--- the report of the only session
+pub one_made : {X : Type 0} (read : X → List ℕ) (made : List X) (base : Tables) (scripts : List Script)
+    (script : Script) (dispatchers : ℕ) (trace : Trace)
+    → IsRun base scripts dispatchers (map read made) trace → scripts ≡ script ∷ [] → length made ≡ 1
+one_made read made base scripts script dispatchers trace run one =
+    sym (length-map made read)
+    ∙ one_report base script dispatchers (map read made) trace
+    (subst (λ xs. IsRun base xs dispatchers (map read made) trace) one run)
+
+-- the only session
 only_session : (sessions : List SessionRecord) → length sessions ≡ 1
     → (session : SessionRecord) × (sessions ≡ session ∷ [])
 only_session [] one = absurd cc
 only_session (session ∷ []) one = (session, refl)
 only_session (session ∷ other ∷ others) one = absurd cc
 
-pub report_of_one : (base : Tables) (script : Script) (dispatchers : ℕ) (reports : List (List ℕ)) (trace : Trace)
+-- its report is the one-thread warehouse's
+report_of_one : (base : Tables) (script : Script) (dispatchers : ℕ) (reports : List (List ℕ)) (trace : Trace)
     (report : List ℕ) → IsRun base (script ∷ []) dispatchers reports trace → reports ≡ report ∷ []
     → IsReport base (requests_of script) report
 report_of_one base script dispatchers reports trace report run only =
@@ -48,3 +57,12 @@ report_of_one base script dispatchers reports trace report run only =
           (λ r. Serves may_be_told 1 (record { base = run.table.base; log = [] }) (own session.client)
           (requests_of script) (Some []) (Some r)) (sym told) one);
     }
+
+pub report_made : {X : Type 0} (read : X → List ℕ) (made : List X) (one : X) (was base : Tables)
+    (scripts : List Script) (script : Script) (dispatchers : ℕ) (trace : Trace)
+    → IsRun was scripts dispatchers (map read made) trace → was ≡ base → scripts ≡ script ∷ [] → made ≡ one ∷ []
+    → IsReport base (requests_of script) (read one)
+report_made read made one was base scripts script dispatchers trace run over of_one only =
+    report_of_one base script dispatchers (map read made) trace (read one)
+    (subst (λ b. IsRun b (script ∷ []) dispatchers (map read made) trace) over
+    (subst (λ xs. IsRun was xs dispatchers (map read made) trace) of_one run)) (ap (map read) only)

@@ -19,11 +19,11 @@
 //! ```
 #![tactic(auto)]
 
-mod demo;
 mod fault;
 mod printing;
 mod scripts;
+mod small_run;
 mod times;
 
-pub use demo::demo;
 pub use scripts::{MOST_SCRIPTS, RunSettings, run_scripts};
+pub use small_run::demo;
