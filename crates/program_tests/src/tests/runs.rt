@@ -16,9 +16,10 @@ use std::time::Clock;
 fn script(alloc: Global, client: u32) -> Result<String, Fail> {
     let mut script = String::new(alloc);
     for k in 0..10u32 {
-        let requests = format!(in alloc;
-            "begin\nadd\nline|{client}{k:02}|1|3|4|3|19971215|o|0|1|10|10|0|10|2000|0|19971215|AIR\ncommit\nquery|Q4.1\n"
+        let line = format!(in alloc;
+            "line|{client}{k:02}|1|3|4|3|19971215|o|0|1|10|10|0|10|2000|0|19971215|AIR"
         )?;
+        let requests = format!(in alloc; "begin\nadd\n{line}\ncommit\nquery|Q4.1\n")?;
         script.push_str(requests.as_str())?;
     }
     Ok(script)
