@@ -2,6 +2,7 @@ mod closing;
 mod held;
 mod memory;
 mod opening;
+mod parties;
 mod trial;
 mod turns;
 

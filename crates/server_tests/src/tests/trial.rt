@@ -6,7 +6,7 @@ use crate::tests::opening::{next_client, next_dispatcher, opened};
 use row_store::{Receipt, RefreshError};
 use ssb_report::{WriteFault, write_answer, write_reply};
 use ssb_schema::Refresh;
-use ssb_server::{Client, Dispatcher, OpenGate, Opened, Server, Turn};
+use ssb_server::{Client, Dispatcher, OpenGate, Opened, ScanGate, Server, Turn};
 use std::alloc::{AllocError, Global};
 use std::marker::Model;
 use std::random::RandomSource;
@@ -43,16 +43,15 @@ pub enum Step {
 
 /// Three clients and a dispatcher of a server, which is theirs.
 #[derive(Drop)]
-pub struct Trial<'v, 's, R: Wait> {
-    rt: &'s R,
-    server: &'v Server<&'s R>,
-    first: Client<&'s R>,
-    second: Client<&'s R>,
-    third: Client<&'s R>,
-    dispatcher: Dispatcher<&'s R>,
+pub struct Trial<'s, W: Wait + Drop> {
+    server: &'s Server<W>,
+    first: Client<W>,
+    second: Client<W>,
+    third: Client<W>,
+    dispatcher: Dispatcher<W>,
 }
 
-impl<'v, 's, R: Wait> Model for Trial<'v, 's, R> {
+impl<'s, W: Wait + Drop> Model for Trial<'s, W> {
     ghost Value = { Unit {0} };
 
     ghost view = { λ t. tt };
@@ -89,10 +88,10 @@ fn report(alloc: Global, turn: Turn) -> Result<String, AllocError> {
 }
 
 // A client's refresh.
-fn refreshed<'s, R: Wait>(
-    rt: &'s R,
-    server: &Server<&'s R>,
-    client: &mut Client<&'s R>,
+fn refreshed<R: Wait, W: Wait + Drop>(
+    rt: &R,
+    server: &Server<W>,
+    client: &mut Client<W>,
     refresh: Arc<Refresh>,
 ) -> Result<Receipt, RefreshError>
     requires { IsOf server.now client.old }
@@ -103,16 +102,16 @@ fn refreshed<'s, R: Wait>(
 }
 
 // A client adds the order of this key, and what it is told.
-fn adds<'s, R: Wait + AllocGlobal>(
-    rt: &'s R,
-    server: &Server<&'s R>,
-    client: &mut Client<&'s R>,
+fn adds<R: Wait, W: Wait + Drop>(
+    rt: &R,
+    alloc: Global,
+    server: &Server<W>,
+    client: &mut Client<W>,
     order: u64,
 ) -> Result<String, AllocError>
     requires { IsOf server.now client.old }
     ensures { IsOf server.now client.new }
 {
-    let alloc = rt.alloc();
     let mut told = room(alloc)?;
     let refresh = adding(alloc, order).map_err(|_| AllocError)?;
     let written = write_reply(&mut told, &refreshed(rt, server, client, refresh));
@@ -121,10 +120,10 @@ fn adds<'s, R: Wait + AllocGlobal>(
 
 // A client asks, where it is not asking.
 #[tactic(auto, using(crate::proofs::PlaceLaws::asks_stays))]
-fn asks<'s, R: Wait>(
+fn asks<W: Wait + Drop>(
     alloc: Global,
-    server: &Server<&'s R>,
-    client: &mut Client<&'s R>,
+    server: &Server<W>,
+    client: &mut Client<W>,
     query: &str,
 ) -> Result<String, AllocError>
     requires { IsOf server.now client.old }
@@ -140,10 +139,10 @@ fn asks<'s, R: Wait>(
 
 // A client polls, and what it is told.
 #[tactic(auto, using(crate::proofs::PlaceLaws::polls_stays))]
-fn polls<'s, R: Wait>(
+fn polls<W: Wait + Drop>(
     alloc: Global,
-    server: &Server<&'s R>,
-    client: &mut Client<&'s R>,
+    server: &Server<W>,
+    client: &mut Client<W>,
 ) -> Result<String, AllocError>
     requires { IsOf server.now client.old }
     ensures { IsOf server.now client.new }
@@ -158,11 +157,11 @@ fn polls<'s, R: Wait>(
 
 // A client meets another one, and how many commits it then sees.
 #[tactic(auto, using(crate::proofs::PlaceLaws::looks_stays))]
-fn meets<'s, R: Wait>(
+fn meets<W: Wait + Drop>(
     alloc: Global,
-    server: &Server<&'s R>,
-    client: &mut Client<&'s R>,
-    other: &mut Client<&'s R>,
+    server: &Server<W>,
+    client: &mut Client<W>,
+    other: &mut Client<W>,
 ) -> Result<String, AllocError>
     requires client { IsOf server.now client.old }
     requires other { IsOf server.now other.old }
@@ -173,33 +172,35 @@ fn meets<'s, R: Wait>(
     format!(in alloc; "sees {seen}")
 }
 
-// A dispatcher's turn, and what it did.
+/// A turn of a dispatcher.
 #[tactic(auto, using(ssb_server::proofs::StayingLaws::turned_stays))]
-fn turns<'s, R: Wait + Threads + Sync + AllocGlobal>(
-    rt: &'s R,
-    server: &Server<&'s R>,
-    dispatcher: &mut Dispatcher<&'s R>,
-) -> Result<String, AllocError>
+pub fn turns<W: Wait + Drop, R: Wait + Threads + Sync, G: ScanGate>(
+    rt: &R,
+    server: &Server<W>,
+    dispatcher: &mut Dispatcher<W>,
+    gate: &G,
+) -> Turn
     requires { IsOf server.now dispatcher.old }
     ensures { IsOf server.now dispatcher.new }
 {
-    report(rt.alloc(), dispatcher.turn(rt, server, &OpenGate))
+    dispatcher.turn(rt, server, gate)
 }
 
 // What a client does, and what it is told.
-fn does<'s, R: Wait + AllocGlobal>(
-    rt: &'s R,
-    server: &Server<&'s R>,
-    client: &mut Client<&'s R>,
+fn does<R: Wait, W: Wait + Drop>(
+    rt: &R,
+    alloc: Global,
+    server: &Server<W>,
+    client: &mut Client<W>,
     deed: Deed,
 ) -> Result<String, AllocError>
     requires { IsOf server.now client.old }
     ensures { IsOf server.now client.new }
 {
     match deed {
-        Deed::Adds(order) => adds(rt, server, client, order),
-        Deed::Asks(query) => asks(rt.alloc(), server, client, query),
-        Deed::Polls => polls(rt.alloc(), server, client),
+        Deed::Adds(order) => adds(rt, alloc, server, client, order),
+        Deed::Asks(query) => asks(alloc, server, client, query),
+        Deed::Polls => polls(alloc, server, client),
     }
 }
 
@@ -211,20 +212,18 @@ fn as_expected(alloc: Global, step: (Step, &str), told: String) -> Result<(), Fa
     Ok(())
 }
 
-impl<'v, 's, R: Wait + Threads + Sync + AllocGlobal> Trial<'v, 's, R> {
+impl<'s, W: Wait + Drop> Trial<'s, W> {
     /// A trial of the last three of these clients and the last of these dispatchers, which leave.
     pub fn new(
-        rt: &'s R,
-        server: &'v Server<&'s R>,
-        clients: &mut Vec<Client<&'s R>>,
-        dispatchers: &mut Vec<Dispatcher<&'s R>>,
-    ) -> Result<Trial<'v, 's, R>, Fail>
+        server: &'s Server<W>,
+        clients: &mut Vec<Client<W>>,
+        dispatchers: &mut Vec<Dispatcher<W>>,
+    ) -> Result<Trial<'s, W>, Fail>
         requires clients { All (IsQuiet server.now) clients.old.items }
         requires dispatchers { All (IsOf server.now) dispatchers.old.items }
         ensures dispatchers { All (IsOf server.now) dispatchers.new.items }
     {
         Ok(Trial {
-            rt,
             server,
             first: next_client(server, clients).ok_or("no client")?,
             second: next_client(server, clients).ok_or("no second client")?,
@@ -234,45 +233,51 @@ impl<'v, 's, R: Wait + Threads + Sync + AllocGlobal> Trial<'v, 's, R> {
     }
 
     // Takes a step. What its client is told, or what the dispatcher did.
-    fn takes(&mut self, step: Step) -> Result<String, AllocError> {
-        let (rt, server) = (self.rt, self.server);
+    fn takes<R: Wait + Threads + Sync>(
+        &mut self,
+        rt: &R,
+        alloc: Global,
+        step: Step,
+    ) -> Result<String, AllocError> {
         match step {
-            Step::First(deed) => does(rt, server, &mut self.first, deed),
-            Step::Second(deed) => does(rt, server, &mut self.second, deed),
-            Step::Third(deed) => does(rt, server, &mut self.third, deed),
-            Step::Meeting => meets(rt.alloc(), server, &mut self.second, &mut self.first),
-            Step::Turn => turns(rt, server, &mut self.dispatcher),
-        }
-    }
-
-    /// Takes a step. Whether what is told is what stands beside it.
-    pub fn is_told(&mut self, step: (Step, &str)) -> bool {
-        match self.takes(step.0) {
-            Ok(told) => told.as_str() == step.1,
-            Err(_) => false,
+            Step::First(deed) => does(rt, alloc, self.server, &mut self.first, deed),
+            Step::Second(deed) => does(rt, alloc, self.server, &mut self.second, deed),
+            Step::Third(deed) => does(rt, alloc, self.server, &mut self.third, deed),
+            Step::Meeting => meets(alloc, self.server, &mut self.second, &mut self.first),
+            Step::Turn => {
+                let turn = turns(rt, self.server, &mut self.dispatcher, &OpenGate);
+                report(alloc, turn)
+            }
         }
     }
 
     /// Takes the steps, one after another. It fails where one is told anything else than what stands beside it.
-    pub fn plays(&mut self, steps: &[(Step, &str)]) -> Result<(), Fail> {
+    pub fn plays<R: Wait + Threads + Sync>(
+        &mut self,
+        rt: &R,
+        alloc: Global,
+        steps: &[(Step, &str)],
+    ) -> Result<(), Fail> {
         for (step, expected) in steps {
-            let told = self.takes(*step)?;
-            as_expected(self.rt.alloc(), (*step, *expected), told)?;
+            let told = self.takes(rt, alloc, *step)?;
+            as_expected(alloc, (*step, *expected), told)?;
         }
         Ok(())
     }
 
     // Takes a step. Where it is told that memory lacks, the steps that come with that are taken.
-    fn plays_at_last(
+    fn plays_at_last<R: Wait + Threads + Sync>(
         &mut self,
+        rt: &R,
+        alloc: Global,
         step: (Step, &str),
         lacking: (&str, &[(Step, &str)]),
     ) -> Result<(), Fail> {
-        let told = self.takes(step.0)?;
+        let told = self.takes(rt, alloc, step.0)?;
         if told.as_str() == lacking.0 {
-            return self.plays(lacking.1);
+            return self.plays(rt, alloc, lacking.1);
         }
-        as_expected(self.rt.alloc(), step, told)
+        as_expected(alloc, step, told)
     }
 }
 
@@ -286,8 +291,8 @@ pub fn played<R: Wait + Threads + Sync + AllocGlobal + RandomSource>(
         mut clients,
         mut dispatchers,
     } = opened(rt, 3, 1)?;
-    let mut trial = Trial::new(rt, &server, &mut clients, &mut dispatchers)?;
-    trial.plays(steps)
+    let mut trial = Trial::new(&server, &mut clients, &mut dispatchers)?;
+    trial.plays(rt, rt.alloc(), steps)
 }
 
 /// The same of steps of which one may lack memory. Where that step is told so, the steps that come with it are taken
@@ -304,8 +309,8 @@ pub fn played_at_last<R: Wait + Threads + Sync + AllocGlobal + RandomSource>(
         mut clients,
         mut dispatchers,
     } = opened(rt, 3, 1)?;
-    let mut trial = Trial::new(rt, &server, &mut clients, &mut dispatchers)?;
-    trial.plays(before)?;
-    trial.plays_at_last(step, lacking)?;
-    trial.plays(after)
+    let mut trial = Trial::new(&server, &mut clients, &mut dispatchers)?;
+    trial.plays(rt, rt.alloc(), before)?;
+    trial.plays_at_last(rt, rt.alloc(), step, lacking)?;
+    trial.plays(rt, rt.alloc(), after)
 }

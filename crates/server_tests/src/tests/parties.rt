@@ -1,0 +1,67 @@
+//! Clients, dispatchers and trials as the threads take them. A thread is started for anything that does as they do:
+//! the prover compares all that a closure holds, part by part, and for these by name that is more than it can.
+ghost use Rattle.std.specs.Thread.{IsSync};
+ghost use Rattle.history.specs.Tokens.{TokenRecord};
+ghost use Rattle.ssb_server.specs.Tickets.{IsOf};
+
+use crate::tests::trial::{Step, Trial, turns};
+use ssb_server::{Dispatcher, ScanGate, Server, Turn};
+use std::alloc::Global;
+use std::sync::Wait;
+use std::test::Fail;
+use std::thread::Threads;
+
+/// What contracts see as a token.
+pub trait HasToken {
+    ghost token: { Self → TokenRecord };
+}
+
+impl<W: Wait + Drop> HasToken for Dispatcher<W> {
+    ghost token = { λ d. d };
+}
+
+/// Who takes turns, as a dispatcher does.
+pub trait TakesTurns<W: Wait + Drop>: HasToken {
+    fn take_turn<R: Wait + Threads + Sync, G: ScanGate>(
+        &mut self,
+        rt: &R,
+        server: &Server<W>,
+        gate: &G,
+    ) -> Turn
+        requires shared { IsSync R.row }
+        requires table { IsOf server.now (Self.token self.old) }
+        ensures { IsOf server.now (Self.token self.new) };
+}
+
+impl<W: Wait + Drop> TakesTurns<W> for Dispatcher<W> {
+    fn take_turn<R: Wait + Threads + Sync, G: ScanGate>(
+        &mut self,
+        rt: &R,
+        server: &Server<W>,
+        gate: &G,
+    ) -> Turn {
+        turns(rt, server, self, gate)
+    }
+}
+
+/// Who takes steps, as a trial does.
+pub trait Plays {
+    fn play<R: Wait + Threads + Sync>(
+        &mut self,
+        rt: &R,
+        alloc: Global,
+        steps: &[(Step, &str)],
+    ) -> Result<(), Fail>
+        requires shared { IsSync R.row };
+}
+
+impl<'s, W: Wait + Drop> Plays for Trial<'s, W> {
+    fn play<R: Wait + Threads + Sync>(
+        &mut self,
+        rt: &R,
+        alloc: Global,
+        steps: &[(Step, &str)],
+    ) -> Result<(), Fail> {
+        self.plays(rt, alloc, steps)
+    }
+}
