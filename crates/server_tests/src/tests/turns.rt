@@ -89,17 +89,3 @@ fn two_clients_share_a_batch(rt: HostRuntime) -> Result<(), Fail> {
         ],
     )
 }
-
-#[test]
-fn two_clients_ask_the_same(rt: HostRuntime) -> Result<(), Fail> {
-    played(
-        &rt,
-        &[
-            (First(Asks("Q1.1")), "asked"),
-            (Second(Asks("Q1.1")), "asked"),
-            (Turn, "answered 2 at 0"),
-            (First(Polls), "Q1.1 at 0 rows 1\n3000"),
-            (Second(Polls), "Q1.1 at 0 rows 1\n3000"),
-        ],
-    )
-}

@@ -185,17 +185,6 @@ fn a_refused_publication_changes_nothing(rt: HostRuntime) -> Result<(), Fail> {
     Ok(())
 }
 
-#[test]
-fn a_note_too_many_is_refused(rt: HostRuntime) -> Result<(), Fail> {
-    let alloc = rt.alloc();
-    let (mut writer, _reader) = cell(alloc, &rt, PlainLines::new(alloc, standard_base(alloc)?)?)?;
-    let note = writer.tell()?;
-    assert!(rt; writer.tell().is_err());
-    drop(note);
-    writer.tell()?;
-    Ok(())
-}
-
 const COMMITS: u64 = 1000;
 
 // Publishes the commits one by one, and then says that it is done. It stops where memory is wanting.

@@ -30,14 +30,9 @@ fn row_of_1997(alloc: Global, sum: i64) -> Result<Items<ResultRow>, Fail> {
 }
 
 // A client asks, a refresh comes in between, a dispatcher fetches and answers; a second question is given up.
-fn worked_events(alloc: Global, with_others: bool) -> Result<Vec<Event>, Fail> {
+fn worked_events(alloc: Global) -> Result<Vec<Event>, Fail> {
     let mut events = Vec::new(alloc);
     events.push(Event::Post(1, question(alloc, Query::Q4_1)?))?;
-    if with_others {
-        events.push(Event::PutRows(DISPATCHER, Some(adding(alloc, 9)?)))?;
-        events.push(Event::Grab(1, 2))?;
-        events.push(Event::Look(Who::Client(2)))?;
-    }
     events.push(Event::Grab(1, 1))?;
     events.push(Event::TakeRows(CLIENT))?;
     events.push(Event::TakeRows(DISPATCHER))?;
@@ -58,14 +53,9 @@ fn worked_events(alloc: Global, with_others: bool) -> Result<Vec<Event>, Fail> {
     Ok(events)
 }
 
-fn worked_replies(alloc: Global, with_others: bool) -> Result<Vec<Reply>, Fail> {
+fn worked_replies(alloc: Global) -> Result<Vec<Reply>, Fail> {
     let mut replies = Vec::new(alloc);
     replies.push(Reply::Done)?;
-    if with_others {
-        replies.push(Reply::NotEnabled)?;
-        replies.push(Reply::NotEnabled)?;
-        replies.push(Reply::NotEnabled)?;
-    }
     replies.push(Reply::Query(question(alloc, Query::Q4_1)?))?;
     replies.push(Reply::Done)?;
     replies.push(Reply::NotEnabled)?;
@@ -123,34 +113,12 @@ fn opening(rt: &HostRuntime) -> Result<World, Fail> {
     Ok(World::opening(alloc, base, RandomState::new(rt)?, 1, 1)?)
 }
 
-// Whether the events, from an opening world, have the replies that were written by hand.
-fn runs(rt: &HostRuntime, with_others: bool) -> Result<bool, Fail> {
-    let alloc = rt.alloc();
-    let mut world = opening(rt)?;
-    let events = worked_events(alloc, with_others)?;
-    let found = world.run(&events).ok().ok_or("stopped")?;
-    let wanted = worked_replies(alloc, with_others)?;
-    Ok(found.as_slice() == wanted.as_slice())
-}
-
-#[test]
-fn a_request_is_answered_at_the_mark_fetched_after_its_grab(rt: HostRuntime) -> Result<(), Fail> {
-    assert!(rt; runs(&rt, false)?);
-    Ok(())
-}
-
-#[test]
-fn events_that_are_not_enabled_change_no_reply(rt: HostRuntime) -> Result<(), Fail> {
-    assert!(rt; runs(&rt, true)?);
-    Ok(())
-}
-
 #[test]
 fn an_unknown_number_is_never_enabled(rt: HostRuntime) -> Result<(), Fail> {
     let alloc = rt.alloc();
     let mut world = opening(&rt)?;
-    let events = worked_events(alloc, false)?;
-    let wanted = worked_replies(alloc, false)?;
+    let events = worked_events(alloc)?;
+    let wanted = worked_replies(alloc)?;
     let unknown = unknown_events(alloc)?;
     for (event, reply) in events.iter().zip(&wanted) {
         for other in &unknown {
@@ -161,13 +129,13 @@ fn an_unknown_number_is_never_enabled(rt: HostRuntime) -> Result<(), Fail> {
     Ok(())
 }
 
-// With ample memory the run is not stopped; `rt try --test --fail-alloc N` refuses the Nth growth.
+// With ample memory the run is not stopped; `bench/growths` refuses each growth in turn.
 #[test]
-fn a_run_that_was_stopped_goes_on(rt: HostRuntime) -> Result<(), Fail> {
+fn a_request_is_answered_at_the_mark_fetched_after_its_grab(rt: HostRuntime) -> Result<(), Fail> {
     let alloc = rt.alloc();
     let mut world = opening(&rt)?;
-    let events = worked_events(alloc, false)?;
-    let wanted = worked_replies(alloc, false)?;
+    let events = worked_events(alloc)?;
+    let wanted = worked_replies(alloc)?;
     match world.run(&events) {
         Ok(found) => assert!(rt; found.as_slice() == wanted.as_slice()),
         Err(stopped) => {

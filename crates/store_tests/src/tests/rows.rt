@@ -1,16 +1,16 @@
 //! The rows of the primary replica: limits that the program does not have, calls that it does not make, and refreshes
 //! that lack memory. Replies were worked out by hand.
 
-use row_store::{Cause, Follower, PlainLines, RefreshError, Replica, RowStore};
+use row_store::{Cause, RefreshError, RowStore};
 use ssb_base::Limits;
 use ssb_report::write_reply;
-use ssb_schema::{Line, Refresh};
+use ssb_schema::Refresh;
 use ssb_script::Request;
 use std::alloc::Global;
 use std::hash::RandomState;
 use std::sync::Arc;
 use std::test::Fail;
-use test_fixtures::{adding, refresh, requests, small_base, standard_base};
+use test_fixtures::{adding, requests, small_base};
 
 // A store of the small data set within these limits.
 fn opened(rt: &HostRuntime, limits: Limits) -> Result<RowStore, Fail> {
@@ -114,21 +114,6 @@ fn amended_orders_do_not_count_their_old_lines(rt: HostRuntime) -> Result<(), Fa
     Ok(())
 }
 
-#[test]
-fn limits_are_given_in_their_ranges(rt: HostRuntime) {
-    for (rows, lines, commits, given) in [
-        (1, 0, 1, true),
-        (1_048_576, 33_554_432, 1_000_000, true),
-        (0, 4, 1, false),
-        (1_048_577, 4, 1, false),
-        (1, 33_554_433, 1, false),
-        (1, 4, 0, false),
-        (1, 4, 1_000_001, false),
-    ] {
-        assert_eq!(rt; Limits::new(rows, lines, commits).is_some(), given);
-    }
-}
-
 // The line numbers of an order's lines.
 fn numbers_of(alloc: Global, store: &RowStore, key: u64) -> Result<String, Fail> {
     let mut told = String::new(alloc);
@@ -158,42 +143,5 @@ fn a_committed_order_has_its_lines(rt: HostRuntime) -> Result<(), Fail> {
     assert_eq!(rt; (store.log_from(0).len(), store.log_from(1).len()), (1, 0));
     let (base, log) = store.into_parts();
     assert_eq!(rt; (base.lines().len(), log.len()), (4, 1));
-    Ok(())
-}
-
-// The order keys of the lines.
-fn keys_told(alloc: Global, lines: &[Line]) -> Result<String, Fail> {
-    let mut told = String::new(alloc);
-    for line in lines {
-        write!(told, "{} ", line.order_key())?;
-    }
-    Ok(told)
-}
-
-const THREE: &str = "\
-amend
-line|1|1|3|4|3|19971215|o|0|1|10|10|0|10|2000|0|19971215|AIR
-withdraw|2
-add
-line|9|1|3|4|3|19971215|o|0|1|10|10|0|10|2000|0|19971215|AIR
-";
-
-#[test]
-fn plain_lines_follow_the_log(rt: HostRuntime) -> Result<(), Fail> {
-    let alloc = rt.alloc();
-    let base = standard_base(alloc)?;
-    let mut plain = PlainLines::new(alloc, Arc::try_clone(&base)?)?;
-    let mut store = RowStore::new(alloc, base, RandomState::new(&rt)?)?;
-    store.apply(1, refresh(alloc, THREE)?)?;
-    let before = plain.copy()?;
-    for commit in store.log_from(0) {
-        plain.absorb(commit)?;
-    }
-    let again = plain.copy()?;
-    assert_eq!(rt; keys_told(alloc, again.lines())?.as_str(), "3 1 9 ");
-    assert_eq!(rt;
-        (before.commits(), plain.commits(), again.taken()),
-        (0, 1, 1)
-    );
     Ok(())
 }
