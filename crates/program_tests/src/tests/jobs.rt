@@ -31,8 +31,8 @@ pub enum Job {
     Help,
 }
 
-/// The words as the system gives them.
-pub fn listed(alloc: Global, words: &[&str]) -> Result<Vec<String>, Fail> {
+// The words as the system gives them.
+fn listed(alloc: Global, words: &[&str]) -> Result<Vec<String>, Fail> {
     let mut list = Vec::new(alloc);
     for word in words {
         list.push(String::from_str(alloc, word)?)?;
@@ -40,8 +40,8 @@ pub fn listed(alloc: Global, words: &[&str]) -> Result<Vec<String>, Fail> {
     Ok(list)
 }
 
-/// Does what the words ask, without input and terminal, and gives the status.
-pub fn commands<R, W: Write, E: Write>(
+// Does what the words ask, without input and terminal, and gives the status.
+fn commands<R, W: Write, E: Write>(
     rt: &R,
     words: &[&str],
     out: &mut W,

@@ -1,11 +1,11 @@
 //! Writers that have room for a part, or that do not hand on what they took.
-ghost use Rattle.std.specs.Prelude.{OnOk};
+ghost use Rattle.std.specs.Prelude.{◌≡◌, ◌∷◌, [], vec_len, IfOk, OnOk};
 ghost use Rattle.ssb_server.specs.Tickets.{IsQuiet};
 
-use crate::tests::jobs::{Job, commands, does, serves};
+use crate::tests::jobs::{Job, does, serves};
 use small_data::stored;
 use ssb_script::read_script;
-use ssb_server::{Client, Opened, Server, open};
+use ssb_server::{Client, Server, open};
 use ssb_sessions::{NoMeter, ServeError, serve_requests};
 use std::alloc::Global;
 use std::hash::RandomState;
@@ -54,20 +54,6 @@ fn a_failed_write_of_a_trace_comes_behind_the_whole_output(rt: HostRuntime) -> R
     Ok(())
 }
 
-#[test]
-fn wrong_words_end_with_status_2_though_nobody_takes_their_fault(
-    rt: HostRuntime,
-) -> Result<(), Fail> {
-    let mut out = Vec::new(rt.alloc());
-    let mut full: &mut [u8] = &mut [];
-    assert_eq!(rt;
-        commands(&rt, &["ssb_live", "bad"], &mut out, &mut full)?,
-        2
-    );
-    assert!(rt; out.is_empty());
-    Ok(())
-}
-
 // Adds order 9, and then withdraws order 77, which is absent.
 const REFRESHES: &[u8] = b"begin
 add
@@ -77,6 +63,31 @@ begin
 withdraw|77
 commit
 ";
+
+// The only element of a list.
+fn only<T: Drop>(mut list: Vec<T>) -> T
+    requires { vec_len list ≡ 1 }
+    ensures { list.items ≡ result ∷ [] }
+{
+    let Some(one) = list.pop() else {
+        unreachable!()
+    };
+    one
+}
+
+// A server over the small data set, and its client.
+fn for_one_client<W: Wait + Drop>(
+    alloc: Global,
+    rt: W,
+    hashing: RandomState,
+) -> Result<(Server<W>, Client<W>), Fail>
+    ensures { IfOk result (λ made. IsQuiet made.0 made.1) }
+{
+    match open(alloc, rt, hashing, standard_base(alloc)?, 1, 1) {
+        Ok(opened) => Ok((opened.server, only(opened.clients))),
+        Err(error) => Err(error.fault)?,
+    }
+}
 
 // Serves the refreshes, for which no dispatcher is needed.
 fn refreshes<W: Wait + Drop, T: Wait, O: Write>(
@@ -91,7 +102,8 @@ fn refreshes<W: Wait + Drop, T: Wait, O: Write>(
 {
     let script = read_script(alloc, REFRESHES, 10)?;
     let mut told = Vec::new(alloc);
-    Ok(serve_requests(rt, server, client, script, out, &mut told, &mut NoMeter))
+    let mut meter = NoMeter;
+    Ok(serve_requests(rt, server, client, script, out, &mut told, &mut meter))
 }
 
 // Serves the refreshes with room for so many bytes of the replies, and then again. How it ended, and what was written
@@ -102,12 +114,7 @@ fn served_twice<T: Wait>(
     hashing: RandomState,
     room: usize,
 ) -> Result<(Result<(), ServeError>, Vec<u8>, Vec<u8>), Fail> {
-    let Opened {
-        server,
-        mut clients,
-        dispatchers: _,
-    } = open(alloc, rt, hashing, standard_base(alloc)?, 1, 1).map_err(|error| error.fault)?;
-    let mut client = clients.pop().ok_or("no client")?;
+    let (server, mut client) = for_one_client(alloc, rt, hashing)?;
     let mut out = Room::for_bytes(alloc, room);
     let ended = refreshes(alloc, rt, &server, &mut client, &mut out)?;
     let mut then = Vec::new(alloc);
