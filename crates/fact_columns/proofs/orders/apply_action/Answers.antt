@@ -59,11 +59,11 @@ returns-in-Withdraw c =
     let none : length lines ≡ 0 = sym (length-map lines (fact_at c.requires.dimensions))
     ∙ ap length c.requires.coded.read ∙ ap (λ (a : Action). length (facts_of (added_by a))) c.in-Withdraw.is in
     record {
-  spanned = c.withdraw.ensures.spanned;
-  counts = λ dimensions codes. grind (arith, common_steps, c.withdraw.ensures.counts dimensions);
-  count = omega (arith, none, c.withdraw.ensures.count);
-  inside = λ dimensions fresh all. c.withdraw.ensures.inside dimensions all;
-  len = omega (arith, c.withdraw.ensures.len);
-  room = omega (arith, c.withdraw.ensures.room);
-  spare = omega (arith, c.withdraw.ensures.spare);
-}
+      spanned = c.withdraw.ensures.spanned;
+      counts = λ dimensions codes. grind (arith, common_steps, c.withdraw.ensures.counts dimensions);
+      count = omega (arith, none, c.withdraw.ensures.count);
+      inside = λ dimensions fresh all. c.withdraw.ensures.inside dimensions all;
+      len = omega (arith, c.withdraw.ensures.len);
+      room = omega (arith, c.withdraw.ensures.room);
+      spare = omega (arith, c.withdraw.ensures.spare);
+    }
