@@ -1,4 +1,3 @@
-mod closing;
 mod held;
 mod memory;
 mod opening;

@@ -1,8 +1,0 @@
-mod again;
-mod jobs;
-mod readers;
-mod replies;
-mod runs;
-mod screens;
-mod words;
-mod writers;
