@@ -159,16 +159,25 @@ class ClickHouse(Peer):
         return None if shutil.which("clickhouse-server") else "clickhouse-server"
 
     def start(self):
+        self.choose_ports()
+        self.launch()
+
+    def choose_ports(self):
+        """Two ports of the loopback address that nobody listens at."""
         with socket.socket() as one, socket.socket() as other:
             one.bind(("127.0.0.1", 0))
             other.bind(("127.0.0.1", 0))
-            self.port, tcp_port = one.getsockname()[1], other.getsockname()[1]
+            self.port, self.tcp_port = one.getsockname()[1], other.getsockname()[1]
+
+    def launch(self, settings=""):
+        """Starts the server at its ports; settings are more of its configuration, as XML."""
         (self.folder / "config.xml").write_text(f"""<yandex>
     <logger><level>warning</level><log>{self.folder}/log</log><errorlog>{self.folder}/errors</errorlog></logger>
-    <listen_host>127.0.0.1</listen_host><http_port>{self.port}</http_port><tcp_port>{tcp_port}</tcp_port>
+    <listen_host>127.0.0.1</listen_host><http_port>{self.port}</http_port><tcp_port>{self.tcp_port}</tcp_port>
     <path>{self.folder}/data/</path><tmp_path>{self.folder}/tmp/</tmp_path>
     <users_config>users.xml</users_config><default_profile>default</default_profile>
     <default_database>default</default_database><mark_cache_size>268435456</mark_cache_size>
+    {settings}
 </yandex>
 """)
         (self.folder / "users.xml").write_text(f"""<yandex>
@@ -214,9 +223,13 @@ class ClickHouse(Peer):
 
     def load(self, data):
         self.script("schema_clickhouse.sql")
-        for file, table in TABLES.items():
-            with open(data / f"{file}.tbl", "rb") as rows:
-                self.post(rows, query=f"INSERT INTO {table} FORMAT CSV", format_csv_delimiter="|")
+        for file in TABLES:
+            self.insert(data, file)
+
+    def insert(self, data, file, **words):
+        """Loads one file into its table."""
+        with open(data / f"{file}.tbl", "rb") as rows:
+            self.post(rows, query=f"INSERT INTO {TABLES[file]} FORMAT CSV", format_csv_delimiter="|", **words)
 
     def rows(self, sql):
         text = self.post(sql.rstrip().rstrip(";") + "\nFORMAT TabSeparated")

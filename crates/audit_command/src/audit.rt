@@ -78,7 +78,7 @@ fn legal_trace<R: Threads + Sync + AllocGlobal, I: Read + Drop>(
         → AreTexts I.remaining tables texts → I.remaining source ≡ Some bytes → SpeaksAgainst texts bytes) }
     ensures words { IfErr result (λ fault. auditing_status fault ≢ 2) }
 {
-    let base = base_of(rt.alloc(), tables)?;
+    let base = base_of(rt, rt.alloc(), tables)?;
     let trace = trace_of(rt.alloc(), source)?;
     check(rt, hashing, base, &trace)?;
     Ok(trace)

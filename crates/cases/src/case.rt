@@ -24,10 +24,18 @@ pub struct NamedFile {
     pub bytes: Vec<u8>,
 }
 
+/// A file by its path, or a stream by the word of its section, and behind how many of its bytes it fails.
+#[derive(Drop)]
+pub struct Break {
+    pub name: String,
+    pub after: usize,
+}
+
 /// A command line, what it reads, and what it must write and leave.
 #[derive(Drop)]
 pub struct Command {
     pub words: Vec<String>,
+    pub breaks: Vec<Break>,
     pub input: Vec<u8>,
     pub output: Vec<u8>,
     pub errors: Vec<u8>,
@@ -108,6 +116,10 @@ impl<'a> Reader<'a> {
         match (section.part, self.case.commands.last_mut()) {
             (Part::File(path), _) => self.case.files.push(empty_file(self.alloc, path)?)?,
             (Part::Command, _) => self.case.commands.push(Command::new(self.alloc))?,
+            (Part::Breaks(name, after), Some(command)) => {
+                let name = String::from_str(self.alloc, name)?;
+                command.breaks.push(Break { name, after })?;
+            }
             (Part::Status(status), Some(command)) => command.status = status,
             (Part::Leaves(path), Some(command)) => {
                 command.leaves.push(empty_file(self.alloc, path)?)?;
@@ -126,7 +138,7 @@ impl<'a> Reader<'a> {
             (Part::Output, Some(command)) => section.append(&mut command.output, line)?,
             (Part::Errors, Some(command)) => section.append(&mut command.errors, line)?,
             (Part::Leaves(_), Some(command)) => append_to_last(&mut command.leaves, section, line)?,
-            (Part::Status(_), _) | (_, None) => bail!("no text stands here"),
+            (Part::Breaks(..) | Part::Status(_), _) | (_, None) => bail!("no text stands here"),
         }
         Ok(())
     }
@@ -149,10 +161,19 @@ fn append_to_last(files: &mut Vec<NamedFile>, section: Section<'_>, line: &str) 
 }
 
 impl Command {
+    /// Behind how many bytes the file or the stream of this name fails, where it does.
+    pub fn break_of(&self, name: &str) -> Option<usize> {
+        self.breaks
+            .iter()
+            .find(|broken| broken.name.as_str() == name)
+            .map(|broken| broken.after)
+    }
+
     // A command without words, of which nothing is wanted but that it writes nothing.
     fn new(alloc: Global) -> Command {
         Command {
             words: Vec::new(alloc),
+            breaks: Vec::new(alloc),
             input: Vec::new(alloc),
             output: Vec::new(alloc),
             errors: Vec::new(alloc),

@@ -1,5 +1,7 @@
 //! Files in memory, in place of the system's.
 
+use crate::breaking::Breaking;
+use crate::case::Break;
 use small_data::{CUSTOMER, DATE, LINEORDER, PART, SUPPLIER};
 use std::alloc::{Allocator, Global};
 use std::cell::RefCell;
@@ -10,6 +12,10 @@ use std::io::{Error, ErrorKind, Read, Seek, SeekFrom, Write};
 use std::rc::Rc;
 use std::rt::Files;
 
+// How many bytes a read gives. A block of lineorder is what a read gives up to its last line feed: so one line or two
+// are a block here, and each case that loads tables shows that blocks change nothing.
+const MOST_READ: usize = 48;
+
 // The bytes of a file, as all who opened it see them.
 type Contents = Rc<RefCell<Vec<u8>>>;
 
@@ -18,6 +24,7 @@ type Contents = Rc<RefCell<Vec<u8>>>;
 pub struct MemoryFiles {
     alloc: Global,
     files: RefCell<BTreeMap<String, Contents>>,
+    breaks: RefCell<BTreeMap<String, usize>>,
 }
 
 /// An opened file of [`MemoryFiles`], or an opened folder, which cannot be read.
@@ -35,6 +42,7 @@ impl MemoryFiles {
         let files = MemoryFiles {
             alloc,
             files: RefCell::new(BTreeMap::new(alloc)),
+            breaks: RefCell::new(BTreeMap::new(alloc)),
         };
         for (path, text) in [
             ("small/customer.tbl", CUSTOMER),
@@ -56,6 +64,16 @@ impl MemoryFiles {
         Ok(())
     }
 
+    /// From now on these files, when they are opened, fail behind their first bytes, and no others.
+    pub fn break_after(&self, breaks: &[Break]) -> io::Result<()> {
+        let mut kept = self.breaks.try_borrow_mut()?;
+        kept.clear();
+        for Break { name, after } in breaks {
+            kept.insert(name.clone()?, *after)?;
+        }
+        Ok(())
+    }
+
     /// The bytes of a file, where there is one.
     pub fn bytes_of(&self, path: &str) -> io::Result<Option<Vec<u8>>> {
         match self.contents_of(path)? {
@@ -69,6 +87,12 @@ impl MemoryFiles {
             Some(contents) => Ok(Some(contents.clone()?)),
             None => Ok(None),
         }
+    }
+
+    // This file of this path, as it is opened: it may fail behind its first bytes.
+    fn opened(&self, path: &str, file: MemoryFile) -> io::Result<Breaking<MemoryFile>> {
+        let after = self.breaks.try_borrow()?.get(path).copied();
+        Ok(Breaking::new(file, after))
     }
 
     fn is_folder(&self, path: &str) -> io::Result<bool> {
@@ -110,19 +134,21 @@ fn unsupported<T>() -> io::Result<T> {
 }
 
 impl Files for MemoryFiles {
-    type File = MemoryFile;
+    type File = Breaking<MemoryFile>;
 
     type Dir = io::Empty;
 
-    fn open_file(&self, how: &OpenOptions, path: &str) -> io::Result<MemoryFile> {
-        if how.asks_create() {
-            return Ok(MemoryFile::Opened(self.make(path)?, 0));
-        }
-        match self.contents_of(path)? {
-            Some(contents) => Ok(MemoryFile::Opened(contents, 0)),
-            None if self.is_folder(path)? => Ok(MemoryFile::Folder),
-            None => Err(Error::from(ErrorKind::NotFound)),
-        }
+    fn open_file(&self, how: &OpenOptions, path: &str) -> io::Result<Breaking<MemoryFile>> {
+        let file = if how.asks_create() {
+            MemoryFile::Opened(self.make(path)?, 0)
+        } else {
+            match self.contents_of(path)? {
+                Some(contents) => MemoryFile::Opened(contents, 0),
+                None if self.is_folder(path)? => MemoryFile::Folder,
+                None => return Err(Error::from(ErrorKind::NotFound)),
+            }
+        };
+        self.opened(path, file)
     }
 
     fn open_dir(&self, _path: &str) -> io::Result<io::Empty> {
@@ -167,8 +193,9 @@ impl Read for MemoryFile {
         match self {
             MemoryFile::Opened(contents, at) => {
                 let contents = contents.try_borrow()?;
-                let mut rest = contents.get(*at..).unwrap_or(&[]);
-                let count = rest.read(buf)?;
+                let rest = contents.get(*at..).unwrap_or(&[]);
+                let mut next = &rest[..rest.len().min(MOST_READ)];
+                let count = next.read(buf)?;
                 *at = at.saturating_add(count);
                 Ok(count)
             }
@@ -193,13 +220,13 @@ impl Write for MemoryFile {
     }
 }
 
-impl Seek for MemoryFile {
+impl Seek for Breaking<MemoryFile> {
     fn seek(&mut self, _to: SeekFrom) -> io::Result<u64> {
         unsupported()
     }
 }
 
-impl OpenFile for MemoryFile {
+impl OpenFile for Breaking<MemoryFile> {
     fn metadata(&self) -> io::Result<Metadata> {
         unsupported()
     }

@@ -2,6 +2,7 @@
 
 ghost use Rattle.std.specs.Prelude.{◌≡◌, Ok, None};
 
+use crate::breaking::Breaking;
 use crate::case::{Case, Command};
 use crate::difference::first_difference;
 use crate::files::MemoryFiles;
@@ -27,20 +28,21 @@ fn run_command<R>(rt: &R, files: &MemoryFiles, command: &Command) -> Outcome
 where
     R: Clock + RandomSource + Threads + Sync + Wait + AllocGlobal,
 {
-    let mut output = Vec::new(rt.alloc());
-    let mut errors = Vec::new(rt.alloc());
+    let input = Breaking::new(command.input.as_slice(), command.break_of("input"));
+    let mut output = Breaking::new(Vec::new(rt.alloc()), command.break_of("output"));
+    let mut errors = Breaking::new(Vec::new(rt.alloc()), command.break_of("errors"));
     let status = run_command_line(
         rt,
         files,
         command.words.as_slice(),
-        command.input.as_slice(),
+        input,
         None::<&Stderr>,
         &mut output,
         &mut errors,
     );
     Outcome {
-        output,
-        errors,
+        output: output.into_inner(),
+        errors: errors.into_inner(),
         status,
     }
 }
@@ -94,6 +96,7 @@ where
     let mut number = 0u64;
     for command in &case.commands {
         number = number.saturating_add(1);
+        files.break_after(command.breaks.as_slice())?;
         let outcome = run_command(rt, &files, command);
         if let Some(difference) = find_difference(alloc, &files, command, &outcome)? {
             return Ok(Some(format!(in alloc; "command {number}, {difference}")?));

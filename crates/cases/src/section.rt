@@ -9,6 +9,8 @@ pub enum Part<'a> {
     File(&'a str),
     /// A command line.
     Command,
+    /// A file by its path, or a stream of the command, and behind how many of its bytes it fails.
+    Breaks(&'a str, usize),
     /// Standard input.
     Input,
     /// Standard output.
@@ -34,12 +36,18 @@ impl<'a> Part<'a> {
         match self {
             Part::File(_) => 0,
             Part::Command => 1,
-            Part::Input => 2,
-            Part::Output => 3,
-            Part::Errors => 4,
-            Part::Status(_) => 5,
-            Part::Leaves(_) => 6,
+            Part::Breaks(..) => 2,
+            Part::Input => 3,
+            Part::Output => 4,
+            Part::Errors => 5,
+            Part::Status(_) => 6,
+            Part::Leaves(_) => 7,
         }
+    }
+
+    // Whether several may stand one behind another.
+    fn repeats(self) -> bool {
+        matches!(self, Part::Breaks(..) | Part::Leaves(_))
     }
 
     /// Whether it may stand behind the last one, or as the first: files, and then the sections of each command.
@@ -47,7 +55,7 @@ impl<'a> Part<'a> {
         match (self, last) {
             (Part::Command, _) | (Part::File(_), None | Some(Part::File(_))) => true,
             (Part::File(_), _) | (_, None | Some(Part::File(_))) => false,
-            (Part::Leaves(_), _) => true,
+            (part, Some(last)) if part.repeats() => last.place() <= part.place(),
             (part, Some(last)) => last.place() < part.place(),
         }
     }
@@ -107,6 +115,10 @@ impl<'a> Section<'a> {
         let part = match words.split_once(' ') {
             Some(("file", path)) => Part::File(path),
             Some(("leaves", path)) => Part::Leaves(path),
+            Some(("breaks", words)) if !is_escaped => {
+                let (name, after) = words.rsplit_once(" after ")?;
+                Part::Breaks(name, after.parse().ok()?)
+            }
             Some(("status", number)) if !is_escaped => Part::Status(number.parse().ok()?),
             Some(_) => return None,
             None => match words {

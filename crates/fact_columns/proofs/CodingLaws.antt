@@ -3,6 +3,8 @@ use Rattle.std.proofs.Common.{
   ◌≡◌,
   ℕ,
   ◌<◌,
+  ◌≤◌,
+  ◌-◌,
   true,
   List,
   [],
@@ -24,10 +26,14 @@ use Rattle.std.proofs.Common.{
   arith,
   ◌+◌,
   append_assoc,
+  Result,
+  IfOk,
 }
 use Rattle.std.specs.List.{All, flat_map}
+use Rattle.std.specs.declared.alloc.AllocError.{AllocError}
 use Rattle.std.proofs.lemmas.List.Concat.{flat_map-cons}
-use Rattle.std.proofs.lemmas.List.{map_more, length-map, map-append, take-map, drop-map, take_at, drop_at, drop_more}
+use Rattle.std.proofs.Math.Seq.{take-add}
+use Rattle.std.proofs.lemmas.List.{length-drop, length-take-le, map_more, length-map, map-append, take-map, drop-map, take_at, drop_at, drop_more}
 use Rattle.std.proofs.lemmas.List.Elements.{All-push, All-take, All-drop}
 use Rattle.ssb_base.specs.Base.{Dimensions}
 use Rattle.ssb_schema.specs.declared.fact.Fact.{Fact}
@@ -39,7 +45,7 @@ use Rattle.row_store.specs.State.{Counts, with_fact}
 use Rattle.fact_columns.specs.declared.place.Place.{Place}
 use Rattle.fact_columns.specs.Places.{fact_at, is_live}
 use Rattle.fact_columns.specs.Classed.{IsPlaceOf}
-use Rattle.fact_columns.specs.Coded.{IsCodeOf, AreCodesOf, with_places}
+use Rattle.fact_columns.specs.Coded.{AreCoded, AreCodesOf, IsCodeOf, IsCoded, with_places}
 
 pub some_row : {R : Type 0} (rows : List R) → 0 < length rows → R
 some_row [] some = absurd (omega (arith, some))
@@ -152,3 +158,44 @@ codes_more dimensions before lines i line places later place within is longer co
     subst (λ p. AreCodesOf dimensions (before ++ facts_of (take (i + 1) lines)) p) (sym longer)
     (subst (λ f. AreCodesOf dimensions f (places ++ place ∷ [])) facts
     (codes_push dimensions done places (fact_of line) place codes code))
+
+-- as many lines are coded as there are codes
+pub coded_count : (dimensions : Dimensions) (lines : List LineFields) (codes : List (Result Place AllocError))
+    → AreCoded dimensions lines codes → length lines ≡ length codes
+coded_count dimensions [] [] coded = refl
+coded_count dimensions [] (code ∷ codes) coded = absurd coded
+coded_count dimensions (line ∷ lines) [] coded = absurd coded
+coded_count dimensions (line ∷ lines) (code ∷ codes) coded = ap suc (coded_count dimensions lines codes coded.1)
+
+-- the line that a code is of
+pub coded_at : (dimensions : Dimensions) (lines : List LineFields) (codes : List (Result Place AllocError)) (i : ℕ)
+    (code : Result Place AllocError) → AreCoded dimensions lines codes → i < length codes → code ≡ get_or codes i code
+    → (line : LineFields) × (i < length lines) × (line ≡ get_or lines i line)
+    × IfOk code (IsCodeOf dimensions (fact_of line))
+unfolding IsCoded
+coded_at dimensions [] [] i code coded within is = absurd (omega (arith, within))
+coded_at dimensions [] (own ∷ codes) i code coded within is = absurd coded
+coded_at dimensions (line ∷ lines) [] i code coded within is = absurd coded
+coded_at dimensions (line ∷ lines) (own ∷ codes) zero code coded within is =
+    (line, omega arith, refl, rw is coded.0)
+coded_at dimensions (line ∷ lines) (own ∷ codes) (suc i) code coded within is =
+    let rest = coded_at dimensions lines codes i code coded.1 (omega (arith, within)) is in
+    (rest.0, omega (arith, rest.1), rest.2, rest.3)
+
+-- the lines between two places have as many codes
+pub batch_count : (dimensions : Dimensions) (lines : List LineFields) (codes : List (Result Place AllocError))
+    (from to : ℕ) → from ≤ to → to ≤ length lines
+    → AreCoded dimensions (take (to - from) (drop from lines)) codes → from + length codes ≡ to
+batch_count dimensions lines codes from to rising within coded = omega (
+  arith,
+  coded_count dimensions (take (to - from) (drop from lines)) codes coded,
+  length-take-le (to - from) (drop from lines) (omega (arith, length-drop from lines)),
+)
+
+-- the facts of the first lines, and of those up to a later place
+pub batch_facts : (lines : List LineFields) (from to : ℕ) → from ≤ to
+    → facts_of (take from lines) ++ facts_of (take (to - from) (drop from lines)) ≡ facts_of (take to lines)
+batch_facts lines from to rising =
+    let whole : from + (to - from) ≡ to = omega arith in
+    sym (map-append fact_of (take from lines) (take (to - from) (drop from lines)))
+    ∙ ap facts_of (sym (take-add from (to - from) lines) ∙ ap (λ n. take n lines) whole)

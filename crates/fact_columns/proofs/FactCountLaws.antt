@@ -4,6 +4,7 @@ use Rattle.std.specs.List.{filter}
 use Rattle.ssb_schema.specs.declared.fact.Fact.{Fact}
 use Rattle.ssb_schema.specs.declared.line.LineFields.{LineFields}
 use Rattle.ssb_schema.specs.Facts.{facts_of}
+use Rattle.ssb_schema.specs.Texts.{texts_of}
 use Rattle.row_store.specs.Lines.{lines_without}
 use Rattle.row_store.specs.State.{counts_without, fact_counts}
 use Rattle.row_store.proofs.StateLaws.{counts_without-fact_counts}
@@ -17,8 +18,6 @@ line_of fact = record {
   part_key = fact.part;
   supplier_key = fact.supplier;
   order_date = fact.date;
-  order_priority = [];
-  ship_priority = [];
   quantity = fact.quantity;
   extended_price = fact.price;
   order_total_price = 0;
@@ -27,7 +26,7 @@ line_of fact = record {
   supply_cost = fact.cost;
   tax = 0;
   commit_date = 0;
-  ship_mode = [];
+  texts = texts_of [] [] [];
 }
 
 abbrev others : ℕ → Fact → Bool

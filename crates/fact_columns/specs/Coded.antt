@@ -1,7 +1,11 @@
 -- Lines in codes, and what they add to the counts.
-use Rattle.std.specs.Prelude.{◌≡◌, ℕ, true, All, List, map, fold}
+use Rattle.std.specs.Prelude.{◌≡◌, ℕ, true, All, List, map, fold, Result, IfOk}
+use Rattle.std.specs.List.{AllZip}
+use Rattle.std.specs.declared.alloc.AllocError.{AllocError}
 use Rattle.ssb_base.specs.Base.{Dimensions}
+use Rattle.ssb_schema.specs.Facts.{fact_of}
 use Rattle.ssb_schema.specs.declared.fact.Fact.{Fact}
+use Rattle.ssb_schema.specs.declared.line.LineFields.{LineFields}
 use Rattle.ssb_schema.specs.declared.refresh.Action.{Action}
 use Rattle.ssb_schema.specs.declared.refresh.Action.TheVariants.{Add, Amend, Withdraw}
 use Rattle.ssb_schema.specs.Orders.{order_key}
@@ -21,6 +25,14 @@ pub record AreCodesOf (dimensions : Dimensions) (facts : List Fact) (places : Li
   pub read : map (fact_at dimensions) places ≡ facts
   pub lives : All (λ place. is_live place ≡ true) places
   pub inside : All (IsPlaceOf dimensions) places
+
+-- a line in codes, where it could be coded
+unfoldable pub IsCoded : Dimensions → LineFields → Result Place AllocError → Type 0
+IsCoded dimensions line code = IfOk code (IsCodeOf dimensions (fact_of line))
+
+-- each line in codes, where it could be coded
+abbrev pub AreCoded : Dimensions → List LineFields → List (Result Place AllocError) → Type 0
+AreCoded dimensions lines codes = AllZip (IsCoded dimensions) lines codes
 
 -- how often each fact is live
 abbrev pub counts_at : Dimensions → List Place → Counts

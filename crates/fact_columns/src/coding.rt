@@ -5,13 +5,18 @@ ghost use Rattle.ssb_schema.specs.Facts.{fact_of, facts_of};
 ghost use Rattle.row_store.specs.Lines.{added_by};
 ghost use Rattle.dimension_index.specs.Classes.{classes_of};
 ghost use Rattle.dimension_index.specs.Keys.{position_of};
-ghost use Rattle.fact_columns.specs.Coded.{IsCodeOf, AreCodesOf};
+ghost use Rattle.fact_columns.specs.Coded.{AreCoded, AreCodesOf, IsCodeOf, IsCoded};
 
 use crate::action::added;
 use crate::place::{Place, terms};
 use dimension_index::DimIndex;
+use rayon::prelude::*;
 use ssb_schema::{Action, Line, Table};
 use std::alloc::{AllocError, Global};
+use std::thread::Threads;
+
+// How many lines are enough work for a thread.
+const LEAST_LINES: usize = 64 * 1024;
 
 // The position of the row of a dimension that has the key, and its class; an error where there is none. Inlined, since
 // each line asks for four.
@@ -51,6 +56,34 @@ pub fn coded(index: &DimIndex, line: &Line) -> Result<Place, AllocError>
         part_class,
         date_class,
     })
+}
+
+// A line in codes, where it can be coded.
+#[tactic(auto, unfolding(crate::specs::Coded::IsCoded))]
+fn code_of(index: &DimIndex, line: &Line) -> Result<Place, AllocError>
+    ensures { IsCoded index.now.dimensions line.now result }
+{
+    coded(index, line)
+}
+
+/// Lines in codes, each an error where the base lacks a row that it names, by as many threads as there are processors.
+pub fn coded_lines(
+    rt: &(impl Threads + Sync),
+    alloc: Global,
+    index: &DimIndex,
+    lines: &[Line],
+) -> Result<Vec<Result<Place, AllocError>>, AllocError>
+    ensures { IfOk result (λ codes. AreCoded index.now.dimensions lines.now codes.items) }
+{
+    lines
+        .par_iter()
+        .with_min_len(LEAST_LINES)
+        .map(
+            |line: &Line| -> Result<Place, AllocError>
+                ensures { IsCoded index.entry.now.dimensions line.now result }
+            { code_of(index, line) },
+        )
+        .collect(rt, alloc)
 }
 
 // Puts lines in codes behind others.

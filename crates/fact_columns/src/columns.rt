@@ -1,15 +1,20 @@
 //! The columns as a replica.
-ghost use Rattle.std.specs.Prelude.{◌≡◌, ◌<◌, [], List, length, slice_index_or, IfOk, MatchResult, OnErr};
+ghost use Rattle.std.specs.Prelude.{◌≡◌, ◌<◌, ◌^◌, [], ℕ, List, length, nat_eq, slice_index_or, IfOk, MatchResult, OnErr};
+ghost use Rattle.std.specs.HashMap.{get};
+ghost use Rattle.ssb_schema.specs.Facts.{facts_of};
+ghost use Rattle.ssb_schema.specs.declared.line.LineFields.{LineFields};
 ghost use Rattle.row_store.specs.History.{CommitRecord, lines_after};
 ghost use Rattle.row_store.specs.State.{StandsFor, state_of, state_after};
 ghost use Rattle.fact_columns.specs.declared.place.Place.{Place as PlainPlace};
+ghost use Rattle.fact_columns.specs.Coded.{AreCodesOf};
 ghost use Rattle.fact_columns.specs.Columns.{AreColumnsOf};
+ghost use Rattle.fact_columns.specs.Spans.{Covers};
 ghost use Rattle.fact_columns.specs.Stored.{Stored, IsRead, columns_state};
 
 use crate::coding::coded_actions;
 use crate::fact_table::FactTable;
 use crate::hints::Hints;
-use crate::loading::{count_orders, span_all, table_of};
+use crate::loading::{spans_of, table_of};
 use crate::orders::apply_actions;
 use crate::place::Place;
 use crate::span::Spans;
@@ -17,10 +22,11 @@ use dimension_index::DimIndex;
 use row_store::{Commit, Replica};
 use scan_kernel::LineColumns;
 use std::alloc::{AllocError, Global};
-use std::collections::HashMap;
 use std::hash::RandomState;
 use std::marker::Model;
 use std::sync::Arc;
+use std::thread;
+use std::thread::Threads;
 
 /// The live lines in coded columns over an index of the dimensions. Contracts see the base, the number of commits, the
 /// places, and the facts of the live ones.
@@ -48,9 +54,11 @@ impl Model for Columns {
 }
 
 impl Columns {
-    /// The loaded lines of the index's base, and no commits. Orders are found by their hashed keys: with a random
-    /// `hashing`, as `RandomState::new(&rt)?`, no client can pick keys that collide.
+    /// The loaded lines of the index's base, and no commits, by as many threads as there are processors. Orders are
+    /// found by their hashed keys: with a random `hashing`, as `RandomState::new(&rt)?`, no client can pick keys that
+    /// collide.
     pub fn new(
+        rt: &(impl Threads + Sync),
         alloc: Global,
         index: Arc<DimIndex>,
         hashing: RandomState,
@@ -60,10 +68,19 @@ impl Columns {
         let base = index.base();
         base.soundness();
         let lines = base.lines();
-        let table = table_of(alloc, &index, lines)?;
-        let mut spans = HashMap::with_hasher(alloc, hashing);
-        spans.reserve(count_orders(lines))?;
-        span_all(&mut spans, lines)?;
+        let (table, spans) = thread::join(
+            rt,
+            || -> Result<FactTable, AllocError>
+                ensures { IfOk result (λ table. AreCodesOf index.value.dimensions (facts_of lines.entry.now) table.places) }
+            { table_of(rt, alloc, &index, lines) },
+            move || -> Result<Spans, AllocError>
+                requires { length lines.now < 2 ^ 32 }
+                ensures { IfOk result (λ spans. (i : ℕ) (line : LineFields) → i < length lines.entry.now
+                    → Covers (get nat_eq spans (slice_index_or lines.entry.now i line).order_key) i) }
+            { spans_of(alloc, hashing, lines) },
+        );
+        let table = table?;
+        let spans = spans?;
         let rows = lines.len();
         Ok(Columns {
             table,

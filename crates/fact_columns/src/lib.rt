@@ -22,7 +22,7 @@
 //! over all places.
 //!
 //! ```text
-//! let mut columns = Columns::new(alloc, index, RandomState::new(&rt)?)?;
+//! let mut columns = Columns::new(&rt, alloc, index, RandomState::new(&rt)?)?;
 //! columns.absorb(&commit)?;
 //! ```
 #![tactic(auto)]

@@ -1,26 +1,73 @@
 //! The loaded lines in columns.
-ghost use Rattle.std.specs.Prelude.{◌≡◌, ◌+◌, ◌<◌, ◌≤◌, ◌^◌, ℕ, length, slice_index_or, nat_eq, OnOk, IfOk};
+ghost use Rattle.std.specs.Prelude.{◌≡◌, ◌+◌, ◌++◌, ◌<◌, ◌≤◌, ◌^◌, ℕ, List, length, slice_index_or, nat_eq, OnOk, IfOk};
 ghost use Rattle.std.specs.HashMap.{get};
+ghost use Rattle.ssb_base.specs.Base.{Dimensions};
+ghost use Rattle.ssb_schema.specs.declared.fact.Fact.{Fact as PlainFact};
 ghost use Rattle.ssb_schema.specs.declared.line.LineFields.{LineFields};
 ghost use Rattle.ssb_schema.specs.Facts.{facts_of};
 ghost use Rattle.fact_columns.specs.Spans.{Covers};
-ghost use Rattle.fact_columns.specs.Coded.{AreCodesOf};
+ghost use Rattle.fact_columns.specs.Coded.{AreCoded, AreCodesOf};
 
-use crate::coding::coded;
+use crate::coding::coded_lines;
 use crate::fact_table::FactTable;
+use crate::place::Place;
 use crate::span::{Span, Spans, widen};
 use dimension_index::DimIndex;
 use ssb_schema::Line;
 use std::alloc::{AllocError, Global};
+use std::collections::HashMap;
+use std::hash::RandomState;
+use std::thread::Threads;
 
-/// A table of the lines, one behind another.
-pub fn table_of(alloc: Global, index: &DimIndex, lines: &[Line]) -> Result<FactTable, AllocError>
+// How many lines are coded before they are put into the table.
+const BATCH: usize = 256 * 1024;
+
+// The end of the batch of lines that begins at a place.
+fn batch_end(from: usize, len: usize) -> usize
+    requires { from < len }
+    ensures { (from < result) × (result ≤ len) }
+{
+    if len - from < BATCH {
+        len
+    } else {
+        from + BATCH
+    }
+}
+
+// Puts lines in codes behind those of the table, in the memory that was taken; an error at the first that has none.
+fn push_all(table: &mut FactTable, codes: &[Result<Place, AllocError>]) -> Result<(), AllocError>
+    requires { length codes.now ≤ table.old.room }
+    ensures places { OnOk result ((dimensions : Dimensions) (before : List PlainFact) (lines : List LineFields)
+        → AreCodesOf dimensions before table.old.places → AreCoded dimensions lines codes.now
+        → AreCodesOf dimensions (before ++ facts_of lines) table.new.places) }
+    ensures room { OnOk result (table.old.room ≤ table.new.room + length codes.now) }
+{
+    for code in codes {
+        match code {
+            Ok(place) => table.push(*place),
+            Err(_) => return Err(AllocError),
+        }
+    }
+    Ok(())
+}
+
+/// A table of the lines, one behind another, coded by as many threads as there are processors.
+pub fn table_of(
+    rt: &(impl Threads + Sync),
+    alloc: Global,
+    index: &DimIndex,
+    lines: &[Line],
+) -> Result<FactTable, AllocError>
     ensures { IfOk result (λ table. AreCodesOf index.now.dimensions (facts_of lines.now) table.places) }
 {
     let mut table = FactTable::new(alloc);
     table.reserve(lines.len())?;
-    for line in lines {
-        table.push(coded(index, line)?);
+    let mut done = 0;
+    while done < lines.len() {
+        let end = batch_end(done, lines.len());
+        let codes = coded_lines(rt, alloc, index, &lines[done..end])?;
+        push_all(&mut table, codes.as_slice())?;
+        done = end;
     }
     Ok(table)
 }
@@ -40,8 +87,8 @@ fn end_of_order(lines: &[Line], first: usize) -> usize
     end
 }
 
-/// Has the spans cover each line at its own index.
-pub fn span_all(spans: &mut Spans, lines: &[Line]) -> Result<(), AllocError>
+// Has the spans cover each line at its own index.
+fn span_all(spans: &mut Spans, lines: &[Line]) -> Result<(), AllocError>
     requires { length lines.now < 2 ^ 32 }
     ensures { OnOk result ((i : ℕ) (line : LineFields) → i < length lines.now
         → Covers (get nat_eq spans.new (slice_index_or lines.now i line).order_key) i) }
@@ -63,8 +110,8 @@ pub fn span_all(spans: &mut Spans, lines: &[Line]) -> Result<(), AllocError>
     Ok(())
 }
 
-/// How many orders there are where the lines of each are adjacent.
-pub fn count_orders(lines: &[Line]) -> usize
+// How many orders there are where the lines of each are adjacent.
+fn count_orders(lines: &[Line]) -> usize
     ensures { result ≤ length lines.now }
 {
     let mut count = 0;
@@ -77,4 +124,16 @@ pub fn count_orders(lines: &[Line]) -> usize
         last = Some(key);
     }
     count
+}
+
+/// Spans that cover each line at its own index. Keys are hashed with `hashing`.
+pub fn spans_of(alloc: Global, hashing: RandomState, lines: &[Line]) -> Result<Spans, AllocError>
+    requires { length lines.now < 2 ^ 32 }
+    ensures { IfOk result (λ spans. (i : ℕ) (line : LineFields) → i < length lines.now
+        → Covers (get nat_eq spans (slice_index_or lines.now i line).order_key) i) }
+{
+    let mut spans = HashMap::with_hasher(alloc, hashing);
+    spans.reserve(count_orders(lines))?;
+    span_all(&mut spans, lines)?;
+    Ok(spans)
 }

@@ -7,6 +7,7 @@ use Rattle.ssb_schema.specs.declared.part.PartFields.{PartFields}
 use Rattle.ssb_schema.specs.declared.date.DateFields.{DateFields}
 use Rattle.ssb_base.specs.declared.limits.Limits.{Limits}
 use Rattle.ssb_schema.specs.declared.line.LineFields.{LineFields}
+use Rattle.ssb_schema.specs.Texts.{texts_of}
 use Rattle.ssb_schema.specs.declared.refresh.Action.{Action}
 use Rattle.ssb_schema.specs.declared.refresh.Action.TheVariants.{Add, Withdraw}
 use Rattle.ssb_base.specs.Base.{Tables}
@@ -83,8 +84,6 @@ line order_key number customer part supplier date quantity price discount revenu
   part_key = part;
   supplier_key = supplier;
   order_date = date;
-  order_priority = [];
-  ship_priority = [];
   quantity = quantity;
   extended_price = price;
   order_total_price = price;
@@ -93,7 +92,7 @@ line order_key number customer part supplier date quantity price discount revenu
   supply_cost = cost;
   tax = 0;
   commit_date = date;
-  ship_mode = [];
+  texts = texts_of [] [] [];
 }
 
 abbrev limits : Limits

@@ -21,8 +21,8 @@ use std::thread::Threads;
 use std::time::Clock;
 
 // The loaded lines in columns.
-fn columns_of<C: Clock>(
-    clock: &C,
+fn columns_of<R: Threads + Sync + Clock>(
+    rt: &R,
     alloc: Global,
     hashing: RandomState,
     base: Base,
@@ -34,9 +34,9 @@ fn columns_of<C: Clock>(
     base.soundness();
     let base = Arc::new(alloc, base)?;
     let index = index_of(alloc, &base)?;
-    watch.lap(clock, TimedStep::Index);
-    let columns = Columns::new(alloc, index, hashing)?;
-    watch.lap(clock, TimedStep::Columns);
+    watch.lap(rt, TimedStep::Index);
+    let columns = Columns::new(rt, alloc, index, hashing)?;
+    watch.lap(rt, TimedStep::Columns);
     Ok(columns)
 }
 

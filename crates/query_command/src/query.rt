@@ -16,11 +16,10 @@ use crate::asked::{ask, standard_questions};
 use crate::opening::opening_answers;
 use crate::stopwatch::{Stopwatch, TimedStep};
 use ssb_answers::Answer;
-use ssb_base::Limits;
-use ssb_files::Fault;
+use ssb_files::{Fault, base_of};
 use ssb_questions::Question;
 use ssb_report::{WriteFault, write_answer};
-use ssb_text::{Tables, load};
+use ssb_text::Tables;
 use std::hash::RandomState;
 use std::io::{Read, Write};
 use std::thread::Threads;
@@ -50,10 +49,7 @@ fn answers<R: Threads + Sync + Clock + AllocGlobal, I: Read + Drop>(
         → AreTexts I.remaining tables texts → AreRefused texts) }
     ensures later { IfErr result (λ fault. status_of fault ≢ 2) }
 {
-    let base = match load(rt.alloc(), Limits::standard(), tables) {
-        Ok(base) => base,
-        Err(fault) => return Err(Fault::Data(fault)),
-    };
+    let base = base_of(rt, rt.alloc(), tables)?;
     watch.lap(rt, TimedStep::Load);
     let answers = opening_answers(rt, rt.alloc(), hashing, base, questions, watch)?;
     Ok(answers)

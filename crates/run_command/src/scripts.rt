@@ -83,7 +83,7 @@ fn run_of<R: Threads + Sync + Wait + Clock + AllocGlobal, I: Read + Drop>(
     ensures words { IfErr result (λ fault. serving_status fault ≢ 2) }
     ensures trace { IfErr result (λ fault. serving_status fault ≢ 3) }
 {
-    let base = base_of(rt.alloc(), tables)?;
+    let base = base_of(rt, rt.alloc(), tables)?;
     let scripts = read_scripts(rt.alloc(), sources)?;
     pace.end_load(rt);
     let RunSettings {

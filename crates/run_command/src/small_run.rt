@@ -35,11 +35,11 @@ fn only<T: Drop>(mut list: Vec<T>) -> T
 }
 
 // The base of the small data set.
-fn small_base(alloc: Global) -> Result<Base, ServingFault>
+fn small_base(rt: &(impl Threads + Sync), alloc: Global) -> Result<Base, ServingFault>
     ensures base { IfOk result (λ base. IsLoaded small_texts base) }
     ensures data { IfErr result (λ fault. serving_status fault ≡ 1 → AreRefused small_texts) }
 {
-    let base = base_of(alloc, tables())?;
+    let base = base_of(rt, alloc, tables())?;
     Ok(base)
 }
 
@@ -71,7 +71,7 @@ fn small_report<R: Threads + Sync + Wait + Clock + AllocGlobal, I: Read + Drop>(
     ensures report { IfOk result (λ report. IsSmallReport (I.remaining input) report.items) }
     ensures script { IfErr result (λ fault. serving_status fault ≡ 1 → IsOfScript (I.remaining input)) }
 {
-    let base = small_base(rt.alloc())?;
+    let base = small_base(rt, rt.alloc())?;
     match read_script(rt.alloc(), input, MOST_RECORDS) {
         Ok(script) => report_over(rt, hashing, base, script),
         Err(fault) => Err(ServingFault::Program(Fault::Script(1, fault))),

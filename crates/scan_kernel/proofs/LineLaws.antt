@@ -7,6 +7,7 @@ use Rattle.std.proofs.Common.{
   List,
   [],
   ◌∷◌,
+  length,
   map,
   Bool,
   true,
@@ -20,21 +21,22 @@ use Rattle.std.proofs.Common.{
   arith,
 }
 use Rattle.std.specs.Prelude.{ℤ, pos, ◌+ℤ◌, ◌-ℤ◌, nat_eq, filter}
-use Rattle.std.specs.List.{fold, AllByRecursion}
+use Rattle.std.specs.List.{fold, AllByRecursion, sum_by}
 use Rattle.std.proofs.lemmas.Int.{ints}
 use Rattle.std.proofs.lemmas.List.{length-map}
+use Rattle.std.proofs.lemmas.List.Sums.{sum_by-cons}
 use Rattle.ssb_base.specs.Base.{Dimensions, Tables, IsSound, IsKnown}
 use Rattle.ssb_schema.specs.Facts.{facts_of}
 use Rattle.ssb_schema.specs.declared.fact.Fact.{Fact}
 use Rattle.ssb_schema.specs.declared.line.LineFields.{LineFields}
 use Rattle.ssb_questions.specs.declared.plan.Measure.{Measure}
-use Rattle.ssb_questions.specs.declared.plan.Measure.TheVariants.{PriceTimesDiscount, Revenue, Profit}
+use Rattle.ssb_questions.specs.declared.plan.Measure.TheVariants.{PriceTimesDiscount, Revenue, Profit, Quantity, Lines}
 use Rattle.ssb_questions.specs.declared.plan.Plan.{Plan}
 use Rattle.ssb_answers.specs.Combination.{Combination, combinations}
 use Rattle.ssb_answers.specs.Answer.{amount}
 use Rattle.scan_kernel.specs.Combined.{combine, passes_line}
 use Rattle.scan_kernel.specs.Dense.{numbered}
-use Rattle.scan_kernel.specs.Lines.{takes, price_times_discount, revenue, cost, AreOfLines}
+use Rattle.scan_kernel.specs.Lines.{takes, price_times_discount, revenue, cost, quantity, AreOfLines}
 use Rattle.scan_kernel.proofs.CombinedLaws.{combines_each_line, filter_mapped}
 
 pub filter_both : {X : Type 0} (p q : X → Bool) (xs : List X) → filter q (filter p xs) ≡ filter (λ x. p x && q x) xs
@@ -76,6 +78,10 @@ sum_of_differences up down plus minus (fact ∷ facts) =
     (next_difference plus minus (up fact) (down fact))
     ∙ sum_of_differences up down (plus + up fact) (minus + down fact) facts
 
+pub sum_ones : {A : Type 0} (xs : List A) → sum_by (λ (x : A). 1) xs ≡ length xs
+sum_ones [] = refl
+sum_ones {A} (x ∷ xs) = sum_by-cons (λ (y : A). 1) x xs ∙ ap (λ (n : ℕ). 1 + n) (sum_ones xs) ∙ omega arith
+
 of_lines : (blank : Combination) (dimensions : Dimensions) (facts : List Fact)
     → AreOfLines (map (combine blank dimensions) facts) facts
 of_lines blank dimensions facts = record {
@@ -84,6 +90,9 @@ of_lines blank dimensions facts = record {
       ∙ sum_of_amounts price_times_discount 0 facts;
   revenues = total_of_facts Revenue blank dimensions (pos 0) facts ∙ sum_of_amounts revenue 0 facts;
   profits = total_of_facts Profit blank dimensions (pos 0) facts ∙ sum_of_differences revenue cost 0 0 facts;
+  quantities = total_of_facts Quantity blank dimensions (pos 0) facts ∙ sum_of_amounts quantity 0 facts;
+  lines = total_of_facts Lines blank dimensions (pos 0) facts ∙ sum_of_amounts (λ fact. 1) 0 facts
+      ∙ ap pos (sum_ones facts);
 }
 
 pub groups_are_of_lines : (blank : Combination) (plan : Plan) (base : Tables) (lines : List LineFields)

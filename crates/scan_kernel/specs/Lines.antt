@@ -5,7 +5,7 @@ use Rattle.ssb_base.specs.Base.{Dimensions, Tables, IsSound, IsKnown}
 use Rattle.ssb_schema.specs.Facts.{facts_of}
 use Rattle.ssb_schema.specs.declared.fact.Fact.{Fact}
 use Rattle.ssb_schema.specs.declared.line.LineFields.{LineFields}
-use Rattle.ssb_questions.specs.declared.plan.Measure.TheVariants.{PriceTimesDiscount, Revenue, Profit}
+use Rattle.ssb_questions.specs.declared.plan.Measure.TheVariants.{PriceTimesDiscount, Revenue, Profit, Quantity, Lines}
 use Rattle.ssb_questions.specs.declared.plan.Plan.{Plan}
 use Rattle.ssb_answers.specs.Combination.{Combination, combinations}
 use Rattle.scan_kernel.specs.Combined.{combine, passes_line}
@@ -25,12 +25,17 @@ revenue fact = fact.revenue
 abbrev pub cost : Fact → ℕ
 cost fact = fact.cost
 
+abbrev pub quantity : Fact → ℕ
+quantity fact = fact.quantity
+
 -- these combinations are those of these lines: so many, with these sums
 pub record AreOfLines (found : List Combination) (facts : List Fact) : Type 0 where
   pub count : length found ≡ length facts
   pub discounts : total PriceTimesDiscount found ≡ pos (sum_by price_times_discount facts)
   pub revenues : total Revenue found ≡ pos (sum_by revenue facts)
   pub profits : total Profit found ≡ pos (sum_by revenue facts) -ℤ pos (sum_by cost facts)
+  pub quantities : total Quantity found ≡ pos (sum_by quantity facts)
+  pub lines : total Lines found ≡ pos (length facts)
 
 abbrev pub GroupsAreOfLines : Type 0
 GroupsAreOfLines =

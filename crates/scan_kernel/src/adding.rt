@@ -1,5 +1,5 @@
 //! The loops that add the places of a question to its groups.
-ghost use Rattle.std.specs.Prelude.{◌≡◌, ℕ, ◌<◌, ◌≤◌, ◌*◌, ◌%◌, ◌^◌, All, length, map, slice_index, vec_len};
+ghost use Rattle.std.specs.Prelude.{◌≡◌, ℕ, ◌<◌, ◌≤◌, ◌*◌, ◌/◌, ◌%◌, ◌^◌, All, length, map, slice_index, vec_len};
 ghost use Rattle.scan_kernel.specs.Places.{group_at, gain_at, loss_at, CanNumber};
 ghost use Rattle.scan_kernel.specs.Sums.{Adds, add_at};
 ghost use Rattle.scan_kernel.specs.Totals.{AddsPlaces};
@@ -71,6 +71,21 @@ fn add_discounts(places: &[u32], groups: &[u32], price: &[u32], terms: &[u16], s
     }
 }
 
+/// Adds to each group the quantities of its places.
+#[inline(never)]
+fn add_quantities(places: &[u32], groups: &[u32], terms: &[u16], sums: &mut [u64])
+    requires groups { length groups.now ≡ length places.now }
+    requires within { All (λ place. place < length terms.now) places.now }
+    requires room { All (λ group. group < length sums.old) groups.now }
+    ensures { (group : ℕ → ℕ) → groups.now ≡ map group places.now
+        → Adds (λ place. slice_index terms.now place / 16) group places.now sums.old sums.new }
+{
+    for at in 0..places.len() {
+        let amount = terms[places[at] as usize] / 16;
+        add(sums, groups[at] as usize, u64::from(amount));
+    }
+}
+
 /// Adds to each group what its places add to the measure.
 fn add_gains(
     lines: &LineColumns<'_>,
@@ -90,6 +105,8 @@ fn add_gains(
             add_discounts(places, groups, lines.price, lines.terms, gains);
         }
         Measure::Revenue | Measure::Profit => add_amounts(places, groups, lines.revenue, gains),
+        Measure::Quantity => add_quantities(places, groups, lines.terms, gains),
+        Measure::Lines => count_places(places, groups, gains),
     }
 }
 
@@ -111,6 +128,8 @@ fn add_losses(
         Measure::PriceTimesDiscount => {}
         Measure::Revenue => {}
         Measure::Profit => add_amounts(places, groups, lines.cost, losses),
+        Measure::Quantity => {}
+        Measure::Lines => {}
     }
 }
 

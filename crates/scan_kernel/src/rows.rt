@@ -16,7 +16,7 @@ use std::alloc::{AllocError, Global};
 pub fn group_of_number(
     alloc: Global,
     columns: &[Items<Value>],
-    number: usize,
+    number: u128,
 ) -> Result<Items<Value>, AllocError>
     requires below { number < size_of (counts_of columns.now) }
     ensures { IfOk result (λ group. group ≡ group_values columns.now number) }
@@ -25,8 +25,9 @@ pub fn group_of_number(
     let mut left = number;
     for at in 0..columns.len() {
         let values = columns[at].as_slice();
-        group.push(values[left % values.len()].clone()?)?;
-        left /= values.len();
+        let count = values.len() as u128;
+        group.push(values[(left % count) as usize].clone()?)?;
+        left /= count;
     }
     Ok(Items::from_vec(group))
 }
@@ -67,7 +68,7 @@ fn rows_by_number(
     let mut rows = Vec::new(alloc);
     for number in 0..counts.len() {
         if counts[number] > 0 {
-            let groups = group_of_number(alloc, columns, number)?;
+            let groups = group_of_number(alloc, columns, number as u128)?;
             rows.push(row(groups, sum_at(sums, number)))?;
         }
     }

@@ -14,7 +14,7 @@ use ssb_questions::Measure;
 use ssb_schema::Items;
 use std::alloc::{AllocError, Global};
 
-/// A column that lines are grouped by, where the numbers of groups need 64 bits.
+/// A column that lines are grouped by, where the numbers of groups may need more than 64 bits.
 #[derive(Clone, Copy)]
 pub struct SparseColumn<'a> {
     /// Where the line's row of the dimension stands, by place.
@@ -22,7 +22,7 @@ pub struct SparseColumn<'a> {
     /// The code of the row's value in the column, by position.
     pub codes: &'a [u32],
     /// What a code adds to the number of the line's group.
-    pub parts: &'a [u64],
+    pub parts: &'a [u128],
 }
 
 /// How many lines a group has, what they add to the measure and what they take away from it, each modulo 2^64.
@@ -34,7 +34,7 @@ pub struct GroupSums {
 }
 
 /// The sums of the groups that lines have, by number, in the order of first sight.
-pub type SparseTotals = IndexMap<u64, GroupSums>;
+pub type SparseTotals = IndexMap<u128, GroupSums>;
 
 /// The mask of a line's row.
 fn row_mask(masks: &Option<Items<u16>>, positions: &[u32], place: usize) -> u16
@@ -72,7 +72,7 @@ fn takes(lines: &LineColumns<'_>, masks: &Masks, number: usize, place: usize) ->
 }
 
 /// What a column adds to the number of the line's group.
-fn part_of(column: SparseColumn<'_>, place: usize) -> u64
+fn part_of(column: SparseColumn<'_>, place: usize) -> u128
     requires place { place < length column.positions.now }
     requires positions { All (λ position. position < length column.codes.now) column.positions.now }
     requires codes { All (λ code. code < length column.parts.now) column.codes.now }
@@ -81,13 +81,13 @@ fn part_of(column: SparseColumn<'_>, place: usize) -> u64
     column.parts[column.codes[column.positions[place] as usize] as usize]
 }
 
-/// The number of the line's group, modulo 2^64.
-fn group_of(columns: &[SparseColumn<'_>], place: usize, count: usize) -> u64
+/// The number of the line's group, modulo 2^128.
+fn group_of(columns: &[SparseColumn<'_>], place: usize, count: usize) -> u128
     requires place { place < count }
     requires columns { All (λ column. CanNumber count (as_group_column column)) columns.now }
-    ensures { result ≡ sum_by (wide_part_at place) columns.now % 2 ^ 64 }
+    ensures { result ≡ sum_by (wide_part_at place) columns.now % 2 ^ 128 }
 {
-    let mut number = 0u64;
+    let mut number = 0u128;
     for column in columns {
         number = number.wrapping_add(part_of(*column, place));
     }
@@ -104,6 +104,8 @@ fn gain_of(lines: &LineColumns<'_>, measure: Measure, place: usize) -> u64
             u64::from(lines.price[place]) * u64::from(lines.terms[place] % 16)
         }
         Measure::Revenue | Measure::Profit => u64::from(lines.revenue[place]),
+        Measure::Quantity => u64::from(lines.terms[place] / 16),
+        Measure::Lines => 1,
     }
 }
 
@@ -115,11 +117,12 @@ fn loss_of(lines: &LineColumns<'_>, measure: Measure, place: usize) -> u64
     match measure {
         Measure::PriceTimesDiscount | Measure::Revenue => 0,
         Measure::Profit => u64::from(lines.cost[place]),
+        Measure::Quantity | Measure::Lines => 0,
     }
 }
 
 /// The sums of a group, of which no line may have been seen.
-fn sums_of(totals: &SparseTotals, group: u64) -> GroupSums
+fn sums_of(totals: &SparseTotals, group: u128) -> GroupSums
     ensures { result ≡ sums_in totals.now group }
 {
     match totals.get(&group) {
@@ -133,7 +136,7 @@ fn sums_of(totals: &SparseTotals, group: u64) -> GroupSums
 }
 
 /// Adds a line to its group.
-fn add_line(totals: &mut SparseTotals, group: u64, gain: u64, loss: u64) -> Result<(), AllocError>
+fn add_line(totals: &mut SparseTotals, group: u128, gain: u64, loss: u64) -> Result<(), AllocError>
     ensures { OnOk result (AddsLine totals.old totals.new group gain loss) }
 {
     let sums = sums_of(totals, group);
@@ -156,7 +159,7 @@ pub fn sparse_totals(
     number: usize,
     measure: Measure,
     columns: &[SparseColumn<'_>],
-    size: u64,
+    size: u128,
 ) -> Result<SparseTotals, AllocError>
     requires few { number < 16 }
     requires covers { CanSearch lines.now masks.now }

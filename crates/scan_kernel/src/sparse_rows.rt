@@ -18,7 +18,7 @@ use std::alloc::{AllocError, Global};
 fn rows_of_numbers(
     alloc: Global,
     columns: &[Items<Value>],
-    numbers: &[u64],
+    numbers: &[u128],
     counts: &[u64],
     sums: &[i64],
 ) -> Result<Vec<ResultRow>, AllocError>
@@ -32,7 +32,7 @@ fn rows_of_numbers(
     let mut rows = Vec::new(alloc);
     for at in 0..numbers.len() {
         if counts[at] > 0 {
-            let groups = group_of_number(alloc, columns, numbers[at] as usize)?;
+            let groups = group_of_number(alloc, columns, numbers[at])?;
             rows.push(row(groups, sum_at(sums, at)))?;
         }
     }
@@ -44,7 +44,7 @@ fn sparse_answer(
     alloc: Global,
     plan: &Plan,
     columns: &[Items<Value>],
-    numbers: &[u64],
+    numbers: &[u128],
     counts: &[u64],
     sums: &[i64],
 ) -> Result<Vec<ResultRow>, AllocError>
@@ -74,7 +74,7 @@ pub fn answer_sparse(
     alloc: Global,
     question: &Question,
     columns: &[Items<Value>],
-    numbers: &[u64],
+    numbers: &[u128],
     counts: &[u64],
     sums: &[i64],
 ) -> Result<Vec<ResultRow>, AllocError>

@@ -9,7 +9,7 @@ use Rattle.ssb_questions.specs.declared.query.Query.{Query}
 use Rattle.ssb_questions.specs.declared.value.Value.{Value}
 use Rattle.ssb_answers.specs.declared.answer.Answer.{Answer}
 use Rattle.history.specs.Tokens.{TableRecord, TokenRecord}
-use Rattle.ssb_server.specs.Clients.{Refreshed, Looks, Asks, Polls}
+use Rattle.ssb_server.specs.Clients.{Refreshed, Looks, HandsBack, Asks, Polls}
 use Rattle.ssb_server.specs.Tickets.{IsOf}
 use Rattle.ssb_server.proofs.StayingLaws.{new_clients_are_quiet, new_dispatchers_are_of_it}
 
@@ -20,13 +20,17 @@ module _ (table : TableRecord) where
   pub looks_stays : (before after : TokenRecord) → IsOf table before → Looks before after → IsOf table after
   looks_stays before after here looks = ap (λ (t : TokenRecord). t.table) looks.now ∙ here
 
+  pub hands_back_stays : (before after : TokenRecord) → IsOf table before → HandsBack before after → IsOf table after
+  hands_back_stays before after here did = ap (λ (t : TokenRecord). t.table) did.now ∙ here
+
   pub refreshed_stays : (number : ℕ) (actions : List Action) (before after : TokenRecord)
       (result : Result Receipt RefreshError) → IsOf table before → Refreshed before number actions result after
       → IsOf table after
   refreshed_stays number actions before after (Ok receipt) here did = ap (λ (t : TokenRecord). t.table) did.now ∙ here
   refreshed_stays number actions before after (Err (refresh.Refused at action cause)) here did =
-      looks_stays before after here did.2
-  refreshed_stays number actions before after (Err refresh.OutOfMemory) here did = looks_stays before after here did.1
+      hands_back_stays before after here did.2
+  refreshed_stays number actions before after (Err refresh.OutOfMemory) here did =
+      hands_back_stays before after here did.1
 
   pub asks_stays : (before after : TokenRecord) (question : Query × List Value) → IsOf table before
       → Asks before question after → IsOf table after

@@ -59,7 +59,7 @@ use Rattle.shared_scan.specs.Summed.{AreSummed}
 use Rattle.shared_scan.specs.Laws.{AreLinesOf}
 use Rattle.shared_scan.specs.Grouped.{ArePrepared}
 use Rattle.shared_scan.specs.Batch.{IsReady, AreReady, plans_of, questions_of}
-use Rattle.shared_scan.specs.Groupings.{IsDenseGrouping, IsGroupingWith, AreReadyGroupings}
+use Rattle.shared_scan.specs.Groupings.{HasParts, IsDenseGrouping, IsGroupingWith, AreReadyGroupings}
 use Rattle.shared_scan.specs.TotalRows.{FitsWith, CanAnswerAll, AreRowsWith, AreBatchRows}
 use Rattle.shared_scan.specs.declared.ready.Ready.{Ready}
 use Rattle.shared_scan.proofs.EachLaws.{item_of}
@@ -111,13 +111,16 @@ module _ (base : Tables) (masks : Masks) (all : List Ready) (ready : AreReady ba
   pub ready_at : (k : ℕ) (r : Ready) → k < length all → IsReady base masks k (get_or all k r).question (get_or all k r)
   ready_at k r below = ready k (get_or all k r).question r (question_at k r below)
 
-  -- each question has as many parts as group columns
-  pub parts_all : All (λ ready. length (parts_in ready.groups.parts) ≡ length ready.plan.groups) all
+  -- each question has the parts of its group columns
+  pub parts_all : All HasParts all
   parts_all k r below =
       let one = ready_at k r below in
       let this = get_or all k r in
-      (prepared_lengths base masks k this.plan.groups this.groups.columns.items 1 (parts_in this.groups.parts)
-      one.prepared).1
+      record {
+        one_each = (prepared_lengths base masks k this.plan.groups this.groups.columns.items 1
+            (parts_in this.groups.parts) one.prepared).1;
+        few = one.few;
+      }
 
 module _ (base : Tables) (places : List Place) (lines : LineColumns) (masks : Masks) (all : List Ready)
     (groupings : List Grouping)

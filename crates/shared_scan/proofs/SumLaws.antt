@@ -30,9 +30,10 @@ use Rattle.std.proofs.lemmas.List.Elements.{All-from_get_or}
 use Rattle.std.proofs.lemmas.List.Sums.{sum_by-cons, sum_by-le}
 use Rattle.ssb_schema.specs.declared.fact.Fact.{Fact}
 use Rattle.ssb_questions.specs.declared.plan.Measure.{Measure}
-use Rattle.ssb_questions.specs.declared.plan.Measure.TheVariants.{PriceTimesDiscount, Revenue, Profit}
-use Rattle.scan_kernel.specs.Lines.{price_times_discount, revenue, cost}
+use Rattle.ssb_questions.specs.declared.plan.Measure.TheVariants.{PriceTimesDiscount, Revenue, Profit, Quantity, Lines}
+use Rattle.scan_kernel.specs.Lines.{price_times_discount, revenue, cost, quantity}
 use Rattle.scan_kernel.specs.Scan.{line_sum}
+use Rattle.scan_kernel.proofs.LineLaws.{sum_ones}
 
 -- a list is what it has at each index
 pub at_each : {A : Type 0} (xs : List A) (d : A) (a : ℕ) (ys : List A)
@@ -59,20 +60,20 @@ sum_mapped f g h same [] = refl
 sum_mapped f g h same (x ∷ xs) = sum_by-cons f (g x) (map g xs) ∙ (λ j. sym (same x) j + sum_mapped f g h same xs j)
     ∙ sym (sum_by-cons h x xs)
 
-pub count_ones : (xs : List ℕ) → sum_by (λ (i : ℕ). 1) xs ≡ length xs
-count_ones [] = refl
-count_ones (x ∷ xs) = sum_by-cons (λ (i : ℕ). 1) x xs ∙ ap (λ (n : ℕ). 1 + n) (count_ones xs) ∙ omega arith
-
 -- what a fact adds to the measure, and takes away
 abbrev pub gain_of : Measure → Fact → ℕ
-gain_of PriceTimesDiscount = price_times_discount
-gain_of Revenue = revenue
-gain_of Profit = revenue
+gain_of PriceTimesDiscount fact = price_times_discount fact
+gain_of Revenue fact = revenue fact
+gain_of Profit fact = revenue fact
+gain_of Quantity fact = quantity fact
+gain_of Lines fact = 1
 
 abbrev pub loss_of : Measure → Fact → ℕ
 loss_of PriceTimesDiscount fact = 0
 loss_of Revenue fact = 0
 loss_of Profit fact = cost fact
+loss_of Quantity fact = 0
+loss_of Lines fact = 0
 
 no_loss : (facts : List Fact) → sum_by (λ (fact : Fact). 0) facts ≡ 0
 no_loss [] = refl
@@ -86,6 +87,8 @@ pub line_sum_is : (measure : Measure) (facts : List Fact)
 line_sum_is PriceTimesDiscount facts = minus_none _ _ (no_loss facts)
 line_sum_is Revenue facts = minus_none _ _ (no_loss facts)
 line_sum_is Profit facts = refl
+line_sum_is Quantity facts = minus_none _ _ (no_loss facts)
+line_sum_is Lines facts = minus_none _ _ (no_loss facts) ∙ ap pos (sum_ones facts)
 
 -- below 2^64 the sums are exact
 pub exact : (sum total : ℕ) → sum % 2 ^ 64 ≡ total % 2 ^ 64 → sum < 2 ^ 64 → total < 2 ^ 64 → sum ≡ total

@@ -1,5 +1,5 @@
 -- Rows that are right for the totals over all places are the answer over the live lines.
-use Rattle.std.proofs.Common.{ℕ, zero, suc, ◌≡◌, ◌*◌, ◌%◌, ◌^◌, ◌<◌, ◌≤◌, ◌&&◌, List, [], length, map, get_or, replicate, Bool, true, false, cond, not, Some, refl, sym, ap, ◌∙◌, arith, subst, zero-add, ◌+◌}
+use Rattle.std.proofs.Common.{ℕ, zero, suc, ◌≡◌, ◌*◌, ◌/◌, ◌%◌, ◌^◌, ◌<◌, ◌≤◌, ◌&&◌, List, [], length, map, get_or, replicate, Bool, true, false, cond, not, Some, refl, sym, ap, ◌∙◌, arith, subst, zero-add, ◌+◌}
 use Rattle.std.specs.Prelude.{pos, ◌-ℤ◌, nat_eq, nat_lt, slice_get, filter}
 use Rattle.std.specs.List.{All, AllByRecursion, range_with_len, sum_by}
 use Rattle.std.specs.Int.{bit_at}
@@ -17,7 +17,7 @@ use Rattle.ssb_schema.specs.declared.fact.Fact.{Fact}
 use Rattle.ssb_schema.specs.declared.line.LineFields.{LineFields}
 use Rattle.ssb_questions.specs.Members.{Has}
 use Rattle.ssb_questions.specs.declared.plan.Measure.{Measure}
-use Rattle.ssb_questions.specs.declared.plan.Measure.TheVariants.{PriceTimesDiscount, Revenue, Profit}
+use Rattle.ssb_questions.specs.declared.plan.Measure.TheVariants.{PriceTimesDiscount, Revenue, Profit, Quantity, Lines}
 use Rattle.ssb_questions.specs.declared.plan.Plan.{Plan}
 use Rattle.ssb_questions.specs.declared.query.Query.{Query}
 use Rattle.ssb_questions.specs.declared.value.Value.{Value}
@@ -43,7 +43,7 @@ use Rattle.scan_kernel.specs.Lines.{takes}
 use Rattle.scan_kernel.specs.Scan.{AnswersLines, line_sum}
 use Rattle.scan_kernel.proofs.CombinedLaws.{filter_mapped, combines_each_line}
 use Rattle.scan_kernel.proofs.DenseLaws.{has_from_filter, filter_agree_on, range_has}
-use Rattle.scan_kernel.proofs.LineLaws.{filter_both}
+use Rattle.scan_kernel.proofs.LineLaws.{filter_both, sum_ones}
 use Rattle.fact_columns.proofs.FactCountLaws.{line_of, facts_of_lines}
 use Rattle.shared_scan.specs.Prepared.{AreMasksOf, IsGroupingBy}
 use Rattle.shared_scan.specs.Summed.{IsSummed, AreSummed}
@@ -55,7 +55,6 @@ use Rattle.shared_scan.proofs.SumLaws.{
   list_at,
   map_twice,
   sum_mapped,
-  count_ones,
   gain_of,
   loss_of,
   line_sum_is,
@@ -139,6 +138,11 @@ gain_is dimensions places lines Revenue i are = ap (λ (xs : List ℕ). get_or x
     ∙ get_or-map (λ (p : Place). p.revenue) places i nowhere
 gain_is dimensions places lines Profit i are = ap (λ (xs : List ℕ). get_or xs i 0) are.revenues_are
     ∙ get_or-map (λ (p : Place). p.revenue) places i nowhere
+gain_is dimensions places lines Quantity i are =
+    let terms = ap (λ (xs : List ℕ). get_or xs i 0) are.terms_are
+    ∙ get_or-map (λ (p : Place). p.terms) places i nowhere in
+    λ j. terms j / 16
+gain_is dimensions places lines Lines i are = refl
 
 loss_is : (dimensions : Dimensions) (places : List Place) (lines : LineColumns) (measure : Measure) (i : ℕ)
     → AreLinesOf places lines → loss_at lines measure i ≡ loss_of measure (fact_at dimensions (get_or places i nowhere))
@@ -146,9 +150,12 @@ loss_is dimensions places lines PriceTimesDiscount i are = refl
 loss_is dimensions places lines Revenue i are = refl
 loss_is dimensions places lines Profit i are = ap (λ (xs : List ℕ). get_or xs i 0) are.costs_are
     ∙ get_or-map (λ (p : Place). p.cost) places i nowhere
+loss_is dimensions places lines Quantity i are = refl
+loss_is dimensions places lines Lines i are = refl
 
 -- the numbers of a place, and of none, are those of lines
 record AreSmall (place : Place) : Type 0 where
+  quantity : quantity_in place.terms ≤ 50
   price : place.price < 2 ^ 32
   revenue : place.revenue < 2 ^ 32
   cost : place.cost < 2 ^ 32
@@ -158,9 +165,9 @@ small_at : (dimensions : Dimensions) (places : List Place) (i : ℕ) → All (Is
 small_at dimensions places i within =
     elim (nat_lt i (length places)) as (λ b. nat_lt i (length places) ≡ b → AreSmall (get_or places i nowhere)) [
       | true ↦ λ e. let one = within i nowhere (ltb-true i (length places) e) in
-          record { price = one.price; revenue = one.revenue; cost = one.cost }
+          record { quantity = one.quantity; price = one.price; revenue = one.revenue; cost = one.cost }
       | false ↦ λ e. subst AreSmall (sym (get_or_past places i nowhere (ltb-false i (length places) e)))
-          (record { price = omega arith; revenue = omega arith; cost = omega arith })
+          (record { quantity = omega arith; price = omega arith; revenue = omega arith; cost = omega arith })
     ] refl
 
 gain_small : (dimensions : Dimensions) (places : List Place) (measure : Measure) (i : ℕ)
@@ -173,12 +180,16 @@ gain_small dimensions places PriceTimesDiscount i within =
     omega (arith, mul-le-mul price rest)
 gain_small dimensions places Revenue i within = omega (arith, (small_at dimensions places i within).revenue)
 gain_small dimensions places Profit i within = omega (arith, (small_at dimensions places i within).revenue)
+gain_small dimensions places Quantity i within = omega (arith, (small_at dimensions places i within).quantity)
+gain_small dimensions places Lines i within = omega arith
 
 loss_small : (dimensions : Dimensions) (places : List Place) (measure : Measure) (i : ℕ)
     → All (IsWithin dimensions) places → loss_of measure (fact_at dimensions (get_or places i nowhere)) ≤ 2 ^ 36
 loss_small dimensions places PriceTimesDiscount i within = omega arith
 loss_small dimensions places Revenue i within = omega arith
 loss_small dimensions places Profit i within = omega (arith, (small_at dimensions places i within).cost)
+loss_small dimensions places Quantity i within = omega arith
+loss_small dimensions places Lines i within = omega arith
 
 known_at : (dimensions : Dimensions) (place : Place) → IsWithin dimensions place
     → IsKnown dimensions (line_of (fact_at dimensions place))
@@ -333,7 +344,7 @@ module _ (base : Tables) (question : Query × List Value) (plans : List Plan) (k
           exact (count g) (sum_by (λ (i : ℕ). 1) (of_group g)) (summed.counts.each g (in_size g below))
           (summed.counts.fits g)
           (bounded (λ (i : ℕ). 1) 1 33554432 (2 ^ 64) (of_group g) (λ i. omega arith) (some_of_all g) (omega arith))
-          ∙ count_ones (of_group g) ∙ sym (length-map (of_group g) fact) ∙ ap length (sym (taken_is g))
+          ∙ sum_ones (of_group g) ∙ sym (length-map (of_group g) fact) ∙ ap length (sym (taken_is g))
 
       pub gains_are : (g : ℕ) → g < size_of (counts_of columns)
           → gain g ≡ sum_by (gain_of plan.measure) (filter (takes_fact g) (live_facts d places))

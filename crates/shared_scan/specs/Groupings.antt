@@ -7,6 +7,12 @@ use Rattle.shared_scan.specs.GroupColumns.{AreGroupColumns}
 use Rattle.shared_scan.specs.declared.ready.Ready.{Ready}
 use Rattle.shared_scan.specs.declared.parts.Parts.{Parts}
 use Rattle.shared_scan.specs.declared.parts.Parts.TheVariants.{Narrow, Wide}
+use Rattle.shared_scan.specs.Parts.{parts_in, IsFew}
+
+-- there is a part for each group column, and where a number is kept for each group, there are few
+pub record HasParts (ready : Ready) : Type 0 where
+  pub one_each : length (parts_in ready.groups.parts) ≡ length ready.plan.groups
+  pub few : IsFew ready.groups.parts ready.groups.size
 
 -- the question's measure, its group columns and the number of its groups
 pub record IsDenseGrouping (base : Tables) (lines : LineColumns) (ready : Ready) (parts : List (List ℕ))

@@ -28,20 +28,20 @@ fn values_at(
 }
 
 /// A number times the step; where a code has no number, no row reads what it adds.
-fn part(number: u32, step: u64) -> u64
-    ensures { number ≢ 4294967295 → number * step < 2 ^ 64 → result ≡ number * step }
+fn part(number: u32, step: u128) -> u128
+    ensures { number ≢ 4294967295 → number * step < 2 ^ 128 → result ≡ number * step }
 {
     if number == NONE {
         return 0;
     }
-    u64::from(number).wrapping_mul(step)
+    u128::from(number).wrapping_mul(step)
 }
 
 /// Makes parts of numbers below a count: each times the step.
-fn parts_of(alloc: Global, numbers: &[u32], count: u32, step: u64) -> Result<Vec<u64>, AllocError>
+fn parts_of(alloc: Global, numbers: &[u32], count: u32, step: u128) -> Result<Vec<u128>, AllocError>
     requires below { (code : ℕ) → code < length numbers.now → slice_index numbers.now code ≢ 4294967295
         → slice_index numbers.now code < count }
-    requires fits { count * step < 2 ^ 64 }
+    requires fits { count * step < 2 ^ 128 }
     ensures len { IfOk result (λ parts. length parts.items ≡ length numbers.now) }
     ensures each { IfOk result (λ parts. (code : ℕ) → code < length numbers.now
         → slice_index numbers.now code ≢ 4294967295 → slice_index parts.items code ≡ slice_index numbers.now code *
@@ -60,7 +60,7 @@ fn parts_of(alloc: Global, numbers: &[u32], count: u32, step: u64) -> Result<Vec
 pub struct GroupPart {
     pub column: Column,
     pub values: Items<Value>,
-    pub parts: Vec<u64>,
+    pub parts: Vec<u128>,
 }
 
 /// Makes a group column ready for a question, where numbers of groups so far are below the step.
@@ -70,11 +70,11 @@ pub fn prepare(
     column: Column,
     masks: &Option<Items<u16>>,
     question: usize,
-    step: u64,
+    step: u128,
 ) -> Result<GroupPart, AllocError>
     requires question { question < 16 }
     requires few { length (values_of index.now column) ≤ 1048576 }
-    requires step { step ≤ 2 ^ 40 }
+    requires step { step ≤ 2 ^ 60 }
     requires masks { (p : ℕ) → p < length (values_of index.now column) → HasMasks masks.now p }
     ensures column { IfOk result (λ part. part.column ≡ column) }
     ensures prepared { IfOk result (λ part. IsPreparedColumn (values_of index.now column) masks.now question step

@@ -1,10 +1,9 @@
 //! The grouping of a question, as the loops read it.
-ghost use Rattle.std.specs.Prelude.{◌≡◌, All, IfOk, length};
+ghost use Rattle.std.specs.Prelude.{◌≡◌, ◌≤◌, ◌^◌, All, IfOk, length};
 ghost use Rattle.dimension_index.specs.Codes.{codes_of};
 ghost use Rattle.dimension_index.specs.Values.{values_of};
 ghost use Rattle.shared_scan.specs.GroupColumns.{AreGroupColumns, IsGroupColumn};
-ghost use Rattle.shared_scan.specs.Groupings.{IsDenseGrouping, IsReadyGrouping, AreReadyGroupings};
-ghost use Rattle.shared_scan.specs.Parts.{parts_in};
+ghost use Rattle.shared_scan.specs.Groupings.{HasParts, IsDenseGrouping, IsReadyGrouping, AreReadyGroupings};
 ghost use Rattle.shared_scan.specs.Prepared.{positions_in};
 
 use crate::parts::Parts;
@@ -69,7 +68,8 @@ fn dense_grouping<'a>(
     ready: &'a Ready,
     parts: &'a [Items<u32>],
 ) -> Result<Grouping<'a>, AllocError>
-    requires { length parts.now ≡ length ready.now.plan.groups }
+    requires one_each { length parts.now ≡ length ready.now.plan.groups }
+    requires few { ready.now.groups.size ≤ 2 ^ 32 }
     ensures { IfOk result (IsDenseGrouping index.now lines.now ready.now parts.now) }
 {
     let columns = group_columns(alloc, index, lines, ready.plan.groups.as_slice(), parts)?;
@@ -87,7 +87,7 @@ fn grouping<'a>(
     lines: &LineColumns<'a>,
     ready: &'a Ready,
 ) -> Result<Grouping<'a>, AllocError>
-    requires { length (parts_in ready.now.groups.parts) ≡ length ready.now.plan.groups }
+    requires { HasParts ready.now }
     ensures { IfOk result (IsReadyGrouping index.now lines.now ready.now) }
 {
     match &ready.groups.parts {
@@ -107,7 +107,7 @@ pub fn groupings<'a>(
     lines: &LineColumns<'a>,
     all: &'a [Ready],
 ) -> Result<Vec<Grouping<'a>>, AllocError>
-    requires { All (λ ready. length (parts_in ready.groups.parts) ≡ length ready.plan.groups) all.now }
+    requires { All HasParts all.now }
     ensures { IfOk result (λ groupings. AreReadyGroupings index.now lines.now all.now groupings.items) }
 {
     let mut groupings = Vec::with_capacity(alloc, all.len())?;

@@ -21,7 +21,7 @@ use std::alloc::{AllocError, Global};
 pub struct Groups {
     pub columns: Vec<Items<Value>>,
     pub parts: Parts,
-    pub size: u64,
+    pub size: u128,
 }
 
 /// The masks of a dimension; no question looks at rows of the fact table, and any masks will do.
@@ -46,7 +46,7 @@ pub fn prepare_groups(
     question: usize,
 ) -> Result<Groups, AllocError>
     requires question { question < 16 }
-    requires three { length columns.now ≤ 3 }
+    requires four { length columns.now ≤ 4 }
     requires few { (column : GroupedBy) → length (values_of index.now column) ≤ 1048576 }
     requires masks { HaveMasks index.now masks.now }
     ensures prepared { IfOk result (λ groups. ArePrepared index.now masks.now question columns.now groups.columns.items
@@ -56,11 +56,11 @@ pub fn prepare_groups(
 {
     let mut values = Vec::new(alloc);
     let mut parts = Vec::new(alloc);
-    let mut size = 1u64;
+    let mut size = 1u128;
     for column in columns {
         let of_table = masks_of(masks, column.table);
         let made = prepare(alloc, index, *column, of_table, question, size)?;
-        size = made.values.len() as u64 * size;
+        size = made.values.len() as u128 * size;
         values.push(made.values)?;
         parts.push(Items::from_vec(made.parts))?;
     }

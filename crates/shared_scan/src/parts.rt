@@ -7,20 +7,20 @@ use std::alloc::{AllocError, Global};
 
 /// How many groups a question may have and still be summed up with a number for each of them. The totals of a batch of
 /// sixteen such questions, in sixteen parts, then take 428 MB at most.
-const MOST_DENSE: u64 = 65_536;
+const MOST_DENSE: u128 = 65_536;
 
 /// By group column, what each code adds to the number of a group: in 32 bits where a number is kept for each group, and
-/// in 64 where only the groups that lines have are kept.
+/// in 128 where only the groups that lines have are kept.
 #[derive(Drop)]
 pub enum Parts {
     /// For a number for each group.
     Narrow(Vec<Items<u32>>),
     /// For the groups that lines have alone.
-    Wide(Vec<Items<u64>>),
+    Wide(Vec<Items<u128>>),
 }
 
 /// The same numbers in 32 bits, if they fit.
-fn narrow(alloc: Global, part: &[u64]) -> Result<Option<Items<u32>>, AllocError>
+fn narrow(alloc: Global, part: &[u128]) -> Result<Option<Items<u32>>, AllocError>
     ensures { IfOk result (λ made. IfSome made (λ same. same ≡ part.now)) }
 {
     let mut same = Vec::with_capacity(alloc, part.len())?;
@@ -34,7 +34,7 @@ fn narrow(alloc: Global, part: &[u64]) -> Result<Option<Items<u32>>, AllocError>
 }
 
 /// The same parts in 32 bits, if they fit.
-fn narrow_all(alloc: Global, parts: &[Items<u64>]) -> Result<Option<Vec<Items<u32>>>, AllocError>
+fn narrow_all(alloc: Global, parts: &[Items<u128>]) -> Result<Option<Vec<Items<u32>>>, AllocError>
     ensures { IfOk result (λ made. IfSome made (λ same. same.items ≡ parts.now)) }
 {
     let mut same = Vec::with_capacity(alloc, parts.len())?;
@@ -48,7 +48,7 @@ fn narrow_all(alloc: Global, parts: &[Items<u64>]) -> Result<Option<Vec<Items<u3
 }
 
 /// The parts, in 32 bits where there are few groups.
-pub fn parts_for(alloc: Global, parts: Vec<Items<u64>>, size: u64) -> Result<Parts, AllocError>
+pub fn parts_for(alloc: Global, parts: Vec<Items<u128>>, size: u128) -> Result<Parts, AllocError>
     ensures parts { IfOk result (λ made. parts_in made ≡ parts.items) }
     ensures few { IfOk result (λ made. IsFew made size) }
 {

@@ -25,7 +25,7 @@ fn sparse_column<'a>(
     index: &'a FirstRows,
     lines: &LineColumns<'a>,
     column: Column,
-    parts: &'a Items<u64>,
+    parts: &'a Items<u128>,
 ) -> SparseColumn<'a>
     ensures { IsGroupColumn index.now lines.now column parts.now (as_group_column result) }
 {
@@ -42,7 +42,7 @@ fn sparse_columns<'a>(
     index: &'a FirstRows,
     lines: &LineColumns<'a>,
     columns: &[Column],
-    parts: &'a [Items<u64>],
+    parts: &'a [Items<u128>],
 ) -> Result<Vec<SparseColumn<'a>>, AllocError>
     requires { length parts.now ≡ length columns.now }
     ensures { IfOk result (λ groups. AreGroupColumns index.now lines.now columns.now parts.now
@@ -58,7 +58,7 @@ fn sparse_columns<'a>(
 /// The groups that have lines: their numbers, how many lines, and what these sum up to.
 #[derive(Drop)]
 struct Listed {
-    numbers: Vec<u64>,
+    numbers: Vec<u128>,
     counts: Vec<u64>,
     sums: Vec<i64>,
 }
@@ -95,7 +95,7 @@ pub fn sparse_rows(
     lines: &LineColumns<'_>,
     masks: &Masks,
     ready: &Ready,
-    parts: &[Items<u64>],
+    parts: &[Items<u128>],
     number: usize,
 ) -> Result<Vec<ResultRow>, AllocError>
     requires few { number < 16 }

@@ -4,7 +4,7 @@
 //! The one contract, of [`tables`]: it reads the texts that stand, byte by byte, in `specs/SmallTexts.antt`.
 //!
 //! ```text
-//! let base = load(alloc, Limits::standard(), tables())?;
+//! let base = load(rt, alloc, Limits::standard(), 64, tables())?;
 //! ```
 #![tactic(auto)]
 

@@ -9,7 +9,7 @@ use Rattle.std.proofs.lemmas.List.Sums.{sum_by-cons, sum_by-le}
 use Rattle.ssb_schema.specs.Facts.{IsFactWithinLimits}
 use Rattle.ssb_schema.specs.declared.fact.Fact.{Fact}
 use Rattle.ssb_questions.specs.declared.plan.Measure.{Measure}
-use Rattle.ssb_questions.specs.declared.plan.Measure.TheVariants.{PriceTimesDiscount, Revenue, Profit}
+use Rattle.ssb_questions.specs.declared.plan.Measure.TheVariants.{PriceTimesDiscount, Revenue, Profit, Quantity, Lines}
 use Rattle.ssb_answers.specs.Answer.{amount}
 use Rattle.ssb_answers.specs.Sums.{gain, loss, total, SumFits}
 use Rattle.ssb_answers.specs.Totals.{most}
@@ -18,6 +18,8 @@ amount_is : (measure : Measure) (fact : Fact) → amount measure fact ≡ pos (g
 amount_is PriceTimesDiscount fact = omega (arith, ints)
 amount_is Revenue fact = omega (arith, ints)
 amount_is Profit fact = refl
+amount_is Quantity fact = omega (arith, ints)
+amount_is Lines fact = omega (arith, ints)
 
 added : (a b g l : ℕ) (m : ℤ) → m ≡ pos g -ℤ pos l → (pos a -ℤ pos b) +ℤ m ≡ pos (a + g) -ℤ pos (b + l)
 added a b g l m e = omega (arith, ints, e)
@@ -55,11 +57,15 @@ gain_most PriceTimesDiscount fact h = product fact.price fact.discount h.price h
     product price discount p d = grind (arith, p, d)
 gain_most Revenue fact h = omega (arith, h.revenue)
 gain_most Profit fact h = omega (arith, h.revenue)
+gain_most Quantity fact h = omega (arith, h.quantity.1)
+gain_most Lines fact h = omega arith
 
 loss_most : (measure : Measure) (fact : Fact) → IsFactWithinLimits fact → loss measure fact ≤ most
 loss_most PriceTimesDiscount fact h = omega arith
 loss_most Revenue fact h = omega arith
 loss_most Profit fact h = omega (arith, h.cost)
+loss_most Quantity fact h = omega arith
+loss_most Lines fact h = omega arith
 
 few_sum : (g : Fact → ℕ) (facts : List Fact) → length facts ≤ 33554432 → All (λ fact. g fact ≤ most) facts
     → sum_by g facts < 2 ^ 63

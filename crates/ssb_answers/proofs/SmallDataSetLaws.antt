@@ -12,7 +12,10 @@ use Rattle.ssb_questions.specs.declared.query.Query.TheVariants.{Q4_1, Q4_2, Q4_
 use Rattle.ssb_base.specs.Base.{Dimensions}
 use Rattle.ssb_schema.specs.declared.fact.Fact.{Fact}
 use Rattle.ssb_answers.specs.Answer.{answer}
-use Rattle.ssb_questions.specs.Queries.{plan_of, plan_over}
+use Rattle.ssb_schema.specs.Columns.{C_REGION, S_NATION, P_MFGR, D_YEAR}
+use Rattle.ssb_questions.specs.declared.plan.Measure.TheVariants.{Quantity, Lines}
+use Rattle.ssb_questions.specs.declared.plan.OrderKey.TheVariants.{Group, SumDescending}
+use Rattle.ssb_questions.specs.Queries.{plan_of, plan_over, over_all_lines}
 
 -- rows of the dimensions by the columns that queries read
 abbrev customer : ℕ → List ℕ → List ℕ → List ℕ → CustomerFields
@@ -261,3 +264,35 @@ q3_1-ties : answer (plan_of Q3_1)
     ∷ record { groups = Text (codes "CHINA") ∷ Text (codes "JAPAN") ∷ Number 1993 ∷ []; sum = Some (pos 2950) }
     ∷ record { groups = Text (codes "INDIA") ∷ Text (codes "JAPAN") ∷ Number 1993 ∷ []; sum = Some (pos 2950) } ∷ []
 q3_1-ties = refl
+
+-- how many lines each region's customers have, from the most down
+lines_by_region : answer (over_all_lines Lines (C_REGION ∷ []) (SumDescending ∷ Group 0 ∷ [])) dimensions facts
+    ≡ record { groups = Text (codes "ASIA") ∷ []; sum = Some (pos 2) }
+    ∷ record { groups = Text (codes "AMERICA") ∷ []; sum = Some (pos 1) }
+    ∷ record { groups = Text (codes "EUROPE") ∷ []; sum = Some (pos 1) } ∷ []
+lines_by_region = refl
+
+lines-all : answer (over_all_lines Lines [] []) dimensions facts ≡ record { groups = []; sum = Some (pos 4) } ∷ []
+lines-all = refl
+
+lines-nothing : answer (over_all_lines Lines [] []) dimensions [] ≡ record { groups = []; sum = None } ∷ []
+lines-nothing = refl
+
+-- quantities by four columns
+quantities_by_four :
+    answer
+    (over_all_lines Quantity (D_YEAR ∷ C_REGION ∷ S_NATION ∷ P_MFGR ∷ [])
+    (Group 0 ∷ Group 1 ∷ Group 2 ∷ Group 3 ∷ [])) dimensions facts
+    ≡ record {
+      groups = Number 1993 ∷ Text (codes "ASIA") ∷ Text (codes "JAPAN") ∷ Text (codes "MFGR#2") ∷ [];
+      sum = Some (pos 49);
+    }
+    ∷ record {
+      groups = Number 1997 ∷ Text (codes "AMERICA") ∷ Text (codes "UNITED STATES") ∷ Text (codes "MFGR#1") ∷ [];
+      sum = Some (pos 30);
+    }
+    ∷ record {
+      groups = Number 1997 ∷ Text (codes "EUROPE") ∷ Text (codes "UNITED KINGDOM") ∷ Text (codes "MFGR#1") ∷ [];
+      sum = Some (pos 10);
+    } ∷ []
+quantities_by_four = refl

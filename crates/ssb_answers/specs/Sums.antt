@@ -5,7 +5,7 @@ use Rattle.std.specs.Int.{w64}
 use Rattle.ssb_schema.specs.Facts.{IsFactWithinLimits}
 use Rattle.ssb_schema.specs.declared.fact.Fact.{Fact}
 use Rattle.ssb_questions.specs.declared.plan.Measure.{Measure}
-use Rattle.ssb_questions.specs.declared.plan.Measure.TheVariants.{PriceTimesDiscount, Revenue, Profit}
+use Rattle.ssb_questions.specs.declared.plan.Measure.TheVariants.{PriceTimesDiscount, Revenue, Profit, Quantity, Lines}
 use Rattle.ssb_answers.specs.Answer.{amount}
 
 -- an amount is a gain less a loss
@@ -13,11 +13,15 @@ abbrev pub gain : Measure → Fact → ℕ
 gain PriceTimesDiscount fact = fact.price * fact.discount
 gain Revenue fact = fact.revenue
 gain Profit fact = fact.revenue
+gain Quantity fact = fact.quantity
+gain Lines fact = 1
 
 abbrev pub loss : Measure → Fact → ℕ
 loss PriceTimesDiscount fact = 0
 loss Revenue fact = 0
 loss Profit fact = fact.cost
+loss Quantity fact = 0
+loss Lines fact = 0
 
 -- the sum of a measure over facts
 abbrev pub total : Measure → List Fact → ℤ

@@ -37,6 +37,8 @@ fn amount(measure: Measure, fact: Fact) -> i64
         Measure::PriceTimesDiscount => price_times_discount(fact.price, fact.discount),
         Measure::Revenue => i64::from(fact.revenue),
         Measure::Profit => i64::from(fact.revenue) - i64::from(fact.cost),
+        Measure::Quantity => i64::from(fact.quantity),
+        Measure::Lines => 1,
     }
 }
 

@@ -132,7 +132,7 @@ pub(crate) fn first_wrong<R: Threads + Sync>(
 {
     let visits = visits_of(alloc, answers)?;
     let index = index_of(alloc, base)?;
-    let mut columns = Columns::new(alloc, index, hashing)?;
+    let mut columns = Columns::new(rt, alloc, index, hashing)?;
     walk(
         rt,
         alloc,

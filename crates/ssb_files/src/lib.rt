@@ -18,7 +18,7 @@
 //!
 //! ```text
 //! let tables = open_tables(rt, "tables")?;
-//! let base = base_of(alloc, watch_tables(screen.as_ref(), tables))?;
+//! let base = base_of(rt, alloc, watch_tables(screen.as_ref(), tables))?;
 //! Err(fault) => fault.tell(&mut err)      // ssb_live: data: 21 FieldCount lineorder 2
 //! ```
 #![tactic(auto)]

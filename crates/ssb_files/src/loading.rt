@@ -11,9 +11,17 @@ use ssb_base::{Base, Limits};
 use ssb_text::{Tables, load};
 use std::alloc::Global;
 use std::io::Read;
+use std::thread::Threads;
 
-/// The base that the tables spell, within the greatest limits.
-pub fn base_of<I: Read + Drop>(alloc: Global, tables: Tables<I>) -> Result<Base, Fault>
+// How many bytes of lineorder one thread parses at a time. Of smaller blocks the load is slower.
+const BLOCK: u32 = 4 * 1024 * 1024;
+
+/// The base that the tables spell, within the greatest limits, by as many threads as there are processors.
+pub fn base_of<I: Read + Drop>(
+    rt: &(impl Threads + Sync),
+    alloc: Global,
+    tables: Tables<I>,
+) -> Result<Base, Fault>
     ensures base { IfOk result (λ base. (texts : Table → List ℕ)
         → AreTexts I.remaining tables texts → IsLoaded texts base) }
     ensures data { IfErr result (λ fault. status_of fault ≡ 1 → (texts : Table → List ℕ)
@@ -21,7 +29,7 @@ pub fn base_of<I: Read + Drop>(alloc: Global, tables: Tables<I>) -> Result<Base,
     ensures later { IfErr result (λ fault. status_of fault ≢ 2) }
     ensures earlier { IfErr result (λ fault. status_of fault ≢ 3) }
 {
-    match load(alloc, Limits::standard(), tables) {
+    match load(rt, alloc, Limits::standard(), BLOCK, tables) {
         Ok(base) => Ok(base),
         Err(fault) => Err(Fault::Data(fault)),
     }

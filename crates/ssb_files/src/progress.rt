@@ -2,7 +2,7 @@
 //!
 //! ```text
 //! file ── Watched ── bytes as they are ─▶ load
-//!            └─ a few times a second ─▶ terminal:  ssb_live: lineorder 1830000 rows, 2.4 s
+//!            └─ a few times a second ─▶ terminal:  ssb_live: lineorder 312 of 594 MB, 1.2 s
 //! ```
 //!
 //! A reader that is watched gives the same bytes as the reader in it (the contract of `Read`, and `watch`). What a
@@ -11,6 +11,7 @@ ghost use Rattle.std.specs.Prelude.{◌≡◌};
 
 use ssb_text::Tables;
 use std::alloc::{AllocError, Global};
+use std::fs::OpenFile;
 use std::io::{Print, Read};
 use std::time::{Clock, Duration, Instant};
 use std::{fmt, io};
@@ -20,6 +21,9 @@ const BETWEEN: u64 = 250;
 
 // Takes the cursor to the line's beginning, and empties it to its end.
 const CLEARED: &str = "\r\x1b[K";
+
+// The bytes of a megabyte.
+const MEGABYTE: u64 = 1_000_000;
 
 /// What is read.
 #[derive(Clone, Copy)]
@@ -46,19 +50,22 @@ impl fmt::Display for InputSource {
 #[derive(Clone, Copy)]
 struct ProgressLine {
     source: InputSource,
-    rows: u64,
+    bytes: u64,
+    // Of the whole source, where it is known.
+    size: Option<u64>,
     since_start: Duration,
 }
 
 impl fmt::Display for ProgressLine {
     fn fmt<W: fmt::Write>(&self, f: &mut fmt::Formatter<W>) -> fmt::Result {
-        let ProgressLine { source, rows, .. } = self;
+        let megabytes = self.bytes / MEGABYTE;
+        write!(f, "{CLEARED}ssb_live: {} {megabytes}", self.source)?;
+        if let Some(size) = self.size {
+            write!(f, " of {}", size / MEGABYTE)?;
+        }
         let seconds = self.since_start.as_secs();
         let tenth = self.since_start.subsec_millis() / 100;
-        write!(
-            f,
-            "{CLEARED}ssb_live: {source} {rows} rows, {seconds}.{tenth} s"
-        )
+        write!(f, " MB, {seconds}.{tenth} s")
     }
 }
 
@@ -93,20 +100,20 @@ impl<'a, C: Clock, P: Print> Screen<'a, C, P> {
 struct Progress<'a, C: Clock, P: Print> {
     screen: Option<&'a Screen<'a, C, P>>,
     source: InputSource,
-    rows: u64,
+    bytes: u64,
+    size: Option<u64>,
     // When the line may be written again, since the load began.
     due: Duration,
     shown: bool,
 }
 
 impl<'a, C: Clock, P: Print> Progress<'a, C, P> {
-    // Counts the rows that end in these bytes, and rewrites the line where it is due.
-    fn count(&mut self, bytes: &[u8]) {
+    // Counts bytes that were read, and rewrites the line where it is due.
+    fn count(&mut self, read: usize) {
         let Some(screen) = self.screen else {
             return;
         };
-        let ends = bytes.iter().filter(|byte| **byte == b'\n').count();
-        self.rows = self.rows.saturating_add(ends as u64);
+        self.bytes = self.bytes.saturating_add(read as u64);
         if let Some(since_start) = screen.since_start() {
             if since_start >= self.due {
                 self.show(screen, since_start);
@@ -117,7 +124,8 @@ impl<'a, C: Clock, P: Print> Progress<'a, C, P> {
     fn show(&mut self, screen: &Screen<'a, C, P>, since_start: Duration) {
         let line = ProgressLine {
             source: self.source,
-            rows: self.rows,
+            bytes: self.bytes,
+            size: self.size,
             since_start,
         };
         self.due = since_start.saturating_add(Duration::from_millis(BETWEEN));
@@ -134,7 +142,8 @@ impl<'a, C: Clock, P: Print> Drop for Progress<'a, C, P> {
         let Progress {
             screen: _,
             source: _,
-            rows: _,
+            bytes: _,
+            size: _,
             due: _,
             shown: _,
         } = self;
@@ -148,26 +157,36 @@ pub struct Watched<'a, I: Drop, C: Clock, P: Print> {
     progress: Progress<'a, C, P>,
 }
 
-/// The reader, watched.
-pub fn watch<'a, I: Read + Drop, C: Clock, P: Print>(
+// How many bytes a file has, where the system tells.
+fn size_of<I: OpenFile>(file: &I) -> Option<u64> {
+    Some(file.metadata().ok()?.len())
+}
+
+/// The file, watched.
+pub fn watch<'a, I: Read + OpenFile + Drop, C: Clock, P: Print>(
     screen: Option<&'a Screen<'a, C, P>>,
     source: InputSource,
     reader: I,
 ) -> Watched<'a, I, C, P>
     ensures { result.reader ≡ reader }
 {
+    let size = match screen {
+        Some(_) => size_of(&reader),
+        None => None,
+    };
     let progress = Progress {
         screen,
         source,
-        rows: 0,
+        bytes: 0,
+        size,
         due: Duration::from_millis(BETWEEN),
         shown: false,
     };
     Watched { reader, progress }
 }
 
-/// The readers of the five tables, each watched.
-pub fn watch_tables<'a, I: Read + Drop, C: Clock, P: Print>(
+/// The files of the five tables, each watched.
+pub fn watch_tables<'a, I: Read + OpenFile + Drop, C: Clock, P: Print>(
     screen: Option<&'a Screen<'a, C, P>>,
     tables: Tables<I>,
 ) -> Tables<Watched<'a, I, C, P>> {
@@ -180,8 +199,8 @@ pub fn watch_tables<'a, I: Read + Drop, C: Clock, P: Print>(
     }
 }
 
-/// The readers of scripts, each watched, by their numbers from 1.
-pub fn watch_scripts<'a, I: Read + Drop, C: Clock, P: Print>(
+/// The files of scripts, each watched, by their numbers from 1.
+pub fn watch_scripts<'a, I: Read + OpenFile + Drop, C: Clock, P: Print>(
     alloc: Global,
     screen: Option<&'a Screen<'a, C, P>>,
     scripts: Vec<I>,
@@ -199,7 +218,7 @@ impl<'a, I: Read + Drop, C: Clock, P: Print> Read for Watched<'a, I, C, P> {
 
     fn read(&mut self, buf: &mut [u8]) -> io::Result<usize> {
         let count = self.reader.read(buf)?;
-        self.progress.count(&buf[..count]);
+        self.progress.count(count);
         Ok(count)
     }
 }

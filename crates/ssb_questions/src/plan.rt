@@ -11,6 +11,10 @@ pub enum Measure {
     Revenue,
     /// LO_REVENUE - LO_SUPPLYCOST, which may be negative
     Profit,
+    /// LO_QUANTITY
+    Quantity,
+    /// 1, so that the sum is the number of the lines.
+    Lines,
 }
 
 /// Numbers from the first to the last, both included; none where `from` is greater than `to`.

@@ -3,3 +3,4 @@ pub mod LimitLaws
 pub mod FirstFaultLaws
 pub mod OrderLaws
 pub mod ColumnLaws
+pub mod PartLaws

@@ -1,5 +1,6 @@
 -- what the values are
 pub mod Columns
+pub mod Texts
 pub mod Rows
 pub mod Keys
 pub mod Facts
@@ -9,4 +10,5 @@ pub mod Refreshes
 -- how the code keeps them, and what it answers
 pub mod Views
 pub mod Held
+pub mod Kept
 pub mod Refusals

@@ -32,10 +32,10 @@ date_values row =
 abbrev pub line_values : LineFields → List Value
 line_values line =
     Number line.order_key ∷ Number line.line_number ∷ Number line.customer_key ∷ Number line.part_key
-    ∷ Number line.supplier_key ∷ Number line.order_date ∷ Text line.order_priority ∷ Text line.ship_priority
+    ∷ Number line.supplier_key ∷ Number line.order_date ∷ Text line.texts.order_priority ∷ Text line.texts.ship_priority
     ∷ Number line.quantity ∷ Number line.extended_price ∷ Number line.order_total_price ∷ Number line.discount
     ∷ Number line.revenue ∷ Number line.supply_cost ∷ Number line.tax ∷ Number line.commit_date
-    ∷ Text line.ship_mode ∷ []
+    ∷ Text line.texts.ship_mode ∷ []
 
 -- the numbers of a line are within their columns' ranges
 pub record IsWithinLimits (line : LineFields) : Type 0 where

@@ -10,8 +10,6 @@ line_view line = record {
   part_key = line.part_key;
   supplier_key = line.supplier_key;
   order_date = line.order_date;
-  order_priority = line.order_priority;
-  ship_priority = line.ship_priority;
   quantity = line.quantity;
   extended_price = line.extended_price;
   order_total_price = line.order_total_price;
@@ -20,5 +18,5 @@ line_view line = record {
   supply_cost = line.supply_cost;
   tax = line.tax;
   commit_date = line.commit_date;
-  ship_mode = line.ship_mode;
+  texts = line.texts;
 }

@@ -27,6 +27,7 @@ mod row;
 mod supplier;
 mod table;
 mod text;
+mod texts;
 
 pub use column::{
     C_CITY, C_NATION, C_REGION, Column, D_WEEKNUMINYEAR, D_YEAR, D_YEARMONTH, D_YEARMONTHNUM,
@@ -46,3 +47,4 @@ pub use row::{Fields, Keyed, Row};
 pub use supplier::{Supplier, SupplierFields};
 pub use table::Table;
 pub use text::Text;
+pub use texts::LineTexts;

@@ -10,7 +10,7 @@ use crate::fault::{Refused, SchemaFault};
 use crate::kind::{Cell, check};
 use crate::row::{Fields, Row};
 use crate::table::Table;
-use crate::text::Text;
+use crate::texts::LineTexts;
 use std::marker::Model;
 
 /// The values of a line, column by column in the order of the benchmark's LINEORDER. Prices are in the file's unit.
@@ -28,10 +28,6 @@ pub struct LineFields {
     pub supplier_key: u64,
     /// LO_ORDERDATE.
     pub order_date: u64,
-    /// LO_ORDERPRIORITY.
-    pub order_priority: Text,
-    /// LO_SHIPPRIORITY.
-    pub ship_priority: Text,
     /// LO_QUANTITY.
     pub quantity: u64,
     /// LO_EXTENDEDPRICE.
@@ -48,8 +44,8 @@ pub struct LineFields {
     pub tax: u64,
     /// LO_COMMITDATE.
     pub commit_date: u64,
-    /// LO_SHIPMODE.
-    pub ship_mode: Text,
+    /// LO_ORDERPRIORITY, LO_SHIPPRIORITY and LO_SHIPMODE.
+    pub texts: LineTexts,
 }
 
 /// A line whose values are within their columns' limits. Contracts see its values; the numbers lie packed to their
@@ -70,9 +66,7 @@ pub struct Line {
     quantity: u8,
     discount: u8,
     tax: u8,
-    order_priority: Text,
-    ship_priority: Text,
-    ship_mode: Text,
+    texts: LineTexts,
 }
 
 impl Model for Line {
@@ -108,8 +102,8 @@ impl Fields for LineFields {
             Cell::Number(self.part_key),
             Cell::Number(self.supplier_key),
             Cell::Number(self.order_date),
-            Cell::Text(self.order_priority.as_str()),
-            Cell::Text(self.ship_priority.as_str()),
+            Cell::Text(self.texts.order_priority()),
+            Cell::Text(self.texts.ship_priority()),
             Cell::Number(self.quantity),
             Cell::Number(self.extended_price),
             Cell::Number(self.order_total_price),
@@ -118,7 +112,7 @@ impl Fields for LineFields {
             Cell::Number(self.supply_cost),
             Cell::Number(self.tax),
             Cell::Number(self.commit_date),
-            Cell::Text(self.ship_mode.as_str()),
+            Cell::Text(self.texts.ship_mode()),
         ];
         check(Table::Lineorder, &cells)
     }
@@ -158,9 +152,7 @@ impl Line {
             quantity: fields.quantity as u8,
             discount: fields.discount as u8,
             tax: fields.tax as u8,
-            order_priority: fields.order_priority,
-            ship_priority: fields.ship_priority,
-            ship_mode: fields.ship_mode,
+            texts: fields.texts,
         }
     }
 
@@ -234,17 +226,17 @@ impl Line {
     }
 
     /// LO_ORDERPRIORITY.
-    pub fn order_priority(&self) -> &Text
-        ensures { result.now ≡ self.now.order_priority }
+    pub fn order_priority(&self) -> &str
+        ensures { result.now ≡ self.now.texts.order_priority }
     {
-        &self.order_priority
+        self.texts.order_priority()
     }
 
     /// LO_SHIPPRIORITY.
-    pub fn ship_priority(&self) -> &Text
-        ensures { result.now ≡ self.now.ship_priority }
+    pub fn ship_priority(&self) -> &str
+        ensures { result.now ≡ self.now.texts.ship_priority }
     {
-        &self.ship_priority
+        self.texts.ship_priority()
     }
 
     /// LO_QUANTITY.
@@ -304,9 +296,9 @@ impl Line {
     }
 
     /// LO_SHIPMODE.
-    pub fn ship_mode(&self) -> &Text
-        ensures { result.now ≡ self.now.ship_mode }
+    pub fn ship_mode(&self) -> &str
+        ensures { result.now ≡ self.now.texts.ship_mode }
     {
-        &self.ship_mode
+        self.texts.ship_mode()
     }
 }

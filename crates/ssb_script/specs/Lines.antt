@@ -29,6 +29,7 @@ use Rattle.std.specs.Prelude.{
 use Rattle.std.specs.Option.{option_and_then}
 use Rattle.std.specs.Cmp.Lexicographic.{pointwise}
 use Rattle.ssb_schema.specs.Columns as columns
+use Rattle.ssb_schema.specs.Texts.{texts_of}
 use Rattle.ssb_schema.specs.declared.table.Table.TheVariants as table
 use Rattle.ssb_schema.specs.declared.line.LineFields.{LineFields}
 use Rattle.ssb_text.specs.Records.{has_columns}
@@ -150,8 +151,6 @@ line_with values = record {
   part_key = number_in values 3;
   supplier_key = number_in values 4;
   order_date = number_in values 5;
-  order_priority = text_in values 6;
-  ship_priority = text_in values 7;
   quantity = number_in values 8;
   extended_price = number_in values 9;
   order_total_price = number_in values 10;
@@ -160,7 +159,7 @@ line_with values = record {
   supply_cost = number_in values 13;
   tax = number_in values 14;
   commit_date = number_in values 15;
-  ship_mode = text_in values 16;
+  texts = texts_of (text_in values 6) (text_in values 7) (text_in values 16);
 }
 
 -- the line of an order whose columns are these fields; a schema's refusal is told, any other fault is a bad record

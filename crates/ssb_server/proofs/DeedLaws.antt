@@ -1,9 +1,6 @@
--- What a token is but for the record of what it did.
-use Rattle.std.proofs.Common.{◌≡◌, List, ap, sym, ◌∙◌}
-use Rattle.history.specs.declared.event.Deed.{Deed}
-use Rattle.history.specs.Tokens.{TokenRecord}
+-- Deeds that were added one call after another.
+use Rattle.std.proofs.Common.{◌≡◌, List, ◌++◌, ◌∙◌, append_assoc}
 
--- a token that is known with its record is known with the record that it has
-pub done : {after : TokenRecord} {did : List Deed} (token : List Deed → TokenRecord) → ((d : List Deed) → (token d).did ≡ d)
-    → after ≡ token did → after ≡ token after.did
-done token keeps is = is ∙ ap token (sym (ap (λ (t : TokenRecord). t.did) is ∙ keeps _))
+-- three additions are one
+pub added_three : {X : Type 0} (a b c d : List X) → ((a ++ b) ++ c) ++ d ≡ a ++ (b ++ (c ++ d))
+added_three a b c d = append_assoc (a ++ b) c d ∙ append_assoc a b (c ++ d)

@@ -9,6 +9,7 @@ use Rattle.std.proofs.Common.{
   ◌∷◌,
   ◌++◌,
   length,
+  map,
   take,
   Some,
   refl,
@@ -21,7 +22,8 @@ use Rattle.std.proofs.Common.{
 }
 use Rattle.std.proofs.lemmas.Bool.{eq-eqb}
 use Rattle.std.proofs.lemmas.List.{take_all, append-nil, length_push, map_push}
-use Rattle.std.proofs.lemmas.List.Elements.{All-nil, All-push}
+use Rattle.std.proofs.lemmas.List.Elements.{All-nil, All-push, All-head}
+use Rattle.std.specs.Prelude.{All}
 use Rattle.row_store.specs.History.{CommitRecord}
 use Rattle.ssb_base.specs.Base.{Tables}
 use Rattle.ssb_questions.specs.declared.query.Query.{Query}
@@ -32,14 +34,19 @@ use Rattle.ssb_answers.specs.declared.answer.Answer.{Answer}
 use Rattle.ssb_answers.specs.declared.answer.Answer.TheVariants as answer
 use Rattle.ssb_answers.specs.declared.answer.Unserved.{Unserved}
 use Rattle.history_core.specs.World.{rows_after}
+use Rattle.history_core.specs.declared.event.Reply.TheVariants.{Done}
+use Rattle.history.specs.declared.event.Event.TheVariants as event
+use Rattle.history.specs.declared.event.Deed.{Deed}
+use Rattle.history.specs.declared.request.PostedQuestion.{PostedQuestion}
 use Rattle.history.specs.declared.request.Grabbed.{Grabbed}
+use Rattle.history.specs.World.{number_of, answer_named}
 use Rattle.history.specs.declared.request.Given.{Given}
 use Rattle.history.specs.declared.request.Outcome.{Outcome}
 use Rattle.history.specs.Tokens.{TokenRecord, MayAnswer, Answers, request_of, without}
 use Rattle.history.specs.Words.{IsCause, IsFresh, given_to, outcome_of}
 use Rattle.ssb_server.specs.Hand.{Hand, no_hand, clients_of, questions_of, Keeps}
 use Rattle.ssb_server.specs.Turns.{answers_after, HasInHand, Answered, GaveOne, Gave}
-use Rattle.ssb_server.proofs.DeedLaws.{done}
+use Rattle.ssb_server.specs.Deeds as deeds
 use Rattle.ssb_server.proofs.HandLaws.{with_one, not_empty}
 
 found_first : (grabbed : List Grabbed) (client : ℕ) (newest : Grabbed) (others : List Grabbed)
@@ -76,27 +83,52 @@ may_give_up t client question cause has is = record {
   serves = (sym has.question_is, is);
 }
 
+some_is : {X : Type 0} {a b : X} → Some a ≡ Some b → a ≡ b
+some_is e = cc
+
+-- the event and the entry of an answer to the newest request
+named_newest : (number client : ℕ) (reply : Answer) (newest : Grabbed) → newest.client ≡ client
+    → answer_named number client reply ≡ deeds.answer_of number (outcome_of reply) newest
+named_newest number client (answer.Rows question at rows) newest e = ap (λ c. event.Answer number c) (sym e)
+named_newest number client (answer.Unserved question cause) newest e = ap (λ c. event.GiveUp number c cause) (sym e)
+
+given_newest : (client : ℕ) (asked : PostedQuestion) (reply : Answer) (newest : Grabbed) → newest.client ≡ client
+    → asked ≡ newest.request
+    → given_to client asked reply ∷ [] ≡ deeds.given_to_all (outcome_of reply) (newest ∷ [])
+given_newest client asked reply newest e is =
+    ap (λ c. given_to c asked reply ∷ []) (sym e) ∙ ap (λ a. given_to newest.client a reply ∷ []) is
+
 -- an answer to the newest request
 pub gave_one : (t : TokenRecord) (client : ℕ) (question : Query × List Value) (reply : Answer) (after : TokenRecord)
     → HasInHand t.grabbed client question → Answers t client reply after → GaveOne t (outcome_of reply) after
-gave_one t client question reply after has answers = record {
-  newest = has.newest;
-  others = has.others;
-  grabbed_is = has.grabbed_is;
-  given = given_to client answers.asked reply;
-  outcome_is = refl;
-  fresh = answers.fresh;
-  now = done (λ d. record t {
-    grabbed = without client t.grabbed;
-    given = t.given ++ given_to client answers.asked reply ∷ [];
-    did = d;
-  }) (λ d. refl) answers.now
-      ∙ ap (λ gs. record t {
+gave_one t client question reply after has answers =
+    let asked : answers.asked ≡ has.newest.request = some_is (sym answers.held
+    ∙ found_first t.grabbed client has.newest has.others has.grabbed_is has.client_is) in
+    let given = given_newest client answers.asked reply has.newest has.client_is asked in
+    let named : deeds.deed (answer_named (number_of t.who) client reply) Done ∷ []
+    ≡ deeds.answered (number_of t.who) (outcome_of reply) (has.newest ∷ []) =
+    ap (λ e. deeds.deed e Done ∷ []) (named_newest (number_of t.who) client reply has.newest has.client_is) in
+    record {
+      newest = has.newest;
+      others = has.others;
+      grabbed_is = has.grabbed_is;
+      fresh = subst (All IsFresh) given (All-push IsFresh [] (given_to client answers.asked reply) (All-nil IsFresh)
+          answers.fresh);
+      now = answers.now ∙ (ap (λ gs. record t {
         grabbed = gs;
         given = t.given ++ given_to client answers.asked reply ∷ [];
-        did = after.did;
-      }) (without_first t.grabbed client has.newest has.others has.grabbed_is has.client_is);
-}
+        did = t.did ++ deeds.deed (answer_named (number_of t.who) client reply) Done ∷ [];
+      }) (without_first t.grabbed client has.newest has.others has.grabbed_is has.client_is)
+          ∙ (ap (λ gs. record t {
+            grabbed = has.others;
+            given = t.given ++ gs;
+            did = t.did ++ deeds.deed (answer_named (number_of t.who) client reply) Done ∷ [];
+          }) given ∙ ap (λ ds. record t {
+            grabbed = has.others;
+            given = t.given ++ deeds.given_to_all (outcome_of reply) (has.newest ∷ []);
+            did = t.did ++ ds;
+          }) named));
+    }
 
 snoc_inj : {X : Type 0} (xs ys : List X) (x y : X) → xs ++ x ∷ [] ≡ ys ++ y ∷ [] → (xs ≡ ys) × (x ≡ y)
 snoc_inj [] [] x y e = (refl, cc)
@@ -128,30 +160,61 @@ none_grabbed (newest ∷ others) keeps = absurd (not_empty (clients_of others) n
 
 pub gave_none : (t : TokenRecord) (outcome : Outcome) → Gave t 0 outcome t
 gave_none t outcome = record {
-  more = [];
+  left = [];
   count_is = refl;
-  outcomes = All-nil (λ (given : Given). given.outcome ≡ outcome);
+  grabbed_is = refl;
   fresh = All-nil IsFresh;
-  now = ap (λ gs. record t { given = gs }) (sym (append-nil t.given));
+  now = ap (λ gs. record t { given = gs }) (sym (append-nil t.given))
+      ∙ ap (λ ds. record t { given = t.given ++ []; did = ds }) (sym (append-nil t.did));
 }
 
 pub gave_more : (before t after : TokenRecord) (count : ℕ) (outcome : Outcome) → Gave before count outcome t
     → GaveOne t outcome after → Gave before (count + 1) outcome after
 gave_more before t after count outcome gave one =
-    let n : length gave.more ≡ count = gave.count_is in
+    let n : length gave.left ≡ count = gave.count_is in
+    let number = number_of before.who in
+    let given_of : Grabbed → Given = λ (request : Grabbed). record {
+      client = request.client;
+      floor = request.request.floor;
+      outcome = outcome;
+    } in
+    let deed_of : Grabbed → Deed = λ request. deeds.deed (deeds.answer_of number outcome request) Done in
+    let others : after.grabbed ≡ one.others = ap (λ (u : TokenRecord). u.grabbed) one.now in
+    let given : (before.given ++ deeds.given_to_all outcome gave.left) ++ deeds.given_to_all outcome (one.newest ∷ [])
+    ≡ before.given ++ deeds.given_to_all outcome (gave.left ++ one.newest ∷ []) =
+    append_assoc before.given (deeds.given_to_all outcome gave.left) (deeds.given_to_all outcome (one.newest ∷ []))
+    ∙ ap (λ gs. before.given ++ gs) (sym (map_push given_of gave.left one.newest)) in
+    let did : (before.did ++ deeds.answered number outcome gave.left) ++ deeds.answered number outcome (one.newest ∷ [])
+    ≡ before.did ++ deeds.answered number outcome (gave.left ++ one.newest ∷ []) =
+    append_assoc before.did (deeds.answered number outcome gave.left)
+    (deeds.answered number outcome (one.newest ∷ []))
+    ∙ ap (λ ds. before.did ++ ds) (sym (map_push deed_of gave.left one.newest)) in
     record {
-      more = gave.more ++ one.given ∷ [];
-      count_is = omega (arith, length_push gave.more one.given);
-      outcomes = All-push (λ (given : Given). given.outcome ≡ outcome) gave.more one.given gave.outcomes one.outcome_is;
-      fresh = All-push IsFresh gave.more one.given gave.fresh one.fresh;
-      now = subst (λ u. u ≡ record before {
-        grabbed = u.grabbed;
-        given = before.given ++ (gave.more ++ one.given ∷ []);
-        did = u.did;
-      }) (sym one.now)
-          (ap (λ (u : TokenRecord). record u { grabbed = one.others; given = u.given ++ one.given ∷ []; did = after.did })
-          gave.now ∙ ap (λ gs. record before { grabbed = one.others; given = gs; did = after.did })
-          (append_assoc before.given gave.more (one.given ∷ [])));
+      left = gave.left ++ one.newest ∷ [];
+      count_is = omega (arith, length_push gave.left one.newest);
+      grabbed_is = gave.grabbed_is ∙ (ap (λ gs. gave.left ++ gs) (one.grabbed_is
+          ∙ ap (λ gs. one.newest ∷ gs) (sym others)) ∙ sym (append_assoc gave.left (one.newest ∷ []) after.grabbed));
+      fresh = subst (All IsFresh) (sym (map_push given_of gave.left one.newest))
+          (All-push IsFresh (map given_of gave.left) (given_of one.newest) gave.fresh
+          (All-head IsFresh (given_of one.newest) [] one.fresh));
+      now = one.now ∙ (ap (λ (u : TokenRecord). record u {
+        grabbed = one.others;
+        given = u.given ++ deeds.given_to_all outcome (one.newest ∷ []);
+        did = u.did ++ deeds.answered (number_of u.who) outcome (one.newest ∷ []);
+      }) gave.now ∙ (ap (λ gs. record before {
+        grabbed = one.others;
+        given = gs;
+        did = (before.did ++ deeds.answered number outcome gave.left)
+            ++ deeds.answered number outcome (one.newest ∷ []);
+      }) given ∙ (ap (λ ds. record before {
+        grabbed = one.others;
+        given = before.given ++ deeds.given_to_all outcome (gave.left ++ one.newest ∷ []);
+        did = ds;
+      }) did ∙ ap (λ gs. record before {
+        grabbed = gs;
+        given = before.given ++ deeds.given_to_all outcome (gave.left ++ one.newest ∷ []);
+        did = before.did ++ deeds.answered number outcome (gave.left ++ one.newest ∷ []);
+      }) (sym others))));
     }
 
 pub left_keeps : (t : TokenRecord) (outcome : Outcome) (after : TokenRecord) (hand : Hand) (client : ℕ)

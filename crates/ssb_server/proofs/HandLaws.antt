@@ -1,14 +1,18 @@
 -- The requests in hand grow and shrink at one end.
-use Rattle.std.proofs.Common.{◌≡◌, ℕ, List, [], ◌∷◌, ◌++◌, length, None, refl, ap, sym, subst, arith}
-use Rattle.std.proofs.lemmas.List.{length_push}
+use Rattle.std.proofs.Common.{◌≡◌, ℕ, List, [], ◌∷◌, ◌++◌, length, None, refl, ap, sym, ◌∙◌, subst, arith, append_assoc}
+use Rattle.std.proofs.lemmas.List.{append-nil, length_push}
 use Rattle.ssb_questions.specs.declared.query.Query.{Query}
 use Rattle.ssb_questions.specs.declared.value.Value.{Value}
+use Rattle.history_core.specs.declared.event.Reply.TheVariants.{Query as Asks}
+use Rattle.history.specs.declared.event.Event.TheVariants as event
+use Rattle.history.specs.declared.event.Deed.{Deed}
 use Rattle.history.specs.declared.request.Grabbed.{Grabbed}
+use Rattle.history.specs.World.{number_of}
 use Rattle.history.specs.Tokens.{TokenRecord, Grabs}
 use Rattle.history.specs.Words.{request}
 use Rattle.ssb_server.specs.Hand.{Hand, no_hand, clients_of, questions_of, Keeps}
 use Rattle.ssb_server.specs.Turns.{HasGrabbed}
-use Rattle.ssb_server.proofs.DeedLaws.{done}
+use Rattle.ssb_server.specs.Deeds as deeds
 
 abbrev pub with_one : Hand → ℕ → Query × List Value → Hand
 with_one hand client question = record {
@@ -22,7 +26,8 @@ not_empty xs x e = let n : length (xs ++ x ∷ []) ≡ 0 = ap length e in omega 
 
 pub grabbed_none : (t : TokenRecord) → t.grabbed ≡ [] → HasGrabbed t no_hand t
 grabbed_none t e = record {
-  now = refl;
+  now = ap (λ ds. record t { did = ds })
+      (sym (ap (λ gs. t.did ++ deeds.grabbed (number_of t.who) gs) e ∙ append-nil t.did));
   hand_is = record { clients = sym (ap clients_of e); questions = sym (ap questions_of e) };
   none = λ _. refl;
 }
@@ -32,18 +37,32 @@ pub grabbed_more : (before : TokenRecord) (hand : Hand) (t : TokenRecord) (clien
     → HasGrabbed before (with_one hand client question) after
 grabbed_more before hand t client question after has more =
     let newest : Grabbed = record { client = client; request = request question more.floor } in
-    let e : after ≡ record t { mark = None; version = None; grabbed = newest ∷ t.grabbed; did = after.did } =
-    done (λ d. record t { mark = None; version = None; grabbed = newest ∷ t.grabbed; did = d }) (λ d. refl) more.now
-    in
+    let one : Deed = deeds.deed (event.Grab (number_of before.who) client) (Asks question) in
+    let now : after ≡ record before {
+      mark = None;
+      version = None;
+      grabbed = newest ∷ t.grabbed;
+      did = before.did ++ deeds.grabbed (number_of before.who) (newest ∷ t.grabbed);
+    } =
+    more.now ∙ (ap (λ (u : TokenRecord). record u {
+      mark = None;
+      version = None;
+      grabbed = newest ∷ t.grabbed;
+      did = u.did ++ deeds.deed (event.Grab (number_of u.who) client) (Asks question) ∷ [];
+    }) has.now ∙ ap (λ ds. record before {
+      mark = None;
+      version = None;
+      grabbed = newest ∷ t.grabbed;
+      did = ds;
+    }) (append_assoc before.did (deeds.grabbed (number_of before.who) t.grabbed) (one ∷ []))) in
     record {
-      now = subst (λ u. u ≡ record before { mark = u.mark; version = u.version; grabbed = u.grabbed; did = u.did })
-          (sym e) (ap (λ (u : TokenRecord). record u {
-            mark = None;
-            version = None;
-            grabbed = newest ∷ t.grabbed;
-            did = after.did;
-          }) has.now);
-      hand_is = subst (λ u. Keeps (with_one hand client question) u.grabbed) (sym e) record {
+      now = subst (λ (u : TokenRecord). u ≡ record before {
+        mark = u.mark;
+        version = u.version;
+        grabbed = u.grabbed;
+        did = before.did ++ deeds.grabbed (number_of before.who) u.grabbed;
+      }) (sym now) refl;
+      hand_is = subst (λ (u : TokenRecord). Keeps (with_one hand client question) u.grabbed) (sym now) record {
         clients = ap (λ cs. cs ++ client ∷ []) has.hand_is.clients;
         questions = ap (λ qs. qs ++ question ∷ []) has.hand_is.questions;
       };

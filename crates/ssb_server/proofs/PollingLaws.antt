@@ -1,5 +1,6 @@
--- An answer is right in all that is seen later.
-use Rattle.std.proofs.Common.{◌≡◌, ℕ, ◌≤◌, List, [], length, take, refl, ap, sym, subst, ◌∙◌, arith}
+-- A question, and its answer, which is right in all that is seen later.
+use Rattle.std.proofs.Common.{◌≡◌, ℕ, ◌≤◌, List, [], ◌∷◌, ◌++◌, length, take, Some, None, refl, ap, sym, subst, ◌∙◌, arith}
+use Rattle.std.proofs.Common.{append_assoc}
 use Rattle.std.specs.Prelude.{All}
 use Rattle.std.proofs.lemmas.List.{take-append-le}
 use Rattle.std.proofs.lemmas.List.Elements.{All-head}
@@ -9,10 +10,14 @@ use Rattle.ssb_answers.specs.declared.answer.Answer.{Answer}
 use Rattle.ssb_answers.specs.declared.answer.Answer.TheVariants.{Rows, Unserved}
 use Rattle.history.specs.declared.request.PostedQuestion.{PostedQuestion}
 use Rattle.history_core.specs.World.{rows_after}
-use Rattle.history.specs.Tokens.{TokenRecord, Collected, Saw}
-use Rattle.history.specs.Words.{IsRight}
-use Rattle.ssb_server.specs.Clients.{Polls}
-use Rattle.ssb_server.proofs.DeedLaws.{done}
+use Rattle.history_core.specs.Events.{Question}
+use Rattle.history_core.specs.declared.event.Reply.TheVariants.{Done}
+use Rattle.history.specs.Tokens.{TokenRecord, Collected, Saw, posted}
+use Rattle.history.specs.Words.{IsRight, request}
+use Rattle.history.specs.declared.event.Event.TheVariants as event
+use Rattle.history.specs.World.{number_of, told_by}
+use Rattle.ssb_server.specs.Clients.{Asks, Polls}
+use Rattle.ssb_server.specs.Deeds.{deed, looked, asked}
 use Rattle.row_store.proofs.PrefixLaws.{beginnings_are_shorter}
 
 take_prefix : (n : ℕ) (a b : List CommitRecord) → IsPrefix a b → n ≤ length a → take n b ≡ take n a
@@ -36,6 +41,41 @@ polled before between after reply col saw =
       was = col.was;
       right = right_later before.table.base col.history after.seen col.asked reply p col.right;
       begins = subst (λ (t : TokenRecord). IsPrefix t.seen after.seen) col.now saw.begins;
-      now = done (λ d. record between { seen = after.seen; beside = []; did = d }) (λ d. refl) saw.now
-          ∙ ap (λ (t : TokenRecord). record t { seen = after.seen; beside = []; did = after.did }) col.now;
+      now = saw.now ∙ (ap (λ (t : TokenRecord). record t {
+        seen = after.seen;
+        beside = [];
+        did = t.did ++ looked t.who (length after.seen) ∷ [];
+      }) col.now ∙ ap (λ ds. record before { seen = after.seen; beside = []; asked = None; did = ds })
+          (append_assoc before.did (deed (event.Collect (number_of before.who)) (told_by reply) ∷ [])
+          (looked before.who (length after.seen) ∷ [])));
+    }
+
+pub asks : (before between after : TokenRecord) (question : Question) → Saw before between → after ≡ posted between question
+    → Asks before question after
+asks before between after question saw now =
+    let s : after.seen ≡ between.seen = ap (λ (u : TokenRecord). u.seen) now in
+    let e : after ≡ record before {
+      seen = between.seen;
+      beside = [];
+      asked = Some (request question (length between.seen));
+      did = before.did ++ asked before.who question (length between.seen);
+    } =
+    now ∙ (ap (λ (u : TokenRecord). record u {
+      asked = Some (request question (length between.seen));
+      did = u.did ++ deed (event.Post (number_of u.who) question) Done ∷ [];
+    }) saw.now ∙ ap (λ ds. record before {
+      seen = between.seen;
+      beside = [];
+      asked = Some (request question (length between.seen));
+      did = ds;
+    }) (append_assoc before.did (looked before.who (length between.seen) ∷ [])
+    (deed (event.Post (number_of before.who) question) Done ∷ []))) in
+    record {
+      begins = subst (IsPrefix before.seen) (sym s) saw.begins;
+      now = subst (λ xs. after ≡ record before {
+        seen = xs;
+        beside = [];
+        asked = Some (request question (length xs));
+        did = before.did ++ asked before.who question (length xs);
+      }) (sym s) e;
     }

@@ -10,6 +10,7 @@ use Rattle.std.proofs.Common.{
   ◌++◌,
   length,
   length-append,
+  append_assoc,
   Some,
   None,
   true,
@@ -35,8 +36,11 @@ use Rattle.row_store.specs.declared.refusal.RefreshError.TheVariants as refresh
 use Rattle.history_core.specs.declared.event.Who.TheVariants.{Client}
 use Rattle.history.specs.Tokens.{TokenRecord, Took, MayPut, Put, gave_back, committed}
 use Rattle.history.specs.World.{mark_after}
-use Rattle.ssb_server.proofs.DeedLaws.{done}
-use Rattle.ssb_server.specs.Clients.{Refreshed, Looks}
+use Rattle.history.specs.declared.event.Event.TheVariants as event
+use Rattle.history_core.specs.declared.event.Reply.TheVariants.{Done, Committed}
+use Rattle.ssb_server.specs.Clients.{Refreshed, HandsBack}
+use Rattle.ssb_server.specs.Deeds.{deed, handed_back}
+use Rattle.ssb_server.specs.Deeds as deeds
 
 abbrev pub commit_by : ℕ → List Action → CommitRecord
 commit_by client actions = record { client = client; actions = actions }
@@ -68,25 +72,41 @@ pub may_put : (t : TokenRecord) (old new : Warehouse) (client : ℕ) (actions : 
 may_put t old new client actions reply who was is grown same =
     told_may_put t old new client actions reply who was (replies_tell old.base old.log actions reply is) grown same
 
-looked : (before t after : TokenRecord) → before.who ≡ t.who → Took before t → before.has_rows ≡ false → (c : ℕ)
-    → t.who ≡ Client c → after ≡ gave_back t → Looks before after
-looked before t after same took free c who put =
-    let e1 : t ≡ record before { seen = t.seen; beside = []; has_rows = true; did = t.did } =
-    done (λ d. record before { seen = t.seen; beside = []; has_rows = true; did = d }) (λ d. refl) took.now in
+-- the token that took the rows, and gave them back as they were
+hands_back : (before t after : TokenRecord) → before.who ≡ t.who → Took before t → before.has_rows ≡ false → (c : ℕ)
+    → t.who ≡ Client c → after ≡ gave_back t → HandsBack before after
+hands_back before t after same took free c who put =
     let m : mark_after t.who (length t.seen) t.mark ≡ t.mark = ap (λ w. mark_after w (length t.seen) t.mark) who in
-    let e0 : after ≡ record t { has_rows = false; mark = mark_after t.who (length t.seen) t.mark; did = after.did } =
-    done (λ d. record t { has_rows = false; mark = mark_after t.who (length t.seen) t.mark; did = d }) (λ d. refl)
-    put in
-    let e2 : after ≡ record t { has_rows = false; did = after.did } =
-    e0 ∙ ap (λ k. record t { has_rows = false; mark = k; did = after.did }) m in
-    let e3 : after ≡ record before { seen = t.seen; beside = []; has_rows = false; did = after.did } =
-    e2 ∙ ap (λ (u : TokenRecord). record u { has_rows = false; did = after.did }) e1 in
-    let e4 : after ≡ record before { seen = t.seen; beside = []; did = after.did } =
-    e3 ∙ ap (λ b. record before { seen = t.seen; beside = []; has_rows = b; did = after.did }) (sym free) in
-    let s : after.seen ≡ t.seen = ap (λ (u : TokenRecord). u.seen) e4 in
+    let put_deed = deed (event.PutRows before.who None) Done ∷ [] in
+    let e1 : after ≡ record t { has_rows = false; did = t.did ++ deed (event.PutRows t.who None) Done ∷ [] } =
+    put ∙ ap (λ k. record t {
+      has_rows = false;
+      mark = k;
+      did = t.did ++ deed (event.PutRows t.who None) Done ∷ [];
+    }) m in
+    let e2 : after ≡ record before {
+      seen = t.seen;
+      beside = [];
+      has_rows = false;
+      did = (before.did ++ deed (event.TakeRows before.who) Done ∷ []) ++ put_deed;
+    } =
+    e1 ∙ ap (λ (u : TokenRecord). record u {
+      has_rows = false;
+      did = u.did ++ deed (event.PutRows u.who None) Done ∷ [];
+    }) took.now in
+    let e3 : after ≡ record before { seen = t.seen; beside = []; did = before.did ++ handed_back before.who } =
+    e2 ∙ (ap (λ b. record before {
+      seen = t.seen;
+      beside = [];
+      has_rows = b;
+      did = (before.did ++ deed (event.TakeRows before.who) Done ∷ []) ++ put_deed;
+    }) (sym free) ∙ ap (λ ds. record before { seen = t.seen; beside = []; did = ds })
+    (append_assoc before.did (deed (event.TakeRows before.who) Done ∷ []) put_deed)) in
+    let s : after.seen ≡ t.seen = ap (λ (u : TokenRecord). u.seen) e3 in
     record {
       begins = subst (λ xs. IsPrefix before.seen xs) (sym s) took.begins;
-      now = subst (λ xs. after ≡ record before { seen = xs; beside = []; did = after.did }) (sym s) e4;
+      now = subst (λ xs. after ≡ record before { seen = xs; beside = []; did = before.did ++ handed_back before.who })
+          (sym s) e3;
     }
 
 told_refreshed : (before t after : TokenRecord) (old new : Warehouse) (client : ℕ) (actions : List Action)
@@ -98,36 +118,44 @@ told_refreshed before t after old new client actions (Ok receipt) who free took 
     let c = commit_by client actions in
     let e : new ≡ record { base = t.table.base; log = t.seen ++ c ∷ [] } = grown ∙ ap (λ w. with_commit w c) was in
     let now : after ≡ committed t c = put.1 c (ap (λ (w : Warehouse). w.log) e) in
-    let e0 : after ≡ record t { seen = t.seen ++ c ∷ []; mine = t.mine ++ c ∷ []; has_rows = false; did = after.did } =
-    done (λ d. record t { seen = t.seen ++ c ∷ []; mine = t.mine ++ c ∷ []; has_rows = false; did = d }) (λ d. refl)
-    now in
+    let n : receipt.number ≡ length (t.seen ++ c ∷ []) =
+    tells.1 ∙ (ap (λ (w : Warehouse). length w.log + 1) was ∙ sym (length-append t.seen (c ∷ []))) in
+    let put_deed = deed (event.PutRows before.who (Some actions)) (Committed (length (t.seen ++ c ∷ []))) ∷ [] in
     let e1 : after ≡ record before {
       seen = t.seen ++ c ∷ [];
       mine = before.mine ++ c ∷ [];
       beside = [];
       has_rows = false;
-      did = after.did;
+      did = (before.did ++ deed (event.TakeRows before.who) Done ∷ []) ++ put_deed;
     } =
-    e0 ∙ ap (λ (u : TokenRecord). record u {
+    now ∙ ap (λ (u : TokenRecord). record u {
       seen = t.seen ++ c ∷ [];
       mine = u.mine ++ c ∷ [];
       has_rows = false;
-      did = after.did;
+      did = u.did ++ deed (event.PutRows u.who (Some actions)) (Committed (length (t.seen ++ c ∷ []))) ∷ [];
     }) took.now in
+    let d : (before.did ++ deed (event.TakeRows before.who) Done ∷ []) ++ put_deed
+    ≡ before.did ++ deeds.committed before.who actions receipt.number =
+    append_assoc before.did (deed (event.TakeRows before.who) Done ∷ []) put_deed
+    ∙ ap (λ k. before.did ++ deeds.committed before.who actions k) (sym n) in
     record {
       history = t.seen;
       begins = took.begins;
       accepted = subst (λ (u : TokenRecord). refusal_of u.table.base t.seen actions ≡ None) took.now
           (subst (λ (w : Warehouse). refusal_of w.base w.log actions ≡ None) was tells.0);
-      number_is = tells.1 ∙ (ap (λ (w : Warehouse). length w.log + 1) was
-          ∙ (sym (length-append t.seen (c ∷ [])) ∙ sym (ap (λ (u : TokenRecord). length u.seen) e1)));
-      now = e1 ∙ ap (λ b. record before {
+      number_is = n ∙ sym (ap (λ (u : TokenRecord). length u.seen) e1);
+      now = e1 ∙ (ap (λ b. record before {
         seen = t.seen ++ c ∷ [];
         mine = before.mine ++ c ∷ [];
         beside = [];
         has_rows = b;
-        did = after.did;
-      }) (sym free);
+        did = (before.did ++ deed (event.TakeRows before.who) Done ∷ []) ++ put_deed;
+      }) (sym free) ∙ ap (λ ds. record before {
+        seen = t.seen ++ c ∷ [];
+        mine = before.mine ++ c ∷ [];
+        beside = [];
+        did = ds;
+      }) d);
     }
 told_refreshed before t after old new client actions (Err (refresh.Refused at action cause)) who free took was tells
     grown same put =
@@ -139,7 +167,7 @@ told_refreshed before t after old new client actions (Err (refresh.Refused at ac
           (record { action = action; cause = cause })) (sym now)
           (subst (λ (x : Warehouse). refusal_of x.base x.log actions ≡ Some
           (record { action = action; cause = cause })) was tells.0),
-      looked before t after (sym w) took free client (w ∙ who) now,
+      hands_back before t after (sym w) took free client (w ∙ who) now,
     )
 told_refreshed before t after old new client actions (Err refresh.OutOfMemory) who free took was tells grown same put =
     let e : new ≡ record { base = t.table.base; log = t.seen } = same ∙ was in
@@ -147,7 +175,7 @@ told_refreshed before t after old new client actions (Err refresh.OutOfMemory) w
     let now : after ≡ gave_back t = put.0 (ap (λ (x : Warehouse). x.log) e) in (
       subst (λ (u : TokenRecord). refusal_of u.table.base u.seen actions ≡ None) (sym now)
           (subst (λ (x : Warehouse). refusal_of x.base x.log actions ≡ None) was tells),
-      looked before t after (sym w) took free client (w ∙ who) now,
+      hands_back before t after (sym w) took free client (w ∙ who) now,
     )
 
 pub refreshed : (before t after : TokenRecord) (old new : Warehouse) (client : ℕ) (actions : List Action)

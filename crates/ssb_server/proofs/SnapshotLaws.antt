@@ -3,9 +3,12 @@ use Rattle.std.proofs.Common.{
   ◌≡◌,
   map,
   ℕ,
+  ◌<◌,
   ◌≤◌,
+  ◌≢◌,
   List,
   [],
+  ◌∷◌,
   ◌++◌,
   length,
   take,
@@ -35,9 +38,15 @@ use Rattle.row_store.proofs.PrefixLaws.{
 }
 use Rattle.row_store.specs.State.{State, StandsFor}
 use Rattle.ssb_base.specs.Base.{Tables}
-use Rattle.history.specs.Tokens.{TableRecord, TokenRecord, Took, IsSound, with_writer, without_writer}
-use Rattle.twin_cell.specs.Twin.{Writing, Known, Entered}
-use Rattle.ssb_server.proofs.DeedLaws.{done}
+use Rattle.ssb_answers.specs.declared.answer.Unserved.TheVariants.{Twin}
+use Rattle.history_core.specs.declared.event.Who.TheVariants.{Dispatcher}
+use Rattle.history_core.specs.declared.event.Reply.TheVariants.{Done}
+use Rattle.history.specs.declared.event.Event.TheVariants as event
+use Rattle.history.specs.World.{number_of, mark_after}
+use Rattle.history.specs.Tokens.{TableRecord, TokenRecord, Took, IsSound, gave_back, with_writer, without_writer}
+use Rattle.twin_cell.specs.Twin.{Writing, Reading, Entered}
+use Rattle.ssb_server.proofs.DeedLaws.{added_three}
+use Rattle.ssb_server.specs.Deeds as deeds
 use Rattle.ssb_server.specs.Turns.{
   IsDispatcher,
   HasFetched,
@@ -48,6 +57,8 @@ use Rattle.ssb_server.specs.Turns.{
   Knows,
   Follows,
   AppendsFirst,
+  IsTrueCause,
+  IsFound,
 }
 
 -- what an iterator has given so far
@@ -70,30 +81,39 @@ within_seen before count after has took =
     omega arith
 
 -- an entered copy that holds just as many commits as were told stands for what was told
-pub stands_at : (base : Tables) (list : List CommitRecord) (known : Known) (guard : Entered)
-    → known ≡ record { base = base; told = list } → guard.state.base ≡ known.base → guard.told ≡ known.told
-    → IsPrefix known.told guard.list → StandsFor guard.state guard.list → guard.state.commits ≡ length list
+pub stands_at : (base : Tables) (list : List CommitRecord) (reader : Reading) (guard : Entered)
+    → reader.base ≡ base → reader.told ≡ list → guard.state.base ≡ reader.base → guard.told ≡ reader.told
+    → IsPrefix reader.told guard.list → StandsFor guard.state guard.list → guard.state.commits ≡ length list
     → StandsAt base list guard
-stands_at base list known guard knows over told begins stands count =
+stands_at base list reader guard here knows over told begins stands count =
     let n : guard.state.commits ≡ length guard.list = ap (λ (s : State). s.commits) stands in
-    let k : known.told ≡ list = ap (λ (x : Known). x.told) knows in
-    let p : IsPrefix list guard.list = subst (λ xs. IsPrefix xs guard.list) k begins in
+    let p : IsPrefix list guard.list = subst (λ xs. IsPrefix xs guard.list) knows begins in
     let whole : guard.list ≡ list = sym (as_long_is_the_whole list guard.list p (sym count ∙ n)) in
     record {
-      base_is = over ∙ ap (λ (x : Known). x.base) knows;
+      base_is = over ∙ here;
       stands = subst (λ xs. StandsFor guard.state xs) whole stands;
-      told = subst (λ xs. IsPrefix xs list) (sym (told ∙ k)) (begins_with_itself list);
+      told = subst (λ xs. IsPrefix xs list) (sym (told ∙ knows)) (begins_with_itself list);
     }
 
 -- the reader that left it knows what was told
-pub left_knows : (base : Tables) (list : List CommitRecord) (known : Known) (guard : Entered) (back : Known)
-    → known ≡ record { base = base; told = list } → guard.state.base ≡ known.base → guard.told ≡ known.told
+pub left_knows : (base : Tables) (list : List CommitRecord) (reader : Reading) (guard : Entered) (back : Reading)
+    → reader.base ≡ base → reader.told ≡ list → guard.state.base ≡ reader.base → guard.told ≡ reader.told
     → back.base ≡ guard.state.base → back.told ≡ guard.told → Knows base list back
-left_knows base list known guard back knows over told back_base back_told = record {
-  base_is = back_base ∙ (over ∙ ap (λ (x : Known). x.base) knows);
-  told = subst (λ xs. IsPrefix xs list) (sym (back_told ∙ (told ∙ ap (λ (x : Known). x.told) knows)))
-      (begins_with_itself list);
+left_knows base list reader guard back here knows over told back_base back_told = record {
+  base_is = back_base ∙ (over ∙ here);
+  told = subst (λ xs. IsPrefix xs list) (sym (back_told ∙ (told ∙ knows))) (begins_with_itself list);
 }
+
+-- a copy whose number of commits is not the told one has more, which its reader entered
+pub ahead : (list : List CommitRecord) (reader : Reading) (guard : Entered) (back : Reading) (told found : ℕ)
+    → reader.told ≡ list → IsPrefix reader.told guard.list → StandsFor guard.state guard.list → back.last ≡ guard.list
+    → told ≡ length list → found ≡ guard.state.commits → found ≢ told
+    → IsTrueCause list (Twin told found) × IsFound back (Twin told found)
+ahead list reader guard back told found knows begins stands last told_is found_is apart =
+    let n : guard.state.commits ≡ length guard.list = ap (λ (s : State). s.commits) stands in
+    let shorter = beginnings_are_shorter list guard.list (subst (λ xs. IsPrefix xs guard.list) knows begins) in
+    let more : told < found = omega (arith, n, shorter, told_is, found_is, apart) in
+    ((told_is, more), found_is ∙ (n ∙ ap length (sym last)))
 
 -- the writer has the first of the commits pending too
 pub first_follows : (before : Writing) (commits : List CommitRecord) (after : Writing)
@@ -194,7 +214,7 @@ taken_follows t writer after has fetches = record {
       }) fetches.beside;
 }
 
-pub knows_later : (t : TokenRecord) (reader : Known) (after : TokenRecord) → Fetches t after → Knows t.table.base t.seen reader
+pub knows_later : (t : TokenRecord) (reader : Reading) (after : TokenRecord) → Fetches t after → Knows t.table.base t.seen reader
     → Knows after.table.base after.seen reader
 knows_later t reader after fetches knows = record {
   base_is = knows.base_is ∙ sym (ap (λ (u : TokenRecord). u.table.base) fetches.now);
@@ -225,54 +245,124 @@ pub taken_with : (t : TokenRecord) (writer : Writing) (u : TokenRecord) → u �
 taken_with t writer u e base = subst (λ x. HasTaken x writer) (sym e)
     record { more = t.beside; beside_is = refl; base_is = base }
 
-pub knows_with : (t : TokenRecord) (list : List CommitRecord) (u : TokenRecord) (reader : Known) → u ≡ with_writer t list
+pub knows_with : (t : TokenRecord) (list : List CommitRecord) (u : TokenRecord) (reader : Reading) → u ≡ with_writer t list
     → Knows t.table.base t.seen reader → Knows u.table.base u.seen reader
 knows_with t list u reader e knows = subst (λ (x : TokenRecord). Knows x.table.base x.seen reader) (sym e) knows
+
+-- a dispatcher that took the rows, and gave them back as they were
+pub fetches : (before t after : TokenRecord) (number : ℕ) → before.who ≡ Dispatcher number → before.has_rows ≡ false
+    → Took before t → after ≡ gave_back t → Fetches before after
+fetches before t after number who free took put =
+    let who_is : t.who ≡ Dispatcher number = ap (λ (u : TokenRecord). u.who) took.now ∙ who in
+    let m : mark_after t.who (length t.seen) t.mark ≡ Some (length t.seen) =
+    ap (λ w. mark_after w (length t.seen) t.mark) who_is in
+    let put_deed = deeds.deed (event.PutRows before.who None) Done ∷ [] in
+    let e1 : after ≡ record t {
+      has_rows = false;
+      mark = Some (length t.seen);
+      did = t.did ++ deeds.deed (event.PutRows t.who None) Done ∷ [];
+    } =
+    put ∙ ap (λ k. record t {
+      has_rows = false;
+      mark = k;
+      did = t.did ++ deeds.deed (event.PutRows t.who None) Done ∷ [];
+    }) m in
+    let e2 : after ≡ record before {
+      seen = t.seen;
+      beside = [];
+      has_rows = false;
+      mark = Some (length t.seen);
+      did = (before.did ++ deeds.deed (event.TakeRows before.who) Done ∷ []) ++ put_deed;
+    } =
+    e1 ∙ ap (λ (u : TokenRecord). record u {
+      has_rows = false;
+      mark = Some (length t.seen);
+      did = u.did ++ deeds.deed (event.PutRows u.who None) Done ∷ [];
+    }) took.now in
+    let e3 : after ≡ record before {
+      seen = t.seen;
+      beside = [];
+      mark = Some (length t.seen);
+      did = before.did ++ deeds.handed_back before.who;
+    } =
+    e2 ∙ (ap (λ b. record before {
+      seen = t.seen;
+      beside = [];
+      has_rows = b;
+      mark = Some (length t.seen);
+      did = (before.did ++ deeds.deed (event.TakeRows before.who) Done ∷ []) ++ put_deed;
+    }) (sym free) ∙ ap (λ ds. record before {
+      seen = t.seen;
+      beside = [];
+      mark = Some (length t.seen);
+      did = ds;
+    }) (append_assoc before.did (deeds.deed (event.TakeRows before.who) Done ∷ []) put_deed)) in
+    let s : after.seen ≡ t.seen = ap (λ (u : TokenRecord). u.seen) e3 in
+    record {
+      begins = subst (IsPrefix before.seen) (sym s) took.begins;
+      beside = subst (λ xs. All (λ list. IsPrefix list xs) before.beside) (sym s) took.beside;
+      now = subst (λ xs. after ≡ record before {
+        seen = xs;
+        beside = [];
+        mark = Some (length xs);
+        did = before.did ++ deeds.handed_back before.who;
+      }) (sym s) e3;
+    }
 
 pub snapshot_fetched : (before : TokenRecord) (list : List CommitRecord) (taken fetched after : TokenRecord)
     → before.has_writer ≡ false → taken ≡ with_writer before list → Fetches taken fetched
     → after ≡ without_writer fetched → HasFetched before after
 snapshot_fetched before list taken fetched after free first fetches put =
+    let take_deed = deeds.deed (event.TakeWriter (number_of before.who)) Done ∷ [] in
+    let put_deed = deeds.deed (event.PutWriter (number_of before.who)) Done ∷ [] in
     let e2 : fetched ≡ record before {
       seen = fetched.seen;
       beside = [];
       has_writer = true;
       mark = Some (length fetched.seen);
       version = None;
-      did = fetched.did;
+      did = (before.did ++ take_deed) ++ deeds.handed_back before.who;
     } =
     fetches.now ∙ ap (λ (u : TokenRecord). record u {
       seen = fetched.seen;
       beside = [];
       mark = Some (length fetched.seen);
-      did = fetched.did;
+      did = u.did ++ deeds.handed_back u.who;
     }) first in
-    let e1 : after ≡ record fetched { has_writer = false; version = fetched.mark; did = after.did } =
-    done (λ d. record fetched { has_writer = false; version = fetched.mark; did = d }) (λ d. refl) put in
     let e3 : after ≡ record before {
       seen = fetched.seen;
       beside = [];
       has_writer = false;
       mark = Some (length fetched.seen);
       version = Some (length fetched.seen);
-      did = after.did;
+      did = ((before.did ++ take_deed) ++ deeds.handed_back before.who) ++ put_deed;
     } =
-    e1 ∙ ap (λ (u : TokenRecord). record u { has_writer = false; version = u.mark; did = after.did }) e2 in
+    put ∙ ap (λ (u : TokenRecord). record u {
+      has_writer = false;
+      version = u.mark;
+      did = u.did ++ deeds.deed (event.PutWriter (number_of u.who)) Done ∷ [];
+    }) e2 in
     let e4 : after ≡ record before {
       seen = fetched.seen;
       beside = [];
       mark = Some (length fetched.seen);
       version = Some (length fetched.seen);
-      did = after.did;
+      did = before.did ++ deeds.fetched before.who;
     } =
-    e3 ∙ ap (λ b. record before {
+    e3 ∙ (ap (λ b. record before {
       seen = fetched.seen;
       beside = [];
       has_writer = b;
       mark = Some (length fetched.seen);
       version = Some (length fetched.seen);
-      did = after.did;
-    }) (sym free) in
+      did = ((before.did ++ take_deed) ++ deeds.handed_back before.who) ++ put_deed;
+    }) (sym free) ∙ ap (λ ds. record before {
+      seen = fetched.seen;
+      beside = [];
+      mark = Some (length fetched.seen);
+      version = Some (length fetched.seen);
+      did = ds;
+    }) (added_three before.did take_deed (deeds.handed_back before.who) put_deed)) in
     let s : after.seen ≡ fetched.seen = ap (λ (u : TokenRecord). u.seen) put in
     record {
       begins = subst (λ xs. IsPrefix xs after.seen) (ap (λ (u : TokenRecord). u.seen) first)
@@ -282,7 +372,7 @@ snapshot_fetched before list taken fetched after free first fetches put =
         beside = [];
         mark = Some (length xs);
         version = Some (length xs);
-        did = after.did;
+        did = before.did ++ deeds.fetched before.who;
       }) (sym s) e4;
     }
 

@@ -13,7 +13,7 @@ use Rattle.ssb_questions.specs.declared.value.Value.{Value}
 use Rattle.ssb_answers.specs.declared.answer.Answer.{Answer}
 use Rattle.history_core.specs.declared.event.Who.TheVariants.{Client, Dispatcher}
 use Rattle.history.specs.Tokens.{TableRecord, TokenRecord, new_token, new_clients, new_dispatchers}
-use Rattle.ssb_server.specs.Clients.{Refreshed, Looks, Asks, Polls}
+use Rattle.ssb_server.specs.Clients.{Refreshed, Looks, HandsBack, Asks, Polls}
 use Rattle.ssb_server.specs.Ends.{Turned}
 use Rattle.ssb_server.specs.Tickets.{IsQuiet, IsOf}
 use Rattle.ssb_server.specs.declared.turn.Turn.{Turn}
@@ -28,14 +28,19 @@ module _ (table : TableRecord) where
   looks_stays before after quiet looks = stays before after quiet (ap (λ (t : TokenRecord). t.table) looks.now)
       (ap (λ (t : TokenRecord). t.asked) looks.now)
 
+  hands_back_stays : (before after : TokenRecord) → IsQuiet table before → HandsBack before after → IsQuiet table after
+  hands_back_stays before after quiet handed = stays before after quiet (ap (λ (t : TokenRecord). t.table) handed.now)
+      (ap (λ (t : TokenRecord). t.asked) handed.now)
+
   pub refreshed_stays : (number : ℕ) (actions : List Action) (before after : TokenRecord)
       (result : Result Receipt RefreshError) → IsQuiet table before → Refreshed before number actions result after
       → IsQuiet table after
   refreshed_stays number actions before after (Ok receipt) quiet did =
       stays before after quiet (ap (λ (t : TokenRecord). t.table) did.now) (ap (λ (t : TokenRecord). t.asked) did.now)
   refreshed_stays number actions before after (Err (refresh.Refused at action cause)) quiet did =
-      looks_stays before after quiet did.2
-  refreshed_stays number actions before after (Err refresh.OutOfMemory) quiet did = looks_stays before after quiet did.1
+      hands_back_stays before after quiet did.2
+  refreshed_stays number actions before after (Err refresh.OutOfMemory) quiet did =
+      hands_back_stays before after quiet did.1
 
   pub asks_stays : (before after : TokenRecord) (question : Query × List Value) → IsQuiet table before
       → Asks before question after → (after.table ≡ table) × (is_some after.asked ≡ true)
@@ -55,7 +60,7 @@ module _ (table : TableRecord) where
       → IsOf table after
   turned_stays before after Idle here turned = ap (λ (t : TokenRecord). t.table) turned ∙ here
   turned_stays before after (Answered at count) here turned = ap (λ (t : TokenRecord). t.table) turned.1.now ∙ here
-  turned_stays before after (Unserved count cause) here turned = ap (λ (t : TokenRecord). t.table) turned.now ∙ here
+  turned_stays before after (Unserved count cause) here turned = ap (λ (t : TokenRecord). t.table) turned.1.now ∙ here
 
   pub new_clients_are_quiet : (tokens : List TokenRecord) → tokens ≡ new_clients table → All (IsQuiet table) tokens
   new_clients_are_quiet tokens is = subst (All (IsQuiet table)) (sym is)

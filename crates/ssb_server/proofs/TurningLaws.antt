@@ -1,41 +1,61 @@
 -- The steps of a turn together.
-use Rattle.std.proofs.Common.{◌≡◌, ℕ, ◌≤◌, List, [], ◌++◌, length, Some, ap, sym, subst, ◌∙◌, arith}
+use Rattle.std.proofs.Common.{append-nil, ◌≡◌, ℕ, ◌≤◌, List, [], ◌++◌, length, Some, ap, sym, subst, ◌∙◌, arith}
 use Rattle.row_store.specs.History.{CommitRecord, IsPrefix, lines_after}
 use Rattle.row_store.specs.State.{State, StandsFor}
 use Rattle.ssb_base.specs.Base.{Tables}
-use Rattle.twin_cell.specs.Twin.{Known, Entered}
+use Rattle.twin_cell.specs.Twin.{Reading, Entered}
 use Rattle.fact_columns.specs.Stored.{Stored, columns_state}
 use Rattle.history.specs.declared.request.Outcome.{Outcome}
 use Rattle.history.specs.declared.request.Outcome.TheVariants.{Served, GivenUp}
 use Rattle.history.specs.Tokens.{TableRecord, TokenRecord, IsSound, IsFree}
 use Rattle.shared_scan.specs.Answers.{AreSnapshot}
 use Rattle.ssb_server.specs.Hand.{Hand, no_hand, Keeps}
-use Rattle.ssb_server.specs.Turns.{IsDispatcher, HoldsNothing, HasGrabbed, HasFetched, Knows, StandsAt, Gave}
+use Rattle.history.specs.Words.{IsCause}
+use Rattle.history.specs.World.{number_of}
+use Rattle.ssb_answers.specs.declared.answer.Unserved.{Unserved as Cause}
+use Rattle.ssb_answers.specs.declared.answer.Unserved.TheVariants.{OutOfMemory, Twin}
+use Rattle.ssb_server.specs.Deeds as deeds
+use Rattle.ssb_server.specs.Turns.{IsDispatcher, HoldsNothing, HasGrabbed, HasFetched, Knows, StandsAt, Gave, IsTrueCause}
 use Rattle.ssb_server.specs.declared.turn.Turn.{Turn}
 use Rattle.ssb_server.specs.declared.turn.Turn.TheVariants.{Idle, Answered, Unserved}
 use Rattle.ssb_server.specs.Ends.{Finishes, Ends, Grows, Turned}
+use Rattle.ssb_server.proofs.DeedLaws.{added_three}
 use Rattle.ssb_server.proofs.GivingLaws.{none_grabbed}
 
 pub grows : (t0 t1 t2 t3 : TokenRecord) (hand : Hand) (count : ℕ) (outcome : Outcome) → t0.grabbed ≡ []
     → HasGrabbed t0 hand t1 → HasFetched t1 t2 → Gave t2 count outcome t3 → 1 ≤ count → Keeps no_hand t3.grabbed
     → Grows t0 count outcome t3
 grows t0 t1 t2 t3 hand count outcome none grabbed fetched gave some keeps =
-    let e1 : t1 ≡ record t0 { mark = t1.mark; version = t1.version; grabbed = t1.grabbed; did = t1.did } =
-    grabbed.now in
+    let number = number_of t0.who in
+    let home : t3.grabbed ≡ [] = none_grabbed t3.grabbed keeps in
+    let all : t1.grabbed ≡ gave.left = sym (ap (λ (u : TokenRecord). u.grabbed) fetched.now)
+    ∙ (gave.grabbed_is ∙ (ap (λ gs. gave.left ++ gs) home ∙ append-nil gave.left)) in
+    let e1 : t1 ≡ record t0 {
+      mark = t1.mark;
+      version = t1.version;
+      grabbed = t1.grabbed;
+      did = t0.did ++ deeds.grabbed number gave.left;
+    } =
+    grabbed.now ∙ ap (λ gs. record t0 {
+      mark = t1.mark;
+      version = t1.version;
+      grabbed = t1.grabbed;
+      did = t0.did ++ deeds.grabbed number gs;
+    }) all in
     let e2 : t2 ≡ record t0 {
       seen = t2.seen;
       beside = [];
       mark = Some (length t2.seen);
       version = Some (length t2.seen);
       grabbed = t1.grabbed;
-      did = t2.did;
+      did = (t0.did ++ deeds.grabbed number gave.left) ++ deeds.fetched t0.who;
     } =
     fetched.now ∙ ap (λ (u : TokenRecord). record u {
       seen = t2.seen;
       beside = [];
       mark = Some (length t2.seen);
       version = Some (length t2.seen);
-      did = t2.did;
+      did = u.did ++ deeds.fetched u.who;
     }) e1 in
     let e3 : t3 ≡ record t0 {
       seen = t2.seen;
@@ -43,44 +63,56 @@ grows t0 t1 t2 t3 hand count outcome none grabbed fetched gave some keeps =
       mark = Some (length t2.seen);
       version = Some (length t2.seen);
       grabbed = t3.grabbed;
-      given = t0.given ++ gave.more;
-      did = t3.did;
+      given = t0.given ++ deeds.given_to_all outcome gave.left;
+      did = ((t0.did ++ deeds.grabbed number gave.left) ++ deeds.fetched t0.who)
+          ++ deeds.answered number outcome gave.left;
     } =
-    gave.now ∙ ap (λ (u : TokenRecord). record u { grabbed = t3.grabbed; given = u.given ++ gave.more; did = t3.did }) e2 in
-    let home : t3.grabbed ≡ t0.grabbed = none_grabbed t3.grabbed keeps ∙ sym none in
+    gave.now ∙ ap (λ (u : TokenRecord). record u {
+      grabbed = t3.grabbed;
+      given = u.given ++ deeds.given_to_all outcome gave.left;
+      did = u.did ++ deeds.answered (number_of u.who) outcome gave.left;
+    }) e2 in
     let s : t3.seen ≡ t2.seen = ap (λ (u : TokenRecord). u.seen) gave.now in
     let e4 : t3 ≡ record t0 {
       seen = t2.seen;
       beside = [];
       mark = Some (length t2.seen);
       version = Some (length t2.seen);
-      given = t0.given ++ gave.more;
-      did = t3.did;
+      given = t0.given ++ deeds.given_to_all outcome gave.left;
+      did = t0.did ++ deeds.turned t0.who outcome gave.left;
     } =
-    e3 ∙ ap (λ gs. record t0 {
+    e3 ∙ (ap (λ gs. record t0 {
       seen = t2.seen;
       beside = [];
       mark = Some (length t2.seen);
       version = Some (length t2.seen);
       grabbed = gs;
-      given = t0.given ++ gave.more;
-      did = t3.did;
-    }) home in
+      given = t0.given ++ deeds.given_to_all outcome gave.left;
+      did = ((t0.did ++ deeds.grabbed number gave.left) ++ deeds.fetched t0.who)
+          ++ deeds.answered number outcome gave.left;
+    }) (home ∙ sym none) ∙ ap (λ ds. record t0 {
+      seen = t2.seen;
+      beside = [];
+      mark = Some (length t2.seen);
+      version = Some (length t2.seen);
+      given = t0.given ++ deeds.given_to_all outcome gave.left;
+      did = ds;
+    }) (added_three t0.did (deeds.grabbed number gave.left) (deeds.fetched t0.who)
+    (deeds.answered number outcome gave.left))) in
     record {
       begins = subst (λ xs. IsPrefix t0.seen xs) (sym s)
           (subst (λ xs. IsPrefix xs t2.seen) (ap (λ (u : TokenRecord). u.seen) e1) fetched.begins);
-      more = gave.more;
+      hand = gave.left;
       count_is = gave.count_is;
       some = some;
-      outcomes = gave.outcomes;
       fresh = gave.fresh;
       now = subst (λ xs. t3 ≡ record t0 {
         seen = xs;
         beside = [];
         mark = Some (length xs);
         version = Some (length xs);
-        given = t0.given ++ gave.more;
-        did = t3.did;
+        given = t0.given ++ deeds.given_to_all outcome gave.left;
+        did = t0.did ++ deeds.turned t0.who outcome gave.left;
       }) (sym s) e4;
     }
 
@@ -92,9 +124,16 @@ turned t0 t1 t3 hand (Answered at count) none grabbed ends keeps = (
   grows t0 t1 ends.between t3 hand count (Served at) none grabbed ends.fetched ends.finished.2 ends.finished.1
       keeps,
 )
-turned t0 t1 t3 hand (Unserved count cause) none grabbed ends keeps =
-    grows t0 t1 ends.between t3 hand count (GivenUp cause) none grabbed ends.fetched ends.finished.1 ends.finished.0
-    keeps
+turned t0 t1 t3 hand (Unserved count cause) none grabbed ends keeps = (
+  subst (λ (u : TokenRecord). IsTrueCause u.seen cause) (sym ends.finished.2.now) ends.finished.1,
+  grows t0 t1 ends.between t3 hand count (GivenUp cause) none grabbed ends.fetched ends.finished.2 ends.finished.0
+      keeps,
+)
+
+-- a true cause is one that a dispatcher may tell
+pub may_tell : (history : List CommitRecord) (cause : Cause) → IsTrueCause history cause → IsCause cause
+may_tell history OutOfMemory is = tt
+may_tell history (Twin told found) is = λ e. omega (arith, e, is.1)
 
 -- after the parts are home the token is still the dispatcher's, and holds nothing
 pub dispatcher_later : (table : TableRecord) (t u : TokenRecord) → HasFetched t u → IsDispatcher table t → IsDispatcher table u
@@ -117,14 +156,14 @@ sound_later t u count outcome gave is = subst IsSound (sym gave.now)
 pub sound_finished : (t u : TokenRecord) (turn : Turn) → Finishes t turn u → IsSound t → IsSound u
 sound_finished t u Idle ends is = absurd ends
 sound_finished t u (Answered at count) ends is = sound_later t u count (Served at) ends.2 is
-sound_finished t u (Unserved count cause) ends is = sound_later t u count (GivenUp cause) ends.1 is
+sound_finished t u (Unserved count cause) ends is = sound_later t u count (GivenUp cause) ends.2 is
 
 -- the table and what was seen stay
 pub seen_finished : (P : TableRecord → List CommitRecord → Type 0) (t u : TokenRecord) (turn : Turn) → Finishes t turn u
     → P t.table t.seen → P u.table u.seen
 seen_finished P t u Idle ends is = absurd ends
 seen_finished P t u (Answered at count) ends is = subst (λ (x : TokenRecord). P x.table x.seen) (sym ends.2.now) is
-seen_finished P t u (Unserved count cause) ends is = subst (λ (x : TokenRecord). P x.table x.seen) (sym ends.1.now) is
+seen_finished P t u (Unserved count cause) ends is = subst (λ (x : TokenRecord). P x.table x.seen) (sym ends.2.now) is
 
 pub dispatcher_grabbed : (table : TableRecord) (t u : TokenRecord) (hand : Hand) → HasGrabbed t hand u → IsDispatcher table t
     → IsDispatcher table u
@@ -157,14 +196,14 @@ pub copy_base : (t : TokenRecord) (guard : Entered) (columns : Stored) → Stand
 copy_base t guard columns at same = ap (λ (s : State). s.base) same ∙ at.base_is
 
 -- the reader that left knows what is seen
-pub left : (base : Tables) (seen : List CommitRecord) (guard : Entered) (back : Known) → StandsAt base seen guard
+pub left : (base : Tables) (seen : List CommitRecord) (guard : Entered) (back : Reading) → StandsAt base seen guard
     → back.base ≡ guard.state.base → back.told ≡ guard.told → Knows base seen back
 left base seen guard back at back_base back_told = record {
   base_is = back_base ∙ at.base_is;
   told = subst (λ xs. IsPrefix xs seen) (sym back_told) at.told;
 }
 
-pub knows_grabbed : (t u : TokenRecord) (hand : Hand) (reader : Known) → HasGrabbed t hand u → Knows t.table.base t.seen reader
+pub knows_grabbed : (t u : TokenRecord) (hand : Hand) (reader : Reading) → HasGrabbed t hand u → Knows t.table.base t.seen reader
     → Knows u.table.base u.seen reader
 knows_grabbed t u hand reader grabbed knows = subst (λ (x : TokenRecord). Knows x.table.base x.seen reader) (sym grabbed.now)
     knows
@@ -176,9 +215,9 @@ grown_free t u count outcome grows free = subst IsFree (sym grows.now)
 pub turned_free : (t u : TokenRecord) (turn : Turn) → Turned t turn u → IsFree t → IsFree u
 turned_free t u Idle turned free = subst IsFree (sym turned) free
 turned_free t u (Answered at count) turned free = grown_free t u count (Served at) turned.1 free
-turned_free t u (Unserved count cause) turned free = grown_free t u count (GivenUp cause) turned free
+turned_free t u (Unserved count cause) turned free = grown_free t u count (GivenUp cause) turned.1 free
 
 pub turned_who : (t u : TokenRecord) (turn : Turn) → Turned t turn u → u.who ≡ t.who
 turned_who t u Idle turned = ap (λ (x : TokenRecord). x.who) turned
 turned_who t u (Answered at count) turned = ap (λ (x : TokenRecord). x.who) turned.1.now
-turned_who t u (Unserved count cause) turned = ap (λ (x : TokenRecord). x.who) turned.now
+turned_who t u (Unserved count cause) turned = ap (λ (x : TokenRecord). x.who) turned.1.now

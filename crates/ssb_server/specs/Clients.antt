@@ -14,6 +14,7 @@ use Rattle.history_core.specs.declared.event.Who.TheVariants.{Client}
 use Rattle.history.specs.declared.request.PostedQuestion.{PostedQuestion}
 use Rattle.history.specs.Tokens.{TableRecord, TokenRecord, IsSound}
 use Rattle.history.specs.Words.{IsRight, request}
+use Rattle.ssb_server.specs.Deeds as deeds
 
 -- the token is a client's at this table, and does not hold the rows
 pub record IsClient (table : TableRecord) (number : ℕ) (t : TokenRecord) : Type 0 where
@@ -38,23 +39,37 @@ pub record Commits (before : TokenRecord) (commit : CommitRecord) (number : ℕ)
     seen = history ++ commit ∷ [];
     mine = before.mine ++ commit ∷ [];
     beside = [];
-    did = after.did;
+    did = before.did ++ deeds.committed before.who commit.actions number;
   }
 
--- the client sees more, and nothing else of it changed
+-- the client looked: it sees more, and nothing else of it changed
 pub record Looks (before after : TokenRecord) : Type 0 where
   pub begins : IsPrefix before.seen after.seen
-  pub now : after ≡ record before { seen = after.seen; beside = []; did = after.did }
+  pub now : after ≡ record before {
+    seen = after.seen;
+    beside = [];
+    did = before.did ++ deeds.looked before.who (length after.seen) ∷ [];
+  }
 
--- a refresh: a commit, or a refusal after what is seen then, or want of memory where there is none
+-- the client took the row store and gave it back as it was: it sees more, and nothing else of it changed
+pub record HandsBack (before after : TokenRecord) : Type 0 where
+  pub begins : IsPrefix before.seen after.seen
+  pub now : after ≡ record before {
+    seen = after.seen;
+    beside = [];
+    did = before.did ++ deeds.handed_back before.who;
+  }
+
+-- a refresh: a commit, or a refusal after what is seen then, or want of memory where there is none: the row store's
+-- growth was refused
 abbrev pub Refreshed : TokenRecord → ℕ → List Action → Result Receipt RefreshError → TokenRecord → Type 0
 Refreshed before client actions (Ok receipt) after = Commits before (record { client = client; actions = actions })
     receipt.number after
 Refreshed before client actions (Err (refresh.Refused at action cause)) after =
     (at ≡ length after.seen) × (refusal_of after.table.base after.seen actions ≡ Some
-    (record { action = action; cause = cause })) × Looks before after
+    (record { action = action; cause = cause })) × HandsBack before after
 Refreshed before client actions (Err refresh.OutOfMemory) after =
-    (refusal_of after.table.base after.seen actions ≡ None) × Looks before after
+    (refusal_of after.table.base after.seen actions ≡ None) × HandsBack before after
 
 -- the client has asked, with what it sees then as floor
 pub record Asks (before : TokenRecord) (question : Query × List Value) (after : TokenRecord) : Type 0 where
@@ -63,7 +78,7 @@ pub record Asks (before : TokenRecord) (question : Query × List Value) (after :
     seen = after.seen;
     beside = [];
     asked = Some (request question (length after.seen));
-    did = after.did;
+    did = before.did ++ deeds.asked before.who question (length after.seen);
   }
 
 -- the client got an answer to what it had asked, right in what it sees then
@@ -72,4 +87,9 @@ pub record Polls (before : TokenRecord) (reply : Answer) (after : TokenRecord) :
   pub was : before.asked ≡ Some asked
   pub right : IsRight before.table.base after.seen asked reply
   pub begins : IsPrefix before.seen after.seen
-  pub now : after ≡ record before { seen = after.seen; beside = []; asked = None; did = after.did }
+  pub now : after ≡ record before {
+    seen = after.seen;
+    beside = [];
+    asked = None;
+    did = before.did ++ deeds.polled before.who reply (length after.seen);
+  }

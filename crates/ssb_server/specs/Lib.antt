@@ -1,5 +1,6 @@
 pub mod Served
 pub mod Hand
+pub mod Deeds
 pub mod Turns
 pub mod Ends
 pub mod Ready

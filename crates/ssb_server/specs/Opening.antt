@@ -3,7 +3,7 @@ use Rattle.std.specs.Prelude.{◌≡◌, ℕ, ◌≤◌, All, List, [], length}
 use Rattle.ssb_base.specs.Base.{Tables}
 use Rattle.history_core.specs.declared.event.Who.TheVariants.{Dispatcher}
 use Rattle.history.specs.Tokens.{TokenRecord, IsSound, IsFree}
-use Rattle.twin_cell.specs.Twin.{Known}
+use Rattle.twin_cell.specs.Twin.{Reading}
 use Rattle.ssb_server.specs.declared.opening.OpenFault.{OpenFault}
 use Rattle.ssb_server.specs.declared.opening.OpenFault.TheVariants.{ClientCount, DispatcherCount, NoReader, OutOfMemory}
 
@@ -41,11 +41,11 @@ pub record IsNewDispatcher (base : Tables) (t : TokenRecord) : Type 0 where
   pub sound : IsSound t
 
 -- a reader over this base that was told nothing
-abbrev pub IsNewReader : Tables → Known → Type 0
-IsNewReader base reader = reader ≡ record { base = base; told = [] }
+abbrev pub IsNewReader : Tables → Reading → Type 0
+IsNewReader base reader = (reader.base ≡ base) × (reader.told ≡ [])
 
 -- tokens of new dispatchers, and as many new readers, all over one base
-pub record AreSeats (tokens : List TokenRecord) (readers : List Known) : Type 0 where
+pub record AreSeats (tokens : List TokenRecord) (readers : List Reading) : Type 0 where
   pub base : Tables
   pub tokens_are : All (IsNewDispatcher base) tokens
   pub readers_are : All (IsNewReader base) readers

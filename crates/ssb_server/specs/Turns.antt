@@ -1,22 +1,24 @@
 -- What the steps of a turn do to a dispatcher's token.
-use Rattle.std.specs.Prelude.{◌≡◌, ℕ, All, false, List, [], ◌∷◌, ◌++◌, length, map, Some, Result, MatchResult}
+use Rattle.std.specs.Prelude.{◌≡◌, ℕ, ◌<◌, All, false, List, [], ◌∷◌, ◌++◌, length, map, Some, Result, MatchResult}
 use Rattle.std.specs.declared.alloc.AllocError.{AllocError}
 use Rattle.row_store.specs.History.{CommitRecord, IsPrefix}
 use Rattle.row_store.specs.State.{StandsFor}
 use Rattle.ssb_base.specs.Base.{Tables}
 use Rattle.history_core.specs.declared.event.Who.TheVariants.{Dispatcher}
-use Rattle.history.specs.declared.request.Given.{Given}
 use Rattle.history.specs.declared.request.Outcome.{Outcome}
 use Rattle.history.specs.Tokens.{TableRecord, TokenRecord}
-use Rattle.history.specs.Words.{IsFresh, IsCause}
-use Rattle.twin_cell.specs.Twin.{Writing, Known, Entered}
+use Rattle.history.specs.Words.{IsFresh}
+use Rattle.history.specs.World.{number_of}
+use Rattle.twin_cell.specs.Twin.{Writing, Reading, Entered}
 use Rattle.ssb_answers.specs.declared.answer.Unserved.{Unserved}
+use Rattle.ssb_answers.specs.declared.answer.Unserved.TheVariants.{OutOfMemory, Twin}
 use Rattle.history.specs.declared.request.Grabbed.{Grabbed}
 use Rattle.history_core.specs.World.{rows_after}
 use Rattle.ssb_answers.specs.declared.answer.Rows.{Rows}
 use Rattle.ssb_questions.specs.declared.query.Query.{Query}
 use Rattle.ssb_questions.specs.declared.value.Value.{Value}
 use Rattle.ssb_server.specs.Hand.{Hand, Keeps}
+use Rattle.ssb_server.specs.Deeds as deeds
 
 -- the token is a dispatcher's at this table
 pub record IsDispatcher (table : TableRecord) (t : TokenRecord) : Type 0 where
@@ -35,7 +37,7 @@ pub record HasGrabbed (before : TokenRecord) (hand : Hand) (after : TokenRecord)
     mark = after.mark;
     version = after.version;
     grabbed = after.grabbed;
-    did = after.did;
+    did = before.did ++ deeds.grabbed (number_of before.who) after.grabbed;
   }
   pub hand_is : Keeps hand after.grabbed
   pub none : hand.clients ≡ [] → after ≡ before
@@ -48,11 +50,11 @@ pub record HasFetched (before after : TokenRecord) : Type 0 where
     beside = [];
     mark = Some (length after.seen);
     version = Some (length after.seen);
-    did = after.did;
+    did = before.did ++ deeds.fetched before.who;
   }
 
 -- a reader over this base was told a beginning of the history
-pub record Knows (base : Tables) (history : List CommitRecord) (reader : Known) : Type 0 where
+pub record Knows (base : Tables) (history : List CommitRecord) (reader : Reading) : Type 0 where
   pub base_is : reader.base ≡ base
   pub told : IsPrefix reader.told history
 
@@ -67,7 +69,12 @@ pub record StandsAt (base : Tables) (history : List CommitRecord) (guard : Enter
 pub record Fetches (before after : TokenRecord) : Type 0 where
   pub begins : IsPrefix before.seen after.seen
   pub beside : All (λ list. IsPrefix list after.seen) before.beside
-  pub now : after ≡ record before { seen = after.seen; beside = []; mark = Some (length after.seen); did = after.did }
+  pub now : after ≡ record before {
+    seen = after.seen;
+    beside = [];
+    mark = Some (length after.seen);
+    did = before.did ++ deeds.handed_back before.who;
+  }
 
 -- beside what the token has seen lies a list of so many commits
 pub record HasBeside (t : TokenRecord) (count : ℕ) : Type 0 where
@@ -92,10 +99,22 @@ pub record Follows (base : Tables) (history : List CommitRecord) (writer : Writi
   pub base_is : writer.base ≡ base
   pub taken : IsPrefix (writer.published ++ writer.pending) history
 
--- no copy was entered: the reader, and a cause
-pub record Misses (base : Tables) (history : List CommitRecord) (missed : Known × Unserved) : Type 0 where
+-- a cause that is true where this history is seen: want of memory; or of the twin, that the copy stood for more commits
+-- than there are
+abbrev pub IsTrueCause : List CommitRecord → Unserved → Type 0
+IsTrueCause history OutOfMemory = Unit {0}
+IsTrueCause history (Twin told found) = (told ≡ length history) × (told < found)
+
+-- what is found in the cause is the number of commits of the copy that this reader entered last
+abbrev pub IsFound : Reading → Unserved → Type 0
+IsFound reader OutOfMemory = Unit {0}
+IsFound reader (Twin told found) = found ≡ length reader.last
+
+-- no copy is held: the reader, and the cause
+pub record Misses (base : Tables) (history : List CommitRecord) (missed : Reading × Unserved) : Type 0 where
   pub reader : Knows base history missed.0
-  pub cause : IsCause missed.1
+  pub cause : IsTrueCause history missed.1
+  pub found : IsFound missed.0 missed.1
 
 -- the token has this writer, over the table's base, and what it has taken lies beside what the token has seen
 pub record HasTaken (t : TokenRecord) (writer : Writing) : Type 0 where
@@ -120,20 +139,26 @@ answers_after base history questions = map (λ question.
 abbrev pub Answered : Tables → List CommitRecord → Rows → Type 0
 Answered base history found = found.list ≡ rows_after base found.query history
 
--- the newest request has left the hand, and one answer more was given
+-- the newest request has left the hand, and got an answer with this outcome
 pub record GaveOne (before : TokenRecord) (outcome : Outcome) (after : TokenRecord) : Type 0 where
   pub newest : Grabbed
   pub others : List Grabbed
   pub grabbed_is : before.grabbed ≡ newest ∷ others
-  pub given : Given
-  pub outcome_is : given.outcome ≡ outcome
-  pub fresh : IsFresh given
-  pub now : after ≡ record before { grabbed = others; given = before.given ++ given ∷ []; did = after.did }
+  pub fresh : All IsFresh (deeds.given_to_all outcome (newest ∷ []))
+  pub now : after ≡ record before {
+    grabbed = others;
+    given = before.given ++ deeds.given_to_all outcome (newest ∷ []);
+    did = before.did ++ deeds.answered (number_of before.who) outcome (newest ∷ []);
+  }
 
--- so many answers more were given, all with this outcome
+-- so many requests, the newest ones, have left the hand, and got answers with this outcome
 pub record Gave (before : TokenRecord) (count : ℕ) (outcome : Outcome) (after : TokenRecord) : Type 0 where
-  pub more : List Given
-  pub count_is : length more ≡ count
-  pub outcomes : All (λ (given : Given). given.outcome ≡ outcome) more
-  pub fresh : All IsFresh more
-  pub now : after ≡ record before { grabbed = after.grabbed; given = before.given ++ more; did = after.did }
+  pub left : List Grabbed
+  pub count_is : length left ≡ count
+  pub grabbed_is : before.grabbed ≡ left ++ after.grabbed
+  pub fresh : All IsFresh (deeds.given_to_all outcome left)
+  pub now : after ≡ record before {
+    grabbed = after.grabbed;
+    given = before.given ++ deeds.given_to_all outcome left;
+    did = before.did ++ deeds.answered (number_of before.who) outcome left;
+  }

@@ -10,10 +10,10 @@ use crate::batch::Batch;
 use crate::server::{Server, Token};
 use ssb_answers::{Answer, Rows, Unserved};
 use ssb_questions::Question;
-use std::sync::Wait;
+use twin_cell::EndsCopies;
 
 // Answers the request that was grabbed last by its rows.
-fn serve_one<W: Wait + Drop>(
+fn serve_one<W: EndsCopies + Drop>(
     server: &Server<W>,
     token: &mut Token<W>,
     client: u32,
@@ -37,7 +37,7 @@ fn serve_one<W: Wait + Drop>(
 }
 
 // Gives up the request that was grabbed last.
-fn give_up_one<W: Wait + Drop>(
+fn give_up_one<W: EndsCopies + Drop>(
     server: &Server<W>,
     token: &mut Token<W>,
     client: u32,
@@ -57,7 +57,7 @@ fn give_up_one<W: Wait + Drop>(
 }
 
 /// Answers every request in hand by its rows. It tells how many there were.
-pub(crate) fn serve_all<W: Wait + Drop>(
+pub(crate) fn serve_all<W: EndsCopies + Drop>(
     server: &Server<W>,
     token: &mut Token<W>,
     batch: &mut Batch,
@@ -85,7 +85,7 @@ pub(crate) fn serve_all<W: Wait + Drop>(
 }
 
 /// Gives up every request in hand, with the cause. It tells how many there were.
-pub(crate) fn give_up_all<W: Wait + Drop>(
+pub(crate) fn give_up_all<W: EndsCopies + Drop>(
     server: &Server<W>,
     token: &mut Token<W>,
     batch: &mut Batch,

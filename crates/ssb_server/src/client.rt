@@ -16,16 +16,17 @@ use ssb_questions::Question;
 use ssb_schema::Refresh;
 use std::marker::Model;
 use std::sync::{Arc, Wait};
+use twin_cell::EndsCopies;
 
 /// A client's token. Contracts see it.
 #[derive(Drop)]
-pub struct Client<W: Wait + Drop> {
+pub struct Client<W: EndsCopies + Drop> {
     token: Token<W>,
     number: u32,
     asking: bool,
 }
 
-impl<W: Wait + Drop> Model for Client<W> {
+impl<W: EndsCopies + Drop> Model for Client<W> {
     ghost use Rattle.history.specs.Tokens.{TokenRecord};
 
     ghost Value = { TokenRecord };
@@ -38,7 +39,7 @@ impl<W: Wait + Drop> Model for Client<W> {
 }
 
 // Takes the rows, applies the refresh, and gives the rows back.
-fn apply<W: Wait + Drop, R: Wait>(
+fn apply<W: EndsCopies + Drop, R: Wait>(
     rt: &R,
     table: &SharedTable<W>,
     token: &mut Token<W>,
@@ -56,7 +57,7 @@ fn apply<W: Wait + Drop, R: Wait>(
 }
 
 // Looks, and asks.
-fn ask<W: Wait + Drop>(
+fn ask<W: EndsCopies + Drop>(
     table: &SharedTable<W>,
     token: &mut Token<W>,
     number: u32,
@@ -72,7 +73,11 @@ fn ask<W: Wait + Drop>(
 }
 
 // Collects an answer, if there is one, and then looks.
-fn poll<W: Wait + Drop>(table: &SharedTable<W>, token: &mut Token<W>, number: u32) -> Option<Answer>
+fn poll<W: EndsCopies + Drop>(
+    table: &SharedTable<W>,
+    token: &mut Token<W>,
+    number: u32,
+) -> Option<Answer>
     requires client { IsClient table.now number token.old }
     requires sound { IsSound token.old }
     ensures polled { MatchOption result (token.new ≡ token.old) (λ answer. Polls token.old answer token.new) }
@@ -84,7 +89,7 @@ fn poll<W: Wait + Drop>(table: &SharedTable<W>, token: &mut Token<W>, number: u3
 }
 
 /// A client of a token that was just dealt.
-pub(crate) fn new_client<W: Wait + Drop>(token: Token<W>) -> Client<W>
+pub(crate) fn new_client<W: EndsCopies + Drop>(token: Token<W>) -> Client<W>
     requires { IsNewClient token }
     ensures { result ≡ token }
 {
@@ -98,7 +103,7 @@ pub(crate) fn new_client<W: Wait + Drop>(token: Token<W>) -> Client<W>
     }
 }
 
-impl<W: Wait + Drop> Client<W> {
+impl<W: EndsCopies + Drop> Client<W> {
     /// The client's number, counted from 1.
     pub fn number(&self) -> u32
         ensures who { self.now.who ≡ IsNumbered result }
@@ -127,7 +132,8 @@ impl<W: Wait + Drop> Client<W> {
         self.asking
     }
 
-    /// Applies all of the refresh as the next commit, or nothing.
+    /// Applies all of the refresh as the next commit, or nothing. Want of memory is told of a refresh that nothing speaks
+    /// against: the row store's growth was refused, and it is as it was.
     pub fn refresh<R: Wait>(
         &mut self,
         rt: &R,
@@ -201,7 +207,7 @@ impl<W: Wait + Drop> Client<W> {
         ensures looks { Looks self.old self.new }
         ensures met { IsPrefix other.old.seen self.new.seen }
         ensures other { Looks other.old other.new }
-        ensures sound { IsSound self.new }
+        ensures sound { IsSound self.new × IsSound other.new }
     {
         server.table.meet(&mut self.token, &mut other.token)
     }

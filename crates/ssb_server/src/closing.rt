@@ -18,7 +18,8 @@ use row_store::Commit;
 use ssb_base::Base;
 use std::fmt;
 use std::fmt::{Display, Formatter};
-use std::sync::{Arc, Wait};
+use std::sync::Arc;
+use twin_cell::EndsCopies;
 
 /// What a closed server leaves: the base that it was opened over, and every commit.
 #[derive(Drop)]
@@ -29,19 +30,19 @@ pub struct Closed {
 
 /// A client or a dispatcher is missing, or there twice. All is handed back.
 #[derive(Drop)]
-pub struct CloseError<W: Wait + Drop> {
+pub struct CloseError<W: EndsCopies + Drop> {
     pub server: Server<W>,
     pub clients: Vec<Client<W>>,
     pub dispatchers: Vec<Dispatcher<W>>,
 }
 
-impl<W: Wait + Drop> Display for CloseError<W> {
+impl<W: EndsCopies + Drop> Display for CloseError<W> {
     fn fmt<O: fmt::Write>(&self, f: &mut Formatter<O>) -> fmt::Result {
         f.write_str("63 TokenMissing")
     }
 }
 
-impl<W: Wait + Drop> Server<W> {
+impl<W: EndsCopies + Drop> Server<W> {
     /// Ends the server. Its clients and dispatchers are handed in, each once and in any order, and no client is asking.
     pub fn close(
         self,

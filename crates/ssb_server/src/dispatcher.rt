@@ -16,19 +16,19 @@ use history_core::Who;
 use std::marker::Model;
 use std::sync::Wait;
 use std::thread::Threads;
-use twin_cell::TwinReader;
+use twin_cell::{EndsCopies, TwinReader};
 
 /// A dispatcher's token, with its reader of the columns and room for a batch. Contracts see the token; between two
 /// turns it holds nothing.
 #[derive(Drop)]
-pub struct Dispatcher<W: Wait + Drop> {
+pub struct Dispatcher<W: EndsCopies + Drop> {
     token: Token<W>,
     reader: Option<TwinReader<Columns>>,
     batch: Batch,
     number: u32,
 }
 
-impl<W: Wait + Drop> Model for Dispatcher<W> {
+impl<W: EndsCopies + Drop> Model for Dispatcher<W> {
     ghost use Rattle.history.specs.Tokens.{TokenRecord};
 
     ghost Value = { TokenRecord };
@@ -40,7 +40,7 @@ impl<W: Wait + Drop> Model for Dispatcher<W> {
     ghost invariant = { λ d. IsReady d.number d.token d.reader d.batch };
 }
 
-impl<W: Wait + Drop> Dispatcher<W> {
+impl<W: EndsCopies + Drop> Dispatcher<W> {
     /// A dispatcher of a token that was just dealt, with a reader over its base that was told nothing.
     pub(crate) fn new(token: Token<W>, reader: TwinReader<Columns>, batch: Batch) -> Dispatcher<W>
         requires token { IsNewDispatcher reader.base token }
@@ -86,8 +86,11 @@ impl<W: Wait + Drop> Dispatcher<W> {
     {
         self.number
     }
+}
 
-    /// One turn: grabs what is asked, fetches and publishes the commits so far, and answers the batch from one copy.
+impl<W: Wait + Drop> Dispatcher<W> {
+    /// One turn: grabs what is asked, fetches and publishes the commits so far, and answers the batch from one copy. It
+    /// waits for the row store, for the writer, and for readers of the copy that is brought up.
     pub fn turn<R: Wait + Threads + Sync, G: ScanGate>(
         &mut self,
         rt: &R,

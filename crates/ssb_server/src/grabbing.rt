@@ -4,10 +4,10 @@ ghost use Rattle.ssb_server.specs.Turns.{IsDispatcher, HoldsNothing, HasGrabbed}
 
 use crate::batch::Batch;
 use crate::server::{SharedTable, Token};
-use std::sync::Wait;
+use twin_cell::EndsCopies;
 
 /// One try at each client's mailbox, in the order of clients.
-pub(crate) fn grab_all<W: Wait + Drop>(
+pub(crate) fn grab_all<W: EndsCopies + Drop>(
     table: &SharedTable<W>,
     clients: u32,
     token: &mut Token<W>,

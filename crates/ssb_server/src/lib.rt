@@ -7,7 +7,8 @@
 //! asked.
 //!
 //! Contracts see each client and dispatcher as a token (`specs/Clients.antt`, `specs/Ends.antt`); what a call does not
-//! name of it stays. Which clause says which part:
+//! name of it stays, and to the record of what it did the call adds the events of `specs/Deeds.antt`, no others. Which
+//! clause says which part:
 //!
 //! - one list, and legal: `sound` of every call (`IsSound`: the history that the token has seen is legal, its own
 //!   commits are those of its number); it only grows: `begins` in what `refresh`, `ask`, `poll`, `meet` and `turn` say;
@@ -52,3 +53,4 @@ pub use dispatcher::Dispatcher;
 pub use opening::{MOST_DISPATCHERS, OpenError, OpenFault, Opened, open};
 pub use server::Server;
 pub use turn::{OpenGate, ScanGate, Turn};
+pub use twin_cell::EndsCopies;

@@ -20,8 +20,9 @@ use ssb_base::Base;
 use std::alloc::{AllocError, Global};
 use std::hash::RandomState;
 use std::sync::{Arc, Mutex, Wait};
+use std::thread::Threads;
 use thiserror::Error;
-use twin_cell::{TwinError, TwinReader, twin};
+use twin_cell::{EndsCopies, TwinError, TwinReader, twin};
 
 /// The greatest number of dispatchers.
 pub const MOST_DISPATCHERS: u32 = 4;
@@ -52,14 +53,14 @@ pub struct OpenError {
 
 /// A new server, with its clients and its dispatchers, each by number from 1.
 #[derive(Drop)]
-pub struct Opened<W: Wait + Drop> {
+pub struct Opened<W: EndsCopies + Drop> {
     pub server: Server<W>,
     pub clients: Vec<Client<W>>,
     pub dispatchers: Vec<Dispatcher<W>>,
 }
 
 // A dispatcher of each token, with a reader and room for a batch.
-fn dispatchers_of<W: Wait + Drop>(
+fn dispatchers_of<W: EndsCopies + Drop>(
     alloc: Global,
     tokens: Vec<Token<W>>,
     mut readers: Vec<TwinReader<Columns>>,
@@ -79,7 +80,7 @@ fn dispatchers_of<W: Wait + Drop>(
 }
 
 // The server over a table that was just made.
-fn server_over<W: Wait + Drop>(
+fn server_over<W: EndsCopies + Drop>(
     alloc: Global,
     table: SharedTable<W>,
     clients: u32,
@@ -101,7 +102,7 @@ fn server_over<W: Wait + Drop>(
 }
 
 // The clients and dispatchers of a table that was just made, with the server over it.
-fn seat_all<W: Wait + Drop>(
+fn seat_all<W: EndsCopies + Drop>(
     alloc: Global,
     opened: history::OpenedTable<twin_cell::TwinWriter<Columns, W>>,
     readers: Vec<TwinReader<Columns>>,
@@ -139,6 +140,7 @@ struct ServerParts {
 
 // The parts over a base.
 fn parts_of(
+    rt: &(impl Threads + Sync),
     alloc: Global,
     hashing: RandomState,
     base: &Arc<Base>,
@@ -148,12 +150,12 @@ fn parts_of(
 {
     let index = index_of(alloc, base)?;
     let rows = RowStore::new(alloc, Arc::try_clone(base)?, hashing)?;
-    let columns = Columns::new(alloc, index, hashing)?;
+    let columns = Columns::new(rt, alloc, index, hashing)?;
     Ok(ServerParts { rows, columns })
 }
 
 // Builds all parts over a base, for counts in their ranges.
-fn build<W: Wait + Drop>(
+fn build<W: Threads + Sync + Wait + Drop>(
     alloc: Global,
     rt: W,
     hashing: RandomState,
@@ -167,7 +169,7 @@ fn build<W: Wait + Drop>(
     ensures clients { IfOk result (λ made. made.clients.items ≡ new_clients made.server) }
     ensures dispatchers { IfOk result (λ made. made.dispatchers.items ≡ new_dispatchers made.server) }
 {
-    let Ok(parts) = parts_of(alloc, hashing, base) else {
+    let Ok(parts) = parts_of(&rt, alloc, hashing, base) else {
         return Err(TwinError::OutOfMemory);
     };
     let ServerParts { rows, columns } = parts;
@@ -184,7 +186,7 @@ fn build<W: Wait + Drop>(
 /// Opens a server over a base, for 1 to 16 clients and 1 to 4 dispatchers. `rt` is the handle by which the writer of
 /// the columns waits, and `hashing` keys the map of orders. The client count is looked at first, then the dispatcher
 /// count; any fault hands the base back.
-pub fn open<W: Wait + Drop>(
+pub fn open<W: Threads + Sync + Wait + Drop>(
     alloc: Global,
     rt: W,
     hashing: RandomState,

@@ -5,6 +5,7 @@ use crate::server::SharedTable;
 use std::sync::Wait;
 use std::sync::atomic::{AtomicU64, Ordering};
 use std::time::Duration;
+use twin_cell::EndsCopies;
 
 /// How many commits follow those that a batch is brought up to before clients wait for its end. A dispatcher takes that
 /// many into a copy in some 3 ms.
@@ -51,7 +52,7 @@ impl Pace {
 
     /// Lets the client wait that has made this commit, if a dispatcher wants the row store or it is far ahead of a
     /// batch. Whoever waits for the row store then goes on, since nobody else would wake them.
-    pub(crate) fn keep<W: Wait + Drop, R: Wait>(
+    pub(crate) fn keep<W: EndsCopies + Drop, R: Wait>(
         &self,
         rt: &R,
         table: &SharedTable<W>,

@@ -3,11 +3,11 @@ ghost use Rattle.std.specs.Prelude.{◌≡◌, ◌≤◌, [], vec_capacity};
 
 use crate::server::Token;
 use std::alloc::{AllocError, Global};
-use std::sync::Wait;
+use twin_cell::EndsCopies;
 
 /// Room for the tokens of 16 clients and 4 dispatchers, and nothing in it.
 #[derive(Drop)]
-pub(crate) struct ClosingRoom<W: Wait + Drop> {
+pub(crate) struct ClosingRoom<W: EndsCopies + Drop> {
     pub(crate) clients: Vec<Token<W>>,
     pub(crate) dispatchers: Vec<Token<W>>,
     ghost no_clients: { clients.items ≡ [] },
@@ -16,7 +16,7 @@ pub(crate) struct ClosingRoom<W: Wait + Drop> {
     ghost dispatcher_room: { 4 ≤ vec_capacity dispatchers },
 }
 
-impl<W: Wait + Drop> ClosingRoom<W> {
+impl<W: EndsCopies + Drop> ClosingRoom<W> {
     pub(crate) fn new(alloc: Global) -> Result<ClosingRoom<W>, AllocError> {
         Ok(ClosingRoom {
             clients: Vec::with_capacity(alloc, 16)?,

@@ -3,7 +3,6 @@ ghost use Rattle.std.specs.Prelude.{◌≡◌, ◌≤◌, true, false, [], ◌�
 ghost use Rattle.row_store.specs.History.{IsPrefix, lines_after};
 ghost use Rattle.row_store.specs.State.{StandsFor};
 ghost use Rattle.history.specs.Tokens.{IsSound};
-ghost use Rattle.history.specs.Words.{IsCause};
 ghost use Rattle.ssb_server.specs.Turns.{IsDispatcher, HoldsNothing, HasFetched, Knows, StandsAt, Fetches, HasBeside};
 ghost use Rattle.ssb_server.specs.Turns.{HasTaken, Appends, Follows, Misses};
 
@@ -15,7 +14,7 @@ use row_store::{Commit, Follower, Replica};
 use ssb_answers::Unserved;
 use std::alloc::{AllocError, Global};
 use std::sync::Wait;
-use twin_cell::{Guard, TwinReader, TwinWriter};
+use twin_cell::{EndsCopies, Guard, TwinReader, TwinWriter};
 
 /// Why no copy was entered, with the reader.
 pub(crate) type Missed = (TwinReader<Columns>, Unserved);
@@ -32,7 +31,7 @@ fn copy_of(alloc: Global, commits: &[Commit]) -> Result<Vec<Commit>, AllocError>
 
 // Takes the rows, copies the commits that the writer lacks, and gives the rows back as they were. Clients let it token,
 // and keep near to these commits from then on.
-fn fetch<W: Wait + Drop, R: Wait>(
+fn fetch<W: EndsCopies + Drop, R: Wait>(
     rt: &R,
     alloc: Global,
     table: &SharedTable<W>,
@@ -60,7 +59,7 @@ fn fetch<W: Wait + Drop, R: Wait>(
 }
 
 // The commits are pending from now on; where memory is wanting, the first of them are.
-fn append_all<W: Wait + Drop>(
+fn append_all<W: EndsCopies + Drop>(
     writer: &mut TwinWriter<Columns, W>,
     commits: Vec<Commit>,
 ) -> Result<(), AllocError>
@@ -93,7 +92,7 @@ fn publish_pending<W: Wait + Drop>(
 }
 
 // Tells the reader what is published, and enters. The copy holds just as many commits as were told.
-fn enter<W: Wait + Drop, R: Wait>(
+fn enter<W: EndsCopies + Drop, R: Wait>(
     rt: &R,
     writer: &mut TwinWriter<Columns, W>,
     mut reader: TwinReader<Columns>,

@@ -9,10 +9,10 @@ use crate::client::{Client, new_client};
 use crate::dispatcher::Dispatcher;
 use crate::server::Token;
 use std::alloc::{AllocError, Global};
-use std::sync::Wait;
+use twin_cell::EndsCopies;
 
 /// A client of each token.
-pub(crate) fn clients_of<W: Wait + Drop>(
+pub(crate) fn clients_of<W: EndsCopies + Drop>(
     alloc: Global,
     tokens: Vec<Token<W>>,
 ) -> Result<Vec<Client<W>>, AllocError>
@@ -28,7 +28,7 @@ pub(crate) fn clients_of<W: Wait + Drop>(
 }
 
 // Whether just one client has the number.
-fn has_once<W: Wait + Drop>(clients: &[Client<W>], number: u32) -> bool
+fn has_once<W: EndsCopies + Drop>(clients: &[Client<W>], number: u32) -> bool
     ensures { result ≡ (count_by (λ (t : TokenRecord). number_of t.who == number) clients.now == 1) }
 {
     clients
@@ -39,7 +39,7 @@ fn has_once<W: Wait + Drop>(clients: &[Client<W>], number: u32) -> bool
 }
 
 /// Whether these are so many clients, with each number once.
-pub(crate) fn are_clients_numbered<W: Wait + Drop>(clients: &[Client<W>], count: u32) -> bool
+pub(crate) fn are_clients_numbered<W: EndsCopies + Drop>(clients: &[Client<W>], count: u32) -> bool
     ensures { IsTrue result ↔ AreNumbered count clients.now }
 {
     if clients.len() != count as usize {
@@ -54,7 +54,10 @@ pub(crate) fn are_clients_numbered<W: Wait + Drop>(clients: &[Client<W>], count:
 }
 
 /// The tokens of the clients, in room that is there.
-pub(crate) fn gather_clients<W: Wait + Drop>(tokens: &mut Vec<Token<W>>, clients: Vec<Client<W>>)
+pub(crate) fn gather_clients<W: EndsCopies + Drop>(
+    tokens: &mut Vec<Token<W>>,
+    clients: Vec<Client<W>>,
+)
     requires { vec_len tokens.old + vec_len clients ≤ vec_capacity tokens.old }
     ensures items { tokens.new.items ≡ tokens.old.items ++ clients.items }
     ensures len { vec_len tokens.new ≡ vec_len tokens.old + vec_len clients }
@@ -67,7 +70,7 @@ pub(crate) fn gather_clients<W: Wait + Drop>(tokens: &mut Vec<Token<W>>, clients
 }
 
 // Whether just one dispatcher has the number.
-fn has_dispatcher_once<W: Wait + Drop>(dispatchers: &[Dispatcher<W>], number: u32) -> bool
+fn has_dispatcher_once<W: EndsCopies + Drop>(dispatchers: &[Dispatcher<W>], number: u32) -> bool
     ensures { result ≡ (count_by (λ (t : TokenRecord). number_of t.who == number) dispatchers.now == 1) }
 {
     dispatchers
@@ -78,7 +81,7 @@ fn has_dispatcher_once<W: Wait + Drop>(dispatchers: &[Dispatcher<W>], number: u3
 }
 
 /// Whether these are so many dispatchers, with each number once.
-pub(crate) fn are_dispatchers_numbered<W: Wait + Drop>(
+pub(crate) fn are_dispatchers_numbered<W: EndsCopies + Drop>(
     dispatchers: &[Dispatcher<W>],
     count: u32,
 ) -> bool
@@ -96,7 +99,7 @@ pub(crate) fn are_dispatchers_numbered<W: Wait + Drop>(
 }
 
 /// The tokens of the dispatchers, in room that is there.
-pub(crate) fn gather_dispatchers<W: Wait + Drop>(
+pub(crate) fn gather_dispatchers<W: EndsCopies + Drop>(
     tokens: &mut Vec<Token<W>>,
     dispatchers: Vec<Dispatcher<W>>,
 )

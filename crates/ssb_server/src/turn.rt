@@ -1,9 +1,10 @@
 //! A turn, over the parts of a dispatcher.
 ghost use Rattle.std.specs.Prelude.{◌≡◌, ◌<◌, ◌≤◌, [], length, Some, IfOk};
 ghost use Rattle.history.specs.Tokens.{IsSound};
+ghost use Rattle.twin_cell.specs.Twin.{Reading};
 ghost use Rattle.ssb_server.specs.Hand.{Keeps, no_hand};
 ghost use Rattle.ssb_server.specs.Turns.{answers_after, IsDispatcher, HoldsNothing, Knows, HasFetched};
-ghost use Rattle.ssb_server.specs.Ends.{Finishes, Ends, Turned};
+ghost use Rattle.ssb_server.specs.Ends.{Finishes, Ends, Turned, TellsFound};
 
 use crate::answers::{give_up_all, serve_all};
 use crate::batch::Batch;
@@ -16,7 +17,7 @@ use ssb_answers::{Rows, Unserved};
 use std::alloc::AllocError;
 use std::sync::Wait;
 use std::thread::Threads;
-use twin_cell::TwinReader;
+use twin_cell::{EndsCopies, TwinReader};
 
 /// What a turn of a dispatcher did.
 #[derive(Clone, Copy, Debug, PartialEq, Eq)]
@@ -44,7 +45,7 @@ impl ScanGate for OpenGate {
 }
 
 // Answers every request in hand by the rows that were found, or gives it up.
-fn finish<W: Wait + Drop>(
+fn finish<W: EndsCopies + Drop>(
     server: &Server<W>,
     token: &mut Token<W>,
     batch: &mut Batch,
@@ -59,6 +60,7 @@ fn finish<W: Wait + Drop>(
     requires rows { IfOk scanned (λ rows. rows.items ≡ answers_after token.old.table.base token.old.seen
         batch.old.questions) }
     ensures finished { Finishes token.old result token.new }
+    ensures found { (reader : Reading) → TellsFound reader result }
     ensures empty { batch.new ≡ no_hand }
     ensures hand { Keeps no_hand token.new.grabbed }
 {
@@ -90,6 +92,7 @@ fn serve<W: Wait + Drop, R: Wait + Threads + Sync, G: ScanGate>(
     requires some { (0 < length batch.old.clients) × (length batch.old.questions ≤ 16) }
     requires reader { Knows token.old.table.base token.old.seen reader }
     ensures ended { Ends token.old result.1 token.new }
+    ensures found { TellsFound result.0 result.1 }
     ensures reader { Knows token.new.table.base token.new.seen result.0 }
     ensures sound { IsSound token.new }
     ensures empty { batch.new ≡ no_hand }
@@ -136,6 +139,7 @@ pub(crate) fn take_turn<W: Wait + Drop, R: Wait + Threads + Sync, G: ScanGate>(
     requires empty { batch.old ≡ no_hand }
     requires reader { Knows token.old.table.base token.old.seen reader }
     ensures turned { Turned token.old result.1 token.new }
+    ensures found { TellsFound result.0 result.1 }
     ensures reader { Knows token.new.table.base token.new.seen result.0 }
     ensures sound { IsSound token.new }
     ensures empty { batch.new ≡ no_hand }

@@ -6,3 +6,7 @@ pub mod GivenLaws
 pub mod ReadingLaws
 pub mod RowLaws
 pub mod LoadLaws
+pub mod RecordLaws
+pub mod ParsingLaws
+pub mod JoiningLaws
+pub mod AheadLaws

@@ -64,7 +64,7 @@ AllZip-push P [] (b ∷ ys) x y all here = absurd all
 AllZip-push P (a ∷ xs) [] x y all here = absurd all
 AllZip-push P (a ∷ xs) (b ∷ ys) x y all here = (all.0, AllZip-push P xs ys x y all.1 here)
 
-length-AllZip : {A B : Type 0} (P : A → B → Type 0) (xs : List A) (ys : List B) → AllZip P xs ys → length xs ≡ length ys
+pub length-AllZip : {A B : Type 0} (P : A → B → Type 0) (xs : List A) (ys : List B) → AllZip P xs ys → length xs ≡ length ys
 length-AllZip P [] [] all = refl
 length-AllZip P [] (b ∷ ys) all = absurd all
 length-AllZip P (a ∷ xs) [] all = absurd all

@@ -4,3 +4,9 @@ pub mod Row
 pub mod DateColumns
 pub mod Tables
 pub mod Load
+pub mod Appended
+-- how the code reads lines in blocks
+pub mod Lines
+pub mod Parsing
+pub mod Joining
+pub mod Ahead

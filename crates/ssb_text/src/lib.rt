@@ -4,27 +4,33 @@
 //! ```text
 //! bytes ── record_reader, next_record ─▶ record ── trimmed_at ─▶ field ── number, text ─▶ what it spells
 //! five files ── load ─▶ Base         a record's fields ── line_of ─▶ Line
+//! lineorder ── Blocks ─▶ blocks ── all processors ─▶ lines of each, up to its first fault ── join ─▶ lines, or the fault
 //! ```
 //!
 //! The five tables, a client's script and a run's trace are all such texts, and are read by these calls alone. The
 //! contract of [`next_record`]: what is given is exactly the next record of the text, and where none is found, all of
 //! them were given. That of [`load`]: what is loaded is exactly what the files spell, and what is refused is refused for
 //! the first reason that there is, in the order of the files, their records and their columns; only a failed read and
-//! want of memory may come before it.
+//! want of memory may come before it. It says nothing of blocks: that they change nothing rests on the law of
+//! [`records_of_appended`].
 //!
 //! The definitions stand in `specs/`, from the bottom up: `Records` (the records of a text), `Spelling` (what a field
 //! spells), `Row` (a record's row, or its first fault), `Tables` (a file's rows) and `Load` (the base of five files).
 //!
-//! `load(alloc, Limits::standard(), Tables { customer, supplier, part, date, lineorder })?` gives the base of five open
-//! files. Of the text `query|Q4.1 ` the first record has two columns, and `trimmed_at(&record, 1)` is `Q4.1`.
+//! `load(rt, alloc, Limits::standard(), 4_194_304, Tables { customer, supplier, part, date, lineorder })?` gives the base
+//! of five open files. Of the text `query|Q4.1 ` the first record has two columns, and `trimmed_at(&record, 1)` is `Q4.1`.
 #![tactic(auto)]
 
+mod ahead;
 mod customer;
 mod date;
 mod error;
 mod fields;
+mod joining;
+mod law;
 mod line;
 mod loading;
+mod parsing;
 mod part;
 mod records;
 mod row;
@@ -34,6 +40,7 @@ mod table;
 
 pub use error::{LineFault, LoadError};
 pub use fields::{field_at, has_columns, trimmed_at};
+pub use law::records_of_appended;
 pub use line::line_of;
 pub use loading::{Tables, load};
 pub use records::{ReadError, next_record, record_reader};

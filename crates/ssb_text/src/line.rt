@@ -6,33 +6,48 @@ ghost use Rattle.ssb_schema.specs.Rows.{line_values};
 ghost use Rattle.ssb_text.specs.Row.{Gives, row_of};
 
 use crate::error::LineFault;
-use crate::row::{RecordFields, TableRow, read_number, read_text};
+use crate::row::{RecordFields, TableRow, read_number, read_str};
 use csv::ByteRecord;
-use ssb_schema::{Column, Fields, Line, LineFields, Row, Table};
+use ssb_schema::{Column, Fields, Line, LineFields, LineTexts, Row, Table};
 use std::alloc::Global;
 
 impl RecordFields for LineFields {
     #[tactic(auto, unfolding(crate::specs::Row::values_from))]
     fn of_record(alloc: Global, record: &ByteRecord) -> Result<LineFields, LineFault> {
         let table = Table::Lineorder;
+        let order_key = read_number(record, Column { table, place: 1 })?;
+        let line_number = read_number(record, Column { table, place: 2 })?;
+        let customer_key = read_number(record, Column { table, place: 3 })?;
+        let part_key = read_number(record, Column { table, place: 4 })?;
+        let supplier_key = read_number(record, Column { table, place: 5 })?;
+        let order_date = read_number(record, Column { table, place: 6 })?;
+        let order_priority = read_str(record, Column { table, place: 7 })?;
+        let ship_priority = read_str(record, Column { table, place: 8 })?;
+        let quantity = read_number(record, Column { table, place: 9 })?;
+        let extended_price = read_number(record, Column { table, place: 10 })?;
+        let order_total_price = read_number(record, Column { table, place: 11 })?;
+        let discount = read_number(record, Column { table, place: 12 })?;
+        let revenue = read_number(record, Column { table, place: 13 })?;
+        let supply_cost = read_number(record, Column { table, place: 14 })?;
+        let tax = read_number(record, Column { table, place: 15 })?;
+        let commit_date = read_number(record, Column { table, place: 16 })?;
+        let ship_mode = read_str(record, Column { table, place: 17 })?;
         Ok(LineFields {
-            order_key: read_number(record, Column { table, place: 1 })?,
-            line_number: read_number(record, Column { table, place: 2 })?,
-            customer_key: read_number(record, Column { table, place: 3 })?,
-            part_key: read_number(record, Column { table, place: 4 })?,
-            supplier_key: read_number(record, Column { table, place: 5 })?,
-            order_date: read_number(record, Column { table, place: 6 })?,
-            order_priority: read_text(alloc, record, Column { table, place: 7 })?,
-            ship_priority: read_text(alloc, record, Column { table, place: 8 })?,
-            quantity: read_number(record, Column { table, place: 9 })?,
-            extended_price: read_number(record, Column { table, place: 10 })?,
-            order_total_price: read_number(record, Column { table, place: 11 })?,
-            discount: read_number(record, Column { table, place: 12 })?,
-            revenue: read_number(record, Column { table, place: 13 })?,
-            supply_cost: read_number(record, Column { table, place: 14 })?,
-            tax: read_number(record, Column { table, place: 15 })?,
-            commit_date: read_number(record, Column { table, place: 16 })?,
-            ship_mode: read_text(alloc, record, Column { table, place: 17 })?,
+            order_key,
+            line_number,
+            customer_key,
+            part_key,
+            supplier_key,
+            order_date,
+            quantity,
+            extended_price,
+            order_total_price,
+            discount,
+            revenue,
+            supply_cost,
+            tax,
+            commit_date,
+            texts: LineTexts::new(alloc, order_priority, ship_priority, ship_mode)?,
         })
     }
 }

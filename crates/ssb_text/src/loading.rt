@@ -6,12 +6,14 @@ ghost use Rattle.ssb_schema.specs.declared.table.Table.{Table};
 ghost use Rattle.ssb_text.specs.Load as spec;
 ghost use Rattle.ssb_text.specs.Load.{AreTexts, IsLoadFault, SpellsBase, StopsIn, all_tables};
 
+use crate::ahead::read_lines;
 use crate::error::LoadError;
 use crate::table::read_table;
 use ssb_base::{Base, BaseError, BaseParts, Limits};
 use ssb_schema::{SchemaFault, Table};
 use std::alloc::Global;
 use std::io::Read;
+use std::thread::Threads;
 
 /// The readers of the five tables' files (Star Schema Benchmark, section 2).
 #[derive(Drop)]
@@ -59,8 +61,10 @@ fn limit_of(limits: Limits, table: Table) -> usize
 
 // The rows of the five tables, read in their order.
 fn read_parts<R: Read + Drop>(
+    rt: &(impl Threads + Sync),
     alloc: Global,
     limits: Limits,
+    block: u32,
     tables: Tables<R>,
 ) -> Result<BaseParts, LoadError>
     ensures spelled { IfOk result (λ parts. (texts : Table → List ℕ) → AreTexts R.remaining tables texts
@@ -73,17 +77,19 @@ fn read_parts<R: Read + Drop>(
         suppliers: read_table(alloc, limits.dimension_rows, tables.supplier)?,
         parts: read_table(alloc, limits.dimension_rows, tables.part)?,
         dates: read_table(alloc, limits.dimension_rows, tables.date)?,
-        lines: read_table(alloc, limits.lines, tables.lineorder)?,
+        lines: read_lines(rt, alloc, limits.lines, block, tables.lineorder)?,
     })
 }
 
-/// The base that five table files spell. The files are read in the order customer, supplier, part, date,
-/// lineorder, and the first fault ends the load: each row's in turn, and only after all five files those
-/// between the rows, as a repeated key or a line that names an unknown customer. `OutOfMemory` and `Read`
-/// come where memory or a reader fails.
+/// The base that five table files spell, lineorder parsed by as many threads as there are processors, in blocks of
+/// about `block` bytes. The files are read in the order customer, supplier, part, date, lineorder, and the first fault
+/// ends the load: each row's in turn, and only after all five files those between the rows, as a repeated key or a line
+/// that names an unknown customer. `OutOfMemory` and `Read` come where memory or a reader fails.
 pub fn load<R: Read + Drop>(
+    rt: &(impl Threads + Sync),
     alloc: Global,
     limits: Limits,
+    block: u32,
     tables: Tables<R>,
 ) -> Result<Base, LoadError>
     ensures limits { IfOk result (λ base. base.limits ≡ limits) }
@@ -92,7 +98,7 @@ pub fn load<R: Read + Drop>(
     ensures fault { IfErr result (λ e. (texts : Table → List ℕ) → AreTexts R.remaining tables texts
         → IsLoadFault limits texts e) }
 {
-    match Base::new(alloc, limits, read_parts(alloc, limits, tables)?) {
+    match Base::new(alloc, limits, read_parts(rt, alloc, limits, block, tables)?) {
         Ok(base) => Ok(base),
         Err(BaseError::Refused(refused)) => match LoadError::in_base(limits, refused.fault) {
             Some(e) => Err(e),

@@ -84,3 +84,12 @@ pub(crate) fn read_text(
         None => Err(LineFault::NotUtf8(column)),
     }
 }
+
+// The text that a record spells in a column, where it lies.
+#[tactic(auto, unfolding(crate::specs::Row::text_at))]
+pub(crate) fn read_str(fields: &ByteRecord, column: Column) -> Result<&str, LineFault>
+    requires { 1 ≤ column.place }
+    ensures { Gives (λ t. t.now) result (text_at column (get_or (fields_of fields.now) (column.place - 1) [])) }
+{
+    text(trimmed_at(fields, column.place - 1)).ok_or(LineFault::NotUtf8(column))
+}

@@ -16,7 +16,7 @@ use std::io::Read;
 impl LoadError {
     ghost use Rattle.ssb_text.specs.Tables.{in_row, in_table};
 
-    // The fault of a table whose next record could not be read.
+    /// The fault of a table whose next record could not be read.
     pub(crate) fn in_table(table: Table, why: ReadError) -> LoadError
         ensures { result ≡ in_table table why }
     {
@@ -26,8 +26,8 @@ impl LoadError {
         }
     }
 
-    // The fault of a record, told by its table and its number.
-    fn in_row(table: Table, number: usize, fault: LineFault) -> LoadError
+    /// The fault of a record, told by its table and its number.
+    pub(crate) fn in_row(table: Table, number: usize, fault: LineFault) -> LoadError
         ensures { result ≡ in_row table number fault }
     {
         match fault {

@@ -20,8 +20,8 @@ use Rattle.ssb_trace.proofs.TraceLaws.{spells_its_trace, spells_no_other}
 
 pub line_made : {T : Type 0} (fields : LineFields) (made : Result LineFields (Refused T))
     → fault_of made ≡ row_fault table.Lineorder (line_values fields)
-    → IfOk made (λ line. line ≡ fields) → IsUtf8 fields.order_priority → IsUtf8 fields.ship_priority
-    → IsUtf8 fields.ship_mode → IfOk made IsAllowedLine
+    → IfOk made (λ line. line ≡ fields) → IsUtf8 fields.texts.order_priority → IsUtf8 fields.texts.ship_priority
+    → IsUtf8 fields.texts.ship_mode → IfOk made IsAllowedLine
 line_made fields (Ok line) fault same priority ship mode =
     subst IsAllowedLine (sym same)
     (record {

@@ -25,9 +25,9 @@ pub fn allowed_line(fields: LineFields) -> Result<Line, Refused<LineFields>>
     ensures row { IfOk result (λ line. line ≡ fields) }
     ensures allowed { IfOk result IsAllowedLine }
 {
-    let _priority = fields.order_priority.as_str();
-    let _ship = fields.ship_priority.as_str();
-    let _mode = fields.ship_mode.as_str();
+    let _priority = fields.texts.order_priority();
+    let _ship = fields.texts.ship_priority();
+    let _mode = fields.texts.ship_mode();
     Line::new(fields)
 }
 

@@ -39,6 +39,7 @@ mod unfinished;
 mod word;
 mod writing;
 
+pub use committed::commits_are_allowed;
 pub use heads::{AnswerHead, client_of_commit, head_of};
 pub use held::{allowed_line, legal_trace_is_read_back, question_is_allowed};
 pub use laws::one_reading;

@@ -7,7 +7,7 @@ use ssb_base::Base;
 use ssb_schema::{CustomerFields, DateFields, Fields, PartFields, Row, SupplierFields, Text};
 
 // A text is UTF-8.
-pub(crate) fn is_text(text: &Text)
+fn is_text(text: &Text)
     ensures { IsUtf8 text.now }
 {
     let _text = text.as_str();

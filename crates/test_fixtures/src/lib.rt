@@ -4,7 +4,7 @@
 //! It promises nothing: what is done with it, the tests compare with answers that were worked out by hand.
 //!
 //! ```text
-//! let base = small_base(alloc, Limits::standard())?;
+//! let base = small_base(rt, alloc, Limits::standard())?;
 //! let refresh = refresh(alloc, "withdraw|1\nwithdraw|2\n")?;
 //! ```
 #![tactic(auto)]

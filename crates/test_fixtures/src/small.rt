@@ -6,13 +6,21 @@ use ssb_text::load;
 use std::alloc::Global;
 use std::sync::Arc;
 use std::test::Fail;
+use std::thread::Threads;
+
+// Of this size a block has one line of the small data set.
+const BLOCK: u32 = 64;
 
 /// The small data set, of four lines, within these limits.
-pub fn small_base(alloc: Global, limits: Limits) -> Result<Arc<Base>, Fail> {
-    Ok(Arc::new(alloc, load(alloc, limits, tables())?)?)
+pub fn small_base(
+    rt: &(impl Threads + Sync),
+    alloc: Global,
+    limits: Limits,
+) -> Result<Arc<Base>, Fail> {
+    Ok(Arc::new(alloc, load(rt, alloc, limits, BLOCK, tables())?)?)
 }
 
 /// The small data set within the program's limits.
-pub fn standard_base(alloc: Global) -> Result<Arc<Base>, Fail> {
-    small_base(alloc, Limits::standard())
+pub fn standard_base(rt: &(impl Threads + Sync), alloc: Global) -> Result<Arc<Base>, Fail> {
+    small_base(rt, alloc, Limits::standard())
 }

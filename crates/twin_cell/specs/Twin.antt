@@ -12,10 +12,16 @@ pub record Writing : Type 0 where
   pub published : List CommitRecord
   pub pending : List CommitRecord
 
--- a reader or a note: the base, and commits that are known to be published over it
+-- a note: the base, and commits that are known to be published over it
 pub record Known : Type 0 where
   pub base : Tables
   pub told : List CommitRecord
+
+-- a reader: the same, and the commits that the copy stood for which it held last
+pub record Reading : Type 0 where
+  pub base : Tables
+  pub told : List CommitRecord
+  pub last : List CommitRecord
 
 -- an entered copy: its state, commits that it stands for, and those that its reader was told
 pub record Entered : Type 0 where
@@ -34,6 +40,9 @@ IsNamed view = view.base ≡ Some (base_in view)
 -- what a seat was told
 abbrev pub known : View → Known
 known view = record { base = base_in view; told = view.told }
+
+abbrev pub reading : View → Reading
+reading view = record { base = base_in view; told = view.told; last = view.seen }
 
 -- a copy in this state, which a seat has entered
 abbrev pub entered : State → View → Entered

@@ -4,6 +4,7 @@ ghost use Rattle.left_right.specs.Sides.{view as view_of};
 ghost use Rattle.row_store.specs.State.{StandsFor};
 ghost use Rattle.twin_cell.specs.Rule.{newcomer};
 
+use crate::ends::EndsCopies;
 use crate::error::TwinError;
 use crate::note::Note;
 use crate::reader::TwinReader;
@@ -63,7 +64,7 @@ fn new_writer<R: Replica + Drop, W: Wait + Drop>(
 }
 
 // So many readers, each of which knows what the writer has published.
-fn new_readers<R: Replica + Drop, W: Wait + Drop>(
+fn new_readers<R: Replica + Drop, W: EndsCopies + Drop>(
     alloc: Global,
     writer: &mut TwinWriter<R, W>,
     count: usize,
@@ -71,7 +72,7 @@ fn new_readers<R: Replica + Drop, W: Wait + Drop>(
     ensures kept { writer.new ≡ writer.old }
     ensures count { IfOk result (λ readers. vec_len readers ≡ count) }
     ensures known { IfOk result (λ readers. All (λ reader.
-        reader ≡ record { base = writer.old.base; told = writer.old.published }) readers.items) }
+        (reader.base ≡ writer.old.base) × (reader.told ≡ writer.old.published)) readers.items) }
 {
     let mut readers = Vec::new(alloc);
     for _ in 0..count {
@@ -100,7 +101,7 @@ pub fn twin<R: Replica + Drop, W: Wait + Drop>(
     ensures writer { IfOk result (λ made. made.0
         ≡ record { base = (R.state first).base; published = []; pending = [] }) }
     ensures count { IfOk result (λ made. vec_len made.1 ≡ readers) }
-    ensures known { IfOk result (λ made. All (λ reader. reader ≡ record { base = (R.state first).base; told = [] })
+    ensures known { IfOk result (λ made. All (λ reader. (reader.base ≡ (R.state first).base) × (reader.told ≡ []))
         made.1.items) }
 {
     let Ok(second) = first.copy() else {

@@ -39,10 +39,11 @@ impl<R: Replica + Drop> Guard<R> {
         &self.reading.get().replica
     }
 
-    /// Gives the copy back. The reader knows what it was told, as before.
+    /// Gives the copy back. The reader knows what it was told, as before, and what the copy stood for.
     pub fn leave(self) -> TwinReader<R>
         ensures base { result.base ≡ self.state.base }
         ensures told { result.told ≡ self.told }
+        ensures last { result.last ≡ self.list }
     {
         let Guard { reading } = self;
         TwinReader {

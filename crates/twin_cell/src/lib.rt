@@ -23,6 +23,7 @@
 #![tactic(auto)]
 
 mod cell;
+mod ends;
 mod error;
 mod guard;
 pub mod laws;
@@ -33,6 +34,7 @@ mod side;
 mod writer;
 
 pub use cell::twin;
+pub use ends::EndsCopies;
 pub use error::TwinError;
 pub use guard::Guard;
 pub use note::Note;

@@ -17,7 +17,8 @@ use std::sync::Wait;
 /// A reader's seat, as `left_right` has it.
 pub(crate) type Seat<R> = Reader<Side<R>, View, Published>;
 
-/// A reader that has no copy in hand. Contracts see the base, and the commits that it was told to be published.
+/// A reader that has no copy in hand. Contracts see the base, the commits that it was told to be published, and those
+/// that the copy stood for which it held last.
 #[derive(Drop)]
 pub struct TwinReader<R: Replica + Drop> {
     pub(crate) seat: Seat<R>,
@@ -25,11 +26,11 @@ pub struct TwinReader<R: Replica + Drop> {
 
 impl<R: Replica + Drop> Model for TwinReader<R> {
     ghost use Rattle.left_right.specs.Sides.{view as view_of};
-    ghost use Rattle.twin_cell.specs.Twin.{Known, IsNamed, known};
+    ghost use Rattle.twin_cell.specs.Twin.{Reading, IsNamed, reading};
 
-    ghost Value = { Known };
+    ghost Value = { Reading };
 
-    ghost view = { λ reader. known (view_of reader.seat.place) };
+    ghost view = { λ reader. reading (view_of reader.seat.place) };
 
     ghost invariant = { λ reader. IsNamed (view_of reader.seat.place) };
 }
@@ -49,7 +50,8 @@ impl<R: Replica + Drop> TwinReader<R> {
     pub fn learn(&mut self, note: Note<R>)
         requires base { note.base ≡ self.old.base }
         requires longer { IsPrefix self.old.told note.told }
-        ensures learnt { self.new ≡ note }
+        ensures base { self.new.base ≡ note.base }
+        ensures told { self.new.told ≡ note.told }
     {
         let Note { seat } = note;
         self.seat = seat;

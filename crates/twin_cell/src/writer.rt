@@ -4,6 +4,7 @@ ghost use Rattle.left_right.specs.Sides.{view as view_of};
 ghost use Rattle.row_store.specs.State.{StandsFor, state_after};
 ghost use Rattle.twin_cell.specs.Rule.{HasPublished};
 
+use crate::ends::EndsCopies;
 use crate::note::{Note, told_seat};
 use crate::rule::{Adds, Pending, Published, View};
 use crate::side::{Side, SideState};
@@ -19,7 +20,7 @@ pub(crate) type Copies<R> = Writer<Side<R>, Commit, View, Published>;
 
 /// Takes commits, and publishes them together. Contracts see the base and two lists of commits: those that readers
 /// take, and those that are pending. When it goes, it waits for every reader that holds a copy.
-pub struct TwinWriter<R: Replica + Drop, W: Wait + Drop>
+pub struct TwinWriter<R: Replica + Drop, W: EndsCopies + Drop>
 where
     Side<R>: Absorb<Commit, State = SideState>,
 {
@@ -29,7 +30,7 @@ where
     pub(crate) rt: W,
 }
 
-impl<R: Replica + Drop, W: Wait + Drop> Model for TwinWriter<R, W>
+impl<R: Replica + Drop, W: EndsCopies + Drop> Model for TwinWriter<R, W>
 where
     Side<R>: Absorb<Commit, State = SideState>,
 {
@@ -46,14 +47,14 @@ where
         (view_of writer.copies.desk.place) (drop writer.copies.behind writer.copies.log.items) writer.taken };
 }
 
-impl<R: Replica + Drop, W: Wait + Drop> Drop for TwinWriter<R, W> {
+impl<R: Replica + Drop, W: EndsCopies + Drop> Drop for TwinWriter<R, W> {
     fn drop(self) {
         let TwinWriter {
             copies,
             taken: _,
             rt,
         } = self;
-        drop(copies.take(&rt));
+        rt.end(copies);
     }
 }
 
@@ -94,7 +95,7 @@ pub(crate) fn publish_pending<R: Replica + Drop, W: Wait>(
     publish_list::<R, Brand, W>(rt, copies)
 }
 
-impl<R: Replica + Drop, W: Wait + Drop> TwinWriter<R, W> {
+impl<R: Replica + Drop, W: EndsCopies + Drop> TwinWriter<R, W> {
     /// The commit is pending from now on, behind the others. Readers do not see it yet.
     pub fn append(&mut self, commit: Commit) -> Result<(), AllocError>
         ensures appended { OnOk result (self.new ≡ record self.old { pending = self.old.pending ++ commit ∷ [] }) }
@@ -126,6 +127,17 @@ impl<R: Replica + Drop, W: Wait + Drop> TwinWriter<R, W> {
         self.copies.published().replica.commits()
     }
 
+    /// Tells what is published. It is refused where no place for a reader is free.
+    pub fn tell(&mut self) -> Result<Note<R>, AllocError>
+        ensures kept { self.new ≡ self.old }
+        ensures told { IfOk result (λ note. note ≡ record { base = self.old.base; told = self.old.published }) }
+    {
+        let seat = told_seat(&mut self.copies)?;
+        Ok(Note { seat })
+    }
+}
+
+impl<R: Replica + Drop, W: Wait + Drop> TwinWriter<R, W> {
     /// Readers that enter from now on take the pending commits too. It waits for those that still hold the other copy.
     /// At `Err` a commit could not be absorbed, and what readers take is as it was.
     pub fn publish(self) -> (TwinWriter<R, W>, Result<(), AllocError>)
@@ -142,18 +154,9 @@ impl<R: Replica + Drop, W: Wait + Drop> TwinWriter<R, W> {
         let writer = TwinWriter { copies, taken, rt };
         (writer, Ok(()))
     }
-
-    /// Tells what is published. It is refused where no place for a reader is free.
-    pub fn tell(&mut self) -> Result<Note<R>, AllocError>
-        ensures kept { self.new ≡ self.old }
-        ensures told { IfOk result (λ note. note ≡ record { base = self.old.base; told = self.old.published }) }
-    {
-        let seat = told_seat(&mut self.copies)?;
-        Ok(Note { seat })
-    }
 }
 
-impl<R: Replica + Drop, W: Wait + Drop> Follower for TwinWriter<R, W> {
+impl<R: Replica + Drop, W: EndsCopies + Drop> Follower for TwinWriter<R, W> {
     ghost base = { λ writer. writer.base };
 
     ghost commits = { λ writer. writer.published ++ writer.pending };

@@ -7,11 +7,12 @@ use std::hash::RandomState;
 use std::random::RandomSource;
 use std::sync::Wait;
 use std::test::Fail;
+use std::thread::Threads;
 use test_fixtures::standard_base;
 
 /// A server over the small data set, for so many clients and dispatchers.
 #[tactic(auto, using(crate::proofs::PlaceLaws::new_are_its_own))]
-pub fn opened<R: Wait + AllocGlobal + RandomSource>(
+pub fn opened<R: Threads + Sync + Wait + AllocGlobal + RandomSource>(
     rt: &R,
     clients: u32,
     dispatchers: u32,
@@ -20,7 +21,7 @@ pub fn opened<R: Wait + AllocGlobal + RandomSource>(
     ensures dispatchers { IfOk result (λ made. All (IsOf made.server) made.dispatchers.items) }
 {
     let alloc = rt.alloc();
-    let base = standard_base(alloc)?;
+    let base = standard_base(rt, alloc)?;
     match open(alloc, rt, RandomState::new(rt)?, base, clients, dispatchers) {
         Ok(made) => Ok(made),
         Err(error) => Err(error.fault)?,
@@ -56,7 +57,7 @@ pub fn next_dispatcher<W: Wait + Drop>(
 #[test]
 fn counts_out_of_range_open_nothing(rt: HostRuntime) -> Result<(), Fail> {
     let alloc = rt.alloc();
-    let mut base = standard_base(alloc)?;
+    let mut base = standard_base(&rt, alloc)?;
     for (clients, dispatchers, fault) in [
         (0, 1, OpenFault::ClientCount),
         (17, 1, OpenFault::ClientCount),

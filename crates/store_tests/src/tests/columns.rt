@@ -6,16 +6,18 @@ use fact_columns::Columns;
 use row_store::{Commit, Replica};
 use std::alloc::{AllocError, Global};
 use std::hash::RandomState;
+use std::random::RandomSource;
 use std::sync::Arc;
 use std::test::Fail;
+use std::thread::Threads;
 use test_fixtures::{adding, refresh, standard_base};
 
 // The columns over the small data set.
-fn columns(rt: &HostRuntime) -> Result<Columns, Fail> {
+fn columns<R: Threads + Sync + AllocGlobal + RandomSource>(rt: &R) -> Result<Columns, Fail> {
     let alloc = rt.alloc();
-    let index = DimIndex::new(alloc, standard_base(alloc)?)?;
+    let index = DimIndex::new(alloc, standard_base(rt, alloc)?)?;
     let index = Arc::new(alloc, index).map_err(AllocError::from)?;
-    Ok(Columns::new(alloc, index, RandomState::new(rt)?)?)
+    Ok(Columns::new(rt, alloc, index, RandomState::new(rt)?)?)
 }
 
 // Takes in a commit. Where memory is wanting the rows, places and commits are as they were, and it is tried once more.

@@ -106,7 +106,11 @@ fn publish_beside<R: Threads + Wait + Sync, W: Wait + Drop + Send>(
 #[test]
 fn an_entered_copy_stays_as_it_is(rt: HostRuntime) -> Result<(), Fail> {
     let alloc = rt.alloc();
-    let (writer, mut reader) = cell(alloc, &rt, PlainLines::new(alloc, standard_base(alloc)?)?)?;
+    let (writer, mut reader) = cell(
+        alloc,
+        &rt,
+        PlainLines::new(alloc, standard_base(&rt, alloc)?)?,
+    )?;
     let mut writer = publish(writer, adds(alloc, 9)?)?;
     tell(&mut writer, &mut reader)?;
     let guard = reader.enter(&rt);
@@ -166,7 +170,7 @@ fn refused<R: Replica + Drop, W: Wait + Drop>(
 #[test]
 fn a_refused_publication_changes_nothing(rt: HostRuntime) -> Result<(), Fail> {
     let alloc = rt.alloc();
-    let lines = PlainLines::new(alloc, standard_base(alloc)?)?;
+    let lines = PlainLines::new(alloc, standard_base(&rt, alloc)?)?;
     let first = Refusing { lines, refusals: 1 };
     let (mut writer, mut reader) = cell(alloc, &rt, first)?;
     append(&mut writer, adds(alloc, 9)?)?;
@@ -244,7 +248,7 @@ fn race<R: Threads + Wait + Sync, W: Wait + Drop + Send>(
 #[test]
 fn readers_beside_a_writer_see_states_of_the_history(rt: HostRuntime) -> Result<(), Fail> {
     let alloc = rt.alloc();
-    let first = PlainLines::new(alloc, standard_base(alloc)?)?;
+    let first = PlainLines::new(alloc, standard_base(&rt, alloc)?)?;
     let (writer, readers) = twin(alloc, &rt, first, 3)?;
     let mut commits = Vec::new(alloc);
     for number in 0..COMMITS {

@@ -10,7 +10,7 @@ use test_fixtures::standard_base;
 #[test]
 fn the_definition_gives_the_thirteen_reports(rt: HostRuntime) -> Result<(), Fail> {
     let alloc = rt.alloc();
-    let base = standard_base(alloc)?;
+    let base = standard_base(&rt, alloc)?;
     let lines = base.lines();
     if lines.len() > MOST_LINES {
         return Err("too many lines")?;

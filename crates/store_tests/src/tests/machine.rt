@@ -5,7 +5,9 @@ use ssb_answers::{Query, Question, ResultRow, Unserved, Value};
 use ssb_schema::{Items, Text};
 use std::alloc::Global;
 use std::hash::RandomState;
+use std::random::RandomSource;
 use std::test::Fail;
+use std::thread::Threads;
 use test_fixtures::{adding, standard_base};
 
 const CLIENT: Who = Who::Client(1);
@@ -107,9 +109,9 @@ fn unknown_events(alloc: Global) -> Result<Vec<Event>, Fail> {
 }
 
 // The small data set with one client and one dispatcher.
-fn opening(rt: &HostRuntime) -> Result<World, Fail> {
+fn opening<R: Threads + Sync + AllocGlobal + RandomSource>(rt: &R) -> Result<World, Fail> {
     let alloc = rt.alloc();
-    let base = standard_base(alloc)?;
+    let base = standard_base(rt, alloc)?;
     Ok(World::opening(alloc, base, RandomState::new(rt)?, 1, 1)?)
 }
 

@@ -8,14 +8,19 @@ use ssb_schema::Refresh;
 use ssb_script::Request;
 use std::alloc::Global;
 use std::hash::RandomState;
+use std::random::RandomSource;
 use std::sync::Arc;
 use std::test::Fail;
+use std::thread::Threads;
 use test_fixtures::{adding, requests, small_base};
 
 // A store of the small data set within these limits.
-fn opened(rt: &HostRuntime, limits: Limits) -> Result<RowStore, Fail> {
+fn opened<R: Threads + Sync + AllocGlobal + RandomSource>(
+    rt: &R,
+    limits: Limits,
+) -> Result<RowStore, Fail> {
     let alloc = rt.alloc();
-    let base = small_base(alloc, limits)?;
+    let base = small_base(rt, alloc, limits)?;
     Ok(RowStore::new(alloc, base, RandomState::new(rt)?)?)
 }
 
@@ -34,7 +39,11 @@ fn reply(store: &mut RowStore, told: &mut Vec<u8>, refresh: Arc<Refresh>) -> Res
 }
 
 // The replies of a store of the small data set to the refreshes of a script, and how many lines are live then.
-fn replies(rt: &HostRuntime, limits: Limits, script: &str) -> Result<String, Fail> {
+fn replies<R: Threads + Sync + AllocGlobal + RandomSource>(
+    rt: &R,
+    limits: Limits,
+    script: &str,
+) -> Result<String, Fail> {
     let alloc = rt.alloc();
     let mut store = opened(rt, limits)?;
     let mut told = Vec::new(alloc);

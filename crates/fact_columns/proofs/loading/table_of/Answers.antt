@@ -1,11 +1,37 @@
-use Rattle.std.proofs.Common.{[], arith}
-use Rattle.fact_columns.proofs.CodingLaws.{codes_more}
+use Rattle.std.proofs.Common.{◌≡◌, ◌-◌, List, take, drop, subst, ap, arith, rules}
+use Rattle.std.proofs.lemmas.List.{take_all}
+use Rattle.ssb_schema.specs.declared.fact.Fact.{Fact}
+use Rattle.ssb_schema.specs.Facts.{facts_of}
+use Rattle.fact_columns.specs.Coded.{AreCoded, AreCodesOf}
+use Rattle.fact_columns.proofs.CodingLaws.{batch_count, batch_facts}
 use Rattle.fact_columns.proofs.loading.table_of.Goals as goal
 
-pub loop-line-preserved : goal.loop-line-preserved
-loop-line-preserved c = record {
-  codes = codes_more c.args.index.now.dimensions [] c.args.lines.now c.loop-line.line-index c.line-item.result
-      c.loop-line.table.places c.push.new.self.places c.in_ok-coded.field-0
-      c.loop-line-test.true c.line-item.is c.push.ensures.places c.loop-line.invariant.codes c.in_ok-coded.ensures;
-  room = omega (arith, c.push.ensures.room, c.loop-line.invariant.room);
-}
+pub push_all-requires : goal.push_all-requires
+push_all-requires g c =
+    let end = c.batch_end-end.ensures in
+    let count = batch_count c.args.index.now.dimensions c.args.lines.now _ c.loop-done.done _ (omega (arith, end.0)) end.1
+    c.in_ok-codes.ensures in
+    omega (arith, count, end.1, c.loop-done.invariant.room)
+
+pub loop-done-preserved : goal.loop-done-preserved
+loop-done-preserved g c =
+    let dimensions = c.args.index.now.dimensions in
+    let lines = c.args.lines.now in
+    let done = c.loop-done.done in
+    let end = c.batch_end-end.ensures in
+    let count = batch_count dimensions lines _ done _ (omega (arith, end.0)) end.1 c.in_ok-codes.ensures in
+    let coded : AreCoded dimensions (take (c.batch_end-end.result - done) (drop done lines)) c.as_slice.result.now =
+    rw c.as_slice.ensures.value c.in_ok-codes.ensures in
+    record {
+      within = end.1;
+      codes = subst (λ (f : List Fact). AreCodesOf dimensions f c.push_all.new.table.places)
+          (batch_facts lines done _ (omega (arith, end.0)))
+          (c.in_ok-push_all.ensures.places dimensions _ _ c.loop-done.invariant.codes coded);
+      room = omega (arith, count, c.in_ok-push_all.ensures.room, c.loop-done.invariant.room, c.as_slice.ensures.value);
+    }
+
+pub returns : goal.returns
+returns g c =
+    subst (λ (f : List Fact). AreCodesOf c.args.index.now.dimensions f c.loop-done.table.places)
+    (ap facts_of (take_all c.loop-done.done c.args.lines.now (omega (arith, c.loop-done-test.false))))
+    c.loop-done.invariant.codes

@@ -1,10 +1,14 @@
-use Rattle.std.proofs.Common.{◌+◌, ◌≤◌, length, take}
+use Rattle.std.proofs.Common.{◌+◌, ◌-◌, ◌≤◌, length, take}
 use Rattle.ssb_schema.specs.Facts.{facts_of}
 use Rattle.fact_columns.specs.Coded.{AreCodesOf}
 use Rattle.fact_columns.proofs.loading.table_of.Given as goal
 
-abbrev pub invariant-loop-line : goal.invariant-loop-line
-invariant-loop-line l = record {
-  codes : AreCodesOf l.index.dimensions (facts_of (take l.line-index l.lines)) l.table.places;
-  room : length l.lines ≤ l.table.room + l.line-index;
+abbrev pub invariant-loop-done : goal.invariant-loop-done
+invariant-loop-done g l = record {
+  within : l.done ≤ length l.lines;
+  codes : AreCodesOf l.index.dimensions (facts_of (take l.done l.lines)) l.table.places;
+  room : length l.lines ≤ l.table.room + l.done;
 }
+
+abbrev pub decreases-loop-done : goal.decreases-loop-done
+decreases-loop-done g l = length l.lines - l.done

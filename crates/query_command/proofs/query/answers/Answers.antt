@@ -1,24 +1,22 @@
-use Rattle.std.proofs.Common.{◌∙◌, ap}
-use Rattle.ssb_base.specs.Limits.{limits_of}
+use Rattle.std.proofs.Common.{◌≡◌, Err, rules}
 use Rattle.query_command.proofs.query.answers.Goals as goal
 
 pub returns-clause-answers : goal.returns-clause-answers
 returns-clause-answers g c = λ texts are.
+    let loaded = c.in_ok-base.ensures.base texts are in
     record {
-      base = c.in-Ok.base;
-      limited = ap limits_of c.in-Ok.ensures.limits
-          ∙ c.standard.ensures;
-      spelled = c.in-Ok.ensures.base texts are;
+      base = c.in_ok-base.base;
+      limited = loaded.limited;
+      spelled = loaded.spelled;
       are = c.in_ok-answers.ensures;
     }
 
-pub returns-in-Err-clause-data : goal.returns-in-Err-clause-data
-returns-in-Err-clause-data g c = λ of_data texts are.
-    record {
-      limits = c.standard.result;
-      limited = c.standard.ensures;
-      fault = c.in-Err.fault;
-      first
-          = c.in-Err.ensures.fault texts are;
-      of_data = of_data;
-    }
+pub returns-in_err-base-clause-data : goal.returns-in_err-base-clause-data
+returns-in_err-base-clause-data g c =
+    let is : c.from_residual.result ≡ Err c.in_err-base.field-0.0 = search rules in
+    rw is c.in_err-base.ensures.data
+
+pub returns-in_err-base-clause-later : goal.returns-in_err-base-clause-later
+returns-in_err-base-clause-later g c =
+    let is : c.from_residual.result ≡ Err c.in_err-base.field-0.0 = search rules in
+    rw is c.in_err-base.ensures.later

@@ -7,3 +7,9 @@ returns-in-PriceTimesDiscount c = λ group are. rw c.in-PriceTimesDiscount.is
 
 pub returns-in-Revenue : goal.returns-in-Revenue
 returns-in-Revenue c = λ group are. rw c.in-Revenue.is (adds_zeros group c.args.places.now c.args.losses.now)
+
+pub returns-in-Quantity : goal.returns-in-Quantity
+returns-in-Quantity c = λ group are. rw c.in-Quantity.is (adds_zeros group c.args.places.now c.args.losses.now)
+
+pub returns-in-Lines : goal.returns-in-Lines
+returns-in-Lines c = λ group are. rw c.in-Lines.is (adds_zeros group c.args.places.now c.args.losses.now)

@@ -22,7 +22,7 @@ loop-place-preserved c =
           let bit : has_bit lines masks k place ≡ true = sym c.takes.ensures ∙ w.if-takes.true in
           let room : group_at columns place < c.args.size = c.requires.groups place (omega arith) bit in
           let group : w.group_of-group.result ≡ group_at columns place =
-          w.group_of-group.ensures ∙ ap (λ (n : ℕ). n % 2 ^ 64) (group_is place c.args.columns.now)
+          w.group_of-group.ensures ∙ ap (λ (n : ℕ). n % 2 ^ 128) (group_is place c.args.columns.now)
           ∙ mod-eq_of_lt (omega (arith, room, c.ranges.size.fits)) in
           let P : List ℕ → Type 0 = λ ps. AreSparseTotals lines c.args.measure columns ps c.args.size new in
           subst P (sym (taken_more lines masks k place bit))

@@ -12,7 +12,7 @@ use Rattle.shared_scan.proofs.GroupedLaws.{prepared_more, size_more}
 use Rattle.shared_scan.proofs.groups.prepare_groups.Goals as goal
 
 pub prepare-requires-clause-step : goal.prepare-requires-clause-step
-prepare-requires-clause-step c = c.loop-column.invariant.two (omega (arith, c.loop-column-test.true, c.requires.three))
+prepare-requires-clause-step c = c.loop-column.invariant.three (omega (arith, c.loop-column-test.true, c.requires.four))
 
 pub loop-column-preserved : goal.loop-column-preserved
 loop-column-preserved c =
@@ -48,4 +48,5 @@ loop-column-preserved c =
       none = λ h. absurd (omega (arith, h));
       one = λ h. omega (arith, mul-le-mul few (c.loop-column.invariant.none (omega (arith, h))));
       two = λ h. omega (arith, mul-le-mul few (c.loop-column.invariant.one (omega (arith, h))));
+      three = λ h. omega (arith, mul-le-mul few (c.loop-column.invariant.two (omega (arith, h))));
     }

@@ -10,4 +10,5 @@ invariant-loop-column l = record {
   none : l.column-index ≤ 0 → l.size ≤ 1;
   one : l.column-index ≤ 1 → l.size ≤ 2 ^ 20;
   two : l.column-index ≤ 2 → l.size ≤ 2 ^ 40;
+  three : l.column-index ≤ 3 → l.size ≤ 2 ^ 60;
 }

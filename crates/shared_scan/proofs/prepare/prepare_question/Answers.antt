@@ -3,8 +3,8 @@ use Rattle.ssb_questions.specs.declared.plan.Plan.{Plan}
 use Rattle.shared_scan.proofs.GroupLaws.{three_alone}
 use Rattle.shared_scan.proofs.prepare.prepare_question.Goals as goal
 
-pub prepare_groups-requires-clause-three : goal.prepare_groups-requires-clause-three
-prepare_groups-requires-clause-three c =
+pub prepare_groups-requires-clause-four : goal.prepare_groups-requires-clause-four
+prepare_groups-requires-clause-four c =
     omega (
       arith,
       ap length c.as_slice.ensures,

@@ -2,7 +2,7 @@ use Rattle.std.proofs.Common.{rules, ◌≡◌, ◌∷◌, [], ◌++◌, length,
 use Rattle.std.specs.Prelude.{All}
 use Rattle.std.proofs.lemmas.List.{length_push}
 use Rattle.std.proofs.lemmas.List.Elements.{All-head, All-tail, All-pop}
-use Rattle.twin_cell.specs.Twin.{Known}
+use Rattle.twin_cell.specs.Twin.{Reading}
 use Rattle.ssb_server.specs.Opening.{IsNewDispatcher, IsNewReader}
 use Rattle.ssb_server.proofs.opening.dispatchers_of.Goals as goal
 
@@ -25,16 +25,16 @@ new-requires-in-loop-token-clause-token g c =
     (subst (All new) c.in-Some.ensures.steps.0 c.loop-token.invariant.tokens) in
     let popped = All-pop known c.loop-token.readers.items c.pop.new.self.items c.pop.result c.pop.ensures.items
     c.loop-token.invariant.readers in
-    let reader : known c.in-Some-pop.reader = subst (λ (o : Option Known). IfSome o known) c.in-Some-pop.is popped.1 in
-    subst (λ b. IsNewDispatcher b c.in-Some.token) (sym (ap (λ (r : Known). r.base) reader)) here
+    let reader : known c.in-Some-pop.reader = subst (λ (o : Option Reading). IfSome o known) c.in-Some-pop.is popped.1 in
+    subst (λ b. IsNewDispatcher b c.in-Some.token) (sym reader.0) here
 
 pub new-requires-in-loop-token-clause-reader : goal.new-requires-in-loop-token-clause-reader
 new-requires-in-loop-token-clause-reader g c =
     let known = IsNewReader c.loop-token.invariant.base in
     let popped = All-pop known c.loop-token.readers.items c.pop.new.self.items c.pop.result c.pop.ensures.items
     c.loop-token.invariant.readers in
-    let reader : known c.in-Some-pop.reader = subst (λ (o : Option Known). IfSome o known) c.in-Some-pop.is popped.1 in
-    ap (λ (r : Known). r.told) reader
+    let reader : known c.in-Some-pop.reader = subst (λ (o : Option Reading). IfSome o known) c.in-Some-pop.is popped.1 in
+    reader.1
 
 pub loop-token-preserved : goal.loop-token-preserved
 loop-token-preserved g c =

@@ -45,4 +45,5 @@ returns-in-Err-clause-entered g c = record {
   reader = knows_later c.args.token.now c.args.reader c.fetch.new.token
       c.in-Err.ensures.fetched c.requires.reader;
   cause = tt;
+  found = tt;
 }

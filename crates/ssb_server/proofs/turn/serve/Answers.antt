@@ -13,6 +13,7 @@ use Rattle.ssb_server.proofs.TurningLaws.{
   version_later,
   sound_finished,
   seen_finished,
+  may_tell,
 }
 use Rattle.ssb_server.proofs.turn.serve.Goals as goal
 
@@ -57,6 +58,7 @@ returns-in-Ok g c = record {
       c.in-Ok.ensures.sound;
   empty = c.finish-turn.ensures.empty;
   hand = c.finish-turn.ensures.hand;
+  found = c.finish-turn.ensures.found c.leave-reader.result;
 }
 
 pub returns-in-Err-clause-ended : goal.returns-in-Err-clause-ended
@@ -66,5 +68,11 @@ returns-in-Err-clause-ended g c =
     record {
       between = c.snapshot.new.token;
       fetched = c.in-Err.ensures.fetched;
-      finished = (some, c.give_up_all-count.ensures.gave);
+      finished = (some, c.in-Err.ensures.entered.cause, c.give_up_all-count.ensures.gave);
     }
+
+pub returns-in-Err-clause-found : goal.returns-in-Err-clause-found
+returns-in-Err-clause-found g c = c.in-Err.ensures.entered.found
+
+pub give_up_all-count-requires-clause-cause : goal.give_up_all-count-requires-clause-cause
+give_up_all-count-requires-clause-cause g c = may_tell c.snapshot.new.token.seen _ c.in-Err.ensures.entered.cause

@@ -19,7 +19,7 @@ returns-clause-spelled g c = λ texts known.
       suppliers = c.in_ok-read_table-2.field-0;
       parts = c.in_ok-read_table-3.field-0;
       dates = c.in_ok-read_table-4.field-0;
-      lines = c.in_ok-read_table-5.field-0;
+      lines = c.in_ok-read_lines.field-0;
     } in
     each_table (λ t. SpellsRows t (limit_of limits t) (texts t) (values_in (tables_of limits parts) t))
     (at_known (rem tables.customer) (texts table.Customer)
@@ -34,7 +34,7 @@ returns-clause-spelled g c = λ texts known.
     (map date_values parts.dates.items)) (known table.Date) c.in_ok-read_table-4.ensures.rows)
     (at_known (rem tables.lineorder) (texts table.Lineorder)
     (λ text. SpellsRows table.Lineorder limits.lines text (map line_values parts.lines.items))
-    (known table.Lineorder) c.in_ok-read_table-5.ensures.rows)
+    (known table.Lineorder) c.in_ok-read_lines.ensures.rows)
 
 pub returns-in_err-read_table-clause-stops : goal.returns-in_err-read_table-clause-stops
 returns-in_err-read_table-clause-stops g c =
@@ -106,12 +106,12 @@ returns-in_err-read_table-4-clause-stops g c =
     ) in
     search rules
 
-pub returns-in_err-read_table-5-clause-stops : goal.returns-in_err-read_table-5-clause-stops
-returns-in_err-read_table-5-clause-stops g c =
+pub returns-in_err-read_lines-clause-stops : goal.returns-in_err-read_lines-clause-stops
+returns-in_err-read_lines-clause-stops g c =
     let rem = g.R.Read.remaining in
     let tables = c.args.tables in
     let limits = c.args.limits in
-    let e = c.in_err-read_table-5.field-0.0 in
+    let e = c.in_err-read_lines.field-0.0 in
     let here : (texts : Table → List ℕ) → AreTexts rem tables texts → StopsIn limits texts all_tables e = λ texts known.
     inr (
       table_whole limits texts table.Customer (rem tables.customer)
@@ -127,7 +127,7 @@ returns-in_err-read_table-5-clause-stops g c =
             table_whole limits texts table.Date (rem tables.date) (map date_values c.in_ok-read_table-4.field-0.items)
                 (known table.Date) c.in_ok-read_table-4.ensures.rows,
             inl (table_stops limits texts table.Lineorder (rem tables.lineorder) e (known table.Lineorder)
-                c.in_err-read_table-5.ensures.fault),
+                c.in_err-read_lines.ensures.fault),
           ),
         ),
       ),

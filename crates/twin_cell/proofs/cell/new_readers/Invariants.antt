@@ -5,6 +5,6 @@ abbrev pub invariant-loop : goal.invariant-loop
 invariant-loop g l = record {
   kept : l.writer ≡ l.initial.writer;
   count : vec_len l.readers ≡ l.counter;
-  known : All (λ reader. reader ≡ record { base = l.initial.writer.base; told = l.initial.writer.published })
+  known : All (λ reader. (reader.base ≡ l.initial.writer.base) × (reader.told ≡ l.initial.writer.published))
       l.readers.items;
 }

@@ -1,0 +1,4 @@
+mod DigitLaws
+mod GroupLaws
+pub mod MomentLaws
+mod StepLaws

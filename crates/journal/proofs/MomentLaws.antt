@@ -1,0 +1,25 @@
+-- How a run of calls of a disk goes on.
+use Rattle.std.proofs.Common.{inl, inr, ⊎_elim, ℕ, List, arith}
+use Rattle.journal.specs.Disk.{LeavesOnly}
+
+module _ {D : Type 0} (moment : D → ℕ) (left_since : D → ℕ → List ℕ → Type 0) where
+  pub leaves : (old new : D) (P R : List ℕ → Type 0) → LeavesOnly moment left_since old new P → ((c : List ℕ) → P c → R c) → LeavesOnly moment left_since old new R
+  leaves old new P R run means = record {
+    later = run.later;
+    each = λ c left. means c (run.each c left);
+    before = λ t c le left. ⊎_elim (λ was. inl was) (λ now. inr (means c now)) (run.before t c le left);
+  }
+
+  -- one run after the other
+  pub then_leaves : (old mid new : D) (P Q R : List ℕ → Type 0) → LeavesOnly moment left_since old mid P → LeavesOnly moment left_since mid new Q → ((c : List ℕ) → P c → R c) → ((c : List ℕ) → Q c → R c) → LeavesOnly moment left_since old new R
+  then_leaves old mid new P Q R first second first_means second_means = record {
+    later = omega (arith, first.later, second.later);
+    each = λ c left. ⊎_elim (λ was. first_means c (first.each c was)) (second_means c) (second.before (moment old) c first.later left);
+    before = λ t c le left.
+        ⊎_elim (λ was. ⊎_elim (λ then. inl then) (λ now. inr (first_means c now)) (first.before t c le was))
+        (λ now. inr (second_means c now)) (second.before t c (omega (arith, le, first.later)) left);
+  }
+
+  -- no call at all
+  pub stays : (disk : D) (P : List ℕ → Type 0) → ((c : List ℕ) → left_since disk (moment disk) c → P c) → LeavesOnly moment left_since disk disk P
+  stays disk P now = record { later = omega arith; each = now; before = λ t c le left. inl left }

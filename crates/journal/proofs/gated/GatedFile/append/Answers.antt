@@ -1,0 +1,79 @@
+use Rattle.std.proofs.Common.{◌≡◌, ℕ, ◌+◌, List, [], ◌∷◌, ◌++◌, length, inl, ◌∙◌, ap, subst, arith, length-append}
+use Rattle.journal.specs.Disk.{Holds, Torn}
+use Rattle.journal.specs.Groups.{recovered, blocks, block, IsBeforeOrAfter}
+use Rattle.journal.proofs.GroupLaws.{parts, all_told_push, blocks-push, length-block}
+use Rattle.journal.proofs.MomentLaws.{leaves, then_leaves}
+use Rattle.journal.proofs.StepLaws.{tail, length-tail, short_told, torn_behind, written_behind, torn_gate, written_gate, settled}
+use Rattle.journal.proofs.gated.GatedFile.append.Goals as goal
+
+-- the first write leaves the groups as they were
+pub returns-in_err-write_through-clause-any_moment : goal.returns-in_err-write_through-clause-any_moment
+returns-in_err-write_through-clause-any_moment g c =
+    let s = c.requires.settled in
+    let old = c.args.self.now.disk in
+    let size = c.args.self.now.size in
+    let groups = recovered (g.D.Disk.seen old) in
+    let told = (parts (g.D.Disk.seen old)).all_told in
+    let n = length c.deref.result.now in
+    leaves g.D.Disk.moment g.D.Disk.left_since old c.write_through.new.disk (Torn (size + 1) n (g.D.Disk.seen old)) (IsBeforeOrAfter groups c.args.group.now) c.write_through.ensures.any_moment
+    (λ f torn. inl (torn_behind groups size s.size told n f (subst (λ (o : List ℕ). Torn (size + 1) n o f) s.file torn)))
+
+-- the second leaves them with the new one or without
+pub returns-in_err-write_through-2-clause-any_moment : goal.returns-in_err-write_through-2-clause-any_moment
+returns-in_err-write_through-2-clause-any_moment g c =
+    let s = c.requires.settled in
+    let old = c.args.self.now.disk in
+    let size = c.args.self.now.size in
+    let group = c.args.group.now in
+    let groups = recovered (g.D.Disk.seen old) in
+    let told = (parts (g.D.Disk.seen old)).all_told in
+    let bytes = c.deref.result.now in
+    let n = length bytes in
+    let mid = g.D.Disk.seen c.write_through.new.disk in
+    let bytes_are : bytes ≡ tail group = c.deref.ensures.value ∙ c.in_ok-bytes.ensures in
+    let holds = subst (λ (o : List ℕ). Holds o (size + 1) bytes mid) s.file c.in_ok-write_through.ensures.written in
+    let staged = written_behind groups size s.size told bytes mid holds ∙ ap (λ (l : List ℕ). blocks groups ++ 48 ∷ l) bytes_are in
+    then_leaves g.D.Disk.moment g.D.Disk.left_since old c.write_through.new.disk c.write_through-2.new.disk (Torn (size + 1) n (g.D.Disk.seen old)) (Torn size 1 mid) (IsBeforeOrAfter groups group)
+    c.write_through.ensures.any_moment c.write_through-2.ensures.any_moment
+    (λ f torn. inl (torn_behind groups size s.size told n f (subst (λ (o : List ℕ). Torn (size + 1) n o f) s.file torn)))
+    (λ f torn. torn_gate groups size s.size told group f (short_told group c.requires.short) (subst (λ (o : List ℕ). Torn size 1 o f) staged torn))
+
+pub returns-clause-any_moment : goal.returns-clause-any_moment
+returns-clause-any_moment g c =
+    let s = c.requires.settled in
+    let old = c.args.self.now.disk in
+    let size = c.args.self.now.size in
+    let group = c.args.group.now in
+    let groups = recovered (g.D.Disk.seen old) in
+    let told = (parts (g.D.Disk.seen old)).all_told in
+    let bytes = c.deref.result.now in
+    let n = length bytes in
+    let mid = g.D.Disk.seen c.write_through.new.disk in
+    let bytes_are : bytes ≡ tail group = c.deref.ensures.value ∙ c.in_ok-bytes.ensures in
+    let holds = subst (λ (o : List ℕ). Holds o (size + 1) bytes mid) s.file c.in_ok-write_through.ensures.written in
+    let staged = written_behind groups size s.size told bytes mid holds ∙ ap (λ (l : List ℕ). blocks groups ++ 48 ∷ l) bytes_are in
+    then_leaves g.D.Disk.moment g.D.Disk.left_since old c.write_through.new.disk c.write_through-2.new.disk (Torn (size + 1) n (g.D.Disk.seen old)) (Torn size 1 mid) (IsBeforeOrAfter groups group)
+    c.write_through.ensures.any_moment c.write_through-2.ensures.any_moment
+    (λ f torn. inl (torn_behind groups size s.size told n f (subst (λ (o : List ℕ). Torn (size + 1) n o f) s.file torn)))
+    (λ f torn. torn_gate groups size s.size told group f (short_told group c.requires.short) (subst (λ (o : List ℕ). Torn size 1 o f) staged torn))
+
+-- and then the new group is on the disk
+pub returns-clause-acknowledged : goal.returns-clause-acknowledged
+returns-clause-acknowledged g c =
+    let s = c.requires.settled in
+    let old = c.args.self.now.disk in
+    let size = c.args.self.now.size in
+    let group = c.args.group.now in
+    let groups = recovered (g.D.Disk.seen old) in
+    let told = (parts (g.D.Disk.seen old)).all_told in
+    let bytes = c.deref.result.now in
+    let mid = g.D.Disk.seen c.write_through.new.disk in
+    let new = g.D.Disk.seen c.write_through-2.new.disk in
+    let bytes_are : bytes ≡ tail group = c.deref.ensures.value ∙ c.in_ok-bytes.ensures in
+    let holds = subst (λ (o : List ℕ). Holds o (size + 1) bytes mid) s.file c.in_ok-write_through.ensures.written in
+    let staged = written_behind groups size s.size told bytes mid holds ∙ ap (λ (l : List ℕ). blocks groups ++ 48 ∷ l) bytes_are in
+    let is_told = short_told group c.requires.short in
+    let opened = written_gate groups size s.size told group new (subst (λ (o : List ℕ). Holds o size (49 ∷ []) new) staged c.in_ok-write_through-2.ensures.written) in
+    let long : length (blocks (groups ++ group ∷ [])) ≡ size + (18 + length group) = omega (arith, ap length (blocks-push groups group), length-append (blocks groups) (block group), length-block group, s.size) in
+    let written : c.len.result ≡ 18 + length group = omega (arith, ap length bytes_are, length-tail group, c.deref.ensures.len, c.len.ensures) in
+    settled _ _ _ (groups ++ group ∷ []) (all_told_push groups group told is_told) opened (omega arith) c.in_ok-write_through-2.ensures.durable

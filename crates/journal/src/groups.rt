@@ -1,0 +1,111 @@
+//! The groups of a file. A group is a gate, a head and its bytes: `1 000000000000005`, a line feed, `hello`.
+ghost use Rattle.std.specs.Prelude.{◌≡◌, ◌+◌, ◌*◌, ◌^◌, ◌≤◌, ◌++◌, [], ◌∷◌, length, IfOk, IfSome, OnOk, MatchOption, ◌≢◌};
+ghost use Rattle.journal.specs.Groups.{digits, number_from, head, whole_length, recovered, blocks, behind, lists, IsFirst};
+
+use std::alloc::{AllocError, Global};
+
+/// An open gate, by which a group counts.
+pub(crate) const OPEN: u8 = b'1';
+
+/// A closed gate, which stands behind the last group.
+pub const CLOSED: u8 = b'0';
+
+/// The bytes of a gate and a head.
+const HEAD: usize = 18;
+
+fn push_digits(out: &mut Vec<u8>, number: usize, count: u8) -> Result<(), AllocError>
+    ensures { OnOk result (out.new.items ≡ out.old.items ++ digits count number) }
+{
+    if count > 0 {
+        push_digits(out, number / 10, count - 1)?;
+        out.push(b'0' + (number % 10) as u8)?;
+    }
+    Ok(())
+}
+
+/// Writes the head of a group of this length, behind its gate.
+pub(crate) fn push_head(out: &mut Vec<u8>, len: usize) -> Result<(), AllocError>
+    ensures { OnOk result (out.new.items ≡ out.old.items ++ head len) }
+{
+    out.push(b' ')?;
+    push_digits(out, len, 15)?;
+    out.push(b'\n')?;
+    Ok(())
+}
+
+fn number_of(digits: &[u8]) -> usize
+    requires { length digits.now ≤ 15 }
+    ensures value { result ≡ number_from 0 digits.now }
+    ensures small { result ≤ 23 * 10 ^ 15 }
+{
+    let mut number = 0;
+    for digit in digits {
+        number = 10 * number + digit.saturating_sub(b'0') as usize;
+    }
+    number
+}
+
+fn whole_len(alloc: Global, file: &[u8]) -> Result<Option<usize>, AllocError>
+    ensures value { IfOk result (λ len. len ≡ whole_length file.now) }
+    ensures inside { IfOk result (λ len. IfSome len (λ n. 18 + n ≤ length file.now)) }
+{
+    if file.len() < HEAD {
+        return Ok(None);
+    }
+    let len = number_of(&file[2..17]);
+    let mut head = vec![in alloc; OPEN]?;
+    push_head(&mut head, len)?;
+    if file.starts_with(&head) && len <= file.len() - HEAD {
+        Ok(Some(len))
+    } else {
+        Ok(None)
+    }
+}
+
+/// The first group of a file, if it counts.
+fn first_group(alloc: Global, file: &[u8]) -> Result<Option<Vec<u8>>, AllocError>
+    ensures { IfOk result (λ found. MatchOption found (recovered file.now ≡ []) (λ group. IsFirst file.now group.items)) }
+{
+    match whole_len(alloc, file)? {
+        None => Ok(None),
+        Some(len) => Ok(Some(file[HEAD..HEAD + len].to_vec(alloc)?)),
+    }
+}
+
+/// What a file holds.
+#[derive(Drop)]
+pub struct Contents {
+    /// The groups that it stands for.
+    pub groups: Vec<Vec<u8>>,
+    /// The bytes behind them, which a mend cuts off. A closed gate alone, where no crash has torn the file.
+    pub rest: Vec<u8>,
+}
+
+impl Contents {
+    /// What a crash has torn: the bytes behind the groups, unless they are a closed gate alone.
+    pub fn torn(&self) -> &[u8]
+        ensures at_rest { self.now.rest.items ≡ 48 ∷ [] → result.now ≡ [] }
+        ensures torn { self.now.rest.items ≢ 48 ∷ [] → result.now ≡ self.now.rest.items }
+    {
+        match self.rest.as_slice() {
+            [CLOSED] => &[],
+            rest => rest,
+        }
+    }
+}
+
+/// The contents of a file with these bytes, and how far its groups reach.
+pub(crate) fn read_groups(alloc: Global, bytes: &[u8]) -> Result<(Contents, usize), AllocError>
+    ensures groups { IfOk result (λ read. lists read.0.groups.items ≡ recovered bytes.now) }
+    ensures rest { IfOk result (λ read. read.0.rest.items ≡ behind bytes.now) }
+    ensures end { IfOk result (λ read. read.1 ≡ length (blocks (recovered bytes.now))) }
+{
+    let mut groups = Vec::new(alloc);
+    let mut end = 0;
+    while let Some(group) = first_group(alloc, &bytes[end..])? {
+        end += HEAD + group.len();
+        groups.push(group)?;
+    }
+    let rest = bytes[end..].to_vec(alloc)?;
+    Ok((Contents { groups, rest }, end))
+}

@@ -1,0 +1,147 @@
+//! A file that was read and is not yet changed, and a journal that groups are appended to.
+ghost use Rattle.std.specs.Prelude.{◌≡◌, ◌<◌, ◌≤◌, ◌^◌, ◌++◌, [], ◌∷◌, length, IfOk, IfErr};
+ghost use Rattle.journal.specs.Disk.{Only, LeavesOnly};
+ghost use Rattle.journal.specs.Groups.{recovered, blocks, behind, lists, IsSettled, IsBeforeOrAfter};
+
+use crate::disk::read_through;
+use crate::gated::{GatedFile, repair};
+use crate::groups::{Contents, read_groups};
+use crate::{Disk, DiskError};
+use std::alloc::Global;
+use std::marker::Model;
+
+/// A file that was read and is unchanged. To a contract it is its disk.
+#[derive(Drop)]
+pub struct Found<D: Disk> {
+    disk: D,
+    end: usize,
+}
+
+impl<D: Disk> Model for Found<D> {
+    ghost Value = { D };
+
+    ghost view = { λ found. found.disk };
+
+    ghost invariant = { λ found. (found.end ≡ length (blocks (recovered (D.seen found.disk))))
+        × Only (D.seen found.disk) (D.may_leave found.disk) };
+}
+
+/// An open journal, all of it on the disk. To a contract it is its disk.
+#[derive(Drop)]
+pub struct Journal<D: Disk> {
+    file: GatedFile<D>,
+}
+
+impl<D: Disk> Model for Journal<D> {
+    ghost Value = { D };
+
+    ghost view = { λ journal. journal.file.disk };
+
+    ghost invariant = { λ journal. IsSettled D.seen D.may_leave journal.file };
+}
+
+// What a file holds, and how far its groups reach.
+fn contents_of<D: Disk>(alloc: Global, disk: &mut D) -> Result<(Contents, usize), DiskError>
+    requires readable { D.is_readable disk.old }
+    requires durable { Only (D.seen disk.old) (D.may_leave disk.old) }
+    ensures groups { IfOk result (λ read. lists read.0.groups.items ≡ recovered (D.seen disk.old)) }
+    ensures rest { IfOk result (λ read. read.0.rest.items ≡ behind (D.seen disk.old)) }
+    ensures end { IfOk result (λ read. read.1 ≡ length (blocks (recovered (D.seen disk.old)))) }
+    ensures seen { D.seen disk.new ≡ D.seen disk.old }
+    ensures durable { Only (D.seen disk.new) (D.may_leave disk.new) }
+    ensures any_moment { LeavesOnly D.moment D.left_since disk.old disk.new (λ c. c ≡ D.seen disk.old) }
+    ensures failed { IfErr result (λ e. e ≡ DiskError.Failed → D.faults disk.old < D.faults disk.new) }
+    ensures full { IfErr result (λ e. e ≡ DiskError.Full → ⊥) }
+{
+    let bytes = read_through(alloc, disk)?;
+    Ok(read_groups(alloc, &bytes)?)
+}
+
+impl<D: Disk> Found<D> {
+    /// Reads a file that a crash may have left, and changes nothing. An `Err` hands the disk back.
+    pub fn read(alloc: Global, mut disk: D) -> Result<(Found<D>, Contents), (DiskError, D)>
+        requires readable { D.is_readable disk }
+        // After a restart, what is read is what is on the disk.
+        requires durable { Only (D.seen disk) (D.may_leave disk) }
+        ensures groups { IfOk result (λ read. lists read.1.groups.items ≡ recovered (D.seen disk)) }
+        ensures rest { IfOk result (λ read. read.1.rest.items ≡ behind (D.seen disk)) }
+        ensures same { IfOk result (λ read. D.seen read.0 ≡ D.seen disk) }
+        // A crash at any moment leaves the file as it was.
+        ensures any_moment { IfOk result (λ read. LeavesOnly D.moment D.left_since disk read.0
+            (λ c. c ≡ D.seen disk)) }
+        ensures any_moment_err { IfErr result (λ e. LeavesOnly D.moment D.left_since disk e.1
+            (λ c. c ≡ D.seen disk)) }
+        ensures failed { IfErr result (λ e. e.0 ≡ DiskError.Failed → D.faults disk < D.faults e.1) }
+        ensures full { IfErr result (λ e. e.0 ≡ DiskError.Full → ⊥) }
+    {
+        match contents_of(alloc, &mut disk) {
+            Ok((contents, end)) => Ok((Found { disk, end }, contents)),
+            Err(error) => Err((error, disk)),
+        }
+    }
+
+    /// Cuts off what stands behind the groups, and makes it a journal. A crash at any moment leaves the same groups,
+    /// and an `Err` hands the disk back.
+    pub fn mend(self) -> Result<Journal<D>, (DiskError, D)>
+        ensures same { IfOk result (λ journal. recovered (D.seen journal) ≡ recovered (D.seen self)) }
+        ensures any_moment { IfOk result (λ journal. LeavesOnly D.moment D.left_since self journal
+            (λ c. recovered c ≡ recovered (D.seen self))) }
+        ensures any_moment_err { IfErr result (λ e. LeavesOnly D.moment D.left_since self e.1
+            (λ c. recovered c ≡ recovered (D.seen self))) }
+        ensures failed { IfErr result (λ e. e.0 ≡ DiskError.Failed → D.faults self < D.faults e.1) }
+        ensures full { IfErr result (λ e. e.0 ≡ DiskError.Full → ⊥) }
+    {
+        let Found { mut disk, end } = self;
+        match repair(&mut disk, end) {
+            Ok(()) => Ok(Journal {
+                file: GatedFile { disk, size: end },
+            }),
+            Err(error) => Err((error, disk)),
+        }
+    }
+
+    /// The disk, which is as it was read.
+    pub fn into_disk(self) -> D
+        ensures { result ≡ self }
+    {
+        let Found { disk, end: _ } = self;
+        disk
+    }
+}
+
+impl<D: Disk> Journal<D> {
+    /// Adds a group. With the journal that comes back it is acknowledged: it is on the disk, and from then on each
+    /// crash leaves a file that has it. At `Err`, which hands the disk back, read the file again.
+    pub fn append(self, alloc: Global, group: &[u8]) -> Result<Journal<D>, (DiskError, D)>
+        requires { length group.now ≤ 2 ^ 49 }
+        ensures acknowledged { IfOk result (λ journal.
+            recovered (D.seen journal) ≡ recovered (D.seen self) ++ group.now ∷ []) }
+        // A crash at any moment of the call leaves the groups from before it, with the new one whole or without.
+        ensures any_moment { IfOk result (λ journal. LeavesOnly D.moment D.left_since self journal
+            (IsBeforeOrAfter (recovered (D.seen self)) group.now)) }
+        ensures any_moment_err { IfErr result (λ e. LeavesOnly D.moment D.left_since self e.1
+            (IsBeforeOrAfter (recovered (D.seen self)) group.now)) }
+        // It does not give up by itself.
+        ensures failed { IfErr result (λ e. e.0 ≡ DiskError.Failed → D.faults self < D.faults e.1) }
+        ensures full { IfErr result (λ e. e.0 ≡ DiskError.Full → 2 ^ 60 ≤ length (D.seen self)) }
+    {
+        let Journal { mut file } = self;
+        match file.append(alloc, group) {
+            Ok(()) => Ok(Journal { file }),
+            Err(error) => {
+                let GatedFile { disk, size: _ } = file;
+                Err((error, disk))
+            }
+        }
+    }
+
+    /// The disk: a crash leaves it as it reads.
+    pub fn into_disk(self) -> D
+        ensures same { result ≡ self }
+        ensures durable { Only (D.seen result) (D.may_leave result) }
+    {
+        let Journal { file } = self;
+        let GatedFile { disk, size: _ } = file;
+        disk
+    }
+}

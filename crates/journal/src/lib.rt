@@ -1,0 +1,38 @@
+//! A journal: groups of bytes in a file, each on the disk before it is acknowledged, whatever crashes.
+//!
+//! A file is groups, each behind an open gate and a head that tells its length, and then a closed gate:
+//!
+//! ```text
+//! 1 000000000000004     an open gate, and how many bytes follow
+//! one                   (the fourth byte is the end of the line)
+//! 1 000000000000004
+//! two
+//! 0                     the closed gate: nothing behind it counts
+//! ```
+//!
+//! [`Journal::append`] writes a group behind the closed gate, syncs, opens the gate by a write of its own, and syncs.
+//! So a crash at any moment leaves the groups from before, with the new one whole or without it; at `Ok` each crash
+//! from then on leaves a file that has it. [`Found::read`] reads the groups and changes nothing; [`Found::mend`] then
+//! cuts off what a crash has torn. Both may crash too, at any moment, and the file then stands for the same groups.
+//!
+//! The contract speaks of a [`Disk`] with a clock: what a read returns, what a crash at this moment may leave, and
+//! what a crash at some moment since might have left (`specs/Disk`). Until a sync, a crash may leave any bytes in the
+//! range of a write, and any length between. `specs/Groups` says what a file stands for; `specs/Calls` is a disk as
+//! the list of its calls, for those who make one.
+//!
+//! ```text
+//! let (found, contents) = Found::read(alloc, disk)?;      // look at contents.groups before anything is written
+//! let mut journal = found.mend()?;
+//! journal = journal.append(alloc, b"insert 1\n")?;        // on the disk
+//! ```
+#![tactic(auto)]
+
+mod disk;
+mod gated;
+mod groups;
+mod journal;
+
+pub use disk::{Disk, DiskError};
+pub use gated::MAX_GROUP;
+pub use groups::{CLOSED, Contents};
+pub use journal::{Found, Journal};

@@ -1,0 +1,144 @@
+//! Each method makes one call of the system, and then notes it with its answer.
+ghost use Rattle.std.specs.Prelude.{◌≡◌, length, IsSome, IfOk};
+ghost use Rattle.std.specs.Option.{ForSome};
+ghost use Rattle.journal.specs.Calls.{seen_after, left_after, left_during, failures, counts, only};
+
+use crate::transcript::Transcript;
+use journal::{Disk, DiskError};
+use std::alloc::Global;
+use std::fs::{File, OpenOptions, TryLockError};
+use std::io::{self, Read};
+use std::os::unix::fs::FileExt;
+use std::path::Path;
+use std::rt::Files;
+use thiserror::Error;
+
+/// Why a journal's file could not be opened.
+#[derive(Debug, Drop, Error)]
+pub enum OpenError {
+    /// The system refuses a call, or memory ran out.
+    #[error(transparent)]
+    Io(#[from] io::Error),
+    /// Another process, or another handle of this one, has the file.
+    #[error("94 InUse")]
+    InUse,
+}
+
+/// A file of the operating system. After a call that fails, each further one fails.
+#[derive(Drop)]
+pub struct FileDisk {
+    file: File,
+    /// What it held as it was opened, until that is read or changed.
+    first: Option<Vec<u8>>,
+    is_failed: bool,
+    transcript: Transcript,
+    ghost same: { ForSome first (λ bytes. bytes.items ≡ seen_after transcript.calls) },
+}
+
+fn lock(file: &File) -> Result<(), OpenError> {
+    match file.try_lock() {
+        Ok(()) => Ok(()),
+        Err(TryLockError::WouldBlock) => Err(OpenError::InUse),
+        Err(TryLockError::Error(error)) => Err(error.into()),
+    }
+}
+
+/// Syncs the folder in which a file lies, so that its name is on the disk.
+pub(crate) fn sync_folder<R: Files<File = File>>(rt: &R, path: &str) -> io::Result<()> {
+    let folder = match Path::new(path).parent() {
+        Some(parent) if !parent.as_str().is_empty() => parent.as_str(),
+        _ => ".",
+    };
+    File::open(rt, folder)?.sync_all()
+}
+
+impl FileDisk {
+    ghost use Rattle.journal_file.specs.FileDisk.{IsFresh};
+
+    /// Opens a journal's file, and makes it where there is none. It is locked until the result is dropped.
+    pub fn open<R: Files<File = File>>(
+        rt: &R,
+        alloc: Global,
+        path: &str,
+    ) -> Result<FileDisk, OpenError>
+        ensures { IfOk result IsFresh }
+    {
+        let mut file = OpenOptions::new()
+            .read(true)
+            .write(true)
+            .create(true)
+            .open(rt, path)?;
+        lock(&file)?;
+        file.sync_all()?;
+        sync_folder(rt, path)?;
+        let mut bytes = Vec::new(alloc);
+        file.read_to_end(&mut bytes)?;
+        let transcript = Transcript::new(&bytes);
+        Ok(FileDisk {
+            file,
+            first: Some(bytes),
+            is_failed: false,
+            transcript,
+        })
+    }
+}
+
+impl Disk for FileDisk {
+    ghost seen = { λ f. seen_after f.transcript.calls };
+
+    ghost may_leave = { λ f. left_after f.transcript.calls };
+
+    ghost moment = { λ f. length f.transcript.calls };
+
+    ghost left_since = { λ f. left_during f.transcript.calls };
+
+    ghost faults = { λ f. failures f.transcript.calls };
+
+    ghost is_readable = { λ f. IsSome f.first };
+
+    ghost counts_now = { λ f. counts f.transcript.calls };
+
+    ghost only_now = { λ f. only f.transcript.calls };
+
+    fn read(&mut self, _alloc: Global) -> Result<Vec<u8>, DiskError> {
+        match self.first.take() {
+            Some(bytes) => Ok(bytes),
+            None => unreachable!(),
+        }
+    }
+
+    fn write_at(&mut self, at: usize, bytes: &[u8]) -> Result<(), DiskError> {
+        self.first = None;
+        if !self.is_failed && self.file.write_all_at(bytes, at as u64).is_ok() {
+            self.transcript.wrote(at as u64, bytes, true);
+            Ok(())
+        } else {
+            self.is_failed = true;
+            self.transcript.wrote(at as u64, bytes, false);
+            Err(DiskError::Failed)
+        }
+    }
+
+    fn cut(&mut self, len: usize) -> Result<(), DiskError> {
+        self.first = None;
+        if !self.is_failed && self.file.set_len(len as u64).is_ok() {
+            self.transcript.trimmed(len as u64, true);
+            Ok(())
+        } else {
+            self.is_failed = true;
+            self.transcript.trimmed(len as u64, false);
+            Err(DiskError::Failed)
+        }
+    }
+
+    fn sync(&mut self) -> Result<(), DiskError> {
+        if !self.is_failed && self.file.sync_data().is_ok() {
+            self.transcript.synced(true);
+            Ok(())
+        } else {
+            self.is_failed = true;
+            self.transcript.synced(false);
+            Err(DiskError::Failed)
+        }
+    }
+}

@@ -1,0 +1,28 @@
+//! A journal's disk as a file of the operating system.
+//!
+//! [`FileDisk::open`] opens a file, makes it where there is none, locks it, syncs it and its folder, and reads it. From
+//! then on each method makes one call of the system and notes it, with whether it succeeded, in a transcript that only
+//! clauses read. The contract is that of `journal`'s `Disk`, over that transcript (`journal/specs/Calls`).
+//!
+//! What no contract can state, and a reader of `src/file_disk` has to hold for true: each method makes the call that
+//! it notes; what `open` reads after `sync_all` is what is on the disk; `sync_data` keeps its promise; the bytes
+//! outside a written range stay as they were; nobody else writes the file. After a call that fails, each further one
+//! of that `FileDisk` fails; the system may then still show bytes that the disk lacks, so restart the machine before
+//! the file is opened again.
+//!
+//! [`keep_torn`] puts the bytes that a mend will cut off behind those of a file beside the journal.
+//!
+//! ```text
+//! let disk = FileDisk::open(rt, alloc, "orders.journal")?;
+//! let (found, contents) = Found::read(alloc, disk)?;
+//! keep_torn(rt, alloc, "orders.journal", contents.torn())?;
+//! let journal = found.mend()?;
+//! ```
+#![tactic(auto)]
+
+mod file_disk;
+mod torn;
+mod transcript;
+
+pub use file_disk::{FileDisk, OpenError};
+pub use torn::keep_torn;

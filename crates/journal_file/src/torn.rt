@@ -1,0 +1,28 @@
+//! What a crash has torn, kept beside the journal.
+
+use crate::file_disk::sync_folder;
+use std::alloc::Global;
+use std::fs::{File, OpenOptions};
+use std::io::{self, Write};
+use std::rt::Files;
+
+/// Puts bytes behind those of the file `PATH.torn`, which is made where there is none, and syncs it and its folder. No
+/// bytes: does nothing.
+pub fn keep_torn<R: Files<File = File>>(
+    rt: &R,
+    alloc: Global,
+    path: &str,
+    torn: &[u8],
+) -> io::Result<()> {
+    if torn.is_empty() {
+        return Ok(());
+    }
+    let beside = format!(in alloc; "{path}.torn")?;
+    let mut file = OpenOptions::new()
+        .append(true)
+        .create(true)
+        .open(rt, beside.as_str())?;
+    file.write_all(torn)?;
+    file.sync_all()?;
+    sync_folder(rt, path)
+}

@@ -1,0 +1,43 @@
+//! The calls on a file, which only clauses read: no memory holds them.
+ghost use Rattle.std.specs.Prelude.{◌≡◌, List, [], ◌∷◌};
+ghost use Rattle.std.specs.Borrow.{ftrue};
+ghost use Rattle.journal.specs.Calls.{Call, opened, wrote, trimmed, synced};
+
+use std::marker::{Model, PhantomData};
+
+/// The calls on a file, the newest first. Each method notes one: it does nothing.
+#[derive(Drop)]
+pub(crate) struct Transcript {
+    marker: PhantomData<u8>,
+    pub ghost calls: { List Call },
+}
+
+impl Model for Transcript {
+    ghost also_owns = { λ _. ftrue };
+}
+
+impl Transcript {
+    /// Of a file that was opened with these bytes, all of them on the disk.
+    pub(crate) fn new(_bytes: &[u8]) -> Transcript
+        ensures { result.calls ≡ opened _bytes.now ∷ [] }
+    {
+        Transcript {
+            marker: PhantomData,
+        }
+    }
+
+    /// These bytes were written at this offset, or that failed.
+    pub(crate) fn wrote(&mut self, _at: u64, _bytes: &[u8], _done: bool)
+        ensures { self.new.calls ≡ wrote _at _bytes.now _done ∷ self.old.calls }
+    {}
+
+    /// The file was cut to this length, or that failed.
+    pub(crate) fn trimmed(&mut self, _len: u64, _done: bool)
+        ensures { self.new.calls ≡ trimmed _len _done ∷ self.old.calls }
+    {}
+
+    /// The file was synced, or that failed.
+    pub(crate) fn synced(&mut self, _done: bool)
+        ensures { self.new.calls ≡ synced _done ∷ self.old.calls }
+    {}
+}

@@ -1,0 +1,3 @@
+mod HeadLaws
+pub mod SealLaws
+mod TextLaws

@@ -1,0 +1,9 @@
+pub mod LineLaws
+pub mod RequestLaws
+pub mod CuttingLaws
+pub mod TakingLaws
+pub mod NextLaws
+pub mod MachineLaws
+pub mod RecordLaws
+pub mod WordLaws
+pub mod ScriptLaws

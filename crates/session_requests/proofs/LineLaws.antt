@@ -1,0 +1,57 @@
+-- Laws of the lines of a text.
+use Rattle.std.proofs.Common.{◌≡◌, ◌≢◌, ◌<◌, ◌+◌, ℕ, List, [], ◌∷◌, ◌++◌, length, take, get_or, sym, subst, ◌∙◌, arith, append_assoc}
+use Rattle.std.proofs.lemmas.List.{take_more}
+use Rattle.session_requests.specs.Lines.{HasNoLineEnd, IsLine}
+
+-- two lines at the front of one text are one
+pub same_line : (a b x y : List ℕ) → IsLine a → IsLine b → a ++ x ≡ b ++ y → (a ≡ b) × (x ≡ y)
+same_line [] b x y p q e = absurd p
+same_line (a ∷ cs) [] x y p q e = absurd q
+same_line (a ∷ []) (b ∷ []) x y p q e = (cc, cc)
+same_line (a ∷ []) (b ∷ d ∷ bs) x y p q e = absurd (q.0 cc)
+same_line (a ∷ c ∷ cs) (b ∷ []) x y p q e = absurd (p.0 cc)
+same_line (a ∷ c ∷ cs) (b ∷ d ∷ bs) x y p q e =
+    let tails : (c ∷ cs) ++ x ≡ (d ∷ bs) ++ y = cc in
+    let rest = same_line (c ∷ cs) (d ∷ bs) x y p.1 q.1 tails in
+    let same = rest.0 in
+    (cc, rest.1)
+
+-- no line stands at the front of bytes without an LF
+pub no_line_before_end : (line more bytes : List ℕ) → IsLine line → HasNoLineEnd bytes → bytes ≡ line ++ more → ⊥
+no_line_before_end [] more bytes p n e = p
+no_line_before_end (b ∷ line) more [] p n e = cc
+no_line_before_end (b ∷ []) more (c ∷ bytes) p n e = n.0 cc
+no_line_before_end (b ∷ d ∷ line) more (c ∷ bytes) p n e = no_line_before_end (d ∷ line) more bytes p.1 n.1 cc
+
+-- two lines, with more behind each, at the front of one text
+pub same_front : (a b cs bs x y : List ℕ) → IsLine a → IsLine b → (a ++ cs) ++ x ≡ (b ++ bs) ++ y
+    → (a ≡ b) × (cs ++ x ≡ bs ++ y)
+same_front a b cs bs x y p q e =
+    same_line a b (cs ++ x) (bs ++ y) p q (sym (append_assoc a cs x) ∙ e ∙ append_assoc b bs y)
+
+-- bytes without an LF, and a line behind them, are a line
+pub line-append : (xs line : List ℕ) → HasNoLineEnd xs → IsLine line → IsLine (xs ++ line)
+line-append [] line n p = p
+line-append (b ∷ []) [] n p = absurd p
+line-append (b ∷ []) (c ∷ line) n p = (n.0, p)
+line-append (b ∷ c ∷ xs) line n p = (n.0, line-append (c ∷ xs) line n.1 p)
+
+pub no_line_end-append : (xs ys : List ℕ) → HasNoLineEnd xs → HasNoLineEnd ys → HasNoLineEnd (xs ++ ys)
+no_line_end-append [] ys n m = m
+no_line_end-append (b ∷ xs) ys n m = (n.0, no_line_end-append xs ys n.1 m)
+
+pub line_has_bytes : (line : List ℕ) → IsLine line → 0 < length line
+line_has_bytes [] p = absurd p
+line_has_bytes (b ∷ line) p = omega arith
+
+-- the same of the front of bytes, up to a place
+pub no_line_end-more : (bytes : List ℕ) (i : ℕ) → i < length bytes → get_or bytes i 0 ≢ 10
+    → HasNoLineEnd (take i bytes) → HasNoLineEnd (take (i + 1) bytes)
+no_line_end-more bytes i within other n =
+    subst HasNoLineEnd (sym (take_more bytes i 0 within))
+    (no_line_end-append (take i bytes) (get_or bytes i 0 ∷ []) n (other, tt))
+
+pub line-more : (bytes : List ℕ) (i : ℕ) → i < length bytes → get_or bytes i 0 ≡ 10
+    → HasNoLineEnd (take i bytes) → IsLine (take (i + 1) bytes)
+line-more bytes i within end n =
+    subst IsLine (sym (take_more bytes i 0 within)) (line-append (take i bytes) (get_or bytes i 0 ∷ []) n end)

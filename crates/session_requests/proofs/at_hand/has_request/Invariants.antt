@@ -1,0 +1,10 @@
+use Rattle.std.proofs.Common.{◌≡◌, ℕ, List, ◌++◌, length}
+use Rattle.session_requests.specs.Taking.{IsOpen}
+use Rattle.session_requests.proofs.at_hand.has_request.Given as goal
+
+-- the lines before what is left were begun and have no end yet
+abbrev pub invariant-loop-count : goal.invariant-loop-count
+invariant-loop-count l = (front : List ℕ) × (l.fn.bytes ≡ front ++ l.rest) × IsOpen l.begun front
+
+abbrev pub decreases-loop-count : goal.decreases-loop-count
+decreases-loop-count l = length l.rest

@@ -1,0 +1,10 @@
+use Rattle.std.proofs.Common.{◌≤◌, length}
+use Rattle.session_requests.specs.Lines.{HasNoLineEnd}
+use Rattle.session_requests.specs.Taking.{Took}
+use Rattle.session_requests.proofs.lines.next_line.Given as goal
+
+abbrev pub invariant-loop : goal.invariant-loop
+invariant-loop g l = record {
+  within : length l.buffer.items ≤ l.limit;
+  took : Took (g.R.Read.remaining l.fn.reader) (g.R.Read.remaining l.reader) l.fn.buffer.items l.buffer.items HasNoLineEnd;
+}

@@ -1,0 +1,6 @@
+use Rattle.std.proofs.Common.{take}
+use Rattle.session_requests.specs.Lines.{HasNoLineEnd}
+use Rattle.session_requests.proofs.pieces.line_length.Given as goal
+
+abbrev pub invariant-loop-at : goal.invariant-loop-at
+invariant-loop-at l = HasNoLineEnd (take l.at l.bytes)

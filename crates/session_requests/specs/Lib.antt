@@ -1,0 +1,6 @@
+pub mod Lines
+pub mod Requests
+pub mod Next
+pub mod Taking
+pub mod Laws
+pub mod ScriptLaws

@@ -1,0 +1,35 @@
+-- The lines of a text, and the two words that a line may have alone.
+use Rattle.std.specs.Prelude.{◌≡◌, ◌≢◌, ℕ, Bool, List, [], ◌∷◌, ◌++◌, codes, nat_eq}
+use Rattle.std.specs.List.{AllByRecursion, concat}
+use Rattle.std.specs.Cmp.Lexicographic.{pointwise}
+use Rattle.std.specs.Io.BufRead.{strip_last}
+use Rattle.csv.specs.Reading.{strip_bom}
+use Rattle.ssb_text.specs.Spelling.{without_spaces}
+
+-- none of these bytes is an LF
+abbrev pub HasNoLineEnd : List ℕ → Type 0
+HasNoLineEnd bytes = AllByRecursion (λ b. b ≢ 10) bytes
+
+-- a whole line: its last byte is an LF, and no other is
+abbrev pub IsLine : List ℕ → Type 0
+IsLine [] = ⊥
+IsLine (b ∷ []) = b ≡ 10
+IsLine (b ∷ next ∷ bytes) = (b ≢ 10) × IsLine (next ∷ bytes)
+
+-- the whole lines of a text, in order, and the bytes behind the last LF
+pub record AreLines (text : List ℕ) (lines : List (List ℕ)) (last : List ℕ) : Type 0 where
+  pub joined : text ≡ concat lines ++ last
+  pub each : AllByRecursion IsLine lines
+  pub behind : HasNoLineEnd last
+
+-- the word that a line has alone, if it has one alone: without LF or CR LF, a closing bar, and spaces at its end
+abbrev pub word_alone : List ℕ → List ℕ
+word_alone line = without_spaces (strip_last 124 (strip_last 13 (strip_last 10 line)))
+
+-- whether a line begins a block; it may be the first of a text of its own, with a byte order mark
+unfoldable pub is_begin : List ℕ → Bool
+is_begin line = pointwise nat_eq (word_alone (strip_bom line)) (codes "begin")
+
+-- whether a line ends a block
+unfoldable pub is_commit : List ℕ → Bool
+is_commit line = pointwise nat_eq (word_alone line) (codes "commit")

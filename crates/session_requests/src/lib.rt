@@ -1,0 +1,32 @@
+//! The cutting of the text that a session writes into requests, each of which a live server answers at once: a line; or
+//! the lines from a `begin` through the first `commit` behind it. Each is read as a script of its own.
+//!
+//! ```text
+//! query|Q1.1          the first request
+//! begin               the second, of three lines
+//! withdraw|7
+//! commit
+//! que                 the rest: it has no end yet
+//! ```
+//!
+//! The contract of [`next_request`]: the bytes in the buffer are exactly those that the reader lost; they are a whole
+//! request, or what a text that has ended still had, or, behind an error, the front of a request that has no end yet.
+//! [`has_request`] says whether a whole request stands at the front of bytes.
+//!
+//! The definitions stand in `specs/`: `Lines` (a line, and which are `begin` and `commit`), `Requests` (a request, and the
+//! requests of a text), `Next` (what a read gives and tells), `Taking` (the same of its parts), `Laws` (a text has one
+//! cutting, and whatever follows it leaves its requests as they are) and `ScriptLaws`: serving the requests of a legal
+//! script as they come serves the script.
+#![tactic(auto)]
+
+mod at_hand;
+mod error;
+pub mod laws;
+mod lines;
+mod pieces;
+mod requests;
+
+pub use at_hand::has_request;
+pub use error::RequestError;
+pub use lines::ends_request;
+pub use requests::{Found, MOST_BYTES, next_request};

@@ -1,0 +1,135 @@
+-- What texts of a journal spell.
+use Rattle.std.proofs.Common.{◌≡◌, ℕ, ◌+◌, ◌<◌, ◌≤◌, inl, inr, ⊎_elim, List, [], ◌∷◌, ◌++◌, Vec, Global, length, get_or, take, map, Some, refl, sym, ◌∙◌, ap, subst, arith, append_assoc}
+use Rattle.std.specs.Prelude.{◌⊎◌, Result, Ok, Err, IfOk, IfErr}
+use Rattle.std.specs.List.{AllByRecursion, AllZip, flat_map, slice_get}
+use Rattle.std.proofs.lemmas.List.{append-nil, take_more, get_or-map, length-map, map_push}
+use Rattle.std.proofs.lemmas.Grind.{flat_map-append}
+use Rattle.std.proofs.lemmas.Option.{slice_get-get_or}
+use Rattle.journal.specs.Groups.{lists, recovered, IsBeforeOrAfter}
+use Rattle.row_store.specs.History.{CommitRecord}
+use Rattle.sealed_journal.specs.Seals.{sealed}
+use Rattle.sealed_journal.specs.Texts.{AreSealed, IsJournalOf}
+use Rattle.sealed_journal.specs.Heads.{head_text}
+use Rattle.sealed_journal.specs.declared.head.TableSize.{TableSize}
+use Rattle.sealed_journal.specs.declared.fault.JournalFault.{JournalFault}
+use Rattle.sealed_journal.specs.declared.fault.JournalFault.TheVariants.{Damaged, OutOfMemory}
+use Rattle.ssb_audit.specs.declared.trace.Told.{Told}
+use Rattle.ssb_audit.specs.declared.trace.Trace.{Trace}
+use Rattle.ssb_script.specs.declared.error.ScriptError.{ScriptError}
+use Rattle.ssb_script.specs.declared.error.ScriptError.TheVariants as error
+use Rattle.ssb_trace.specs.Laws.{HasOneReading}
+use Rattle.ssb_trace.specs.Traces.{EndsInBlock, IsFirstFault, IsTraceFault, SpellsTrace}
+use Rattle.ssb_journal.specs.Kept.{trace_of, SpellsBatch, SpellCommits, SpellsNoBatch, IsFirstNoBatch, KeepsCommits, KeepsWithOrWithout, IsGroupOf, batch_fault}
+
+-- each has P, and where it has P it has Q
+pub all_meet : {A : Type 0} (P Q : A → Type 0) (xs : List A) → AllByRecursion P xs → AllByRecursion (λ x. P x → Q x) xs → AllByRecursion Q xs
+all_meet P Q [] ps means = tt
+all_meet P Q (x ∷ xs) ps means = (means.0 ps.0, all_meet P Q xs ps.1 means.1)
+
+all_zip_push : {A B : Type 0} (R : A → B → Type 0) (xs : List A) (ys : List B) (x : A) (y : B) → AllZip R xs ys → R x y → AllZip R (xs ++ x ∷ []) (ys ++ y ∷ [])
+all_zip_push R [] [] x y all one = (one, tt)
+all_zip_push R [] (b ∷ ys) x y all one = absurd all
+all_zip_push R (a ∷ xs) [] x y all one = absurd all
+all_zip_push R (a ∷ xs) (b ∷ ys) x y all one = (all.0, all_zip_push R xs ys x y all.1 one)
+
+-- one text more
+pub spell_more : (texts : List (List ℕ)) (commits : List CommitRecord) (text : List ℕ) (batch : List CommitRecord) → SpellCommits texts commits → SpellsBatch text batch → SpellCommits (texts ++ text ∷ []) (commits ++ batch)
+spell_more texts commits text batch so_far one = record {
+  batches = so_far.batches ++ batch ∷ [];
+  spelled = all_zip_push SpellsBatch texts so_far.batches text batch so_far.spelled one;
+  whole = flat_map-append (λ (b : List CommitRecord). b) so_far.batches (batch ∷ []) ∙ ap (λ (cs : List CommitRecord). cs ++ (batch ++ [])) so_far.whole ∙ ap (λ (b : List CommitRecord). commits ++ b) (append-nil batch);
+}
+
+pub spell_none : SpellCommits [] []
+spell_none = record { batches = []; spelled = tt; whole = refl }
+
+-- texts spell one list of batches
+one_batches : ((text : List ℕ) → HasOneReading text) → (texts : List (List ℕ)) (bs ds : List (List CommitRecord)) → AllZip SpellsBatch texts bs → AllZip SpellsBatch texts ds → bs ≡ ds
+one_batches reads [] [] [] one other = refl
+one_batches reads [] [] (d ∷ ds) one other = absurd other
+one_batches reads [] (b ∷ bs) ds one other = absurd one
+one_batches reads (t ∷ ts) [] ds one other = absurd one
+one_batches reads (t ∷ ts) (b ∷ bs) [] one other = absurd other
+one_batches reads (t ∷ ts) (b ∷ bs) (d ∷ ds) one other =
+    let first : trace_of b ≡ trace_of d = reads t one.0.0 other.0.0 (trace_of b) (trace_of d) one.0.1 other.0.1 in
+    ap (λ (trace : Trace). trace.commits ∷ bs) first ∙ ap (λ (l : List (List CommitRecord)). d ∷ l) (one_batches reads ts bs ds one.1 other.1)
+
+pub one_list : ((text : List ℕ) → HasOneReading text) → (texts : List (List ℕ)) (cs ds : List CommitRecord) → SpellCommits texts cs → SpellCommits texts ds → cs ≡ ds
+one_list reads texts cs ds one other =
+    sym one.whole ∙ ap (flat_map (λ (b : List CommitRecord). b)) (one_batches reads texts one.batches other.batches one.spelled other.spelled) ∙ other.whole
+
+tells : (number most : ℕ) (text : List ℕ) (e : ScriptError) → (e ≡ error.Read → ⊥) → (e ≡ error.OutOfMemory → ⊥) → IsTraceFault most text e → SpellsNoBatch text
+tells number most text e not_read not_memory fault =
+    ⊎_elim (λ is. absurd (not_read is)) (λ more. ⊎_elim (λ is. absurd (not_memory is)) (λ told. ⊎_elim (λ first. inl (most, e, first)) (λ ends. inr (inl (most, ends.1))) told) more) fault
+
+-- a text that spells no trace
+pub no_trace : (number most : ℕ) (text : List ℕ) (e : ScriptError) → IsTraceFault most text e → (batch_fault number e ≡ OutOfMemory) ⊎ ((batch_fault number e ≡ Damaged number) × SpellsNoBatch text)
+no_trace number most text error.Read fault = inl refl
+no_trace number most text error.OutOfMemory fault = inl refl
+no_trace number most text (error.BadLine n) fault = inr (refl, tells number most text (error.BadLine n) (λ is. cc) (λ is. cc) fault)
+no_trace number most text error.NoCommit fault = inr (refl, tells number most text error.NoCommit (λ is. cc) (λ is. cc) fault)
+no_trace number most text (error.EmptyBlock n) fault = inr (refl, tells number most text (error.EmptyBlock n) (λ is. cc) (λ is. cc) fault)
+no_trace number most text (error.Row n f) fault = inr (refl, tells number most text (error.Row n f) (λ is. cc) (λ is. cc) fault)
+no_trace number most text error.TooLong fault = inr (refl, tells number most text error.TooLong (λ is. cc) (λ is. cc) fault)
+
+-- the commits that a file keeps, with a group more
+pub keeps_more : (sizes : List TableSize) (before more : List CommitRecord) (old new group : List ℕ) → KeepsCommits sizes before old → IsGroupOf more group → recovered new ≡ recovered old ++ group ∷ [] → KeepsCommits sizes (before ++ more) new
+keeps_more sizes before more old new group kept is grown = record {
+  texts = kept.texts ++ is.text ∷ [];
+  is_journal = grown ∙ ap (λ (gs : List (List ℕ)). gs ++ group ∷ []) kept.is_journal ∙ ap (λ (g : List ℕ). map sealed (head_text sizes ∷ kept.texts) ++ g ∷ []) is.is ∙ sym (map_push sealed (head_text sizes ∷ kept.texts) is.text);
+  spelled = spell_more kept.texts before is.text more kept.spelled is.spells;
+}
+
+-- the same groups keep the same commits
+pub keeps_same : (sizes : List TableSize) (commits : List CommitRecord) (old new : List ℕ) → KeepsCommits sizes commits old → recovered new ≡ recovered old → KeepsCommits sizes commits new
+keeps_same sizes commits old new kept same_groups = record { texts = kept.texts; is_journal = same_groups ∙ kept.is_journal; spelled = kept.spelled }
+
+module _ (texts : List (Vec ℕ Global)) (i : ℕ) (text : Vec ℕ Global) (inside : i < length texts) (is : text ≡ get_or texts i text) where
+  within : i < length (lists texts)
+  within = omega (arith, length-map texts (λ (v : Vec ℕ Global). v.items))
+
+  at : get_or (lists texts) i [] ≡ text.items
+  at = get_or-map (λ (v : Vec ℕ Global). v.items) texts i text [] inside ∙ ap (λ (v : Vec ℕ Global). v.items) (sym is)
+
+  -- the commits of one text more
+  pub commits_more : (commits batch all : List CommitRecord) → SpellCommits (take i (lists texts)) commits → SpellsBatch text.items batch → all ≡ commits ++ batch → SpellCommits (take (i + 1) (lists texts)) all
+  commits_more commits batch all so_far one all_is =
+      let next : take (i + 1) (lists texts) ≡ take i (lists texts) ++ text.items ∷ [] = take_more (lists texts) i [] within ∙ ap (λ (t : List ℕ). take i (lists texts) ++ t ∷ []) at in
+      subst (λ (ts : List (List ℕ)). SpellCommits ts all) (sym next)
+      (subst (SpellCommits (take i (lists texts) ++ text.items ∷ [])) (sym all_is) (spell_more (take i (lists texts)) commits text.items batch so_far one))
+
+  -- a text that spells no commits
+  pub first_no_batch : (commits : List CommitRecord) (fault : JournalFault) → SpellCommits (take i (lists texts)) commits → fault ≡ Damaged (i + 1) → SpellsNoBatch text.items → IsFirstNoBatch (lists texts) fault
+  first_no_batch commits fault so_far told none = record {
+    place = i;
+    told = told;
+    text = text.items;
+    is = slice_get-get_or (lists texts) i [] within ∙ ap (λ (t : List ℕ). Some t) at;
+    no_batch = none;
+    before = commits;
+    spelled = so_far;
+  }
+
+none_left : {A : Type 0} (xs : List A) → length xs ≤ 0 → xs ≡ []
+none_left [] few = refl
+none_left (x ∷ xs) few = absurd (omega arith)
+
+-- a trace without answers spells its commits
+pub batch_spelled : (most : ℕ) (text : List ℕ) (trace : Trace) (batch : List CommitRecord) → SpellsTrace most text trace → length trace.answers ≤ 0 → batch ≡ trace.commits → SpellsBatch text batch
+batch_spelled most text trace batch spelled none same =
+    let is : trace ≡ trace_of batch = ap (λ (answers : List Told). record trace { answers = answers }) (none_left trace.answers none) ∙ ap trace_of (sym same) in
+    (most, subst (SpellsTrace most text) is spelled)
+
+-- what holds where a call has succeeded, or failed
+pub if_ok : {A E : Type 0} (r : Result A E) (P Q : A → Type 0) → IfOk r P → ((a : A) → P a → Q a) → IfOk r Q
+if_ok (Ok a) P Q holds means = means a holds
+if_ok (Err e) P Q holds means = tt
+
+pub if_err : {A E : Type 0} (r : Result A E) (P Q : E → Type 0) → IfErr r P → ((e : E) → P e → Q e) → IfErr r Q
+if_err (Ok a) P Q holds means = tt
+if_err (Err e) P Q holds means = means e holds
+
+-- a file after an append, or at a moment of it
+pub keeps_either : (sizes : List TableSize) (before more : List CommitRecord) (old group file : List ℕ) → KeepsCommits sizes before old → IsGroupOf more group → IsBeforeOrAfter (recovered old) group file → KeepsWithOrWithout sizes before more file
+keeps_either sizes before more old group file kept is left =
+    ⊎_elim (λ same. inl (keeps_same sizes before old file kept same)) (λ grown. inr (keeps_more sizes before more old file group kept is grown)) left

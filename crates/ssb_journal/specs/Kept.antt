@@ -1,0 +1,72 @@
+-- The commits that a journal keeps.
+use Rattle.std.specs.Prelude.{◌≡◌, ◌⊎◌, ◌<◌, List, ℕ, [], ◌∷◌, ◌++◌, length, ◌+◌, take, slice_get, Some}
+use Rattle.std.specs.List.{AllZip, flat_map}
+use Rattle.journal.specs.Groups.{recovered}
+use Rattle.row_store.specs.History.{CommitRecord}
+use Rattle.sealed_journal.specs.Seals.{sealed}
+use Rattle.sealed_journal.specs.Texts.{IsJournalOf}
+use Rattle.sealed_journal.specs.declared.head.TableSize.{TableSize}
+use Rattle.ssb_audit.specs.declared.trace.Trace.{Trace}
+use Rattle.ssb_script.specs.declared.error.ScriptError.{ScriptError}
+use Rattle.ssb_script.specs.declared.error.ScriptError.TheVariants as error
+use Rattle.sealed_journal.specs.declared.fault.JournalFault.{JournalFault}
+use Rattle.sealed_journal.specs.declared.fault.JournalFault.TheVariants.{Damaged, OutOfMemory}
+use Rattle.ssb_trace.specs.Traces.{EndsInBlock, IsFirstFault, SpellsTrace}
+
+-- the trace of these commits, without answers
+abbrev pub trace_of : List CommitRecord → Trace
+trace_of commits = record { commits = commits; answers = [] }
+
+-- a text spells these commits and nothing else
+abbrev pub SpellsBatch : List ℕ → List CommitRecord → Type 0
+SpellsBatch text commits = (most : ℕ) × SpellsTrace most text (trace_of commits)
+
+-- texts spell these commits, each text some of them, in order
+pub record SpellCommits (texts : List (List ℕ)) (commits : List CommitRecord) : Type 0 where
+  pub batches : List (List CommitRecord)
+  pub spelled : AllZip SpellsBatch texts batches
+  pub whole : flat_map (λ batch. batch) batches ≡ commits
+
+-- a file is a journal over tables of these sizes, and keeps these commits
+pub record KeepsCommits (sizes : List TableSize) (commits : List CommitRecord) (file : List ℕ) : Type 0 where
+  pub texts : List (List ℕ)
+  pub is_journal : IsJournalOf sizes texts file
+  pub spelled : SpellCommits texts commits
+
+-- a file keeps these commits, with the new ones all or without them
+abbrev pub KeepsWithOrWithout : List TableSize → List CommitRecord → List CommitRecord → List ℕ → Type 0
+KeepsWithOrWithout sizes commits more file = KeepsCommits sizes commits file ⊎ KeepsCommits sizes (commits ++ more) file
+
+-- a file stands for these groups, or is a new journal, where one is being made
+abbrev pub IsAsItWasOrNew : List TableSize → List (List ℕ) → List ℕ → Type 0
+IsAsItWasOrNew sizes groups file =
+    (recovered file ≡ groups) ⊎ ((groups ≡ []) × IsJournalOf sizes [] file)
+
+-- a text has a record that stands in a wrong place or spells nothing, ends inside a commit, or spells answers
+abbrev pub SpellsNoBatch : List ℕ → Type 0
+SpellsNoBatch text =
+    ((most : ℕ) × (e : ScriptError) × IsFirstFault most text e)
+    ⊎ (((most : ℕ) × EndsInBlock most text)
+    ⊎ ((most : ℕ) × (trace : Trace) × SpellsTrace most text trace × (0 < length trace.answers)))
+
+-- what is told of the text of a group that spells no trace
+abbrev pub batch_fault : ℕ → ScriptError → JournalFault
+batch_fault number error.Read = OutOfMemory
+batch_fault number error.OutOfMemory = OutOfMemory
+batch_fault number _ = Damaged number
+
+-- the text of this group is the first that spells no commits; the first text is that of group 1
+pub record IsFirstNoBatch (texts : List (List ℕ)) (fault : JournalFault) : Type 0 where
+  pub place : ℕ
+  pub told : fault ≡ Damaged (place + 1)
+  pub text : List ℕ
+  pub is : slice_get texts place ≡ Some text
+  pub no_batch : SpellsNoBatch text
+  pub before : List CommitRecord
+  pub spelled : SpellCommits (take place texts) before
+
+-- a group is a text that spells these commits, behind the line of its checksum
+pub record IsGroupOf (commits : List CommitRecord) (group : List ℕ) : Type 0 where
+  pub text : List ℕ
+  pub is : group ≡ sealed text
+  pub spells : SpellsBatch text commits

@@ -1,0 +1,60 @@
+//! Commits, appended to a journal.
+ghost use Rattle.std.specs.Prelude.{◌≡◌, ◌⊎◌, ◌<◌, ◌≤◌, ◌^◌, ◌++◌, List, length, IfOk, IfErr};
+ghost use Rattle.std.specs.List.{AllByRecursion};
+ghost use Rattle.journal.specs.Disk.{LeavesOnly};
+ghost use Rattle.row_store.specs.History.{CommitRecord};
+ghost use Rattle.sealed_journal.specs.Seals.{sealed};
+ghost use Rattle.sealed_journal.specs.declared.head.TableSize.{TableSize};
+ghost use Rattle.ssb_trace.specs.Allowed.{IsClient};
+ghost use Rattle.ssb_trace.specs.TraceText.{trace_text};
+ghost use Rattle.ssb_journal.specs.Kept.{trace_of, IsGroupOf, KeepsCommits, KeepsWithOrWithout};
+
+use crate::commits::text_of;
+use journal::{Disk, DiskError, Journal, MAX_GROUP};
+use row_store::Commit;
+use sealed_journal::seal;
+use std::alloc::Global;
+
+// Commits as a group: their text behind the line of its checksum.
+fn group_of(alloc: Global, commits: Vec<Commit>) -> Result<Vec<u8>, DiskError>
+    requires { AllByRecursion (λ commit. IsClient commit.client) commits.items }
+    ensures group { IfOk result (λ group. IsGroupOf commits.items group.items) }
+    ensures short { IfOk result (λ group. length group.items ≤ 2 ^ 49) }
+    ensures failed { IfErr result (λ e. e ≡ DiskError.Failed → ⊥) }
+    ensures full { IfErr result (λ e. e ≡ DiskError.Full
+        → 2 ^ 49 < length (sealed (trace_text (trace_of commits.items)))) }
+{
+    let group = seal(alloc, &text_of(alloc, commits)?)?;
+    if group.len() > MAX_GROUP {
+        return Err(DiskError::Full);
+    }
+    Ok(group)
+}
+
+/// Appends commits as one group. With the journal that comes back they are acknowledged: they are on the disk, and from
+/// then on each crash leaves a file that keeps them. At `Err`, which hands the disk back, open the file again.
+pub fn append_commits<D: Disk>(
+    alloc: Global,
+    journal: Journal<D>,
+    commits: Vec<Commit>,
+) -> Result<Journal<D>, (DiskError, D)>
+    requires { AllByRecursion (λ commit. IsClient commit.client) commits.items }
+    ensures acknowledged { IfOk result (λ after. (sizes : List TableSize) (before : List CommitRecord)
+        → KeepsCommits sizes before (D.seen journal) → KeepsCommits sizes (before ++ commits.items) (D.seen after)) }
+    // A crash at any moment of the call leaves the commits from before it, with the new ones all or without them.
+    ensures any_moment { IfOk result (λ after. (sizes : List TableSize) (before : List CommitRecord)
+        → KeepsCommits sizes before (D.seen journal)
+        → LeavesOnly D.moment D.left_since journal after (KeepsWithOrWithout sizes before commits.items)) }
+    ensures any_moment_err { IfErr result (λ e. (sizes : List TableSize) (before : List CommitRecord)
+        → KeepsCommits sizes before (D.seen journal)
+        → LeavesOnly D.moment D.left_since journal e.1 (KeepsWithOrWithout sizes before commits.items)) }
+    // It does not give up by itself.
+    ensures failed { IfErr result (λ e. e.0 ≡ DiskError.Failed → D.faults journal < D.faults e.1) }
+    ensures full { IfErr result (λ e. e.0 ≡ DiskError.Full
+        → (2 ^ 60 ≤ length (D.seen journal)) ⊎ (2 ^ 49 < length (sealed (trace_text (trace_of commits.items))))) }
+{
+    match group_of(alloc, commits) {
+        Ok(group) => journal.append(alloc, &group),
+        Err(error) => Err((error, journal.into_disk())),
+    }
+}

@@ -1,0 +1,30 @@
+//! A journal of commits: what is recovered is the list of commits that was appended, whatever crashes.
+//!
+//! [`append_commits`] writes commits as one group: their text, as a trace has it, behind the line of its checksum.
+//! [`open`] reads a file, looks at all of it and writes nothing: it gives the commits that the file keeps, or tells why it
+//! is no journal over these tables. [`replay`] makes them again over the tables, or names the first that is refused. Then
+//! [`begin`] cuts off what a crash has torn, and writes the head of a new journal.
+//!
+//! The contract: a file keeps these commits (`specs/Kept`: `KeepsCommits`) where its groups are the head of these tables
+//! and texts that spell the commits, in order. It keeps one list only (`laws::one_list_of_commits`), so what is read back
+//! is what was appended. A crash at any moment of an append leaves the commits from before, with the new ones all or
+//! without them. `specs/Opening` says why a file is not opened, `specs/Replays` which commit is refused.
+//!
+//! ```text
+//! let Opened { found, kept, torn } = open(alloc, &sizes, disk)?;
+//! let store = replay(alloc, base, hashing, &kept.commits)?;
+//! keep_torn(rt, alloc, path, &torn)?;
+//! let journal = begin(alloc, &sizes, found, kept.is_new)?;
+//! let journal = append_commits(alloc, journal, commits)?;      // on the disk
+//! ```
+#![tactic(auto)]
+
+mod appending;
+mod commits;
+pub mod laws;
+mod opening;
+mod replaying;
+
+pub use appending::append_commits;
+pub use opening::{Kept, OpenFault, Opened, begin, open};
+pub use replaying::{ReplayFault, replay};

@@ -1,0 +1,127 @@
+//! A journal's file, read and looked at before anything is written, and then begun.
+ghost use Rattle.std.specs.Prelude.{◌≡◌, ◌⊎◌, ◌<◌, [], true, false, IfOk, IfErr};
+ghost use Rattle.journal.specs.Disk.{Only, LeavesOnly};
+ghost use Rattle.journal.specs.Groups.{recovered, behind, lists};
+ghost use Rattle.sealed_journal.specs.Texts.{IsJournalOf};
+ghost use Rattle.sealed_journal.specs.Heads.{head_text};
+ghost use Rattle.sealed_journal.specs.Seals.{sealed};
+ghost use Rattle.ssb_journal.specs.Kept.{IsAsItWasOrNew, KeepsCommits};
+ghost use Rattle.ssb_journal.specs.Opening.{IsKept, IsOpenFault, TellsOpenFault};
+
+use crate::commits::commits_of;
+use journal::{Contents, Disk, DiskError, Found, Journal, MAX_GROUP};
+use row_store::Commit;
+use sealed_journal::{JournalFault, TableSize, head_of, seal, texts_of};
+use std::alloc::{AllocError, Global};
+use thiserror::Error;
+
+/// Why a journal's file was not opened: its disk failed, or it is no journal over these tables.
+#[derive(Clone, Copy, Debug, PartialEq, Eq, Error)]
+pub enum OpenFault {
+    #[error(transparent)]
+    Disk(DiskError),
+    #[error(transparent)]
+    Journal(JournalFault),
+}
+
+/// What a journal's file keeps.
+#[derive(Drop)]
+pub struct Kept {
+    /// Its commits, in order.
+    pub commits: Vec<Commit>,
+    /// Whether it is a new one, which has no head yet.
+    pub is_new: bool,
+}
+
+// The commits that the contents of a file keep.
+fn kept_in(alloc: Global, sizes: &[TableSize], contents: &Contents) -> Result<Kept, JournalFault>
+    ensures kept { IfOk result (IsKept sizes.now (lists contents.now.groups.items)) }
+    ensures fault { IfErr result (λ fault. (fault ≡ JournalFault.OutOfMemory)
+        ⊎ IsOpenFault sizes.now (lists contents.now.groups.items) contents.now.rest.items fault) }
+{
+    match texts_of(alloc, sizes, &contents.groups, &contents.rest)? {
+        None => Ok(Kept {
+            commits: Vec::new(alloc),
+            is_new: true,
+        }),
+        Some(texts) => Ok(Kept {
+            commits: commits_of(alloc, &texts)?,
+            is_new: false,
+        }),
+    }
+}
+
+/// A journal's file that was read and is unchanged.
+#[derive(Drop)]
+pub struct Opened<D: Disk> {
+    pub found: Found<D>,
+    pub kept: Kept,
+    /// What a crash has torn: it is cut off when the journal is begun.
+    pub torn: Vec<u8>,
+}
+
+/// Reads a journal's file, and looks at all of it; nothing is written. An `Err` hands the disk back.
+pub fn open<D: Disk>(
+    alloc: Global,
+    sizes: &[TableSize],
+    disk: D,
+) -> Result<Opened<D>, (OpenFault, D)>
+    requires readable { D.is_readable disk }
+    // After a restart, what is read is what is on the disk.
+    requires durable { Only (D.seen disk) (D.may_leave disk) }
+    ensures kept { IfOk result (λ opened. IsKept sizes.now (recovered (D.seen disk)) opened.kept) }
+    ensures same { IfOk result (λ opened. D.seen opened.found ≡ D.seen disk) }
+    ensures fault { IfErr result (λ e. TellsOpenFault sizes.now (D.seen disk) e.0) }
+    // A crash at any moment leaves the file as it was.
+    ensures any_moment { IfOk result (λ opened. LeavesOnly D.moment D.left_since disk opened.found
+        (λ c. c ≡ D.seen disk)) }
+    ensures any_moment_err { IfErr result (λ e. LeavesOnly D.moment D.left_since disk e.1
+        (λ c. c ≡ D.seen disk)) }
+{
+    let (found, contents) = match Found::read(alloc, disk) {
+        Ok(read) => read,
+        Err((error, disk)) => return Err((OpenFault::Disk(error), disk)),
+    };
+    match kept_in(alloc, sizes, &contents) {
+        Ok(kept) => match contents.torn().to_vec(alloc) {
+            Ok(torn) => Ok(Opened { found, kept, torn }),
+            Err(_) => Err((OpenFault::Disk(DiskError::OutOfMemory), found.into_disk())),
+        },
+        Err(fault) => Err((OpenFault::Journal(fault), found.into_disk())),
+    }
+}
+
+// The group of a head.
+fn head_group(alloc: Global, sizes: &[TableSize]) -> Result<Vec<u8>, AllocError>
+    ensures { IfOk result (λ group. group.items ≡ sealed (head_text sizes.now)) }
+{
+    seal(alloc, &head_of(alloc, sizes)?)
+}
+
+/// Cuts off what a crash has torn, and writes the head of a new journal: then commits can be appended. An `Err` hands
+/// the disk back.
+pub fn begin<D: Disk>(
+    alloc: Global,
+    sizes: &[TableSize],
+    found: Found<D>,
+    is_new: bool,
+) -> Result<Journal<D>, (DiskError, D)>
+    requires new { is_new ≡ true → recovered (D.seen found) ≡ [] }
+    ensures same { is_new ≡ false → IfOk result (λ journal. recovered (D.seen journal) ≡ recovered (D.seen found)) }
+    ensures made { is_new ≡ true → IfOk result (λ journal. IsJournalOf sizes.now [] (D.seen journal)) }
+    // A crash at any moment leaves the groups as they were, or a new journal.
+    ensures any_moment { IfOk result (λ journal. LeavesOnly D.moment D.left_since found journal
+        (IsAsItWasOrNew sizes.now (recovered (D.seen found)))) }
+    ensures any_moment_err { IfErr result (λ e. LeavesOnly D.moment D.left_since found e.1
+        (IsAsItWasOrNew sizes.now (recovered (D.seen found)))) }
+{
+    let journal = found.mend()?;
+    if !is_new {
+        return Ok(journal);
+    }
+    match head_group(alloc, sizes) {
+        Ok(group) if group.len() <= MAX_GROUP => journal.append(alloc, &group),
+        Ok(_) => Err((DiskError::Full, journal.into_disk())),
+        Err(_) => Err((DiskError::OutOfMemory, journal.into_disk())),
+    }
+}

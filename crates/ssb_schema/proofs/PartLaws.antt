@@ -1,0 +1,33 @@
+-- Three texts that lie one behind the other.
+use Rattle.std.proofs.Common.{◌≡◌, ◌+◌, ◌-◌, ℕ, List, ◌++◌, append_assoc, length, length-append, take, drop, take_at, drop_at, refl, ◌∙◌, arith}
+use Rattle.ssb_schema.specs.Kept.{part}
+
+-- the bytes hold these three
+pub record Holds (bytes first second third : List ℕ) : Type 0 where
+  pub one : part bytes 0 (length first) ≡ first
+  pub two : part bytes (length first) (length first + length second) ≡ second
+  pub three : part bytes (length first + length second) (length first + length second + length third) ≡ third
+
+parts : (a b c rest : List ℕ) → Holds (((a ++ b) ++ c) ++ rest) a b c
+parts a b c rest =
+    let behind : ((a ++ b) ++ c) ++ rest ≡ (a ++ b) ++ (c ++ rest) = append_assoc (a ++ b) c rest in
+    let apart : ((a ++ b) ++ c) ++ rest ≡ a ++ (b ++ (c ++ rest)) = behind ∙ append_assoc a b (c ++ rest) in
+    record {
+      one = rw apart (take_at a (b ++ (c ++ rest)) (length a - 0) (omega arith));
+      two = rw (apart, drop_at a (b ++ (c ++ rest)) (length a) refl) (take_at b (c ++ rest)
+          (length a + length b - length a) (omega arith));
+      three = rw (behind, drop_at (a ++ b) (c ++ rest) (length a + length b) (length-append a b))
+          (take_at c rest (length a + length b + length c - (length a + length b)) (omega arith));
+    }
+
+-- put into bytes one behind the other
+pub put_three : (a b c zeros one two three : List ℕ)
+    → one ≡ (take 0 zeros ++ a) ++ drop (0 + length a) zeros
+    → two ≡ (take (length a) one ++ b) ++ drop (length a + length b) one
+    → three ≡ (take (length a + length b) two ++ c) ++ drop (length a + length b + length c) two
+    → Holds three a b c
+put_three a b c zeros one two three is_one is_two is_three =
+    let first : take (length a) one ≡ a = rw is_one (take_at a (drop (0 + length a) zeros) (length a) refl) in
+    let second : take (length a + length b) two ≡ a ++ b = rw (is_two, first)
+    (take_at (a ++ b) (drop (length a + length b) one) (length a + length b) (length-append a b)) in
+    rw (is_three, second) (parts a b c (drop (length a + length b + length c) two))

@@ -1,0 +1,72 @@
+-- What a call adds to the record of what a client or a dispatcher did.
+use Rattle.std.specs.Prelude.{◌≡◌, ℕ, List, [], ◌∷◌, ◌++◌, map, Some, None}
+use Rattle.ssb_schema.specs.declared.refresh.Action.{Action}
+use Rattle.ssb_answers.specs.declared.answer.Answer.{Answer}
+use Rattle.history_core.specs.Events.{Question}
+use Rattle.history_core.specs.declared.event.Who.{Who}
+use Rattle.history_core.specs.declared.event.Reply.{Reply}
+use Rattle.history_core.specs.declared.event.Reply.TheVariants.{Done, Committed, Length, Query}
+use Rattle.history.specs.declared.event.Event.{Event}
+use Rattle.history.specs.declared.event.Event.TheVariants as event
+use Rattle.history.specs.declared.event.Deed.{Deed}
+use Rattle.history.specs.declared.request.Grabbed.{Grabbed}
+use Rattle.history.specs.declared.request.Given.{Given}
+use Rattle.history.specs.declared.request.Outcome.{Outcome}
+use Rattle.history.specs.declared.request.Outcome.TheVariants.{Served, GivenUp}
+use Rattle.history.specs.World.{number_of, told_by}
+
+abbrev pub deed : Event → Reply → Deed
+deed event reply = record { event = event; reply = reply }
+
+-- it looked, and saw so many commits
+abbrev pub looked : Who → ℕ → Deed
+looked who seen = deed (event.Look who) (Length seen)
+
+-- it took the row store and gave it back as it was
+abbrev pub handed_back : Who → List Deed
+handed_back who = deed (event.TakeRows who) Done ∷ deed (event.PutRows who None) Done ∷ []
+
+-- it took the row store and gave it back with a commit, which got this number
+abbrev pub committed : Who → List Action → ℕ → List Deed
+committed who actions number =
+    deed (event.TakeRows who) Done ∷ deed (event.PutRows who (Some actions)) (Committed number) ∷ []
+
+-- a client looked, and asked
+abbrev pub asked : Who → Question → ℕ → List Deed
+asked who question seen = looked who seen ∷ deed (event.Post (number_of who) question) Done ∷ []
+
+-- a client collected this answer, and looked
+abbrev pub polled : Who → Answer → ℕ → List Deed
+polled who reply seen = deed (event.Collect (number_of who)) (told_by reply) ∷ looked who seen ∷ []
+
+-- a dispatcher grabbed these requests, whose newest comes first
+abbrev pub grabbed : ℕ → List Grabbed → List Deed
+grabbed number [] = []
+grabbed number (newest ∷ others) =
+    grabbed number others ++ deed (event.Grab number newest.client) (Query newest.request.query) ∷ []
+
+-- a dispatcher took the writer, took the row store, and gave both back
+abbrev pub fetched : Who → List Deed
+fetched who = deed (event.TakeWriter (number_of who)) Done ∷ (handed_back who
+    ++ deed (event.PutWriter (number_of who)) Done ∷ [])
+
+-- a dispatcher answered a request, with this outcome
+abbrev pub answer_of : ℕ → Outcome → Grabbed → Event
+answer_of number (Served at) request = event.Answer number request.client
+answer_of number (GivenUp cause) request = event.GiveUp number request.client cause
+
+abbrev pub answered : ℕ → Outcome → List Grabbed → List Deed
+answered number outcome requests = map (λ request. deed (answer_of number outcome request) Done) requests
+
+-- the answers to these requests, all with this outcome
+abbrev pub given_to_all : Outcome → List Grabbed → List Given
+given_to_all outcome requests = map (λ (request : Grabbed). record {
+  client = request.client;
+  floor = request.request.floor;
+  outcome = outcome;
+}) requests
+
+-- a dispatcher grabbed these requests, fetched, and answered each
+abbrev pub turned : Who → Outcome → List Grabbed → List Deed
+turned who outcome requests =
+    grabbed (number_of who) requests ++ (fetched who ++ answered (number_of who) outcome requests)

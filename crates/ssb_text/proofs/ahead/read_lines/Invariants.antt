@@ -1,0 +1,14 @@
+use Rattle.std.proofs.Common.{◌≤◌, map, length}
+use Rattle.ssb_schema.specs.Rows.{line_values}
+use Rattle.text_blocks.specs.Blocks.{bytes_left}
+use Rattle.ssb_text.specs.Ahead.{block_bytes}
+use Rattle.ssb_text.specs.Parsing.{IsParsedOk}
+use Rattle.ssb_text.proofs.AheadLaws.{IsReadingKnown}
+use Rattle.ssb_text.proofs.ahead.read_lines.Given as goal
+
+abbrev pub invariant-loop : goal.invariant-loop
+invariant-loop g l = record {
+  few : length l.reading.lines.items ≤ l.limit;
+  so_far : IsReadingKnown IsParsedOk (g.R.Read.remaining l.fn.source) (bytes_left g.R.Read.remaining l.reading.source)
+      (map line_values l.reading.lines.items) l.reading.parsed.items (block_bytes l.reading.blocks.items);
+}

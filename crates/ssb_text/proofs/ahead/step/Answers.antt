@@ -1,0 +1,15 @@
+use Rattle.ssb_text.specs.Parsing.{IsParsedOk}
+use Rattle.ssb_text.proofs.AheadLaws.{AllZip-map}
+use Rattle.ssb_text.proofs.ahead.step.Goals as goal
+
+pub returns-clause-step : goal.returns-clause-step
+returns-clause-step g c =
+    let old = c.args.reading in
+    let ahead = rw c.in_ok-ahead.was at c.join-next.ensures.second.0 in
+    let parsed = rw c.in-Ok.is at c.join-next.ensures.first in
+    record {
+      few = ahead.few;
+      joins = ahead.joins;
+      gives = ahead.gives;
+      parsed = AllZip-map (λ b. b.items) IsParsedOk _ c.in-Ok.next.items parsed;
+    }

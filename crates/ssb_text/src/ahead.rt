@@ -1,0 +1,179 @@
+//! The lines of a whole text, where one thread reads and joins blocks while others parse.
+
+ghost use Rattle.std.specs.Prelude.{◌⊎◌, ◌<◌, ◌≤◌, ◌^◌, IfErr, IfOk, IfSome, length, map};
+ghost use Rattle.std.specs.List.{AllZip};
+ghost use Rattle.ssb_schema.specs.Rows.{line_values};
+ghost use Rattle.ssb_schema.specs.declared.table.Table.TheVariants as table;
+ghost use Rattle.ssb_text.specs.Tables.{IsFirstFault, IsReadFault, SpellsRows};
+ghost use Rattle.text_blocks.specs.Blocks.{bytes_left};
+ghost use Rattle.ssb_text.specs.Ahead.{GoesAhead, IsBegun, TakesStep};
+ghost use Rattle.ssb_text.specs.Joining.{Joins, Stops};
+ghost use Rattle.ssb_text.specs.Parsing.{IsParsedOk};
+
+use crate::error::LoadError;
+use crate::joining::join_blocks;
+use crate::parsing::{Parsed, parse_blocks};
+use crate::records::ReadError;
+use ssb_schema::{Line, Table};
+use std::alloc::{AllocError, Global};
+use std::io::Read;
+use std::thread;
+use std::thread::Threads;
+use text_blocks::{BlockError, Blocks};
+
+/// How many blocks are parsed at once, and read ahead of those.
+const BLOCKS: usize = 8;
+
+/// How far a text was read: the lines of its first blocks, what was parsed of the next ones, the bytes of those behind
+/// them, and the source of the rest.
+#[derive(Drop)]
+pub(crate) struct Reading<R> {
+    pub(crate) lines: Vec<Line>,
+    pub(crate) parsed: Vec<Result<Parsed, ReadError>>,
+    pub(crate) blocks: Vec<Vec<u8>>,
+    pub(crate) source: Blocks<R>,
+}
+
+/// What one thread does while others parse: the lines with those that were parsed before, and the next blocks.
+#[derive(Drop)]
+pub(crate) struct Ahead<R> {
+    pub(crate) lines: Vec<Line>,
+    pub(crate) blocks: Vec<Vec<u8>>,
+    pub(crate) source: Blocks<R>,
+}
+
+// The fault where no block could be read.
+fn unread(why: BlockError) -> LoadError
+    ensures { IsReadFault table.Lineorder result }
+{
+    match why {
+        BlockError::Read => LoadError::Read(Table::Lineorder),
+        BlockError::OutOfMemory => LoadError::OutOfMemory,
+    }
+}
+
+// The first blocks of a text.
+fn begin<R: Read + Drop>(alloc: Global, block: u32, source: R) -> Result<Reading<R>, LoadError>
+    ensures begun { IfOk result (IsBegun R.remaining (R.remaining source)) }
+    ensures fault { IfErr result (IsReadFault table.Lineorder) }
+{
+    let mut source = Blocks::new(alloc, source, block);
+    match source.next_blocks(alloc, BLOCKS) {
+        Ok(blocks) => Ok(Reading {
+            lines: Vec::new(alloc),
+            parsed: Vec::new(alloc),
+            blocks,
+            source,
+        }),
+        Err(why) => Err(unread(why)),
+    }
+}
+
+// Joins what was parsed before, and reads the next blocks.
+fn go_ahead<R: Read + Drop>(
+    alloc: Global,
+    limit: usize,
+    mut lines: Vec<Line>,
+    parsed: Vec<Result<Parsed, ReadError>>,
+    mut source: Blocks<R>,
+) -> Result<Ahead<R>, LoadError>
+    requires small { limit < 2 ^ 32 }
+    requires few { length lines.items ≤ limit }
+    ensures ahead { IfOk result (GoesAhead R.remaining limit (map line_values lines.items) parsed.items
+        (bytes_left R.remaining source)) }
+    ensures stops { IfErr result (Stops IsParsedOk parsed.items limit (map line_values lines.items)) }
+{
+    join_blocks(&mut lines, parsed, limit)?;
+    match source.next_blocks(alloc, BLOCKS) {
+        Ok(blocks) => Ok(Ahead {
+            lines,
+            blocks,
+            source,
+        }),
+        Err(why) => Err(unread(why)),
+    }
+}
+
+// Parses the blocks that were read, and goes ahead meanwhile.
+fn step<R: Read + Drop>(
+    rt: &(impl Threads + Sync),
+    alloc: Global,
+    limit: usize,
+    reading: Reading<R>,
+) -> Result<Reading<R>, LoadError>
+    requires small { limit < 2 ^ 32 }
+    requires few { length reading.lines.items ≤ limit }
+    ensures step { IfOk result (TakesStep R.remaining limit reading) }
+    ensures stops { IfErr result (Stops IsParsedOk reading.parsed.items limit (map line_values reading.lines.items)) }
+{
+    let Reading {
+        lines,
+        parsed,
+        blocks,
+        source,
+    } = reading;
+    let (next, ahead) = thread::join(
+        rt,
+        || -> Result<Vec<Result<Parsed, ReadError>>, AllocError>
+            ensures { IfOk result (λ parsed. AllZip (λ block read. IsParsedOk block.items read) blocks.items
+                parsed.items) }
+        { parse_blocks(rt, alloc, &blocks) },
+        move || -> Result<Ahead<R>, LoadError>
+            requires small { limit < 2 ^ 32 }
+            requires few { length lines.items ≤ limit }
+            ensures ahead { IfOk result (GoesAhead R.remaining limit (map line_values lines.items) parsed.items
+                (bytes_left R.remaining source)) }
+            ensures stops { IfErr result (Stops IsParsedOk parsed.items limit (map line_values lines.items)) }
+        { go_ahead(alloc, limit, lines, parsed, source) },
+    );
+    let ahead = ahead?;
+    let Ok(next) = next else {
+        return Err(LoadError::OutOfMemory);
+    };
+    Ok(Reading {
+        lines: ahead.lines,
+        parsed: next,
+        blocks: ahead.blocks,
+        source: ahead.source,
+    })
+}
+
+// The lines of a text of which all blocks were parsed.
+fn finish<R>(limit: usize, reading: Reading<R>) -> Result<Vec<Line>, LoadError>
+where
+    R: Drop,
+    requires small { limit < 2 ^ 32 }
+    requires few { length reading.lines.items ≤ limit }
+    ensures few { IfOk result (λ lines. length lines.items ≤ limit) }
+    ensures joined { IfOk result (λ lines. Joins IsParsedOk reading.parsed.items (map line_values reading.lines.items)
+        (map line_values lines.items)) }
+    ensures stops { IfErr result (Stops IsParsedOk reading.parsed.items limit (map line_values reading.lines.items)) }
+{
+    let mut lines = reading.lines;
+    join_blocks(&mut lines, reading.parsed, limit)?;
+    Ok(lines)
+}
+
+/// The lines that a lineorder text spells, or its first fault. One thread reads and joins while others parse.
+pub(crate) fn read_lines<R: Read + Drop>(
+    rt: &(impl Threads + Sync),
+    alloc: Global,
+    limit: usize,
+    block: u32,
+    source: R,
+) -> Result<Vec<Line>, LoadError>
+    requires { limit < 2 ^ 32 }
+    ensures rows { IfOk result (λ rows. IfSome (R.remaining source)
+        (λ text. SpellsRows table.Lineorder limit text (map line_values rows.items))) }
+    ensures fault { IfErr result (λ e. IsReadFault table.Lineorder e
+        ⊎ IfSome (R.remaining source) (λ text. IsFirstFault table.Lineorder limit text e)) }
+{
+    let mut reading = begin(alloc, block, source)?;
+    for _ in 0..u64::MAX {
+        if reading.blocks.is_empty() {
+            return finish(limit, reading);
+        }
+        reading = step(rt, alloc, limit, reading)?;
+    }
+    Err(LoadError::Read(Table::Lineorder))
+}

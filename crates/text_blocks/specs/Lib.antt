@@ -1,0 +1,3 @@
+pub mod Blocks
+-- how the code reads them
+pub mod Reading
