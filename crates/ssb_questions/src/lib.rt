@@ -19,6 +19,8 @@
 #![tactic(auto)]
 
 mod build;
+pub mod clause;
+pub mod clauses;
 pub mod cond;
 mod constants;
 mod flights;
@@ -28,6 +30,8 @@ pub mod query;
 pub mod question;
 pub mod value;
 
+pub use clause::{Clause, Spelled, clause_of};
+pub use clauses::{Subject, first_bad};
 pub use cond::{ColumnValue, Cond, Test};
 pub use kind::ConstantKind;
 pub use plan::{Measure, NumberRange, OrderKey, Plan};
