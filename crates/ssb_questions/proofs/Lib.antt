@@ -3,3 +3,4 @@ pub mod OrderLaws
 pub mod QuestionLaws
 pub mod ConstantLaws
 pub mod PartedLaws
+pub mod ClauseLaws

@@ -49,14 +49,14 @@ parted-at mark (b ∷ bytes) (suc i) (suc j) some e before here le =
     let not_here : starts_with nat_eq (b ∷ bytes) mark ≡ false = lacks mark (b ∷ bytes) (before 0 (omega arith)) in
     let later : parted mark bytes ≡ Some (take i bytes, drop j bytes)
     = parted-at mark bytes i j some (omega (arith, e)) (λ k lt. before (suc k) (omega (arith, lt))) here
-        (omega (arith, le)) in
+    (omega (arith, le)) in
     rw (not_here, later) refl
 
 -- what `split_once` gives at a mark
 pub split_once-parted : (mark bytes : List ℕ) (r : Option (Bor (List ℕ) × Bor (List ℕ))) → 0 < length mark
     → MatchOption r (FindsText mark bytes None)
-        (λ x. (i : ℕ) × (j : ℕ) × FindsText mark bytes (Some (i, j)) × (x.0.now ≡ take i bytes)
-        × (x.1.now ≡ drop j bytes) × (i ≤ j) × (length x.0.now ≡ i) × (length x.1.now + j ≡ length bytes))
+    (λ x. (i : ℕ) × (j : ℕ) × FindsText mark bytes (Some (i, j)) × (x.0.now ≡ take i bytes)
+    × (x.1.now ≡ drop j bytes) × (i ≤ j) × (length x.0.now ≡ i) × (length x.1.now + j ≡ length bytes))
     → option_map pair_now r ≡ parted mark bytes
 split_once-parted mark bytes None some h = sym (parted-nowhere mark bytes h)
 split_once-parted mark bytes (Some x) some h =

@@ -15,3 +15,4 @@ pub mod AllQueries
 pub mod Clause
 pub mod ClauseSaid
 pub mod Clauses
+pub mod Star

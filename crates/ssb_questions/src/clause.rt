@@ -112,8 +112,8 @@ fn range_spelled(text: &str) -> Option<NumberRange>
     }
 }
 
-// What may be looked for in a column.
-fn kind_in(column: Column) -> ConstantKind
+/// What may be looked for in a column.
+pub fn kind_in(column: Column) -> ConstantKind
     ensures { result ≡ spec.kind_in column }
 {
     match column.kind() {

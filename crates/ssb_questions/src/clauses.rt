@@ -35,7 +35,8 @@ pub enum Subject {
     Order,
 }
 
-fn same_column(a: Column, b: Column) -> bool
+/// Whether the two are one column, of those that queries read: no other has its name.
+pub fn same_column(a: Column, b: Column) -> bool
     ensures { result ≡ spec.same_column a b }
 {
     a.name() == b.name()
@@ -167,8 +168,7 @@ fn may_stand(constants: &[Value], place: usize) -> bool
     requires { place ≤ length constants.now }
     ensures { result ≡ spec.may_stand constants.now place }
 {
-    place < MOST_CONSTANTS
-        && may_stand_at(place, &constants[..place], subject_at(constants, place))
+    place < MOST_CONSTANTS && may_stand_at(place, &constants[..place], subject_at(constants, place))
 }
 
 /// The place, from 0, of the first constant that may not stand there in a star question; without constants the first.

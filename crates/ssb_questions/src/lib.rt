@@ -28,6 +28,7 @@ pub mod kind;
 pub mod plan;
 pub mod query;
 pub mod question;
+pub mod star;
 pub mod value;
 
 pub use clause::{Clause, Spelled, clause_of};
@@ -37,4 +38,5 @@ pub use kind::ConstantKind;
 pub use plan::{Measure, NumberRange, OrderKey, Plan};
 pub use query::{NoSuchQuery, QUERIES, Query};
 pub use question::{ConstantsFault, Question, QuestionError};
+pub use star::star_plan;
 pub use value::Value;
