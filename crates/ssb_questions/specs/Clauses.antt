@@ -1,5 +1,5 @@
 -- Which constants spell a star question, and the first that does not.
-use Rattle.std.specs.Prelude.{ℕ, ◌+◌, Bool, true, false, not, ◌&&◌, nat_eq, nat_lt, nat_le, max, List, length, take, find}
+use Rattle.std.specs.Prelude.{ℕ, Bool, true, false, not, ◌&&◌, nat_eq, nat_lt, nat_le, max, List, length, take, find}
 use Rattle.std.specs.Prelude.{Option, None, Some, option_map, option_and_then, slice_get, if◌then◌else◌}
 use Rattle.std.specs.List.{filter_map, list_all, count_by, range_with_len}
 use Rattle.ssb_schema.specs.Columns.{column_name}

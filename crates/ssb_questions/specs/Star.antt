@@ -1,5 +1,5 @@
 -- The plan that the clauses of a star question spell.
-use Rattle.std.specs.Prelude.{ℕ, ◌++◌, Bool, true, false, List, [], ◌∷◌, length, map, Option, None, Some, option_map}
+use Rattle.std.specs.Prelude.{ℕ, Bool, true, false, List, [], ◌∷◌, length, map, Option, None, Some, option_map}
 use Rattle.std.specs.Prelude.{unwrap_or, slice_get, if◌then◌else◌}
 use Rattle.std.specs.List.{filter_map, list_any, range_with_len}
 use Rattle.ssb_schema.specs.Columns.{C_CITY, C_NATION, C_REGION, S_CITY, S_NATION, S_REGION, P_MFGR, P_CATEGORY}

@@ -1,4 +1,4 @@
-use Rattle.std.proofs.Common.{◌≡◌, ◌∙◌, [], ◌∷◌, ap, sym}
+use Rattle.std.proofs.Common.{◌∙◌, [], ◌∷◌, ap}
 use Rattle.std.proofs.lemmas.List.{map-append}
 use Rattle.ssb_questions.proofs.ClauseLaws.{gives_of, gives_none_of}
 use Rattle.ssb_questions.specs.Clauses.{clause_said}

@@ -1,4 +1,3 @@
-use Rattle.std.proofs.Common.{◌≡◌, ◌∙◌, ap, sym}
 use Rattle.ssb_questions.proofs.ClauseLaws.{gives, gives_none}
 use Rattle.ssb_questions.specs.ClauseSaid.{said}
 use Rattle.ssb_questions.specs.Star as spec

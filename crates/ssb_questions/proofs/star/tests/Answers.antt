@@ -1,4 +1,4 @@
-use Rattle.std.proofs.Common.{◌≡◌, ◌∙◌, map, sym}
+use Rattle.std.proofs.Common.{◌∙◌, map, sym}
 use Rattle.ssb_questions.proofs.ClauseLaws.{gives_of, gives_none_of}
 use Rattle.ssb_questions.specs.ClauseSaid.{said}
 use Rattle.ssb_questions.specs.Star as spec
