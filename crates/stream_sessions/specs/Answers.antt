@@ -1,18 +1,24 @@
 -- What a request of a live session is answered.
-use Rattle.std.specs.Prelude.{◌≡◌, ℕ, List, [], ◌∷◌, ◌++◌, ◌⊎◌}
+use Rattle.std.specs.Prelude.{◌≡◌, ℕ, List, [], ◌∷◌, ◌++◌, ◌⊎◌, Bool, true, false}
 use Rattle.history.specs.Tokens.{TokenRecord}
 use Rattle.ssb_report.specs.Replies.{Reply}
 use Rattle.ssb_report.specs.Report.{report_of}
 use Rattle.ssb_script.specs.Requests.{RequestRecord}
 use Rattle.ssb_script.specs.Scripts.{SpellsScript, IsFirstFault, EndsInRefresh, most_records}
 use Rattle.ssb_script.specs.declared.error.ScriptError.{ScriptError}
-use Rattle.ssb_script.specs.declared.error.ScriptError.TheVariants.{NoCommit}
+use Rattle.ssb_script.specs.declared.error.ScriptError.TheVariants as script
 use Rattle.ssb_sessions.specs.Served.{AreServed}
 use Rattle.stream_sessions.specs.FaultLine.{fault_line}
 
+-- whether a fault is one of a text, and not of what kept it from being read
+abbrev pub is_of_text : ScriptError → Bool
+is_of_text script.Read = false
+is_of_text script.OutOfMemory = false
+is_of_text _ = true
+
 -- read as a script of its own, a text has this fault first
 abbrev pub HasFault : List ℕ → ScriptError → Type 0
-HasFault text fault = IsFirstFault most_records text fault ⊎ ((fault ≡ NoCommit) × EndsInRefresh most_records text)
+HasFault text fault = IsFirstFault most_records text fault ⊎ ((fault ≡ script.NoCommit) × EndsInRefresh most_records text)
 
 -- the client was served all that a request asks, as the loop of scripts serves it, and this is the report
 pub record IsReported (number : ℕ) (request : List ℕ) (old new : TokenRecord) (text : List ℕ) : Type 0 where

@@ -4,7 +4,6 @@ use Rattle.std.specs.Io.KnownBytes.{Appends, Consumes}
 use Rattle.history.specs.Tokens.{TokenRecord}
 use Rattle.session_requests.specs.Next.{IsFound, IsAllOf, IsLessThan}
 use Rattle.session_requests.specs.Requests.{IsUnfinished}
-use Rattle.session_requests.specs.declared.requests.Found.{Found}
 use Rattle.session_requests.specs.declared.requests.Found.TheVariants as found
 use Rattle.ssb_report.specs.Written.{AppendsPart}
 use Rattle.stream_sessions.specs.Answers.{IsAnswered, BreaksOff}
@@ -54,11 +53,14 @@ pub record Steps (step : Step) (number : ℕ) (old new : TokenRecord) (unread le
   pub read : Consumes unread left bytes
   pub so : StepsSo step number old new unread bytes kept held_new
 
+-- a text to be answered: a request, or what is left at the end
+abbrev pub IsText : Option (List ℕ) → List ℕ → Type 0
+IsText unread bytes = IsFound found.Request unread bytes ⊎ IsFound found.Rest unread bytes
+
 -- what a step had read when memory ran out
 abbrev pub RunsOut : ℕ → TokenRecord → TokenRecord → Option (List ℕ) → List ℕ → Type 0
 RunsOut number old new unread bytes =
-    (IsUnfinished bytes × (new ≡ old))
-    ⊎ ((what : Found) × IsFound what unread bytes × BreaksOff number bytes old new)
+    (IsUnfinished bytes × (new ≡ old)) ⊎ (IsText unread bytes × BreaksOff number bytes old new)
 
 -- why a step failed that had read so much
 abbrev pub FailsSo : SessionFault → ℕ → TokenRecord → TokenRecord → Option (List ℕ) → List ℕ → Type 0

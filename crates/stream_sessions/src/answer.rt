@@ -1,14 +1,14 @@
 //! The answer to one request.
 
-ghost use Rattle.std.specs.Prelude.{◌≡◌, ◌++◌, false, List, ℕ, MatchResult};
+ghost use Rattle.std.specs.Prelude.{◌≡◌, false, List, ℕ, MatchResult};
 ghost use Rattle.std.specs.Option.{is_some};
-ghost use Rattle.history.specs.Tokens.{IsSound};
+ghost use Rattle.history.specs.Tokens.{IsSound, TokenRecord};
 ghost use Rattle.history.specs.World.{number_of};
 ghost use Rattle.ssb_sessions.specs.Steps.{AreAlike};
 ghost use Rattle.stream_sessions.specs.Steps.{AddsAnswer, AddsNothing};
-ghost use Rattle.stream_sessions.specs.FaultLine.{fault_line};
+ghost use Rattle.stream_sessions.specs.Answers.{is_of_text};
 ghost use Rattle.ssb_script.specs.Requests.{requests_of};
-ghost use Rattle.ssb_script.specs.Scripts.{SpellsScript, most_records};
+ghost use Rattle.ssb_script.specs.Scripts.{IsScriptFault, SpellsScript, most_records};
 
 use crate::fault_line::write_fault_line;
 use ssb_script::{MOST_RECORDS, Script, ScriptError, read_script};
@@ -47,12 +47,27 @@ fn report<W: Wait + Drop, R: Wait>(
     }
 }
 
-// Adds the line of a fault; none where memory runs out.
-fn refuse(fault: ScriptError, replies: &mut Vec<u8>) -> Result<(), AllocError>
-    ensures { MatchResult result
-        (λ _. replies.new.items ≡ replies.old.items ++ fault_line fault)
-        (λ _. replies.new.items ≡ replies.old.items) }
+// Whether a fault is one of the request itself: it is read from memory, so that want of it alone can keep it from being
+// read.
+fn is_of_text(fault: ScriptError) -> bool
+    ensures { result ≡ is_of_text fault }
 {
+    match fault {
+        ScriptError::Read | ScriptError::OutOfMemory => false,
+        _ => true,
+    }
+}
+
+// Adds the line of a request's fault; none where memory runs out, or ran out before.
+fn refuse(fault: ScriptError, replies: &mut Vec<u8>) -> Result<(), AllocError>
+    ensures { (number : ℕ) (request : List ℕ) (client : TokenRecord) → IsScriptFault most_records request fault
+        → MatchResult result
+        (λ _. AddsAnswer number request client client replies.old.items replies.new.items)
+        (λ _. AddsNothing number request client client replies.old.items replies.new.items) }
+{
+    if !is_of_text(fault) {
+        return Err(AllocError);
+    }
     let before = replies.len();
     match write_fault_line(replies, fault) {
         Ok(()) => Ok(()),
@@ -84,8 +99,6 @@ pub(crate) fn answer<W: Wait + Drop, R: Wait>(
 {
     match read_script(alloc, request, MOST_RECORDS) {
         Ok(script) => report(rt, alloc, server, client, script, replies),
-        // A request is read from memory: that fails for want of it alone.
-        Err(ScriptError::Read) | Err(ScriptError::OutOfMemory) => Err(AllocError),
         Err(fault) => refuse(fault, replies),
     }
 }

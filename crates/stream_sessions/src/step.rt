@@ -1,10 +1,11 @@
 //! One step of a session: the next request, answered.
 
-ghost use Rattle.std.specs.Prelude.{◌≡◌, ◌++◌, false, MatchResult};
+ghost use Rattle.std.specs.Prelude.{◌≡◌, ◌⊎◌, [], ◌++◌, false, OnOk, MatchResult};
 ghost use Rattle.std.specs.Option.{is_some};
-ghost use Rattle.std.specs.Io.Buffered.{reader_remaining};
+ghost use Rattle.std.specs.Io.Buffered.{reader_buffer, reader_remaining};
 ghost use Rattle.history.specs.Tokens.{IsSound};
 ghost use Rattle.history.specs.World.{number_of};
+ghost use Rattle.session_requests.specs.Requests.{BeginsWithRequest};
 ghost use Rattle.ssb_report.specs.Written.{AppendsPart};
 ghost use Rattle.ssb_sessions.specs.Steps.{AreAlike};
 ghost use Rattle.stream_sessions.specs.FaultLine.{too_long_line};
@@ -48,6 +49,7 @@ fn hand_on_in_time<I: Read, O: Write>(
         (λ _. HandsOn (O.contents output.old) (O.contents output.new) replies.old.items replies.new.items)
         (λ fault. AppendsPart (O.contents output.old) (O.contents output.new) replies.old.items
         × (fault ≡ FailedWrite)) }
+    ensures in_time { OnOk result ((replies.new.items ≡ []) ⊎ BeginsWithRequest (reader_buffer input.now)) }
 {
     if replies.len() >= MOST_HELD || !has_request(input.buffer()) {
         hand_on(output, replies)?;
