@@ -60,7 +60,7 @@ as_many number old new (request ∷ requests) [] are = absurd are
 as_many number old new (request ∷ requests) (text ∷ texts) are =
     ap suc (as_many number are.0 new requests texts are.2)
 
-each_push : (requests : List (List ℕ)) (request : List ℕ) → AllByRecursion IsRequest requests → IsRequest request
+pub each_push : (requests : List (List ℕ)) (request : List ℕ) → AllByRecursion IsRequest requests → IsRequest request
     → AllByRecursion IsRequest (requests ++ request ∷ [])
 each_push [] request each is = (is, tt)
 each_push (first ∷ requests) request each is = (each.0, each_push requests request each.1 is)
