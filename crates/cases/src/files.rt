@@ -36,6 +36,10 @@ pub enum MemoryFile {
     Folder,
 }
 
+/// A file of [`MemoryFiles`] that may fail behind its first bytes.
+#[derive(Drop)]
+pub struct BreakingFile(Breaking<MemoryFile>);
+
 impl MemoryFiles {
     /// The small data set in the folder `small`.
     pub fn with_small_data(alloc: Global) -> io::Result<MemoryFiles> {
@@ -90,9 +94,9 @@ impl MemoryFiles {
     }
 
     // This file of this path, as it is opened: it may fail behind its first bytes.
-    fn opened(&self, path: &str, file: MemoryFile) -> io::Result<Breaking<MemoryFile>> {
+    fn opened(&self, path: &str, file: MemoryFile) -> io::Result<BreakingFile> {
         let after = self.breaks.try_borrow()?.get(path).copied();
-        Ok(Breaking::new(file, after))
+        Ok(BreakingFile(Breaking::new(file, after)))
     }
 
     fn is_folder(&self, path: &str) -> io::Result<bool> {
@@ -134,11 +138,11 @@ fn unsupported<T>() -> io::Result<T> {
 }
 
 impl Files for MemoryFiles {
-    type File = Breaking<MemoryFile>;
+    type File = BreakingFile;
 
     type Dir = io::Empty;
 
-    fn open_file(&self, how: &OpenOptions, path: &str) -> io::Result<Breaking<MemoryFile>> {
+    fn open_file(&self, how: &OpenOptions, path: &str) -> io::Result<BreakingFile> {
         let file = if how.asks_create() {
             MemoryFile::Opened(self.make(path)?, 0)
         } else {
@@ -220,13 +224,29 @@ impl Write for MemoryFile {
     }
 }
 
-impl Seek for Breaking<MemoryFile> {
+impl Read for BreakingFile {
+    fn read(&mut self, buf: &mut [u8]) -> io::Result<usize> {
+        self.0.read(buf)
+    }
+}
+
+impl Write for BreakingFile {
+    fn write(&mut self, buf: &[u8]) -> io::Result<usize> {
+        self.0.write(buf)
+    }
+
+    fn flush(&mut self) -> io::Result<()> {
+        self.0.flush()
+    }
+}
+
+impl Seek for BreakingFile {
     fn seek(&mut self, _to: SeekFrom) -> io::Result<u64> {
         unsupported()
     }
 }
 
-impl OpenFile for Breaking<MemoryFile> {
+impl OpenFile for BreakingFile {
     fn metadata(&self) -> io::Result<Metadata> {
         unsupported()
     }

@@ -11,14 +11,14 @@ use std::alloc::{AllocError, Global};
 use std::fmt::Display;
 
 /// A type of faults that lists its variants that have a number, one after the other.
-trait Listed: Display + Drop {
+trait ListsFaults: Display + Drop {
     fn first() -> Self;
 
     /// The variant behind this one, if it is not the last.
     fn next(&self) -> Option<Self>;
 }
 
-impl Listed for SchemaFault {
+impl ListsFaults for SchemaFault {
     fn first() -> SchemaFault {
         SchemaFault::NoLines
     }
@@ -40,7 +40,7 @@ impl Listed for SchemaFault {
     }
 }
 
-impl Listed for LoadError {
+impl ListsFaults for LoadError {
     fn first() -> LoadError {
         LoadError::Read(Table::Customer)
     }
@@ -58,7 +58,7 @@ impl Listed for LoadError {
     }
 }
 
-impl Listed for NoSuchQuery {
+impl ListsFaults for NoSuchQuery {
     fn first() -> NoSuchQuery {
         NoSuchQuery
     }
@@ -68,7 +68,7 @@ impl Listed for NoSuchQuery {
     }
 }
 
-impl Listed for ConstantsFault {
+impl ListsFaults for ConstantsFault {
     fn first() -> ConstantsFault {
         ConstantsFault::WrongCount(Query::Q2_1)
     }
@@ -81,7 +81,7 @@ impl Listed for ConstantsFault {
     }
 }
 
-impl Listed for Cause {
+impl ListsFaults for Cause {
     fn first() -> Cause {
         Cause::LogFull
     }
@@ -101,7 +101,7 @@ impl Listed for Cause {
     }
 }
 
-impl Listed for OpenFault {
+impl ListsFaults for OpenFault {
     fn first() -> OpenFault {
         OpenFault::ClientCount
     }
@@ -115,7 +115,7 @@ impl Listed for OpenFault {
     }
 }
 
-impl Listed for ScriptError {
+impl ListsFaults for ScriptError {
     fn first() -> ScriptError {
         ScriptError::BadLine(3)
     }
@@ -132,7 +132,7 @@ impl Listed for ScriptError {
     }
 }
 
-impl Listed for AuditFault {
+impl ListsFaults for AuditFault {
     fn first() -> AuditFault {
         AuditFault::CommitRefused(3)
     }
@@ -148,7 +148,7 @@ impl Listed for AuditFault {
 }
 
 // Adds the line that each fault of a type prints.
-fn push_lines<F: Listed>(alloc: Global, lines: &mut Vec<String>) -> Result<(), AllocError> {
+fn push_lines<F: ListsFaults>(alloc: Global, lines: &mut Vec<String>) -> Result<(), AllocError> {
     let mut fault = F::first();
     for _ in 0..100 {
         lines.push(format!(in alloc; "{fault}")?)?;

@@ -14,29 +14,29 @@ mod faults;
 mod page;
 
 use faults::all_lines;
-use page::{Row, row_of};
+use page::{PageRow, row_of};
 use std::alloc::Global;
 use std::process::ExitCode;
 use std::{fs, io};
 
 /// A fault's line, and how many rows of the page tell of it.
 #[derive(Drop)]
-struct Fault {
+struct CountedFault {
     line: String,
     rows: u64,
 }
 
 // The faults, with no row yet.
-fn faults_of(alloc: Global, lines: Vec<String>) -> io::Result<Vec<Fault>> {
+fn faults_of(alloc: Global, lines: Vec<String>) -> io::Result<Vec<CountedFault>> {
     let mut faults = Vec::new(alloc);
     for line in lines {
-        faults.push(Fault { line, rows: 0 })?;
+        faults.push(CountedFault { line, rows: 0 })?;
     }
     Ok(faults)
 }
 
 // Counts a row for the fault that prints its line, if the row is whole and there is one.
-fn count(faults: &mut [Fault], row: &Row) -> bool {
+fn count(faults: &mut [CountedFault], row: &PageRow) -> bool {
     if !row.is_whole {
         return false;
     }

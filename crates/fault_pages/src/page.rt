@@ -4,7 +4,7 @@ use std::alloc::{AllocError, Global};
 
 /// A row of a table of faults.
 #[derive(Drop)]
-pub struct Row {
+pub struct PageRow {
     /// The line that it promises.
     pub line: String,
     /// Whether it also says what the fault means and what to do.
@@ -61,7 +61,7 @@ fn are_two(cells: &str) -> bool {
 
 /// The row of a table of faults that a line of the page is, if it is one: its first cell is a fault's line in code,
 /// which begins with a number.
-pub fn row_of(alloc: Global, text: &str) -> Result<Option<Row>, AllocError> {
+pub fn row_of(alloc: Global, text: &str) -> Result<Option<PageRow>, AllocError> {
     let Some(rest) = text.strip_prefix("| `") else {
         return Ok(None);
     };
@@ -71,7 +71,7 @@ pub fn row_of(alloc: Global, text: &str) -> Result<Option<Row>, AllocError> {
     if !begins_with_digit(cell) {
         return Ok(None);
     }
-    Ok(Some(Row {
+    Ok(Some(PageRow {
         line: line_of(alloc, cell)?,
         is_whole: are_two(cells),
     }))

@@ -1,6 +1,6 @@
 //! The machine: its public calls, then a method for each event, then the parts of which these are made. Only the parts
 //! know the fields; all else speaks of the world that they show.
-ghost use Rattle.std.specs.Prelude.{◌≡◌, ◌≤◌, length, take, map, Some, None, IfOk, IfErr, IfSome, OnOk, OnErr};
+ghost use Rattle.std.specs.Prelude.{◌≡◌, ◌≤◌, ◌<◌, length, take, map, Some, None, IfOk, IfErr, IfSome, OnOk, OnErr};
 ghost use Rattle.row_store.specs.Legal.{IsLegal};
 ghost use Rattle.history_core.specs.declared.event.Who.TheVariants.{Client, Dispatcher};
 ghost use Rattle.history_core.specs.Applying.{applied};
@@ -123,26 +123,26 @@ impl World {
         }
     }
 
-    /// Takes the events in turn. The room for the replies is taken first, so that no reply is lost.
+    /// Takes the events in turn. The room for each reply is taken before its event, so that no reply is lost.
     pub fn run(&mut self, events: &[Event]) -> Result<Vec<Reply>, Stopped>
         ensures ran { IfOk result (λ replies. HasRun self.old (map event_of events.now) replies.items self.new) }
         ensures true_run { IfOk result (λ replies.
             IsTrueFromOpening self.old (map event_of events.now) replies.items self.new) }
-        ensures few { IfErr result (λ stopped. stopped.events ≤ length events.now) }
+        ensures fewer { IfErr result (λ stopped. stopped.events < length events.now) }
         ensures stopped { IfErr result (λ stopped.
             HasRun self.old (map event_of (take stopped.events events.now)) stopped.replies.items self.new) }
         ensures true_stop { IfErr result (λ stopped.
             IsTrueFromOpening self.old (map event_of (take stopped.events events.now)) stopped.replies.items
             self.new) }
     {
-        let alloc = self.alloc;
-        let Ok(mut replies) = Vec::with_capacity(alloc, events.len()) else {
-            return Err(Stopped {
-                events: 0,
-                replies: Vec::new(alloc),
-            });
-        };
+        let mut replies = Vec::new(self.alloc);
         for event in events {
+            if replies.reserve(1).is_err() {
+                return Err(Stopped {
+                    events: replies.len(),
+                    replies,
+                });
+            }
             let Ok(reply) = self.step(event) else {
                 return Err(Stopped {
                     events: replies.len(),

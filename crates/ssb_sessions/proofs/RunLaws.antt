@@ -30,7 +30,7 @@ use Rattle.std.proofs.lemmas.List.{length-map}
 use Rattle.std.proofs.lemmas.List.Elements.{All-nil, All-cons, All-head, All-tail}
 use Rattle.std.proofs.lemmas.Option.{slice_get_within, get_or_from_slice_get}
 use Rattle.history.specs.Closing.{IsLogOf}
-use Rattle.history.specs.Tokens.{TableRecord, TokenRecord, new_token, new_clients}
+use Rattle.history.specs.Tokens.{TableRecord, TokenRecord, new_token, new_clients, new_dispatchers}
 use Rattle.history.specs.Words.{Owns}
 use Rattle.history.specs.World.{number_of}
 use Rattle.history_core.specs.OwnCommits.{IsOfClients}
@@ -48,7 +48,7 @@ use Rattle.ssb_sessions.specs.Traces.{IsTold}
 use Rattle.ssb_sessions.specs.Served.{Serves}
 use Rattle.ssb_sessions.proofs.SessionLaws.{session_at, as_many, none_is, some_is, client_of_task, client_of_session}
 use Rattle.ssb_sessions.specs.Run.{IsServedWhole, IsRun, Leaves}
-use Rattle.ssb_sessions.specs.Sessions.{TaskRecord, SessionRecord, IsSessionOf, AreSessionsOf}
+use Rattle.ssb_sessions.specs.Sessions.{TaskRecord, SessionRecord, IsSessionOf, AreSessionsOf, AreStill}
 
 abbrev script_of : TaskRecord → Script
 script_of task = task.script
@@ -121,9 +121,10 @@ pub is_run : (table : TableRecord) (base : Tables) (dispatchers : ℕ) (scripts 
     (sessions : List SessionRecord) (ended : List TokenRecord) (reports : List (List ℕ)) (trace : Trace)
     → table.base ≡ base → table.clients ≡ length scripts → table.dispatchers ≡ dispatchers
     → map client_of_task tasks ≡ new_clients table → map script_of tasks ≡ scripts → AreSessionsOf tasks sessions
+    → AreStill (new_dispatchers table) ended
     → Leaves table sessions ended reports trace → IsRun base scripts dispatchers reports trace
 is_run table base dispatchers scripts tasks sessions ended reports trace of_base clients_are dispatchers_are clients
-    of_scripts are leaves = record {
+    of_scripts are still leaves = record {
       table = table;
       base_is = of_base;
       clients_are = clients_are;
@@ -140,6 +141,8 @@ is_run table base dispatchers scripts tasks sessions ended reports trace of_base
       reports_are = leaves.reports_are;
       answers_are = leaves.answers_are;
       ended = ended;
+      ended_are = still;
+      ended_begin = leaves.ended_begin;
       true_log = leaves.true_log;
       legal = subst (λ b. IsLegal b trace.commits) of_base leaves.legal;
       named = subst (λ n. IsOfClients n trace.commits) clients_are leaves.named;
@@ -152,10 +155,11 @@ pub closed_leaves : (table : TableRecord) (sessions : List SessionRecord) (clien
     → told ≡ flat_map (λ (s : SessionRecord). s.told) sessions
     → trace.commits ≡ log → trace.answers ≡ told → IsLogOf table clients ended log → IsLegal table.base log
     → IsOfClients table.clients log
-    → All (λ (t : TokenRecord). IsPrefix t.seen log) clients → All (λ (t : TokenRecord). Owns t.who t.mine log) clients
+    → All (λ (t : TokenRecord). IsPrefix t.seen log) clients → All (λ (t : TokenRecord). IsPrefix t.seen log) ended
+    → All (λ (t : TokenRecord). Owns t.who t.mine log) clients
     → Leaves table sessions ended reports trace
 closed_leaves table sessions clients ended log reports told trace of_clients of_reports of_told commits answers true_log
-    legal named seen own = record {
+    legal named seen ended_seen own = record {
       reports_are = of_reports;
       answers_are = answers ∙ of_told;
       true_log = subst (λ ts. IsLogOf table ts ended trace.commits) of_clients
@@ -165,6 +169,7 @@ closed_leaves table sessions clients ended log reports told trace of_clients of_
       begin = all_of (λ (t : TokenRecord). IsPrefix t.seen trace.commits) sessions
           (subst (λ l. All (λ (t : TokenRecord). IsPrefix t.seen l) (map client_of_session sessions)) (sym commits)
           (subst (All (λ (t : TokenRecord). IsPrefix t.seen log)) of_clients seen));
+      ended_begin = subst (λ l. All (λ (t : TokenRecord). IsPrefix t.seen l) ended) (sym commits) ended_seen;
       own = all_of (λ (t : TokenRecord). Owns t.who t.mine trace.commits) sessions
           (subst (λ l. All (λ (t : TokenRecord). Owns t.who t.mine l) (map client_of_session sessions)) (sym commits)
           (subst (All (λ (t : TokenRecord). Owns t.who t.mine log)) of_clients own));
@@ -174,13 +179,13 @@ closed_leaves table sessions clients ended log reports told trace of_clients of_
 pub run_where : {X E : Type 0} (result : Result X E) (reports_of : X → List (List ℕ)) (trace_of : X → Trace)
     (table : TableRecord) (scripts : List Script) (tasks : List TaskRecord) (sessions : List SessionRecord) (ended : List TokenRecord)
     → table.clients ≡ length scripts → map client_of_task tasks ≡ new_clients table → map script_of tasks ≡ scripts
-    → AreSessionsOf tasks sessions
+    → AreSessionsOf tasks sessions → AreStill (new_dispatchers table) ended
     → IfOk result (λ x. Leaves table sessions ended (reports_of x) (trace_of x))
     → IfOk result (λ x. IsRun table.base scripts table.dispatchers (reports_of x) (trace_of x))
-run_where (Ok x) reports_of trace_of table scripts tasks sessions ended count clients of_scripts are leaves =
+run_where (Ok x) reports_of trace_of table scripts tasks sessions ended count clients of_scripts are still leaves =
     is_run table table.base table.dispatchers scripts tasks sessions ended (reports_of x) (trace_of x) refl count refl
-    clients of_scripts are leaves
-run_where (Err e) reports_of trace_of table scripts tasks sessions ended count clients of_scripts are leaves = leaves
+    clients of_scripts are still leaves
+run_where (Err e) reports_of trace_of table scripts tasks sessions ended count clients of_scripts are still leaves = leaves
 
 -- what clients were told, with their numbers from this one on
 abbrev told_from : ℕ → List SessionRecord → List (ℕ × List Told)

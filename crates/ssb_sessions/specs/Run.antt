@@ -1,7 +1,7 @@
 -- What a run of scripts leaves.
 use Rattle.std.specs.Prelude.{◌≡◌, ◌≢◌, ℕ, ◌+◌, All, List, [], length, map, flat_map, Some, slice_get}
 use Rattle.history.specs.Closing.{IsLogOf}
-use Rattle.history.specs.Tokens.{TableRecord, TokenRecord, new_token}
+use Rattle.history.specs.Tokens.{TableRecord, TokenRecord, new_token, new_dispatchers}
 use Rattle.history.specs.Words.{Owns}
 use Rattle.history_core.specs.OwnCommits.{IsOfClients, commits_of}
 use Rattle.history_core.specs.declared.event.Who.TheVariants.{Client}
@@ -15,13 +15,12 @@ use Rattle.ssb_server.specs.Opening.{AreCounts, IsOpenFault}
 use Rattle.ssb_server.specs.declared.opening.OpenFault.{OpenFault}
 use Rattle.ssb_server.specs.declared.opening.OpenFault.TheVariants as opening
 use Rattle.ssb_sessions.specs.Served.{Serves}
-use Rattle.ssb_sessions.specs.Sessions.{SessionRecord}
+use Rattle.ssb_sessions.specs.Sessions.{SessionRecord, AreStill}
 use Rattle.ssb_sessions.specs.declared.run_fault.RunFault.{RunFault}
 use Rattle.ssb_sessions.specs.declared.run_fault.RunFault.TheVariants.{Open, OutOfMemory}
 
 -- the new client of this number was served the script whole, and was reported and told what the session says; what it
--- sees
--- at the end is a beginning of the log, and the commits that it made are those of its number in the log
+-- sees at the end is a beginning of the log, and the commits that it made are those of its number in the log
 pub record IsServedWhole (table : TableRecord) (log : List CommitRecord) (number : ℕ) (script : Script) (session : SessionRecord) :
     Type 0 where
   pub served : Serves number (new_token table (Client number)) session.client (requests_of script) [] session.told
@@ -30,7 +29,8 @@ pub record IsServedWhole (table : TableRecord) (log : List CommitRecord) (number
   pub made : session.client.mine ≡ commits_of number log
 
 -- a server over the base served each script by a client of its own, the clients numbered from 1 in the order of the
--- scripts, and was closed: these are their reports, and the trace has the log and what each of them was told, in order
+-- scripts, and was closed: these are their reports, and the trace has the log and what each of them was told, in
+-- order; the dispatchers that ended are those of the table, by number, and what each saw is a beginning of the log
 pub record IsRun (base : Tables) (scripts : List Script) (dispatchers : ℕ) (reports : List (List ℕ)) (trace : Trace) :
     Type 0 where
   pub table : TableRecord
@@ -45,6 +45,8 @@ pub record IsRun (base : Tables) (scripts : List Script) (dispatchers : ℕ) (re
   pub reports_are : reports ≡ map (λ (session : SessionRecord). session.report) sessions
   pub answers_are : trace.answers ≡ flat_map (λ (session : SessionRecord). session.told) sessions
   pub ended : List TokenRecord
+  pub ended_are : AreStill (new_dispatchers table) ended
+  pub ended_begin : All (λ (token : TokenRecord). IsPrefix token.seen trace.commits) ended
   pub true_log : IsLogOf table (map (λ (session : SessionRecord). session.client) sessions) ended trace.commits
   pub legal : IsLegal base trace.commits
   pub named : IsOfClients (length scripts) trace.commits
@@ -58,6 +60,7 @@ pub record Leaves (table : TableRecord) (sessions : List SessionRecord) (ended :
   pub legal : IsLegal table.base trace.commits
   pub named : IsOfClients table.clients trace.commits
   pub begin : All (λ (session : SessionRecord). IsPrefix session.client.seen trace.commits) sessions
+  pub ended_begin : All (λ (token : TokenRecord). IsPrefix token.seen trace.commits) ended
   pub own : All (λ (session : SessionRecord). Owns session.client.who session.client.mine trace.commits) sessions
 
 -- how a fault of the opening is told: want of memory is one fault, wherever it is met

@@ -2,6 +2,7 @@ use Rattle.std.proofs.Common.{◌≡◌, length, map, ap, sym, subst, ◌∙◌,
 use Rattle.std.specs.Prelude.{All}
 use Rattle.std.proofs.lemmas.List.FromFn.{length-map-range_with_len}
 use Rattle.ssb_server.specs.Tickets.{IsOf}
+use Rattle.ssb_sessions.specs.Sessions.{AreStill}
 use Rattle.ssb_sessions.proofs.RunLaws.{run_where}
 use Rattle.ssb_sessions.proofs.SessionLaws.{new_tasks, new_dispatchers_of, ready}
 use Rattle.ssb_sessions.proofs.run.serve.Goals as goal
@@ -34,4 +35,5 @@ returns g c =
     c.args.opened.server c.args.scripts.items c.in_ok-tasks.tasks.items c.in_ok-ended.ended.sessions.items
     c.in_ok-ended.ended.dispatchers.items (omega (arith, c.requires.scripts, c.args.scripts.ok.0, c.args.scripts.ok.1))
     (c.in_ok-tasks.ensures.clients ∙ c.requires.clients) c.in_ok-tasks.ensures.scripts c.in_ok-ended.ensures.sessions
-    c.close.ensures
+    (subst (λ tokens. AreStill tokens c.in_ok-ended.ended.dispatchers.items) c.requires.dispatchers
+    c.in_ok-ended.ensures.dispatchers) c.close.ensures
