@@ -5,6 +5,10 @@ use std::alloc::Global;
 use std::io;
 use std::io::{Read, Write};
 
+// What stands before the first prompt.
+const GREETING: &str =
+    "query|NAME asks; begin .. commit refreshes; help lists the queries; Ctrl-D ends\n";
+
 const PROMPT: &str = "> ";
 
 // Where a refresh is open.
@@ -13,8 +17,9 @@ const OPEN_PROMPT: &str = "refresh> ";
 // The line that asks for help. It has no reply, as a line of no bytes has none.
 const HELP: &[u8] = b"help\n";
 
-/// A terminal that is read. Before it waits it writes a prompt to the screen, which shows whether a refresh is open; the
-/// line `help` writes the help there, and comes through as a line of no bytes.
+/// A terminal that is read. Before it waits it writes a prompt to the screen, which shows whether a refresh is open,
+/// and before the first of them a line of help. The line `help` writes the whole help there, and comes through as a line
+/// of no bytes.
 #[derive(Drop)]
 pub struct Prompted<'a, I: Read + Drop, E: Write + Drop> {
     terminal: I,
@@ -23,6 +28,7 @@ pub struct Prompted<'a, I: Read + Drop, E: Write + Drop> {
     // The line that is being read, and whether a refresh was begun before it.
     line: Vec<u8>,
     is_open: bool,
+    is_greeted: bool,
 }
 
 impl<'a, I: Read + Drop, E: Write + Drop> Prompted<'a, I, E> {
@@ -34,11 +40,16 @@ impl<'a, I: Read + Drop, E: Write + Drop> Prompted<'a, I, E> {
             help,
             line: Vec::new(alloc),
             is_open: false,
+            is_greeted: false,
         }
     }
 
     // Writes the prompt, as far as the screen takes it, unless a line goes on.
     fn prompt(&mut self) {
+        if !self.is_greeted {
+            self.is_greeted = true;
+            let _ = self.screen.write_all(GREETING.as_bytes());
+        }
         if self.line.is_empty() {
             let prompt = if self.is_open { OPEN_PROMPT } else { PROMPT };
             let _ = self.screen.write_all(prompt.as_bytes());
