@@ -1,0 +1,3 @@
+pub mod FaultLine
+pub mod Answers
+pub mod Session

@@ -1,0 +1,75 @@
+//! The answer to one request.
+
+ghost use Rattle.std.specs.Prelude.{◌≡◌, ◌×◌, ◌++◌, List, ℕ, false, OnOk, OnErr, MatchResult};
+ghost use Rattle.std.specs.Option.{is_some};
+ghost use Rattle.history.specs.Tokens.{IsSound};
+ghost use Rattle.history.specs.World.{number_of};
+ghost use Rattle.ssb_sessions.specs.Steps.{AreAlike};
+ghost use Rattle.stream_sessions.specs.Steps.{Answers};
+
+use crate::fault_line::write_fault_line;
+use ssb_script::{MOST_RECORDS, Script, ScriptError, read_script};
+use ssb_server::{Client, Server};
+use ssb_sessions::{NoMeter, serve_requests};
+use std::alloc::{AllocError, Global};
+use std::sync::Wait;
+
+// Serves what a request asks, and adds the report; none where memory runs out.
+fn report<W: Wait + Drop, R: Wait>(
+    rt: &R,
+    alloc: Global,
+    server: &Server<W>,
+    client: &mut Client<W>,
+    script: Script,
+    replies: &mut Vec<u8>,
+) -> Result<(), AllocError>
+{
+    let before = replies.len();
+    // What the client was told is dropped: memory does not grow with a session.
+    let mut told = Vec::new(alloc);
+    match serve_requests(rt, server, client, script, replies, &mut told, &mut NoMeter) {
+        Ok(()) => Ok(()),
+        Err(_) => {
+            replies.truncate(before);
+            Err(AllocError)
+        }
+    }
+}
+
+// Adds the line of a fault; none where memory runs out.
+fn refuse(fault: ScriptError, replies: &mut Vec<u8>) -> Result<(), AllocError>
+{
+    let before = replies.len();
+    match write_fault_line(replies, fault) {
+        Ok(()) => Ok(()),
+        Err(_) => {
+            replies.truncate(before);
+            Err(AllocError)
+        }
+    }
+}
+
+/// Reads a request as a script of its own, serves what it asks, and adds the report to the replies; or the line of its
+/// fault, and nothing is done. For want of memory it adds nothing.
+pub(crate) fn answer<W: Wait + Drop, R: Wait>(
+    rt: &R,
+    alloc: Global,
+    server: &Server<W>,
+    client: &mut Client<W>,
+    request: &[u8],
+    replies: &mut Vec<u8>,
+) -> Result<(), AllocError>
+    requires table { client.old.table ≡ server.now }
+    requires quiet { is_some client.old.asked ≡ false }
+    ensures answered { Answers result (number_of client.old.who) request.now client.old client.new replies.old.items
+        replies.new.items }
+    ensures same { AreAlike client.old client.new }
+    ensures sound { IsSound client.old → IsSound client.new }
+{
+    match read_script(alloc, request, MOST_RECORDS) {
+        Ok(script) => report(rt, alloc, server, client, script, replies),
+        // A request is read from memory: that fails for want of it alone.
+        Err(ScriptError::Read) | Err(ScriptError::OutOfMemory) => Err(AllocError),
+        Err(fault) => refuse(fault, replies),
+    }
+}
