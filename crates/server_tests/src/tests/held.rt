@@ -6,9 +6,9 @@ ghost use Rattle.ssb_server.specs.Tickets.{IsOf, IsQuiet};
 use crate::tests::LOADED;
 use crate::tests::opening::{next_dispatcher, opened};
 use crate::tests::parties::{Plays, TakesTurns};
-use crate::tests::trial::ClientDeed::{Adds, Asks, Polls};
-use crate::tests::trial::TrialStep::{First, Second, Third};
-use crate::tests::trial::{Trial, TrialStep};
+use crate::tests::trial::Deed::{Adds, Asks, Polls};
+use crate::tests::trial::Step::{First, Second, Third};
+use crate::tests::trial::{Step, Trial};
 use ssb_server::{Opened, ScanGate, Server, Turn};
 use std::alloc::Global;
 use std::sync::Wait;
@@ -86,7 +86,7 @@ fn go_on<T: Plays, R: Wait + Threads + Sync>(
         alloc,
         &[
             (Second(Asks("Q4.1")), "asked"),
-            (TrialStep::Turn, "answered 1 at 0"),
+            (Step::Turn, "answered 1 at 0"),
             (Third(Adds(9)), "committed 1"),
         ],
     );

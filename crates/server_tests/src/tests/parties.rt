@@ -4,7 +4,7 @@ ghost use Rattle.std.specs.Thread.{IsSync};
 ghost use Rattle.history.specs.Tokens.{TokenRecord};
 ghost use Rattle.ssb_server.specs.Tickets.{IsOf};
 
-use crate::tests::trial::{Trial, TrialStep, turns};
+use crate::tests::trial::{Step, Trial, turns};
 use ssb_server::{Dispatcher, ScanGate, Server, Turn};
 use std::alloc::Global;
 use std::sync::Wait;
@@ -50,7 +50,7 @@ pub trait Plays {
         &mut self,
         rt: &R,
         alloc: Global,
-        steps: &[(TrialStep, &str)],
+        steps: &[(Step, &str)],
     ) -> Result<(), Fail>
         requires shared { IsSync R.row };
 }
@@ -60,7 +60,7 @@ impl<'s, W: Wait + Drop> Plays for Trial<'s, W> {
         &mut self,
         rt: &R,
         alloc: Global,
-        steps: &[(TrialStep, &str)],
+        steps: &[(Step, &str)],
     ) -> Result<(), Fail> {
         self.plays(rt, alloc, steps)
     }
