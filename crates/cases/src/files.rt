@@ -4,27 +4,65 @@ use crate::breaking::Breaking;
 use crate::case::Break;
 use small_data::{CUSTOMER, DATE, LINEORDER, PART, SUPPLIER};
 use std::alloc::{Allocator, Global};
-use std::cell::RefCell;
 use std::collections::BTreeMap;
 use std::fs::{Metadata, OpenFile, OpenOptions};
 use std::io;
 use std::io::{Error, ErrorKind, Read, Seek, SeekFrom, Write};
-use std::rc::Rc;
 use std::rt::Files;
+use std::sync::{Arc, Mutex, MutexGuard};
+use std::thread::yield_now;
 
 // How many bytes a read gives. A block of lineorder is what a read gives up to its last line feed: so one line or two
 // are a block here, and each case that loads tables shows that blocks change nothing.
 const MOST_READ: usize = 48;
 
 // The bytes of a file, as all who opened it see them.
-type Contents = Rc<RefCell<Vec<u8>>>;
+type Contents = Arc<Mutex<Vec<u8>>>;
 
-/// Files by their paths. A path that has none is a folder where it stands before a slash of one that has.
+/// Takes a lock, each of which is held for a short while. It has no handle to wait with, and so tries again.
+pub fn hold<T>(lock: &Mutex<T>) -> io::Result<MutexGuard<'_, T>> {
+    for _ in 0..u64::MAX {
+        if let Some(guard) = lock.try_lock() {
+            return Ok(guard);
+        }
+        yield_now();
+    }
+    Err(Error::from(ErrorKind::WouldBlock))
+}
+
+/// Files by their paths, which threads share. A path that has none is a folder where it stands before a slash of one
+/// that has.
 #[derive(Drop)]
 pub struct MemoryFiles {
     alloc: Global,
-    files: RefCell<BTreeMap<String, Contents>>,
-    breaks: RefCell<BTreeMap<String, usize>>,
+    files: Mutex<BTreeMap<String, Contents>>,
+    breaks: Mutex<BTreeMap<String, usize>>,
+}
+
+/// A stream that a command writes, which can be read when it has ended.
+#[derive(Drop)]
+pub struct Stream {
+    contents: Contents,
+    after: Option<usize>,
+}
+
+impl Stream {
+    /// A new one, which fails behind its first bytes where a number is given.
+    pub fn new(alloc: Global, after: Option<usize>) -> io::Result<Stream> {
+        let contents = Arc::new(alloc, Mutex::new(Vec::new(alloc)))?;
+        Ok(Stream { contents, after })
+    }
+
+    /// What the command writes to.
+    pub fn writer(&self) -> io::Result<BreakingFile> {
+        let file = MemoryFile::Opened(Arc::try_clone(&self.contents)?, 0);
+        Ok(BreakingFile(Breaking::new(file, self.after)))
+    }
+
+    /// What was written.
+    pub fn bytes(&self) -> io::Result<Vec<u8>> {
+        Ok(hold(&self.contents)?.clone()?)
+    }
 }
 
 /// An opened file of [`MemoryFiles`], or an opened folder, which cannot be read.
@@ -45,8 +83,8 @@ impl MemoryFiles {
     pub fn with_small_data(alloc: Global) -> io::Result<MemoryFiles> {
         let files = MemoryFiles {
             alloc,
-            files: RefCell::new(BTreeMap::new(alloc)),
-            breaks: RefCell::new(BTreeMap::new(alloc)),
+            files: Mutex::new(BTreeMap::new(alloc)),
+            breaks: Mutex::new(BTreeMap::new(alloc)),
         };
         for (path, text) in [
             ("small/customer.tbl", CUSTOMER),
@@ -62,15 +100,15 @@ impl MemoryFiles {
 
     /// Makes a file of these bytes, in place of one that was there.
     pub fn put(&self, path: &str, bytes: &[u8]) -> io::Result<()> {
-        let contents = Rc::new(self.alloc, RefCell::new(bytes.to_vec(self.alloc)?))?;
+        let contents = Arc::new(self.alloc, Mutex::new(bytes.to_vec(self.alloc)?))?;
         let path = String::from_str(self.alloc, path)?;
-        self.files.try_borrow_mut()?.insert(path, contents)?;
+        hold(&self.files)?.insert(path, contents)?;
         Ok(())
     }
 
     /// From now on these files, when they are opened, fail behind their first bytes, and no others.
     pub fn break_after(&self, breaks: &[Break]) -> io::Result<()> {
-        let mut kept = self.breaks.try_borrow_mut()?;
+        let mut kept = hold(&self.breaks)?;
         kept.clear();
         for Break { name, after } in breaks {
             kept.insert(name.clone()?, *after)?;
@@ -81,26 +119,26 @@ impl MemoryFiles {
     /// The bytes of a file, where there is one.
     pub fn bytes_of(&self, path: &str) -> io::Result<Option<Vec<u8>>> {
         match self.contents_of(path)? {
-            Some(contents) => Ok(Some(contents.try_borrow()?.clone()?)),
+            Some(contents) => Ok(Some(hold(&contents)?.clone()?)),
             None => Ok(None),
         }
     }
 
     fn contents_of(&self, path: &str) -> io::Result<Option<Contents>> {
-        match self.files.try_borrow()?.get(path) {
-            Some(contents) => Ok(Some(contents.clone()?)),
+        match hold(&self.files)?.get(path) {
+            Some(contents) => Ok(Some(Arc::try_clone(contents)?)),
             None => Ok(None),
         }
     }
 
     // This file of this path, as it is opened: it may fail behind its first bytes.
     fn opened(&self, path: &str, file: MemoryFile) -> io::Result<BreakingFile> {
-        let after = self.breaks.try_borrow()?.get(path).copied();
+        let after = hold(&self.breaks)?.get(path).copied();
         Ok(BreakingFile(Breaking::new(file, after)))
     }
 
     fn is_folder(&self, path: &str) -> io::Result<bool> {
-        let files = self.files.try_borrow()?;
+        let files = hold(&self.files)?;
         Ok(
             files.keys().any(|file| match file.strip_prefix(path) {
                 Some(rest) => rest.starts_with('/'),
@@ -196,7 +234,7 @@ impl Read for MemoryFile {
     fn read(&mut self, buf: &mut [u8]) -> io::Result<usize> {
         match self {
             MemoryFile::Opened(contents, at) => {
-                let contents = contents.try_borrow()?;
+                let contents = hold(contents)?;
                 let rest = contents.get(*at..).unwrap_or(&[]);
                 let mut next = &rest[..rest.len().min(MOST_READ)];
                 let count = next.read(buf)?;
@@ -212,7 +250,7 @@ impl Write for MemoryFile {
     fn write(&mut self, buf: &[u8]) -> io::Result<usize> {
         match self {
             MemoryFile::Opened(contents, _) => {
-                contents.try_borrow_mut()?.extend_from_slice(buf)?;
+                hold(contents)?.extend_from_slice(buf)?;
                 Ok(buf.len())
             }
             MemoryFile::Folder => Err(Error::from(ErrorKind::IsADirectory)),

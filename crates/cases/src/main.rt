@@ -28,6 +28,7 @@ mod case;
 mod difference;
 mod files;
 mod running;
+mod screen;
 mod section;
 
 use anyhow::Result;

@@ -5,11 +5,11 @@ ghost use Rattle.std.specs.Prelude.{◌≡◌, Ok, None};
 use crate::breaking::Breaking;
 use crate::case::{Case, Command};
 use crate::difference::first_difference;
-use crate::files::MemoryFiles;
-use command_line::run_command_line;
+use crate::files::{MemoryFiles, Stream};
+use crate::screen::Screen;
+use command_line::{Streams, run_command_line};
 use std::alloc::Global;
 use std::io;
-use std::io::Stderr;
 use std::random::RandomSource;
 use std::sync::Wait;
 use std::thread::Threads;
@@ -24,27 +24,25 @@ struct Outcome {
 }
 
 // Runs a command over these files.
-fn run_command<R>(rt: &R, files: &MemoryFiles, command: &Command) -> Outcome
+fn run_command<R>(rt: &R, files: &MemoryFiles, command: &Command) -> io::Result<Outcome>
 where
     R: Clock + RandomSource + Threads + Sync + Wait + AllocGlobal,
 {
-    let input = Breaking::new(command.input.as_slice(), command.break_of("input"));
-    let mut output = Breaking::new(Vec::new(rt.alloc()), command.break_of("output"));
-    let mut errors = Breaking::new(Vec::new(rt.alloc()), command.break_of("errors"));
-    let status = run_command_line(
-        rt,
-        files,
-        command.words.as_slice(),
-        input,
-        None::<&Stderr>,
-        &mut output,
-        &mut errors,
-    );
-    Outcome {
-        output: output.into_inner(),
-        errors: errors.into_inner(),
+    let output = Stream::new(rt.alloc(), command.break_of("output"))?;
+    let errors = Stream::new(rt.alloc(), command.break_of("errors"))?;
+    let screen = Screen::new(errors.writer()?);
+    let streams = Streams {
+        input: Breaking::new(command.input.as_slice(), command.break_of("input")),
+        output: output.writer()?,
+        errors: &screen,
+        shows_progress: false,
+    };
+    let status = run_command_line(rt, files, command.words.as_slice(), streams);
+    Ok(Outcome {
+        output: output.bytes()?,
+        errors: errors.bytes()?,
         status,
-    }
+    })
 }
 
 // What differs first in what a command did, and in the files that it left.
@@ -97,7 +95,7 @@ where
     for command in &case.commands {
         number = number.saturating_add(1);
         files.break_after(command.breaks.as_slice())?;
-        let outcome = run_command(rt, &files, command);
+        let outcome = run_command(rt, &files, command)?;
         if let Some(difference) = find_difference(alloc, &files, command, &outcome)? {
             return Ok(Some(format!(in alloc; "command {number}, {difference}")?));
         }

@@ -1,12 +1,13 @@
 //! The words of the command line.
 
+use crate::streams::Streams;
 use clap::error::ErrorKind;
 use clap::{Arg, ArgAction, ArgMatches, Command, Error, value_parser};
 use ssb_files::Fault;
 use std::alloc::{AllocError, Global};
 use std::env::Env;
 use std::io;
-use std::io::Write;
+use std::io::{Print, Write};
 
 const VERSION: &str = "0.1.0";
 
@@ -199,9 +200,14 @@ pub fn matches<'a>(alloc: Global, words: &'a [String]) -> Result<ArgMatches<'a>,
     command(alloc)?.try_get_matches_from(words)
 }
 
-/// Writes what clap answers in place of matches, and gives the exit status. A fault of the words goes to `err`, with
-/// status 2 whether or not `err` takes it; help and the version go to `out`, which has to take them.
-pub fn tell<W: Write, E: Write>(answer: &Error, out: &mut W, err: &mut E) -> u8 {
+/// Writes what clap answers in place of matches, and gives the exit status. A fault of the words goes to the errors, with
+/// status 2 whether or not these take it; help and the version go to the output, which has to take them.
+pub fn tell<I: Drop, W: Write + Drop, E: Print>(
+    answer: &Error,
+    streams: Streams<'_, I, W, E>,
+) -> u8 {
+    let mut out = streams.output;
+    let err = &mut io::writer(streams.errors);
     if answer.kind() == ErrorKind::OutOfMemory {
         return Fault::OutOfMemory.tell(err);
     }

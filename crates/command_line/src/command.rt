@@ -1,6 +1,7 @@
 //! What the words of a command line do.
 
 use crate::arguments::{matches, tell};
+use crate::streams::Streams;
 use audit_command::run_audit;
 use clap::ArgMatches;
 use query_command::{Settings, run_all, run_query};
@@ -11,6 +12,7 @@ use ssb_files::{
 };
 use ssb_text::Tables;
 use std::hash::RandomState;
+use std::io;
 use std::io::{BufWriter, Print, Read, Write};
 use std::random::RandomSource;
 use std::rt::Files;
@@ -172,17 +174,13 @@ where
     }
 }
 
-/// Does what the words say, and gives the exit status. Without words the script `input` is served. The words name files
-/// of `files`; threads, waiting, random bytes and the time come from `rt`. A terminal shows the progress of a long
-/// load, and nothing of it goes to `err`.
-pub fn run_command_line<R, F, I: Read + Drop, P: Print, W: Write, E: Write>(
+/// Does what the words say, and gives the exit status. Without words the script on the input is served. The words name
+/// files of `files`; threads, waiting, random bytes and the time come from `rt`.
+pub fn run_command_line<R, F, I: Read + Drop, W: Write + Drop, E: Print>(
     rt: &R,
     files: &F,
     words: &[String],
-    input: I,
-    terminal: Option<&P>,
-    out: &mut W,
-    err: &mut E,
+    streams: Streams<'_, I, W, E>,
 ) -> u8
 where
     R: Clock + RandomSource + Threads + Sync + Wait + AllocGlobal,
@@ -190,8 +188,17 @@ where
 {
     let matched = match matches(rt.alloc(), words) {
         Ok(matched) => matched,
-        Err(answer) => return tell(&answer, out, err),
+        Err(answer) => return tell(&answer, streams),
     };
+    let Streams {
+        input,
+        mut output,
+        errors,
+        shows_progress,
+    } = streams;
+    let out = &mut output;
+    let err = &mut io::writer(errors);
+    let terminal = if shows_progress { Some(errors) } else { None };
     match matched.subcommand() {
         Some(("run", words)) => serve_scripts(rt, files, words, terminal, out, err),
         Some(("audit", words)) => check_trace(rt, files, words, terminal, out, err),

@@ -11,12 +11,14 @@
 //!
 //! ```text
 //! let words = words(&rt)?;                // ssb_live query --data tables Q4.1
-//! run_command_line(&rt, &rt, words.as_slice(), rt.stdin(), terminal, &mut out, &mut err)
+//! run_command_line(&rt, &rt, words.as_slice(), streams)
 //! ```
 #![tactic(auto)]
 
 mod arguments;
 mod command;
+mod streams;
 
 pub use arguments::words;
 pub use command::run_command_line;
+pub use streams::Streams;

@@ -1,6 +1,7 @@
 //! Every fault that has a number, with the values that the page's words in capitals stand for.
 
 use row_store::Cause;
+use session_requests::RequestError;
 use ssb_audit::AuditFault;
 use ssb_questions::{ConstantsFault, NoSuchQuery, Query};
 use ssb_schema::{C_CITY, SchemaFault, Table};
@@ -132,6 +133,18 @@ impl ListsFaults for ScriptError {
     }
 }
 
+impl ListsFaults for RequestError {
+    fn first() -> RequestError {
+        RequestError::TooLong
+    }
+
+    fn next(&self) -> Option<RequestError> {
+        match self {
+            RequestError::TooLong | RequestError::Read | RequestError::OutOfMemory => None,
+        }
+    }
+}
+
 impl ListsFaults for AuditFault {
     fn first() -> AuditFault {
         AuditFault::CommitRefused(3)
@@ -170,6 +183,7 @@ pub fn all_lines(alloc: Global) -> Result<Vec<String>, AllocError> {
     push_lines::<Cause>(alloc, &mut lines)?;
     push_lines::<OpenFault>(alloc, &mut lines)?;
     push_lines::<ScriptError>(alloc, &mut lines)?;
+    push_lines::<RequestError>(alloc, &mut lines)?;
     push_lines::<AuditFault>(alloc, &mut lines)?;
     Ok(lines)
 }

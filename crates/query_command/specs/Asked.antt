@@ -1,6 +1,6 @@
 -- The question that the words of a command line ask.
 use Rattle.std.specs.Prelude.{◌≡◌, ◌⊎◌, ℕ, ◌^◌, List, [], ◌∷◌, map, Option, Some, None, nat_lt, if◌then◌else◌}
-use Rattle.ssb_text.specs.Spelling.{number_of}
+use Rattle.ssb_schema.specs.Numerals.{number_of}
 use Rattle.ssb_questions.specs.Kind.{constant_kinds}
 use Rattle.ssb_questions.specs.Queries.{standard_constants}
 use Rattle.ssb_questions.specs.Query.{name_of}

@@ -7,8 +7,7 @@ ghost use Rattle.ssb_files.specs.Status.{status_of};
 
 use ssb_files::Fault;
 use ssb_questions::{ConstantKind, QUERIES, Query, Question, QuestionError, Value};
-use ssb_schema::Text;
-use ssb_text::number;
+use ssb_schema::{Text, number};
 use std::alloc::{AllocError, Global};
 
 // The constant of a kind that a word stands for: its number where the kind is one and the word spells it, else its

@@ -9,32 +9,25 @@
 //! what the words ask, and this file ends with a status.
 #![tactic(auto)]
 
-use command_line::{run_command_line, words};
+use command_line::{Streams, run_command_line, words};
 use ssb_files::Fault;
 use std::io::{BufWriter, IsTerminal};
 use std::process::ExitCode;
 
 fn main(rt: HostRuntime) -> ExitCode {
+    let errors = rt.stderr();
     let mut err = rt.stderr();
-    let Ok(mut out) = BufWriter::new(rt.alloc(), rt.stdout()) else {
+    let Ok(output) = BufWriter::new(rt.alloc(), rt.stdout()) else {
         return ExitCode::from(Fault::OutOfMemory.tell(&mut err));
     };
-    let screen = rt.stderr();
-    let terminal = if screen.is_terminal() {
-        Some(&screen)
-    } else {
-        None
+    let streams = Streams {
+        input: rt.stdin(),
+        output,
+        errors: &errors,
+        shows_progress: errors.is_terminal(),
     };
     ExitCode::from(match words(&rt) {
-        Ok(words) => run_command_line(
-            &rt,
-            &rt,
-            words.as_slice(),
-            rt.stdin(),
-            terminal,
-            &mut out,
-            &mut err,
-        ),
+        Ok(words) => run_command_line(&rt, &rt, words.as_slice(), streams),
         Err(fault) => fault.tell(&mut err),
     })
 }

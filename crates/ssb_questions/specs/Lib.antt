@@ -11,3 +11,8 @@ pub mod Plan
 pub mod Question
 pub mod QuestionEq
 pub mod AllQueries
+-- the clauses of star questions
+pub mod Clause
+pub mod ClauseSaid
+pub mod Clauses
+pub mod Star

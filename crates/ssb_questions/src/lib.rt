@@ -19,6 +19,8 @@
 #![tactic(auto)]
 
 mod build;
+pub mod clause;
+pub mod clauses;
 pub mod cond;
 mod constants;
 mod flights;
@@ -26,11 +28,15 @@ pub mod kind;
 pub mod plan;
 pub mod query;
 pub mod question;
+pub mod star;
 pub mod value;
 
+pub use clause::{Clause, Spelled, clause_of};
+pub use clauses::{Subject, first_bad};
 pub use cond::{ColumnValue, Cond, Test};
 pub use kind::ConstantKind;
 pub use plan::{Measure, NumberRange, OrderKey, Plan};
 pub use query::{NoSuchQuery, QUERIES, Query};
 pub use question::{ConstantsFault, Question, QuestionError};
+pub use star::star_plan;
 pub use value::Value;

@@ -9,7 +9,8 @@ use Rattle.std.proofs.lemmas.Option.{slice_get-map}
 use Rattle.ssb_schema.specs.declared.table.Table.{Table}
 use Rattle.ssb_schema.specs.declared.table.Table.TheVariants as table
 use Rattle.ssb_schema.specs.declared.column.Column.{Column}
-use Rattle.ssb_schema.specs.Columns.{Described, columns_of, column_name}
+use Rattle.ssb_schema.specs.declared.kind.Kind.{Kind}
+use Rattle.ssb_schema.specs.Columns.{Described, columns_of, column_name, column_kind, kinds_of}
 
 -- whether the places count from here
 abbrev are_placed : ℕ → List Described → Bool
@@ -48,3 +49,14 @@ name_at column names some are =
     ap (λ xs. unwrap_or (slice_get xs (column.place - 1)) []) are
     ∙ ap (λ o. unwrap_or o []) (slice_get-map (λ row. row.name) (columns_of column.table) (column.place - 1))
     ∙ ap (λ o. unwrap_or (option_map (λ row. row.name) o) []) (sym found)
+
+-- what the column at a place takes, from the kinds in order
+pub kind_at : (column : Column) (kinds : List Kind) → 0 < column.place → kinds ≡ kinds_of column.table
+    → slice_get kinds (column.place - 1) ≡ column_kind column
+kind_at column kinds some are =
+    let place_is : 1 + (column.place - 1) ≡ column.place = omega (arith, some) in
+    let found = ap (λ (n : ℕ). find (λ row. nat_eq row.place n) (columns_of column.table)) (sym place_is)
+    ∙ found_at (columns_of column.table) 1 (column.place - 1) (placed column.table) in
+    ap (λ xs. slice_get xs (column.place - 1)) are
+    ∙ slice_get-map (λ row. row.kind) (columns_of column.table) (column.place - 1)
+    ∙ ap (λ o. option_map (λ row. row.kind) o) (sym found)

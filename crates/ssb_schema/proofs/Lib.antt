@@ -4,3 +4,4 @@ pub mod FirstFaultLaws
 pub mod OrderLaws
 pub mod ColumnLaws
 pub mod PartLaws
+pub mod DigitLaws

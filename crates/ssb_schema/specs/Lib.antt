@@ -1,6 +1,7 @@
 -- what the values are
 pub mod Columns
 pub mod Texts
+pub mod Numerals
 pub mod Rows
 pub mod Keys
 pub mod Facts

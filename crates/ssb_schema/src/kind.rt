@@ -1,9 +1,9 @@
 //! What each column takes, as data, and the one check of a row's values.
 
-ghost use Rattle.std.specs.Prelude.{◌≡◌, ◌+◌, length, map};
+ghost use Rattle.std.specs.Prelude.{◌≡◌, ◌+◌, length, map, slice_get};
 ghost use Rattle.std.specs.List.{list_all};
 ghost use Rattle.ssb_schema.specs.Columns.{Value, Text, is_plain_byte, is_plain, column_fault, first_fault};
-ghost use Rattle.ssb_schema.specs.Columns.{kinds_of, row_fault, value_of};
+ghost use Rattle.ssb_schema.specs.Columns.{column_kind, kinds_of, row_fault, value_of};
 ghost use Rattle.ssb_schema.specs.declared.kind.Kind.TheVariants as kind;
 
 use crate::column::Column;
@@ -84,6 +84,25 @@ impl Table {
             Table::Date => &DATE,
             Table::Lineorder => &LINEORDER,
         }
+    }
+}
+
+// What the column at a place takes, counted from 0.
+fn kind_at(kinds: &[Kind], at: usize) -> Option<Kind>
+    ensures { result ≡ slice_get kinds.now at }
+{
+    kinds.get(at).copied()
+}
+
+impl Column {
+    /// What the column takes; none where the table has no such place.
+    pub fn kind(self) -> Option<Kind>
+        ensures { result ≡ column_kind self }
+    {
+        if self.place == 0 {
+            return None;
+        }
+        kind_at(self.table.kinds(), self.place - 1)
     }
 }
 

@@ -34,7 +34,8 @@ use Rattle.ssb_schema.specs.declared.table.Table.TheVariants as table
 use Rattle.ssb_schema.specs.declared.line.LineFields.{LineFields}
 use Rattle.ssb_text.specs.Records.{has_columns}
 use Rattle.ssb_text.specs.Row.{row_of}
-use Rattle.ssb_text.specs.Spelling.{field, number_of, text_of}
+use Rattle.ssb_schema.specs.Numerals.{number_of}
+use Rattle.ssb_text.specs.Spelling.{field, text_of}
 use Rattle.ssb_text.specs.declared.error.LineFault.{LineFault}
 use Rattle.ssb_text.specs.declared.error.LineFault.TheVariants as row
 use Rattle.ssb_questions.specs.Kind.{constant_kinds}

@@ -11,8 +11,8 @@ use crate::question::question_at;
 use crate::word::Word;
 use csv::ByteRecord;
 use ssb_questions::Question;
-use ssb_schema::{Action, Order};
-use ssb_text::{has_columns, number, trimmed_at};
+use ssb_schema::{Action, Order, number};
+use ssb_text::{has_columns, trimmed_at};
 use std::alloc::{AllocError, Global};
 
 /// How an order begins: as one that is absent, or one that is present.

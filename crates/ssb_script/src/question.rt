@@ -7,8 +7,8 @@ ghost use Rattle.ssb_script.specs.Lines.{constant_spelled};
 
 use csv::ByteRecord;
 use ssb_questions::{ConstantKind, QUERIES, Query, Question, QuestionError, Value};
-use ssb_schema::Text;
-use ssb_text::{has_columns, number, text, trimmed_at};
+use ssb_schema::{Text, number};
+use ssb_text::{has_columns, text, trimmed_at};
 use std::alloc::{AllocError, Global};
 
 // The query that bytes name.

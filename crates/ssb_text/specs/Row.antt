@@ -25,7 +25,8 @@ use Rattle.ssb_schema.specs.declared.fault.SchemaFault.{SchemaFault}
 use Rattle.ssb_text.specs.declared.error.LineFault.{LineFault}
 use Rattle.ssb_text.specs.declared.error.LineFault.TheVariants as fault
 use Rattle.ssb_text.specs.Records.{has_columns}
-use Rattle.ssb_text.specs.Spelling.{number_of, text_of, without_spaces}
+use Rattle.ssb_schema.specs.Numerals.{number_of}
+use Rattle.ssb_text.specs.Spelling.{text_of, without_spaces}
 
 infixl 10 ◌>>=◌
 abbrev pub ◌>>=◌ : {A B : Type 0} → Result A LineFault → (A → Result B LineFault) → Result B LineFault

@@ -2,7 +2,7 @@
 //! bytes of the five table files of the Star Schema Benchmark to a base.
 //!
 //! ```text
-//! bytes ── record_reader, next_record ─▶ record ── trimmed_at ─▶ field ── number, text ─▶ what it spells
+//! bytes ── record_reader, next_record ─▶ record ── trimmed_at ─▶ field ── text ─▶ what it spells
 //! five files ── load ─▶ Base         a record's fields ── line_of ─▶ Line
 //! lineorder ── Blocks ─▶ blocks ── all processors ─▶ lines of each, up to its first fault ── join ─▶ lines, or the fault
 //! ```
@@ -44,4 +44,4 @@ pub use law::records_of_appended;
 pub use line::line_of;
 pub use loading::{Tables, load};
 pub use records::{ReadError, next_record, record_reader};
-pub use spelling::{number, text, trimmed};
+pub use spelling::{text, trimmed};

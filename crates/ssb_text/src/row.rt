@@ -8,9 +8,9 @@ ghost use Rattle.ssb_text.specs.Row.{Gives, number_at, row_of, text_at, values_f
 
 use crate::error::LineFault;
 use crate::fields::{has_columns, trimmed_at};
-use crate::spelling::{number, text};
+use crate::spelling::text;
 use csv::ByteRecord;
-use ssb_schema::{Column, Fields, Row, Table, Text};
+use ssb_schema::{Column, Fields, Row, Table, Text, number};
 use std::alloc::Global;
 
 /// The values of a row, which a record spells.

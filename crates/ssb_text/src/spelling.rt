@@ -1,7 +1,7 @@
 //! What the bytes of one field spell.
 
-ghost use Rattle.std.specs.Prelude.{◌≡◌, ◌<◌, ◌≤◌, ◌+◌, ◌-◌, ◌*◌, ◌^◌, SomeIff, option_map};
-ghost use Rattle.ssb_text.specs.Spelling.{number_of, text_of, without_spaces};
+ghost use Rattle.std.specs.Prelude.{◌≡◌, option_map};
+ghost use Rattle.ssb_text.specs.Spelling.{text_of, without_spaces};
 
 use std::str;
 
@@ -15,35 +15,6 @@ pub fn trimmed(field: &[u8]) -> &[u8]
         end -= 1;
     }
     &field[..end]
-}
-
-// The number that one digit more writes, if it fits.
-fn push_digit(value: u64, digit: u8) -> Option<u64>
-    requires { 48 ≤ digit }
-    ensures { SomeIff result (value * 10 + (digit - 48) < 2 ^ 64) (value * 10 + (digit - 48)) }
-{
-    value.checked_mul(10)?.checked_add(u64::from(digit - b'0'))
-}
-
-/// The number that bytes spell: 1 to 20 digits, leading zeros among them, whose value fits a `u64`.
-#[inline]
-pub fn number(bytes: &[u8]) -> Option<u64>
-    ensures { result ≡ number_of bytes.now }
-{
-    if bytes.is_empty() || bytes.len() > 20 {
-        return None;
-    }
-    let mut value = 0u64;
-    for b in bytes {
-        if !b.is_ascii_digit() {
-            return None;
-        }
-        let Some(next) = push_digit(value, *b) else {
-            return None;
-        };
-        value = next;
-    }
-    Some(value)
 }
 
 /// The text that bytes spell, if they are UTF-8.

@@ -35,8 +35,9 @@ use Rattle.std.proofs.Math.IntN.{+ℤ_idl}
 use Rattle.std.proofs.lemmas.Bool.Decides.{nat_tests}
 use Rattle.std.proofs.lemmas.Fmt.{decimal_nonempty, digits_decimal, digits_value-decimal, length-decimal-le}
 use Rattle.std.proofs.lemmas.Str.Parse.{IsNumeralModel, numerals_by_weight}
-use Rattle.ssb_text.proofs.DigitLaws.{number_of-digits}
-use Rattle.ssb_text.specs.Spelling.{decimal_value, number_of, without_spaces}
+use Rattle.ssb_schema.proofs.DigitLaws.{number_of-digits}
+use Rattle.ssb_schema.specs.Numerals.{decimal_value, number_of}
+use Rattle.ssb_text.specs.Spelling.{without_spaces}
 use Rattle.ssb_schema.specs.Columns.{is_plain_byte}
 use Rattle.ssb_trace.specs.Rows.{amount_of, negative, positive, signed_of}
 use Rattle.ssb_trace.proofs.FieldLaws.{IsKept}

@@ -2,7 +2,8 @@
 use Rattle.std.specs.Prelude.{ℕ, ◌&&◌, List, Option, Some, None, option_map, nat_le, if◌then◌else◌}
 use Rattle.std.specs.Option.{option_and_then}
 use Rattle.ssb_text.specs.Records.{has_columns}
-use Rattle.ssb_text.specs.Spelling.{field, number_of}
+use Rattle.ssb_schema.specs.Numerals.{number_of}
+use Rattle.ssb_text.specs.Spelling.{field}
 use Rattle.ssb_script.specs.Lines.{question_at}
 use Rattle.ssb_trace.specs.declared.heads.AnswerHead.{AnswerHead}
 

@@ -32,7 +32,8 @@ use Rattle.ssb_schema.specs.declared.column.Column.{Column}
 use Rattle.ssb_schema.specs.declared.kind.Kind.{Kind}
 use Rattle.ssb_schema.specs.declared.kind.Kind.TheVariants as kind
 use Rattle.ssb_text.specs.Records.{has_columns}
-use Rattle.ssb_text.specs.Spelling.{field, number_of}
+use Rattle.ssb_schema.specs.Numerals.{number_of}
+use Rattle.ssb_text.specs.Spelling.{field}
 use Rattle.ssb_questions.specs.Queries.{plan_of}
 use Rattle.ssb_questions.specs.Query.{sum_first}
 use Rattle.ssb_questions.specs.declared.kind.ConstantKind.{ConstantKind}

@@ -5,8 +5,9 @@ ghost use Rattle.ssb_trace.specs.Heads as spec;
 
 use csv::ByteRecord;
 use ssb_questions::Question;
+use ssb_schema::number;
 use ssb_script::question_at;
-use ssb_text::{has_columns, number, trimmed_at};
+use ssb_text::{has_columns, trimmed_at};
 use std::alloc::{AllocError, Global};
 
 /// The first record of an answer: its client, its number of commits, its question, and how many rows follow.

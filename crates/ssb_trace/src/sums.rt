@@ -2,7 +2,7 @@
 ghost use Rattle.std.specs.Prelude.{◌≡◌};
 ghost use Rattle.ssb_trace.specs.Rows as spec;
 
-use ssb_text::number;
+use ssb_schema::number;
 
 // The number that 1 to 19 digits spell.
 fn amount_of(digits: &[u8]) -> Option<u64>

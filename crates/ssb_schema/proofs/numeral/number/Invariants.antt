@@ -1,8 +1,8 @@
 use Rattle.std.proofs.Common.{◌≡◌, ◌<◌, ◌≤◌, ◌^◌, true, length, take}
 use Rattle.std.specs.List.{list_all}
 use Rattle.std.specs.Char.{is_ascii_digit}
-use Rattle.ssb_text.specs.Spelling.{decimal_value}
-use Rattle.ssb_text.proofs.spelling.number.Given as goal
+use Rattle.ssb_schema.specs.Numerals.{decimal_value}
+use Rattle.ssb_schema.proofs.numeral.number.Given as goal
 
 abbrev pub invariant-loop-b : goal.invariant-loop-b
 invariant-loop-b l = record {

@@ -39,7 +39,7 @@ use Rattle.std.specs.Char.{is_ascii_digit}
 use Rattle.std.proofs.lemmas.Bool.{le-ltb, lt-ltb, le-leb}
 use Rattle.std.proofs.lemmas.List.{take_more, take-append-drop}
 use Rattle.std.proofs.lemmas.List.Folds.{list_all_at}
-use Rattle.ssb_text.specs.Spelling.{decimal_value, is_numeral, number_of}
+use Rattle.ssb_schema.specs.Numerals.{decimal_value, is_numeral, number_of}
 
 power : (n : ℕ) → 10 ^ (n + 1) ≡ 10 ^ n * 10
 power n = rw (add-one, pow-suc) refl

@@ -1,0 +1,13 @@
+//! The standard streams, as a command line gets them.
+
+use std::io::Print;
+
+/// The standard streams. The errors' stream is shared by the threads that tell faults.
+#[derive(Drop)]
+pub struct Streams<'a, I: Drop, O: Drop, E: Print> {
+    pub input: I,
+    pub output: O,
+    pub errors: &'a E,
+    /// Whether a person sees the errors, and so the progress of a long load.
+    pub shows_progress: bool,
+}
