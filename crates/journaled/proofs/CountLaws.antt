@@ -2,7 +2,7 @@
 use Rattle.std.proofs.Common.{◌≡◌, ℕ, ◌+◌, ◌≤◌, List, [], ◌++◌, length, sym, ◌∙◌, ap, subst, arith, append_assoc, length-append}
 use Rattle.std.proofs.lemmas.List.{append-nil}
 use Rattle.row_store.specs.History.{CommitRecord}
-use Rattle.sealed_journal.specs.declared.head.TableSize.{TableSize}
+use Rattle.ssb_journal.specs.declared.head.TableSize.{TableSize}
 use Rattle.ssb_journal.specs.Kept.{KeepsCommits}
 use Rattle.journaled.specs.Counts.{KeepsAtLeast, KeepsMore}
 

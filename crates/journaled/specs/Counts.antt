@@ -1,7 +1,7 @@
 -- How many commits a journal keeps.
 use Rattle.std.specs.Prelude.{◌≡◌, ◌≤◌, ◌++◌, List, ℕ, length}
 use Rattle.row_store.specs.History.{CommitRecord}
-use Rattle.sealed_journal.specs.declared.head.TableSize.{TableSize}
+use Rattle.ssb_journal.specs.declared.head.TableSize.{TableSize}
 use Rattle.ssb_journal.specs.Kept.{KeepsCommits}
 
 -- a file is a journal, and keeps at least so many commits

@@ -7,12 +7,12 @@ use Rattle.std.proofs.lemmas.Grind.{flat_map-append}
 use Rattle.std.proofs.lemmas.Option.{slice_get-get_or}
 use Rattle.journal.specs.Groups.{lists, recovered, IsBeforeOrAfter}
 use Rattle.row_store.specs.History.{CommitRecord}
-use Rattle.sealed_journal.specs.Seals.{sealed}
-use Rattle.sealed_journal.specs.Texts.{AreSealed, IsJournalOf}
-use Rattle.sealed_journal.specs.Heads.{head_text}
-use Rattle.sealed_journal.specs.declared.head.TableSize.{TableSize}
-use Rattle.sealed_journal.specs.declared.fault.JournalFault.{JournalFault}
-use Rattle.sealed_journal.specs.declared.fault.JournalFault.TheVariants.{Damaged, OutOfMemory}
+use Rattle.ssb_journal.specs.Seals.{sealed}
+use Rattle.ssb_journal.specs.Texts.{AreSealed, IsJournalOf}
+use Rattle.ssb_journal.specs.Heads.{head_text}
+use Rattle.ssb_journal.specs.declared.head.TableSize.{TableSize}
+use Rattle.ssb_journal.specs.declared.fault.JournalFault.{JournalFault}
+use Rattle.ssb_journal.specs.declared.fault.JournalFault.TheVariants.{Damaged, OutOfMemory}
 use Rattle.ssb_audit.specs.declared.trace.Told.{Told}
 use Rattle.ssb_audit.specs.declared.trace.Trace.{Trace}
 use Rattle.ssb_script.specs.declared.error.ScriptError.{ScriptError}

@@ -1,1 +1,4 @@
+pub mod SealLaws
+mod HeadLaws
+mod TextLaws
 pub mod KeptLaws

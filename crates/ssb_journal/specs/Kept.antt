@@ -3,14 +3,14 @@ use Rattle.std.specs.Prelude.{◌≡◌, ◌⊎◌, ◌<◌, List, ℕ, [], ◌�
 use Rattle.std.specs.List.{AllZip, flat_map}
 use Rattle.journal.specs.Groups.{recovered}
 use Rattle.row_store.specs.History.{CommitRecord}
-use Rattle.sealed_journal.specs.Seals.{sealed}
-use Rattle.sealed_journal.specs.Texts.{IsJournalOf}
-use Rattle.sealed_journal.specs.declared.head.TableSize.{TableSize}
+use Rattle.ssb_journal.specs.Seals.{sealed}
+use Rattle.ssb_journal.specs.Texts.{IsJournalOf}
+use Rattle.ssb_journal.specs.declared.head.TableSize.{TableSize}
 use Rattle.ssb_audit.specs.declared.trace.Trace.{Trace}
 use Rattle.ssb_script.specs.declared.error.ScriptError.{ScriptError}
 use Rattle.ssb_script.specs.declared.error.ScriptError.TheVariants as error
-use Rattle.sealed_journal.specs.declared.fault.JournalFault.{JournalFault}
-use Rattle.sealed_journal.specs.declared.fault.JournalFault.TheVariants.{Damaged, OutOfMemory}
+use Rattle.ssb_journal.specs.declared.fault.JournalFault.{JournalFault}
+use Rattle.ssb_journal.specs.declared.fault.JournalFault.TheVariants.{Damaged, OutOfMemory}
 use Rattle.ssb_trace.specs.Traces.{EndsInBlock, IsFirstFault, SpellsTrace}
 
 -- the trace of these commits, without answers

@@ -1,3 +1,6 @@
+pub mod Seals
+pub mod Heads
+pub mod Texts
 pub mod Kept
 pub mod Opening
 pub mod Replays

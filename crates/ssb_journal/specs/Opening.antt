@@ -1,13 +1,13 @@
 -- What the groups of a file are to a journal of commits.
 use Rattle.std.specs.Prelude.{◌≡◌, ◌⊎◌, List, ℕ, [], true, false}
-use Rattle.sealed_journal.specs.Texts.{AreSealed, IsFileFault}
-use Rattle.sealed_journal.specs.declared.head.TableSize.{TableSize}
-use Rattle.sealed_journal.specs.declared.fault.JournalFault.{JournalFault}
+use Rattle.ssb_journal.specs.Texts.{AreSealed, IsFileFault}
+use Rattle.ssb_journal.specs.declared.head.TableSize.{TableSize}
+use Rattle.ssb_journal.specs.declared.fault.JournalFault.{JournalFault}
 use Rattle.ssb_journal.specs.Kept.{IsFirstNoBatch, SpellCommits}
 use Rattle.ssb_journal.specs.declared.opening.Kept.{Kept}
 use Rattle.ssb_journal.specs.declared.opening.OpenFault.{OpenFault}
 use Rattle.ssb_journal.specs.declared.opening.OpenFault.TheVariants.{Disk, Journal}
-use Rattle.sealed_journal.specs.declared.fault.JournalFault.TheVariants.{OutOfMemory}
+use Rattle.ssb_journal.specs.declared.fault.JournalFault.TheVariants.{OutOfMemory}
 use Rattle.journal.specs.Groups.{recovered, behind}
 
 -- groups are a head of these tables, and texts that spell these commits

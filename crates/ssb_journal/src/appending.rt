@@ -3,16 +3,16 @@ ghost use Rattle.std.specs.Prelude.{◌≡◌, ◌⊎◌, ◌<◌, ◌≤◌, �
 ghost use Rattle.std.specs.List.{AllByRecursion};
 ghost use Rattle.journal.specs.Disk.{LeavesOnly};
 ghost use Rattle.row_store.specs.History.{CommitRecord};
-ghost use Rattle.sealed_journal.specs.Seals.{sealed};
-ghost use Rattle.sealed_journal.specs.declared.head.TableSize.{TableSize};
+ghost use Rattle.ssb_journal.specs.Seals.{sealed};
+ghost use Rattle.ssb_journal.specs.declared.head.TableSize.{TableSize};
 ghost use Rattle.ssb_trace.specs.Allowed.{IsClient};
 ghost use Rattle.ssb_trace.specs.TraceText.{trace_text};
 ghost use Rattle.ssb_journal.specs.Kept.{trace_of, IsGroupOf, KeepsCommits, KeepsWithOrWithout};
 
+use crate::checksum::seal;
 use crate::commits::text_of;
 use journal::{Disk, DiskError, Journal, MAX_GROUP};
 use row_store::Commit;
-use sealed_journal::seal;
 use std::alloc::Global;
 
 // Commits as a group: their text behind the line of its checksum.

@@ -6,8 +6,8 @@ ghost use Rattle.ssb_trace.specs.Allowed.{IsClient};
 ghost use Rattle.ssb_trace.specs.TraceText.{trace_text};
 ghost use Rattle.ssb_journal.specs.Kept.{trace_of, SpellsBatch, SpellCommits, SpellsNoBatch, IsFirstNoBatch, batch_fault};
 
+use crate::fault::JournalFault;
 use row_store::Commit;
-use sealed_journal::JournalFault;
 use ssb_audit::Trace;
 use ssb_schema::Items;
 use ssb_script::ScriptError;

@@ -1,11 +1,17 @@
-//! What holds of every journal of commits: the law is the contract of a function that does nothing.
+//! What holds of every journal: each law is the contract of a function that does nothing.
 ghost use Rattle.std.specs.Prelude.{◌≡◌, List, ℕ};
 ghost use Rattle.row_store.specs.History.{CommitRecord};
-ghost use Rattle.sealed_journal.specs.declared.head.TableSize.{TableSize};
+ghost use Rattle.ssb_journal.specs.declared.head.TableSize.{TableSize};
 ghost use Rattle.ssb_journal.specs.Kept.{KeepsCommits};
+ghost use Rattle.ssb_journal.specs.Texts.{IsJournalOf};
 
-use sealed_journal::laws::one_list_of_texts;
 use ssb_trace::one_reading;
+
+/// A file is a journal of one list of texts, over tables of one list of sizes.
+pub fn one_list_of_texts()
+    ensures { (sizes : List TableSize) (file : List ℕ) (texts others : List (List ℕ))
+        → IsJournalOf sizes texts file → IsJournalOf sizes others file → texts ≡ others }
+{}
 
 /// A file keeps one list of commits: so what is read of it is what was appended.
 pub fn one_list_of_commits()

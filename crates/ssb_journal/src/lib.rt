@@ -1,5 +1,13 @@
 //! A journal of commits: what is recovered is the list of commits that was appended, whatever crashes.
 //!
+//! ```text
+//! 1 000000000000179                        a group of `journal`: its gate and its length
+//! 1b2cf535f27731c974343645a3985328         the checksum of the text behind it, by MD5
+//! ssb_live journal 1                       the text of the first group, the head
+//! customer|31800|300                       of each table how many bytes and rows its file has
+//! ..
+//! ```
+//!
 //! [`append_commits`] writes commits as one group: their text, as a trace has it, behind the line of its checksum.
 //! [`open`] reads a file, looks at all of it and writes nothing: it gives the commits that the file keeps, or tells why it
 //! is no journal over these tables. [`replay`] makes them again over the tables, or names the first that is refused. Then
@@ -8,7 +16,8 @@
 //! The contract: a file keeps these commits (`specs/Kept`: `KeepsCommits`) where its groups are the head of these tables
 //! and texts that spell the commits, in order. It keeps one list only (`laws::one_list_of_commits`), so what is read back
 //! is what was appended. A crash at any moment of an append leaves the commits from before, with the new ones all or
-//! without them. `specs/Opening` says why a file is not opened, `specs/Replays` which commit is refused.
+//! without them. `specs/Opening` says why a file is not opened, `specs/Replays` which commit is refused. The proof against
+//! crashes (`journal`) does not lean on checksums: a crash damages no group.
 //!
 //! ```text
 //! let Opened { found, kept, torn } = open(alloc, &sizes, disk)?;
@@ -20,11 +29,19 @@
 #![tactic(auto)]
 
 mod appending;
+mod checksum;
 mod commits;
+mod fault;
+mod head;
 pub mod laws;
 mod opening;
 mod replaying;
+mod texts;
 
 pub use appending::append_commits;
+pub use checksum::{CHECKSUM_LINE, seal};
+pub use fault::JournalFault;
+pub use head::{TableSize, head_of};
 pub use opening::{Kept, OpenFault, Opened, begin, open};
 pub use replaying::{ReplayFault, replay};
+pub use texts::texts_of;

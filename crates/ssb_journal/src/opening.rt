@@ -2,16 +2,19 @@
 ghost use Rattle.std.specs.Prelude.{◌≡◌, ◌⊎◌, ◌<◌, [], true, false, IfOk, IfErr};
 ghost use Rattle.journal.specs.Disk.{Only, LeavesOnly};
 ghost use Rattle.journal.specs.Groups.{recovered, behind, lists};
-ghost use Rattle.sealed_journal.specs.Texts.{IsJournalOf};
-ghost use Rattle.sealed_journal.specs.Heads.{head_text};
-ghost use Rattle.sealed_journal.specs.Seals.{sealed};
+ghost use Rattle.ssb_journal.specs.Texts.{IsJournalOf};
+ghost use Rattle.ssb_journal.specs.Heads.{head_text};
+ghost use Rattle.ssb_journal.specs.Seals.{sealed};
 ghost use Rattle.ssb_journal.specs.Kept.{IsAsItWasOrNew, KeepsCommits};
 ghost use Rattle.ssb_journal.specs.Opening.{IsKept, IsOpenFault, TellsOpenFault};
 
+use crate::checksum::seal;
 use crate::commits::commits_of;
+use crate::fault::JournalFault;
+use crate::head::{TableSize, head_of};
+use crate::texts::texts_of;
 use journal::{Contents, Disk, DiskError, Found, Journal, MAX_GROUP};
 use row_store::Commit;
-use sealed_journal::{JournalFault, TableSize, head_of, seal, texts_of};
 use std::alloc::{AllocError, Global};
 use thiserror::Error;
 

@@ -4,7 +4,7 @@ use Rattle.journal.specs.Groups.{recovered, IsBeforeOrAfter}
 use Rattle.journal.proofs.MomentLaws.{leaves}
 use Rattle.journal.specs.declared.disk.DiskError.{DiskError}
 use Rattle.row_store.specs.History.{CommitRecord}
-use Rattle.sealed_journal.specs.declared.head.TableSize.{TableSize}
+use Rattle.ssb_journal.specs.declared.head.TableSize.{TableSize}
 use Rattle.ssb_journal.specs.Kept.{IsGroupOf, KeepsCommits, KeepsWithOrWithout}
 use Rattle.ssb_journal.proofs.KeptLaws.{if_ok, if_err, keeps_more, keeps_either}
 use Rattle.ssb_journal.proofs.appending.append_commits.Goals as goal

@@ -1,7 +1,7 @@
 use Rattle.std.proofs.Common.{◌≡◌, ◌<◌, ℕ, List, refl, sym, subst, inr, length, arith}
 use Rattle.std.specs.Prelude.{◌⊎◌}
-use Rattle.sealed_journal.specs.declared.fault.JournalFault.{JournalFault}
-use Rattle.sealed_journal.specs.declared.fault.JournalFault.TheVariants.{Damaged, OutOfMemory}
+use Rattle.ssb_journal.specs.declared.fault.JournalFault.{JournalFault}
+use Rattle.ssb_journal.specs.declared.fault.JournalFault.TheVariants.{Damaged, OutOfMemory}
 use Rattle.ssb_journal.specs.Kept.{SpellsNoBatch}
 use Rattle.ssb_journal.proofs.KeptLaws.{no_trace, batch_spelled}
 use Rattle.ssb_journal.proofs.commits.batch_of.Goals as goal

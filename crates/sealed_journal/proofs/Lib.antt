@@ -1,3 +1,0 @@
-mod HeadLaws
-pub mod SealLaws
-mod TextLaws

@@ -1,3 +1,0 @@
-pub mod Heads
-pub mod Seals
-pub mod Texts

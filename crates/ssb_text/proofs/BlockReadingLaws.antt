@@ -1,0 +1,24 @@
+-- What a read puts behind the bytes that are there.
+use Rattle.std.proofs.Common.{◌≡◌, ◌≤◌, ◌+◌, ℕ, List, ◌++◌, length, take, drop, take_at, Option, refl, sym, ◌∙◌, arith}
+use Rattle.std.proofs.Math.Seq.{take-add}
+use Rattle.std.proofs.lemmas.List.{take_all, length-drop, length-take-le}
+use Rattle.std.specs.Io.KnownBytes.{Consumes, IsAtEnd}
+use Rattle.ssb_text.specs.BlockReading.{ReadsMore}
+
+-- bytes that are made longer have the same front
+pub front_kept : (before pad : List ℕ) (from more : ℕ) → from ≡ length before
+    → take from (take (from + more) before ++ pad) ≡ before
+front_kept before pad from more long =
+    rw (take_all (from + more) before (omega arith)) (take_at before pad from (sym long))
+
+-- so many of the bytes behind the front were read
+pub reads_behind : (old new : Option (List ℕ)) (before bytes : List ℕ) (from count : ℕ) → take from bytes ≡ before
+    → from + count ≤ length bytes → Consumes old new (take count (drop from bytes)) → (count ≡ 0 → IsAtEnd new)
+    → ReadsMore old new before (take (from + count) bytes) count
+reads_behind old new before bytes from count front within consumed ended = record {
+  bytes = take count (drop from bytes);
+  behind = take-add from count bytes ∙ rw front refl;
+  counted = length-take-le count (drop from bytes) (omega (arith, length-drop from bytes));
+  consumed = consumed;
+  ended = ended;
+}

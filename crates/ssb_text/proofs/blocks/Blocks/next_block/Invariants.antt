@@ -1,0 +1,10 @@
+use Rattle.std.proofs.Common.{◌≡◌, []}
+use Rattle.ssb_text.specs.Blocks.{bytes_left}
+use Rattle.ssb_text.proofs.BlockLaws.{BlockSoFar}
+use Rattle.ssb_text.proofs.blocks.Blocks.next_block.Given as goal
+
+abbrev pub invariant-loop : goal.invariant-loop
+invariant-loop g l = record {
+  none : l.self.carry.items ≡ [];
+  so_far : BlockSoFar (bytes_left g.R.Read.remaining l.fn.self) (g.R.Read.remaining l.self.source) l.block.items;
+}

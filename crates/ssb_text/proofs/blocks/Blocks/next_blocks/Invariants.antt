@@ -1,0 +1,10 @@
+use Rattle.std.proofs.Common.{◌≡◌, map, length}
+use Rattle.ssb_text.specs.Blocks.{GivesBlocks, bytes_left}
+use Rattle.ssb_text.proofs.blocks.Blocks.next_blocks.Given as goal
+
+abbrev pub invariant-loop : goal.invariant-loop
+invariant-loop g l = record {
+  count : length l.blocks.items ≡ l.counter;
+  given : GivesBlocks (bytes_left g.R.Read.remaining l.fn.self) (bytes_left g.R.Read.remaining l.self)
+      (map (λ block. block.items) l.blocks.items);
+}

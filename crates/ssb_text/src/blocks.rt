@@ -1,0 +1,150 @@
+//! A source's bytes in blocks of some megabytes, each cut before a line feed.
+//!
+//! A block is cut *before* its last line feed, not behind it. So each block but the first begins with a line feed, which
+//! gives no record, and no block but the first can begin with a byte order mark, which a reader would drop. Who parses
+//! blocks side by side then need ask nothing of what stands on either side of a cut. A text without line feeds is one
+//! block.
+
+ghost use Rattle.std.specs.Prelude.{◌≡◌, ◌<◌, ◌≤◌, ◌+◌, ℕ, List, Some, IfOk, IfSome, MatchOption, length, map, slice_index, take, drop, vec_len};
+ghost use Rattle.std.specs.Io.KnownBytes.{Consumes, IsAtEnd};
+ghost use Rattle.ssb_text.specs.BlockReading.{ReadsMore};
+
+use std::alloc::Global;
+use std::io::Read;
+use std::mem;
+
+/// Why a block could not be read.
+#[derive(Clone, Copy, Debug, PartialEq, Eq)]
+pub enum BlockError {
+    /// The source failed.
+    Read,
+    /// Memory ran out.
+    OutOfMemory,
+}
+
+/// The bytes of a source, given block by block. Each block but the first begins with a line feed.
+#[derive(Drop)]
+pub struct Blocks<R> {
+    source: R,
+    // What was read behind the last block.
+    carry: Vec<u8>,
+    // How many bytes are asked of the source at once, and how many at most.
+    asked: u32,
+    most: u32,
+}
+
+// How many bytes are asked of a source at first. It is twice as many each time that the source gives them all: so a
+// short text takes little memory.
+const FIRST: u32 = 4096;
+
+// How many bytes are asked next, where so many came of those that were asked.
+fn next_asked(asked: u32, most: u32, count: usize) -> u32 {
+    if count < asked as usize {
+        return asked;
+    }
+    asked.saturating_mul(2).min(most)
+}
+
+// Reads into the bytes from a place on.
+fn read_at<R: Read>(source: &mut R, bytes: &mut [u8], from: usize) -> Result<usize, BlockError>
+    requires { from < length bytes.old }
+    ensures front { take from bytes.new ≡ take from bytes.old }
+    ensures within { IfOk result (λ count. from + count ≤ length bytes.new) }
+    ensures bytes { IfOk result (λ count. Consumes (R.remaining source.old) (R.remaining source.new)
+        (take count (drop from bytes.new))) }
+    ensures end { IfOk result (λ count. count ≡ 0 → IsAtEnd (R.remaining source.new)) }
+{
+    match source.read(&mut bytes[from..]) {
+        Ok(count) => Ok(count),
+        Err(_) => Err(BlockError::Read),
+    }
+}
+
+// Asks for so many bytes behind those that are there, for one at least, and says how many came: none only at the end of
+// the source.
+fn read_more<R: Read>(source: &mut R, bytes: &mut Vec<u8>, size: u32) -> Result<usize, BlockError>
+    ensures { IfOk result (ReadsMore (R.remaining source.old) (R.remaining source.new) bytes.old.items
+        bytes.new.items) }
+{
+    let from = bytes.len();
+    if bytes.resize(from + size.max(1) as usize, 0).is_err() {
+        return Err(BlockError::OutOfMemory);
+    }
+    let count = read_at(source, bytes.as_mut_slice(), from)?;
+    bytes.truncate(from + count);
+    Ok(count)
+}
+
+// The place of the last line feed.
+fn last_feed(bytes: &[u8]) -> Option<usize>
+    ensures within { IfSome result (λ at. at < length bytes.now) }
+    ensures feed { IfSome result (λ at. slice_index bytes.now at ≡ 10) }
+{
+    bytes.iter().rposition(|b| *b == b'\n')
+}
+
+impl<R: Read> Blocks<R> {
+    ghost use Rattle.ssb_text.specs.Blocks.{GivesBlock, GivesBlocks, WasAll, bytes_left};
+
+    /// The blocks of a source, of which none was given. At most so many bytes are asked of it at once, and one at least:
+    /// a block has about as many where the source gives them and its lines are shorter.
+    pub fn new(alloc: Global, source: R, most: u32) -> Blocks<R>
+        ensures { (text : List ℕ) → R.remaining source ≡ Some text → bytes_left R.remaining result ≡ Some text }
+    {
+        Blocks {
+            source,
+            carry: Vec::new(alloc),
+            asked: FIRST.min(most),
+            most,
+        }
+    }
+
+    /// The next block, or none where all bytes were given. After an error there are no more to be asked for.
+    pub fn next_block(&mut self, alloc: Global) -> Result<Option<Vec<u8>>, BlockError>
+        ensures { IfOk result (λ found. MatchOption found (WasAll (bytes_left R.remaining self.old) (bytes_left R.remaining self.new))
+            (λ block. GivesBlock (bytes_left R.remaining self.old) (bytes_left R.remaining self.new) block.items)) }
+    {
+        let mut block = mem::replace(&mut self.carry, Vec::new(alloc));
+        for _ in 0..u64::MAX {
+            let from = block.len();
+            let count = read_more(&mut self.source, &mut block, self.asked)?;
+            self.asked = next_asked(self.asked, self.most, count);
+            if count == 0 {
+                if block.is_empty() {
+                    return Ok(None);
+                }
+                return Ok(Some(block));
+            }
+            if let Some(at) = last_feed(&block[from..]) {
+                let Ok(carry) = block.split_off(from + at) else {
+                    return Err(BlockError::OutOfMemory);
+                };
+                self.carry = carry;
+                return Ok(Some(block));
+            }
+        }
+        Err(BlockError::Read)
+    }
+
+    /// The next blocks, up to so many: none where all bytes were given.
+    pub fn next_blocks(&mut self, alloc: Global, count: usize) -> Result<Vec<Vec<u8>>, BlockError>
+        requires { 0 < count }
+        ensures given { IfOk result (λ blocks. GivesBlocks (bytes_left R.remaining self.old)
+            (bytes_left R.remaining self.new) (map (λ block. block.items) blocks.items)) }
+        ensures ended { IfOk result (λ blocks. vec_len blocks ≡ 0
+            → WasAll (bytes_left R.remaining self.old) (bytes_left R.remaining self.new)) }
+    {
+        let mut blocks = Vec::new(alloc);
+        for _ in 0..count {
+            match self.next_block(alloc)? {
+                Some(block) => {
+                    if blocks.push(block).is_err() {
+                        return Err(BlockError::OutOfMemory);
+                    }
+                }
+                None => return Ok(blocks),
+            }
+        }
+        Ok(blocks)
+    }
+}
