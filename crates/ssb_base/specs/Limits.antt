@@ -10,7 +10,11 @@ abbrev pub most_lines : ℕ
 most_lines = 33554432
 
 abbrev pub most_commits : ℕ
-most_commits = 1000000
+most_commits = 1000000000
+
+-- the most of a warehouse whose history is kept whole beside it
+abbrev pub standard_commits : ℕ
+standard_commits = 1000000
 
 pub record AreLimits (dimension_rows lines commits : ℕ) : Type 0 where
   pub dimension_rows_range : (1 ≤ dimension_rows) × (dimension_rows ≤ most_dimension_rows)

@@ -21,4 +21,4 @@ mod places;
 
 pub use base::{Base, BaseError, BaseParts};
 pub use dimension::Dimension;
-pub use limits::{Limits, MOST_COMMITS, MOST_DIMENSION_ROWS, MOST_LINES};
+pub use limits::{Limits, MOST_COMMITS, MOST_DIMENSION_ROWS, MOST_LINES, STANDARD_COMMITS};

@@ -9,7 +9,10 @@ pub const MOST_DIMENSION_ROWS: usize = 1_048_576;
 pub const MOST_LINES: usize = 33_554_432;
 
 /// The greatest number of commits.
-pub const MOST_COMMITS: u64 = 1_000_000;
+pub const MOST_COMMITS: u64 = 1_000_000_000;
+
+/// How many commits a warehouse may have whose history is kept whole beside it, as a run's in its trace.
+pub const STANDARD_COMMITS: u64 = 1_000_000;
 
 /// How many rows each dimension, how many live lines and how many commits a warehouse may have.
 #[derive(Clone, Copy, Debug, PartialEq, Eq)]
@@ -18,18 +21,18 @@ pub struct Limits {
     pub dimension_rows: usize,
     /// Live lines, up to 33,554,432.
     pub lines: usize,
-    /// Commits, 1 to 1,000,000.
+    /// Commits, 1 to 1,000,000,000.
     pub commits: u64,
     ghost dimension_rows_range: { (1 ≤ dimension_rows) × (dimension_rows ≤ 1048576) },
     ghost lines_range: { lines ≤ 33554432 },
-    ghost commits_range: { (1 ≤ commits) × (commits ≤ 1000000) },
+    ghost commits_range: { (1 ≤ commits) × (commits ≤ 1000000000) },
 }
 
 impl Limits {
-    ghost use Rattle.ssb_base.specs.Limits.{AreLimits, limits_of, most_dimension_rows, most_lines, most_commits};
+    ghost use Rattle.ssb_base.specs.Limits.{AreLimits, limits_of, most_dimension_rows, most_lines, most_commits, standard_commits};
 
     /// These limits; none unless there are 1 to 1,048,576 rows of a dimension, up to 33,554,432 lines and 1 to
-    /// 1,000,000 commits.
+    /// 1,000,000,000 commits.
     pub fn new(dimension_rows: usize, lines: usize, commits: u64) -> Option<Limits>
         ensures given { IsSome result ↔ AreLimits dimension_rows lines commits }
         ensures values { IfSome result (λ limits. limits_of limits ≡ (dimension_rows, lines, commits)) }
@@ -47,8 +50,19 @@ impl Limits {
         })
     }
 
-    /// The greatest limits.
+    /// The greatest limits of a warehouse whose history is kept whole beside it.
     pub fn standard() -> Limits
+        ensures { limits_of result ≡ (most_dimension_rows, most_lines, standard_commits) }
+    {
+        Limits {
+            dimension_rows: MOST_DIMENSION_ROWS,
+            lines: MOST_LINES,
+            commits: STANDARD_COMMITS,
+        }
+    }
+
+    /// The greatest limits.
+    pub fn greatest() -> Limits
         ensures { limits_of result ≡ (most_dimension_rows, most_lines, most_commits) }
     {
         Limits {

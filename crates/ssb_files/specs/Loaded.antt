@@ -4,19 +4,33 @@ use Rattle.ssb_files.specs.Status.{data_status}
 use Rattle.ssb_text.specs.Load.{IsLoadFault, SpellsBase}
 use Rattle.ssb_text.specs.declared.error.LoadError.{LoadError}
 use Rattle.ssb_base.specs.Base.{Tables}
-use Rattle.ssb_base.specs.Limits.{limits_of}
+use Rattle.ssb_base.specs.Limits.{limits_of, most_commits, most_dimension_rows, most_lines, standard_commits}
 use Rattle.ssb_base.specs.declared.limits.Limits.{Limits}
 use Rattle.ssb_schema.specs.declared.table.Table.{Table}
 
--- the five texts spell this base, within the greatest limits
-pub record IsLoaded (texts : Table → List ℕ) (base : Tables) : Type 0 where
-  pub limited : limits_of base.limits ≡ (1048576, 33554432, 1000000)
+-- the five texts spell this base, within the greatest limits, with up to so many commits
+pub record IsLoadedFor (commits : ℕ) (texts : Table → List ℕ) (base : Tables) : Type 0 where
+  pub limited : limits_of base.limits ≡ (most_dimension_rows, most_lines, commits)
   pub spelled : SpellsBase texts base
 
 -- the five texts are refused: they have a fault, which is no failed read and no want of memory
-pub record AreRefused (texts : Table → List ℕ) : Type 0 where
+pub record AreRefusedFor (commits : ℕ) (texts : Table → List ℕ) : Type 0 where
   pub limits : Limits
-  pub limited : limits_of limits ≡ (1048576, 33554432, 1000000)
+  pub limited : limits_of limits ≡ (most_dimension_rows, most_lines, commits)
   pub fault : LoadError
   pub first : IsLoadFault limits texts fault
   pub of_data : data_status fault ≡ 1
+
+-- the same for a warehouse whose history is kept whole beside it
+abbrev pub IsLoaded : (Table → List ℕ) → Tables → Type 0
+IsLoaded texts base = IsLoadedFor standard_commits texts base
+
+abbrev pub AreRefused : (Table → List ℕ) → Type 0
+AreRefused texts = AreRefusedFor standard_commits texts
+
+-- the same for one that is served live
+abbrev pub IsLoadedToServe : (Table → List ℕ) → Tables → Type 0
+IsLoadedToServe texts base = IsLoadedFor most_commits texts base
+
+abbrev pub AreRefusedToServe : (Table → List ℕ) → Type 0
+AreRefusedToServe texts = AreRefusedFor most_commits texts

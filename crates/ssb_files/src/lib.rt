@@ -10,8 +10,8 @@
 //! failed read, failed write, want of memory ─▶ 4              each with one line: ssb_live: WHAT
 //! ```
 //!
-//! The contracts: [`base_of`] gives the base that the texts spell, within the greatest limits, or a fault that they
-//! have (`specs/Loaded.antt`); [`read_scripts`] the scripts, or the first fault (`specs/Scripts.antt`); a reader that is
+//! The contracts: [`base_of`] and [`base_to_serve`] give the base that the texts spell, or a fault that they have
+//! (`specs/Loaded.antt`); [`read_scripts`] the scripts, or the first fault (`specs/Scripts.antt`); a reader that is
 //! watched gives the bytes of the reader in it; [`Fault::status`] is that of the fault (`specs/Status.antt`). What only
 //! one job finds, as what speaks against a trace, is its [`Finding`] in a [`JobFault`]. That a file is opened, and what a
 //! terminal shows, is only tested.
@@ -32,7 +32,7 @@ mod reading;
 
 pub use fault::Fault;
 pub use job::{Finding, JobFault};
-pub use loading::base_of;
+pub use loading::{base_of, base_to_serve};
 pub use opening::{make_file, open_file, open_files, open_tables};
 pub use progress::{InputSource, Screen, Watched, watch, watch_scripts, watch_tables};
 pub use reading::read_scripts;
