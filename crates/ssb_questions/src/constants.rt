@@ -61,67 +61,94 @@ impl Constant {
     }
 }
 
-// The constants that a query has where none are given, as they stand in the program.
+// The constants that each query has where none are given.
+const Q1_1: &[Constant] = &[Number(1993), Number(1), Number(3), Number(0), Number(24)];
+
+const Q1_2: &[Constant] = &[Number(199401), Number(4), Number(6), Number(26), Number(35)];
+
+const Q1_3: &[Constant] = &[
+    Number(6),
+    Number(1994),
+    Number(5),
+    Number(7),
+    Number(26),
+    Number(35),
+];
+
+const Q2_1: &[Constant] = &[Name("MFGR#12"), Name("AMERICA")];
+
+const Q2_2: &[Constant] = &[Name("MFGR#2221"), Name("MFGR#2228"), Name("ASIA")];
+
+const Q2_3: &[Constant] = &[Name("MFGR#2239"), Name("EUROPE")];
+
+const Q3_1: &[Constant] = &[Name("ASIA"), Name("ASIA"), Number(1992), Number(1997)];
+
+const Q3_2: &[Constant] = &[
+    Name("UNITED STATES"),
+    Name("UNITED STATES"),
+    Number(1992),
+    Number(1997),
+];
+
+const Q3_3: &[Constant] = &[
+    Name("UNITED KI1"),
+    Name("UNITED KI5"),
+    Name("UNITED KI1"),
+    Name("UNITED KI5"),
+    Number(1992),
+    Number(1997),
+];
+
+const Q3_4: &[Constant] = &[
+    Name("UNITED KI1"),
+    Name("UNITED KI5"),
+    Name("UNITED KI1"),
+    Name("UNITED KI5"),
+    Name("Dec1997"),
+];
+
+const Q4_1: &[Constant] = &[
+    Name("AMERICA"),
+    Name("AMERICA"),
+    Name("MFGR#1"),
+    Name("MFGR#2"),
+];
+
+const Q4_2: &[Constant] = &[
+    Name("AMERICA"),
+    Name("AMERICA"),
+    Name("MFGR#1"),
+    Name("MFGR#2"),
+    Number(1997),
+    Number(1998),
+];
+
+const Q4_3: &[Constant] = &[
+    Name("AMERICA"),
+    Name("UNITED STATES"),
+    Number(1997),
+    Number(1998),
+    Name("MFGR#14"),
+];
+
+// Those of a query, as they stand in the program.
 fn standard(query: Query) -> &'static [Constant]
     ensures { map constant_value result.now ≡ standard_constants query }
 {
     match query {
-        Query::Q1_1 => &[Number(1993), Number(1), Number(3), Number(0), Number(24)],
-        Query::Q1_2 => &[Number(199401), Number(4), Number(6), Number(26), Number(35)],
-        Query::Q1_3 => &[
-            Number(6),
-            Number(1994),
-            Number(5),
-            Number(7),
-            Number(26),
-            Number(35),
-        ],
-        Query::Q2_1 => &[Name("MFGR#12"), Name("AMERICA")],
-        Query::Q2_2 => &[Name("MFGR#2221"), Name("MFGR#2228"), Name("ASIA")],
-        Query::Q2_3 => &[Name("MFGR#2239"), Name("EUROPE")],
-        Query::Q3_1 => &[Name("ASIA"), Name("ASIA"), Number(1992), Number(1997)],
-        Query::Q3_2 => &[
-            Name("UNITED STATES"),
-            Name("UNITED STATES"),
-            Number(1992),
-            Number(1997),
-        ],
-        Query::Q3_3 => &[
-            Name("UNITED KI1"),
-            Name("UNITED KI5"),
-            Name("UNITED KI1"),
-            Name("UNITED KI5"),
-            Number(1992),
-            Number(1997),
-        ],
-        Query::Q3_4 => &[
-            Name("UNITED KI1"),
-            Name("UNITED KI5"),
-            Name("UNITED KI1"),
-            Name("UNITED KI5"),
-            Name("Dec1997"),
-        ],
-        Query::Q4_1 => &[
-            Name("AMERICA"),
-            Name("AMERICA"),
-            Name("MFGR#1"),
-            Name("MFGR#2"),
-        ],
-        Query::Q4_2 => &[
-            Name("AMERICA"),
-            Name("AMERICA"),
-            Name("MFGR#1"),
-            Name("MFGR#2"),
-            Number(1997),
-            Number(1998),
-        ],
-        Query::Q4_3 => &[
-            Name("AMERICA"),
-            Name("UNITED STATES"),
-            Number(1997),
-            Number(1998),
-            Name("MFGR#14"),
-        ],
+        Query::Q1_1 => Q1_1,
+        Query::Q1_2 => Q1_2,
+        Query::Q1_3 => Q1_3,
+        Query::Q2_1 => Q2_1,
+        Query::Q2_2 => Q2_2,
+        Query::Q2_3 => Q2_3,
+        Query::Q3_1 => Q3_1,
+        Query::Q3_2 => Q3_2,
+        Query::Q3_3 => Q3_3,
+        Query::Q3_4 => Q3_4,
+        Query::Q4_1 => Q4_1,
+        Query::Q4_2 => Q4_2,
+        Query::Q4_3 => Q4_3,
     }
 }
 
