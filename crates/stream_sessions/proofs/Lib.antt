@@ -1,0 +1,3 @@
+mod AnswerLaws
+mod SessionLaws
+mod EndLaws

@@ -1,0 +1,4 @@
+pub mod FaultLine
+pub mod Answers
+pub mod Session
+pub mod Steps
