@@ -116,7 +116,7 @@ of_requests (one ∷ requests) = of_request one (lines_of_requests requests)
     ∙ ap (λ rest. one ∷ rest) (of_requests requests)
 
 -- the records of a text are one list
-one_list : (cfg : Config) (s s1 s2 : State) (text ys zs : List ℕ) (one other : List (List (List ℕ)))
+pub one_list : (cfg : Config) (s s1 s2 : State) (text ys zs : List ℕ) (one other : List (List (List ℕ)))
     → Reached cfg s text one s1 ys → next_record cfg s1 [] [] ys ≡ None → Reached cfg s text other s2 zs
     → next_record cfg s2 [] [] zs ≡ None → one ≡ other
 unfolding Reached
@@ -136,11 +136,11 @@ one_list cfg s s1 s2 text ys zs (r ∷ one) (q ∷ other) a enda b endb =
     rw (first, later) refl
 
 -- the lines that results give
-abbrev given : Result ScriptLine RecordFault → ScriptLine
+abbrev pub given : Result ScriptLine RecordFault → ScriptLine
 given (Ok l) = l
 given (Err e) = line.Begin
 
-all_given : (lines : List ScriptLine) → map given (map Ok lines) ≡ lines
+pub all_given : (lines : List ScriptLine) → map given (map Ok lines) ≡ lines
 all_given [] = refl
 all_given (l ∷ lines) = ap (λ rest. l ∷ rest) (all_given lines)
 
