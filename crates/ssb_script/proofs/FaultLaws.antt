@@ -476,15 +476,17 @@ outside_is (begun.Order order) e = absurd cc
 no_open_end : (most : ℕ) (text : List ℕ) (wanted : List RequestRecord) → SpellsScript most text wanted
     → EndsInRefresh most text → ⊥
 no_open_end most text wanted a b =
-    let records : a.records ≡ b.records = one_list record_config st.StartRecord a.all.0 b.all.0 (strip_bom text) a.all.1
-    b.all.1 a.records b.records a.all.2 a.all.3 b.all.2 b.all.3 in
+    let records : a.records ≡ b.records =
+    one_list record_config st.StartRecord a.all.0 b.all.0 (strip_bom text) a.all.1 b.all.1 a.records b.records
+    a.all.2 a.all.3 b.all.2 b.all.3 in
     let begun_lines = lines_of_requests b.requests ++ lines_of_begun b.begun in
     let results : map Ok (lines_of_requests wanted) ≡ map Ok begun_lines =
     sym a.spelled ∙ (ap (map line_of) records ∙ b.spells.spelled) in
     let lines : lines_of_requests wanted ≡ begun_lines =
     sym (all_given (lines_of_requests wanted)) ∙ (ap (map given) results ∙ all_given begun_lines) in
     let stands : stand_of b.begun ≡ Outside =
-    sym (behind_all b.requests b.begun b.spells.settled) ∙ (ap (behind Outside) (sym lines) ∙ behind_requests wanted) in
+    sym (behind_all b.requests b.begun b.spells.settled)
+    ∙ (ap (behind Outside) (sym lines) ∙ behind_requests wanted) in
     let outside = outside_is b.begun stands in
     let inside = b.inside in
     absurd cc

@@ -9,7 +9,7 @@ abbrev pub HasOneReading : List ℕ → Type 0
 HasOneReading text = (most more : ℕ) (one other : List RequestRecord) → SpellsScript most text one
     → SpellsScript more text other → one ≡ other
 
--- a text that spells a script has no fault: no record of it is a first one with a fault, and no refresh is begun at its end
+-- a text that spells a script has no fault: no record of it is the first with one, and it ends in no refresh
 abbrev pub HasNoFaultIfSpelled : List ℕ → Type 0
 HasNoFaultIfSpelled text = (most : ℕ) (wanted : List RequestRecord) → SpellsScript most text wanted
     → ((fault : ScriptError) → IsFirstFault most text fault → ⊥) × (EndsInRefresh most text → ⊥)
