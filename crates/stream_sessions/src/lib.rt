@@ -11,6 +11,9 @@
 //! changed nothing (`specs/Answers.antt`); the client went through exactly those, in order; and this text was written.
 //! A session that breaks says how many requests were answered.
 //!
+//! A law (`specs/WholeScripts.antt`): a legal script without lone CRs and byte order marks has the replies of the whole
+//! script though it is answered request by request.
+//!
 //! ```text
 //! let served = serve_session(rt, alloc, &server, &mut client, &mut input, &mut output)?;
 //! ```
@@ -19,6 +22,7 @@
 mod answer;
 mod fault_line;
 mod held;
+pub mod laws;
 mod outcome;
 mod session;
 mod step;
