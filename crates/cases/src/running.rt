@@ -33,6 +33,7 @@ where
     let screen = Screen::new(errors.writer()?);
     let streams = Streams {
         input: Breaking::new(command.input.as_slice(), command.break_of("input")),
+        is_typed: false,
         output: output.writer()?,
         errors: &screen,
         shows_progress: false,

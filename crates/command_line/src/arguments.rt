@@ -60,6 +60,40 @@ taken back. It prints 'ok C A', the numbers of commits and of answers, or tells 
 Example:
   ssb_live audit --data tables run.trace";
 
+const SERVE_HELP: &str = "\
+Loads the five table files of a folder and serves clients as their requests come, until all have ended. Without --client
+there is one, on standard input and output. Each --client, 1 to 16 of them, is read from IN and answered to OUT: named
+pipes (mkfifo) or files, opened in a thread of its own, OUT first. An OUT that is not there is made, a file is emptied.
+
+A client sends the records of a script: a line 'query|NAME' or 'query|NAME|CONSTANT..', or the lines from 'begin' through
+'commit', is a request, and has its reply before the next is waited for: one line, or a line that tells how many rows
+follow. A request with a fault is answered 'fault: ..', and does nothing. The end of the input ends the session. On a
+terminal the word 'help' shows the queries and their constants.
+
+Examples:
+  ssb_live serve --data tables
+  mkfifo in out; ssb_live serve --data tables --keep --client in out";
+
+/// What the word `help` shows on the terminal of a live session.
+pub const TERMINAL_HELP: &str = "\
+query|NAME or query|NAME|CONSTANT.. asks. begin, then add or amend with line|.. records, and withdraw|KEY, then commit
+is one refresh. The end of the input (Ctrl-D) ends the session. The queries, and their constants in order:
+
+  Q1.1        year; discount from, to; quantity from, to
+  Q1.2        year and month, as 199401; discount from, to; quantity from, to
+  Q1.3        week; year; discount from, to; quantity from, to
+  Q2.1        category; supplier region
+  Q2.2        brand from, to; supplier region
+  Q2.3        brand; supplier region
+  Q3.1        customer region; supplier region; year from, to
+  Q3.2        customer nation; supplier nation; year from, to
+  Q3.3        two customer cities; two supplier cities; year from, to
+  Q3.4        two customer cities; two supplier cities; year and month, as Dec1997
+  Q4.1        customer region; supplier region; two manufacturers
+  Q4.2        as Q4.1; two years
+  Q4.3        customer region; supplier nation; two years; category
+";
+
 // The folder of the five table files.
 fn data_argument<'a>(alloc: Global) -> Arg<'a> {
     Arg::new(alloc, "data")
@@ -120,15 +154,19 @@ fn query_command<'a>(alloc: Global) -> Result<Command<'a>, AllocError> {
         .arg(constants)
 }
 
-// The words of `run`.
-fn run_command<'a>(alloc: Global) -> Result<Command<'a>, AllocError> {
-    let dispatchers = Arg::new(alloc, "dispatchers")
+// How many dispatchers there are.
+fn dispatchers_argument<'a>(alloc: Global) -> Arg<'a> {
+    Arg::new(alloc, "dispatchers")
         .long("dispatchers")
         .value_name("N")
         .help("How many dispatchers answer the questions, each in a thread of its own: 1 to 4")
         .value_parser(value_parser!(u32).range(1..5))
         .default_value("1")
-        .action(ArgAction::Set);
+        .action(ArgAction::Set)
+}
+
+// The words of `run`.
+fn run_command<'a>(alloc: Global) -> Result<Command<'a>, AllocError> {
     let trace = Arg::new(alloc, "trace")
         .long("trace")
         .value_name("FILE")
@@ -149,11 +187,33 @@ fn run_command<'a>(alloc: Global) -> Result<Command<'a>, AllocError> {
         .about("Serves scripts at once, a client each, and prints their reports")
         .long_about(RUN_HELP)
         .arg(data_argument(alloc))?
-        .arg(dispatchers)?
+        .arg(dispatchers_argument(alloc))?
         .arg(trace)?
         .arg(times)?
         .arg(quiet_argument(alloc))?
         .arg(scripts)
+}
+
+// The words of `serve`.
+fn serve_command<'a>(alloc: Global) -> Result<Command<'a>, AllocError> {
+    let clients = Arg::new(alloc, "clients")
+        .long("client")
+        .value_names(&["IN", "OUT"])
+        .help("A client, by what it is read from and what it is answered to; 1 to 16 times")
+        .num_args(2)
+        .action(ArgAction::Append);
+    let keep = Arg::new(alloc, "keep")
+        .long("keep")
+        .help("Opens a client's named pipes again for its next session; a signal ends the server")
+        .action(ArgAction::SetTrue);
+    Command::new(alloc, "serve")
+        .about("Serves clients as their requests come: standard input and output, or named pipes")
+        .long_about(SERVE_HELP)
+        .arg(data_argument(alloc))?
+        .arg(dispatchers_argument(alloc))?
+        .arg(clients)?
+        .arg(keep)?
+        .arg(quiet_argument(alloc))
 }
 
 // The words of `audit`.
@@ -181,6 +241,7 @@ fn command<'a>(alloc: Global) -> Result<Command<'a>, AllocError> {
         )
         .subcommand(query_command(alloc)?)?
         .subcommand(run_command(alloc)?)?
+        .subcommand(serve_command(alloc)?)?
         .subcommand(audit_command(alloc)?)
 }
 

@@ -1,16 +1,18 @@
 //! What the words of a command line do.
 
-use crate::arguments::{matches, tell};
+use crate::arguments::{TERMINAL_HELP, matches, tell};
 use crate::streams::Streams;
 use audit_command::run_audit;
 use clap::ArgMatches;
 use query_command::{Settings, run_all, run_query};
 use run_command::{RunSettings, demo, run_scripts};
+use serve_command::{EndPaths, Prompted, ServeSettings, serve_clients, serve_stream};
 use ssb_files::{
     Fault, InputSource, Screen, make_file, open_file, open_files, open_tables, watch,
     watch_scripts, watch_tables,
 };
 use ssb_text::Tables;
+use std::alloc::Global;
 use std::hash::RandomState;
 use std::io;
 use std::io::{BufWriter, Print, Read, Write};
@@ -129,6 +131,88 @@ where
     run_scripts(rt, settings, tables, scripts, out, &mut trace, err)
 }
 
+// The ends of the clients that the words name, each IN and OUT in turn.
+fn clients_of(alloc: Global, words: &[&str]) -> Result<Vec<EndPaths>, Fault> {
+    let mut clients = Vec::new(alloc);
+    for pair in words.chunks_exact(2) {
+        clients.push(EndPaths {
+            input: String::from_str(alloc, pair[0])?,
+            output: String::from_str(alloc, pair[1])?,
+        })?;
+    }
+    Ok(clients)
+}
+
+// The files of a live server, opened, and how it serves.
+#[derive(Drop)]
+struct OpenedServer<O: Drop> {
+    settings: ServeSettings,
+    tables: Tables<O>,
+    clients: Vec<EndPaths>,
+}
+
+// Opens the tables of a live server. Its clients open their own ends.
+fn open_server<R: RandomSource, F: Files + AllocGlobal>(
+    rt: &R,
+    files: &F,
+    matches: &ArgMatches<'_>,
+) -> Result<OpenedServer<F::File>, Fault> {
+    let tables = open_tables(files, matches.get_str("data").unwrap_or(""))?;
+    let clients = clients_of(files.alloc(), matches.get_strs("clients").unwrap_or(&[]))?;
+    let Ok(hashing) = RandomState::new(rt) else {
+        return Err(Fault::NoRandomness);
+    };
+    let settings = ServeSettings {
+        hashing,
+        dispatchers: matches.get_one::<u32>("dispatchers").unwrap_or(1),
+    };
+    Ok(OpenedServer {
+        settings,
+        tables,
+        clients,
+    })
+}
+
+// Serves clients over the files of a folder: those that the words name, or else standard input and output.
+fn serve_live<R, F, I: Read + Drop + Send, W: Write + Drop + Send, E: Print + Sync>(
+    rt: &R,
+    files: &F,
+    matches: &ArgMatches<'_>,
+    streams: Streams<'_, I, W, E>,
+) -> u8
+where
+    R: Clock + RandomSource + Threads + Sync + Wait + AllocGlobal,
+    F: Files + Sync + AllocGlobal,
+{
+    let Streams {
+        input,
+        is_typed,
+        output,
+        errors,
+        shows_progress,
+    } = streams;
+    let OpenedServer {
+        settings,
+        tables,
+        clients,
+    } = match open_server(rt, files, matches) {
+        Ok(opened) => opened,
+        Err(fault) => return fault.tell(&mut io::writer(errors)),
+    };
+    let terminal = if shows_progress { Some(errors) } else { None };
+    let screen = screen_of(rt, matches, terminal);
+    let tables = watch_tables(screen.as_ref(), tables);
+    if !clients.is_empty() {
+        let keeps = matches.get_flag("keep");
+        return serve_clients(rt, settings, tables, files, clients, keeps, errors);
+    }
+    if is_typed {
+        let typed = Prompted::new(rt.alloc(), input, io::writer(errors), TERMINAL_HELP);
+        return serve_stream(rt, settings, tables, typed, output, errors);
+    }
+    serve_stream(rt, settings, tables, input, output, errors)
+}
+
 // Checks a trace over the files of a folder.
 fn check_trace<R, F: Files + AllocGlobal, P: Print, W: Write, E: Write>(
     rt: &R,
@@ -176,7 +260,7 @@ where
 
 /// Does what the words say, and gives the exit status. Without words the script on the input is served. The words name
 /// files of `files`; threads, waiting, random bytes and the time come from `rt`.
-pub fn run_command_line<R, F, I: Read + Drop, W: Write + Drop, E: Print>(
+pub fn run_command_line<R, F, I: Read + Drop + Send, W: Write + Drop + Send, E: Print + Sync>(
     rt: &R,
     files: &F,
     words: &[String],
@@ -184,14 +268,19 @@ pub fn run_command_line<R, F, I: Read + Drop, W: Write + Drop, E: Print>(
 ) -> u8
 where
     R: Clock + RandomSource + Threads + Sync + Wait + AllocGlobal,
-    F: Files + AllocGlobal,
+    F: Files + Sync + AllocGlobal,
 {
     let matched = match matches(rt.alloc(), words) {
         Ok(matched) => matched,
         Err(answer) => return tell(&answer, streams),
     };
+    let subcommand = matched.subcommand();
+    if let Some(("serve", words)) = subcommand {
+        return serve_live(rt, files, words, streams);
+    }
     let Streams {
         input,
+        is_typed: _,
         mut output,
         errors,
         shows_progress,
@@ -199,7 +288,7 @@ where
     let out = &mut output;
     let err = &mut io::writer(errors);
     let terminal = if shows_progress { Some(errors) } else { None };
-    match matched.subcommand() {
+    match subcommand {
         Some(("run", words)) => serve_scripts(rt, files, words, terminal, out, err),
         Some(("audit", words)) => check_trace(rt, files, words, terminal, out, err),
         Some((_, words)) => answer_query(rt, files, words, terminal, out, err),

@@ -4,9 +4,10 @@
 //! server, and prints the report. `ssb_live query --data DIR NAME [CONSTANT..]` loads five table files and prints the
 //! report of one question, `ssb_live query --data DIR --all` those of the thirteen queries, answered in one pass.
 //! `ssb_live run --data DIR SCRIPT..` serves scripts at once, a client of the live server each, and `ssb_live audit
-//! --data DIR TRACE` checks the trace that such a run left. The work is done by the libraries `run_command`,
-//! `query_command` and `audit_command`, whose contracts name the bytes that they write; the library `command_line` finds
-//! what the words ask, and this file ends with a status.
+//! --data DIR TRACE` checks the trace that such a run left. `ssb_live serve --data DIR` serves clients as their requests
+//! come, over standard input and output or named pipes. The work is done by the libraries `run_command`,
+//! `query_command`, `audit_command` and `serve_command`, whose contracts name the bytes that they write; the library
+//! `command_line` finds what the words ask, and this file ends with a status.
 #![tactic(auto)]
 
 use command_line::{Streams, run_command_line, words};
@@ -20,8 +21,10 @@ fn main(rt: HostRuntime) -> ExitCode {
     let Ok(output) = BufWriter::new(rt.alloc(), rt.stdout()) else {
         return ExitCode::from(Fault::OutOfMemory.tell(&mut err));
     };
+    let input = rt.stdin();
     let streams = Streams {
-        input: rt.stdin(),
+        input,
+        is_typed: input.is_terminal(),
         output,
         errors: &errors,
         shows_progress: errors.is_terminal(),

@@ -1,3 +1,4 @@
+pub mod FaultLaws
 pub mod LineLaws
 pub mod OneReadingLaws
 pub mod ReadingLaws

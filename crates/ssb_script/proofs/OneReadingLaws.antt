@@ -17,8 +17,10 @@ use Rattle.std.proofs.Common.{
   ap,
   ◌∙◌,
   append_assoc,
+  arith,
 }
 use Rattle.std.specs.List.{flat_map}
+use Rattle.std.proofs.lemmas.List.Elements.{All-nil}
 use Rattle.std.proofs.lemmas.Option.{none-some, same_Some}
 use Rattle.csv.specs.Machine.{Read, next_record}
 use Rattle.csv.specs.Reading.{Reached, strip_bom}
@@ -36,11 +38,13 @@ use Rattle.ssb_script.specs.Requests.{
   RequestRecord,
   Refresh,
   Ask,
+  IsWholeRequest,
   action_of,
   lines_of_action,
   lines_of_request,
   lines_of_requests,
 }
+use Rattle.ssb_script.specs.Scripts.{SpellsScript}
 use Rattle.ssb_script.specs.declared.control.Opening.TheVariants.{Add, Amend}
 
 -- what the lines from one on hold: lines of an order that began before it, actions of a refresh that did, and requests
@@ -116,7 +120,7 @@ of_requests (one ∷ requests) = of_request one (lines_of_requests requests)
     ∙ ap (λ rest. one ∷ rest) (of_requests requests)
 
 -- the records of a text are one list
-one_list : (cfg : Config) (s s1 s2 : State) (text ys zs : List ℕ) (one other : List (List (List ℕ)))
+pub one_list : (cfg : Config) (s s1 s2 : State) (text ys zs : List ℕ) (one other : List (List (List ℕ)))
     → Reached cfg s text one s1 ys → next_record cfg s1 [] [] ys ≡ None → Reached cfg s text other s2 zs
     → next_record cfg s2 [] [] zs ≡ None → one ≡ other
 unfolding Reached
@@ -136,11 +140,11 @@ one_list cfg s s1 s2 text ys zs (r ∷ one) (q ∷ other) a enda b endb =
     rw (first, later) refl
 
 -- the lines that results give
-abbrev given : Result ScriptLine RecordFault → ScriptLine
+abbrev pub given : Result ScriptLine RecordFault → ScriptLine
 given (Ok l) = l
 given (Err e) = line.Begin
 
-all_given : (lines : List ScriptLine) → map given (map Ok lines) ≡ lines
+pub all_given : (lines : List ScriptLine) → map given (map Ok lines) ≡ lines
 all_given [] = refl
 all_given (l ∷ lines) = ap (λ rest. l ∷ rest) (all_given lines)
 
@@ -153,3 +157,17 @@ one_reading text most more one other a b =
     let lines : lines_of_requests one ≡ lines_of_requests other =
     sym (all_given (lines_of_requests one)) ∙ (ap (map given) results ∙ all_given (lines_of_requests other)) in
     sym (of_requests one) ∙ (ap (λ lines. (tail_of lines).requests) lines ∙ of_requests other)
+
+-- a text of no bytes asks nothing
+spells_nothing : (most : ℕ) → SpellsScript most [] []
+unfolding Reached next_record strip_bom
+spells_nothing most = record {
+  records = [];
+  all = (st.StartRecord, [], (refl, refl), refl);
+  few = omega arith;
+  spelled = refl;
+  whole = All-nil IsWholeRequest;
+}
+
+pub asks_nothing : (most : ℕ) (wanted : List RequestRecord) → SpellsScript most [] wanted → wanted ≡ []
+asks_nothing most wanted spells = one_reading [] most most wanted [] spells (spells_nothing most)

@@ -1,8 +1,13 @@
 //! What holds of every script's text: the law is the contract of a function that does nothing.
 ghost use Rattle.std.specs.Prelude.{ℕ, List};
-ghost use Rattle.ssb_script.specs.Laws.{HasOneReading};
+ghost use Rattle.ssb_script.specs.Laws.{HasNoFaultIfSpelled, HasOneReading};
 
 /// A text spells at most one list of requests, whatever the bounds of records.
 pub fn one_reading()
     ensures { (text : List ℕ) → HasOneReading text }
+{}
+
+/// A text that spells a script has no fault: `read_script` refuses it only where memory or its reader fails.
+pub fn spelled_has_no_fault()
+    ensures { (text : List ℕ) → HasNoFaultIfSpelled text }
 {}

@@ -26,7 +26,7 @@ mod word;
 pub use begun::{Begun, BegunOrder, Step};
 pub use control::{Control, Opening, key_of};
 pub use error::ScriptError;
-pub use laws::one_reading;
+pub use laws::{one_reading, spelled_has_no_fault};
 pub use order_line::OrderLine;
 pub use question::{constants_from, question_at};
 pub use request::{Request, Script};

@@ -1,0 +1,205 @@
+"""Clients of `ssb_live serve` over named pipes, for `serve`: the server, a client, and a client's random sessions."""
+import os
+import queue
+import random
+import select
+import subprocess
+import threading
+import time
+
+from common import LIVE
+from judge import Disagreement, Lines, read_reply
+from traffic import Refresh, Traffic
+
+PATIENCE = 120          # seconds after which a reply counts as lost
+SETTLING = 0.5          # seconds in which the server notices that a client has gone
+MOST_BYTES = 1 << 20    # of a request
+AHEAD = 40              # requests that a client sends at most before it reads their replies
+BAD_REQUESTS = [("que", "70 BadLine 1"), ("commit", "70 BadLine 1"), ("query|Q9.9", "70 BadLine 1"),
+                ("begin\ncommit", "72 EmptyBlock 2"), ("begin\nwithdraw|x\ncommit", "70 BadLine 2"),
+                ("begin\nadd\ncommit", "73 Row 2 1 NoLines")]
+
+
+class Server:
+    """The program with so many clients, each over two named pipes in a folder."""
+
+    def __init__(self, data, folder, clients, *words):
+        self.ends = []
+        for number in range(1, clients + 1):
+            ends = folder / f"in-{number}", folder / f"out-{number}"
+            for end in ends:
+                if not end.exists():
+                    os.mkfifo(end)
+            self.ends.append(ends)
+        self.errors = open(folder / "errors", "w+")
+        given = [word for ends in self.ends for word in ("--client", *ends)]
+        self.process = subprocess.Popen([LIVE, "serve", "--data", data, "--quiet", *words, *given], stderr=self.errors,
+                                        stdin=subprocess.DEVNULL, stdout=subprocess.DEVNULL)
+
+    def told(self):
+        self.errors.seek(0)
+        return self.errors.read()
+
+    def end(self, patience=PATIENCE):
+        """Waits for its end, and gives its status."""
+        return self.process.wait(patience)
+
+    def stop(self):
+        if self.process.poll() is None:
+            self.process.terminate()
+            self.process.wait(PATIENCE)
+
+    def processor_seconds(self):
+        with open(f"/proc/{self.process.pid}/stat") as stat:
+            fields = stat.read().rpartition(")")[2].split()
+        return (int(fields[11]) + int(fields[12])) / os.sysconf("SC_CLK_TCK")
+
+
+class Client:
+    """A session: what is sent, and the lines of the replies, which a thread reads as they come."""
+
+    def __init__(self, ends):
+        into, out = ends
+        self.out = os.open(out, os.O_RDONLY)             # waits for the server
+        self.into = os.open(into, os.O_WRONLY)
+        self.lines, self.is_gone = queue.SimpleQueue(), False
+        self.reader = threading.Thread(target=self.read, daemon=True)
+        self.reader.start()
+
+    def read(self):
+        """Reads lines until the session ends, or until the client goes."""
+        rest = b""
+        while not self.is_gone:
+            if not select.select([self.out], [], [], 0.05)[0]:
+                continue
+            part = os.read(self.out, 1 << 16)
+            if not part:
+                break
+            *lines, rest = (rest + part).split(b"\n")
+            for line in lines:
+                self.lines.put(line.decode())
+        os.close(self.out)
+        self.lines.put(None)
+
+    def send(self, text):
+        left = memoryview(text.encode())
+        while left:
+            left = left[os.write(self.into, left):]
+
+    def next(self):
+        """The next line; None at the end of the session."""
+        try:
+            return self.lines.get(timeout=PATIENCE)
+        except queue.Empty:
+            raise Disagreement(f"no reply in {PATIENCE} s") from None
+
+    def expect_end(self):
+        line = self.next()
+        if line is not None:
+            raise Disagreement(f"behind the last reply: {line}")
+
+    def close(self):
+        """Ends the session: nothing more is sent. What is still told can be read."""
+        os.close(self.into)
+
+    def go(self):
+        """Ends the session without reading what is still told."""
+        self.is_gone = True
+        self.reader.join(PATIENCE)
+        os.close(self.into)
+        time.sleep(SETTLING)
+
+
+class Told(Lines):
+    """The lines of a session, as `read_reply` reads them."""
+
+    def __init__(self, client):
+        self.client, self.place = client, 0
+
+    def next(self):
+        self.place += 1
+        line = self.client.next()
+        if line is None:
+            raise Disagreement(f"the session ended before line {self.place}")
+        return line
+
+
+def ask_too_long(ends):
+    """A request of more than 1 MiB is told, and ends the session."""
+    client = Client(ends)
+    try:
+        client.send("query|Q1.1\nbegin\n" + "withdraw|1\n" * (MOST_BYTES // len("withdraw|1\n")))
+    except BrokenPipeError:
+        pass                                             # the session has ended before the last bytes
+    head = client.next()
+    for _ in range(int(head.split()[-1])):
+        client.next()
+    if client.next() != "fault: 76 RequestTooLong":
+        raise Disagreement("a request of more than 1 MiB has no fault")
+    client.expect_end()
+    client.close()
+
+
+def text_of(request):
+    return "".join(f"{record}\n" for record in request.records())
+
+
+class Sessions:
+    """The random sessions of one client, one behind another, from its own source of random numbers."""
+
+    def __init__(self, tables, number, ends, seed):
+        self.number, self.ends, self.random = number, ends, random.Random(seed)
+        self.traffic = Traffic(tables, number - 1, random.Random(self.random.random()))
+        self.replies, self.seen = [], 0
+        self.counts = {"sessions": 0, "broken": 0, "faults": 0}
+
+    def run(self, requests, sessions):
+        """So many requests, in so many sessions: gives the replies, and what there was."""
+        left = requests
+        for turn in range(sessions, 0, -1):
+            count = left // turn
+            left -= count
+            self.session(self.traffic.requests(count))
+        return self.replies, self.counts
+
+    def session(self, requests):
+        client = Client(self.ends)
+        told = Told(client)
+        while requests:
+            some = self.random.randint(1, AHEAD)
+            self.ask(client, told, requests[:some])
+            requests = requests[some:]
+            if self.random.random() < 0.02:
+                time.sleep(self.random.random() / 5)
+        self.end(client)
+        self.counts["sessions"] += 1
+
+    def ask(self, client, told, requests):
+        """Sends requests, sometimes one with a fault before them or blank lines, and reads the replies of all."""
+        bad, fault = self.random.choice(BAD_REQUESTS) if self.random.random() < 0.1 else (None, None)
+        blank = "\n" * self.random.choice([0, 0, 0, 1, 3])
+        client.send(blank + (f"{bad}\n" if bad else "") + "".join(map(text_of, requests)))
+        if fault:
+            told.expect(f"fault: {fault}")
+            self.counts["faults"] += 1
+        for request in requests:
+            reply = read_reply(told, self.number, request)
+            if reply.number < self.seen + reply.is_commit():
+                raise Disagreement(f"client {self.number} had seen {self.seen} commits, and was told {reply.number}")
+            self.seen = reply.number
+            self.replies.append(reply)
+
+    def end(self, client):
+        """Ends a session: between requests, in the middle of a refresh, or there without reading what is told of it."""
+        way = self.random.choice(["between", "inside", "gone"])
+        if way != "between":
+            text = text_of(Refresh([self.traffic.action() for _ in range(self.random.randint(1, 4))]))
+            client.send(text[:self.random.randrange(len("begin\n"), len(text) - len("commit\n"))])
+            self.counts["broken"] += 1
+        if way == "gone":
+            client.go()
+            return
+        client.close()
+        if way == "inside" and not (client.next() or "").startswith("fault: "):
+            raise Disagreement("the rest of a request has no fault")
+        client.expect_end()

@@ -1,0 +1,14 @@
+-- The exit status of a fault of serving.
+use Rattle.std.specs.Prelude.{ℕ}
+use Rattle.ssb_files.specs.Status.{job_status}
+use Rattle.ssb_files.specs.declared.job.JobFault.{JobFault}
+use Rattle.serve_command.specs.declared.fault.NotServed.{NotServed}
+use Rattle.serve_command.specs.declared.fault.NotServed.TheVariants as not_served
+
+-- 2: the words are wrong; 4: no server could be opened, or memory or threads were wanting
+abbrev pub not_served_status : NotServed → ℕ
+not_served_status not_served.TooManyClients = 2
+not_served_status (not_served.NotRun why) = 4
+
+abbrev pub serving_status : JobFault NotServed → ℕ
+serving_status fault = job_status not_served_status fault

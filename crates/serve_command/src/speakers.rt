@@ -1,0 +1,170 @@
+//! The clients: each opens its ends, is served its sessions, and tells what broke them.
+
+use crate::ends::{EndFault, EndPaths, Ends, open_ends};
+use ssb_server::{Client, Server};
+use std::alloc::Global;
+use std::io::{BufReader, Print, Read, Write};
+use std::rt::Files;
+use std::sync::Wait;
+use std::time::{Clock, Duration};
+use std::{fmt, io, thread};
+use stream_sessions::{Served, SessionError, SessionFault, Speaker, Speaks, serve_session};
+
+// How many bytes of a client's requests are read at once.
+const READ_AHEAD: usize = 65_536;
+
+// How many milliseconds a client's pipes stay closed between two sessions, so that who read the first one sees its end.
+const BETWEEN_SESSIONS: u64 = 50;
+
+/// A client over a reader and a writer that are open.
+#[derive(Drop)]
+pub struct StreamClient<I: Read + Drop, O: Write + Drop> {
+    pub input: I,
+    pub output: O,
+}
+
+/// What such a client leaves: the writer, and how its session ended.
+#[derive(Drop)]
+pub struct StreamLeft<O: Write + Drop> {
+    pub output: O,
+    pub ended: Result<Served, SessionError>,
+}
+
+// A session over a reader and a writer.
+fn serve_over<W: Wait + Drop, R: Wait, I: Read + Drop, O: Write>(
+    rt: &R,
+    alloc: Global,
+    server: &Server<W>,
+    client: &mut Client<W>,
+    input: I,
+    output: &mut O,
+) -> Result<Served, SessionError> {
+    match BufReader::with_capacity(alloc, READ_AHEAD, input) {
+        Ok(mut input) => serve_session(rt, alloc, server, client, &mut input, output),
+        Err(_) => Err(SessionError {
+            answered: 0,
+            fault: SessionFault::OutOfMemory,
+        }),
+    }
+}
+
+impl<I: Read + Drop, O: Write + Drop> Speaker for StreamClient<I, O> {
+    type Left = StreamLeft<O>;
+}
+
+impl<R: Wait, I: Read + Drop, O: Write + Drop> Speaks<R> for StreamClient<I, O> {
+    fn speak<W: Wait + Drop>(
+        self,
+        rt: &R,
+        alloc: Global,
+        server: &Server<W>,
+        client: &mut Client<W>,
+    ) -> StreamLeft<O> {
+        let StreamClient { input, mut output } = self;
+        let ended = serve_over(rt, alloc, server, client, input, &mut output);
+        StreamLeft { output, ended }
+    }
+}
+
+/// A client whose ends are to be opened, and where it tells what broke its sessions.
+#[derive(Drop)]
+pub struct PathClient<'a, F: Files, E: Print> {
+    pub files: &'a F,
+    pub screen: &'a E,
+    /// From 1.
+    pub number: u64,
+    pub paths: EndPaths,
+    /// Whether named pipes are opened again for another session.
+    pub keeps: bool,
+}
+
+// What broke a client's session.
+#[derive(Drop)]
+enum ClientFault<'a> {
+    End(EndFault<'a>),
+    Session(SessionFault),
+}
+
+impl<'a> fmt::Display for ClientFault<'a> {
+    fn fmt<W: fmt::Write>(&self, f: &mut fmt::Formatter<W>) -> fmt::Result {
+        match self {
+            ClientFault::End(fault) => write!(f, "{fault}"),
+            ClientFault::Session(fault) => write!(f, "{fault}"),
+        }
+    }
+}
+
+// How a client's session ended.
+#[derive(Clone, Copy, Debug, PartialEq, Eq)]
+enum SessionEnd {
+    // Another may follow.
+    Again,
+    // None follows.
+    Last,
+    // It broke, and none follows.
+    Broken,
+}
+
+impl<'a, F: Files, E: Print> PathClient<'a, F, E> {
+    // Tells a fault, if the screen takes it.
+    fn tell(&self, fault: &ClientFault<'_>) {
+        let mut screen = io::writer(self.screen);
+        let _ = writeln!(screen, "ssb_live: client {}: {fault}", self.number);
+    }
+
+    // Opens the ends, and serves a session over them. The end that is read is closed first.
+    fn serve_once<W: Wait + Drop, R: Wait>(
+        &self,
+        rt: &R,
+        alloc: Global,
+        server: &Server<W>,
+        client: &mut Client<W>,
+    ) -> SessionEnd {
+        let ends = match open_ends(self.files, &self.paths) {
+            Ok(ends) => ends,
+            Err(fault) => {
+                self.tell(&ClientFault::End(fault));
+                return SessionEnd::Broken;
+            }
+        };
+        let comes_again = self.keeps && ends.are_named_pipes();
+        let Ends { input, mut output } = ends;
+        match serve_over(rt, alloc, server, client, input, &mut output) {
+            Ok(_) if comes_again => SessionEnd::Again,
+            Ok(_) => SessionEnd::Last,
+            Err(error) => {
+                self.tell(&ClientFault::Session(error.fault));
+                if comes_again {
+                    SessionEnd::Again
+                } else {
+                    SessionEnd::Broken
+                }
+            }
+        }
+    }
+}
+
+impl<'a, F: Files, E: Print> Speaker for PathClient<'a, F, E> {
+    type Left = bool;
+}
+
+impl<'a, R: Wait + Clock, F: Files, E: Print> Speaks<R> for PathClient<'a, F, E> {
+    fn speak<W: Wait + Drop>(
+        self,
+        rt: &R,
+        alloc: Global,
+        server: &Server<W>,
+        client: &mut Client<W>,
+    ) -> bool {
+        for _ in rt.forever() {
+            match self.serve_once(rt, alloc, server, client) {
+                SessionEnd::Again => {
+                    thread::sleep(rt, Duration::from_millis(BETWEEN_SESSIONS));
+                },
+                SessionEnd::Last => return true,
+                SessionEnd::Broken => return false,
+            }
+        }
+        unreachable!()
+    }
+}

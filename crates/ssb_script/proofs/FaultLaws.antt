@@ -1,0 +1,496 @@
+-- A text that spells a script has no fault: its lines are read from the first to the last, and each may stand.
+use Rattle.std.proofs.Common.{
+  ◌≡◌,
+  ℕ,
+  ◌+◌,
+  ◌<◌,
+  ◌≤◌,
+  Bool,
+  true,
+  false,
+  List,
+  [],
+  ◌∷◌,
+  ◌++◌,
+  map,
+  length,
+  Option,
+  Some,
+  None,
+  Result,
+  Ok,
+  Err,
+  if◌then◌else◌,
+  ◌⊎◌,
+  inl,
+  inr,
+  nat_eq,
+  nat_lt,
+  subst,
+  refl,
+  sym,
+  ap,
+  ◌∙◌,
+  append_assoc,
+  append-nil,
+  arith,
+}
+use Rattle.std.specs.List.{AllByRecursion, flat_map}
+use Rattle.std.specs.Option.{option_map}
+use Rattle.std.proofs.lemmas.Bool.{le-ltb, lt-ltb, ltb-false}
+use Rattle.std.proofs.lemmas.Bool.Decides.{nat_tests}
+use Rattle.std.proofs.lemmas.List.{length_push, length-append, map-append}
+use Rattle.std.proofs.lemmas.List.Elements.{recursion_from_All}
+use Rattle.std.proofs.lemmas.Option.{none-some, same_Some}
+use Rattle.csv.specs.Machine.{Read, next_record}
+use Rattle.csv.specs.Reading.{Reached, strip_bom}
+use Rattle.csv.specs.declared.parser.Config.{Config}
+use Rattle.csv.specs.declared.parser.State.{State}
+use Rattle.csv.specs.declared.parser.State.TheVariants as st
+use Rattle.ssb_text.specs.Records.{record_config}
+use Rattle.ssb_text.specs.declared.error.LineFault.{LineFault}
+use Rattle.ssb_text.specs.declared.error.LineFault.TheVariants as fault
+use Rattle.ssb_schema.specs.Columns as columns
+use Rattle.ssb_schema.specs.Orders.{order_fault, most_order_lines}
+use Rattle.ssb_schema.specs.Refreshes.{refresh_fault, most_actions}
+use Rattle.ssb_schema.specs.declared.fault.SchemaFault.TheVariants as schema
+use Rattle.ssb_schema.specs.declared.line.LineFields.{LineFields}
+use Rattle.ssb_schema.specs.declared.refresh.Action.{Action}
+use Rattle.ssb_schema.specs.declared.refresh.Action.TheVariants as action
+use Rattle.ssb_schema.proofs.FirstFaultLaws.{test_none}
+use Rattle.ssb_schema.proofs.OrderLaws.{order_keeps}
+use Rattle.ssb_script.specs.Begun.{Begun}
+use Rattle.ssb_script.specs.Begun as begun
+use Rattle.ssb_script.specs.Laws.{HasNoFaultIfSpelled}
+use Rattle.ssb_script.specs.Lines.{
+  ScriptLine,
+  RecordFault,
+  is_line,
+  line_after,
+  line_of,
+  line_or_bad,
+  line_or_refusal,
+  line_with,
+  word_of,
+}
+use Rattle.ssb_script.specs.Lines as line
+use Rattle.ssb_script.specs.Requests.{
+  RequestRecord,
+  Refresh,
+  Ask,
+  IsWholeAction,
+  IsWholeRequest,
+  action_of,
+  lines_of_action,
+  lines_of_request,
+  lines_of_requests,
+}
+use Rattle.ssb_script.specs.Scripts.{
+  EndsInRefresh,
+  IsFirstFault,
+  IsSettled,
+  SpellsScript,
+  checks_in,
+  ends_in_order,
+  fault_of,
+  first_of,
+  is_outside,
+  lines_of_begun,
+  order_refused,
+  refusal_at_end,
+}
+use Rattle.ssb_script.specs.declared.control.Opening.{Opening}
+use Rattle.ssb_script.specs.declared.control.Opening.TheVariants.{Add, Amend}
+use Rattle.ssb_script.specs.declared.error.ScriptError.{ScriptError}
+use Rattle.ssb_script.specs.declared.word.Word.{Word}
+use Rattle.ssb_script.specs.declared.word.Word.TheVariants as word
+use Rattle.ssb_script.proofs.OneReadingLaws.{all_given, given, one_list}
+
+-- what is begun where a line stands: nothing, a refresh, or an order in a refresh
+data Stand : Type 0 where
+  Outside : Stand
+  Inside : List Action → Stand
+  Within : List Action → Opening → List LineFields → Stand
+
+abbrev stand_of : Begun → Stand
+stand_of begun.Nothing = Outside
+stand_of (begun.Refresh actions) = Inside actions
+stand_of (begun.Order order) = Within order.actions order.opening order.lines
+
+-- the actions of the refresh, with that of the order that is being read
+abbrev actions_of : Stand → List Action
+actions_of Outside = []
+actions_of (Inside actions) = actions
+actions_of (Within actions opening lines) = actions ++ action_of opening lines ∷ []
+
+-- what is begun behind a line, and behind lines
+abbrev next : Stand → ScriptLine → Stand
+next s (line.Query question) = Outside
+next s line.Begin = Inside []
+next s (line.Open opening) = Within (actions_of s) opening []
+next Outside (line.Line row) = Outside
+next (Inside actions) (line.Line row) = Inside actions
+next (Within actions opening lines) (line.Line row) = Within actions opening (lines ++ row ∷ [])
+next s (line.Withdraw key) = Inside (actions_of s ++ action.Withdraw key ∷ [])
+next s line.Commit = Outside
+
+abbrev behind : Stand → List ScriptLine → Stand
+behind s [] = s
+behind s (l ∷ lines) = behind (next s l) lines
+
+-- no refresh is begun; one is, in which no order is refused that ends there; an order is, that takes one line more
+abbrev IsOutside : Stand → Type 0
+IsOutside Outside = Unit {0}
+IsOutside (Inside actions) = ⊥
+IsOutside (Within actions opening lines) = ⊥
+
+abbrev MayEnd : Stand → Type 0
+MayEnd Outside = ⊥
+MayEnd (Inside actions) = Unit {0}
+MayEnd (Within actions opening lines) = order_fault lines ≡ None
+
+abbrev TakesLine : Stand → Type 0
+TakesLine Outside = ⊥
+TakesLine (Inside actions) = ⊥
+TakesLine (Within actions opening lines) = length lines < most_order_lines
+
+-- a line may stand there, and lines may, one after another
+abbrev Fits : Stand → ScriptLine → Type 0
+Fits s (line.Query question) = IsOutside s
+Fits s line.Begin = IsOutside s
+Fits s (line.Open opening) = MayEnd s × (length (actions_of s) < most_actions)
+Fits s (line.Line row) = TakesLine s
+Fits s (line.Withdraw key) = MayEnd s × (length (actions_of s) < most_actions)
+Fits s line.Commit = MayEnd s × (0 < length (actions_of s))
+
+abbrev AllFit : Stand → List ScriptLine → Type 0
+AllFit s [] = Unit {0}
+AllFit s (l ∷ lines) = Fits s l × AllFit (next s l) lines
+
+behind-append : (s : Stand) (xs ys : List ScriptLine) → behind s (xs ++ ys) ≡ behind (behind s xs) ys
+behind-append s [] ys = refl
+behind-append s (l ∷ xs) ys = behind-append (next s l) xs ys
+
+fit_behind : (s : Stand) (xs ys : List ScriptLine) → AllFit s (xs ++ ys) → AllFit (behind s xs) ys
+fit_behind s [] ys fit = fit
+fit_behind s (l ∷ xs) ys fit = fit_behind (next s l) xs ys fit.1
+
+-- behind the lines of an order, of an action, of actions
+behind_rows : (actions : List Action) (opening : Opening) (lines order : List LineFields)
+    → behind (Within actions opening lines) (map line.Line order) ≡ Within actions opening (lines ++ order)
+behind_rows actions opening lines [] = ap (Within actions opening) (sym (append-nil lines))
+behind_rows actions opening lines (row ∷ order) = behind_rows actions opening (lines ++ row ∷ []) order
+    ∙ ap (Within actions opening) (append_assoc lines (row ∷ []) order)
+
+behind_action : (s : Stand) (a : Action) → actions_of (behind s (lines_of_action a)) ≡ actions_of s ++ a ∷ []
+behind_action s (action.Add order) = ap actions_of (behind_rows (actions_of s) Add [] order)
+behind_action s (action.Amend order) = ap actions_of (behind_rows (actions_of s) Amend [] order)
+behind_action s (action.Withdraw key) = refl
+
+behind_actions : (actions : List Action) (s : Stand)
+    → actions_of (behind s (flat_map lines_of_action actions)) ≡ actions_of s ++ actions
+behind_actions [] s = sym (append-nil (actions_of s))
+behind_actions (a ∷ actions) s =
+    let between = behind s (lines_of_action a) in
+    ap actions_of (behind-append s (lines_of_action a) (flat_map lines_of_action actions))
+    ∙ (behind_actions actions between
+    ∙ (ap (λ xs. xs ++ actions) (behind_action s a) ∙ append_assoc (actions_of s) (a ∷ []) actions))
+
+-- where the last action is no order, none is being read
+behind_settled : (a : Action) (actions : List Action) (s : Stand) → ends_in_order (a ∷ actions) ≡ false
+    → behind s (flat_map lines_of_action (a ∷ actions)) ≡ Inside (actions_of s ++ a ∷ actions)
+behind_settled (action.Add order) [] s e = absurd cc
+behind_settled (action.Amend order) [] s e = absurd cc
+behind_settled (action.Withdraw key) [] s e = refl
+behind_settled a (b ∷ actions) s e =
+    let between = behind s (lines_of_action a) in
+    behind-append s (lines_of_action a) (flat_map lines_of_action (b ∷ actions))
+    ∙ (behind_settled b actions between e
+    ∙ ap Inside (ap (λ xs. xs ++ b ∷ actions) (behind_action s a)
+    ∙ append_assoc (actions_of s) (a ∷ []) (b ∷ actions)))
+
+behind_requests : (requests : List RequestRecord) → behind Outside (lines_of_requests requests) ≡ Outside
+behind_requests [] = refl
+behind_requests (Ask question ∷ requests) = behind_requests requests
+behind_requests (Refresh actions ∷ requests) =
+    let acts = flat_map lines_of_action actions in
+    let ended : behind Outside (lines_of_request (Refresh actions)) ≡ Outside =
+    behind-append (Inside []) acts (line.Commit ∷ []) in
+    behind-append Outside (lines_of_request (Refresh actions)) (lines_of_requests requests)
+    ∙ (ap (λ s. behind s (lines_of_requests requests)) ended ∙ behind_requests requests)
+
+behind_begun : (b : Begun) → IsSettled b → behind Outside (lines_of_begun b) ≡ stand_of b
+behind_begun begun.Nothing settled = refl
+behind_begun (begun.Refresh []) settled = refl
+behind_begun (begun.Refresh (a ∷ actions)) settled = behind_settled a actions (Inside []) settled
+behind_begun (begun.Order order) settled =
+    let acts = flat_map lines_of_action order.actions in
+    behind-append (Inside []) acts (line.Open order.opening ∷ map line.Line order.lines)
+    ∙ (behind_rows (actions_of (behind (Inside []) acts)) order.opening [] order.lines
+    ∙ ap (λ actions. Within actions order.opening order.lines) (behind_actions order.actions (Inside [])))
+
+-- behind whole requests and what is begun, that is begun
+behind_all : (requests : List RequestRecord) (b : Begun) → IsSettled b
+    → behind Outside (lines_of_requests requests ++ lines_of_begun b) ≡ stand_of b
+behind_all requests b settled =
+    behind-append Outside (lines_of_requests requests) (lines_of_begun b)
+    ∙ (ap (λ s. behind s (lines_of_begun b)) (behind_requests requests) ∙ behind_begun b settled)
+
+-- the lines of whole requests fit
+fit_rows : (actions : List Action) (opening : Opening) (lines order : List LineFields) (rest : List ScriptLine)
+    → length lines + length order ≤ most_order_lines → AllFit (Within actions opening (lines ++ order)) rest
+    → AllFit (Within actions opening lines) (map line.Line order ++ rest)
+fit_rows actions opening lines [] rest room fit =
+    subst (λ xs. AllFit (Within actions opening xs) rest) (append-nil lines) fit
+fit_rows actions opening lines (row ∷ order) rest room fit = (
+  omega (arith, room),
+  fit_rows actions opening (lines ++ row ∷ []) order rest (omega (arith, room, length_push lines row))
+      (subst (λ xs. AllFit (Within actions opening xs) rest) (sym (append_assoc lines (row ∷ []) order)) fit),
+)
+
+fit_action : (a : Action) (s : Stand) (rest : List ScriptLine) → MayEnd s → length (actions_of s) < most_actions
+    → IsWholeAction a → ((t : Stand) → MayEnd t → actions_of t ≡ actions_of s ++ a ∷ [] → AllFit t rest)
+    → AllFit s (lines_of_action a ++ rest)
+fit_action (action.Add order) s rest end room whole later = (
+  (end, room),
+  fit_rows (actions_of s) Add [] order rest (omega (arith, (order_keeps order whole).few))
+      (later (Within (actions_of s) Add order) whole refl),
+)
+fit_action (action.Amend order) s rest end room whole later = (
+  (end, room),
+  fit_rows (actions_of s) Amend [] order rest (omega (arith, (order_keeps order whole).few))
+      (later (Within (actions_of s) Amend order) whole refl),
+)
+fit_action (action.Withdraw key) s rest end room whole later =
+    ((end, room), later (Inside (actions_of s ++ action.Withdraw key ∷ [])) tt refl)
+
+fit_actions : (actions : List Action) (s : Stand) (rest : List ScriptLine) → MayEnd s
+    → length (actions_of s) + length actions ≤ most_actions → AllByRecursion IsWholeAction actions
+    → ((t : Stand) → MayEnd t → actions_of t ≡ actions_of s ++ actions → AllFit t rest)
+    → AllFit s (flat_map lines_of_action actions ++ rest)
+fit_actions [] s rest end room whole later = later s end (sym (append-nil (actions_of s)))
+fit_actions (a ∷ actions) s rest end room whole later =
+    let acts = flat_map lines_of_action actions in
+    subst (AllFit s) (sym (append_assoc (lines_of_action a) acts rest))
+    (fit_action a s (acts ++ rest) end (omega (arith, room)) whole.0 (λ t end_t at_t. fit_actions actions t rest end_t
+    (omega (arith, room, length_push (actions_of s) a, ap length at_t)) whole.1 (λ u end_u at_u. later u end_u
+    (at_u ∙ (ap (λ xs. xs ++ actions) at_t ∙ append_assoc (actions_of s) (a ∷ []) actions)))))
+
+-- a refresh that is not refused has 1 to 64 actions
+has_some : (actions : List Action) → refresh_fault actions ≡ None → 0 < length actions
+has_some [] none = absurd cc
+has_some (a ∷ actions) none = omega arith
+
+has_few : (actions : List Action) → refresh_fault actions ≡ None → length actions ≤ most_actions
+has_few actions none = few_of (length actions) none
+  where
+    few_of : (n : ℕ) → (if nat_eq n 0 then Some schema.NoActions else if nat_lt 64 n then Some schema.TooManyActions
+        else None) ≡ None → n ≤ 64
+    few_of n none = ltb-false 64 n (test_none _ _ _ (test_none (nat_eq n 0) _ _ none).1).0
+
+fit_request : (one : RequestRecord) (rest : List ScriptLine) → IsWholeRequest one → AllFit Outside rest
+    → AllFit Outside (lines_of_request one ++ rest)
+fit_request (Ask question) rest whole fit = (tt, fit)
+fit_request (Refresh actions) rest whole fit = (
+  tt,
+  subst (AllFit (Inside [])) (sym (append_assoc (flat_map lines_of_action actions) (line.Commit ∷ []) rest))
+      (fit_actions actions (Inside []) (line.Commit ∷ rest) tt (omega (arith, has_few actions whole.0))
+      (recursion_from_All IsWholeAction actions whole.1)
+      (λ t end at. ((end, rw at (has_some actions whole.0)), fit))),
+)
+
+fit_requests : (requests : List RequestRecord) → AllByRecursion IsWholeRequest requests
+    → AllFit Outside (lines_of_requests requests)
+fit_requests [] whole = tt
+fit_requests (one ∷ requests) whole = fit_request one (lines_of_requests requests) whole.0
+    (fit_requests requests whole.1)
+
+-- a line that fits has no fault
+abbrev is_row : ScriptLine → Bool
+is_row (line.Line row) = true
+is_row (line.Query question) = false
+is_row line.Begin = false
+is_row (line.Open opening) = false
+is_row (line.Withdraw key) = false
+is_row line.Commit = false
+
+ends_unless_row : (s : Stand) (l : ScriptLine) → Fits s l → is_row l ≡ false → IsOutside s ⊎ MayEnd s
+ends_unless_row s (line.Query question) fits e = inl fits
+ends_unless_row s line.Begin fits e = inl fits
+ends_unless_row s (line.Open opening) fits e = inr fits.0
+ends_unless_row s (line.Line row) fits e = absurd cc
+ends_unless_row s (line.Withdraw key) fits e = inr fits.0
+ends_unless_row s line.Commit fits e = inr fits.0
+
+end_not_refused : (b : Begun) → IsOutside (stand_of b) ⊎ MayEnd (stand_of b) → refusal_at_end b ≡ None
+end_not_refused begun.Nothing ends = refl
+end_not_refused (begun.Refresh actions) ends = refl
+end_not_refused (begun.Order order) (inl outside) = absurd outside
+end_not_refused (begun.Order order) (inr whole) = rw whole refl
+
+not_refused : (b : Begun) (l : ScriptLine) (w : Option Word) → Fits (stand_of b) l → is_line w ≡ is_row l
+    → order_refused b w ≡ None
+not_refused b l w fits same = by (is_row l) same refl
+  where
+    by : (row : Bool) → is_line w ≡ row → is_row l ≡ row → (if is_line w then None else refusal_at_end b) ≡ None
+    by true w_is l_is = rw w_is refl
+    by false w_is l_is = rw w_is (end_not_refused b (ends_unless_row (stand_of b) l fits l_is))
+
+not_zero : (n : ℕ) → 0 < n → nat_eq n 0 ≡ false
+not_zero n some = grind (arith, nat_tests)
+
+checks_none : (number : ℕ) (b : Begun) (l : ScriptLine) → Fits (stand_of b) l
+    → first_of (checks_in number b (Ok l)) ≡ None
+checks_none number begun.Nothing (line.Query question) fits = refl
+checks_none number begun.Nothing line.Begin fits = refl
+checks_none number begun.Nothing (line.Open opening) fits = absurd fits.0
+checks_none number begun.Nothing (line.Line row) fits = absurd fits
+checks_none number begun.Nothing (line.Withdraw key) fits = absurd fits.0
+checks_none number begun.Nothing line.Commit fits = absurd fits.0
+checks_none number (begun.Refresh actions) (line.Query question) fits = absurd fits
+checks_none number (begun.Refresh actions) line.Begin fits = absurd fits
+checks_none number (begun.Refresh actions) (line.Open opening) fits = rw (lt-ltb (length actions) 64 fits.1) refl
+checks_none number (begun.Refresh actions) (line.Line row) fits = absurd fits
+checks_none number (begun.Refresh actions) (line.Withdraw key) fits = rw (lt-ltb (length actions) 64 fits.1) refl
+checks_none number (begun.Refresh actions) line.Commit fits = rw (not_zero (length actions) fits.1) refl
+checks_none number (begun.Order order) (line.Query question) fits = absurd fits
+checks_none number (begun.Order order) line.Begin fits = absurd fits
+checks_none number (begun.Order order) (line.Open opening) fits =
+    let few : length order.actions + 1 < 64 =
+    omega (arith, fits.1, length_push order.actions (action_of order.opening order.lines)) in
+    rw (lt-ltb (length order.actions + 1) 64 few) refl
+checks_none number (begun.Order order) (line.Line row) fits = rw (lt-ltb (length order.lines) 7 fits) refl
+checks_none number (begun.Order order) (line.Withdraw key) fits =
+    let few : length order.actions + 1 < 64 =
+    omega (arith, fits.1, length_push order.actions (action_of order.opening order.lines)) in
+    rw (lt-ltb (length order.actions + 1) 64 few) refl
+checks_none number (begun.Order order) line.Commit fits =
+    let some : 0 < length order.actions + 1 = omega arith in
+    rw (not_zero (length order.actions + 1) some) refl
+
+-- parts of what is the same are the same, and the other way round
+same_ok : (r : Result ScriptLine RecordFault) (x y : ScriptLine) → r ≡ Ok x → r ≡ Ok y → x ≡ y
+same_ok r x y one other = cc
+
+same_list : {X : Type 0} (x y : X) (xs ys : List X) → x ≡ y → xs ≡ ys → x ∷ xs ≡ y ∷ ys
+same_list x y xs ys first rest = cc
+
+-- the word of a record tells whether its line is one of an order
+by_option : {X : Type 0} (f : X → ScriptLine) (o : Option X) (l : ScriptLine) → ((x : X) → is_row (f x) ≡ false)
+    → line_or_bad (option_map f o) ≡ Ok l → false ≡ is_row l
+by_option f None l none e = absurd cc
+by_option f (Some x) l none e = sym (none x) ∙ ap is_row (same_ok (Ok (f x)) (f x) l refl e)
+
+by_row : (r : Result (List columns.Value) LineFault) (l : ScriptLine) → line_or_refusal r ≡ Ok l → true ≡ is_row l
+by_row (Ok values) l e =
+    let said : ScriptLine = line.Line (line_with values) in
+    ap is_row (same_ok (Ok said) said l refl e)
+by_row (Err (fault.Refused why)) l e = absurd cc
+by_row (Err fault.FieldCount) l e = absurd cc
+by_row (Err (fault.NotUtf8 column)) l e = absurd cc
+by_row (Err (fault.NotANumber column)) l e = absurd cc
+by_row (Err fault.OutOfMemory) l e = absurd cc
+
+by_alone : (test : Bool) (said l : ScriptLine) → is_row said ≡ false
+    → line_or_bad (if test then Some said else None) ≡ Ok l → false ≡ is_row l
+by_alone true said l none e = sym none ∙ ap is_row (same_ok (Ok said) said l refl e)
+by_alone false said l none e = absurd cc
+
+by_word : (w : Option Word) (fields : List (List ℕ)) (l : ScriptLine) → line_after w fields ≡ Ok l
+    → is_line w ≡ is_row l
+by_word None fields l e = absurd cc
+by_word (Some word.Query) fields l e = by_option line.Query _ l (λ x. refl) e
+by_word (Some word.Begin) fields l e = by_alone _ line.Begin l refl e
+by_word (Some word.Add) fields l e = by_alone _ (line.Open Add) l refl e
+by_word (Some word.Amend) fields l e = by_alone _ (line.Open Amend) l refl e
+by_word (Some word.Line) fields l e = by_row _ l e
+by_word (Some word.Withdraw) fields l e = by_option line.Withdraw _ l (λ x. refl) e
+by_word (Some word.Commit) fields l e = by_alone _ line.Commit l refl e
+
+word_tells : (fields : List (List ℕ)) (l : ScriptLine) → line_of fields ≡ Ok l → is_line (word_of fields) ≡ is_row l
+unfolding line_of
+word_tells fields l e = by_word (word_of fields) fields l e
+
+-- a record whose line fits has no fault
+record_passes : (most number : ℕ) (b : Begun) (fields : List (List ℕ)) (l : ScriptLine) → number ≤ most
+    → line_of fields ≡ Ok l → Fits (stand_of b) l → fault_of most number b fields ≡ None
+record_passes most number b fields l few says fits =
+    rw (le-ltb most number few, not_refused b l (word_of fields) fits (word_tells fields l says), says)
+    (checks_none number b l fits)
+
+-- the records of a text begin with any that it begins with
+begins_all : (cfg : Config) (s s1 s2 : State) (text ys zs : List ℕ) (front all : List (List (List ℕ)))
+    → Reached cfg s text front s1 ys → Reached cfg s text all s2 zs → next_record cfg s2 [] [] zs ≡ None
+    → (more : List (List (List ℕ))) × (all ≡ front ++ more)
+unfolding Reached
+begins_all cfg s s1 s2 text ys zs [] all a b end = (all, refl)
+begins_all cfg s s1 s2 text ys zs (r ∷ front) [] a b end =
+    let none : next_record cfg s [] [] text ≡ None = rw (b.0, b.1) end in
+    absurd (none-some a.0 (sym none ∙ a.1))
+begins_all cfg s s1 s2 text ys zs (r ∷ front) (q ∷ all) a b end =
+    let same : a.0 ≡ b.0 = same_Some a.0 b.0 (sym a.1 ∙ b.1) in
+    let Rest : Read → Type 0 = λ p. Reached cfg p.1 p.2 all s2 zs in
+    let first : q ≡ r = b.2 ∙ (ap (λ p. p.0) (sym same) ∙ sym a.2) in
+    let later = begins_all cfg a.0.1 s1 s2 a.0.2 ys zs front all a.3 (subst Rest (sym same) b.3) end in
+    (later.0, same_list q r all (front ++ later.0) first later.1)
+
+-- a record behind those that say the first lines says the next line
+says_next : (front lines : List ScriptLine) (r : Result ScriptLine RecordFault)
+    (more : List (Result ScriptLine RecordFault)) → map Ok front ++ r ∷ more ≡ map Ok lines
+    → (l : ScriptLine) × (rest : List ScriptLine) × (r ≡ Ok l) × (lines ≡ front ++ l ∷ rest)
+says_next [] [] r more e = absurd cc
+says_next [] (l ∷ lines) r more e = (l, lines, cc, refl)
+says_next (p ∷ front) [] r more e = absurd cc
+says_next (p ∷ front) (q ∷ lines) r more e =
+    let later = says_next front lines r more cc in
+    let same : q ≡ p = cc in
+    (later.0, later.1, later.2, same_list q p lines (front ++ later.0 ∷ later.1) same later.3)
+
+no_first_fault : (most : ℕ) (text : List ℕ) (wanted : List RequestRecord) (e : ScriptError)
+    → SpellsScript most text wanted → IsFirstFault most text e → ⊥
+no_first_fault most text wanted e a b =
+    let before = b.before in
+    let all = begins_all record_config st.StartRecord b.begins.0 a.all.0 (strip_bom text) b.begins.1 a.all.1
+    (before ++ b.fields ∷ []) a.records b.begins.2 a.all.2 a.all.3 in
+    let split : a.records ≡ before ++ b.fields ∷ all.0 = all.1 ∙ append_assoc before (b.fields ∷ []) all.0 in
+    let lines = lines_of_requests b.requests ++ lines_of_begun b.begun in
+    let said : map Ok lines ++ line_of b.fields ∷ map line_of all.0 ≡ map Ok (lines_of_requests wanted) =
+    ap (λ xs. xs ++ line_of b.fields ∷ map line_of all.0) (sym b.spells.spelled)
+    ∙ (sym (map-append line_of before (b.fields ∷ all.0)) ∙ (ap (map line_of) (sym split) ∙ a.spelled)) in
+    let one = says_next lines (lines_of_requests wanted) (line_of b.fields) (map line_of all.0) said in
+    let fit : AllFit Outside (lines ++ one.0 ∷ one.1) =
+    subst (AllFit Outside) one.3 (fit_requests wanted (recursion_from_All IsWholeRequest wanted a.whole)) in
+    let here : AllFit (stand_of b.begun) (one.0 ∷ one.1) =
+    subst (λ s. AllFit s (one.0 ∷ one.1)) (behind_all b.requests b.begun b.spells.settled)
+    (fit_behind Outside lines (one.0 ∷ one.1) fit) in
+    let few : length before + 1 ≤ most =
+    omega (arith, a.few, ap length split, length-append before (b.fields ∷ all.0)) in
+    none-some e (sym (record_passes most (length before + 1) b.begun b.fields one.0 few one.2 here.0) ∙ b.is)
+
+-- outside of a refresh none is begun
+outside_is : (b : Begun) → stand_of b ≡ Outside → is_outside b ≡ true
+outside_is begun.Nothing e = refl
+outside_is (begun.Refresh actions) e = absurd cc
+outside_is (begun.Order order) e = absurd cc
+
+no_open_end : (most : ℕ) (text : List ℕ) (wanted : List RequestRecord) → SpellsScript most text wanted
+    → EndsInRefresh most text → ⊥
+no_open_end most text wanted a b =
+    let records : a.records ≡ b.records =
+    one_list record_config st.StartRecord a.all.0 b.all.0 (strip_bom text) a.all.1 b.all.1 a.records b.records
+    a.all.2 a.all.3 b.all.2 b.all.3 in
+    let begun_lines = lines_of_requests b.requests ++ lines_of_begun b.begun in
+    let results : map Ok (lines_of_requests wanted) ≡ map Ok begun_lines =
+    sym a.spelled ∙ (ap (map line_of) records ∙ b.spells.spelled) in
+    let lines : lines_of_requests wanted ≡ begun_lines =
+    sym (all_given (lines_of_requests wanted)) ∙ (ap (map given) results ∙ all_given begun_lines) in
+    let stands : stand_of b.begun ≡ Outside =
+    sym (behind_all b.requests b.begun b.spells.settled)
+    ∙ (ap (behind Outside) (sym lines) ∙ behind_requests wanted) in
+    let outside = outside_is b.begun stands in
+    let inside = b.inside in
+    absurd cc
+
+pub spelled_has_no_fault : (text : List ℕ) → HasNoFaultIfSpelled text
+spelled_has_no_fault text most wanted a =
+    (λ e b. no_first_fault most text wanted e a b, λ b. no_open_end most text wanted a b)

@@ -1,0 +1,4 @@
+mod AnswerLaws
+mod SessionLaws
+mod EndLaws
+mod WholeScriptLaws

@@ -1,0 +1,132 @@
+-- A legal script that is answered request by request has the replies of the whole script.
+use Rattle.std.proofs.Common.{
+  ◌≡◌,
+  ℕ,
+  List,
+  [],
+  ◌∷◌,
+  ◌++◌,
+  inl,
+  inr,
+  subst,
+  refl,
+  sym,
+  ap,
+  ◌∙◌,
+  append-nil,
+}
+use Rattle.std.specs.List.{AllZip, concat, flat_map}
+use Rattle.std.proofs.lemmas.Grind.{flat_map-append}
+use Rattle.history.specs.Tokens.{TokenRecord}
+use Rattle.session_requests.proofs.ScriptLaws.{script_of_requests_of}
+use Rattle.ssb_report.specs.Replies.{Reply, reply_text}
+use Rattle.ssb_report.specs.Report.{report_of}
+use Rattle.ssb_script.specs.Requests.{RequestRecord}
+use Rattle.ssb_script.specs.Scripts.{SpellsScript, most_records}
+use Rattle.ssb_script.specs.declared.error.ScriptError.{ScriptError}
+use Rattle.ssb_script.proofs.FaultLaws.{spelled_has_no_fault}
+use Rattle.ssb_script.proofs.OneReadingLaws.{asks_nothing, one_reading}
+use Rattle.ssb_sessions.specs.Served.{AreServed}
+use Rattle.stream_sessions.specs.Answers.{AreAnswered, HasFault, IsAnswered}
+use Rattle.stream_sessions.specs.Session.{all_of}
+use Rattle.stream_sessions.specs.WholeScripts.{HasRepliesOfScript}
+
+-- a client was served all this, and this is the report
+record IsToldAll (number : ℕ) (old new : TokenRecord) (wanted : List RequestRecord) (text : List ℕ) : Type 0 where
+  replies : List Reply
+  served : AreServed number old wanted replies new
+  told : text ≡ report_of replies
+
+-- what is served in turn is served as one
+served_both : (number : ℕ) (old mid new : TokenRecord) (first more : List RequestRecord) (one two : List Reply)
+    → AreServed number old first one mid → AreServed number mid more two new
+    → AreServed number old (first ++ more) (one ++ two) new
+served_both number old mid new [] more [] two a b = subst (λ t. AreServed number t more two new) a b
+served_both number old mid new [] more (reply ∷ one) two a b = absurd a
+served_both number old mid new (request ∷ first) more [] two a b = absurd a
+served_both number old mid new (request ∷ first) more (reply ∷ one) two a b =
+    (a.0, a.1, served_both number a.0 mid new first more one two a.2 b)
+
+told_both : (number : ℕ) (old mid new : TokenRecord) (first more : List RequestRecord) (text texts : List ℕ)
+    → IsToldAll number old mid first text → IsToldAll number mid new more texts
+    → IsToldAll number old new (first ++ more) (text ++ texts)
+told_both number old mid new first more text texts a b = record {
+  replies = a.replies ++ b.replies;
+  served = served_both number old mid new first more a.replies b.replies a.served b.served;
+  told = ap (λ t. t ++ texts) a.told
+      ∙ (ap (λ t. report_of a.replies ++ t) b.told ∙ sym (flat_map-append reply_text a.replies b.replies));
+}
+
+-- a request that spells a script is not refused, and is told what that asks
+not_refused : (request : List ℕ) (asked : List RequestRecord) (fault : ScriptError)
+    → SpellsScript most_records request asked → HasFault request fault → ⊥
+not_refused request asked fault spells (inl first) =
+    (spelled_has_no_fault request most_records asked spells).0 fault first
+not_refused request asked fault spells (inr open_end) =
+    (spelled_has_no_fault request most_records asked spells).1 open_end.1
+
+request_told : (number : ℕ) (request : List ℕ) (old new : TokenRecord) (text : List ℕ) (asked : List RequestRecord)
+    → SpellsScript most_records request asked → IsAnswered number request old new text
+    → IsToldAll number old new asked text
+request_told number request old new text asked spells (inl reported) = record {
+  replies = reported.replies;
+  served = subst (λ all. AreServed number old all reported.replies new)
+      (one_reading request most_records most_records reported.asked asked reported.spelled spells) reported.served;
+  told = reported.report;
+}
+request_told number request old new text asked spells (inr refused) =
+    absurd (not_refused request asked refused.fault spells refused.has)
+
+requests_told : (number : ℕ) (old new : TokenRecord) (requests texts : List (List ℕ))
+    (each : List (List RequestRecord))
+    → AllZip (SpellsScript most_records) requests each → AreAnswered number old requests texts new
+    → IsToldAll number old new (flat_map (λ r. r) each) (concat texts)
+requests_told number old new [] [] [] spells are = record { replies = []; served = are; told = refl }
+requests_told number old new [] (text ∷ texts) each spells are = absurd are
+requests_told number old new [] [] (asked ∷ each) spells are = absurd spells
+requests_told number old new (request ∷ requests) texts [] spells are = absurd spells
+requests_told number old new (request ∷ requests) [] (asked ∷ each) spells are = absurd are
+requests_told number old new (request ∷ requests) (text ∷ texts) (asked ∷ each) spells are =
+    told_both number old are.0 new asked (flat_map (λ r. r) each) text (concat texts)
+    (request_told number request old are.0 text asked spells.0 are.1)
+    (requests_told number are.0 new requests texts each spells.1 are.2)
+
+-- all that is answered spells what the requests ask, and then what is left does
+spells_push : (requests : List (List ℕ)) (each : List (List RequestRecord)) (rest : List ℕ) (last : List RequestRecord)
+    → AllZip (SpellsScript most_records) requests each → SpellsScript most_records rest last
+    → AllZip (SpellsScript most_records) (requests ++ rest ∷ []) (each ++ last ∷ [])
+spells_push [] [] rest last all spells = (spells, tt)
+spells_push [] (asked ∷ each) rest last all spells = absurd all
+spells_push (request ∷ requests) [] rest last all spells = absurd all
+spells_push (request ∷ requests) (asked ∷ each) rest last all spells =
+    (all.0, spells_push requests each rest last all.1 spells)
+
+record AllSpell (texts : List (List ℕ)) (wanted : List RequestRecord) : Type 0 where
+  parts : List (List RequestRecord)
+  each : AllZip (SpellsScript most_records) texts parts
+  joined : flat_map (λ r. r) parts ≡ wanted
+
+all_spell : (requests : List (List ℕ)) (each : List (List RequestRecord)) (rest : List ℕ) (last : List RequestRecord)
+    → AllZip (SpellsScript most_records) requests each → SpellsScript most_records rest last
+    → AllSpell (all_of requests rest) (flat_map (λ r. r) each ++ last)
+all_spell requests each [] last all spells =
+    let nothing : last ≡ [] = asks_nothing most_records last spells in
+    record {
+      parts = each;
+      each = all;
+      joined = sym (append-nil (flat_map (λ r. r) each)) ∙ ap (λ t. flat_map (λ r. r) each ++ t) (sym nothing);
+    }
+all_spell requests each (b ∷ rest) last all spells = record {
+  parts = each ++ last ∷ [];
+  each = spells_push requests each (b ∷ rest) last all spells;
+  joined = flat_map-append (λ r. r) each (last ∷ [])
+      ∙ ap (λ t. flat_map (λ r. r) each ++ t) (append-nil last);
+}
+
+pub replies_of_script : (text : List ℕ) → HasRepliesOfScript text
+replies_of_script text number old new requests texts rest wanted cut none marks spells are =
+    let parts = script_of_requests_of most_records text requests rest wanted cut none marks spells in
+    let all = all_spell requests parts.0 rest parts.1 parts.3 parts.5 in
+    let told = requests_told number old new (all_of requests rest) texts all.parts all.each are in
+    let same : flat_map (λ r. r) all.parts ≡ wanted = all.joined ∙ sym parts.2 in
+    (told.replies, subst (λ all. AreServed number old all told.replies new) same told.served, told.told)

@@ -1,0 +1,47 @@
+-- The line that tells a request's fault.
+use Rattle.std.specs.Prelude.{ℕ, List, [], ◌∷◌, ◌++◌, codes, decimal}
+use Rattle.std.specs.List.{concat}
+use Rattle.ssb_schema.specs.Columns.{column_name, table_name}
+use Rattle.ssb_schema.specs.declared.fault.SchemaFault.{SchemaFault}
+use Rattle.ssb_schema.specs.declared.fault.SchemaFault.TheVariants as schema
+use Rattle.ssb_script.specs.declared.error.ScriptError.{ScriptError}
+use Rattle.ssb_script.specs.declared.error.ScriptError.TheVariants as script
+use Rattle.ssb_report.specs.Numbers.{line_feed}
+
+-- the number, the name and the values of a fault of the schema
+abbrev pub schema_text : SchemaFault → List ℕ
+schema_text schema.NoLines = codes "1 NoLines"
+schema_text schema.TooManyLines = codes "2 TooManyLines"
+schema_text schema.KeysDiffer = codes "3 KeysDiffer"
+schema_text (schema.LineRepeated number) = concat (codes "4 LineRepeated " ∷ decimal number ∷ [])
+schema_text schema.NoActions = codes "5 NoActions"
+schema_text schema.TooManyActions = codes "6 TooManyActions"
+schema_text (schema.KeyRepeated table row) =
+    concat (codes "7 KeyRepeated " ∷ table_name table ∷ codes " " ∷ decimal row ∷ [])
+schema_text (schema.UnknownKey line table) =
+    concat (codes "8 UnknownKey " ∷ decimal line ∷ codes " " ∷ table_name table ∷ [])
+schema_text (schema.TooManyRows table) = concat (codes "9 TooManyRows " ∷ table_name table ∷ [])
+schema_text (schema.OutOfRange column) = concat (codes "10 OutOfRange " ∷ column_name column ∷ [])
+schema_text (schema.FieldTooLong column) = concat (codes "11 FieldTooLong " ∷ column_name column ∷ [])
+
+-- the number, the name and the values of a script's fault
+abbrev pub fault_text : ScriptError → List ℕ
+fault_text (script.BadLine record_number) = concat (codes "70 BadLine " ∷ decimal record_number ∷ [])
+fault_text script.NoCommit = codes "71 NoCommit"
+fault_text (script.EmptyBlock record_number) = concat (codes "72 EmptyBlock " ∷ decimal record_number ∷ [])
+fault_text (script.Row record_number why) =
+    concat (codes "73 Row " ∷ decimal record_number ∷ codes " " ∷ []) ++ schema_text why
+fault_text script.TooLong = codes "74 TooLong"
+fault_text script.Read = codes "75 Read"
+fault_text script.OutOfMemory = codes "out of memory"
+
+-- the line of a fault
+abbrev pub line_of_fault : List ℕ → List ℕ
+line_of_fault text = codes "fault: " ++ text ++ line_feed
+
+abbrev pub fault_line : ScriptError → List ℕ
+fault_line fault = line_of_fault (fault_text fault)
+
+-- the line of a request that is too long
+abbrev pub too_long_line : List ℕ
+too_long_line = line_of_fault (codes "76 RequestTooLong")

@@ -1,0 +1,5 @@
+pub mod FaultLine
+pub mod Answers
+pub mod Session
+pub mod Steps
+pub mod WholeScripts

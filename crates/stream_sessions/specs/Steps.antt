@@ -1,0 +1,105 @@
+-- The steps of a session.
+use Rattle.std.specs.Prelude.{◌≡◌, ℕ, ◌<◌, List, [], ◌++◌, ◌⊎◌, length, Option, Result, Ok, Err}
+use Rattle.std.specs.Io.KnownBytes.{Appends, Consumes}
+use Rattle.history.specs.Tokens.{TokenRecord}
+use Rattle.session_requests.specs.Next.{IsFound, IsAllOf, IsLessThan}
+use Rattle.session_requests.specs.Requests.{IsUnfinished}
+use Rattle.session_requests.specs.declared.requests.Found.TheVariants as found
+use Rattle.ssb_report.specs.Written.{AppendsPart}
+use Rattle.stream_sessions.specs.Answers.{IsAnswered, BreaksOff}
+use Rattle.stream_sessions.specs.FaultLine.{too_long_line}
+use Rattle.stream_sessions.specs.Session.{IsServed, IsBroken, Breaks, most_bytes}
+use Rattle.stream_sessions.specs.declared.outcome.Served.{Served}
+use Rattle.stream_sessions.specs.declared.outcome.SessionError.{SessionError}
+use Rattle.stream_sessions.specs.declared.outcome.SessionFault.{SessionFault}
+use Rattle.stream_sessions.specs.declared.outcome.SessionFault.TheVariants as fault
+use Rattle.stream_sessions.specs.declared.step.Step.{Step}
+use Rattle.stream_sessions.specs.declared.step.Step.TheVariants as step
+
+-- a request was answered, and the reply added to those that are held
+pub record AddsAnswer (number : ℕ) (request : List ℕ) (old new : TokenRecord) (before after : List ℕ) : Type 0 where
+  pub text : List ℕ
+  pub answered : IsAnswered number request old new text
+  pub added : after ≡ before ++ text
+
+-- a request was not answered for want of memory, and nothing was added
+pub record AddsNothing (number : ℕ) (request : List ℕ) (old new : TokenRecord) (before after : List ℕ) : Type 0 where
+  pub broken : BreaksOff number request old new
+  pub added : after ≡ before
+
+-- of the replies that were held, the first were written
+pub record HandsOn (before after : Option (List ℕ)) (held kept : List ℕ) : Type 0 where
+  pub handed : List ℕ
+  pub written : Appends before after handed
+  pub whole : held ≡ handed ++ kept
+
+-- what a step read and did
+abbrev pub StepsSo : Step → ℕ → TokenRecord → TokenRecord → Option (List ℕ) → List ℕ → List ℕ → List ℕ → Type 0
+StepsSo step.Request number old new unread bytes kept held =
+    IsFound found.Request unread bytes × AddsAnswer number bytes old new kept held
+StepsSo step.Rest number old new unread bytes kept held =
+    IsFound found.Rest unread bytes × AddsAnswer number bytes old new kept held
+StepsSo step.Nothing number old new unread bytes kept held =
+    IsFound found.Nothing unread bytes × (new ≡ old) × (held ≡ kept)
+StepsSo step.TooLong number old new unread bytes kept held =
+    IsUnfinished bytes × (length bytes ≡ most_bytes) × IsLessThan unread bytes × (new ≡ old)
+    × (held ≡ kept ++ too_long_line)
+
+pub record Steps (step : Step) (number : ℕ) (old new : TokenRecord) (unread left before after : Option (List ℕ))
+    (held_old held_new : List ℕ) : Type 0 where
+  pub kept : List ℕ
+  pub handed : HandsOn before after held_old kept
+  pub bytes : List ℕ
+  pub read : Consumes unread left bytes
+  pub so : StepsSo step number old new unread bytes kept held_new
+
+-- a text to be answered: a request, or what is left at the end
+abbrev pub IsText : Option (List ℕ) → List ℕ → Type 0
+IsText unread bytes = IsFound found.Request unread bytes ⊎ IsFound found.Rest unread bytes
+
+-- what a step had read when memory ran out
+abbrev pub RunsOut : ℕ → TokenRecord → TokenRecord → Option (List ℕ) → List ℕ → Type 0
+RunsOut number old new unread bytes =
+    (IsUnfinished bytes × (new ≡ old)) ⊎ (IsText unread bytes × BreaksOff number bytes old new)
+
+-- why a step failed that had read so much
+abbrev pub FailsSo : SessionFault → ℕ → TokenRecord → TokenRecord → Option (List ℕ) → List ℕ → Type 0
+FailsSo fault.Read number old new unread bytes = IsUnfinished bytes × (new ≡ old)
+FailsSo fault.Write number old new unread bytes = ⊥
+FailsSo fault.OutOfMemory number old new unread bytes = RunsOut number old new unread bytes
+
+pub record FailsAt (why : SessionFault) (number : ℕ) (old new : TokenRecord) (unread left before after : Option (List ℕ))
+    (held_old held_new : List ℕ) : Type 0 where
+  pub handed : HandsOn before after held_old held_new
+  pub bytes : List ℕ
+  pub read : Consumes unread left bytes
+  pub so : FailsSo why number old new unread bytes
+
+-- replies could not be written, and nothing was read
+pub record FailsWriting (why : SessionFault) (old new : TokenRecord) (unread left before after : Option (List ℕ)) (held : List ℕ) :
+    Type 0 where
+  pub is : why ≡ fault.Write
+  pub unchanged : new ≡ old
+  pub unread_is : left ≡ unread
+  pub written : AppendsPart before after held
+
+abbrev pub Fails : SessionFault → ℕ → TokenRecord → TokenRecord → Option (List ℕ) → Option (List ℕ) → Option (List ℕ)
+    → Option (List ℕ) → List ℕ → List ℕ → Type 0
+Fails why number old new unread left before after held_old held_new =
+    FailsWriting why old new unread left before after held_old
+    ⊎ FailsAt why number old new unread left before after held_old held_new
+
+-- a text has been told, of which the last part is still held
+pub record IsHeld (before after : Option (List ℕ)) (held : List ℕ) (Is : List ℕ → Type 0) : Type 0 where
+  pub handed : List ℕ
+  pub written : Appends before after handed
+  pub is : Is (handed ++ held)
+
+-- how all requests were answered
+abbrev pub EndsHeld : Result Served SessionError → ℕ → TokenRecord → TokenRecord → Option (List ℕ) → Option (List ℕ)
+    → Option (List ℕ) → Option (List ℕ) → List ℕ → Type 0
+EndsHeld (Ok served) number old new unread left before after held =
+    IsHeld before after held (IsServed served number old new unread left)
+EndsHeld (Err error) number old new unread left before after held =
+    Breaks error number old new unread left before after
+    ⊎ IsHeld before after held (IsBroken error number old new unread left)

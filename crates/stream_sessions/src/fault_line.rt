@@ -1,0 +1,99 @@
+//! The line that tells a request's fault.
+
+ghost use Rattle.ssb_report.specs.Written.{Writes};
+ghost use Rattle.stream_sessions.specs.FaultLine.{fault_line, fault_text, schema_text};
+
+use ssb_report::{Piece, WriteFault, write_pieces};
+use ssb_schema::SchemaFault;
+use ssb_script::ScriptError;
+use std::io::Write;
+
+// The number, the name and the values of a fault of the schema.
+fn write_schema_fault<W: Write>(writer: &mut W, fault: SchemaFault) -> Result<(), WriteFault>
+    ensures { Writes (W.contents writer.old) (W.contents writer.new) result (schema_text fault) }
+{
+    match fault {
+        SchemaFault::NoLines => write_pieces(writer, &[Piece::Text("1 NoLines")]),
+        SchemaFault::TooManyLines => write_pieces(writer, &[Piece::Text("2 TooManyLines")]),
+        SchemaFault::KeysDiffer => write_pieces(writer, &[Piece::Text("3 KeysDiffer")]),
+        SchemaFault::LineRepeated(number) => write_pieces(
+            writer,
+            &[
+                Piece::Text("4 LineRepeated "),
+                Piece::Number(u64::from(number)),
+            ],
+        ),
+        SchemaFault::NoActions => write_pieces(writer, &[Piece::Text("5 NoActions")]),
+        SchemaFault::TooManyActions => write_pieces(writer, &[Piece::Text("6 TooManyActions")]),
+        SchemaFault::KeyRepeated(table, row) => write_pieces(
+            writer,
+            &[
+                Piece::Text("7 KeyRepeated "),
+                Piece::Text(table.name()),
+                Piece::Text(" "),
+                Piece::Number(row as u64),
+            ],
+        ),
+        SchemaFault::UnknownKey(line, table) => write_pieces(
+            writer,
+            &[
+                Piece::Text("8 UnknownKey "),
+                Piece::Number(line as u64),
+                Piece::Text(" "),
+                Piece::Text(table.name()),
+            ],
+        ),
+        SchemaFault::TooManyRows(table) => write_pieces(
+            writer,
+            &[Piece::Text("9 TooManyRows "), Piece::Text(table.name())],
+        ),
+        SchemaFault::OutOfRange(column) => write_pieces(
+            writer,
+            &[Piece::Text("10 OutOfRange "), Piece::Text(column.name())],
+        ),
+        SchemaFault::FieldTooLong(column) => write_pieces(
+            writer,
+            &[Piece::Text("11 FieldTooLong "), Piece::Text(column.name())],
+        ),
+    }
+}
+
+// The number, the name and the values of a script's fault.
+fn write_fault<W: Write>(writer: &mut W, fault: ScriptError) -> Result<(), WriteFault>
+    ensures { Writes (W.contents writer.old) (W.contents writer.new) result (fault_text fault) }
+{
+    match fault {
+        ScriptError::BadLine(record) => write_pieces(
+            writer,
+            &[Piece::Text("70 BadLine "), Piece::Number(record)],
+        ),
+        ScriptError::NoCommit => write_pieces(writer, &[Piece::Text("71 NoCommit")]),
+        ScriptError::EmptyBlock(record) => write_pieces(
+            writer,
+            &[Piece::Text("72 EmptyBlock "), Piece::Number(record)],
+        ),
+        ScriptError::Row(record, why) => {
+            write_pieces(
+                writer,
+                &[
+                    Piece::Text("73 Row "),
+                    Piece::Number(record),
+                    Piece::Text(" "),
+                ],
+            )?;
+            write_schema_fault(writer, why)
+        }
+        ScriptError::TooLong => write_pieces(writer, &[Piece::Text("74 TooLong")]),
+        ScriptError::Read => write_pieces(writer, &[Piece::Text("75 Read")]),
+        ScriptError::OutOfMemory => write_pieces(writer, &[Piece::Text("out of memory")]),
+    }
+}
+
+/// Writes the line that tells a request's fault: `fault: ` and what the fault says of itself. It takes no memory.
+pub fn write_fault_line<W: Write>(writer: &mut W, fault: ScriptError) -> Result<(), WriteFault>
+    ensures { Writes (W.contents writer.old) (W.contents writer.new) result (fault_line fault) }
+{
+    write_pieces(writer, &[Piece::Text("fault: ")])?;
+    write_fault(writer, fault)?;
+    write_pieces(writer, &[Piece::Text("\n")])
+}

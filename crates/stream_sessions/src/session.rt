@@ -1,0 +1,129 @@
+//! A live session, from its first request to its last.
+
+ghost use Rattle.std.specs.Prelude.{◌≡◌, [], false, IfOk, IfErr};
+ghost use Rattle.std.specs.Option.{is_some};
+ghost use Rattle.std.specs.Io.Buffered.{reader_remaining};
+ghost use Rattle.history.specs.Tokens.{IsSound};
+ghost use Rattle.history.specs.World.{number_of};
+ghost use Rattle.ssb_sessions.specs.Steps.{AreAlike};
+ghost use Rattle.stream_sessions.specs.Session.{Serves, Breaks};
+ghost use Rattle.stream_sessions.specs.Steps.{EndsHeld};
+
+use crate::held::hand_on;
+use crate::outcome::{Ending, Served, SessionError, SessionFault};
+use crate::step::{Step, serve_next};
+use ssb_server::{Client, Server};
+use std::alloc::Global;
+use std::io::{BufReader, Read, Write};
+use std::sync::Wait;
+
+// Answers requests until the session ends; the last replies are still held.
+fn answer_all<W: Wait + Drop, R: Wait, I: Read, O: Write>(
+    rt: &R,
+    alloc: Global,
+    server: &Server<W>,
+    client: &mut Client<W>,
+    input: &mut BufReader<I>,
+    output: &mut O,
+    replies: &mut Vec<u8>,
+) -> Result<Served, SessionError>
+    requires table { client.old.table ≡ server.now }
+    requires quiet { is_some client.old.asked ≡ false }
+    requires none_held { replies.old.items ≡ [] }
+    ensures held { EndsHeld result (number_of client.old.who) client.old client.new
+        (reader_remaining I.remaining input.old) (reader_remaining I.remaining input.new)
+        (O.contents output.old) (O.contents output.new) replies.new.items }
+    ensures same { AreAlike client.old client.new }
+    ensures sound { IsSound client.old → IsSound client.new }
+{
+    let mut request = Vec::new(alloc);
+    for answered in 0..u64::MAX {
+        match serve_next(
+            rt,
+            alloc,
+            server,
+            client,
+            input,
+            output,
+            &mut request,
+            replies,
+        ) {
+            Ok(Step::Request) => {}
+            Ok(Step::Rest) => {
+                return Ok(Served {
+                    answered: answered + 1,
+                    ending: Ending::InputEnded,
+                });
+            }
+            Ok(Step::Nothing) => {
+                return Ok(Served {
+                    answered,
+                    ending: Ending::InputEnded,
+                });
+            }
+            Ok(Step::TooLong) => {
+                return Ok(Served {
+                    answered,
+                    ending: Ending::RequestTooLong,
+                });
+            }
+            Err(fault) => return Err(SessionError { answered, fault }),
+        }
+    }
+    // No client writes so many requests.
+    Err(SessionError {
+        answered: u64::MAX,
+        fault: SessionFault::Read,
+    })
+}
+
+/// Serves a client whose requests are read from the input, and whose replies are written to the output, until the input
+/// ends or a request is longer than 1 MiB.
+///
+/// Each request is read as a script of its own, and answered by its report, or by the line of its fault, as
+/// `fault: 70 BadLine 2`; it then changed nothing, and the session goes on. At the end of the input the rest is answered
+/// likewise, where there is any. A request that is too long is told as soon as it is known.
+///
+/// Replies are held while whole requests are at hand in the input's buffer, 64 KiB of them at most and one more, and are
+/// handed on before the session waits for its client, and at its end. Memory does not grow with the session. It waits for
+/// the rows and for answers; a dispatcher has to take its turns meanwhile.
+///
+/// A failed read or write, or want of memory, breaks it, and so many requests were answered before. In each case nothing is
+/// outstanding then.
+pub fn serve_session<W: Wait + Drop, R: Wait, I: Read, O: Write>(
+    rt: &R,
+    alloc: Global,
+    server: &Server<W>,
+    client: &mut Client<W>,
+    input: &mut BufReader<I>,
+    output: &mut O,
+) -> Result<Served, SessionError>
+    requires table { client.old.table ≡ server.now }
+    requires quiet { is_some client.old.asked ≡ false }
+    ensures served { IfOk result (λ served. Serves served (number_of client.old.who) client.old client.new
+        (reader_remaining I.remaining input.old) (reader_remaining I.remaining input.new)
+        (O.contents output.old) (O.contents output.new)) }
+    ensures broken { IfErr result (λ error. Breaks error (number_of client.old.who) client.old client.new
+        (reader_remaining I.remaining input.old) (reader_remaining I.remaining input.new)
+        (O.contents output.old) (O.contents output.new)) }
+    ensures same { AreAlike client.old client.new }
+    ensures sound { IsSound client.old → IsSound client.new }
+{
+    let mut replies = Vec::new(alloc);
+    let outcome = answer_all(rt, alloc, server, client, input, output, &mut replies);
+    let answered = match outcome {
+        Ok(served) => served.answered,
+        // What was not written is not to be tried again.
+        Err(
+            SessionError {
+                answered: _,
+                fault: SessionFault::Write,
+            },
+        ) => return outcome,
+        Err(error) => error.answered,
+    };
+    match hand_on(output, &mut replies) {
+        Ok(()) => outcome,
+        Err(fault) => Err(SessionError { answered, fault }),
+    }
+}

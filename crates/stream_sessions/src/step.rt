@@ -1,0 +1,112 @@
+//! One step of a session: the next request, answered.
+
+ghost use Rattle.std.specs.Prelude.{◌≡◌, ◌⊎◌, [], ◌++◌, false, OnOk, MatchResult};
+ghost use Rattle.std.specs.Option.{is_some};
+ghost use Rattle.std.specs.Io.Buffered.{reader_buffer, reader_remaining};
+ghost use Rattle.history.specs.Tokens.{IsSound};
+ghost use Rattle.history.specs.World.{number_of};
+ghost use Rattle.session_requests.specs.Requests.{BeginsWithRequest};
+ghost use Rattle.ssb_report.specs.Written.{AppendsPart};
+ghost use Rattle.ssb_sessions.specs.Steps.{AreAlike};
+ghost use Rattle.stream_sessions.specs.FaultLine.{too_long_line};
+ghost use Rattle.stream_sessions.specs.Steps.{Fails, HandsOn, Steps};
+ghost use Rattle.stream_sessions.specs.declared.outcome.SessionFault.TheVariants.{OutOfMemory, Write as FailedWrite};
+ghost use Rattle.stream_sessions.specs.declared.step.Step.TheVariants.{TooLong};
+
+use crate::answer::answer;
+use crate::held::hand_on;
+use crate::outcome::SessionFault;
+use session_requests::{Found, MOST_BYTES, RequestError, has_request, next_request};
+use ssb_report::{Piece, write_pieces};
+use ssb_server::{Client, Server};
+use std::alloc::Global;
+use std::io::{BufReader, Read, Write};
+use std::sync::Wait;
+
+/// The most bytes of replies that are held while requests are at hand.
+const MOST_HELD: usize = 65_536;
+
+/// What a step did.
+#[derive(Clone, Copy, Debug, PartialEq, Eq)]
+pub(crate) enum Step {
+    /// A request was answered.
+    Request,
+    /// What was left at the end of the input was answered.
+    Rest,
+    /// The input had ended.
+    Nothing,
+    /// The next request is too long, and that was told.
+    TooLong,
+}
+
+// Hands the replies on before the session waits for its client, or where many are held.
+fn hand_on_in_time<I: Read, O: Write>(
+    input: &BufReader<I>,
+    output: &mut O,
+    replies: &mut Vec<u8>,
+) -> Result<(), SessionFault>
+    ensures handed { MatchResult result
+        (λ _. HandsOn (O.contents output.old) (O.contents output.new) replies.old.items replies.new.items)
+        (λ fault. AppendsPart (O.contents output.old) (O.contents output.new) replies.old.items
+        × (fault ≡ FailedWrite)) }
+    ensures in_time { OnOk result ((replies.new.items ≡ []) ⊎ BeginsWithRequest (reader_buffer input.now)) }
+{
+    if replies.len() >= MOST_HELD || !has_request(input.buffer()) {
+        hand_on(output, replies)?;
+    }
+    Ok(())
+}
+
+// Tells that a request is too long.
+fn tell_too_long(replies: &mut Vec<u8>) -> Result<Step, SessionFault>
+    ensures { MatchResult result
+        (λ step. (step ≡ TooLong) × (replies.new.items ≡ replies.old.items ++ too_long_line))
+        (λ fault. (fault ≡ OutOfMemory) × (replies.new.items ≡ replies.old.items)) }
+{
+    let before = replies.len();
+    match write_pieces(replies, &[Piece::Text("fault: 76 RequestTooLong\n")]) {
+        Ok(()) => Ok(Step::TooLong),
+        Err(_) => {
+            replies.truncate(before);
+            Err(SessionFault::OutOfMemory)
+        }
+    }
+}
+
+/// Takes the next request, answers it, and adds the reply to those that are held.
+pub(crate) fn serve_next<W: Wait + Drop, R: Wait, I: Read, O: Write>(
+    rt: &R,
+    alloc: Global,
+    server: &Server<W>,
+    client: &mut Client<W>,
+    input: &mut BufReader<I>,
+    output: &mut O,
+    request: &mut Vec<u8>,
+    replies: &mut Vec<u8>,
+) -> Result<Step, SessionFault>
+    requires table { client.old.table ≡ server.now }
+    requires quiet { is_some client.old.asked ≡ false }
+    ensures step { MatchResult result
+        (λ step. Steps step (number_of client.old.who) client.old client.new (reader_remaining I.remaining input.old)
+        (reader_remaining I.remaining input.new) (O.contents output.old) (O.contents output.new) replies.old.items
+        replies.new.items)
+        (λ fault. Fails fault (number_of client.old.who) client.old client.new (reader_remaining I.remaining input.old)
+        (reader_remaining I.remaining input.new) (O.contents output.old) (O.contents output.new) replies.old.items
+        replies.new.items) }
+    ensures same { AreAlike client.old client.new }
+    ensures sound { IsSound client.old → IsSound client.new }
+{
+    hand_on_in_time(input, output, replies)?;
+    let step = match next_request(input, request, MOST_BYTES) {
+        Ok(Found::Request) => Step::Request,
+        Ok(Found::Rest) => Step::Rest,
+        Ok(Found::Nothing) => return Ok(Step::Nothing),
+        Err(RequestError::TooLong) => return tell_too_long(replies),
+        Err(RequestError::Read) => return Err(SessionFault::Read),
+        Err(RequestError::OutOfMemory) => return Err(SessionFault::OutOfMemory),
+    };
+    match answer(rt, alloc, server, client, request.as_slice(), replies) {
+        Ok(()) => Ok(step),
+        Err(_) => Err(SessionFault::OutOfMemory),
+    }
+}
