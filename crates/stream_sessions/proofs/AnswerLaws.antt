@@ -1,5 +1,6 @@
 -- From the loop of scripts to the answer of one request.
 use Rattle.std.proofs.Common.{◌≡◌, ℕ, ◌+◌, List, [], ◌++◌, take, drop, length, Option, Some, true, false, refl, sym, ap, ◌∙◌, subst, inl, inr}
+use Rattle.std.proofs.Math.Seq.{take-append_seam}
 use Rattle.std.proofs.lemmas.List.{take-append-drop}
 use Rattle.history.specs.Tokens.{TokenRecord}
 use Rattle.ssb_audit.specs.declared.trace.Told.{Told}
@@ -57,14 +58,24 @@ broke_off (stop.Write done) number request old new asked told_old told_new befor
 broke_off (stop.OutOfMemory done) number request old new asked told_old told_new before after spelled ends =
     in_part number request old new asked done _ spelled ends.1.served
 
+-- what was added of its report is cut off again
+cut_off : (error : ServeError) (number : ℕ) (old new : TokenRecord) (asked : List RequestRecord) (told_old told_new : List Told)
+    (before written : List ℕ)
+    → Ends error number old new asked told_old told_new (Some before) (Some written) → take (length before) written ≡ before
+cut_off (stop.Write done) number old new asked told_old told_new before written ends =
+    ap (take (length before)) ends.written ∙ take-append_seam before _
+cut_off (stop.OutOfMemory done) number old new asked told_old told_new before written ends =
+    ap (take (length before)) ends.1.written ∙ take-append_seam before _
+
 pub adds_nothing : (error : ServeError) (number : ℕ) (request : List ℕ) (old new : TokenRecord) (asked : List RequestRecord)
-    (told_old told_new : List Told) (a b : Option (List ℕ)) (before after : List ℕ)
+    (told_old told_new : List Told) (before written after : List ℕ)
     → SpellsScript most_records request asked
-    → Ends error number old new asked told_old told_new a b → after ≡ before
+    → Ends error number old new asked told_old told_new (Some before) (Some written)
+    → after ≡ take (length before) written
     → AddsNothing number request old new before after
-adds_nothing error number request old new asked told_old told_new a b before after spelled ends same = record {
-  broken = broke_off error number request old new asked told_old told_new a b spelled ends;
-  added = same;
+adds_nothing error number request old new asked told_old told_new before written after spelled ends cut = record {
+  broken = broke_off error number request old new asked told_old told_new (Some before) (Some written) spelled ends;
+  added = cut ∙ cut_off error number old new asked told_old told_new before written ends;
 }
 
 -- what is told of a request is its first fault
