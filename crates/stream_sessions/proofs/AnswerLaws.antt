@@ -1,17 +1,37 @@
 -- From the loop of scripts to the answer of one request.
-use Rattle.std.proofs.Common.{◌≡◌, ℕ, ◌+◌, List, [], ◌++◌, take, drop, length, Option, Some, true, false, refl, sym, ap, ◌∙◌, subst, inl, inr}
+use Rattle.std.proofs.Common.{
+  ◌≡◌,
+  ℕ,
+  ◌+◌,
+  List,
+  ◌++◌,
+  take,
+  drop,
+  length,
+  Option,
+  Some,
+  true,
+  false,
+  refl,
+  sym,
+  ap,
+  ◌∙◌,
+  subst,
+  inl,
+  inr,
+}
+use Rattle.std.proofs.Math.Seq.{take-append_seam}
 use Rattle.std.proofs.lemmas.List.{take-append-drop}
 use Rattle.history.specs.Tokens.{TokenRecord}
 use Rattle.ssb_audit.specs.declared.trace.Told.{Told}
 use Rattle.ssb_script.specs.Requests.{RequestRecord}
 use Rattle.ssb_script.specs.Scripts.{SpellsScript, IsScriptFault, most_records}
 use Rattle.ssb_script.specs.declared.error.ScriptError.{ScriptError}
-use Rattle.ssb_script.specs.declared.error.ScriptError.TheVariants as script
 use Rattle.ssb_report.specs.Replies.{Reply}
 use Rattle.ssb_sessions.specs.Served.{AreServed, Serves, Ends}
 use Rattle.ssb_sessions.specs.declared.serve_error.ServeError.{ServeError}
 use Rattle.ssb_sessions.specs.declared.serve_error.ServeError.TheVariants as stop
-use Rattle.stream_sessions.specs.Answers.{HasFault, is_of_text, BreaksOff, IsServedInPart}
+use Rattle.stream_sessions.specs.Answers.{HasFault, is_of_text, BreaksOff}
 use Rattle.stream_sessions.specs.FaultLine.{fault_line}
 use Rattle.stream_sessions.specs.Steps.{AddsAnswer, AddsNothing}
 
@@ -19,8 +39,8 @@ no_is : false ≡ true → ⊥
 no_is e = cc
 
 -- a script that was served whole is a request that was answered
-pub adds_report : (number : ℕ) (request : List ℕ) (old new : TokenRecord) (asked : List RequestRecord) (told_old told_new : List Told)
-    (before after : List ℕ)
+pub adds_report : (number : ℕ) (request : List ℕ) (old new : TokenRecord) (asked : List RequestRecord)
+    (told_old told_new : List Told) (before after : List ℕ)
     → SpellsScript most_records request asked
     → Serves number old new asked told_old told_new (Some before) (Some after)
     → AddsAnswer number request old new before after
@@ -37,7 +57,8 @@ adds_report number request old new asked told_old told_new before after spelled 
 }
 
 -- one whose first requests were served is one that broke off
-in_part : (number : ℕ) (request : List ℕ) (old new : TokenRecord) (asked : List RequestRecord) (count : ℕ) (replies : List Reply)
+in_part : (number : ℕ) (request : List ℕ) (old new : TokenRecord) (asked : List RequestRecord) (count : ℕ)
+    (replies : List Reply)
     → SpellsScript most_records request asked
     → AreServed number old (take count asked) replies new → BreaksOff number request old new
 in_part number request old new asked count replies spelled served = inr (record {
@@ -57,14 +78,25 @@ broke_off (stop.Write done) number request old new asked told_old told_new befor
 broke_off (stop.OutOfMemory done) number request old new asked told_old told_new before after spelled ends =
     in_part number request old new asked done _ spelled ends.1.served
 
-pub adds_nothing : (error : ServeError) (number : ℕ) (request : List ℕ) (old new : TokenRecord) (asked : List RequestRecord)
-    (told_old told_new : List Told) (a b : Option (List ℕ)) (before after : List ℕ)
+-- what was added of its report is cut off again
+cut_off : (error : ServeError) (number : ℕ) (old new : TokenRecord) (asked : List RequestRecord)
+    (told_old told_new : List Told) (before written : List ℕ)
+    → Ends error number old new asked told_old told_new (Some before) (Some written)
+    → take (length before) written ≡ before
+cut_off (stop.Write done) number old new asked told_old told_new before written ends =
+    ap (take (length before)) ends.written ∙ take-append_seam before _
+cut_off (stop.OutOfMemory done) number old new asked told_old told_new before written ends =
+    ap (take (length before)) ends.1.written ∙ take-append_seam before _
+
+pub adds_nothing : (error : ServeError) (number : ℕ) (request : List ℕ) (old new : TokenRecord)
+    (asked : List RequestRecord) (told_old told_new : List Told) (before written after : List ℕ)
     → SpellsScript most_records request asked
-    → Ends error number old new asked told_old told_new a b → after ≡ before
+    → Ends error number old new asked told_old told_new (Some before) (Some written)
+    → after ≡ take (length before) written
     → AddsNothing number request old new before after
-adds_nothing error number request old new asked told_old told_new a b before after spelled ends same = record {
-  broken = broke_off error number request old new asked told_old told_new a b spelled ends;
-  added = same;
+adds_nothing error number request old new asked told_old told_new before written after spelled ends cut = record {
+  broken = broke_off error number request old new asked told_old told_new (Some before) (Some written) spelled ends;
+  added = cut ∙ cut_off error number old new asked told_old told_new before written ends;
 }
 
 -- what is told of a request is its first fault

@@ -18,7 +18,8 @@ is_of_text _ = true
 
 -- read as a script of its own, a text has this fault first
 abbrev pub HasFault : List ℕ → ScriptError → Type 0
-HasFault text fault = IsFirstFault most_records text fault ⊎ ((fault ≡ script.NoCommit) × EndsInRefresh most_records text)
+HasFault text fault =
+    IsFirstFault most_records text fault ⊎ ((fault ≡ script.NoCommit) × EndsInRefresh most_records text)
 
 -- the client was served all that a request asks, as the loop of scripts serves it, and this is the report
 pub record IsReported (number : ℕ) (request : List ℕ) (old new : TokenRecord) (text : List ℕ) : Type 0 where
@@ -43,7 +44,8 @@ IsAnswered number request old new text = IsReported number request old new text 
 abbrev pub AreAnswered : ℕ → TokenRecord → List (List ℕ) → List (List ℕ) → TokenRecord → Type 0
 AreAnswered number old [] [] new = new ≡ old
 AreAnswered number old (request ∷ requests) (text ∷ texts) new =
-    (between : TokenRecord) × IsAnswered number request old between text × AreAnswered number between requests texts new
+    (between : TokenRecord) × IsAnswered number request old between text
+    × AreAnswered number between requests texts new
 AreAnswered number old [] (text ∷ texts) new = ⊥
 AreAnswered number old (request ∷ requests) [] new = ⊥
 

@@ -47,8 +47,8 @@ fn report<W: Wait + Drop, R: Wait>(
     }
 }
 
-// Whether a fault is one of the request itself: it is read from memory, so that want of it alone can keep it from being
-// read.
+// Whether a fault is one of the request itself. A request is read from memory, so that want of it alone can keep it from
+// being read.
 fn is_of_text(fault: ScriptError) -> bool
     ensures { result ≡ is_of_text fault }
 {
@@ -91,7 +91,8 @@ pub(crate) fn answer<W: Wait + Drop, R: Wait>(
     requires table { client.old.table ≡ server.now }
     requires quiet { is_some client.old.asked ≡ false }
     ensures answered { MatchResult result
-        (λ _. AddsAnswer (number_of client.old.who) request.now client.old client.new replies.old.items replies.new.items)
+        (λ _. AddsAnswer (number_of client.old.who) request.now client.old client.new replies.old.items
+        replies.new.items)
         (λ _. AddsNothing (number_of client.old.who) request.now client.old client.new replies.old.items
         replies.new.items) }
     ensures same { AreAlike client.old client.new }
