@@ -302,7 +302,10 @@ pub breaks_held : (why : SessionFault) (number : ℕ) (old now new : TokenRecord
     → Fails why number now new left next out after held kept
     → EndsHeld (Err (record { answered = done; fault = why })) number old new unread next before after kept
 breaks_held why number old now new unread left next before out after held kept done through failed = elim failed [
-  | inl writing ↦ inl (breaks_writing why number old now new unread left next before out after held done through writing)
+  | inl writing ↦ inl (
+    writing.is,
+    breaks_writing why number old now new unread left next before out after held done through writing,
+  )
   | inr early ↦ inr (breaks_at why number old now new unread left next before out after held kept done through early)
 ]
 
@@ -447,3 +450,59 @@ broken_in_vain why done number old new unread left before out after held ends wr
       };
       written = part_on before out after ends.handed held ends.written written;
     }
+
+-- a session that broke at a write, by what was written of its replies
+breaks_there : (error : SessionError) (number : ℕ) (old new : TokenRecord) (unread left before out : Option (List ℕ))
+    (held : List ℕ)
+    → error.fault ≡ fault.Write
+    → IsHeld before out held (IsBroken error number old new unread left)
+    → Breaks error number old new unread left before out
+breaks_there error number old new unread left before out held is ends = record {
+  text = ends.handed ++ held;
+  is = ends.is;
+  written = subst (λ why. IsWritten why before out (ends.handed ++ held)) (sym is) (record {
+    part = ends.handed;
+    rest = held;
+    begins = refl;
+    appends = ends.written;
+  });
+}
+
+pub broken_writing : (error : SessionError) (number : ℕ) (old new : TokenRecord) (unread left before out : Option (List ℕ))
+    (held : List ℕ)
+    → error.fault ≡ fault.Write
+    → EndsHeld (Err error) number old new unread left before out held
+    → Breaks error number old new unread left before out
+broken_writing error number old new unread left before out held is ends = elim ends [
+  | inl there ↦ there.1
+  | inr behind ↦ breaks_there error number old new unread left before out held is behind
+]
+
+-- one that broke before, whose last replies were handed on, or not
+still_held : (error : SessionError) (number : ℕ) (old new : TokenRecord) (unread left before out : Option (List ℕ))
+    (held : List ℕ)
+    → (error.fault ≡ fault.Write → ⊥)
+    → EndsHeld (Err error) number old new unread left before out held
+    → IsHeld before out held (IsBroken error number old new unread left)
+still_held error number old new unread left before out held other ends = elim ends [
+  | inl there ↦ absurd (other there.0)
+  | inr behind ↦ behind
+]
+
+pub broken : (error : SessionError) (number : ℕ) (old new : TokenRecord) (unread left before out after : Option (List ℕ))
+    (held : List ℕ)
+    → (error.fault ≡ fault.Write → ⊥)
+    → EndsHeld (Err error) number old new unread left before out held → Appends out after held
+    → Breaks error number old new unread left before after
+broken error number old new unread left before out after held other ends written =
+    breaks error.fault error.answered number old new unread left before out after held other
+    (still_held error number old new unread left before out held other ends) written
+
+pub broken_twice : (error : SessionError) (number : ℕ) (old new : TokenRecord) (unread left before out after : Option (List ℕ))
+    (held : List ℕ)
+    → (error.fault ≡ fault.Write → ⊥)
+    → EndsHeld (Err error) number old new unread left before out held → AppendsPart out after held
+    → Breaks (record { answered = error.answered; fault = fault.Write }) number old new unread left before after
+broken_twice error number old new unread left before out after held other ends written =
+    broken_in_vain error.fault error.answered number old new unread left before out after held
+    (still_held error number old new unread left before out held other ends) written
