@@ -1,5 +1,5 @@
 -- How a session ends.
-use Rattle.std.proofs.Common.{◌≡◌, ℕ, ◌+◌, ◌<◌, ◌≤◌, List, [], ◌∷◌, ◌++◌, length, take, get_or, Option, Some, None, Result, Ok, Err, refl, sym, ap, ◌∙◌, subst, inl, inr, append_assoc, append-nil, length-append, arith}
+use Rattle.std.proofs.Common.{◌≡◌, ℕ, ◌+◌, ◌<◌, ◌≤◌, List, [], ◌∷◌, ◌++◌, length, take, get_or, Option, Some, Err, refl, sym, ap, ◌∙◌, subst, inl, inr, append_assoc, append-nil, length-append, arith}
 use Rattle.std.specs.Prelude.{slice_get}
 use Rattle.std.specs.List.{AllByRecursion, concat}
 use Rattle.std.specs.Io.KnownBytes.{Appends, Consumes}
@@ -8,9 +8,7 @@ use Rattle.std.proofs.Math.Seq.{take-length, take-append_seam, get_or-append_sea
 use Rattle.std.proofs.lemmas.Option.{slice_get_read}
 use Rattle.stream_sessions.specs.declared.outcome.Ending.{Ending}
 use Rattle.history.specs.Tokens.{TokenRecord}
-use Rattle.session_requests.specs.Next.{IsFound, IsAllOf, IsLessThan}
 use Rattle.session_requests.specs.Requests.{IsRequest, IsUnfinished, IsCutInto}
-use Rattle.session_requests.specs.declared.requests.Found.TheVariants as found
 use Rattle.session_requests.proofs.RequestLaws.{concat-push, nothing_is_unfinished}
 use Rattle.session_requests.proofs.TakingLaws.{all_behind, less_behind}
 use Rattle.ssb_report.specs.Written.{AppendsPart}
@@ -21,7 +19,6 @@ use Rattle.stream_sessions.specs.Session.{
   all_of,
   answered_at,
   last_line,
-  most_bytes,
   IsServed,
   IsBroken,
   IsWritten,

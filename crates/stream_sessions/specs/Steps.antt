@@ -1,8 +1,8 @@
 -- The steps of a session.
-use Rattle.std.specs.Prelude.{◌≡◌, ℕ, ◌<◌, List, [], ◌++◌, ◌⊎◌, length, Option, Result, Ok, Err}
+use Rattle.std.specs.Prelude.{◌≡◌, ℕ, List, ◌++◌, ◌⊎◌, length, Option, Result, Ok, Err}
 use Rattle.std.specs.Io.KnownBytes.{Appends, Consumes}
 use Rattle.history.specs.Tokens.{TokenRecord}
-use Rattle.session_requests.specs.Next.{IsFound, IsAllOf, IsLessThan}
+use Rattle.session_requests.specs.Next.{IsFound, IsLessThan}
 use Rattle.session_requests.specs.Requests.{IsUnfinished}
 use Rattle.session_requests.specs.declared.requests.Found.TheVariants as found
 use Rattle.ssb_report.specs.Written.{AppendsPart}

@@ -1,6 +1,5 @@
 use Rattle.std.proofs.Common.{inl, inr, rules}
 use Rattle.std.specs.Io.Buffered.{reader_remaining}
-use Rattle.history.specs.World.{number_of}
 use Rattle.stream_sessions.specs.Steps.{IsText}
 use Rattle.stream_sessions.proofs.StepLaws.{runs_out}
 use Rattle.stream_sessions.proofs.step.serve_next.Goals.{in-Ok-Request, in-Ok-Rest}
