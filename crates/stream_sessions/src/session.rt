@@ -115,19 +115,19 @@ fn break_off<O: Write>(output: &mut O, replies: &mut Vec<u8>, error: SessionErro
     }
 }
 
-/// Serves a client whose requests are read from the input, and whose replies are written to the output, until the input
-/// ends or a request is longer than 1 MiB.
+/// Serves a client whose requests are read from the input, and whose replies are written to the output, until the
+/// input ends or a request is longer than 1 MiB.
 ///
 /// Each request is read as a script of its own, and answered by its report, or by the line of its fault, as
-/// `fault: 70 BadLine 2`; it then changed nothing, and the session goes on. At the end of the input the rest is answered
-/// likewise, where there is any. A request that is too long is told as soon as it is known.
+/// `fault: 70 BadLine 2`; it then changed nothing, and the session goes on. At the end of the input the rest is
+/// answered likewise, where there is any. A request that is too long is told as soon as it is known.
 ///
-/// Replies are held while whole requests are at hand in the input's buffer, 64 KiB of them at most and one more, and are
-/// handed on before the session waits for its client, and at its end. Memory does not grow with the session. It waits for
-/// the rows and for answers; a dispatcher has to take its turns meanwhile.
+/// Replies are held while whole requests are at hand in the input's buffer, 64 KiB of them at most and one more, and
+/// are handed on before the session waits for its client, and at its end. Memory does not grow with the session. It
+/// waits for the rows and for answers; a dispatcher has to take its turns meanwhile.
 ///
-/// A failed read or write, or want of memory, breaks it, and so many requests were answered before. In each case nothing is
-/// outstanding then.
+/// A failed read or write, or want of memory, breaks it, and so many requests were answered before. In each case
+/// nothing is outstanding then.
 pub fn serve_session<W: Wait + Drop, R: Wait, I: Read, O: Write>(
     rt: &R,
     alloc: Global,
