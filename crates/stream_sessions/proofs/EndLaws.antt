@@ -1,5 +1,5 @@
 -- How a session ends.
-use Rattle.std.proofs.Common.{◌≡◌, ℕ, ◌+◌, ◌<◌, ◌≤◌, List, [], ◌∷◌, ◌++◌, length, take, get_or, Option, Some, None, Result, Ok, Err, refl, sym, ap, ◌∙◌, subst, inl, inr, append_assoc, append-nil, length-append, arith}
+use Rattle.std.proofs.Common.{◌≡◌, ℕ, ◌+◌, ◌<◌, ◌≤◌, List, [], ◌∷◌, ◌++◌, length, take, get_or, Option, Some, Err, refl, sym, ap, ◌∙◌, subst, inl, inr, append_assoc, append-nil, length-append, arith}
 use Rattle.std.specs.Prelude.{slice_get}
 use Rattle.std.specs.List.{AllByRecursion, concat}
 use Rattle.std.specs.Io.KnownBytes.{Appends, Consumes}
@@ -8,9 +8,7 @@ use Rattle.std.proofs.Math.Seq.{take-length, take-append_seam, get_or-append_sea
 use Rattle.std.proofs.lemmas.Option.{slice_get_read}
 use Rattle.stream_sessions.specs.declared.outcome.Ending.{Ending}
 use Rattle.history.specs.Tokens.{TokenRecord}
-use Rattle.session_requests.specs.Next.{IsFound, IsAllOf, IsLessThan}
 use Rattle.session_requests.specs.Requests.{IsRequest, IsUnfinished, IsCutInto}
-use Rattle.session_requests.specs.declared.requests.Found.TheVariants as found
 use Rattle.session_requests.proofs.RequestLaws.{concat-push, nothing_is_unfinished}
 use Rattle.session_requests.proofs.TakingLaws.{all_behind, less_behind}
 use Rattle.ssb_report.specs.Written.{AppendsPart}
@@ -21,7 +19,6 @@ use Rattle.stream_sessions.specs.Session.{
   all_of,
   answered_at,
   last_line,
-  most_bytes,
   IsServed,
   IsBroken,
   IsWritten,
@@ -302,7 +299,10 @@ pub breaks_held : (why : SessionFault) (number : ℕ) (old now new : TokenRecord
     → Fails why number now new left next out after held kept
     → EndsHeld (Err (record { answered = done; fault = why })) number old new unread next before after kept
 breaks_held why number old now new unread left next before out after held kept done through failed = elim failed [
-  | inl writing ↦ inl (breaks_writing why number old now new unread left next before out after held done through writing)
+  | inl writing ↦ inl (
+    writing.is,
+    breaks_writing why number old now new unread left next before out after held done through writing,
+  )
   | inr early ↦ inr (breaks_at why number old now new unread left next before out after held kept done through early)
 ]
 
@@ -447,3 +447,59 @@ broken_in_vain why done number old new unread left before out after held ends wr
       };
       written = part_on before out after ends.handed held ends.written written;
     }
+
+-- a session that broke at a write, by what was written of its replies
+breaks_there : (error : SessionError) (number : ℕ) (old new : TokenRecord) (unread left before out : Option (List ℕ))
+    (held : List ℕ)
+    → error.fault ≡ fault.Write
+    → IsHeld before out held (IsBroken error number old new unread left)
+    → Breaks error number old new unread left before out
+breaks_there error number old new unread left before out held is ends = record {
+  text = ends.handed ++ held;
+  is = ends.is;
+  written = subst (λ why. IsWritten why before out (ends.handed ++ held)) (sym is) (record {
+    part = ends.handed;
+    rest = held;
+    begins = refl;
+    appends = ends.written;
+  });
+}
+
+pub broken_writing : (error : SessionError) (number : ℕ) (old new : TokenRecord) (unread left before out : Option (List ℕ))
+    (held : List ℕ)
+    → error.fault ≡ fault.Write
+    → EndsHeld (Err error) number old new unread left before out held
+    → Breaks error number old new unread left before out
+broken_writing error number old new unread left before out held is ends = elim ends [
+  | inl there ↦ there.1
+  | inr behind ↦ breaks_there error number old new unread left before out held is behind
+]
+
+-- one that broke before, whose last replies were handed on, or not
+still_held : (error : SessionError) (number : ℕ) (old new : TokenRecord) (unread left before out : Option (List ℕ))
+    (held : List ℕ)
+    → (error.fault ≡ fault.Write → ⊥)
+    → EndsHeld (Err error) number old new unread left before out held
+    → IsHeld before out held (IsBroken error number old new unread left)
+still_held error number old new unread left before out held other ends = elim ends [
+  | inl there ↦ absurd (other there.0)
+  | inr behind ↦ behind
+]
+
+pub broken : (error : SessionError) (number : ℕ) (old new : TokenRecord) (unread left before out after : Option (List ℕ))
+    (held : List ℕ)
+    → (error.fault ≡ fault.Write → ⊥)
+    → EndsHeld (Err error) number old new unread left before out held → Appends out after held
+    → Breaks error number old new unread left before after
+broken error number old new unread left before out after held other ends written =
+    breaks error.fault error.answered number old new unread left before out after held other
+    (still_held error number old new unread left before out held other ends) written
+
+pub broken_twice : (error : SessionError) (number : ℕ) (old new : TokenRecord) (unread left before out after : Option (List ℕ))
+    (held : List ℕ)
+    → (error.fault ≡ fault.Write → ⊥)
+    → EndsHeld (Err error) number old new unread left before out held → AppendsPart out after held
+    → Breaks (record { answered = error.answered; fault = fault.Write }) number old new unread left before after
+broken_twice error number old new unread left before out after held other ends written =
+    broken_in_vain error.fault error.answered number old new unread left before out after held
+    (still_held error number old new unread left before out held other ends) written

@@ -1,4 +1,5 @@
 mod AnswerLaws
+mod StepLaws
 mod SessionLaws
 mod EndLaws
 mod WholeScriptLaws

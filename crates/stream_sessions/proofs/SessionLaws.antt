@@ -1,16 +1,16 @@
 -- A session as far as it has come, and one step more.
-use Rattle.std.proofs.Common.{◌≡◌, ℕ, suc, ◌+◌, ◌≤◌, List, [], ◌∷◌, ◌++◌, length, take, Option, Some, None, refl, sym, ap, ◌∙◌, subst, append_assoc, append-nil, length-append, arith}
+use Rattle.std.proofs.Common.{◌≡◌, ℕ, suc, ◌+◌, List, [], ◌∷◌, ◌++◌, length, take, Option, refl, sym, ap, ◌∙◌, subst, append_assoc, length-append, arith}
 use Rattle.std.proofs.Math.Seq.{take-length, take-append_seam}
 use Rattle.std.specs.List.{AllByRecursion, concat}
 use Rattle.std.specs.Io.KnownBytes.{Appends, Consumes}
 use Rattle.std.proofs.KnownBytes.{Consumes-nil, Consumes-trans}
 use Rattle.history.specs.Tokens.{TokenRecord}
-use Rattle.session_requests.specs.Requests.{IsRequest, IsUnfinished, IsCutInto}
+use Rattle.session_requests.specs.Requests.{IsRequest}
 use Rattle.session_requests.proofs.RequestLaws.{concat-push}
 use Rattle.ssb_report.proofs.WrittenLaws.{appends_none, appends_both}
 use Rattle.stream_sessions.specs.Answers.{IsAnswered, AreAnswered}
 use Rattle.stream_sessions.specs.Session.{all_of}
-use Rattle.stream_sessions.specs.Steps.{HandsOn, Steps}
+use Rattle.stream_sessions.specs.Steps.{Steps}
 use Rattle.stream_sessions.specs.declared.step.Step.TheVariants as step
 
 -- all requests that were read were answered, and the last replies are held

@@ -1,8 +1,8 @@
 -- The steps of a session.
-use Rattle.std.specs.Prelude.{◌≡◌, ℕ, ◌<◌, List, [], ◌++◌, ◌⊎◌, length, Option, Result, Ok, Err}
+use Rattle.std.specs.Prelude.{◌≡◌, ℕ, List, ◌++◌, ◌⊎◌, length, Option, Result, Ok, Err}
 use Rattle.std.specs.Io.KnownBytes.{Appends, Consumes}
 use Rattle.history.specs.Tokens.{TokenRecord}
-use Rattle.session_requests.specs.Next.{IsFound, IsAllOf, IsLessThan}
+use Rattle.session_requests.specs.Next.{IsFound, IsLessThan}
 use Rattle.session_requests.specs.Requests.{IsUnfinished}
 use Rattle.session_requests.specs.declared.requests.Found.TheVariants as found
 use Rattle.ssb_report.specs.Written.{AppendsPart}
@@ -95,11 +95,11 @@ pub record IsHeld (before after : Option (List ℕ)) (held : List ℕ) (Is : Lis
   pub written : Appends before after handed
   pub is : Is (handed ++ held)
 
--- how all requests were answered
+-- how all requests were answered: what was not written is not held any more
 abbrev pub EndsHeld : Result Served SessionError → ℕ → TokenRecord → TokenRecord → Option (List ℕ) → Option (List ℕ)
     → Option (List ℕ) → Option (List ℕ) → List ℕ → Type 0
 EndsHeld (Ok served) number old new unread left before after held =
     IsHeld before after held (IsServed served number old new unread left)
 EndsHeld (Err error) number old new unread left before after held =
-    Breaks error number old new unread left before after
+    ((error.fault ≡ fault.Write) × Breaks error number old new unread left before after)
     ⊎ IsHeld before after held (IsBroken error number old new unread left)

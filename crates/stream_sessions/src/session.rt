@@ -1,13 +1,13 @@
 //! A live session, from its first request to its last.
 
-ghost use Rattle.std.specs.Prelude.{◌≡◌, [], false, IfOk, IfErr};
+ghost use Rattle.std.specs.Prelude.{◌≡◌, ℕ, List, [], Option, false, Err, IfOk, IfErr, MatchResult};
 ghost use Rattle.std.specs.Option.{is_some};
 ghost use Rattle.std.specs.Io.Buffered.{reader_remaining};
-ghost use Rattle.history.specs.Tokens.{IsSound};
+ghost use Rattle.history.specs.Tokens.{IsSound, TokenRecord};
 ghost use Rattle.history.specs.World.{number_of};
 ghost use Rattle.ssb_sessions.specs.Steps.{AreAlike};
-ghost use Rattle.stream_sessions.specs.Session.{Serves, Breaks};
-ghost use Rattle.stream_sessions.specs.Steps.{EndsHeld};
+ghost use Rattle.stream_sessions.specs.Session.{Breaks, IsServed, Serves};
+ghost use Rattle.stream_sessions.specs.Steps.{EndsHeld, IsHeld};
 
 use crate::held::hand_on;
 use crate::outcome::{Ending, Served, SessionError, SessionFault};
@@ -77,19 +77,57 @@ fn answer_all<W: Wait + Drop, R: Wait, I: Read, O: Write>(
     })
 }
 
-/// Serves a client whose requests are read from the input, and whose replies are written to the output, until the input
-/// ends or a request is longer than 1 MiB.
+// Hands on the last replies of a session that was served to its end.
+fn end<O: Write>(
+    output: &mut O,
+    replies: &mut Vec<u8>,
+    served: Served,
+) -> Result<Served, SessionError>
+    ensures { (number : ℕ) (old new : TokenRecord) (unread left before : Option (List ℕ))
+        → IsHeld before (O.contents output.old) replies.old.items (IsServed served number old new unread left)
+        → MatchResult result (λ served. Serves served number old new unread left before (O.contents output.new))
+        (λ error. Breaks error number old new unread left before (O.contents output.new)) }
+{
+    match hand_on(output, replies) {
+        Ok(()) => Ok(served),
+        Err(fault) => Err(SessionError {
+            answered: served.answered,
+            fault,
+        }),
+    }
+}
+
+// Hands on the last replies of a session that broke. What was not written is not tried again.
+fn break_off<O: Write>(output: &mut O, replies: &mut Vec<u8>, error: SessionError) -> SessionError
+    ensures { (number : ℕ) (old new : TokenRecord) (unread left before : Option (List ℕ))
+        → EndsHeld (Err error) number old new unread left before (O.contents output.old) replies.old.items
+        → Breaks result number old new unread left before (O.contents output.new) }
+{
+    if let SessionFault::Write = error.fault {
+        return error;
+    }
+    match hand_on(output, replies) {
+        Ok(()) => error,
+        Err(fault) => SessionError {
+            answered: error.answered,
+            fault,
+        },
+    }
+}
+
+/// Serves a client whose requests are read from the input, and whose replies are written to the output, until the
+/// input ends or a request is longer than 1 MiB.
 ///
 /// Each request is read as a script of its own, and answered by its report, or by the line of its fault, as
-/// `fault: 70 BadLine 2`; it then changed nothing, and the session goes on. At the end of the input the rest is answered
-/// likewise, where there is any. A request that is too long is told as soon as it is known.
+/// `fault: 70 BadLine 2`; it then changed nothing, and the session goes on. At the end of the input the rest is
+/// answered likewise, where there is any. A request that is too long is told as soon as it is known.
 ///
-/// Replies are held while whole requests are at hand in the input's buffer, 64 KiB of them at most and one more, and are
-/// handed on before the session waits for its client, and at its end. Memory does not grow with the session. It waits for
-/// the rows and for answers; a dispatcher has to take its turns meanwhile.
+/// Replies are held while whole requests are at hand in the input's buffer, 64 KiB of them at most and one more, and
+/// are handed on before the session waits for its client, and at its end. Memory does not grow with the session. It
+/// waits for the rows and for answers; a dispatcher has to take its turns meanwhile.
 ///
-/// A failed read or write, or want of memory, breaks it, and so many requests were answered before. In each case nothing is
-/// outstanding then.
+/// A failed read or write, or want of memory, breaks it, and so many requests were answered before. In each case
+/// nothing is outstanding then.
 pub fn serve_session<W: Wait + Drop, R: Wait, I: Read, O: Write>(
     rt: &R,
     alloc: Global,
@@ -110,20 +148,8 @@ pub fn serve_session<W: Wait + Drop, R: Wait, I: Read, O: Write>(
     ensures sound { IsSound client.old → IsSound client.new }
 {
     let mut replies = Vec::new(alloc);
-    let outcome = answer_all(rt, alloc, server, client, input, output, &mut replies);
-    let answered = match outcome {
-        Ok(served) => served.answered,
-        // What was not written is not to be tried again.
-        Err(
-            SessionError {
-                answered: _,
-                fault: SessionFault::Write,
-            },
-        ) => return outcome,
-        Err(error) => error.answered,
-    };
-    match hand_on(output, &mut replies) {
-        Ok(()) => outcome,
-        Err(fault) => Err(SessionError { answered, fault }),
+    match answer_all(rt, alloc, server, client, input, output, &mut replies) {
+        Ok(served) => end(output, &mut replies, served),
+        Err(error) => Err(break_off(output, &mut replies, error)),
     }
 }

@@ -1,0 +1,64 @@
+use Rattle.std.proofs.Common.{◌≡◌, ap, subst, arith}
+use Rattle.history.specs.World.{number_of}
+use Rattle.ssb_sessions.proofs.RequestLaws.{alike_itself, alike_both}
+use Rattle.stream_sessions.specs.declared.step.Step.TheVariants as step
+use Rattle.stream_sessions.proofs.SessionLaws.{IsThrough, through_none, through_next}
+use Rattle.stream_sessions.proofs.StepLaws.{steps_so, fails_so}
+use Rattle.stream_sessions.proofs.EndLaws.{
+  ends_with_rest,
+  ends_with_nothing,
+  ends_too_long,
+  breaks_held,
+  ends_at_bound,
+}
+use Rattle.stream_sessions.proofs.session.answer_all.Goals as goal
+
+pub loop-answered-init : goal.loop-answered-init
+loop-answered-init g c = record {
+  through = through_none _ _ _ _ _ c.requires.none_held;
+  alike = alike_itself _ c.requires.quiet;
+  sound = λ sound. sound;
+}
+
+pub loop-answered-preserved : goal.loop-answered-preserved
+loop-answered-preserved g c =
+    let inv = c.loop-answered.invariant in
+    let arm = c.in-Ok-Request in record {
+      through = through_next _ _ _ _ _ _ _ _ _ _ _ _ _ inv.through
+          (steps_so _ step.Request _ _ _ _ _ _ _ _ _ _ arm.field-0-is (ap number_of inv.alike.who) arm.ensures.step);
+      alike = alike_both _ _ _ inv.alike c.serve_next.ensures.same;
+      sound = λ sound. c.serve_next.ensures.sound (inv.sound sound);
+    }
+
+pub returns-in-Ok-Rest-clause-held : goal.returns-in-Ok-Rest-clause-held
+returns-in-Ok-Rest-clause-held g c =
+    let inv = c.loop-answered.invariant in
+    let arm = c.in-Ok-Rest in
+    ends_with_rest _ _ _ _ _ _ _ _ _ _ _ _ _ inv.through
+    (steps_so _ step.Rest _ _ _ _ _ _ _ _ _ _ arm.field-0-is (ap number_of inv.alike.who) arm.ensures.step)
+
+pub returns-in-Ok-Nothing-clause-held : goal.returns-in-Ok-Nothing-clause-held
+returns-in-Ok-Nothing-clause-held g c =
+    let inv = c.loop-answered.invariant in
+    let arm = c.in-Ok-Nothing in
+    ends_with_nothing _ _ _ _ _ _ _ _ _ _ _ _ _ inv.through
+    (steps_so _ step.Nothing _ _ _ _ _ _ _ _ _ _ arm.field-0-is (ap number_of inv.alike.who) arm.ensures.step)
+
+pub returns-in-Ok-TooLong-clause-held : goal.returns-in-Ok-TooLong-clause-held
+returns-in-Ok-TooLong-clause-held g c =
+    let inv = c.loop-answered.invariant in
+    let arm = c.in-Ok-TooLong in
+    ends_too_long _ _ _ _ _ _ _ _ _ _ _ _ _ inv.through
+    (steps_so _ step.TooLong _ _ _ _ _ _ _ _ _ _ arm.field-0-is (ap number_of inv.alike.who) arm.ensures.step)
+
+pub returns-in-Err-clause-held : goal.returns-in-Err-clause-held
+returns-in-Err-clause-held g c =
+    let inv = c.loop-answered.invariant in
+    breaks_held _ _ _ _ _ _ _ _ _ _ _ _ _ _ inv.through
+    (fails_so _ _ _ _ _ _ _ _ _ _ _ (ap number_of inv.alike.who) c.in-Err.ensures.step)
+
+pub returns-clause-held : goal.returns-clause-held
+returns-clause-held g c =
+    let done : c.loop-answered.answered ≡ 18446744073709551615 =
+    omega (arith, c.loop-answered-test.false, c.loop-answered.auto.answered-end) in
+    ends_at_bound _ _ _ _ _ _ _ _ _ (subst (IsThrough _ _ _ _ _ _ _ _) done c.loop-answered.invariant.through)

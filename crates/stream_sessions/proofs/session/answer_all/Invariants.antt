@@ -1,0 +1,16 @@
+use Rattle.std.specs.Io.Buffered.{reader_remaining}
+use Rattle.history.specs.Tokens.{IsSound}
+use Rattle.history.specs.World.{number_of}
+use Rattle.ssb_sessions.specs.Steps.{AreAlike}
+use Rattle.stream_sessions.proofs.SessionLaws.{IsThrough}
+use Rattle.stream_sessions.proofs.session.answer_all.Given as goal
+
+-- each request so far was answered, and the last replies are held
+abbrev pub invariant-loop-answered : goal.invariant-loop-answered
+invariant-loop-answered g l = record {
+  through : IsThrough (number_of l.fn.client.who) l.fn.client l.client
+      (reader_remaining g.I.Read.remaining l.fn.input) (reader_remaining g.I.Read.remaining l.input)
+      (g.O.Write.contents l.fn.output) (g.O.Write.contents l.output) l.replies.items l.answered;
+  alike : AreAlike l.fn.client l.client;
+  sound : IsSound l.fn.client → IsSound l.client;
+}
