@@ -32,6 +32,7 @@ mod run;
 mod run_fault;
 mod serve_error;
 mod session;
+mod staff;
 mod task;
 mod threads;
 
@@ -43,3 +44,4 @@ pub use run::{Run, serve_scripts};
 pub use run_fault::RunFault;
 pub use serve_error::{ServeError, ServeStop};
 pub use ssb_audit::Told;
+pub use staff::{Staff, StaffAtWork};

@@ -1,3 +1,4 @@
 mod AnswerLaws
 mod SessionLaws
 mod EndLaws
+mod StreamLaws
