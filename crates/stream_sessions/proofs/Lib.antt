@@ -3,3 +3,4 @@ mod StepLaws
 mod SessionLaws
 mod EndLaws
 mod WholeScriptLaws
+mod StreamLaws

@@ -3,3 +3,4 @@ pub mod Answers
 pub mod Session
 pub mod Steps
 pub mod WholeScripts
+pub mod Streams

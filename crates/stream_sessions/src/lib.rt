@@ -1,9 +1,14 @@
 //! Live sessions: a client writes requests to a stream of bytes, and is answered on another, request by request as they
-//! come.
+//! come; and many such clients at once, each client and each dispatcher in a thread of its own.
 //!
 //! ```text
 //! input ── next request ── its script ── live server ── replies, held ── hand_on ──▶ output
 //!     └── a fault: one line, `fault: 70 BadLine 2`, and nothing was done
+//!
+//! speaker 1 ── client 1 ─┐                    ┌─ dispatcher 1
+//! speaker 2 ── client 2 ─┼── live server ─────┤
+//! ..                     ┘                    └─ dispatcher 2 ..
+//!     └▶ what speaker 1, 2 .. left    └▶ the log
 //! ```
 //!
 //! The contract of [`serve_session`] (`specs/Session.antt`): the bytes that it read are cut into requests, each of which
@@ -14,19 +19,31 @@
 //! A law (`specs/WholeScripts.antt`): a legal script without lone CRs and byte order marks has the replies of the whole
 //! script though it is answered request by request.
 //!
+//! That of [`serve_streams`] (`specs/Streams.antt`): each speaker, in order, was given a new client of its own, and kept
+//! what it promises of it and of what it left; what a client saw at the end is a beginning of the log, and its own commits
+//! in the log are those of its number; the log is legal, and has no commit of anybody else. That a thread gets on is
+//! claimed by no proof.
+//!
 //! ```text
 //! let served = serve_session(rt, alloc, &server, &mut client, &mut input, &mut output)?;
+//! let run = serve_streams(&rt, rt.alloc(), hashing, base, speakers, 2)?;
 //! ```
 #![tactic(auto)]
 
 mod answer;
+mod clients;
 mod fault_line;
 mod held;
 pub mod laws;
 mod outcome;
 mod session;
+mod speaks;
 mod step;
+mod streams;
+mod threads;
 
 pub use fault_line::write_fault_line;
 pub use outcome::{Ending, Served, SessionError, SessionFault};
 pub use session::serve_session;
+pub use speaks::{Speaker, Speaks};
+pub use streams::{StreamRun, serve_streams};

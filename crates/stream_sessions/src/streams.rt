@@ -1,0 +1,154 @@
+//! Many clients at once, each served in a thread of its own.
+
+ghost use Rattle.std.specs.Prelude.{◌≡◌, All, IfOk, IfErr, OnOk, map, vec_len};
+ghost use Rattle.history.specs.Tokens.{new_clients, new_dispatchers};
+ghost use Rattle.ssb_server.specs.Opening.{AreCounts};
+ghost use Rattle.ssb_sessions.specs.Run.{IsRunFault};
+ghost use Rattle.ssb_sessions.specs.Sessions.{IsReady};
+ghost use Rattle.stream_sessions.specs.Streams.{IsClosedWith, IsStreamRun};
+
+use crate::clients::{Seat, Spoken};
+use crate::speaks::Speaks;
+use crate::threads::{Ended, run_threads};
+use row_store::Commit;
+use ssb_base::Base;
+use ssb_server::{Client, Closed, Opened, Server, open};
+use ssb_sessions::{Batches, RunFault};
+use std::alloc::{AllocError, Global};
+use std::hash::RandomState;
+use std::sync::{Arc, Wait};
+use std::thread::Threads;
+
+/// What the sessions of many clients leave: what each speaker left, in their order, and the log. Batches are figures for
+/// a reader.
+#[derive(Drop)]
+pub struct StreamRun<L: Drop> {
+    pub left: Vec<L>,
+    pub log: Vec<Commit>,
+    pub batches: Batches,
+}
+
+// What the clients leave, each by its place.
+#[derive(Drop)]
+struct Gathered<W: Wait + Drop, L: Drop> {
+    clients: Vec<Client<W>>,
+    left: Vec<L>,
+}
+
+// Each client with its speaker.
+fn seats_of<W: Wait + Drop, S: Drop>(
+    alloc: Global,
+    clients: Vec<Client<W>>,
+    speakers: Vec<S>,
+) -> Result<Vec<Seat<W, S>>, AllocError>
+    requires { vec_len clients ≡ vec_len speakers }
+    ensures clients { IfOk result (λ seats. map (λ seat. seat.client) seats.items ≡ clients.items) }
+    ensures speakers { IfOk result (λ seats. map (λ seat. seat.speaker) seats.items ≡ speakers.items) }
+{
+    let mut seats = Vec::new(alloc);
+    let mut speakers = speakers.into_iter();
+    for client in clients {
+        let Some(speaker) = speakers.next() else {
+            unreachable!()
+        };
+        seats.push(Seat { client, speaker })?;
+    }
+    Ok(seats)
+}
+
+// What the clients leave, in their order.
+fn gather<W: Wait + Drop, L: Drop>(
+    alloc: Global,
+    spoken: Vec<Spoken<W, L>>,
+) -> Result<Gathered<W, L>, AllocError>
+    ensures clients { IfOk result (λ gathered. gathered.clients.items ≡ map (λ one. one.client) spoken.items) }
+    ensures left { IfOk result (λ gathered. gathered.left.items ≡ map (λ one. one.left) spoken.items) }
+{
+    let mut clients = Vec::new(alloc);
+    let mut all_left = Vec::new(alloc);
+    for one in spoken {
+        let Spoken { client, left } = one;
+        clients.push(client)?;
+        all_left.push(left)?;
+    }
+    Ok(Gathered {
+        clients,
+        left: all_left,
+    })
+}
+
+// Closes the server with all who took part.
+fn close<W: Wait + Drop, L: Drop>(
+    alloc: Global,
+    server: Server<W>,
+    ended: Ended<W, Spoken<W, L>>,
+) -> Result<StreamRun<L>, AllocError>
+    requires { IsReady server (map (λ one. one.client) ended.spoken.items) ended.dispatchers.items }
+    ensures closed { IfOk result (λ run. IsClosedWith server (map (λ one. one.client) ended.spoken.items)
+        ended.dispatchers.items run.log.items) }
+    ensures left { IfOk result (λ run. run.left.items ≡ map (λ one. one.left) ended.spoken.items) }
+{
+    let Ended {
+        spoken,
+        dispatchers,
+        batches,
+    } = ended;
+    let Gathered { clients, left } = gather(alloc, spoken)?;
+    let Ok(Closed { base: _, log }) = server.close(clients, dispatchers) else {
+        unreachable!()
+    };
+    Ok(StreamRun { left, log, batches })
+}
+
+// Serves the client of each place by the speaker there.
+fn serve<W: Wait + Drop + Send, R: Wait + Threads + Sync, S: Speaks<R> + Drop + Send>(
+    rt: &R,
+    alloc: Global,
+    opened: Opened<W>,
+    speakers: Vec<S>,
+) -> Result<StreamRun<S::Left>, AllocError>
+where
+    S::Left: Drop + Send,
+    requires clients { opened.clients.items ≡ new_clients opened.server }
+    requires dispatchers { opened.dispatchers.items ≡ new_dispatchers opened.server }
+    requires speakers { opened.server.clients ≡ vec_len speakers }
+    ensures { IfOk result (λ run. IsStreamRun S.spoken opened.server.base speakers.items opened.server.dispatchers
+        run.left.items run.log.items) }
+{
+    let Opened {
+        server,
+        clients,
+        dispatchers,
+    } = opened;
+    let seats = seats_of(alloc, clients, speakers)?;
+    let ended = run_threads(rt, alloc, &server, seats, dispatchers)?;
+    close(alloc, server, ended)
+}
+
+/// Serves 1 to 16 clients, one for each speaker, by 1 to 4 dispatchers over a base, each client and each dispatcher in a
+/// thread of its own; `hashing` keys the map of orders. It waits until all of them have ended.
+///
+/// The dispatchers' threads start first, then the clients' in the order of the speakers, and where one can't be started,
+/// no later one is. That, and a refused growth wherever it is met, is `OutOfMemory`; each thread that was started has
+/// ended then, too.
+pub fn serve_streams<R: Wait + Threads + Sync, S: Speaks<R> + Drop + Send>(
+    rt: &R,
+    alloc: Global,
+    hashing: RandomState,
+    base: Arc<Base>,
+    speakers: Vec<S>,
+    dispatchers: u32,
+) -> Result<StreamRun<S::Left>, RunFault>
+where
+    S::Left: Drop + Send,
+    ensures counts { OnOk result (AreCounts (vec_len speakers) dispatchers) }
+    ensures served { IfOk result (λ run. IsStreamRun S.spoken base.value speakers.items dispatchers run.left.items
+        run.log.items) }
+    ensures fault { IfErr result (λ fault. IsRunFault (vec_len speakers) dispatchers fault) }
+{
+    let count = u32::try_from(speakers.len()).unwrap_or(u32::MAX);
+    match open(alloc, rt, hashing, base, count, dispatchers) {
+        Ok(opened) => Ok(serve(rt, alloc, opened, speakers)?),
+        Err(error) => Err(RunFault::from(error.fault)),
+    }
+}
