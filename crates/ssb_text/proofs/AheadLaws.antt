@@ -28,8 +28,8 @@ use Rattle.std.specs.Option.{IfSome}
 use Rattle.std.specs.Prelude.{Result, Ok, Err, IfOk, IfErr}
 use Rattle.ssb_schema.specs.Columns.{Value}
 use Rattle.ssb_schema.specs.declared.table.Table.TheVariants as table
-use Rattle.text_blocks.specs.Blocks.{AreCut, Follows, joined}
-use Rattle.text_blocks.proofs.BlockLaws.{follows_blocks}
+use Rattle.ssb_text.specs.Blocks.{AreCut, Follows, joined}
+use Rattle.ssb_text.proofs.BlockLaws.{follows_blocks}
 use Rattle.ssb_text.proofs.RecordLaws.{nothing_has}
 use Rattle.ssb_text.specs.Tables.{IsFirstFault, IsReadFault, SpellsRow, SpellsRows}
 use Rattle.ssb_text.specs.declared.error.LoadError.{LoadError}

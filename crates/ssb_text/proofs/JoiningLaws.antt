@@ -7,8 +7,8 @@ use Rattle.ssb_schema.specs.Columns.{Value}
 use Rattle.ssb_schema.specs.declared.table.Table.TheVariants as table
 use Rattle.ssb_schema.specs.declared.fault.SchemaFault.TheVariants as schema
 use Rattle.ssb_text.specs.Records.{BeginsWith, HasRecords}
-use Rattle.text_blocks.specs.Blocks.{AreCut, Follows, joined}
-use Rattle.text_blocks.proofs.BlockLaws.{follows_block, line_follows}
+use Rattle.ssb_text.specs.Blocks.{AreCut, Follows, joined}
+use Rattle.ssb_text.proofs.BlockLaws.{follows_block, line_follows}
 use Rattle.ssb_text.proofs.RecordLaws.{
   BeginsWith-first,
   HasRecords-begins,

@@ -6,6 +6,8 @@ pub mod ReadingLaws
 pub mod RowLaws
 pub mod LoadLaws
 pub mod RecordLaws
+pub mod BlockReadingLaws
+pub mod BlockLaws
 pub mod ParsingLaws
 pub mod JoiningLaws
 pub mod AheadLaws

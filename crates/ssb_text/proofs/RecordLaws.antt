@@ -9,7 +9,7 @@ use Rattle.csv.specs.declared.parser.Action.TheVariants as act
 use Rattle.csv.specs.declared.parser.State.{State}
 use Rattle.csv.specs.declared.parser.State.TheVariants as st
 use Rattle.ssb_text.specs.Records.{BeginsWith, HasRecords, record_config}
-use Rattle.text_blocks.specs.Blocks.{Follows}
+use Rattle.ssb_text.specs.Blocks.{Follows}
 
 -- the states that records without quotes and comments have: between records nothing is at hand
 abbrev IsPlain : State → List (List ℕ) → List ℕ → Type 0

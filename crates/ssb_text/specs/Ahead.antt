@@ -6,7 +6,7 @@ use Rattle.std.specs.declared.vec.Vec.{Vec}
 use Rattle.ssb_schema.specs.Columns.{Value}
 use Rattle.ssb_schema.specs.Rows.{line_values}
 use Rattle.ssb_text.specs.declared.records.ReadError.{ReadError}
-use Rattle.text_blocks.specs.Blocks.{GivesBlocks, WasAll, bytes_left}
+use Rattle.ssb_text.specs.Blocks.{GivesBlocks, WasAll, bytes_left}
 use Rattle.ssb_text.specs.Joining.{Joins}
 use Rattle.ssb_text.specs.Parsing.{IsParsedOk}
 use Rattle.ssb_text.specs.declared.ahead.Ahead.{Ahead}

@@ -2,7 +2,7 @@
 -- first and then those of the second.
 use Rattle.std.specs.Prelude.{ℕ, List, ◌++◌}
 use Rattle.ssb_text.specs.Records.{BeginsWith, HasRecords}
-use Rattle.text_blocks.specs.Blocks.{Follows}
+use Rattle.ssb_text.specs.Blocks.{Follows}
 
 -- all records of both parts
 abbrev pub RecordsOfAppended : Type 0

@@ -3,7 +3,7 @@ use Rattle.std.specs.Prelude.{◌⊎◌, ℕ, ◌++◌, List}
 use Rattle.std.specs.List.{AllZip}
 use Rattle.ssb_schema.specs.Columns.{Value}
 use Rattle.ssb_schema.specs.declared.table.Table.TheVariants as table
-use Rattle.text_blocks.specs.Blocks.{AreCut, Follows, joined}
+use Rattle.ssb_text.specs.Blocks.{AreCut, Follows, joined}
 use Rattle.ssb_text.specs.Tables.{IsFirstFault, IsReadFault}
 use Rattle.ssb_text.specs.declared.error.LoadError.{LoadError}
 use Rattle.ssb_text.specs.Lines.{SpellsAll}

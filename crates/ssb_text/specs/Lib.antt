@@ -6,6 +6,8 @@ pub mod Tables
 pub mod Load
 pub mod Appended
 -- how the code reads lines in blocks
+pub mod Blocks
+pub mod BlockReading
 pub mod Lines
 pub mod Parsing
 pub mod Joining

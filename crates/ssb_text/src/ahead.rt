@@ -5,11 +5,12 @@ ghost use Rattle.std.specs.List.{AllZip};
 ghost use Rattle.ssb_schema.specs.Rows.{line_values};
 ghost use Rattle.ssb_schema.specs.declared.table.Table.TheVariants as table;
 ghost use Rattle.ssb_text.specs.Tables.{IsFirstFault, IsReadFault, SpellsRows};
-ghost use Rattle.text_blocks.specs.Blocks.{bytes_left};
+ghost use Rattle.ssb_text.specs.Blocks.{bytes_left};
 ghost use Rattle.ssb_text.specs.Ahead.{GoesAhead, IsBegun, TakesStep};
 ghost use Rattle.ssb_text.specs.Joining.{Joins, Stops};
 ghost use Rattle.ssb_text.specs.Parsing.{IsParsedOk};
 
+use crate::blocks::{BlockError, Blocks};
 use crate::error::LoadError;
 use crate::joining::join_blocks;
 use crate::parsing::{Parsed, parse_blocks};
@@ -19,7 +20,6 @@ use std::alloc::{AllocError, Global};
 use std::io::Read;
 use std::thread;
 use std::thread::Threads;
-use text_blocks::{BlockError, Blocks};
 
 /// How many blocks are parsed at once, and read ahead of those.
 const BLOCKS: usize = 8;

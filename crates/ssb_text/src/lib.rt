@@ -22,6 +22,7 @@
 #![tactic(auto)]
 
 mod ahead;
+mod blocks;
 mod customer;
 mod date;
 mod error;

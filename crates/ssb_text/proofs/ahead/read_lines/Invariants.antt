@@ -1,6 +1,6 @@
 use Rattle.std.proofs.Common.{◌≤◌, map, length}
 use Rattle.ssb_schema.specs.Rows.{line_values}
-use Rattle.text_blocks.specs.Blocks.{bytes_left}
+use Rattle.ssb_text.specs.Blocks.{bytes_left}
 use Rattle.ssb_text.specs.Ahead.{block_bytes}
 use Rattle.ssb_text.specs.Parsing.{IsParsedOk}
 use Rattle.ssb_text.proofs.AheadLaws.{IsReadingKnown}

@@ -1,6 +1,6 @@
 use Rattle.std.proofs.Common.{◌≡◌, map, length}
-use Rattle.text_blocks.specs.Blocks.{GivesBlocks, bytes_left}
-use Rattle.text_blocks.proofs.blocks.Blocks.next_blocks.Given as goal
+use Rattle.ssb_text.specs.Blocks.{GivesBlocks, bytes_left}
+use Rattle.ssb_text.proofs.blocks.Blocks.next_blocks.Given as goal
 
 abbrev pub invariant-loop : goal.invariant-loop
 invariant-loop g l = record {

@@ -1,8 +1,8 @@
 use Rattle.std.proofs.Common.{◌≡◌, ◌∙◌, length, true, take, ap, rules}
 use Rattle.std.proofs.lemmas.List.{with_items_is, places}
 use Rattle.std.specs.Result.{is_ok}
-use Rattle.text_blocks.proofs.ReadingLaws.{front_kept, reads_behind}
-use Rattle.text_blocks.proofs.blocks.read_more.Goals as goal
+use Rattle.ssb_text.proofs.BlockReadingLaws.{front_kept, reads_behind}
+use Rattle.ssb_text.proofs.blocks.read_more.Goals as goal
 
 pub returns : goal.returns
 returns g c =

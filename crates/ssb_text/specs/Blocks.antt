@@ -2,7 +2,7 @@
 -- the text are those of its blocks, whatever stands in them.
 use Rattle.std.specs.Prelude.{◌≡◌, ℕ, Bool, true, List, [], ◌∷◌, ◌++◌, Option, Some, ◌==◌}
 use Rattle.std.specs.Io.KnownBytes.{prepend_known}
-use Rattle.text_blocks.specs.declared.blocks.Blocks.{Blocks}
+use Rattle.ssb_text.specs.declared.blocks.Blocks.{Blocks}
 
 -- whether a text has no bytes or begins with a line feed
 abbrev pub starts_line : List ℕ → Bool

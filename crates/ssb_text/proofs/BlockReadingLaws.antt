@@ -3,7 +3,7 @@ use Rattle.std.proofs.Common.{◌≡◌, ◌≤◌, ◌+◌, ℕ, List, ◌++◌
 use Rattle.std.proofs.Math.Seq.{take-add}
 use Rattle.std.proofs.lemmas.List.{take_all, length-drop, length-take-le}
 use Rattle.std.specs.Io.KnownBytes.{Consumes, IsAtEnd}
-use Rattle.text_blocks.specs.Reading.{ReadsMore}
+use Rattle.ssb_text.specs.BlockReading.{ReadsMore}
 
 -- bytes that are made longer have the same front
 pub front_kept : (before pad : List ℕ) (from more : ℕ) → from ≡ length before

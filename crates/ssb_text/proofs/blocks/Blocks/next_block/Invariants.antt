@@ -1,7 +1,7 @@
 use Rattle.std.proofs.Common.{◌≡◌, []}
-use Rattle.text_blocks.specs.Blocks.{bytes_left}
-use Rattle.text_blocks.proofs.BlockLaws.{BlockSoFar}
-use Rattle.text_blocks.proofs.blocks.Blocks.next_block.Given as goal
+use Rattle.ssb_text.specs.Blocks.{bytes_left}
+use Rattle.ssb_text.proofs.BlockLaws.{BlockSoFar}
+use Rattle.ssb_text.proofs.blocks.Blocks.next_block.Given as goal
 
 abbrev pub invariant-loop : goal.invariant-loop
 invariant-loop g l = record {

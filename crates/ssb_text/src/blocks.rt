@@ -1,8 +1,13 @@
-//! A source's bytes, block by block.
+//! A source's bytes in blocks of some megabytes, each cut before a line feed.
+//!
+//! A block is cut *before* its last line feed, not behind it. So each block but the first begins with a line feed, which
+//! gives no record, and no block but the first can begin with a byte order mark, which a reader would drop. Who parses
+//! blocks side by side then need ask nothing of what stands on either side of a cut. A text without line feeds is one
+//! block.
 
 ghost use Rattle.std.specs.Prelude.{◌≡◌, ◌<◌, ◌≤◌, ◌+◌, ℕ, List, Some, IfOk, IfSome, MatchOption, length, map, slice_index, take, drop, vec_len};
 ghost use Rattle.std.specs.Io.KnownBytes.{Consumes, IsAtEnd};
-ghost use Rattle.text_blocks.specs.Reading.{ReadsMore};
+ghost use Rattle.ssb_text.specs.BlockReading.{ReadsMore};
 
 use std::alloc::Global;
 use std::io::Read;
@@ -79,7 +84,7 @@ fn last_feed(bytes: &[u8]) -> Option<usize>
 }
 
 impl<R: Read> Blocks<R> {
-    ghost use Rattle.text_blocks.specs.Blocks.{GivesBlock, GivesBlocks, WasAll, bytes_left};
+    ghost use Rattle.ssb_text.specs.Blocks.{GivesBlock, GivesBlocks, WasAll, bytes_left};
 
     /// The blocks of a source, of which none was given. At most so many bytes are asked of it at once, and one at least:
     /// a block has about as many where the source gives them and its lines are shorter.

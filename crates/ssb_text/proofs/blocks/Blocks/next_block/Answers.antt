@@ -1,8 +1,8 @@
 use Rattle.std.proofs.Common.{◌≡◌, ◌∙◌, ◌<◌, ◌+◌, ◌-◌, List, ℕ, length, get_or, get_or-drop, take, drop, sym, arith}
 use Rattle.std.proofs.lemmas.List.{length-drop, take_all}
-use Rattle.text_blocks.specs.Blocks.{bytes_left}
-use Rattle.text_blocks.proofs.BlockLaws.{block_cut, block_more}
-use Rattle.text_blocks.proofs.blocks.Blocks.next_block.Goals as goal
+use Rattle.ssb_text.specs.Blocks.{bytes_left}
+use Rattle.ssb_text.proofs.BlockLaws.{block_cut, block_more}
+use Rattle.ssb_text.proofs.blocks.Blocks.next_block.Goals as goal
 
 pub returns-in-Some : goal.returns-in-Some
 returns-in-Some g c =

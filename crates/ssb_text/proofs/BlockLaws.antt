@@ -2,8 +2,8 @@
 use Rattle.std.proofs.Common.{◌≡◌, ◌<◌, ℕ, true, List, [], ◌∷◌, ◌++◌, append-nil, append_assoc, length, take, drop, get_or, drop-cons, Option, Some, None, refl, sym, ap, ◌∙◌}
 use Rattle.std.proofs.lemmas.List.{take-append-drop}
 use Rattle.std.specs.Io.KnownBytes.{Consumes, IsAtEnd, prepend_known}
-use Rattle.text_blocks.specs.Blocks.{AreCut, Follows, GivesBlock, GivesBlocks, WasAll, joined, starts_line}
-use Rattle.text_blocks.specs.Reading.{ReadsMore}
+use Rattle.ssb_text.specs.Blocks.{AreCut, Follows, GivesBlock, GivesBlocks, WasAll, joined, starts_line}
+use Rattle.ssb_text.specs.BlockReading.{ReadsMore}
 
 -- of whatever bytes were left, these were read, and the source's stand behind them
 abbrev pub BlockSoFar : Option (List ℕ) → Option (List ℕ) → List ℕ → Type 0

@@ -1,9 +1,9 @@
 use Rattle.std.proofs.Common.{◌≡◌, ◌∷◌, [], true, map, arith, rules}
 use Rattle.std.proofs.lemmas.List.{length-append, map-append}
 use Rattle.std.specs.Result.{is_ok}
-use Rattle.text_blocks.specs.Blocks.{bytes_left}
-use Rattle.text_blocks.proofs.BlockLaws.{blocks_end, blocks_more}
-use Rattle.text_blocks.proofs.blocks.Blocks.next_blocks.Goals as goal
+use Rattle.ssb_text.specs.Blocks.{bytes_left}
+use Rattle.ssb_text.proofs.BlockLaws.{blocks_end, blocks_more}
+use Rattle.ssb_text.proofs.blocks.Blocks.next_blocks.Goals as goal
 
 pub returns-in-None-clause-given : goal.returns-in-None-clause-given
 returns-in-None-clause-given g c =

@@ -1,3 +1,0 @@
-pub mod Blocks
--- how the code reads them
-pub mod Reading
