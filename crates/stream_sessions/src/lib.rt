@@ -21,8 +21,12 @@ mod fault_line;
 mod held;
 mod outcome;
 mod session;
+mod speaks;
 mod step;
+mod streams;
 
 pub use fault_line::write_fault_line;
 pub use outcome::{Ending, Served, SessionError, SessionFault};
 pub use session::serve_session;
+pub use speaks::{Speaker, Speaks};
+pub use streams::{StreamRun, serve_streams};
