@@ -208,9 +208,9 @@ where
     }
     if is_typed {
         let typed = Prompted::new(rt.alloc(), input, io::writer(errors), TERMINAL_HELP);
-        return serve_stream(rt, settings, tables, typed, output, errors);
+        return serve_stream(rt, settings, tables, typed, output, errors).status;
     }
-    serve_stream(rt, settings, tables, input, output, errors)
+    serve_stream(rt, settings, tables, input, output, errors).status
 }
 
 // Checks a trace over the files of a folder.

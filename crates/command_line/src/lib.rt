@@ -1,12 +1,12 @@
-//! The words of the program's command line, and which of the four jobs they ask for.
+//! The words of the program's command line, and which of the five jobs they ask for.
 //!
 //! ```text
-//! system ── words ─▶ words ── run_command_line ─┬─ query, run or none, audit ─▶ query_command, run_command,
-//!                                               │                               audit_command
+//! system ── words ─▶ words ── run_command_line ─┬─ query, run or none, ──────▶ query_command, run_command,
+//!                                               │  audit, serve                  audit_command, serve_command
 //!                                               └─ help, version, wrong words ─▶ a text and a status
 //! ```
 //!
-//! It stands on `clap` and promises no more than safety: what the jobs write is in the contracts of those three
+//! It stands on `clap` and promises no more than safety: what the jobs write is in the contracts of those four
 //! libraries, and what is written for which words is shown by the cases of the program `cases`.
 //!
 //! ```text

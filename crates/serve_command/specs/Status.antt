@@ -1,9 +1,11 @@
--- The exit status of a fault of serving.
-use Rattle.std.specs.Prelude.{ℕ}
+-- The exit status of serving.
+use Rattle.std.specs.Prelude.{ℕ, Result, Ok, Err}
 use Rattle.ssb_files.specs.Status.{job_status}
 use Rattle.ssb_files.specs.declared.job.JobFault.{JobFault}
 use Rattle.serve_command.specs.declared.fault.NotServed.{NotServed}
 use Rattle.serve_command.specs.declared.fault.NotServed.TheVariants as not_served
+use Rattle.stream_sessions.specs.declared.outcome.Served.{Served}
+use Rattle.stream_sessions.specs.declared.outcome.SessionError.{SessionError}
 
 -- 2: the words are wrong; 4: no server could be opened, or memory or threads were wanting
 abbrev pub not_served_status : NotServed → ℕ
@@ -12,3 +14,8 @@ not_served_status (not_served.NotRun why) = 4
 
 abbrev pub serving_status : JobFault NotServed → ℕ
 serving_status fault = job_status not_served_status fault
+
+-- that of a session: 0 where it was served to its end, 4 where it broke
+abbrev pub session_status : Result Served SessionError → ℕ
+session_status (Ok served) = 0
+session_status (Err error) = 4

@@ -1,11 +1,20 @@
 //! The word `serve`: clients over the base of five table files.
 
+ghost use Rattle.std.specs.Prelude.{◌≡◌, ◌≢◌, ◌⊎◌, ◌↔◌, ◌<◌, ℕ, List, IfOk, IfErr, OnOk, vec_len};
+ghost use Rattle.std.specs.Option.{option_and_then};
+ghost use Rattle.serve_command.specs.Served.{BreaksAlone, EndsAlone, IsRunOver, ServesAlone, ServesClients};
+ghost use Rattle.serve_command.specs.Status.{serving_status, session_status};
+ghost use Rattle.ssb_files.specs.Loaded.{AreRefused};
+ghost use Rattle.ssb_schema.specs.declared.table.Table.{Table};
+ghost use Rattle.ssb_server.specs.Opening.{AreCounts};
+ghost use Rattle.ssb_text.specs.Load.{AreTexts};
+
 use crate::ends::EndPaths;
 use crate::fault::{NotServed, ServingFault};
 use crate::speakers::{PathClient, StreamClient, StreamLeft};
-use ssb_base::Base;
-use ssb_files::{Fault, base_of};
+use ssb_files::base_of;
 use ssb_text::Tables;
+use std::alloc::AllocError;
 use std::hash::RandomState;
 use std::io;
 use std::io::{Print, Read, Write};
@@ -13,7 +22,7 @@ use std::rt::Files;
 use std::sync::{Arc, Wait};
 use std::thread::Threads;
 use std::time::Clock;
-use stream_sessions::{SessionFault, Speaks, StreamRun, serve_streams};
+use stream_sessions::{Served, SessionError, Speaks, StreamRun, serve_streams};
 
 /// How many clients a server has.
 pub const MOST_CLIENTS: usize = 16;
@@ -27,6 +36,15 @@ pub struct ServeSettings {
     pub dispatchers: u32,
 }
 
+/// How serving one client ended.
+#[derive(Drop)]
+pub struct StreamEnd<O: Drop> {
+    /// The exit status.
+    pub status: u8,
+    /// The output, where a server was opened and closed.
+    pub output: Option<O>,
+}
+
 // Serves clients at once over the base that the tables spell.
 fn serve<R, I: Read + Drop, S: Speaks<R> + Drop + Send>(
     rt: &R,
@@ -37,6 +55,13 @@ fn serve<R, I: Read + Drop, S: Speaks<R> + Drop + Send>(
 where
     R: Threads + Sync + Wait + Clock + AllocGlobal,
     S::Left: Drop + Send,
+    ensures run { IfOk result (λ run. (texts : Table → List ℕ) → AreTexts I.remaining tables texts
+        → IsRunOver S.spoken texts speakers.items settings.dispatchers run.left.items run.log.items) }
+    ensures left { IfOk result (λ run. vec_len run.left ≡ vec_len speakers) }
+    ensures counts { OnOk result (AreCounts (vec_len speakers) settings.dispatchers) }
+    ensures refused { IfErr result (λ fault. serving_status fault ≡ 1 → (texts : Table → List ℕ)
+        → AreTexts I.remaining tables texts → AreRefused texts) }
+    ensures words { IfErr result (λ fault. serving_status fault ≢ 2) }
 {
     let base = base_of(rt, rt.alloc(), tables)?;
     let base = Arc::new(rt.alloc(), base)?;
@@ -60,20 +85,40 @@ fn serve_one<R, I: Read + Drop, J: Read + Drop + Send, O: Write + Drop + Send>(
 ) -> Result<StreamLeft<O>, ServingFault>
 where
     R: Threads + Sync + Wait + Clock + AllocGlobal,
+    ensures ended { IfOk result (λ left. (texts : Table → List ℕ) → AreTexts I.remaining tables texts
+        → EndsAlone left.ended texts settings.dispatchers (J.remaining input) (O.contents output)
+        (O.contents left.output)) }
+    ensures refused { IfErr result (λ fault. serving_status fault ≡ 1 → (texts : Table → List ℕ)
+        → AreTexts I.remaining tables texts → AreRefused texts) }
+    ensures words { IfErr result (λ fault. serving_status fault ≢ 2) }
 {
     let mut speakers = Vec::new(rt.alloc());
     speakers.push(StreamClient { input, output })?;
-    let mut run = serve(rt, settings, tables, speakers)?;
-    match run.left.pop() {
-        Some(left) => Ok(left),
-        None => Err(ServingFault::Program(Fault::OutOfMemory)),
+    let run = serve(rt, settings, tables, speakers)?;
+    let mut left = run.left;
+    let Some(one) = left.pop() else {
+        unreachable!()
+    };
+    Ok(one)
+}
+
+// Tells what broke the only client's session, and gives the exit status.
+fn tell_ended<E: Write>(ended: &Result<Served, SessionError>, err: &mut E) -> u8
+    ensures { result ≡ session_status ended.now }
+{
+    match ended {
+        Ok(_) => 0,
+        Err(error) => {
+            let _ = writeln!(err, "ssb_live: client 1: {}", error.fault);
+            4
+        }
     }
 }
 
 /// Serves one client over the base that the tables spell: its requests are read from the input as they come, and
 /// answered to the output, until the input ends. A fault is a line to the screen.
 ///
-/// The result is the exit status: 0 where all was answered, 1 where the data is refused, and else 4.
+/// The exit status is 0 where all was answered, 1 where the data is refused, and else 4.
 pub fn serve_stream<R, I: Read + Drop, J: Read + Drop + Send, O: Write + Drop + Send, E: Print>(
     rt: &R,
     settings: ServeSettings,
@@ -81,21 +126,30 @@ pub fn serve_stream<R, I: Read + Drop, J: Read + Drop + Send, O: Write + Drop + 
     input: J,
     output: O,
     screen: &E,
-) -> u8
+) -> StreamEnd<O>
 where
     R: Threads + Sync + Wait + Clock + AllocGlobal,
+    ensures served { result.status ≡ 0 → (texts : Table → List ℕ) → AreTexts I.remaining tables texts
+        → ServesAlone texts settings.dispatchers (J.remaining input) (O.contents output)
+        (option_and_then O.contents result.output) }
+    ensures broken { result.status ≢ 0 → (result.output ≡ None) ⊎ ((texts : Table → List ℕ)
+        → AreTexts I.remaining tables texts
+        → BreaksAlone texts settings.dispatchers (J.remaining input) (O.contents output)
+        (option_and_then O.contents result.output)) }
+    ensures refused { result.status ≡ 1 → (texts : Table → List ℕ) → AreTexts I.remaining tables texts
+        → AreRefused texts }
+    ensures others { result.status ≢ 0 → result.status ≢ 1 → result.status ≡ 4 }
 {
     let mut err = io::writer(screen);
-    let left = match serve_one(rt, settings, tables, input, output) {
-        Ok(left) => left,
-        Err(fault) => return fault.tell(&mut err),
-    };
-    match left.ended {
-        Ok(_) => 0,
-        Err(error) => {
-            let _ = writeln!(err, "ssb_live: client 1: {}", error.fault);
-            4
-        }
+    match serve_one(rt, settings, tables, input, output) {
+        Ok(StreamLeft { output, ended }) => StreamEnd {
+            status: tell_ended(&ended, &mut err),
+            output: Some(output),
+        },
+        Err(fault) => StreamEnd {
+            status: fault.tell(&mut err),
+            output: None,
+        },
     }
 }
 
@@ -105,7 +159,9 @@ fn speakers_of<'a, F: Files + AllocGlobal, E: Print>(
     clients: Vec<EndPaths>,
     keeps: bool,
     screen: &'a E,
-) -> Result<Vec<PathClient<'a, F, E>>, Fault> {
+) -> Result<Vec<PathClient<'a, F, E>>, AllocError>
+    ensures { IfOk result (λ speakers. vec_len speakers ≡ vec_len clients) }
+{
     let mut speakers = Vec::new(files.alloc());
     for paths in clients {
         let number = speakers.len() as u64 + 1;
@@ -132,6 +188,12 @@ fn serve_all<R, F: Files + Sync + AllocGlobal, I: Read + Drop, E: Print + Sync>(
 ) -> Result<bool, ServingFault>
 where
     R: Threads + Sync + Wait + Clock + AllocGlobal,
+    ensures served { OnOk result ((texts : Table → List ℕ) → AreTexts I.remaining tables texts
+        → ServesClients texts (vec_len clients)) }
+    ensures counts { OnOk result (AreCounts (vec_len clients) settings.dispatchers) }
+    ensures refused { IfErr result (λ fault. serving_status fault ≡ 1 → (texts : Table → List ℕ)
+        → AreTexts I.remaining tables texts → AreRefused texts) }
+    ensures words { IfErr result (λ fault. serving_status fault ≢ 2) }
 {
     let speakers = speakers_of(files, clients, keeps, screen)?;
     let run = serve(rt, settings, tables, speakers)?;
@@ -155,6 +217,13 @@ pub fn serve_clients<R, F: Files + Sync + AllocGlobal, I: Read + Drop, E: Print 
 ) -> u8
 where
     R: Threads + Sync + Wait + Clock + AllocGlobal,
+    ensures served { result ≡ 0 → (texts : Table → List ℕ) → AreTexts I.remaining tables texts
+        → ServesClients texts (vec_len clients) }
+    ensures counts { result ≡ 0 → AreCounts (vec_len clients) settings.dispatchers }
+    ensures refused { result ≡ 1 → (texts : Table → List ℕ) → AreTexts I.remaining tables texts
+        → AreRefused texts }
+    ensures many { (result ≡ 2) ↔ (16 < vec_len clients) }
+    ensures others { result ≢ 0 → result ≢ 1 → result ≢ 2 → result ≡ 4 }
 {
     let mut err = io::writer(screen);
     if clients.len() > MOST_CLIENTS {

@@ -1,5 +1,11 @@
 //! The clients: each opens its ends, is served its sessions, and tells what broke them.
 
+ghost use Rattle.std.specs.Prelude.{◌≡◌, false};
+ghost use Rattle.std.specs.Option.{is_some};
+ghost use Rattle.history.specs.World.{number_of};
+ghost use Rattle.serve_command.specs.Sessions.{HasEnded};
+ghost use Rattle.ssb_sessions.specs.Steps.{AreAlike};
+
 use crate::ends::{EndFault, EndPaths, Ends, open_ends};
 use ssb_server::{Client, Server};
 use std::alloc::Global;
@@ -38,7 +44,13 @@ fn serve_over<W: Wait + Drop, R: Wait, I: Read + Drop, O: Write>(
     client: &mut Client<W>,
     input: I,
     output: &mut O,
-) -> Result<Served, SessionError> {
+) -> Result<Served, SessionError>
+    requires table { client.old.table ≡ server.now }
+    requires quiet { is_some client.old.asked ≡ false }
+    ensures ended { HasEnded result (number_of client.old.who) client.old client.new (I.remaining input)
+        (O.contents output.old) (O.contents output.new) }
+    ensures same { AreAlike client.old client.new }
+{
     match BufReader::with_capacity(alloc, READ_AHEAD, input) {
         Ok(mut input) => serve_session(rt, alloc, server, client, &mut input, output),
         Err(_) => Err(SessionError {
@@ -50,6 +62,9 @@ fn serve_over<W: Wait + Drop, R: Wait, I: Read + Drop, O: Write>(
 
 impl<I: Read + Drop, O: Write + Drop> Speaker for StreamClient<I, O> {
     type Left = StreamLeft<O>;
+
+    ghost spoken = { λ speaker old new left. HasEnded left.ended (number_of old.who) old new
+        (I.remaining speaker.input) (O.contents speaker.output) (O.contents left.output) };
 }
 
 impl<R: Wait, I: Read + Drop, O: Write + Drop> Speaks<R> for StreamClient<I, O> {
@@ -119,7 +134,11 @@ impl<'a, F: Files, E: Print> PathClient<'a, F, E> {
         alloc: Global,
         server: &Server<W>,
         client: &mut Client<W>,
-    ) -> SessionEnd {
+    ) -> SessionEnd
+        requires table { client.old.table ≡ server.now }
+        requires quiet { is_some client.old.asked ≡ false }
+        ensures { AreAlike client.old client.new }
+    {
         let ends = match open_ends(self.files, &self.paths) {
             Ok(ends) => ends,
             Err(fault) => {
@@ -146,6 +165,9 @@ impl<'a, F: Files, E: Print> PathClient<'a, F, E> {
 
 impl<'a, F: Files, E: Print> Speaker for PathClient<'a, F, E> {
     type Left = bool;
+
+    // What the system opens, and so what was read and written, is in no contract.
+    ghost spoken = { λ _ old new _. AreAlike old new };
 }
 
 impl<'a, R: Wait + Clock, F: Files, E: Print> Speaks<R> for PathClient<'a, F, E> {
