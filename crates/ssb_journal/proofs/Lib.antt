@@ -2,3 +2,4 @@ pub mod SealLaws
 mod HeadLaws
 mod TextLaws
 pub mod KeptLaws
+mod CountLaws

@@ -4,3 +4,5 @@ pub mod Texts
 pub mod Kept
 pub mod Opening
 pub mod Replays
+pub mod Counts
+pub mod Sources

@@ -19,6 +19,11 @@
 //! without them. `specs/Opening` says why a file is not opened, `specs/Replays` which commit is refused. The proof against
 //! crashes (`journal`) does not lean on checksums: a crash damages no group.
 //!
+//! [`keep_journal`] is what the journal's thread does: it takes all commits since its last look as one group, appends it,
+//! publishes the count and wakes who waits. A session asks [`JournaledCount::wait_for`] for the number of its last reply,
+//! and then tells its client. An [`OnDisk`] is made only of an open journal that keeps so many commits (`specs/Counts`:
+//! `KeepsAtLeast`): who publishes has to hold one, and who waits gets one of at least the number that it asked for.
+//!
 //! ```text
 //! let Opened { found, kept, torn } = open(alloc, &sizes, disk)?;
 //! let store = replay(alloc, base, hashing, &kept.commits)?;
@@ -31,17 +36,25 @@
 mod appending;
 mod checksum;
 mod commits;
+mod count;
 mod fault;
 mod head;
+mod journaling;
 pub mod laws;
+mod on_disk;
 mod opening;
 mod replaying;
+mod source;
 mod texts;
 
 pub use appending::append_commits;
 pub use checksum::{CHECKSUM_LINE, seal};
+pub use count::JournaledCount;
 pub use fault::JournalFault;
 pub use head::{TableSize, head_of};
+pub use journaling::keep_journal;
+pub use on_disk::OnDisk;
 pub use opening::{Kept, OpenFault, Opened, begin, open};
 pub use replaying::{ReplayFault, replay};
+pub use source::CommitSource;
 pub use texts::texts_of;

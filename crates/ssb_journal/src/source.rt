@@ -3,7 +3,7 @@ ghost use Rattle.std.specs.Prelude.{◌≡◌, ◌++◌, List, IfOk, IfSome, OnE
 ghost use Rattle.std.specs.List.{AllByRecursion};
 ghost use Rattle.row_store.specs.History.{CommitRecord};
 ghost use Rattle.ssb_trace.specs.Allowed.{IsClient};
-ghost use Rattle.journaled.specs.Sources.{Gives};
+ghost use Rattle.ssb_journal.specs.Sources.{Gives};
 
 use row_store::Commit;
 use std::alloc::{AllocError, Global};

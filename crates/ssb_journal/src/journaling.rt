@@ -3,14 +3,14 @@ ghost use Rattle.std.specs.Prelude.{◌≡◌, ◌++◌, List, IfOk};
 ghost use Rattle.std.specs.List.{AllByRecursion};
 ghost use Rattle.row_store.specs.History.{CommitRecord};
 ghost use Rattle.ssb_trace.specs.Allowed.{IsClient};
-ghost use Rattle.journaled.specs.Counts.{KeepsAtLeast, KeepsMore};
+ghost use Rattle.ssb_journal.specs.Counts.{KeepsAtLeast, KeepsMore};
 
+use crate::appending::append_commits;
 use crate::count::JournaledCount;
 use crate::on_disk::OnDisk;
 use crate::source::CommitSource;
 use journal::{Disk, DiskError, Journal};
 use row_store::Commit;
-use ssb_journal::append_commits;
 use std::alloc::Global;
 use std::sync::Wait;
 

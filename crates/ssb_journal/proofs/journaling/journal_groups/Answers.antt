@@ -1,7 +1,7 @@
 use Rattle.std.proofs.Common.{List, ◌++◌, ◌∙◌, ap, append_assoc}
 use Rattle.row_store.specs.History.{CommitRecord}
-use Rattle.journaled.proofs.CountLaws.{keeps_both}
-use Rattle.journaled.proofs.journaling.journal_groups.Goals as goal
+use Rattle.ssb_journal.proofs.CountLaws.{keeps_both}
+use Rattle.ssb_journal.proofs.journaling.journal_groups.Goals as goal
 
 pub groups-preserved : goal.groups-preserved
 groups-preserved g c =

@@ -1,6 +1,6 @@
 //! The evidence that so many commits are on the disk.
 ghost use Rattle.std.specs.Prelude.{◌≡◌};
-ghost use Rattle.journaled.specs.Counts.{KeepsAtLeast};
+ghost use Rattle.ssb_journal.specs.Counts.{KeepsAtLeast};
 
 use journal::{Disk, Journal};
 

@@ -1,6 +1,6 @@
 use Rattle.std.proofs.Common.{ℕ, ◌≤◌, ◌+◌, length, arith}
-use Rattle.journaled.proofs.CountLaws.{keeps_counted}
-use Rattle.journaled.proofs.journaling.journal_group.Goals as goal
+use Rattle.ssb_journal.proofs.CountLaws.{keeps_counted}
+use Rattle.ssb_journal.proofs.journaling.journal_group.Goals as goal
 
 pub of-requires : goal.of-requires
 of-requires g c =

@@ -4,7 +4,7 @@ use Rattle.std.proofs.lemmas.List.{append-nil}
 use Rattle.row_store.specs.History.{CommitRecord}
 use Rattle.ssb_journal.specs.declared.head.TableSize.{TableSize}
 use Rattle.ssb_journal.specs.Kept.{KeepsCommits}
-use Rattle.journaled.specs.Counts.{KeepsAtLeast, KeepsMore}
+use Rattle.ssb_journal.specs.Counts.{KeepsAtLeast, KeepsMore}
 
 -- with more commits, so many more at least
 pub keeps_counted : (count sum : ℕ) (batch : List CommitRecord) (old new : List ℕ) → KeepsAtLeast count old → KeepsMore batch old new → sum ≤ count + length batch → KeepsAtLeast sum new

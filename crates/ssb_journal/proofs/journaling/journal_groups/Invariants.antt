@@ -1,7 +1,7 @@
 use Rattle.std.proofs.Common.{◌≡◌, List, ◌++◌}
 use Rattle.row_store.specs.History.{CommitRecord}
-use Rattle.journaled.specs.Counts.{KeepsAtLeast, KeepsMore}
-use Rattle.journaled.proofs.journaling.journal_groups.Given as goal
+use Rattle.ssb_journal.specs.Counts.{KeepsAtLeast, KeepsMore}
+use Rattle.ssb_journal.proofs.journaling.journal_groups.Given as goal
 
 abbrev pub invariant-groups : goal.invariant-groups
 invariant-groups g l = record {
