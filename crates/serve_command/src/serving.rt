@@ -189,6 +189,7 @@ fn serve_all<R, F: Files + Sync + AllocGlobal, I: Read + Drop, E: Print + Sync>(
 where
     R: Threads + Sync + Wait + Clock + AllocGlobal,
     F::File: Send,
+    F::Dir: Send,
     ensures served { OnOk result ((texts : Table → List ℕ) → AreTexts I.remaining tables texts
         → ServesClients texts (vec_len clients)) }
     ensures counts { OnOk result (AreCounts (vec_len clients) settings.dispatchers) }
@@ -219,6 +220,7 @@ pub fn serve_clients<R, F: Files + Sync + AllocGlobal, I: Read + Drop, E: Print 
 where
     R: Threads + Sync + Wait + Clock + AllocGlobal,
     F::File: Send,
+    F::Dir: Send,
     ensures served { result ≡ 0 → (texts : Table → List ℕ) → AreTexts I.remaining tables texts
         → ServesClients texts (vec_len clients) }
     ensures counts { result ≡ 0 → AreCounts (vec_len clients) settings.dispatchers }

@@ -1,4 +1,4 @@
-use Rattle.std.proofs.Common.{◌≡◌, ◌∙◌, Err, List, rules, sym, ℕ}
+use Rattle.std.proofs.Common.{◌≡◌, ◌∙◌, Err, List, arith, rules, sym, ℕ}
 use Rattle.ssb_files.specs.Loaded.{AreRefused}
 use Rattle.ssb_files.specs.declared.fault.Fault.TheVariants as common
 use Rattle.ssb_files.specs.declared.job.JobFault.TheVariants.{Program}
@@ -21,7 +21,7 @@ returns-in_err-base-2-clause-refused g c =
     let is : c.from_residual-in_err-base-2.result ≡ Err (Program common.OutOfMemory) = search rules in
     let here : serving_status (Program common.OutOfMemory) ≡ 1 → (texts : Table → List ℕ)
     → AreTexts g.I.Read.remaining c.args.tables texts → AreRefused texts
-    = λ status texts are. (let none : 4 ≡ 1 = status in absurd cc) in
+    = λ status texts are. absurd (omega (arith, status)) in
     rw is here
 
 pub returns-in-Ok-clause-run : goal.returns-in-Ok-clause-run
