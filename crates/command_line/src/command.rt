@@ -183,6 +183,8 @@ fn serve_live<R, F, I: Read + Drop + Send, W: Write + Drop + Send, E: Print + Sy
 where
     R: Clock + RandomSource + Threads + Sync + Wait + AllocGlobal,
     F: Files + Sync + AllocGlobal,
+    F::File: Send,
+    F::Dir: Send,
 {
     let Streams {
         input,
@@ -269,6 +271,8 @@ pub fn run_command_line<R, F, I: Read + Drop + Send, W: Write + Drop + Send, E: 
 where
     R: Clock + RandomSource + Threads + Sync + Wait + AllocGlobal,
     F: Files + Sync + AllocGlobal,
+    F::File: Send,
+    F::Dir: Send,
 {
     let matched = match matches(rt.alloc(), words) {
         Ok(matched) => matched,

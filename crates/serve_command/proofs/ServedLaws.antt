@@ -1,5 +1,5 @@
 -- What the run of a server says of its only client, and of all clients.
-use Rattle.std.proofs.Common.{◌≡◌, ℕ, List, [], ◌∷◌, length, Option, Some, Result, Ok, Err, refl, sym, ap, subst}
+use Rattle.std.proofs.Common.{◌≡◌, ◌∙◌, ℕ, List, [], ◌∷◌, ◌++◌, length, Option, Some, Result, Ok, Err, refl, sym, ap, subst, arith, length-append}
 use Rattle.std.specs.Prelude.{◌≢◌, slice_get}
 use Rattle.history.specs.Closing.{IsLogOf}
 use Rattle.history.specs.Tokens.{TableRecord, TokenRecord, new_token}
@@ -11,6 +11,7 @@ use Rattle.serve_command.specs.Status.{session_status}
 use Rattle.ssb_base.specs.Base.{Tables}
 use Rattle.ssb_files.specs.Loaded.{IsLoaded}
 use Rattle.ssb_schema.specs.declared.table.Table.{Table}
+use Rattle.stream_sessions.specs.Streams.{IsStreamRun}
 use Rattle.stream_sessions.specs.declared.outcome.Served.{Served}
 use Rattle.stream_sessions.specs.declared.outcome.SessionError.{SessionError}
 
@@ -18,6 +19,27 @@ the_only : {X : Type 0} (xs : List X) → length xs ≡ 1 → (x : X) × (xs ≡
 the_only [] one = absurd cc
 the_only (x ∷ []) one = (x, refl)
 the_only (x ∷ y ∷ ys) one = absurd cc
+
+-- what is pushed to an empty list, and what is popped from a list of one, is all of it
+pub first_pushed : {X : Type 0} (before after : List X) (x : X) → before ≡ [] → after ≡ before ++ x ∷ [] → after ≡ x ∷ []
+first_pushed before after x none pushed = pushed ∙ ap (λ xs. xs ++ x ∷ []) none
+
+pub only_popped : {X : Type 0} (front whole : List X) (x : X) → whole ≡ front ++ x ∷ [] → length whole ≡ 1
+    → whole ≡ x ∷ []
+only_popped [] whole x popped one = popped
+only_popped (y ∷ front) whole x popped one =
+    absurd (omega (arith, one, ap length popped, length-append front (x ∷ [])))
+
+-- a run over a base that the texts spell
+pub run_over : {S L : Type 0} (Spoken : S → TokenRecord → TokenRecord → L → Type 0) (texts : Table → List ℕ)
+    (was base : Tables) (speakers : List S) (dispatchers : ℕ) (left : List L) (log : List CommitRecord) → was ≡ base
+    → IsLoaded texts base → IsStreamRun Spoken was speakers dispatchers left log
+    → IsRunOver Spoken texts speakers dispatchers left log
+run_over Spoken texts was base speakers dispatchers left log same loaded run = record {
+  base = was;
+  loaded = subst (IsLoaded texts) (sym same) loaded;
+  run = run;
+}
 
 -- the only speaker had the only client, and spoke to it
 pub record IsAlone {S L : Type 0} (Spoken : S → TokenRecord → TokenRecord → L → Type 0) (texts : Table → List ℕ)

@@ -1,7 +1,6 @@
 -- A session over a reader, and one that was not begun.
 use Rattle.std.proofs.Common.{◌≡◌, ◌∙◌, ℕ, ◌≤◌, ◌+◌, List, [], ◌++◌, Option, None, Some, Result, Ok, Err, refl, inl, ap, subst, arith}
-use Rattle.std.specs.Prelude.{false, IfOk, IfErr}
-use Rattle.std.specs.Option.{is_some}
+use Rattle.std.specs.Prelude.{IfOk, IfErr}
 use Rattle.std.specs.Io.Buffered.{reader_buffer, reader_capacity, reader_inner, reader_remaining}
 use Rattle.std.specs.Io.KnownBytes.{Consumes, prepend_known}
 use Rattle.std.specs.declared.io.buffered.BufReader.{BufReader}
@@ -9,7 +8,6 @@ use Rattle.history.specs.Tokens.{TokenRecord}
 use Rattle.serve_command.specs.Sessions.{HasEnded}
 use Rattle.session_requests.proofs.RequestLaws.{nothing_is_unfinished}
 use Rattle.ssb_report.proofs.WrittenLaws.{appends_none}
-use Rattle.ssb_sessions.specs.Steps.{AreAlike}
 use Rattle.stream_sessions.specs.Session.{Serves, Breaks}
 use Rattle.stream_sessions.specs.declared.outcome.Served.{Served}
 use Rattle.stream_sessions.specs.declared.outcome.SessionError.{SessionError}
@@ -65,18 +63,3 @@ ended_of (Ok served) number old new unread was rest before after same serves bre
     (rest, subst (λ known. Serves served number old new known rest before after) same serves)
 ended_of (Err error) number old new unread was rest before after same serves breaks =
     (rest, subst (λ known. Breaks error number old new known rest before after) same breaks)
-
-none_asked : {X : Type 0} (asked : Option X) → is_some asked ≡ false → asked ≡ None
-none_asked None quiet = refl
-none_asked (Some x) quiet = absurd cc
-
--- a client that asks nothing is the same as it was
-pub alike_itself : (client : TokenRecord) → is_some client.asked ≡ false → AreAlike client client
-alike_itself client quiet = record { table = refl; who = refl; quiet = none_asked client.asked quiet }
-
-pub alike_on : (old now new : TokenRecord) → AreAlike old now → AreAlike now new → AreAlike old new
-alike_on old now new before after = record {
-  table = after.table ∙ before.table;
-  who = after.who ∙ before.who;
-  quiet = after.quiet;
-}

@@ -1,5 +1,5 @@
 -- The exit statuses that there are.
-use Rattle.std.proofs.Common.{◌≡◌, ◌∙◌, ℕ, ◌⊎◌, inl, inr, Result, Ok, Err, refl, sym}
+use Rattle.std.proofs.Common.{◌≡◌, ℕ, ◌⊎◌, inl, inr, Result, Ok, Err, refl, arith}
 use Rattle.std.specs.Prelude.{◌≢◌}
 use Rattle.ssb_files.specs.Status.{data_status, script_status, status_of}
 use Rattle.ssb_files.specs.declared.fault.Fault.{Fault}
@@ -64,15 +64,14 @@ else_failed status (inr (inr is)) no_data no_words = is
 pub serving_failed : (why : JobFault NotServed) → serving_status why ≢ 1 → serving_status why ≢ 2 → serving_status why ≡ 4
 serving_failed why = else_failed (serving_status why) (of_serving why)
 
+no_zero : (status : ℕ) → IsFaultStatus status → status ≢ 0
+no_zero status (inl is) zero = omega (arith, is, zero)
+no_zero status (inr (inl is)) zero = omega (arith, is, zero)
+no_zero status (inr (inr is)) zero = omega (arith, is, zero)
+
 -- a fault is told by no 0
 pub serving_told : (why : JobFault NotServed) → serving_status why ≢ 0
-serving_told why is = elim (of_serving why) [
-  | inl one ↦ (let none : 1 ≡ 0 = sym one ∙ is in absurd cc)
-  | inr other ↦ elim other [
-    | inl two ↦ (let none : 2 ≡ 0 = sym two ∙ is in absurd cc)
-    | inr four ↦ (let none : 4 ≡ 0 = sym four ∙ is in absurd cc)
-  ]
-]
+serving_told why = no_zero (serving_status why) (of_serving why)
 
 -- of a session
 pub session_broke : (outcome : Result Served SessionError) → session_status outcome ≢ 0 → session_status outcome ≡ 4

@@ -188,6 +188,8 @@ fn serve_all<R, F: Files + Sync + AllocGlobal, I: Read + Drop, E: Print + Sync>(
 ) -> Result<bool, ServingFault>
 where
     R: Threads + Sync + Wait + Clock + AllocGlobal,
+    F::File: Send,
+    F::Dir: Send,
     ensures served { OnOk result ((texts : Table → List ℕ) → AreTexts I.remaining tables texts
         → ServesClients texts (vec_len clients)) }
     ensures counts { OnOk result (AreCounts (vec_len clients) settings.dispatchers) }
@@ -217,6 +219,8 @@ pub fn serve_clients<R, F: Files + Sync + AllocGlobal, I: Read + Drop, E: Print 
 ) -> u8
 where
     R: Threads + Sync + Wait + Clock + AllocGlobal,
+    F::File: Send,
+    F::Dir: Send,
     ensures served { result ≡ 0 → (texts : Table → List ℕ) → AreTexts I.remaining tables texts
         → ServesClients texts (vec_len clients) }
     ensures counts { result ≡ 0 → AreCounts (vec_len clients) settings.dispatchers }

@@ -1,0 +1,34 @@
+use Rattle.std.proofs.Common.{◌≡◌, ◌∙◌, Err, List, arith, rules, sym, ℕ}
+use Rattle.ssb_files.specs.Loaded.{AreRefused}
+use Rattle.ssb_files.specs.declared.fault.Fault.TheVariants as common
+use Rattle.ssb_files.specs.declared.job.JobFault.TheVariants.{Program}
+use Rattle.ssb_schema.specs.declared.table.Table.{Table}
+use Rattle.ssb_text.specs.Load.{AreTexts}
+use Rattle.serve_command.specs.Status.{serving_status}
+use Rattle.serve_command.proofs.ServedLaws.{run_over}
+use Rattle.serve_command.proofs.serving.serve.Goals as goal
+
+pub returns-in_err-base-clause-refused : goal.returns-in_err-base-clause-refused
+returns-in_err-base-clause-refused g c =
+    let is : c.from_residual.result ≡ Err (Program c.in_err-base.field-0.0) = search rules in
+    let here : serving_status (Program c.in_err-base.field-0.0) ≡ 1 → (texts : Table → List ℕ)
+    → AreTexts g.I.Read.remaining c.args.tables texts → AreRefused texts
+    = λ status texts are. c.in_err-base.ensures.data status texts are in
+    rw is here
+
+pub returns-in_err-base-2-clause-refused : goal.returns-in_err-base-2-clause-refused
+returns-in_err-base-2-clause-refused g c =
+    let is : c.from_residual-in_err-base-2.result ≡ Err (Program common.OutOfMemory) = search rules in
+    let here : serving_status (Program common.OutOfMemory) ≡ 1 → (texts : Table → List ℕ)
+    → AreTexts g.I.Read.remaining c.args.tables texts → AreRefused texts
+    = λ status texts are. absurd (omega (arith, status)) in
+    rw is here
+
+pub returns-in-Ok-clause-run : goal.returns-in-Ok-clause-run
+returns-in-Ok-clause-run g c = λ texts are.
+    let same : c.in_ok-base-2.base.value ≡ c.in_ok-base.base = search rules in
+    run_over g.S.Speaker.spoken texts _ _ _ _ _ _ same (c.in_ok-base.ensures.base texts are) c.in-Ok.ensures.served
+
+pub returns-in-Ok-clause-left : goal.returns-in-Ok-clause-left
+returns-in-Ok-clause-left g c =
+    c.in-Ok.run'.left.ok.0 ∙ c.in-Ok.ensures.served.one_left ∙ sym c.args.speakers.ok.0

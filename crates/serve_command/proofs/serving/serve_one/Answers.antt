@@ -1,0 +1,26 @@
+use Rattle.std.proofs.Common.{◌≡◌, [], ◌∷◌, Err, length, arith, rules}
+use Rattle.serve_command.proofs.ServedLaws.{first_pushed, is_alone, only_popped}
+use Rattle.serve_command.proofs.serving.serve_one.Goals as goal
+
+pub returns-in_err-run-clause-refused : goal.returns-in_err-run-clause-refused
+returns-in_err-run-clause-refused g c =
+    let is : c.from_residual-in_err-run.result ≡ Err c.in_err-run.field-0.0 = search rules in
+    rw is c.in_err-run.ensures.refused
+
+pub returns-clause-ended : goal.returns-clause-ended
+returns-clause-ended g c = λ texts are.
+    let pushed = first_pushed _ _ _ c.new-speakers.ensures.items c.in_ok-push.ensures.items in
+    let count : length c.in_ok-run.run'.left.items ≡ 1 = omega (
+      arith,
+      c.in_ok-run.run'.left.ok.0,
+      c.in_ok-run.ensures.left,
+      c.in_ok-push.ensures.len,
+      c.new-speakers.ensures.len,
+    ) in
+    let popped = only_popped _ _ _ c.in-Some.ensures.items count in
+    let alone = is_alone _ texts _ _ _ _ _ _ (c.in_ok-run.ensures.run texts are) pushed popped in record {
+      table = alone.table;
+      client = alone.client;
+      only = alone.only;
+      ended = alone.spoken;
+    }
