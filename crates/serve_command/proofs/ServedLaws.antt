@@ -9,7 +9,7 @@ use Rattle.row_store.specs.Legal.{IsLegal}
 use Rattle.serve_command.specs.Served.{BreaksAlone, EndsAlone, IsOnlyClient, IsRunOver, ServesAlone, ServesClients}
 use Rattle.serve_command.specs.Status.{session_status}
 use Rattle.ssb_base.specs.Base.{Tables}
-use Rattle.ssb_files.specs.Loaded.{IsLoaded}
+use Rattle.ssb_files.specs.Loaded.{IsLoadedToServe}
 use Rattle.ssb_schema.specs.declared.table.Table.{Table}
 use Rattle.stream_sessions.specs.Streams.{IsStreamRun}
 use Rattle.stream_sessions.specs.declared.outcome.Served.{Served}
@@ -33,11 +33,11 @@ only_popped (y ∷ front) whole x popped one =
 -- a run over a base that the texts spell
 pub run_over : {S L : Type 0} (Spoken : S → TokenRecord → TokenRecord → L → Type 0) (texts : Table → List ℕ)
     (was base : Tables) (speakers : List S) (dispatchers : ℕ) (left : List L) (log : List CommitRecord) → was ≡ base
-    → IsLoaded texts base → IsStreamRun Spoken was speakers dispatchers left log
+    → IsLoadedToServe texts base → IsStreamRun Spoken was speakers dispatchers left log
     → IsRunOver Spoken texts speakers dispatchers left log
 run_over Spoken texts was base speakers dispatchers left log same loaded run = record {
   base = was;
-  loaded = subst (IsLoaded texts) (sym same) loaded;
+  loaded = subst (IsLoadedToServe texts) (sym same) loaded;
   run = run;
 }
 
@@ -61,7 +61,7 @@ alone_of Spoken texts speaker dispatchers one log over =
       table = run.table;
       client = client;
       only = record {
-        loaded = subst (IsLoaded texts) (sym run.base_is) over.loaded;
+        loaded = subst (IsLoadedToServe texts) (sym run.base_is) over.loaded;
         clients_are = run.clients_are;
         dispatchers_are = run.dispatchers_are;
         log = log;

@@ -8,7 +8,7 @@ use Rattle.row_store.specs.History.{CommitRecord, IsPrefix}
 use Rattle.row_store.specs.Legal.{IsLegal}
 use Rattle.serve_command.specs.Sessions.{HasEnded}
 use Rattle.ssb_base.specs.Base.{Tables}
-use Rattle.ssb_files.specs.Loaded.{IsLoaded}
+use Rattle.ssb_files.specs.Loaded.{IsLoadedToServe}
 use Rattle.ssb_schema.specs.declared.table.Table.{Table}
 use Rattle.stream_sessions.specs.Streams.{IsStreamRun}
 use Rattle.stream_sessions.specs.declared.outcome.Served.{Served}
@@ -19,7 +19,7 @@ use Rattle.stream_sessions.specs.declared.outcome.SessionError.{SessionError}
 pub record IsRunOver {S L : Type 0} (Spoken : S → TokenRecord → TokenRecord → L → Type 0) (texts : Table → List ℕ)
     (speakers : List S) (dispatchers : ℕ) (left : List L) (log : List CommitRecord) : Type 0 where
   pub base : Tables
-  pub loaded : IsLoaded texts base
+  pub loaded : IsLoadedToServe texts base
   pub run : IsStreamRun Spoken base speakers dispatchers left log
 
 -- this was the only client of a server over the base that the five texts spell, with so many dispatchers, when the
@@ -27,7 +27,7 @@ pub record IsRunOver {S L : Type 0} (Spoken : S → TokenRecord → TokenRecord 
 -- are those of the log
 pub record IsOnlyClient (texts : Table → List ℕ) (dispatchers : ℕ) (table : TableRecord) (client : TokenRecord) : Type 0
   where
-    pub loaded : IsLoaded texts table.base
+    pub loaded : IsLoadedToServe texts table.base
     pub clients_are : table.clients ≡ 1
     pub dispatchers_are : table.dispatchers ≡ dispatchers
     pub log : List CommitRecord
@@ -60,7 +60,7 @@ pub record BreaksAlone (texts : Table → List ℕ) (dispatchers : ℕ) (unread 
 -- log is legal, and each of its commits is one of these clients'
 pub record ServesClients (texts : Table → List ℕ) (clients : ℕ) : Type 0 where
   pub base : Tables
-  pub loaded : IsLoaded texts base
+  pub loaded : IsLoadedToServe texts base
   pub log : List CommitRecord
   pub legal : IsLegal base log
   pub named : IsOfClients clients log

@@ -1,7 +1,7 @@
 //! The word `serve`: the live server over streams of bytes, whose clients are served as their requests come.
 //!
 //! ```text
-//! tables ── base_of ─▶ base ── serve_streams ─┬─ one client: standard input and output   (serve_stream)
+//! tables ── base_to_serve ─▶ base ── serve_streams ─┬─ one client: standard input and output   (serve_stream)
 //!                                             └─ 1 to 16, each with a thread that opens  (serve_clients)
 //!                                                its OUT and then its IN, again and again where they are kept
 //! terminal ── Prompted ─▶ its bytes; a prompt before each wait, and help where it is asked for

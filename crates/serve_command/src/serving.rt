@@ -4,7 +4,7 @@ ghost use Rattle.std.specs.Prelude.{◌≡◌, ◌≢◌, ◌⊎◌, ◌↔◌, 
 ghost use Rattle.std.specs.Option.{option_and_then};
 ghost use Rattle.serve_command.specs.Served.{BreaksAlone, EndsAlone, IsRunOver, ServesAlone, ServesClients};
 ghost use Rattle.serve_command.specs.Status.{serving_status, session_status};
-ghost use Rattle.ssb_files.specs.Loaded.{AreRefused};
+ghost use Rattle.ssb_files.specs.Loaded.{AreRefusedToServe};
 ghost use Rattle.ssb_schema.specs.declared.table.Table.{Table};
 ghost use Rattle.ssb_server.specs.Opening.{AreCounts};
 ghost use Rattle.ssb_text.specs.Load.{AreTexts};
@@ -12,7 +12,7 @@ ghost use Rattle.ssb_text.specs.Load.{AreTexts};
 use crate::ends::EndPaths;
 use crate::fault::{NotServed, ServingFault};
 use crate::speakers::{PathClient, StreamClient, StreamLeft};
-use ssb_files::base_of;
+use ssb_files::base_to_serve;
 use ssb_text::Tables;
 use std::alloc::AllocError;
 use std::hash::RandomState;
@@ -60,10 +60,10 @@ where
     ensures left { IfOk result (λ run. vec_len run.left ≡ vec_len speakers) }
     ensures counts { OnOk result (AreCounts (vec_len speakers) settings.dispatchers) }
     ensures refused { IfErr result (λ fault. serving_status fault ≡ 1 → (texts : Table → List ℕ)
-        → AreTexts I.remaining tables texts → AreRefused texts) }
+        → AreTexts I.remaining tables texts → AreRefusedToServe texts) }
     ensures words { IfErr result (λ fault. serving_status fault ≢ 2) }
 {
-    let base = base_of(rt, rt.alloc(), tables)?;
+    let base = base_to_serve(rt, rt.alloc(), tables)?;
     let base = Arc::new(rt.alloc(), base)?;
     let ServeSettings {
         hashing,
@@ -89,7 +89,7 @@ where
         → EndsAlone left.ended texts settings.dispatchers (J.remaining input) (O.contents output)
         (O.contents left.output)) }
     ensures refused { IfErr result (λ fault. serving_status fault ≡ 1 → (texts : Table → List ℕ)
-        → AreTexts I.remaining tables texts → AreRefused texts) }
+        → AreTexts I.remaining tables texts → AreRefusedToServe texts) }
     ensures words { IfErr result (λ fault. serving_status fault ≢ 2) }
 {
     let mut speakers = Vec::new(rt.alloc());
@@ -137,7 +137,7 @@ where
         → BreaksAlone texts settings.dispatchers (J.remaining input) (O.contents output)
         (option_and_then O.contents result.output)) }
     ensures refused { result.status ≡ 1 → (texts : Table → List ℕ) → AreTexts I.remaining tables texts
-        → AreRefused texts }
+        → AreRefusedToServe texts }
     ensures others { result.status ≢ 0 → result.status ≢ 1 → result.status ≡ 4 }
 {
     let mut err = io::writer(screen);
@@ -194,7 +194,7 @@ where
         → ServesClients texts (vec_len clients)) }
     ensures counts { OnOk result (AreCounts (vec_len clients) settings.dispatchers) }
     ensures refused { IfErr result (λ fault. serving_status fault ≡ 1 → (texts : Table → List ℕ)
-        → AreTexts I.remaining tables texts → AreRefused texts) }
+        → AreTexts I.remaining tables texts → AreRefusedToServe texts) }
     ensures words { IfErr result (λ fault. serving_status fault ≢ 2) }
 {
     let speakers = speakers_of(files, clients, keeps, screen)?;
@@ -225,7 +225,7 @@ where
         → ServesClients texts (vec_len clients) }
     ensures counts { result ≡ 0 → AreCounts (vec_len clients) settings.dispatchers }
     ensures refused { result ≡ 1 → (texts : Table → List ℕ) → AreTexts I.remaining tables texts
-        → AreRefused texts }
+        → AreRefusedToServe texts }
     ensures many { (result ≡ 2) ↔ (16 < vec_len clients) }
     ensures others { result ≢ 0 → result ≢ 1 → result ≢ 2 → result ≡ 4 }
 {

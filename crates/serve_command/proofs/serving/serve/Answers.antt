@@ -1,5 +1,5 @@
 use Rattle.std.proofs.Common.{◌≡◌, ◌∙◌, Err, List, arith, rules, sym, ℕ}
-use Rattle.ssb_files.specs.Loaded.{AreRefused}
+use Rattle.ssb_files.specs.Loaded.{AreRefusedToServe}
 use Rattle.ssb_files.specs.declared.fault.Fault.TheVariants as common
 use Rattle.ssb_files.specs.declared.job.JobFault.TheVariants.{Program}
 use Rattle.ssb_schema.specs.declared.table.Table.{Table}
@@ -12,7 +12,7 @@ pub returns-in_err-base-clause-refused : goal.returns-in_err-base-clause-refused
 returns-in_err-base-clause-refused g c =
     let is : c.from_residual.result ≡ Err (Program c.in_err-base.field-0.0) = search rules in
     let here : serving_status (Program c.in_err-base.field-0.0) ≡ 1 → (texts : Table → List ℕ)
-    → AreTexts g.I.Read.remaining c.args.tables texts → AreRefused texts
+    → AreTexts g.I.Read.remaining c.args.tables texts → AreRefusedToServe texts
     = λ status texts are. c.in_err-base.ensures.data status texts are in
     rw is here
 
@@ -20,7 +20,7 @@ pub returns-in_err-base-2-clause-refused : goal.returns-in_err-base-2-clause-ref
 returns-in_err-base-2-clause-refused g c =
     let is : c.from_residual-in_err-base-2.result ≡ Err (Program common.OutOfMemory) = search rules in
     let here : serving_status (Program common.OutOfMemory) ≡ 1 → (texts : Table → List ℕ)
-    → AreTexts g.I.Read.remaining c.args.tables texts → AreRefused texts
+    → AreTexts g.I.Read.remaining c.args.tables texts → AreRefusedToServe texts
     = λ status texts are. absurd (omega (arith, status)) in
     rw is here
 
