@@ -13,7 +13,7 @@
 //! refused at 0 action 1: 47 Absent 77
 //! ```
 
-use crate::section::{Part, Section};
+use crate::section::{Section, SectionKind};
 use anyhow::{Context, Result, bail, ensure};
 use std::alloc::{AllocError, Global};
 
@@ -114,14 +114,14 @@ impl<'a> Reader<'a> {
         ensure!(stands, "this section does not stand here");
         self.section = Some(section);
         match (section.part, self.case.commands.last_mut()) {
-            (Part::File(path), _) => self.case.files.push(empty_file(self.alloc, path)?)?,
-            (Part::Command, _) => self.case.commands.push(Command::new(self.alloc))?,
-            (Part::Breaks(name, after), Some(command)) => {
+            (SectionKind::File(path), _) => self.case.files.push(empty_file(self.alloc, path)?)?,
+            (SectionKind::Command, _) => self.case.commands.push(Command::new(self.alloc))?,
+            (SectionKind::Breaks(name, after), Some(command)) => {
                 let name = String::from_str(self.alloc, name)?;
                 command.breaks.push(Break { name, after })?;
             }
-            (Part::Status(status), Some(command)) => command.status = status,
-            (Part::Leaves(path), Some(command)) => {
+            (SectionKind::Status(status), Some(command)) => command.status = status,
+            (SectionKind::Leaves(path), Some(command)) => {
                 command.leaves.push(empty_file(self.alloc, path)?)?;
             }
             _ => {}
@@ -132,13 +132,19 @@ impl<'a> Reader<'a> {
     // Reads a line of a section's text.
     fn read_text(&mut self, section: Section<'a>, line: &str) -> Result<()> {
         match (section.part, self.case.commands.last_mut()) {
-            (Part::File(_), _) => append_to_last(&mut self.case.files, section, line)?,
-            (Part::Command, Some(command)) => command.take_words(self.alloc, line)?,
-            (Part::Input, Some(command)) => section.append(&mut command.input, line)?,
-            (Part::Output, Some(command)) => section.append(&mut command.output, line)?,
-            (Part::Errors, Some(command)) => section.append(&mut command.errors, line)?,
-            (Part::Leaves(_), Some(command)) => append_to_last(&mut command.leaves, section, line)?,
-            (Part::Breaks(..) | Part::Status(_), _) | (_, None) => bail!("no text stands here"),
+            (SectionKind::File(_), _) => append_to_last(&mut self.case.files, section, line)?,
+            (SectionKind::Command, Some(command)) => command.take_words(self.alloc, line)?,
+            (SectionKind::Input, Some(command)) => section.append(&mut command.input, line)?,
+            (SectionKind::Output, Some(command)) => section.append(&mut command.output, line)?,
+            (SectionKind::Errors, Some(command)) => section.append(&mut command.errors, line)?,
+            (SectionKind::Leaves(_), Some(command)) => append_to_last(
+                &mut command.leaves,
+                section,
+                line,
+            )?,
+            (SectionKind::Breaks(..) | SectionKind::Status(_), _) | (_, None) => bail!(
+                "no text stands here"
+            ),
         }
         Ok(())
     }

@@ -16,9 +16,9 @@ pub struct Difference<'a> {
 
 // A line, its bytes escaped.
 #[derive(Drop)]
-struct Line<'a>(Option<&'a [u8]>);
+struct ShownLine<'a>(Option<&'a [u8]>);
 
-impl<'a> fmt::Display for Line<'a> {
+impl<'a> fmt::Display for ShownLine<'a> {
     fn fmt<W: fmt::Write>(&self, f: &mut fmt::Formatter<W>) -> fmt::Result {
         match self.0 {
             Some(bytes) => write!(f, "\"{}\"", bytes.escape_ascii()),
@@ -30,7 +30,7 @@ impl<'a> fmt::Display for Line<'a> {
 impl<'a> fmt::Display for Difference<'a> {
     fn fmt<W: fmt::Write>(&self, f: &mut fmt::Formatter<W>) -> fmt::Result {
         let number = self.same.saturating_add(1);
-        let (wanted, got) = (Line(self.wanted), Line(self.got));
+        let (wanted, got) = (ShownLine(self.wanted), ShownLine(self.got));
         write!(f, "line {number}: wanted {wanted}, got {got}")
     }
 }

@@ -17,7 +17,7 @@ use std::thread::yield_now;
 const MOST_READ: usize = 48;
 
 // The bytes of a file, as all who opened it see them.
-type Contents = Arc<Mutex<Vec<u8>>>;
+type FileBytes = Arc<Mutex<Vec<u8>>>;
 
 /// Takes a lock, each of which is held for a short while. It has no handle to wait with, and so tries again.
 pub fn hold<T>(lock: &Mutex<T>) -> io::Result<MutexGuard<'_, T>> {
@@ -35,14 +35,14 @@ pub fn hold<T>(lock: &Mutex<T>) -> io::Result<MutexGuard<'_, T>> {
 #[derive(Drop)]
 pub struct MemoryFiles {
     alloc: Global,
-    files: Mutex<BTreeMap<String, Contents>>,
+    files: Mutex<BTreeMap<String, FileBytes>>,
     breaks: Mutex<BTreeMap<String, usize>>,
 }
 
 /// A stream that a command writes, which can be read when it has ended.
 #[derive(Drop)]
 pub struct Stream {
-    contents: Contents,
+    contents: FileBytes,
     after: Option<usize>,
 }
 
@@ -69,7 +69,7 @@ impl Stream {
 #[derive(Drop)]
 pub enum MemoryFile {
     /// A file, and how many bytes of it were read.
-    Opened(Contents, usize),
+    Opened(FileBytes, usize),
     /// A folder.
     Folder,
 }
@@ -124,7 +124,7 @@ impl MemoryFiles {
         }
     }
 
-    fn contents_of(&self, path: &str) -> io::Result<Option<Contents>> {
+    fn contents_of(&self, path: &str) -> io::Result<Option<FileBytes>> {
         match hold(&self.files)?.get(path) {
             Some(contents) => Ok(Some(Arc::try_clone(contents)?)),
             None => Ok(None),
@@ -148,7 +148,7 @@ impl MemoryFiles {
     }
 
     // An empty file at this path, in a folder that is there.
-    fn make(&self, path: &str) -> io::Result<Contents> {
+    fn make(&self, path: &str) -> io::Result<FileBytes> {
         if self.is_folder(path)? {
             return Err(Error::from(ErrorKind::IsADirectory));
         }

@@ -6,7 +6,7 @@ use crate::breaking::Breaking;
 use crate::case::{Case, Command};
 use crate::difference::first_difference;
 use crate::files::{MemoryFiles, Stream};
-use crate::screen::Screen;
+use crate::screen::ErrorScreen;
 use command_line::{Streams, run_command_line};
 use std::alloc::Global;
 use std::io;
@@ -17,20 +17,20 @@ use std::time::Clock;
 
 // What a command did.
 #[derive(Drop)]
-struct Outcome {
+struct CommandEnd {
     output: Vec<u8>,
     errors: Vec<u8>,
     status: u8,
 }
 
 // Runs a command over these files.
-fn run_command<R>(rt: &R, files: &MemoryFiles, command: &Command) -> io::Result<Outcome>
+fn run_command<R>(rt: &R, files: &MemoryFiles, command: &Command) -> io::Result<CommandEnd>
 where
     R: Clock + RandomSource + Threads + Sync + Wait + AllocGlobal,
 {
     let output = Stream::new(rt.alloc(), command.break_of("output"))?;
     let errors = Stream::new(rt.alloc(), command.break_of("errors"))?;
-    let screen = Screen::new(errors.writer()?);
+    let screen = ErrorScreen::new(errors.writer()?);
     let streams = Streams {
         input: Breaking::new(command.input.as_slice(), command.break_of("input")),
         is_typed: false,
@@ -39,7 +39,7 @@ where
         shows_progress: false,
     };
     let status = run_command_line(rt, files, command.words.as_slice(), streams);
-    Ok(Outcome {
+    Ok(CommandEnd {
         output: output.bytes()?,
         errors: errors.bytes()?,
         status,
@@ -51,7 +51,7 @@ fn find_difference(
     alloc: Global,
     files: &MemoryFiles,
     command: &Command,
-    outcome: &Outcome,
+    outcome: &CommandEnd,
 ) -> io::Result<Option<String>>
     ensures errors { result ≡ Ok None → outcome.now.errors.items ≡ command.now.errors.items }
     ensures output { result ≡ Ok None → outcome.now.output.items ≡ command.now.output.items }

@@ -8,16 +8,16 @@ use std::sync::Mutex;
 
 /// A writer that threads share.
 #[derive(Drop)]
-pub struct Screen(Mutex<BreakingFile>);
+pub struct ErrorScreen(Mutex<BreakingFile>);
 
-impl Screen {
+impl ErrorScreen {
     /// Of this writer.
-    pub fn new(writer: BreakingFile) -> Screen {
-        Screen(Mutex::new(writer))
+    pub fn new(writer: BreakingFile) -> ErrorScreen {
+        ErrorScreen(Mutex::new(writer))
     }
 }
 
-impl Print for Screen {
+impl Print for ErrorScreen {
     fn print<D: Display + Drop>(&self, value: D) -> io::Result<()> {
         hold(&self.0)?.write_fmt(value)
     }

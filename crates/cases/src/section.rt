@@ -4,7 +4,7 @@ use anyhow::{Result, bail};
 
 /// What a section says.
 #[derive(Clone, Copy)]
-pub enum Part<'a> {
+pub enum SectionKind<'a> {
     /// A file that is there before, by its path.
     File(&'a str),
     /// A command line.
@@ -26,35 +26,36 @@ pub enum Part<'a> {
 /// A section, by its heading.
 #[derive(Clone, Copy)]
 pub struct Section<'a> {
-    pub part: Part<'a>,
+    pub part: SectionKind<'a>,
     is_escaped: bool,
 }
 
-impl<'a> Part<'a> {
+impl<'a> SectionKind<'a> {
     // The place among the sections of a command.
     fn place(self) -> u8 {
         match self {
-            Part::File(_) => 0,
-            Part::Command => 1,
-            Part::Breaks(..) => 2,
-            Part::Input => 3,
-            Part::Output => 4,
-            Part::Errors => 5,
-            Part::Status(_) => 6,
-            Part::Leaves(_) => 7,
+            SectionKind::File(_) => 0,
+            SectionKind::Command => 1,
+            SectionKind::Breaks(..) => 2,
+            SectionKind::Input => 3,
+            SectionKind::Output => 4,
+            SectionKind::Errors => 5,
+            SectionKind::Status(_) => 6,
+            SectionKind::Leaves(_) => 7,
         }
     }
 
     // Whether several may stand one behind another.
     fn repeats(self) -> bool {
-        matches!(self, Part::Breaks(..) | Part::Leaves(_))
+        matches!(self, SectionKind::Breaks(..) | SectionKind::Leaves(_))
     }
 
     /// Whether it may stand behind the last one, or as the first: files, and then the sections of each command.
-    pub fn may_follow(self, last: Option<Part<'_>>) -> bool {
+    pub fn may_follow(self, last: Option<SectionKind<'_>>) -> bool {
         match (self, last) {
-            (Part::Command, _) | (Part::File(_), None | Some(Part::File(_))) => true,
-            (Part::File(_), _) | (_, None | Some(Part::File(_))) => false,
+            (SectionKind::Command, _) | (SectionKind::File(_), None | Some(SectionKind::File(_))) =>
+                true,
+            (SectionKind::File(_), _) | (_, None | Some(SectionKind::File(_))) => false,
             (part, Some(last)) if part.repeats() => last.place() <= part.place(),
             (part, Some(last)) => last.place() < part.place(),
         }
@@ -113,19 +114,19 @@ impl<'a> Section<'a> {
             None => (heading, false),
         };
         let part = match words.split_once(' ') {
-            Some(("file", path)) => Part::File(path),
-            Some(("leaves", path)) => Part::Leaves(path),
+            Some(("file", path)) => SectionKind::File(path),
+            Some(("leaves", path)) => SectionKind::Leaves(path),
             Some(("breaks", words)) if !is_escaped => {
                 let (name, after) = words.rsplit_once(" after ")?;
-                Part::Breaks(name, after.parse().ok()?)
+                SectionKind::Breaks(name, after.parse().ok()?)
             }
-            Some(("status", number)) if !is_escaped => Part::Status(number.parse().ok()?),
+            Some(("status", number)) if !is_escaped => SectionKind::Status(number.parse().ok()?),
             Some(_) => return None,
             None => match words {
-                "command" if !is_escaped => Part::Command,
-                "input" => Part::Input,
-                "output" => Part::Output,
-                "errors" => Part::Errors,
+                "command" if !is_escaped => SectionKind::Command,
+                "input" => SectionKind::Input,
+                "output" => SectionKind::Output,
+                "errors" => SectionKind::Errors,
                 _ => return None,
             },
         };

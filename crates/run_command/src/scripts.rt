@@ -15,7 +15,7 @@ ghost use Rattle.ssb_sessions.specs.Run.{IsRun};
 ghost use Rattle.ssb_schema.specs.declared.table.Table.{Table};
 ghost use Rattle.ssb_trace.specs.TraceText.{trace_text};
 
-use crate::fault::{NotRun, ServingFault};
+use crate::fault::{NotRun, RunCommandFault};
 use crate::printing::write_run;
 use crate::times::RunTimes;
 use ssb_base::Base;
@@ -52,7 +52,7 @@ fn serve<R: Threads + Sync + Wait + Clock + AllocGlobal>(
     timed: bool,
     base: Base,
     scripts: Vec<Script>,
-) -> Result<Run, ServingFault>
+) -> Result<Run, RunCommandFault>
     ensures run { IfOk result (λ run. IsRun base scripts.items dispatchers
         (map (λ report. report.items) run.reports.items) run.trace) }
     ensures legal { IfOk result (λ run. IsLegalTrace base run.trace) }
@@ -61,7 +61,7 @@ fn serve<R: Threads + Sync + Wait + Clock + AllocGlobal>(
     let base = Arc::new(rt.alloc(), base)?;
     match serve_scripts(rt, rt.alloc(), hashing, base, scripts, dispatchers, timed) {
         Ok(run) => Ok(run),
-        Err(fault) => Err(ServingFault::Found(NotRun(fault))),
+        Err(fault) => Err(RunCommandFault::Found(NotRun(fault))),
     }
 }
 
@@ -73,7 +73,7 @@ fn run_of<R: Threads + Sync + Wait + Clock + AllocGlobal, I: Read + Drop>(
     tables: Tables<I>,
     sources: Vec<I>,
     pace: &mut RunTimes,
-) -> Result<Run, ServingFault>
+) -> Result<Run, RunCommandFault>
     ensures run { IfOk result (λ run. (texts : Table → List ℕ) → AreTexts I.remaining tables texts
         → IsServed texts (map I.remaining sources.items) settings.dispatchers
         (map (λ report. report.items) run.reports.items) run.trace) }
@@ -97,7 +97,7 @@ fn run_of<R: Threads + Sync + Wait + Clock + AllocGlobal, I: Read + Drop>(
 }
 
 // Writes what a run prints, and has the writer hand on what it holds.
-fn print<W: Write>(out: &mut W, run: &Run) -> Result<(), ServingFault>
+fn print<W: Write>(out: &mut W, run: &Run) -> Result<(), RunCommandFault>
     ensures printed { MatchResult result
         (λ _. Appends (W.contents out.old) (W.contents out.new)
         (run_text (map (λ report. report.items) run.now.reports.items) run.now.trace))
@@ -106,32 +106,32 @@ fn print<W: Write>(out: &mut W, run: &Run) -> Result<(), ServingFault>
     ensures fault { IfErr result (λ fault. serving_status fault ≡ 4) }
 {
     if write_run(out, run).is_err() {
-        return Err(ServingFault::Program(Fault::WriteFailed));
+        return Err(RunCommandFault::Program(Fault::WriteFailed));
     }
     match out.flush() {
         Ok(()) => Ok(()),
-        Err(_) => Err(ServingFault::Program(Fault::WriteFailed)),
+        Err(_) => Err(RunCommandFault::Program(Fault::WriteFailed)),
     }
 }
 
 // Writes the trace of a run, and has the writer hand on what it holds.
-fn write<T: Write>(file: &mut T, run: &Run) -> Result<(), ServingFault>
+fn write<T: Write>(file: &mut T, run: &Run) -> Result<(), RunCommandFault>
     ensures kept { MatchResult result
         (λ _. Appends (T.contents file.old) (T.contents file.new) (trace_text run.now.trace))
         (λ _. AppendsPart (T.contents file.old) (T.contents file.new) (trace_text run.now.trace)) }
     ensures fault { IfErr result (λ fault. serving_status fault ≡ 4) }
 {
     if write_trace(file, &run.trace).is_err() {
-        return Err(ServingFault::Program(Fault::WriteFailed));
+        return Err(RunCommandFault::Program(Fault::WriteFailed));
     }
     match file.flush() {
         Ok(()) => Ok(()),
-        Err(_) => Err(ServingFault::Program(Fault::WriteFailed)),
+        Err(_) => Err(RunCommandFault::Program(Fault::WriteFailed)),
     }
 }
 
 // Keeps the trace of a run, where there is a file for it.
-fn keep<T: Write>(file: &mut Option<T>, run: &Run) -> Result<(), ServingFault>
+fn keep<T: Write>(file: &mut Option<T>, run: &Run) -> Result<(), RunCommandFault>
     ensures kept { MatchResult result
         (λ _. Appends (option_and_then T.contents file.old) (option_and_then T.contents file.new)
         (trace_text run.now.trace))
@@ -150,7 +150,7 @@ fn tell_run<W: Write, T: Write>(
     out: &mut W,
     file: &mut Option<T>,
     run: &Run,
-) -> Result<(), ServingFault>
+) -> Result<(), RunCommandFault>
     ensures told { OnOk result (AreTold (W.contents out.old) (W.contents out.new)
         (option_and_then T.contents file.old) (option_and_then T.contents file.new)
         (map (λ report. report.items) run.now.reports.items) run.now.trace) }
@@ -172,7 +172,7 @@ fn report<R: Threads + Sync + Wait + Clock + AllocGlobal, I: Read + Drop, W: Wri
     out: &mut W,
     file: &mut Option<T>,
     pace: &mut RunTimes,
-) -> Result<(), ServingFault>
+) -> Result<(), RunCommandFault>
     ensures served { OnOk result ((texts : Table → List ℕ) → AreTexts I.remaining tables texts
         → Serves texts (map I.remaining sources.items) settings.dispatchers (W.contents out.old)
         (W.contents out.new) (option_and_then T.contents file.old) (option_and_then T.contents file.new)) }

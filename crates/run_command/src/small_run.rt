@@ -9,7 +9,7 @@ ghost use Rattle.ssb_report.specs.Written.{AppendsPart};
 ghost use Rattle.ssb_script.specs.Requests.{requests_of};
 ghost use Rattle.small_data.specs.SmallTexts.{small_texts};
 
-use crate::fault::{NotRun, ServingFault};
+use crate::fault::{NotRun, RunCommandFault};
 use small_data::tables;
 use ssb_base::Base;
 use ssb_files::{Fault, base_of};
@@ -35,7 +35,7 @@ fn only<T: Drop>(mut list: Vec<T>) -> T
 }
 
 // The base of the small data set.
-fn small_base(rt: &(impl Threads + Sync), alloc: Global) -> Result<Base, ServingFault>
+fn small_base(rt: &(impl Threads + Sync), alloc: Global) -> Result<Base, RunCommandFault>
     ensures base { IfOk result (λ base. IsLoaded small_texts base) }
     ensures data { IfErr result (λ fault. serving_status fault ≡ 1 → AreRefused small_texts) }
 {
@@ -49,7 +49,7 @@ fn report_over<R: Threads + Sync + Wait + Clock + AllocGlobal>(
     hashing: RandomState,
     base: Base,
     script: Script,
-) -> Result<Vec<u8>, ServingFault>
+) -> Result<Vec<u8>, RunCommandFault>
     ensures report { IfOk result (λ report. IsReport base (requests_of script) report.items) }
     ensures fault { IfErr result (λ fault. serving_status fault ≡ 4) }
 {
@@ -58,7 +58,7 @@ fn report_over<R: Threads + Sync + Wait + Clock + AllocGlobal>(
     scripts.push(script)?;
     match serve_scripts(rt, rt.alloc(), hashing, base, scripts, 1, false) {
         Ok(run) => Ok(only(run.reports)),
-        Err(fault) => Err(ServingFault::Found(NotRun(fault))),
+        Err(fault) => Err(RunCommandFault::Found(NotRun(fault))),
     }
 }
 
@@ -67,30 +67,30 @@ fn small_report<R: Threads + Sync + Wait + Clock + AllocGlobal, I: Read + Drop>(
     rt: &R,
     hashing: RandomState,
     input: I,
-) -> Result<Vec<u8>, ServingFault>
+) -> Result<Vec<u8>, RunCommandFault>
     ensures report { IfOk result (λ report. IsSmallReport (I.remaining input) report.items) }
     ensures script { IfErr result (λ fault. serving_status fault ≡ 1 → IsOfScript (I.remaining input)) }
 {
     let base = small_base(rt, rt.alloc())?;
     match read_script(rt.alloc(), input, MOST_RECORDS) {
         Ok(script) => report_over(rt, hashing, base, script),
-        Err(fault) => Err(ServingFault::Program(Fault::Script(1, fault))),
+        Err(fault) => Err(RunCommandFault::Program(Fault::Script(1, fault))),
     }
 }
 
 // Writes a report, and has the writer hand on what it holds.
-fn print<W: Write>(out: &mut W, report: &[u8]) -> Result<(), ServingFault>
+fn print<W: Write>(out: &mut W, report: &[u8]) -> Result<(), RunCommandFault>
     ensures printed { MatchResult result
         (λ _. Appends (W.contents out.old) (W.contents out.new) report.now)
         (λ _. AppendsPart (W.contents out.old) (W.contents out.new) report.now) }
     ensures fault { IfErr result (λ fault. serving_status fault ≡ 4) }
 {
     if write_bytes(out, report).is_err() {
-        return Err(ServingFault::Program(Fault::WriteFailed));
+        return Err(RunCommandFault::Program(Fault::WriteFailed));
     }
     match out.flush() {
         Ok(()) => Ok(()),
-        Err(_) => Err(ServingFault::Program(Fault::WriteFailed)),
+        Err(_) => Err(RunCommandFault::Program(Fault::WriteFailed)),
     }
 }
 
@@ -100,7 +100,7 @@ fn serve<R: Threads + Sync + Wait + Clock + AllocGlobal, I: Read + Drop, W: Writ
     hashing: RandomState,
     input: I,
     out: &mut W,
-) -> Result<(), ServingFault>
+) -> Result<(), RunCommandFault>
     ensures report { OnOk result (ServesSmall (I.remaining input) (W.contents out.old) (W.contents out.new)) }
     ensures fault { OnErr result (EndsEarly (I.remaining input) (W.contents out.old) (W.contents out.new)) }
     ensures script { IfErr result (λ fault. serving_status fault ≡ 1 → IsOfScript (I.remaining input)) }

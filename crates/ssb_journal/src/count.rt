@@ -5,7 +5,7 @@ use crate::on_disk::OnDisk;
 use std::sync::{Condvar, Mutex, Wait};
 
 #[derive(Clone, Copy)]
-enum Progress {
+enum CountProgress {
     // So many commits are on the disk.
     Reached(OnDisk),
     // The disk failed: no more will be.
@@ -14,7 +14,7 @@ enum Progress {
 
 /// How many commits are on the disk. One thread publishes, with the evidence; others wait, and get it.
 pub struct JournaledCount {
-    progress: Mutex<Progress>,
+    progress: Mutex<CountProgress>,
     changed: Condvar,
 }
 
@@ -22,20 +22,20 @@ impl JournaledCount {
     /// A count that begins with what is on the disk.
     pub fn new(on_disk: OnDisk) -> JournaledCount {
         JournaledCount {
-            progress: Mutex::new(Progress::Reached(on_disk)),
+            progress: Mutex::new(CountProgress::Reached(on_disk)),
             changed: Condvar::new(),
         }
     }
 
     /// Publishes how many commits are on the disk, and wakes all who wait.
     pub fn publish<R: Wait>(&self, rt: &R, on_disk: OnDisk) {
-        *self.progress.lock(rt) = Progress::Reached(on_disk);
+        *self.progress.lock(rt) = CountProgress::Reached(on_disk);
         self.changed.notify_all();
     }
 
     /// Tells all who wait, now and later, that no more commits will be on the disk.
     pub fn fail<R: Wait>(&self, rt: &R) {
-        *self.progress.lock(rt) = Progress::Failed;
+        *self.progress.lock(rt) = CountProgress::Failed;
         self.changed.notify_all();
     }
 
@@ -47,10 +47,10 @@ impl JournaledCount {
         let progress = self
             .changed
             .wait_while(rt, self.progress.lock(rt), |progress| {
-                matches!(progress, Progress::Reached(on_disk) if on_disk.commits() < commits)
+                matches!(progress, CountProgress::Reached(on_disk) if on_disk.commits() < commits)
             });
         match *progress {
-            Progress::Reached(on_disk) if on_disk.commits() >= commits => Some(on_disk),
+            CountProgress::Reached(on_disk) if on_disk.commits() >= commits => Some(on_disk),
             _ => None,
         }
     }

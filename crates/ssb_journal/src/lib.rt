@@ -25,7 +25,7 @@
 //! `KeepsAtLeast`): who publishes has to hold one, and who waits gets one of at least the number that it asked for.
 //!
 //! ```text
-//! let Opened { found, kept, torn } = open(alloc, &sizes, disk)?;
+//! let OpenedJournal { found, kept, torn } = open(alloc, &sizes, disk)?;
 //! let store = replay(alloc, base, hashing, &kept.commits)?;
 //! keep_torn(rt, alloc, path, &torn)?;
 //! let journal = begin(alloc, &sizes, found, kept.is_new)?;
@@ -54,7 +54,7 @@ pub use fault::JournalFault;
 pub use head::{TableSize, head_of};
 pub use journaling::keep_journal;
 pub use on_disk::OnDisk;
-pub use opening::{Kept, OpenFault, Opened, begin, open};
+pub use opening::{JournalOpenFault, KeptCommits, OpenedJournal, begin, open};
 pub use replaying::{ReplayFault, replay};
 pub use source::CommitSource;
 pub use texts::texts_of;

@@ -20,7 +20,7 @@ use thiserror::Error;
 
 /// Why a journal's file was not opened: its disk failed, or it is no journal over these tables.
 #[derive(Clone, Copy, Debug, PartialEq, Eq, Error)]
-pub enum OpenFault {
+pub enum JournalOpenFault {
     #[error(transparent)]
     Disk(DiskError),
     #[error(transparent)]
@@ -29,7 +29,7 @@ pub enum OpenFault {
 
 /// What a journal's file keeps.
 #[derive(Drop)]
-pub struct Kept {
+pub struct KeptCommits {
     /// Its commits, in order.
     pub commits: Vec<Commit>,
     /// Whether it is a new one, which has no head yet.
@@ -37,17 +37,21 @@ pub struct Kept {
 }
 
 // The commits that the contents of a file keep.
-fn kept_in(alloc: Global, sizes: &[TableSize], contents: &Contents) -> Result<Kept, JournalFault>
+fn kept_in(
+    alloc: Global,
+    sizes: &[TableSize],
+    contents: &Contents,
+) -> Result<KeptCommits, JournalFault>
     ensures kept { IfOk result (IsKept sizes.now (lists contents.now.groups.items)) }
     ensures fault { IfErr result (λ fault. (fault ≡ JournalFault.OutOfMemory)
         ⊎ IsOpenFault sizes.now (lists contents.now.groups.items) contents.now.rest.items fault) }
 {
     match texts_of(alloc, sizes, &contents.groups, &contents.rest)? {
-        None => Ok(Kept {
+        None => Ok(KeptCommits {
             commits: Vec::new(alloc),
             is_new: true,
         }),
-        Some(texts) => Ok(Kept {
+        Some(texts) => Ok(KeptCommits {
             commits: commits_of(alloc, &texts)?,
             is_new: false,
         }),
@@ -56,9 +60,9 @@ fn kept_in(alloc: Global, sizes: &[TableSize], contents: &Contents) -> Result<Ke
 
 /// A journal's file that was read and is unchanged.
 #[derive(Drop)]
-pub struct Opened<D: Disk> {
+pub struct OpenedJournal<D: Disk> {
     pub found: Found<D>,
-    pub kept: Kept,
+    pub kept: KeptCommits,
     /// What a crash has torn: it is cut off when the journal is begun.
     pub torn: Vec<u8>,
 }
@@ -68,7 +72,7 @@ pub fn open<D: Disk>(
     alloc: Global,
     sizes: &[TableSize],
     disk: D,
-) -> Result<Opened<D>, (OpenFault, D)>
+) -> Result<OpenedJournal<D>, (JournalOpenFault, D)>
     requires readable { D.is_readable disk }
     // After a restart, what is read is what is on the disk.
     requires durable { Only (D.seen disk) (D.may_leave disk) }
@@ -83,14 +87,17 @@ pub fn open<D: Disk>(
 {
     let (found, contents) = match Found::read(alloc, disk) {
         Ok(read) => read,
-        Err((error, disk)) => return Err((OpenFault::Disk(error), disk)),
+        Err((error, disk)) => return Err((JournalOpenFault::Disk(error), disk)),
     };
     match kept_in(alloc, sizes, &contents) {
         Ok(kept) => match contents.torn().to_vec(alloc) {
-            Ok(torn) => Ok(Opened { found, kept, torn }),
-            Err(_) => Err((OpenFault::Disk(DiskError::OutOfMemory), found.into_disk())),
+            Ok(torn) => Ok(OpenedJournal { found, kept, torn }),
+            Err(_) => Err((
+                JournalOpenFault::Disk(DiskError::OutOfMemory),
+                found.into_disk(),
+            )),
         },
-        Err(fault) => Err((OpenFault::Journal(fault), found.into_disk())),
+        Err(fault) => Err((JournalOpenFault::Journal(fault), found.into_disk())),
     }
 }
 

@@ -5,10 +5,10 @@ ghost use Rattle.ssb_server.specs.Tickets.{IsOf, IsQuiet};
 
 use crate::tests::LOADED;
 use crate::tests::opening::{next_dispatcher, opened};
-use crate::tests::parties::{Plays, TakesTurns};
-use crate::tests::trial::Deed::{Adds, Asks, Polls};
-use crate::tests::trial::Step::{First, Second, Third};
-use crate::tests::trial::{Step, Trial};
+use crate::tests::parties::{Plays, PlaysTurns};
+use crate::tests::trial::TrialDeed::{Adds, Asks, Polls};
+use crate::tests::trial::TrialStep::{First, Second, Third};
+use crate::tests::trial::{Trial, TrialStep};
 use ssb_server::{Opened, ScanGate, Server, Turn};
 use std::alloc::Global;
 use std::sync::Wait;
@@ -58,7 +58,7 @@ impl ScanGate for HeldGate {
 }
 
 // One turn through the gate.
-fn held_turn<W: Wait + Drop, D: TakesTurns<W> + Drop, R: Wait + Threads + Sync>(
+fn held_turn<W: Wait + Drop, D: PlaysTurns<W> + Drop, R: Wait + Threads + Sync>(
     rt: &R,
     server: &Server<W>,
     mut dispatcher: D,
@@ -86,7 +86,7 @@ fn go_on<T: Plays, R: Wait + Threads + Sync>(
         alloc,
         &[
             (Second(Asks("Q4.1")), "asked"),
-            (Step::Turn, "answered 1 at 0"),
+            (TrialStep::Turn, "answered 1 at 0"),
             (Third(Adds(9)), "committed 1"),
         ],
     );
@@ -99,7 +99,7 @@ fn go_on<T: Plays, R: Wait + Threads + Sync>(
 // A turn through a gate that holds its scan, and the others who go on meanwhile.
 fn hold_and_go_on<
     W: Wait + Drop + Send,
-    D: TakesTurns<W> + Drop + Send,
+    D: PlaysTurns<W> + Drop + Send,
     T: Plays,
     R: Wait + Threads + Sync,
 >(
@@ -128,7 +128,7 @@ fn hold_and_go_on<
 // whether it was held all the while.
 fn asks_and_is_held<
     W: Wait + Drop + Send,
-    D: TakesTurns<W> + Drop + Send,
+    D: PlaysTurns<W> + Drop + Send,
     T: Plays,
     R: Wait + Threads + Sync,
 >(

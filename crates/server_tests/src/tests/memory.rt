@@ -5,8 +5,8 @@
 //! again and again, each time with another growth of memory refused, so that each growth of each call is refused
 //! once.
 
-use crate::tests::trial::Deed::{Adds, Asks, Polls};
-use crate::tests::trial::Step::{First, Turn};
+use crate::tests::trial::TrialDeed::{Adds, Asks, Polls};
+use crate::tests::trial::TrialStep::{First, Turn};
 use crate::tests::trial::played_at_last;
 use crate::tests::{LOADED, WITH_NINE};
 use std::test::Fail;

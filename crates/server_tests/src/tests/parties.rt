@@ -4,7 +4,7 @@ ghost use Rattle.std.specs.Thread.{IsSync};
 ghost use Rattle.history.specs.Tokens.{TokenRecord};
 ghost use Rattle.ssb_server.specs.Tickets.{IsOf};
 
-use crate::tests::trial::{Step, Trial, turns};
+use crate::tests::trial::{Trial, TrialStep, turns};
 use ssb_server::{Dispatcher, ScanGate, Server, Turn};
 use std::alloc::Global;
 use std::sync::Wait;
@@ -12,16 +12,16 @@ use std::test::Fail;
 use std::thread::Threads;
 
 /// What contracts see as a token.
-pub trait HasToken {
+pub trait HasPartyToken {
     ghost token: { Self → TokenRecord };
 }
 
-impl<W: Wait + Drop> HasToken for Dispatcher<W> {
+impl<W: Wait + Drop> HasPartyToken for Dispatcher<W> {
     ghost token = { λ d. d };
 }
 
 /// Who takes turns, as a dispatcher does.
-pub trait TakesTurns<W: Wait + Drop>: HasToken {
+pub trait PlaysTurns<W: Wait + Drop>: HasPartyToken {
     fn take_turn<R: Wait + Threads + Sync, G: ScanGate>(
         &mut self,
         rt: &R,
@@ -33,7 +33,7 @@ pub trait TakesTurns<W: Wait + Drop>: HasToken {
         ensures { IsOf server.now (Self.token self.new) };
 }
 
-impl<W: Wait + Drop> TakesTurns<W> for Dispatcher<W> {
+impl<W: Wait + Drop> PlaysTurns<W> for Dispatcher<W> {
     fn take_turn<R: Wait + Threads + Sync, G: ScanGate>(
         &mut self,
         rt: &R,
@@ -50,7 +50,7 @@ pub trait Plays {
         &mut self,
         rt: &R,
         alloc: Global,
-        steps: &[(Step, &str)],
+        steps: &[(TrialStep, &str)],
     ) -> Result<(), Fail>
         requires shared { IsSync R.row };
 }
@@ -60,7 +60,7 @@ impl<'s, W: Wait + Drop> Plays for Trial<'s, W> {
         &mut self,
         rt: &R,
         alloc: Global,
-        steps: &[(Step, &str)],
+        steps: &[(TrialStep, &str)],
     ) -> Result<(), Fail> {
         self.plays(rt, alloc, steps)
     }

@@ -17,7 +17,7 @@ use test_fixtures::{adding, question};
 
 /// What a client does.
 #[derive(Clone, Copy, Debug)]
-pub enum Deed {
+pub enum TrialDeed {
     /// It adds the order of this key.
     Adds(u64),
     /// It asks the query of this name, with the benchmark's constants.
@@ -28,13 +28,13 @@ pub enum Deed {
 
 /// A step of a trial.
 #[derive(Clone, Copy, Debug)]
-pub enum Step {
+pub enum TrialStep {
     /// The first client does this.
-    First(Deed),
+    First(TrialDeed),
     /// The second client does this.
-    Second(Deed),
+    Second(TrialDeed),
     /// The third client does this.
-    Third(Deed),
+    Third(TrialDeed),
     /// The second client meets the first one.
     Meeting,
     /// The dispatcher takes a turn.
@@ -192,20 +192,20 @@ fn does<R: Wait, W: Wait + Drop>(
     alloc: Global,
     server: &Server<W>,
     client: &mut Client<W>,
-    deed: Deed,
+    deed: TrialDeed,
 ) -> Result<String, AllocError>
     requires { IsOf server.now client.old }
     ensures { IsOf server.now client.new }
 {
     match deed {
-        Deed::Adds(order) => adds(rt, alloc, server, client, order),
-        Deed::Asks(query) => asks(alloc, server, client, query),
-        Deed::Polls => polls(alloc, server, client),
+        TrialDeed::Adds(order) => adds(rt, alloc, server, client, order),
+        TrialDeed::Asks(query) => asks(alloc, server, client, query),
+        TrialDeed::Polls => polls(alloc, server, client),
     }
 }
 
 // Whether what a step told is what stands beside it.
-fn as_expected(alloc: Global, step: (Step, &str), told: String) -> Result<(), Fail> {
+fn as_expected(alloc: Global, step: (TrialStep, &str), told: String) -> Result<(), Fail> {
     if told.as_str() != step.1 {
         Err(format!(in alloc; "{:?}: {told}", step.0)?)?
     }
@@ -237,14 +237,14 @@ impl<'s, W: Wait + Drop> Trial<'s, W> {
         &mut self,
         rt: &R,
         alloc: Global,
-        step: Step,
+        step: TrialStep,
     ) -> Result<String, AllocError> {
         match step {
-            Step::First(deed) => does(rt, alloc, self.server, &mut self.first, deed),
-            Step::Second(deed) => does(rt, alloc, self.server, &mut self.second, deed),
-            Step::Third(deed) => does(rt, alloc, self.server, &mut self.third, deed),
-            Step::Meeting => meets(alloc, self.server, &mut self.second, &mut self.first),
-            Step::Turn => {
+            TrialStep::First(deed) => does(rt, alloc, self.server, &mut self.first, deed),
+            TrialStep::Second(deed) => does(rt, alloc, self.server, &mut self.second, deed),
+            TrialStep::Third(deed) => does(rt, alloc, self.server, &mut self.third, deed),
+            TrialStep::Meeting => meets(alloc, self.server, &mut self.second, &mut self.first),
+            TrialStep::Turn => {
                 let turn = turns(rt, self.server, &mut self.dispatcher, &OpenGate);
                 report(alloc, turn)
             }
@@ -256,7 +256,7 @@ impl<'s, W: Wait + Drop> Trial<'s, W> {
         &mut self,
         rt: &R,
         alloc: Global,
-        steps: &[(Step, &str)],
+        steps: &[(TrialStep, &str)],
     ) -> Result<(), Fail> {
         for (step, expected) in steps {
             let told = self.takes(rt, alloc, *step)?;
@@ -270,8 +270,8 @@ impl<'s, W: Wait + Drop> Trial<'s, W> {
         &mut self,
         rt: &R,
         alloc: Global,
-        step: (Step, &str),
-        lacking: (&str, &[(Step, &str)]),
+        step: (TrialStep, &str),
+        lacking: (&str, &[(TrialStep, &str)]),
     ) -> Result<(), Fail> {
         let told = self.takes(rt, alloc, step.0)?;
         if told.as_str() == lacking.0 {
@@ -284,7 +284,7 @@ impl<'s, W: Wait + Drop> Trial<'s, W> {
 /// Opens a server over the small data set, and takes the steps.
 pub fn played<R: Wait + Threads + Sync + AllocGlobal + RandomSource>(
     rt: &R,
-    steps: &[(Step, &str)],
+    steps: &[(TrialStep, &str)],
 ) -> Result<(), Fail> {
     let Opened {
         server,
@@ -299,10 +299,10 @@ pub fn played<R: Wait + Threads + Sync + AllocGlobal + RandomSource>(
 /// too, and then those after it.
 pub fn played_at_last<R: Wait + Threads + Sync + AllocGlobal + RandomSource>(
     rt: &R,
-    before: &[(Step, &str)],
-    step: (Step, &str),
-    lacking: (&str, &[(Step, &str)]),
-    after: &[(Step, &str)],
+    before: &[(TrialStep, &str)],
+    step: (TrialStep, &str),
+    lacking: (&str, &[(TrialStep, &str)]),
+    after: &[(TrialStep, &str)],
 ) -> Result<(), Fail> {
     let Opened {
         server,

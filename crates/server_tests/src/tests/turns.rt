@@ -1,7 +1,7 @@
 //! One client or two and a dispatcher, in one thread.
 
-use crate::tests::trial::Deed::{Adds, Asks, Polls};
-use crate::tests::trial::Step::{First, Meeting, Second, Turn};
+use crate::tests::trial::TrialDeed::{Adds, Asks, Polls};
+use crate::tests::trial::TrialStep::{First, Meeting, Second, Turn};
 use crate::tests::trial::played;
 use crate::tests::{LOADED, WITH_NINE};
 use std::test::Fail;
