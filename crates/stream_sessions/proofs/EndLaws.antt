@@ -1,5 +1,32 @@
 -- How a session ends.
-use Rattle.std.proofs.Common.{◌≡◌, ℕ, ◌+◌, ◌<◌, ◌≤◌, List, [], ◌∷◌, ◌++◌, length, take, get_or, Option, Some, Err, refl, sym, ap, ◌∙◌, subst, inl, inr, append_assoc, append-nil, length-append, arith}
+use Rattle.std.proofs.Common.{
+  ◌≡◌,
+  ℕ,
+  ◌+◌,
+  ◌<◌,
+  ◌≤◌,
+  List,
+  [],
+  ◌∷◌,
+  ◌++◌,
+  length,
+  take,
+  get_or,
+  Option,
+  Some,
+  Err,
+  refl,
+  sym,
+  ap,
+  ◌∙◌,
+  subst,
+  inl,
+  inr,
+  append_assoc,
+  append-nil,
+  length-append,
+  arith,
+}
 use Rattle.std.specs.Prelude.{slice_get}
 use Rattle.std.specs.List.{AllByRecursion, concat}
 use Rattle.std.specs.Io.KnownBytes.{Appends, Consumes}
@@ -51,7 +78,8 @@ cut_here requests each = record {
 }
 
 -- the rest is the last of all texts
-rest_is_last : (requests : List (List ℕ)) (rest : List ℕ) → 0 < length rest → all_of requests rest ≡ requests ++ rest ∷ []
+rest_is_last : (requests : List (List ℕ)) (rest : List ℕ) → 0 < length rest
+    → all_of requests rest ≡ requests ++ rest ∷ []
 rest_is_last requests [] some = absurd (omega (arith, some))
 rest_is_last requests (b ∷ rest) some = refl
 
@@ -86,7 +114,8 @@ ends_with_rest number old now new unread left next before out after held kept do
             through.answered answer.answered);
         count = let many = as_many number old now through.requests through.replies through.answered in
             omega (arith, many, through.count, length-append through.replies (answer.text ∷ []));
-        told = sym (told_on (concat through.replies) through.handed held steps.handed.handed steps.kept answer.text kept
+        told = sym
+            (told_on (concat through.replies) through.handed held steps.handed.handed steps.kept answer.text kept
             through.whole steps.handed.whole answer.added)
             ∙ sym (concat-push through.replies answer.text)
             ∙ sym (append-nil (concat (through.replies ++ answer.text ∷ [])));
@@ -143,7 +172,8 @@ ends_too_long number old now new unread left next before out after held kept don
         replies = through.replies;
         answered = subst (AreAnswered number old through.requests through.replies) (sym steps.so.3) through.answered;
         count = as_many number old now through.requests through.replies through.answered ∙ through.count;
-        told = sym (told_on (concat through.replies) through.handed held steps.handed.handed steps.kept too_long_line kept
+        told = sym
+            (told_on (concat through.replies) through.handed held steps.handed.handed steps.kept too_long_line kept
             through.whole steps.handed.whole steps.so.4);
       };
     }
@@ -159,7 +189,8 @@ part_on a b c handed held first second = record {
 }
 
 -- replies could not be written
-breaks_writing : (why : SessionFault) (number : ℕ) (old now new : TokenRecord) (unread left next before out after : Option (List ℕ))
+breaks_writing : (why : SessionFault) (number : ℕ) (old now new : TokenRecord)
+    (unread left next before out after : Option (List ℕ))
     (held : List ℕ) (done : ℕ)
     → IsThrough number old now unread left before out held done
     → FailsWriting why now new left next out after held
@@ -186,7 +217,8 @@ breaks_writing why number old now new unread left next before out after held don
     }
 
 -- a session that broke behind its requests, with some bytes read
-broken_at : (why : SessionFault) (number : ℕ) (old now new : TokenRecord) (unread left next before out after : Option (List ℕ))
+broken_at : (why : SessionFault) (number : ℕ) (old now new : TokenRecord)
+    (unread left next before out after : Option (List ℕ))
     (held kept bytes rest : List ℕ) (requests : List (List ℕ)) (done : ℕ)
     → (through : IsThrough number old now unread left before out held done)
     → Consumes left next bytes → HandsOn out after held kept
@@ -255,7 +287,8 @@ broken_in_rest : (number : ℕ) (old now new : TokenRecord) (unread left next be
 broken_in_rest number old now new unread left next before out after held kept bytes done through read hands none some broken =
     let requests = through.requests in
     broken_at fault.OutOfMemory number old now new unread left next before out after held kept bytes bytes
-    requests done through read hands (cut_at requests bytes through.each none) (first_are requests bytes done through.count) (
+    requests done through read hands (cut_at requests bytes through.each none)
+    (first_are requests bytes done through.count) (
       omega (arith, through.count),
       inr (
         bytes,
@@ -265,14 +298,16 @@ broken_in_rest number old now new unread left next before out after held kept by
       refl,
     )
 
-breaks_at : (why : SessionFault) (number : ℕ) (old now new : TokenRecord) (unread left next before out after : Option (List ℕ))
+breaks_at : (why : SessionFault) (number : ℕ) (old now new : TokenRecord)
+    (unread left next before out after : Option (List ℕ))
     (held kept : List ℕ) (done : ℕ)
     → IsThrough number old now unread left before out held done
     → FailsAt why number now new left next out after held kept
     → IsHeld before after kept (IsBroken (record { answered = done; fault = why }) number old new unread next)
 breaks_at fault.Read number old now new unread left next before out after held kept done through failed =
     broken_at fault.Read number old now new unread left next before out after held kept failed.bytes failed.bytes
-    through.requests done through failed.read failed.handed (cut_at through.requests failed.bytes through.each failed.so.0)
+    through.requests done through failed.read failed.handed
+    (cut_at through.requests failed.bytes through.each failed.so.0)
     (first_are through.requests failed.bytes done through.count) (sym through.count, failed.so.1, refl)
 breaks_at fault.Write number old now new unread left next before out after held kept done through failed = absurd failed.so
 breaks_at fault.OutOfMemory number old now new unread left next before out after held kept done through failed =
@@ -293,7 +328,8 @@ breaks_at fault.OutOfMemory number old now new unread left next before out after
       ]
     ]
 
-pub breaks_held : (why : SessionFault) (number : ℕ) (old now new : TokenRecord) (unread left next before out after : Option (List ℕ))
+pub breaks_held : (why : SessionFault) (number : ℕ) (old now new : TokenRecord)
+    (unread left next before out after : Option (List ℕ))
     (held kept : List ℕ) (done : ℕ)
     → IsThrough number old now unread left before out held done
     → Fails why number now new left next out after held kept
@@ -307,7 +343,8 @@ breaks_held why number old now new unread left next before out after held kept d
 ]
 
 -- no more requests are served than can be counted
-pub ends_at_bound : (number : ℕ) (old now : TokenRecord) (unread left before out : Option (List ℕ)) (held : List ℕ) (done : ℕ)
+pub ends_at_bound : (number : ℕ) (old now : TokenRecord) (unread left before out : Option (List ℕ)) (held : List ℕ)
+    (done : ℕ)
     → IsThrough number old now unread left before out held done
     → EndsHeld (Err (record { answered = done; fault = fault.Read })) number old now unread left before out held
 ends_at_bound number old now unread left before out held done through = inr (record {
@@ -332,7 +369,8 @@ ends_at_bound number old now unread left before out held done through = inr (rec
 
 -- The last replies are handed on, or not.
 
-pub serves : (served : Served) (number : ℕ) (old new : TokenRecord) (unread left before out after : Option (List ℕ)) (held : List ℕ)
+pub serves : (served : Served) (number : ℕ) (old new : TokenRecord) (unread left before out after : Option (List ℕ))
+    (held : List ℕ)
     → IsHeld before out held (IsServed served number old new unread left) → Appends out after held
     → Serves served number old new unread left before after
 serves served number old new unread left before out after held ends written = record {
@@ -363,13 +401,15 @@ last_is : (how : Ending) (unread : Option (List ℕ)) (bytes rest : List ℕ) �
 last_is ending.InputEnded unread bytes rest ends = inl refl
 last_is ending.RequestTooLong unread bytes rest ends = inr (ends.0, refl)
 
-pub served_in_vain : (served : Served) (number : ℕ) (old new : TokenRecord) (unread left before out after : Option (List ℕ))
+pub served_in_vain : (served : Served) (number : ℕ) (old new : TokenRecord)
+    (unread left before out after : Option (List ℕ))
     (held : List ℕ)
     → IsHeld before out held (IsServed served number old new unread left) → AppendsPart out after held
     → Breaks (record { answered = served.answered; fault = fault.Write }) number old new unread left before after
 served_in_vain served number old new unread left before out after held ends written =
     let is = ends.is in
-    let many = sym (as_many number old new (answered_at served.ending is.requests is.rest) is.replies is.answered) ∙ is.count in
+    let all = answered_at served.ending is.requests is.rest in
+    let many = sym (as_many number old new all is.replies is.answered) ∙ is.count in
     record {
       text = ends.handed ++ held;
       is = record {
@@ -395,7 +435,8 @@ served_in_vain served number old new unread left before out after held ends writ
     }
 
 -- a session that broke before its last replies were handed on
-pub breaks : (why : SessionFault) (done number : ℕ) (old new : TokenRecord) (unread left before out after : Option (List ℕ))
+pub breaks : (why : SessionFault) (done number : ℕ) (old new : TokenRecord)
+    (unread left before out after : Option (List ℕ))
     (held : List ℕ)
     → (why ≡ fault.Write → ⊥)
     → IsHeld before out held (IsBroken (record { answered = done; fault = why }) number old new unread left)
@@ -414,7 +455,8 @@ breaks fault.OutOfMemory done number old new unread left before out after held o
 }
 
 -- what breaks at a read or for want of memory may break at a write
-breaks_likewise : (why : SessionFault) (number : ℕ) (requests : List (List ℕ)) (rest : List ℕ) (done : ℕ) (between new : TokenRecord)
+breaks_likewise : (why : SessionFault) (number : ℕ) (requests : List (List ℕ)) (rest : List ℕ) (done : ℕ)
+    (between new : TokenRecord)
     (line : List ℕ)
     → BreaksSo why number requests rest done between new line
     → BreaksSo fault.Write number requests rest done between new line
@@ -423,7 +465,8 @@ breaks_likewise fault.Read number requests rest done between new line so =
 breaks_likewise fault.Write number requests rest done between new line so = so
 breaks_likewise fault.OutOfMemory number requests rest done between new line so = (so.0, so.1, inl so.2)
 
-pub broken_in_vain : (why : SessionFault) (done number : ℕ) (old new : TokenRecord) (unread left before out after : Option (List ℕ))
+pub broken_in_vain : (why : SessionFault) (done number : ℕ) (old new : TokenRecord)
+    (unread left before out after : Option (List ℕ))
     (held : List ℕ)
     → IsHeld before out held (IsBroken (record { answered = done; fault = why }) number old new unread left)
     → AppendsPart out after held
@@ -465,7 +508,8 @@ breaks_there error number old new unread left before out held is ends = record {
   });
 }
 
-pub broken_writing : (error : SessionError) (number : ℕ) (old new : TokenRecord) (unread left before out : Option (List ℕ))
+pub broken_writing : (error : SessionError) (number : ℕ) (old new : TokenRecord)
+    (unread left before out : Option (List ℕ))
     (held : List ℕ)
     → error.fault ≡ fault.Write
     → EndsHeld (Err error) number old new unread left before out held
@@ -486,7 +530,8 @@ still_held error number old new unread left before out held other ends = elim en
   | inr behind ↦ behind
 ]
 
-pub broken : (error : SessionError) (number : ℕ) (old new : TokenRecord) (unread left before out after : Option (List ℕ))
+pub broken : (error : SessionError) (number : ℕ) (old new : TokenRecord)
+    (unread left before out after : Option (List ℕ))
     (held : List ℕ)
     → (error.fault ≡ fault.Write → ⊥)
     → EndsHeld (Err error) number old new unread left before out held → Appends out after held
@@ -495,7 +540,8 @@ broken error number old new unread left before out after held other ends written
     breaks error.fault error.answered number old new unread left before out after held other
     (still_held error number old new unread left before out held other ends) written
 
-pub broken_twice : (error : SessionError) (number : ℕ) (old new : TokenRecord) (unread left before out after : Option (List ℕ))
+pub broken_twice : (error : SessionError) (number : ℕ) (old new : TokenRecord)
+    (unread left before out after : Option (List ℕ))
     (held : List ℕ)
     → (error.fault ≡ fault.Write → ⊥)
     → EndsHeld (Err error) number old new unread left before out held → AppendsPart out after held

@@ -1,5 +1,25 @@
 -- A session as far as it has come, and one step more.
-use Rattle.std.proofs.Common.{◌≡◌, ℕ, suc, ◌+◌, List, [], ◌∷◌, ◌++◌, length, take, Option, refl, sym, ap, ◌∙◌, subst, append_assoc, length-append, arith}
+use Rattle.std.proofs.Common.{
+  ◌≡◌,
+  ℕ,
+  suc,
+  ◌+◌,
+  List,
+  [],
+  ◌∷◌,
+  ◌++◌,
+  length,
+  take,
+  Option,
+  refl,
+  sym,
+  ap,
+  ◌∙◌,
+  subst,
+  append_assoc,
+  length-append,
+  arith,
+}
 use Rattle.std.proofs.Math.Seq.{take-length, take-append_seam}
 use Rattle.std.specs.List.{AllByRecursion, concat}
 use Rattle.std.specs.Io.KnownBytes.{Appends, Consumes}
@@ -14,8 +34,8 @@ use Rattle.stream_sessions.specs.Steps.{Steps}
 use Rattle.stream_sessions.specs.declared.step.Step.TheVariants as step
 
 -- all requests that were read were answered, and the last replies are held
-pub record IsThrough (number : ℕ) (old now : TokenRecord) (unread left before after : Option (List ℕ)) (held : List ℕ) (done : ℕ) :
-    Type 0 where
+pub record IsThrough (number : ℕ) (old now : TokenRecord) (unread left before after : Option (List ℕ))
+    (held : List ℕ) (done : ℕ) : Type 0 where
   pub requests : List (List ℕ)
   pub each : AllByRecursion IsRequest requests
   pub read : Consumes unread left (concat requests)
@@ -52,7 +72,8 @@ answered_push number old mid new (first ∷ requests) (one ∷ texts) request te
     (are.0, are.1, answered_push number are.0 mid new requests texts request text are.2 next)
 
 -- as many replies as requests
-pub as_many : (number : ℕ) (old new : TokenRecord) (requests texts : List (List ℕ)) → AreAnswered number old requests texts new
+pub as_many : (number : ℕ) (old new : TokenRecord) (requests texts : List (List ℕ))
+    → AreAnswered number old requests texts new
     → length texts ≡ length requests
 as_many number old new [] [] are = refl
 as_many number old new [] (text ∷ texts) are = absurd are

@@ -29,7 +29,8 @@ steps_so this is one number old new unread left before after held kept same numb
     subst (λ n. Steps is n old new unread left before after held kept) numbered
     (subst (λ s. Steps s one old new unread left before after held kept) same steps)
 
-pub fails_so : (why : SessionFault) (one number : ℕ) (old new : TokenRecord) (unread left before after : Option (List ℕ))
+pub fails_so : (why : SessionFault) (one number : ℕ) (old new : TokenRecord)
+    (unread left before after : Option (List ℕ))
     (held kept : List ℕ)
     → one ≡ number → Fails why one old new unread left before after held kept
     → Fails why number old new unread left before after held kept

@@ -40,8 +40,8 @@ EndsSo ending.InputEnded unread bytes rest = IsAllOf unread bytes
 EndsSo ending.RequestTooLong unread bytes rest = (length rest ≡ most_bytes) × IsLessThan unread bytes
 
 -- a session was served to its end: the bytes that it read were answered request by request, and this is what it told
-pub record IsServed (served : Served) (number : ℕ) (old new : TokenRecord) (unread left : Option (List ℕ)) (text : List ℕ) :
-    Type 0 where
+pub record IsServed (served : Served) (number : ℕ) (old new : TokenRecord) (unread left : Option (List ℕ))
+    (text : List ℕ) : Type 0 where
   pub bytes : List ℕ
   pub read : Consumes unread left bytes
   pub requests : List (List ℕ)
@@ -63,14 +63,15 @@ pub record Serves (served : Served) (number : ℕ) (old new : TokenRecord) (unre
 -- where the client is when the next text is not answered: as it was, or in the midst of it
 abbrev pub StopsAt : ℕ → List (List ℕ) → ℕ → TokenRecord → TokenRecord → Type 0
 StopsAt number texts done between new =
-    (new ≡ between) ⊎ ((request : List ℕ) × (slice_get texts done ≡ Some request) × BreaksOff number request between new)
+    (new ≡ between)
+    ⊎ ((request : List ℕ) × (slice_get texts done ≡ Some request) × BreaksOff number request between new)
 
 -- what is told behind the replies: nothing; or, where the next request is too long, that
 abbrev pub IsLast : List ℕ → List ℕ → Type 0
 IsLast rest line = (line ≡ []) ⊎ ((length rest ≡ most_bytes) × (line ≡ too_long_line))
 
--- where a session breaks that answered so many: at a read, with all requests answered that were read; or else with all of
--- them, or all but the last
+-- where a session breaks that answered so many: at a read, with all requests answered that were read; or else with
+-- all of them, or all but the last
 abbrev pub BreaksSo : SessionFault → ℕ → List (List ℕ) → List ℕ → ℕ → TokenRecord → TokenRecord → List ℕ → Type 0
 BreaksSo fault.Read number requests rest done between new line =
     (done ≡ length requests) × (new ≡ between) × (line ≡ [])
@@ -80,8 +81,8 @@ BreaksSo fault.OutOfMemory number requests rest done between new line =
     (length requests ≤ done + 1) × StopsAt number (all_of requests rest) done between new × (line ≡ [])
 
 -- a session broke: of the bytes that it read, the first requests were answered, and this is what it told
-pub record IsBroken (error : SessionError) (number : ℕ) (old new : TokenRecord) (unread left : Option (List ℕ)) (text : List ℕ) :
-    Type 0 where
+pub record IsBroken (error : SessionError) (number : ℕ) (old new : TokenRecord) (unread left : Option (List ℕ))
+    (text : List ℕ) : Type 0 where
   pub bytes : List ℕ
   pub read : Consumes unread left bytes
   pub requests : List (List ℕ)
@@ -101,8 +102,8 @@ IsWritten fault.Read before after text = Appends before after text
 IsWritten fault.Write before after text = AppendsPart before after text
 IsWritten fault.OutOfMemory before after text = Appends before after text
 
-pub record Breaks (error : SessionError) (number : ℕ) (old new : TokenRecord) (unread left before after : Option (List ℕ)) :
-    Type 0 where
+pub record Breaks (error : SessionError) (number : ℕ) (old new : TokenRecord)
+    (unread left before after : Option (List ℕ)) : Type 0 where
   pub text : List ℕ
   pub is : IsBroken error number old new unread left text
   pub written : IsWritten error.fault before after text

@@ -68,7 +68,8 @@ FailsSo fault.Read number old new unread bytes = IsUnfinished bytes × (new ≡ 
 FailsSo fault.Write number old new unread bytes = ⊥
 FailsSo fault.OutOfMemory number old new unread bytes = RunsOut number old new unread bytes
 
-pub record FailsAt (why : SessionFault) (number : ℕ) (old new : TokenRecord) (unread left before after : Option (List ℕ))
+pub record FailsAt (why : SessionFault) (number : ℕ) (old new : TokenRecord)
+    (unread left before after : Option (List ℕ))
     (held_old held_new : List ℕ) : Type 0 where
   pub handed : HandsOn before after held_old held_new
   pub bytes : List ℕ
@@ -76,8 +77,8 @@ pub record FailsAt (why : SessionFault) (number : ℕ) (old new : TokenRecord) (
   pub so : FailsSo why number old new unread bytes
 
 -- replies could not be written, and nothing was read
-pub record FailsWriting (why : SessionFault) (old new : TokenRecord) (unread left before after : Option (List ℕ)) (held : List ℕ) :
-    Type 0 where
+pub record FailsWriting (why : SessionFault) (old new : TokenRecord) (unread left before after : Option (List ℕ))
+    (held : List ℕ) : Type 0 where
   pub is : why ≡ fault.Write
   pub unchanged : new ≡ old
   pub unread_is : left ≡ unread
