@@ -1,5 +1,5 @@
 -- What the run of a server says of its only client, and of all clients.
-use Rattle.std.proofs.Common.{◌≡◌, ◌∙◌, ℕ, List, [], ◌∷◌, ◌++◌, length, Option, Some, Result, Ok, Err, refl, sym, ap, subst, arith, length-append}
+use Rattle.std.proofs.Common.{◌≡◌, ◌∙◌, ℕ, List, [], ◌∷◌, ◌++◌, length, Option, Result, Ok, Err, refl, sym, ap, subst, arith, length-append}
 use Rattle.std.specs.Prelude.{◌≢◌, slice_get}
 use Rattle.history.specs.Closing.{IsLogOf}
 use Rattle.history.specs.Tokens.{TableRecord, TokenRecord, new_token}
