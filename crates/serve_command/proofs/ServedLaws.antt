@@ -1,5 +1,6 @@
 -- What the run of a server says of its only client, and of all clients.
-use Rattle.std.proofs.Common.{◌≡◌, ◌∙◌, ℕ, List, [], ◌∷◌, ◌++◌, length, Option, Some, Result, Ok, Err, refl, sym, ap, subst, arith, length-append}
+use Rattle.std.proofs.Common.{◌≡◌, ◌∙◌, ℕ, List, [], ◌∷◌, ◌++◌, length, Option, Result, Ok, Err, refl, sym, ap, subst}
+use Rattle.std.proofs.Common.{arith, length-append}
 use Rattle.std.specs.Prelude.{◌≢◌, slice_get}
 use Rattle.history.specs.Closing.{IsLogOf}
 use Rattle.history.specs.Tokens.{TableRecord, TokenRecord, new_token}
@@ -21,7 +22,8 @@ the_only (x ∷ []) one = (x, refl)
 the_only (x ∷ y ∷ ys) one = absurd cc
 
 -- what is pushed to an empty list, and what is popped from a list of one, is all of it
-pub first_pushed : {X : Type 0} (before after : List X) (x : X) → before ≡ [] → after ≡ before ++ x ∷ [] → after ≡ x ∷ []
+pub first_pushed : {X : Type 0} (before after : List X) (x : X) → before ≡ [] → after ≡ before ++ x ∷ []
+    → after ≡ x ∷ []
 first_pushed before after x none pushed = pushed ∙ ap (λ xs. xs ++ x ∷ []) none
 
 pub only_popped : {X : Type 0} (front whole : List X) (x : X) → whole ≡ front ++ x ∷ [] → length whole ≡ 1

@@ -61,7 +61,8 @@ else_failed status (inr (inl is)) no_data no_words = absurd (no_words is)
 else_failed status (inr (inr is)) no_data no_words = is
 
 -- what is no refusal of data, and no wrong word, is a failure
-pub serving_failed : (why : JobFault NotServed) → serving_status why ≢ 1 → serving_status why ≢ 2 → serving_status why ≡ 4
+pub serving_failed : (why : JobFault NotServed) → serving_status why ≢ 1 → serving_status why ≢ 2
+    → serving_status why ≡ 4
 serving_failed why = else_failed (serving_status why) (of_serving why)
 
 no_zero : (status : ℕ) → IsFaultStatus status → status ≢ 0

@@ -14,8 +14,8 @@ use Rattle.stream_sessions.specs.Streams.{IsStreamRun}
 use Rattle.stream_sessions.specs.declared.outcome.Served.{Served}
 use Rattle.stream_sessions.specs.declared.outcome.SessionError.{SessionError}
 
--- a server over the base that the five texts spell served these speakers by so many dispatchers: this is what they left,
--- and the log
+-- a server over the base that the five texts spell served these speakers by so many dispatchers: this is what they
+-- left, and the log
 pub record IsRunOver {S L : Type 0} (Spoken : S → TokenRecord → TokenRecord → L → Type 0) (texts : Table → List ℕ)
     (speakers : List S) (dispatchers : ℕ) (left : List L) (log : List CommitRecord) : Type 0 where
   pub base : Tables

@@ -7,11 +7,11 @@
 //! terminal ── Prompted ─▶ its bytes; a prompt before each wait, and help where it is asked for
 //! ```
 //!
-//! The contract of [`serve_stream`] (`specs/Served.antt`): with status 0 the session of the only client of a live server,
-//! over the base that the texts spell, was served to its end, and the output has all that was told; where a session
-//! broke, what was told before, or a part of that where writing failed (`specs/Sessions.antt`). The server's history is
-//! legal, and all its commits are this client's. That of [`serve_clients`]: with status 0 there was such a server, and
-//! it was closed when all clients had ended. 1 tells of refused data alone, 2 of too many clients alone.
+//! The contract of [`serve_stream`] (`specs/Served.antt`): with status 0 the session of the only client of a live
+//! server, over the base that the texts spell, was served to its end, and the output has all that was told; where the
+//! session broke, what was told before, or a part of that where writing failed (`specs/Sessions.antt`). The server's
+//! history is legal, and all its commits are this client's. That of [`serve_clients`]: with status 0 there was such a
+//! server, and it was closed when all clients had ended. 1 tells of refused data alone, 2 of too many clients alone.
 //!
 //! What the system opens, and what a terminal shows, is in no contract.
 //!

@@ -18,8 +18,8 @@ const OPEN_PROMPT: &str = "refresh> ";
 const HELP: &[u8] = b"help\n";
 
 /// A terminal that is read. Before it waits it writes a prompt to the screen, which shows whether a refresh is open,
-/// and before the first of them a line of help. The line `help` writes the whole help there, and comes through as a line
-/// of no bytes.
+/// and before the first of them a line of help. The line `help` writes the whole help there, and comes through as a
+/// line of no bytes.
 #[derive(Drop)]
 pub struct Prompted<'a, I: Read + Drop, E: Write + Drop> {
     terminal: I,

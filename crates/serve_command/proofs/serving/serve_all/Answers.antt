@@ -1,4 +1,4 @@
-use Rattle.std.proofs.Common.{◌≡◌, ◌∙◌, Err, length, rules, sym}
+use Rattle.std.proofs.Common.{◌≡◌, ◌∙◌, Err, rules, sym}
 use Rattle.serve_command.proofs.ServedLaws.{serves_clients}
 use Rattle.serve_command.proofs.serving.serve_all.Goals as goal
 

@@ -1,4 +1,4 @@
-use Rattle.std.proofs.Common.{◌≡◌, [], ◌∷◌, Err, length, arith, rules}
+use Rattle.std.proofs.Common.{◌≡◌, Err, length, arith, rules}
 use Rattle.serve_command.proofs.ServedLaws.{first_pushed, is_alone, only_popped}
 use Rattle.serve_command.proofs.serving.serve_one.Goals as goal
 
