@@ -1,7 +1,8 @@
-"""Streams that are made to hurt, for `serve --hostile`: each over named pipes, to a server with --keep that ends by a signal.
+"""Streams that are made to hurt, for `serve --hostile`: each over named pipes, to a server with --keep that ends by a
+signal.
 
-After each the server has to answer as before, and its memory at its greatest has to be at most `MOST_MORE` above what it was
-when its first question was answered."""
+After each the server has to answer as before, to tell nothing that is not told here, and its memory at its greatest has
+to be at most `MOST_MORE` above what it was when its first question was answered."""
 import os
 import pathlib
 import random
@@ -14,7 +15,7 @@ import time
 
 from common import NAMES
 from judge import Disagreement
-from pipes import MOST_BYTES, PATIENCE, Server
+from pipes import MOST_BYTES, PATIENCE, SETTLING, Server
 from traffic import Tables
 
 MOST_MORE = 64 << 20
@@ -68,7 +69,7 @@ class Watched:
 
     def __init__(self, data, folder, clients=1):
         self.server = Server(data, pathlib.Path(tempfile.mkdtemp(dir=folder)), clients, "--keep")
-        self.ends = self.server.ends
+        self.ends, self.wanted = self.server.ends, ""
         self.expect_answer()
         self.before = self.kilobytes("VmHWM")
 
@@ -84,10 +85,11 @@ class Watched:
         expect(IS_ANSWERED.fullmatch(told), f"a question was answered {told[:80]!r}")
 
     def end(self):
-        """Ends the server by a signal: nothing is told, and its memory was bounded. Gives it before and at its greatest."""
+        """Ends the server by a signal: its memory was bounded. Gives it before and at its greatest."""
         greatest, is_there = self.kilobytes("VmHWM"), self.server.process.poll() is None
         self.server.stop()
         expect(is_there and self.server.process.returncode == -signal.SIGTERM, "the server ended before its signal")
+        expect(self.server.told() == self.wanted, f"the server told {self.server.told()[:200]!r}")
         expect((greatest - self.before) << 10 <= MOST_MORE, f"memory grew from {self.before} to {greatest} KB")
         return self.before, greatest
 
@@ -135,7 +137,23 @@ def cut_requests(watched, words, tables):
     return f"{length + 1:,} sessions, {commits:,} commits, no other refresh was taken"
 
 
+def go_in_replies(watched, words):
+    """Clients that go while they are answered: that is told, and the next session is served."""
+    count = max(1, words.streams // 10)
+    for _ in range(count):
+        out, into = os.open(watched.ends[0][1], os.O_RDONLY), os.open(watched.ends[0][0], os.O_WRONLY)
+        os.write(into, LONG_ANSWERED * 1000)
+        os.read(out, 100)
+        os.close(out)
+        os.close(into)
+        time.sleep(SETTLING)
+        watched.expect_answer()
+    watched.wanted = "ssb_live: client 1: write failed\n" * count
+    return f"{count} sessions, each told `write failed`, each followed by one that is answered"
+
+
 def never_commit(watched, words):
+    """Lines without a commit are taken up to the most of a request."""
     told, sent = exchange(watched.ends[0], b"begin\n", *[b"withdraw|1\n" * 1000] * (ENDLESS // 1000))
     expect(told == "fault: 76 RequestTooLong\n", f"lines without a commit were told {told[:80]!r}")
     expect(MOST_BYTES < sent <= MOST_BYTES + AHEAD_OF_US, f"{sent} bytes were taken")
@@ -254,6 +272,7 @@ def be_hostile(data, folder, words, asker_of):
     tables, source = Tables(data), random.Random(words.seed)
     streams = [("random bytes", 1, lambda watched: send_random_bytes(watched, words, source)),
                ("requests cut anywhere", 1, lambda watched: cut_requests(watched, words, tables)),
+               ("clients that go in a reply", 1, lambda watched: go_in_replies(watched, words)),
                ("ten million lines, no commit", 1, lambda watched: never_commit(watched, words)),
                ("sessions of sixteen clients", CLIENTS, lambda watched: come_and_go(watched, words))]
     print("| stream | what came of it | MB before | MB at most |\n|---|---|--:|--:|")
