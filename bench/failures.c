@@ -65,11 +65,19 @@ static int fails(enum kind of) {
 }
 
 __attribute__((destructor)) static void tell_calls(void) {
+    static atomic_int is_told;
     char text[24];
-    if (atomic_load(&kind) > NONE && wanted == 0) {
+    if (atomic_load(&kind) > NONE && wanted == 0 && !atomic_exchange(&is_told, 1)) {
         snprintf(text, sizeof text, "%ld", atomic_load(&calls));
         tell(text);
     }
+}
+
+// No destructor runs behind it.
+void _exit(int status) {
+    tell_calls();
+    syscall(SYS_exit_group, status);
+    __builtin_unreachable();
 }
 
 static int lacks_memory(void) {
