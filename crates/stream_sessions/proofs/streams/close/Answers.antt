@@ -1,5 +1,12 @@
+use Rattle.std.proofs.Common.{sym, subst}
+use Rattle.std.specs.Prelude.{All}
+use Rattle.ssb_server.specs.Tickets.{IsQuiet}
 use Rattle.stream_sessions.proofs.StreamLaws.{closed_with}
 use Rattle.stream_sessions.proofs.streams.close.Goals as goal
+
+pub close-requires-clause-clients : goal.close-requires-clause-clients
+close-requires-clause-clients g c =
+    subst (All (IsQuiet c.args.server)) (sym c.in_ok-clients.ensures.clients) c.requires.quiet
 
 pub returns-clause-closed : goal.returns-clause-closed
 returns-clause-closed g c =
