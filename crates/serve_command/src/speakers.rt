@@ -1,6 +1,6 @@
 //! The clients: each opens its ends, is served its sessions, and tells what broke them.
 
-ghost use Rattle.std.specs.Prelude.{◌≡◌, false};
+ghost use Rattle.std.specs.Prelude.{◌≡◌, false, IsTrue};
 ghost use Rattle.std.specs.Option.{is_some};
 ghost use Rattle.history.specs.World.{number_of};
 ghost use Rattle.serve_command.specs.Sessions.{HasEnded};
@@ -137,7 +137,8 @@ impl<'a, F: Files, E: Print> PathClient<'a, F, E> {
     ) -> SessionEnd
         requires table { client.old.table ≡ server.now }
         requires quiet { is_some client.old.asked ≡ false }
-        ensures { AreAlike client.old client.new }
+        ensures same { AreAlike client.old client.new }
+        ensures keeps { result ≡ SessionEnd.Again → IsTrue self.now.keeps }
     {
         let ends = match open_ends(self.files, &self.paths) {
             Ok(ends) => ends,

@@ -13,4 +13,4 @@ serve_once-requires g c = record {
 }
 
 pub loop-preserved : goal.loop-preserved
-loop-preserved g c = alike_both _ _ _ c.loop.invariant c.serve_once.ensures
+loop-preserved g c = alike_both _ _ _ c.loop.invariant c.serve_once.ensures.same
