@@ -1,6 +1,7 @@
 pub mod RequestLaws
 pub mod TraceLaws
 pub mod AloneLaws
-mod ListLaws
-mod SessionLaws
+pub mod ListLaws
+pub mod PlaceLaws
+pub mod SessionLaws
 mod RunLaws

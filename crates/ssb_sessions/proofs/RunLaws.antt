@@ -5,7 +5,6 @@ use Rattle.std.proofs.Common.{
   zero,
   suc,
   ◌+◌,
-  ◌<◌,
   List,
   [],
   ◌∷◌,
@@ -25,10 +24,9 @@ use Rattle.std.proofs.Common.{
   arith,
 }
 use Rattle.std.specs.Prelude.{All, IfOk, slice_get}
-use Rattle.std.specs.List.{range_with_len}
 use Rattle.std.proofs.lemmas.List.{length-map}
 use Rattle.std.proofs.lemmas.List.Elements.{All-nil, All-cons, All-head, All-tail}
-use Rattle.std.proofs.lemmas.Option.{slice_get_within, get_or_from_slice_get}
+use Rattle.std.proofs.lemmas.Option.{slice_get_within}
 use Rattle.history.specs.Closing.{IsLogOf}
 use Rattle.history.specs.Tokens.{TableRecord, TokenRecord, new_token, new_clients, new_dispatchers}
 use Rattle.history.specs.Words.{Owns}
@@ -46,35 +44,13 @@ use Rattle.ssb_script.specs.declared.request.Script.{Script}
 use Rattle.ssb_sessions.proofs.TraceLaws.{runs_are_legal}
 use Rattle.ssb_sessions.specs.Traces.{IsTold}
 use Rattle.ssb_sessions.specs.Served.{Serves}
-use Rattle.ssb_sessions.proofs.SessionLaws.{session_at, as_many, none_is, some_is, client_of_task, client_of_session}
+use Rattle.ssb_sessions.proofs.PlaceLaws.{none_is, some_is, get_mapped, map_at, row_at, all_at, get_below}
+use Rattle.ssb_sessions.proofs.SessionLaws.{session_at, as_many, client_of_task, client_of_session}
 use Rattle.ssb_sessions.specs.Run.{IsServedWhole, IsRun, Leaves}
 use Rattle.ssb_sessions.specs.Sessions.{TaskRecord, SessionRecord, IsSessionOf, AreSessionsOf, AreStill}
 
 abbrev script_of : TaskRecord → Script
 script_of task = task.script
-
--- what stands at a place of a mapped list is made of what stands there
-get_mapped : {X Y : Type 0} (f : X → Y) (xs : List X) (i : ℕ) (y : Y) → slice_get (map f xs) i ≡ Some y → (x : X)
-    × (slice_get xs i ≡ Some x) × (f x ≡ y)
-get_mapped f [] i y here = absurd (none_is here)
-get_mapped f (x ∷ xs) zero y here = (x, refl, some_is here)
-get_mapped f (x ∷ xs) (suc i) y here = get_mapped f xs i y here
-
-map_at : {X Y : Type 0} (f : X → Y) (xs : List X) (i : ℕ) (x : X) → slice_get xs i ≡ Some x
-    → slice_get (map f xs) i ≡ Some (f x)
-map_at f [] i x here = absurd (none_is here)
-map_at f (y ∷ ys) zero x here = ap (λ z. Some (f z)) (some_is here)
-map_at f (y ∷ ys) (suc i) x here = map_at f ys i x here
-
--- at a place of a row stands what is made of its number
-row_at : {X : Type 0} (make : ℕ → X) (first n i : ℕ) (x : X) → slice_get (map make (range_with_len first n)) i ≡ Some x
-    → x ≡ make (first + i)
-row_at make first zero i x here = absurd (none_is here)
-row_at make first (suc n) zero x here = sym (some_is here) ∙ ap make (omega arith)
-row_at make first (suc n) (suc i) x here = row_at make (first + 1) n i x here ∙ ap make (omega arith)
-
-all_at : {X : Type 0} (P : X → Type 0) (xs : List X) (i : ℕ) (x : X) → All P xs → slice_get xs i ≡ Some x → P x
-all_at P xs i x all here = subst P (get_or_from_slice_get xs i x x here) (all i x (slice_get_within xs i x here))
 
 all_of : (P : TokenRecord → Type 0) (sessions : List SessionRecord) → All P (map client_of_session sessions)
     → All (λ (s : SessionRecord). P s.client) sessions
@@ -205,11 +181,6 @@ told_all : (number : ℕ) (sessions : List SessionRecord) → flat_map (λ (c : 
     (told_from number sessions) ≡ flat_map (λ (session : SessionRecord). session.told) sessions
 told_all number [] = refl
 told_all number (s ∷ ss) = ap (λ ts. s.told ++ ts) (told_all (number + 1) ss)
-
-get_below : {X : Type 0} (xs : List X) (i : ℕ) → i < length xs → (x : X) × (slice_get xs i ≡ Some x)
-get_below [] i low = absurd (omega (arith, low))
-get_below (x ∷ xs) zero low = (x, refl)
-get_below (x ∷ xs) (suc i) low = get_below xs i (omega (arith, low))
 
 served_told : (table : TableRecord) (log : List CommitRecord) (number : ℕ) (script : Script) (session : SessionRecord)
     → IsServedWhole table log number script session → IsTold table.base log number session.told

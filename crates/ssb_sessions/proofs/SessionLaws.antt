@@ -22,7 +22,6 @@ use Rattle.std.proofs.Common.{
   inl,
   inr,
   Some,
-  None,
   Result,
   Ok,
   Err,
@@ -47,6 +46,7 @@ use Rattle.history.specs.Closing.{AreNumbered}
 use Rattle.history.specs.Tokens.{TableRecord, TokenRecord, new_token, new_clients, new_dispatchers}
 use Rattle.history.specs.World.{number_of}
 use Rattle.ssb_server.specs.Tickets.{IsQuiet, IsOf}
+use Rattle.ssb_sessions.proofs.PlaceLaws.{none_is, some_is}
 use Rattle.ssb_sessions.specs.Sessions.{TaskRecord, SessionRecord, IsTaskAt, IsSessionOf, AreSessionsOf, IsStill, AreStill, IsReady}
 
 -- one task and one session more
@@ -82,12 +82,6 @@ pub still_longer : (befores longer afters more : List TokenRecord) (before after
 still_longer befores longer afters more before after are is here there =
     subst (λ ts. AreStill ts more) (sym here) (subst (AreStill (befores ++ before ∷ [])) (sym there)
     (still_push befores afters before after are is))
-
-pub none_is : {X : Type 0} {x : X} → None ≡ Some x → ⊥
-none_is e = cc
-
-pub some_is : {X : Type 0} {x y : X} → Some x ≡ Some y → x ≡ y
-some_is e = cc
 
 -- the session at a place is that of the task there
 pub session_at : (tasks : List TaskRecord) (sessions : List SessionRecord) (i : ℕ) (task : TaskRecord) (session : SessionRecord)
@@ -225,20 +219,27 @@ still_of table (b ∷ befores) (a ∷ afters) all are =
     All-cons (IsOf table) a afters (are.0.table ∙ All-head (IsOf table) b befores all)
     (still_of table befores afters (All-tail (IsOf table) b befores all) are.1)
 
--- all that the server was opened with is there at the end
-pub ready : (table : TableRecord) (tasks : List TaskRecord) (sessions : List SessionRecord) (befores afters : List TokenRecord)
-    → map client_of_task tasks ≡ new_clients table
-    → AreSessionsOf tasks sessions → befores ≡ new_dispatchers table → AreStill befores afters
-    → IsReady table (map client_of_session sessions) afters
-ready table tasks sessions befores afters clients are dispatchers still = record {
-  quiet = quiet_sessions table tasks sessions (new_tasks table tasks clients) are;
+-- all that the server was opened with is there at the end, where the clients kept their numbers and ask nothing
+pub ready_where : (table : TableRecord) (clients befores afters : List TokenRecord) → All (IsQuiet table) clients
+    → map number_in clients ≡ map number_in (new_clients table) → befores ≡ new_dispatchers table
+    → AreStill befores afters → IsReady table clients afters
+ready_where table clients befores afters quiet numbers dispatchers still = record {
+  quiet = quiet;
   left = still_of table befores afters (subst (All (IsOf table)) (sym dispatchers) (new_dispatchers_of table)) still;
   there = record {
-    clients_are = row_numbered table.clients (map client_of_session sessions)
-        (session_numbers tasks sessions are ∙ (ap (map number_in) clients
-        ∙ new_numbers (λ number. new_token table (Client number)) (λ n. refl) (range_with_len 1 table.clients)));
+    clients_are = row_numbered table.clients clients
+        (numbers ∙ new_numbers (λ number. new_token table (Client number)) (λ n. refl) (range_with_len 1 table.clients));
     dispatchers_are = row_numbered table.dispatchers afters
         (still_numbers befores afters still ∙ (ap (map number_in) dispatchers
         ∙ new_numbers (λ number. new_token table (Dispatcher number)) (λ n. refl) (range_with_len 1 table.dispatchers)));
   };
 }
+
+pub ready : (table : TableRecord) (tasks : List TaskRecord) (sessions : List SessionRecord) (befores afters : List TokenRecord)
+    → map client_of_task tasks ≡ new_clients table
+    → AreSessionsOf tasks sessions → befores ≡ new_dispatchers table → AreStill befores afters
+    → IsReady table (map client_of_session sessions) afters
+ready table tasks sessions befores afters clients are dispatchers still =
+    ready_where table (map client_of_session sessions) befores afters
+    (quiet_sessions table tasks sessions (new_tasks table tasks clients) are)
+    (session_numbers tasks sessions are ∙ ap (map number_in) clients) dispatchers still

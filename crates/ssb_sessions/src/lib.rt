@@ -12,7 +12,8 @@
 //! say, whose report is written; the answers with rows are kept, in order. Whatever ends it, nothing is outstanding
 //! then. That of [`serve_scripts`] (`specs/Run.antt`): each script, in order, was served whole so by a client of its own
 //! from a new token on; every commit of the log is one that some client made, and the log is legal; so the trace is
-//! legal, and an audit finds nothing against it. That a thread gets on is claimed by no proof.
+//! legal, and an audit finds nothing against it. That a thread gets on is claimed by no proof. A [`Staff`] has the
+//! dispatchers' threads, for other runs too.
 //!
 //! ```text
 //! let run = serve_scripts(&rt, rt.alloc(), hashing, base, scripts, 2, false)?;
@@ -32,6 +33,7 @@ mod run;
 mod run_fault;
 mod serve_error;
 mod session;
+mod staff;
 mod task;
 mod threads;
 
@@ -43,3 +45,4 @@ pub use run::{Run, serve_scripts};
 pub use run_fault::RunFault;
 pub use serve_error::{ServeError, ServeStop};
 pub use ssb_audit::Told;
+pub use staff::{Staff, StaffAtWork};

@@ -5,13 +5,13 @@ ghost use Rattle.ssb_server.specs.Tickets.{IsOf};
 
 use crate::batches::Batches;
 use crate::clients::{Serving, join_clients, start_clients};
-use crate::dispatchers::{Dispatching, join_dispatchers, start_dispatchers};
 use crate::session::Session;
+use crate::staff::Staff;
 use crate::task::Task;
 use ssb_server::{Dispatcher, Server};
 use std::alloc::{AllocError, Global};
 use std::sync::Wait;
-use std::sync::atomic::{AtomicBool, Ordering};
+use std::sync::atomic::AtomicBool;
 use std::thread;
 use std::thread::{Scope, Threads};
 use std::time::Clock;
@@ -29,19 +29,13 @@ pub(crate) struct Ended<W: Wait + Drop> {
 #[derive(Drop)]
 struct Crew<W: Wait + Drop> {
     tasks: Vec<Task<W>>,
-    dispatchers: Vec<Dispatcher<W>>,
+    staff: Staff<W>,
     serving: Vec<Serving<W>>,
     sessions: Vec<Session<W>>,
-    dispatching: Vec<Dispatching<W>>,
-    left: Vec<Dispatcher<W>>,
     ghost no_serving: { serving.items ≡ [] },
     ghost no_sessions: { sessions.items ≡ [] },
-    ghost no_dispatching: { dispatching.items ≡ [] },
-    ghost no_left: { left.items ≡ [] },
     ghost serving_room: { vec_len tasks ≤ vec_capacity serving },
     ghost session_room: { vec_len tasks ≤ vec_capacity sessions },
-    ghost dispatching_room: { vec_len dispatchers ≤ vec_capacity dispatching },
-    ghost left_room: { vec_len dispatchers ≤ vec_capacity left },
 }
 
 fn crew_of<W: Wait + Drop>(
@@ -50,19 +44,16 @@ fn crew_of<W: Wait + Drop>(
     dispatchers: Vec<Dispatcher<W>>,
 ) -> Result<Crew<W>, AllocError>
     ensures tasks { IfOk result (λ crew. crew.tasks ≡ tasks) }
-    ensures dispatchers { IfOk result (λ crew. crew.dispatchers ≡ dispatchers) }
+    ensures dispatchers { IfOk result (λ crew. crew.staff ≡ dispatchers.items) }
 {
     let serving = Vec::with_capacity(alloc, tasks.len())?;
     let sessions = Vec::with_capacity(alloc, tasks.len())?;
-    let dispatching = Vec::with_capacity(alloc, dispatchers.len())?;
-    let left = Vec::with_capacity(alloc, dispatchers.len())?;
+    let staff = Staff::new(alloc, dispatchers)?;
     Ok(Crew {
         tasks,
-        dispatchers,
+        staff,
         serving,
         sessions,
-        dispatching,
-        left,
     })
 }
 
@@ -77,33 +68,28 @@ fn serve_all<'s, E, W: Wait + Drop + Send, R: Wait + Threads + Sync + Clock>(
     crew: Crew<W>,
 ) -> Result<Ended<W>, AllocError>
     requires tasks { All (IsTaskAt server.now) crew.tasks.items }
-    requires dispatchers { All (IsOf server.now) crew.dispatchers.items }
+    requires dispatchers { All (IsOf server.now) crew.staff }
     ensures sessions { IfOk result (λ ended. AreSessionsOf crew.tasks.items ended.sessions.items) }
-    ensures dispatchers { IfOk result (λ ended. AreStill crew.dispatchers.items ended.dispatchers.items) }
+    ensures dispatchers { IfOk result (λ ended. AreStill crew.staff ended.dispatchers.items) }
 {
     let Crew {
         tasks,
-        dispatchers,
+        staff,
         mut serving,
         mut sessions,
-        mut dispatching,
-        mut left,
     } = crew;
-    let dispatched = start_dispatchers(scope, rt, server, stop, dispatchers, &mut dispatching);
+    let (staff, dispatched) = staff.start(scope, rt, server, stop);
     let started = match dispatched {
         Ok(()) => start_clients(scope, rt, alloc, server, tasks, &mut serving),
         Err(refused) => Err(refused),
     };
     let served = join_clients(rt, serving, &mut sessions);
-    stop.store(true, Ordering::SeqCst);
-    server.ring();
-    let mut batches = Batches::default();
-    join_dispatchers(rt, dispatching, &mut left, &mut batches);
+    let (dispatchers, batches) = staff.end(rt, server, stop);
     started?;
     served?;
     Ok(Ended {
         sessions,
-        dispatchers: left,
+        dispatchers,
         batches,
     })
 }
@@ -116,9 +102,9 @@ fn serve_in_scope<W: Wait + Drop + Send, R: Wait + Threads + Sync + Clock>(
     crew: Crew<W>,
 ) -> Result<Ended<W>, AllocError>
     requires tasks { All (IsTaskAt server.now) crew.tasks.items }
-    requires dispatchers { All (IsOf server.now) crew.dispatchers.items }
+    requires dispatchers { All (IsOf server.now) crew.staff }
     ensures sessions { IfOk result (λ ended. AreSessionsOf crew.tasks.items ended.sessions.items) }
-    ensures dispatchers { IfOk result (λ ended. AreStill crew.dispatchers.items ended.dispatchers.items) }
+    ensures dispatchers { IfOk result (λ ended. AreStill crew.staff ended.dispatchers.items) }
 {
     let flag = AtomicBool::new(false);
     let stop = &flag;
@@ -126,9 +112,9 @@ fn serve_in_scope<W: Wait + Drop + Send, R: Wait + Threads + Sync + Clock>(
         thread::scope_env(),
         rt,
         |scope| -> Result<Ended<W>, AllocError>
-            requires { All (IsTaskAt server.now) crew.tasks.items × All (IsOf server.now) crew.dispatchers.items }
+            requires { All (IsTaskAt server.now) crew.tasks.items × All (IsOf server.now) crew.staff }
             ensures sessions { IfOk result (λ ended. AreSessionsOf crew.tasks.items ended.sessions.items) }
-            ensures dispatchers { IfOk result (λ ended. AreStill crew.dispatchers.items ended.dispatchers.items) }
+            ensures dispatchers { IfOk result (λ ended. AreStill crew.staff ended.dispatchers.items) }
         { serve_all(scope, rt, alloc, server, stop, crew) },
     )
 }
