@@ -241,7 +241,7 @@ def ratios_of(times):
     told = []
     for kind, (alone, beside) in times.items():
         middles = statistics.median(alone), statistics.median(beside)
-        told.append(f"{kind} {middles[0]:.2f} ms alone, {middles[1]:.2f} beside")
+        told.append(f"{kind} {middles[0]:.2f} ms, beside them {middles[1]:.2f}")
         expect(middles[1] <= WANTED * middles[0], f"{told[-1]}: more than {WANTED} times as long")
     return "; ".join(told)
 
@@ -257,7 +257,7 @@ def stand_beside(data, folder, words, asker_of, tables):
         asker.close()
     beside.expect_answer()
     alone.end()
-    return f"{taken / 1e6:.1f} MB taken of them; {told}", beside.end()
+    return f"{taken / 1e6:.1f} MB were taken; {told}", beside.end()
 
 
 # ---- the table ----
