@@ -1,8 +1,8 @@
 """Streams that are made to hurt, for `serve --hostile`: each over named pipes, to a server with --keep that ends by a
 signal.
 
-After each the server has to answer as before, to tell nothing that is not told here, and its memory at its greatest has
-to be at most `MOST_MORE` above what it was when its first question was answered."""
+After each the server has to answer as before, and to tell nothing that is not told here; its memory at its greatest
+has to be at most `MOST_MORE` above what it was when its first question was answered."""
 import os
 import pathlib
 import random
@@ -241,7 +241,7 @@ def ratios_of(times):
     told = []
     for kind, (alone, beside) in times.items():
         middles = statistics.median(alone), statistics.median(beside)
-        told.append(f"{kind} {middles[0]:.2f} ms alone, {middles[1]:.2f} beside")
+        told.append(f"{kind} {middles[0]:.2f} ms, beside {middles[1]:.2f}")
         expect(middles[1] <= WANTED * middles[0], f"{told[-1]}: more than {WANTED} times as long")
     return "; ".join(told)
 
@@ -257,7 +257,7 @@ def stand_beside(data, folder, words, asker_of, tables):
         asker.close()
     beside.expect_answer()
     alone.end()
-    return f"{taken / 1e6:.1f} MB taken of them; {told}", beside.end()
+    return f"{taken / 1e6:.1f} MB taken; {told}", beside.end()
 
 
 # ---- the table ----
