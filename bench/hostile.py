@@ -47,8 +47,15 @@ def send(into, parts, sent):
     os.close(into)
 
 
+def give_up(*_):
+    raise Disagreement(f"a session does not end in {PATIENCE} s")
+
+
 def exchange(ends, *parts):
     """A session that sends all of this and reads to its end: what it was told, and how many bytes were taken."""
+    is_watched = threading.current_thread() is threading.main_thread()
+    if is_watched:
+        signal.alarm(PATIENCE)
     out, into, sent, told = os.open(ends[1], os.O_RDONLY), os.open(ends[0], os.O_WRONLY), [0], b""
     sender = threading.Thread(target=send, args=(into, parts, sent), daemon=True)
     sender.start()
@@ -56,6 +63,8 @@ def exchange(ends, *parts):
         told += part
     os.close(out)
     sender.join(PATIENCE)
+    if is_watched:
+        signal.alarm(0)
     return told.decode(errors="replace"), sent[0]
 
 
@@ -269,6 +278,7 @@ def print_row(name, told, memory):
 
 def be_hostile(data, folder, words, asker_of):
     """Tells a row for each stream; a `Disagreement` is what is wrong."""
+    signal.signal(signal.SIGALRM, give_up)
     tables, source = Tables(data), random.Random(words.seed)
     streams = [("random bytes", 1, lambda watched: send_random_bytes(watched, words, source)),
                ("requests cut anywhere", 1, lambda watched: cut_requests(watched, words, tables)),
