@@ -9,7 +9,6 @@ use Rattle.std.proofs.Common.{
   ◌++◌,
   length,
   map,
-  Some,
   Result,
   Ok,
   Err,
@@ -167,7 +166,8 @@ is_stream_run {X} {Y} Spoken table speakers seats spoken client_of speaker_of cl
           (left_of end.0) one (first ∙ ap (λ k. new_token table (Client k)) (omega arith)) seat.2 end.2
           (some_is (sym (map_at left_of spoken i end.0 end.1) ∙ (ap (λ xs. slice_get xs i) (sym left_are) ∙ at_left)))
           (zip_at Fits seats spoken i seat.0 end.0 all seat.1 end.1)
-          (all_at (λ (token : TokenRecord). IsPrefix token.seen log) (map closed_of spoken) i client closed.begin at_client)
+          (all_at (λ (token : TokenRecord). IsPrefix token.seen log) (map closed_of spoken) i client closed.begin
+          at_client)
           (all_at (λ (token : TokenRecord). Owns token.who token.mine log) (map closed_of spoken) i client closed.own
           at_client);
       ended = ended;
@@ -189,9 +189,9 @@ pub stream_where : {X Y S L Z E : Type 0} (Spoken : S → TokenRecord → TokenR
     → IfOk result (λ run. IsClosedWith table (map closed_of spoken) ended (log_in run))
     → IfOk result (λ run. left_in run ≡ map left_of spoken)
     → IfOk result (λ run. IsStreamRun Spoken table.base speakers table.dispatchers (left_in run) (log_in run))
-stream_where Spoken (Ok run) left_in log_in table speakers seats spoken client_of speaker_of closed_of left_of ended count
-    new of_speakers all still closed left_are =
-    is_stream_run Spoken table speakers seats spoken client_of speaker_of closed_of left_of ended (left_in run) (log_in run)
-    count new of_speakers all still closed left_are
-stream_where Spoken (Err e) left_in log_in table speakers seats spoken client_of speaker_of closed_of left_of ended count
-    new of_speakers all still closed left_are = closed
+stream_where Spoken (Ok run) left_in log_in table speakers seats spoken client_of speaker_of closed_of left_of ended
+    count new of_speakers all still closed left_are =
+    is_stream_run Spoken table speakers seats spoken client_of speaker_of closed_of left_of ended (left_in run)
+    (log_in run) count new of_speakers all still closed left_are
+stream_where Spoken (Err e) left_in log_in table speakers seats spoken client_of speaker_of closed_of left_of ended
+    count new of_speakers all still closed left_are = closed

@@ -18,8 +18,8 @@ pub record IsSpoken {S L : Type 0} (Spoken : S → TokenRecord → TokenRecord �
   pub alike : AreAlike client closed
   pub spoken : Spoken speaker client closed left
 
--- the new client of this number was served by its speaker, which kept what it promises; what the client sees at the end is
--- a beginning of the log, and the commits that it made are those of its number in the log
+-- the new client of this number was served by its speaker, which kept what it promises; what the client sees at the end
+-- is a beginning of the log, and the commits that it made are those of its number in the log
 pub record IsSpokenTo {S L : Type 0} (Spoken : S → TokenRecord → TokenRecord → L → Type 0) (table : TableRecord)
     (log : List CommitRecord) (number : ℕ) (speaker : S) (closed : TokenRecord) (left : L) : Type 0 where
   pub alike : AreAlike (new_token table (Client number)) closed
@@ -27,9 +27,9 @@ pub record IsSpokenTo {S L : Type 0} (Spoken : S → TokenRecord → TokenRecord
   pub begins : IsPrefix closed.seen log
   pub made : closed.mine ≡ commits_of number log
 
--- a server over the base had a client for each speaker, the clients numbered from 1 in the order of the speakers, and was
--- closed when all had been served: this is what they left, in order, and the log; the dispatchers that ended are those of
--- the table, by number, and what each saw is a beginning of the log
+-- a server over the base had a client for each speaker, the clients numbered from 1 in the order of the speakers, and
+-- was closed when all had been served: this is what they left, in order, and the log; the dispatchers that ended are
+-- those of the table, by number, and what each saw is a beginning of the log
 pub record IsStreamRun {S L : Type 0} (Spoken : S → TokenRecord → TokenRecord → L → Type 0) (base : Tables)
     (speakers : List S) (dispatchers : ℕ) (left : List L) (log : List CommitRecord) : Type 0 where
   pub table : TableRecord
@@ -50,10 +50,11 @@ pub record IsStreamRun {S L : Type 0} (Spoken : S → TokenRecord → TokenRecor
   pub named : IsOfClients (length speakers) log
 
 -- the log of a server that was closed with these clients and dispatchers
-pub record IsClosedWith (table : TableRecord) (clients ended : List TokenRecord) (log : List CommitRecord) : Type 0 where
-  pub true_log : IsLogOf table clients ended log
-  pub legal : IsLegal table.base log
-  pub named : IsOfClients table.clients log
-  pub begin : All (λ (token : TokenRecord). IsPrefix token.seen log) clients
-  pub ended_begin : All (λ (token : TokenRecord). IsPrefix token.seen log) ended
-  pub own : All (λ (token : TokenRecord). Owns token.who token.mine log) clients
+pub record IsClosedWith (table : TableRecord) (clients ended : List TokenRecord) (log : List CommitRecord) : Type 0
+  where
+    pub true_log : IsLogOf table clients ended log
+    pub legal : IsLegal table.base log
+    pub named : IsOfClients table.clients log
+    pub begin : All (λ (token : TokenRecord). IsPrefix token.seen log) clients
+    pub ended_begin : All (λ (token : TokenRecord). IsPrefix token.seen log) ended
+    pub own : All (λ (token : TokenRecord). Owns token.who token.mine log) clients

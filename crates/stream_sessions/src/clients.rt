@@ -43,8 +43,8 @@ where
     ghost leaves = { λ seat spoken. IsSpoken S.spoken seat.speaker seat.client spoken.client spoken.left };
 }
 
-/// What a client's thread does with its seat. The thread is started for whatever does so: the prover compares all that a
-/// closure takes and gives, part by part, which for a seat is more than it can.
+/// What a client's thread does with its seat. The thread is started for whatever does so: the prover compares all that
+/// a closure takes and gives, part by part, which for a seat is more than it can.
 pub(crate) trait TakesSeat<W: Wait + Drop, R, P>: Leaves<P> {
     fn take(self, rt: &R, alloc: Global, server: &Server<W>) -> P
         requires { IsQuiet server.now (Self.client self) }

@@ -19,8 +19,8 @@ use std::hash::RandomState;
 use std::sync::{Arc, Wait};
 use std::thread::Threads;
 
-/// What the sessions of many clients leave: what each speaker left, in their order, and the log. Batches are figures for
-/// a reader.
+/// What the sessions of many clients leave: what each speaker left, in their order, and the log. Batches are figures
+/// for a reader.
 #[derive(Drop)]
 pub struct StreamRun<L: Drop> {
     pub left: Vec<L>,
@@ -125,12 +125,12 @@ where
     close(alloc, server, ended)
 }
 
-/// Serves 1 to 16 clients, one for each speaker, by 1 to 4 dispatchers over a base, each client and each dispatcher in a
-/// thread of its own; `hashing` keys the map of orders. It waits until all of them have ended.
+/// Serves 1 to 16 clients, one for each speaker, by 1 to 4 dispatchers over a base, each client and each dispatcher in
+/// a thread of its own; `hashing` keys the map of orders. It waits until all of them have ended.
 ///
-/// The dispatchers' threads start first, then the clients' in the order of the speakers, and where one can't be started,
-/// no later one is. That, and a refused growth wherever it is met, is `OutOfMemory`; each thread that was started has
-/// ended then, too.
+/// The dispatchers' threads start first, then the clients' in the order of the speakers, and where one can't be
+/// started, no later one is. That, and a refused growth wherever it is met, is `OutOfMemory`; each thread that was
+/// started has ended then, too.
 pub fn serve_streams<R: Wait + Threads + Sync, S: Speaks<R> + Drop + Send>(
     rt: &R,
     alloc: Global,

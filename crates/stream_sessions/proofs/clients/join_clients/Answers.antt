@@ -1,4 +1,4 @@
-use Rattle.std.proofs.Common.{rules, [], ◌∷◌, length, ap, arith}
+use Rattle.std.proofs.Common.{[], ◌∷◌, length, ap, arith}
 use Rattle.std.proofs.lemmas.List.{map-append}
 use Rattle.stream_sessions.proofs.StreamLaws.{zip_longer}
 use Rattle.stream_sessions.proofs.clients.join_clients.Goals as goal
