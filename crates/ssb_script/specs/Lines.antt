@@ -35,7 +35,7 @@ use Rattle.ssb_schema.specs.declared.line.LineFields.{LineFields}
 use Rattle.ssb_text.specs.Records.{has_columns}
 use Rattle.ssb_text.specs.Row.{row_of}
 use Rattle.ssb_schema.specs.Numerals.{number_of}
-use Rattle.ssb_text.specs.Spelling.{field, text_of}
+use Rattle.ssb_text.specs.Spelling.{field, text_of, without_spaces}
 use Rattle.ssb_text.specs.declared.error.LineFault.{LineFault}
 use Rattle.ssb_text.specs.declared.error.LineFault.TheVariants as row
 use Rattle.ssb_questions.specs.Kind.{constant_kinds}
@@ -45,7 +45,7 @@ use Rattle.ssb_questions.specs.Question.{constants_fault}
 use Rattle.ssb_questions.specs.declared.kind.ConstantKind.{ConstantKind}
 use Rattle.ssb_questions.specs.declared.kind.ConstantKind.TheVariants as kind
 use Rattle.ssb_questions.specs.declared.query.Query.{Query as Named}
-use Rattle.ssb_questions.specs.AllQueries.{all_queries}
+use Rattle.ssb_questions.specs.AllQueries.{queries_and_star}
 use Rattle.ssb_questions.specs.declared.value.Value.{Value}
 use Rattle.ssb_questions.specs.declared.value.Value.TheVariants as value
 use Rattle.ssb_schema.specs.declared.fault.SchemaFault.{SchemaFault}
@@ -91,7 +91,7 @@ word_of fields = word_spelled (field fields 0)
 
 -- the query that bytes name
 abbrev pub query_named : List ℕ → Option Named
-query_named name = find (λ query. pointwise nat_eq (name_of query) name) all_queries
+query_named name = find (λ query. pointwise nat_eq (name_of query) name) queries_and_star
 
 -- the constant of a kind that bytes spell: a text, or a number of 32 bits
 abbrev pub constant_spelled : ConstantKind → List ℕ → Option Value
@@ -106,18 +106,36 @@ constants_from place (kind ∷ kinds) fields =
     option_and_then (λ constant. option_map (λ rest. constant ∷ rest) (constants_from (place + 1) kinds fields))
     (constant_spelled kind (field fields place))
 
+-- fields without a last one of no bytes
+unfoldable pub without_closing : List (List ℕ) → List (List ℕ)
+without_closing [] = []
+without_closing (last ∷ []) = if nat_eq (length last) 0 then [] else last ∷ []
+without_closing (bytes ∷ next ∷ fields) = bytes ∷ without_closing (next ∷ fields)
+
+-- the texts that fields spell one by one, where each spells one
+unfoldable pub texts_spelled : List (List ℕ) → Option (List Value)
+texts_spelled [] = Some []
+texts_spelled (bytes ∷ fields) =
+    option_and_then (λ text. option_map (λ rest. value.Text text ∷ rest) (texts_spelled fields))
+    (text_of (without_spaces bytes))
+
+-- the constants that fields give behind so many of them: those that a query has where none are given, or one in each
+-- field from there on; of `star`, which has no kinds, a text in each
+abbrev pub constants_given : ℕ → Named → Option (List ConstantKind) → List (List ℕ) → Option (List Value)
+constants_given place query (Some kinds) fields =
+    if has_columns place fields then Some (standard_constants query)
+    else if has_columns (place + length kinds) fields then constants_from place kinds fields
+    else None
+constants_given place query None fields = texts_spelled (without_closing (drop place fields))
+
 -- constants that a query takes
 abbrev pub taken_by : Named → List Value → Option (List Value)
 taken_by query constants = if is_none (constants_fault query constants) then Some constants else None
 
--- the constants of a query behind so many fields: those that it has where none are given, or one in each field from
--- there on
+-- the constants of a query behind so many fields, which it has to take
 unfoldable pub constants_at : ℕ → Named → List (List ℕ) → Option (List Value)
 constants_at place query fields =
-    if has_columns place fields then Some (standard_constants query)
-    else if has_columns (place + length (constant_kinds query)) fields then option_and_then (taken_by query)
-    (constants_from place (constant_kinds query) fields)
-    else None
+    option_and_then (taken_by query) (constants_given place query (constant_kinds query) fields)
 
 -- the query that a record names at one place, with its constants from another on
 abbrev pub question_at : ℕ → ℕ → List (List ℕ) → Option (Named × List Value)

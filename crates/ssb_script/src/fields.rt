@@ -17,12 +17,16 @@ pub(crate) fn word_of(fields: &ByteRecord) -> Option<Word>
     Word::spelled(trimmed_at(fields, 0))
 }
 
-/// The fields after the first.
-pub(crate) fn columns(alloc: Global, fields: &ByteRecord) -> Result<Vec<&[u8]>, AllocError>
-    ensures { IfOk result (λ columns. map (λ column. column.now) columns.items ≡ drop 1 (fields_of fields.now)) }
+/// The fields from a place on, counted from 0.
+pub(crate) fn columns(
+    alloc: Global,
+    from: usize,
+    fields: &ByteRecord,
+) -> Result<Vec<&[u8]>, AllocError>
+    ensures { IfOk result (λ columns. map (λ column. column.now) columns.items ≡ drop from (fields_of fields.now)) }
 {
     let mut columns = Vec::new(alloc);
-    for place in 1..fields.len() {
+    for place in from..fields.len() {
         columns.push(field_at(fields, place))?;
     }
     Ok(columns)

@@ -28,7 +28,7 @@ impl OrderLine {
     pub fn of(alloc: Global, fields: &ByteRecord) -> Result<OrderLine, AllocError>
         ensures { IfOk result (λ row. line_after (Some words.Line) (fields_of fields.now) ≡ line_of_row row) }
     {
-        let columns = columns(alloc, fields)?;
+        let columns = columns(alloc, 1, fields)?;
         match line_of(alloc, columns.as_slice()) {
             Ok(line) => Ok(OrderLine::Read(line)),
             Err(LineFault::Refused(why)) => Ok(OrderLine::Refused(why)),

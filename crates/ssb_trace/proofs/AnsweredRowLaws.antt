@@ -34,11 +34,11 @@ use Rattle.std.specs.Prelude.{nat_eq}
 use Rattle.std.proofs.lemmas.Cmp.{tied_itself}
 use Rattle.std.proofs.lemmas.Option.{none-some}
 use Rattle.ssb_questions.specs.Members.{Has}
-use Rattle.ssb_questions.specs.Queries.{plan_of, plan_over}
+use Rattle.ssb_questions.specs.Clause.{kind_in}
+use Rattle.ssb_questions.specs.Queries.{plan_over}
+use Rattle.ssb_questions.specs.declared.kind.ConstantKind.{ConstantKind}
 use Rattle.ssb_questions.specs.declared.plan.Plan.{Plan}
 use Rattle.ssb_questions.specs.declared.query.Query.{Query}
-use Rattle.ssb_questions.specs.declared.query.Query.TheVariants.{Q1_1, Q1_2, Q1_3, Q2_1, Q2_2, Q2_3, Q3_1, Q3_2, Q3_3, Q3_4}
-use Rattle.ssb_questions.specs.declared.query.Query.TheVariants.{Q4_1, Q4_2, Q4_3}
 use Rattle.ssb_questions.specs.declared.value.Value.{Value}
 use Rattle.ssb_answers.proofs.MemberLaws.{all_at, has_filter, has_from_map}
 use Rattle.ssb_answers.proofs.OrderLaws.{groups_cmp_total}
@@ -48,14 +48,16 @@ use Rattle.ssb_answers.specs.Answer.{group_of, groups_among, groups_cmp, in_grou
 use Rattle.ssb_answers.specs.Combination.{Combination, combinations, joined, joined_with, passes, value_at}
 use Rattle.ssb_answers.specs.declared.answer.ResultRow.{ResultRow}
 use Rattle.ssb_base.specs.Base.{Dimensions}
-use Rattle.ssb_schema.specs.Columns.{column_kind, C_CITY, C_NATION, D_YEAR, P_BRAND1, P_CATEGORY, S_CITY, S_NATION}
+use Rattle.ssb_schema.specs.Columns.{query_columns, C_CITY, C_NATION, C_REGION, S_CITY, S_NATION, S_REGION, P_MFGR}
+use Rattle.ssb_schema.specs.Columns.{P_CATEGORY, P_BRAND1, D_YEAR, D_YEARMONTHNUM, D_YEARMONTH, D_WEEKNUMINYEAR}
 use Rattle.ssb_schema.specs.Rows.{customer_values, date_values, part_values, supplier_values}
 use Rattle.ssb_schema.specs.declared.column.Column.{Column}
 use Rattle.ssb_schema.specs.declared.fact.Fact.{Fact}
 use Rattle.ssb_schema.specs.declared.table.Table.TheVariants as table
-use Rattle.ssb_trace.specs.Rows.{group_kinds, has_no_groups, kind_in}
+use Rattle.ssb_trace.specs.Rows.{group_kinds, has_no_groups}
 use Rattle.ssb_trace.specs.Allowed.{AreTakenDimensions, IsAllowedRow, IsAllowedSum, IsGroup, IsTakenRow}
 use Rattle.ssb_trace.specs.RoundTrip.{AnswersHaveAllowedRows}
+use Rattle.ssb_trace.proofs.ClauseLaws.{groups_are_columns}
 use Rattle.ssb_trace.proofs.ColumnLaws.{customer_fits, date_fits, part_fits, supplier_fits}
 
 -- a combination of rows that the schema takes
@@ -115,7 +117,7 @@ module _ (dimensions : Dimensions) (taken : AreTakenDimensions dimensions) where
 
 -- what a combination has in a group column
 abbrev IsIn : Combination → Column → Type 0
-IsIn c column = IsGroup (kind_in column (column_kind column)) (value_at column c)
+IsIn c column = IsGroup (kind_in column) (value_at column c)
 
 in-customer-city : (c : Combination) → IsTaken c → IsIn c C_CITY
 in-customer-city c taken = (customer_fits c.customer taken.customer).1.1.1.0
@@ -123,11 +125,20 @@ in-customer-city c taken = (customer_fits c.customer taken.customer).1.1.1.0
 in-customer-nation : (c : Combination) → IsTaken c → IsIn c C_NATION
 in-customer-nation c taken = (customer_fits c.customer taken.customer).1.1.1.1.0
 
+in-customer-region : (c : Combination) → IsTaken c → IsIn c C_REGION
+in-customer-region c taken = (customer_fits c.customer taken.customer).1.1.1.1.1.0
+
 in-supplier-city : (c : Combination) → IsTaken c → IsIn c S_CITY
 in-supplier-city c taken = (supplier_fits c.supplier taken.supplier).1.1.1.0
 
 in-supplier-nation : (c : Combination) → IsTaken c → IsIn c S_NATION
 in-supplier-nation c taken = (supplier_fits c.supplier taken.supplier).1.1.1.1.0
+
+in-supplier-region : (c : Combination) → IsTaken c → IsIn c S_REGION
+in-supplier-region c taken = (supplier_fits c.supplier taken.supplier).1.1.1.1.1.0
+
+in-manufacturer : (c : Combination) → IsTaken c → IsIn c P_MFGR
+in-manufacturer c taken = (part_fits c.part taken.part).1.1.0
 
 in-category : (c : Combination) → IsTaken c → IsIn c P_CATEGORY
 in-category c taken = (part_fits c.part taken.part).1.1.1.0
@@ -138,37 +149,51 @@ in-brand c taken = (part_fits c.part taken.part).1.1.1.1.0
 in-year : (c : Combination) → IsTaken c → IsIn c D_YEAR
 in-year c taken = let within = (date_fits c.date taken.date).1.1.1.1.0.0 in omega (arith, within)
 
--- the group columns of a query do not depend on its constants, and a combination has what they hold
-groups-fit : (query : Query) (constants : List Value) (c : Combination) → IsTaken c
-    → AllZip IsGroup (group_kinds query) (group_of (plan_over query constants) c)
-groups-fit Q1_1 constants c taken = tt
-groups-fit Q1_2 constants c taken = tt
-groups-fit Q1_3 constants c taken = tt
-groups-fit Q2_1 constants c taken = (in-year c taken, (in-brand c taken, tt))
-groups-fit Q2_2 constants c taken = (in-year c taken, (in-brand c taken, tt))
-groups-fit Q2_3 constants c taken = (in-year c taken, (in-brand c taken, tt))
-groups-fit Q3_1 constants c taken = (in-customer-nation c taken, (in-supplier-nation c taken, (in-year c taken, tt)))
-groups-fit Q3_2 constants c taken = (in-customer-city c taken, (in-supplier-city c taken, (in-year c taken, tt)))
-groups-fit Q3_3 constants c taken = (in-customer-city c taken, (in-supplier-city c taken, (in-year c taken, tt)))
-groups-fit Q3_4 constants c taken = (in-customer-city c taken, (in-supplier-city c taken, (in-year c taken, tt)))
-groups-fit Q4_1 constants c taken = (in-year c taken, (in-customer-nation c taken, tt))
-groups-fit Q4_2 constants c taken = (in-year c taken, (in-supplier-nation c taken, (in-category c taken, tt)))
-groups-fit Q4_3 constants c taken = (in-year c taken, (in-supplier-city c taken, (in-brand c taken, tt)))
+in-month-number : (c : Combination) → IsTaken c → IsIn c D_YEARMONTHNUM
+in-month-number c taken = let within = (date_fits c.date taken.date).1.1.1.1.1.0.0 in omega (arith, within)
 
-same-groups : (query : Query) (constants : List Value) → (plan_of query).groups ≡ (plan_over query constants).groups
-same-groups Q1_1 constants = refl
-same-groups Q1_2 constants = refl
-same-groups Q1_3 constants = refl
-same-groups Q2_1 constants = refl
-same-groups Q2_2 constants = refl
-same-groups Q2_3 constants = refl
-same-groups Q3_1 constants = refl
-same-groups Q3_2 constants = refl
-same-groups Q3_3 constants = refl
-same-groups Q3_4 constants = refl
-same-groups Q4_1 constants = refl
-same-groups Q4_2 constants = refl
-same-groups Q4_3 constants = refl
+in-month : (c : Combination) → IsTaken c → IsIn c D_YEARMONTH
+in-month c taken = (date_fits c.date taken.date).1.1.1.1.1.1.0
+
+in-week : (c : Combination) → IsTaken c → IsIn c D_WEEKNUMINYEAR
+in-week c taken = let within = (date_fits c.date taken.date).1.1.1.1.1.1.1.1.1.1.1.0.0 in omega (arith, within)
+
+so : (c : Combination) (column is : Column) → column ≡ is → IsIn c is → IsIn c column
+so c column is e fit = subst (IsIn c) (sym e) fit
+
+-- a combination has in each column that queries read what it holds
+each-fits : (c : Combination) → IsTaken c → (column : Column) → Has query_columns column → IsIn c column
+each-fits c taken column (inl e) = so c column C_CITY e (in-customer-city c taken)
+each-fits c taken column (inr (inl e)) = so c column C_NATION e (in-customer-nation c taken)
+each-fits c taken column (inr (inr (inl e))) = so c column C_REGION e (in-customer-region c taken)
+each-fits c taken column (inr (inr (inr (inl e)))) = so c column S_CITY e (in-supplier-city c taken)
+each-fits c taken column (inr (inr (inr (inr (inl e))))) = so c column S_NATION e (in-supplier-nation c taken)
+each-fits c taken column (inr (inr (inr (inr (inr (inl e)))))) = so c column S_REGION e (in-supplier-region c taken)
+each-fits c taken column (inr (inr (inr (inr (inr (inr (inl e))))))) = so c column P_MFGR e (in-manufacturer c taken)
+each-fits c taken column (inr (inr (inr (inr (inr (inr (inr (inl e)))))))) =
+    so c column P_CATEGORY e (in-category c taken)
+each-fits c taken column (inr (inr (inr (inr (inr (inr (inr (inr (inl e))))))))) =
+    so c column P_BRAND1 e (in-brand c taken)
+each-fits c taken column (inr (inr (inr (inr (inr (inr (inr (inr (inr (inl e)))))))))) =
+    so c column D_YEAR e (in-year c taken)
+each-fits c taken column (inr (inr (inr (inr (inr (inr (inr (inr (inr (inr (inl e))))))))))) =
+    so c column D_YEARMONTHNUM e (in-month-number c taken)
+each-fits c taken column (inr (inr (inr (inr (inr (inr (inr (inr (inr (inr (inr (inl e)))))))))))) =
+    so c column D_YEARMONTH e (in-month c taken)
+each-fits c taken column (inr (inr (inr (inr (inr (inr (inr (inr (inr (inr (inr (inr (inl e))))))))))))) =
+    so c column D_WEEKNUMINYEAR e (in-week c taken)
+each-fits c taken column (inr (inr (inr (inr (inr (inr (inr (inr (inr (inr (inr (inr (inr none))))))))))))) = absurd none
+
+-- and so it has in the group columns of a question
+columns-fit : (c : Combination) → IsTaken c → (columns : List Column) → AllByRecursion (Has query_columns) columns
+    → AllZip IsGroup (map kind_in columns) (map (λ column. value_at column c) columns)
+columns-fit c taken [] all = tt
+columns-fit c taken (column ∷ columns) all = (each-fits c taken column all.0, columns-fit c taken columns all.1)
+
+groups-fit : (question : Query × List Value) (c : Combination) → IsTaken c
+    → AllZip IsGroup (group_kinds question) (group_of (plan_over question.0 question.1) c)
+groups-fit question c taken =
+    columns-fit c taken (plan_over question.0 question.1).groups (groups_are_columns question.0 question.1)
 
 -- a group is that of a combination, unless there are no group columns
 module _ (group : Combination → List Value) (found : List Combination) where
@@ -184,18 +209,15 @@ module _ (group : Combination → List Value) (found : List Combination) where
   group-comes (column ∷ columns) groups has = inr (has_from_map group found groups has)
 
 -- the row of a group
-some-sum-allowed : (query : Query) (sum : Option ℤ) (z : ℤ) → sum ≡ Some z → IfSome sum (FitsSigned w64)
-    → IsAllowedSum query sum
-some-sum-allowed query None z e fits = absurd (none-some z e)
-some-sum-allowed query (Some sum) z e fits = fits
+some-sum-allowed : (kinds : List ConstantKind) (sum : Option ℤ) (z : ℤ) → sum ≡ Some z → IfSome sum (FitsSigned w64)
+    → IsAllowedSum kinds sum
+some-sum-allowed kinds None z e fits = absurd (none-some z e)
+some-sum-allowed kinds (Some sum) z e fits = fits
 
-total-allowed : (query : Query) (sum : Option ℤ) → has_no_groups (group_kinds query) ≡ true
-    → IfSome sum (FitsSigned w64) → IsAllowedSum query sum
-total-allowed query None none fits = none
-total-allowed query (Some sum) none fits = fits
-
-no-kinds : (query : Query) → (plan_of query).groups ≡ [] → group_kinds query ≡ []
-no-kinds query e = ap (map (λ column. kind_in column (column_kind column))) e
+total-allowed : (kinds : List ConstantKind) (sum : Option ℤ) → has_no_groups kinds ≡ true
+    → IfSome sum (FitsSigned w64) → IsAllowedSum kinds sum
+total-allowed kinds None none fits = none
+total-allowed kinds (Some sum) none fits = fits
 
 module _ (question : Query × List Value) (dimensions : Dimensions) (facts : List Fact)
     (taken : AreTakenDimensions dimensions) where
@@ -208,35 +230,34 @@ module _ (question : Query × List Value) (dimensions : Dimensions) (facts : Lis
 
   row-allowed : (groups : List Value) → Comes (group_of plan) found plan.groups groups
       → IfSome (row_of plan found groups).sum (FitsSigned w64)
-      → IsAllowedRow question.0 (row_of plan found groups)
+      → IsAllowedRow question (row_of plan found groups)
   unfolding Comes found plan
   row-allowed groups (inl (none, e)) fits =
-      let kinds : group_kinds question.0 ≡ [] = no-kinds question.0 (same-groups question.0 question.1 ∙ none) in
+      let kinds : group_kinds question ≡ [] = ap (map kind_in) none in
       record {
         groups = rw (kinds, e) tt;
-        sum = total-allowed question.0 (row_of plan found groups).sum (rw kinds refl)
-            fits;
+        sum = total-allowed (group_kinds question) (row_of plan found groups).sum (rw kinds refl) fits;
       }
   row-allowed groups (inr (c, has, e)) fits =
-      let fit : AllZip IsGroup (group_kinds question.0) (group_of plan c)
-      = groups-fit question.0 question.1 c (all_at IsTaken found c (found-taken dimensions taken plan facts) has) in
+      let fit : AllZip IsGroup (group_kinds question) (group_of plan c)
+      = groups-fit question c (all_at IsTaken found c (found-taken dimensions taken plan facts) has) in
       let same : is_eq (groups_cmp (group_of plan c) groups) ≡ true =
       rw e (ap is_eq (tied_itself groups_cmp_total (group_of plan c))) in
       let sum = some_sum plan.measure (in_group plan groups found) c
       (has_filter (λ other. is_eq (groups_cmp (group_of plan other) groups)) found c same has) in
       record {
-        groups = subst (AllZip IsGroup (group_kinds question.0)) (sym e) fit;
-        sum = some-sum-allowed question.0 (row_of plan found groups).sum sum.0 sum.1 fits;
+        groups = subst (AllZip IsGroup (group_kinds question)) (sym e) fit;
+        sum = some-sum-allowed (group_kinds question) (row_of plan found groups).sum sum.0 sum.1 fits;
       }
 
   answered : (row : ResultRow) → Has (rows_over plan found) row → IfSome row.sum (FitsSigned w64)
-      → IsAllowedRow question.0 row
+      → IsAllowedRow question row
   answered row has fits =
       let target = has_from_map (row_of plan found) (groups_among plan.groups (group_of plan) found) row
       (has_from_in_order (row_cmp plan.order) _ row has) in
       let comes : Comes (group_of plan) found plan.groups target.0 =
       group-comes (group_of plan) found plan.groups target.0 target.1 in
-      subst (IsAllowedRow question.0) (sym target.2)
+      subst (IsAllowedRow question) (sym target.2)
       (row-allowed target.0 comes (subst (λ (r : ResultRow). IfSome r.sum (FitsSigned w64)) target.2 fits))
 
 pub answers_have_allowed_rows : AnswersHaveAllowedRows

@@ -39,7 +39,7 @@ told-allowed : (base : Tables) (commits : List CommitRecord) (told : Told) → A
     → HasAllowedHead told → HasSums told → IsAllowedTold told
 told-allowed base commits told taken true_of head sums = record {
   head = head;
-  rows = all-from (IsAllowedRow told.question.0) told.rows (λ row has.
+  rows = all-from (IsAllowedRow told.question) told.rows (λ row has.
       answers_have_allowed_rows told.question base.dimensions (facts_of (lines_after base (take told.at commits))) row
       taken
       (subst (λ rows. Has rows row) true_of.rows has)

@@ -36,6 +36,7 @@ use Rattle.ssb_audit.specs.declared.trace.Trace.{Trace}
 use Rattle.ssb_text.specs.Records.{record_config}
 use Rattle.ssb_questions.specs.declared.query.Query.{Query}
 use Rattle.ssb_questions.specs.declared.query.Query.TheVariants.{Q1_1}
+use Rattle.ssb_questions.specs.declared.value.Value.{Value}
 use Rattle.ssb_answers.specs.declared.answer.ResultRow.{ResultRow}
 use Rattle.ssb_schema.specs.declared.line.LineFields.{LineFields}
 use Rattle.ssb_schema.specs.declared.refresh.Action.{Action}
@@ -84,106 +85,106 @@ one_list cfg s s1 s2 text ys zs (r ∷ one) (q ∷ other) a enda b endb =
     in
     rw (first, later) refl
 
--- the line that a record says, where the rows of this query are read
+-- the line that a record says, where the rows of this question are read
 inside : Result ScriptLine RecordFault → Option TraceLine
 inside (Ok line) = Some (Inside line)
 inside (Err why) = None
 
-said : Query → Option TraceWord → List (List ℕ) → Option TraceLine
-said query (Some word.Commit) fields = entry_begun (Some word.Commit) fields
-said query (Some word.Answer) fields = entry_begun (Some word.Answer) fields
-said query (Some word.Row) fields = option_map (Row query) (row_after query (Some word.Row) fields)
-said query w fields = inside (line_inside w fields)
+said : Query × List Value → Option TraceWord → List (List ℕ) → Option TraceLine
+said question (Some word.Commit) fields = entry_begun (Some word.Commit) fields
+said question (Some word.Answer) fields = entry_begun (Some word.Answer) fields
+said question (Some word.Row) fields = option_map (Row question) (row_after question (Some word.Row) fields)
+said question w fields = inside (line_inside w fields)
 
--- a line is a row of this query, if it is a row
-IsOf : Query → TraceLine → Type 0
-IsOf query (Begin client) = Unit {0}
-IsOf query (Inside line) = Unit {0}
-IsOf query (Answer head) = Unit {0}
-IsOf query (Row other row) = other ≡ query
+-- a line is a row of this question, if it is a row
+IsOf : Query × List Value → TraceLine → Type 0
+IsOf question (Begin client) = Unit {0}
+IsOf question (Inside line) = Unit {0}
+IsOf question (Answer head) = Unit {0}
+IsOf question (Row other row) = other ≡ question
 
-says_begin : (query : Query) (w : Option TraceWord) (fields : List (List ℕ)) (line : TraceLine)
-    → entry_begun w fields ≡ Some line → said query w fields ≡ Some line
+says_begin : (question : Query × List Value) (w : Option TraceWord) (fields : List (List ℕ)) (line : TraceLine)
+    → entry_begun w fields ≡ Some line → said question w fields ≡ Some line
 unfolding said
-says_begin query (Some word.Commit) fields line e = e
-says_begin query (Some word.Answer) fields line e = e
-says_begin query _ fields line e = absurd cc
+says_begin question (Some word.Commit) fields line e = e
+says_begin question (Some word.Answer) fields line e = e
+says_begin question _ fields line e = absurd cc
 
-says_inside : (query : Query) (w : Option TraceWord) (fields : List (List ℕ)) (line : ScriptLine)
-    → line_inside w fields ≡ Ok line → said query w fields ≡ Some (Inside line)
+says_inside : (question : Query × List Value) (w : Option TraceWord) (fields : List (List ℕ)) (line : ScriptLine)
+    → line_inside w fields ≡ Ok line → said question w fields ≡ Some (Inside line)
 unfolding inside said
-says_inside query (Some word.Commit) fields line e = absurd cc
-says_inside query (Some word.Answer) fields line e = absurd cc
-says_inside query (Some word.Row) fields line e = absurd cc
-says_inside query None fields line e = ap inside e
-says_inside query (Some word.Add) fields line e = ap inside e
-says_inside query (Some word.Amend) fields line e = ap inside e
-says_inside query (Some word.Line) fields line e = ap inside e
-says_inside query (Some word.Withdraw) fields line e = ap inside e
-says_inside query (Some word.End) fields line e = ap inside e
+says_inside question (Some word.Commit) fields line e = absurd cc
+says_inside question (Some word.Answer) fields line e = absurd cc
+says_inside question (Some word.Row) fields line e = absurd cc
+says_inside question None fields line e = ap inside e
+says_inside question (Some word.Add) fields line e = ap inside e
+says_inside question (Some word.Amend) fields line e = ap inside e
+says_inside question (Some word.Line) fields line e = ap inside e
+says_inside question (Some word.Withdraw) fields line e = ap inside e
+says_inside question (Some word.End) fields line e = ap inside e
 
-says_row : (query : Query) (w : Option TraceWord) (fields : List (List ℕ)) (row : ResultRow)
-    → row_after query w fields ≡ Some row → said query w fields ≡ Some (Row query row)
+says_row : (question : Query × List Value) (w : Option TraceWord) (fields : List (List ℕ)) (row : ResultRow)
+    → row_after question w fields ≡ Some row → said question w fields ≡ Some (Row question row)
 unfolding said
-says_row query (Some word.Row) fields row e = ap (option_map (Row query)) e
-says_row query _ fields row e = absurd cc
+says_row question (Some word.Row) fields row e = ap (option_map (Row question)) e
+says_row question _ fields row e = absurd cc
 
-says_said : (query : Query) (w : Option TraceWord) (fields : List (List ℕ)) (line : TraceLine) → IsOf query line
-    → SaysAfter w fields line → said query w fields ≡ Some line
+says_said : (question : Query × List Value) (w : Option TraceWord) (fields : List (List ℕ)) (line : TraceLine) → IsOf question line
+    → SaysAfter w fields line → said question w fields ≡ Some line
 unfolding IsOf
-says_said query w fields (Begin client) of says = says_begin query w fields (Begin client) says
-says_said query w fields (Answer head) of says = says_begin query w fields (Answer head) says
-says_said query w fields (Inside line) of says = says_inside query w fields line says
-says_said query w fields (Row other row) of says = rw (← of) (says_row other w fields row says)
+says_said question w fields (Begin client) of says = says_begin question w fields (Begin client) says
+says_said question w fields (Answer head) of says = says_begin question w fields (Answer head) says
+says_said question w fields (Inside line) of says = says_inside question w fields line says
+says_said question w fields (Row other row) of says = rw (← of) (says_row other w fields row says)
 
--- the query whose rows may follow a line
-next_query : Query → TraceLine → Query
-next_query query (Begin client) = query
-next_query query (Inside line) = query
-next_query query (Answer head) = head.question.0
-next_query query (Row other row) = query
+-- the question whose rows may follow a line
+next_question : Query × List Value → TraceLine → Query × List Value
+next_question question (Begin client) = question
+next_question question (Inside line) = question
+next_question question (Answer head) = head.question
+next_question question (Row other row) = question
 
--- each row is one of the query that was named last
-Follow : Query → List TraceLine → Type 0
-Follow query [] = Unit {0}
-Follow query (line ∷ lines) = IsOf query line × Follow (next_query query line) lines
+-- each row is one of the question that was named last
+Follow : Query × List Value → List TraceLine → Type 0
+Follow question [] = Unit {0}
+Follow question (line ∷ lines) = IsOf question line × Follow (next_question question line) lines
 
-same_lines : (query : Query) (records : List (List (List ℕ))) (one other : List TraceLine) → AreLines records one
-    → AreLines records other → Follow query one → Follow query other → one ≡ other
+same_lines : (question : Query × List Value) (records : List (List (List ℕ))) (one other : List TraceLine) → AreLines records one
+    → AreLines records other → Follow question one → Follow question other → one ≡ other
 unfolding Follow
-same_lines query [] [] [] a b c d = refl
-same_lines query [] (l ∷ one) other a b c d = absurd a
-same_lines query [] [] (k ∷ other) a b c d = absurd b
-same_lines query (f ∷ records) [] other a b c d = absurd a
-same_lines query (f ∷ records) (l ∷ one) [] a b c d = absurd b
-same_lines query (f ∷ records) (l ∷ one) (k ∷ other) a b c d =
-    let first : l ≡ k = same_Some l k (sym (says_said query (word_of f) f l c.0 a.0)
-    ∙ says_said query (word_of f) f k d.0 b.0) in
-    let later : one ≡ other = same_lines (next_query query l) records one other a.1 b.1 c.1
-    (subst (λ line. Follow (next_query query line) other) (sym first) d.1) in
+same_lines question [] [] [] a b c d = refl
+same_lines question [] (l ∷ one) other a b c d = absurd a
+same_lines question [] [] (k ∷ other) a b c d = absurd b
+same_lines question (f ∷ records) [] other a b c d = absurd a
+same_lines question (f ∷ records) (l ∷ one) [] a b c d = absurd b
+same_lines question (f ∷ records) (l ∷ one) (k ∷ other) a b c d =
+    let first : l ≡ k = same_Some l k (sym (says_said question (word_of f) f l c.0 a.0)
+    ∙ says_said question (word_of f) f k d.0 b.0) in
+    let later : one ≡ other = same_lines (next_question question l) records one other a.1 b.1 c.1
+    (subst (λ line. Follow (next_question question line) other) (sym first) d.1) in
     rw (first, later) refl
 
-follow_commit : (query : Query) (client : ℕ) (lines : List ScriptLine) (rest : List TraceLine) → Follow query rest
-    → Follow query (map (in_commit client) lines ++ rest)
-unfolding Follow IsOf next_query
-follow_commit query client [] rest f = f
-follow_commit query client (script.Begin ∷ lines) rest f = (tt, follow_commit query client lines rest f)
-follow_commit query client (_ ∷ lines) rest f = (tt, follow_commit query client lines rest f)
+follow_commit : (question : Query × List Value) (client : ℕ) (lines : List ScriptLine) (rest : List TraceLine) → Follow question rest
+    → Follow question (map (in_commit client) lines ++ rest)
+unfolding Follow IsOf next_question
+follow_commit question client [] rest f = f
+follow_commit question client (script.Begin ∷ lines) rest f = (tt, follow_commit question client lines rest f)
+follow_commit question client (_ ∷ lines) rest f = (tt, follow_commit question client lines rest f)
 
-follow_rows : (query : Query) (rows : List ResultRow) (rest : List TraceLine) → Follow query rest
-    → Follow query (map (Row query) rows ++ rest)
-unfolding Follow IsOf next_query
-follow_rows query [] rest f = f
-follow_rows query (row ∷ rows) rest f = (refl, follow_rows query rows rest f)
+follow_rows : (question : Query × List Value) (rows : List ResultRow) (rest : List TraceLine) → Follow question rest
+    → Follow question (map (Row question) rows ++ rest)
+unfolding Follow IsOf next_question
+follow_rows question [] rest f = f
+follow_rows question (row ∷ rows) rest f = (refl, follow_rows question rows rest f)
 
-follow_entries : (query : Query) (entries : List TraceEntry) → Follow query (lines_of_entries entries)
-unfolding Follow IsOf next_query
-follow_entries query [] = tt
-follow_entries query (entry.Commit commit ∷ entries) = follow_commit query commit.client
-    (lines_of_request (Refresh commit.actions)) (lines_of_entries entries) (follow_entries query entries)
-follow_entries query (entry.Answer told ∷ entries) = (
+follow_entries : (question : Query × List Value) (entries : List TraceEntry) → Follow question (lines_of_entries entries)
+unfolding Follow IsOf next_question
+follow_entries question [] = tt
+follow_entries question (entry.Commit commit ∷ entries) = follow_commit question commit.client
+    (lines_of_request (Refresh commit.actions)) (lines_of_entries entries) (follow_entries question entries)
+follow_entries question (entry.Answer told ∷ entries) = (
   tt,
-  follow_rows told.question.0 told.rows (lines_of_entries entries) (follow_entries told.question.0 entries),
+  follow_rows told.question told.rows (lines_of_entries entries) (follow_entries told.question entries),
 )
 
 -- what the lines from one on hold: lines of an order that began before it, actions of a commit that did, rows of an
@@ -234,7 +235,7 @@ before (Answer head) tail =
       entries = entry.Answer
           (record { client = head.client; at = head.at; question = head.question; rows = tail.rows }) ∷ tail.entries;
     }
-before (Row query row) tail = record {
+before (Row question row) tail = record {
   lines = tail.lines;
   actions = tail.actions;
   rows = row ∷ tail.rows;
@@ -286,15 +287,15 @@ of_actions client outer (a ∷ actions) =
     ∙ (of_action client outer a rest (ap (λ t. t.lines) later)
     ∙ ap (λ t. record { lines = []; actions = a ∷ t.actions; rows = t.rows; entries = t.entries }) later)
 
-of_rows : (query : Query) (rows : List ResultRow) (rest : List TraceLine) → (tail_of rest).rows ≡ []
-    → (tail_of (map (Row query) rows ++ rest)).rows ≡ rows
-of_rows query [] rest none = none
-of_rows query (row ∷ rows) rest none = ap (λ more. row ∷ more) (of_rows query rows rest none)
+of_rows : (question : Query × List Value) (rows : List ResultRow) (rest : List TraceLine) → (tail_of rest).rows ≡ []
+    → (tail_of (map (Row question) rows ++ rest)).rows ≡ rows
+of_rows question [] rest none = none
+of_rows question (row ∷ rows) rest none = ap (λ more. row ∷ more) (of_rows question rows rest none)
 
-past_rows : (query : Query) (rows : List ResultRow) (rest : List TraceLine)
-    → (tail_of (map (Row query) rows ++ rest)).entries ≡ (tail_of rest).entries
-past_rows query [] rest = refl
-past_rows query (row ∷ rows) rest = past_rows query rows rest
+past_rows : (question : Query × List Value) (rows : List ResultRow) (rest : List TraceLine)
+    → (tail_of (map (Row question) rows ++ rest)).entries ≡ (tail_of rest).entries
+past_rows question [] rest = refl
+past_rows question (row ∷ rows) rest = past_rows question rows rest
 
 no_rows : (entries : List TraceEntry) → (tail_of (lines_of_entries entries)).rows ≡ []
 no_rows [] = refl
@@ -308,12 +309,12 @@ of_entries (entry.Commit commit ∷ entries) =
     ∙ ap (λ rest. entry.Commit commit ∷ rest) (of_entries entries)
 of_entries (entry.Answer told ∷ entries) =
     let rest : List TraceLine = lines_of_entries entries in
-    let rows : (tail_of (map (Row told.question.0) told.rows ++ rest)).rows ≡ told.rows =
-    of_rows told.question.0 told.rows rest (no_rows entries) in
-    let later : (tail_of (map (Row told.question.0) told.rows ++ rest)).entries ≡ entries =
-    past_rows told.question.0 told.rows rest ∙ of_entries entries in
+    let rows : (tail_of (map (Row told.question) told.rows ++ rest)).rows ≡ told.rows =
+    of_rows told.question told.rows rest (no_rows entries) in
+    let later : (tail_of (map (Row told.question) told.rows ++ rest)).entries ≡ entries =
+    past_rows told.question told.rows rest ∙ of_entries entries in
     ap (λ found. entry.Answer (record told { rows = found }) ∷
-    (tail_of (map (Row told.question.0) told.rows ++ rest)).entries) rows
+    (tail_of (map (Row told.question) told.rows ++ rest)).entries) rows
     ∙ ap (λ rest. entry.Answer told ∷ rest) later
 
 same_trace : (one other : Trace) → one.commits ≡ other.commits → one.answers ≡ other.answers → one ≡ other
@@ -321,9 +322,9 @@ same_trace one other commits answers =
     ap (λ (found : List CommitRecord). record one { commits = found }) commits
     ∙ ap (λ (found : List Told). record other { answers = found }) answers
 
--- the query that rows would be of before any is named: none are there
-abbrev some_query : Query
-some_query = Q1_1
+-- the question that rows would be of before any is asked: none are there
+abbrev some_question : Query × List Value
+some_question = (Q1_1, [])
 
 pub one_reading : (text : List ℕ) → HasOneReading text
 one_reading text most more one other a b =
@@ -332,8 +333,8 @@ one_reading text most more one other a b =
     let spelled : AreLines a.records (lines_of_entries b.entries) =
     subst (λ found. AreLines found (lines_of_entries b.entries)) (sym records) b.spelled in
     let lines : lines_of_entries a.entries ≡ lines_of_entries b.entries
-    = same_lines some_query a.records (lines_of_entries a.entries) (lines_of_entries b.entries) a.spelled spelled
-    (follow_entries some_query a.entries) (follow_entries some_query b.entries) in
+    = same_lines some_question a.records (lines_of_entries a.entries) (lines_of_entries b.entries) a.spelled spelled
+    (follow_entries some_question a.entries) (follow_entries some_question b.entries) in
     let entries : a.entries ≡ b.entries = sym (of_entries a.entries)
     ∙ (ap (λ found. (tail_of found).entries) lines ∙ of_entries b.entries) in
     same_trace one other (sym a.commits ∙ (ap commits_in entries ∙ b.commits))

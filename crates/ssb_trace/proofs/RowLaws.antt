@@ -33,7 +33,9 @@ use Rattle.ssb_audit.specs.declared.trace.Told.{Told}
 use Rattle.ssb_text.specs.Records.{has_columns}
 use Rattle.ssb_text.specs.Spelling.{field, without_spaces}
 use Rattle.ssb_questions.specs.Query.{sum_first}
+use Rattle.ssb_questions.specs.declared.kind.ConstantKind.{ConstantKind}
 use Rattle.ssb_questions.specs.declared.query.Query.{Query}
+use Rattle.ssb_questions.specs.declared.value.Value.{Value}
 use Rattle.ssb_answers.specs.declared.answer.ResultRow.{ResultRow}
 use Rattle.ssb_report.specs.AnswerText.{columns_of, row_text, value_text}
 use Rattle.ssb_report.specs.Numbers.{line_feed, sum_text}
@@ -55,19 +57,20 @@ null-kept : without_spaces (codes "NULL") ≡ codes "NULL"
 unfolding without_spaces
 null-kept = refl
 
-sum-text-kept : (query : Query) (sum : Option ℤ) → IsAllowedSum query sum → IsKept (sum_text sum)
-sum-text-kept query None allowed = record { plain = refl; kept = null-kept }
-sum-text-kept query (Some sum) allowed = sum_kept sum allowed.sfits
+sum-text-kept : (kinds : List ConstantKind) (sum : Option ℤ) → IsAllowedSum kinds sum → IsKept (sum_text sum)
+sum-text-kept kinds None allowed = record { plain = refl; kept = null-kept }
+sum-text-kept kinds (Some sum) allowed = sum_kept sum allowed.sfits
 
-sum-text-read : (query : Query) (sum : Option ℤ) → IsAllowedSum query sum → sum_of query (sum_text sum) ≡ Some sum
-sum-text-read query None allowed = rw allowed refl
-sum-text-read query (Some sum) allowed = rw (sum_no_null sum allowed.sfits, sum_read sum allowed.sfits) refl
+sum-text-read : (kinds : List ConstantKind) (sum : Option ℤ) → IsAllowedSum kinds sum
+    → sum_of kinds (sum_text sum) ≡ Some sum
+sum-text-read kinds None allowed = rw allowed refl
+sum-text-read kinds (Some sum) allowed = rw (sum_no_null sum allowed.sfits, sum_read sum allowed.sfits) refl
 
 -- the fields of a row, behind its word
-fields-first : (query : Query) (row : ResultRow) → IsAllowedRow query row → sum_first query ≡ true
-    → row_of query (codes "row" ∷ sum_text row.sum ∷ map value_text row.groups) ≡ Some row
-fields-first query row allowed first =
-    let kinds = group_kinds query in
+fields-first : (question : Query × List Value) (row : ResultRow) → IsAllowedRow question row → sum_first question.0 ≡ true
+    → row_of question (codes "row" ∷ sum_text row.sum ∷ map value_text row.groups) ≡ Some row
+fields-first question row allowed first =
+    let kinds = group_kinds question in
     let fields : List (List ℕ) = codes "row" ∷ sum_text row.sum ∷ map value_text row.groups in
     let many : has_columns (2 + length kinds) fields ≡ true =
     columns_exact (2 + length kinds) fields (omega (arith, as_many_values kinds row.groups allowed.groups)) in
@@ -76,13 +79,13 @@ fields-first query row allowed first =
     let groups : constants_from 2 kinds fields ≡ Some row.groups
     = ap (constants_from 2 kinds) (sym end) ∙ values_read (codes "row" ∷ sum_text row.sum ∷ []) kinds row.groups []
     allowed.groups in
-    rw (many, first, (sum-text-kept query row.sum allowed.sum).kept, sum-text-read query row.sum allowed.sum, groups)
+    rw (many, first, (sum-text-kept kinds row.sum allowed.sum).kept, sum-text-read kinds row.sum allowed.sum, groups)
     refl
 
-fields-last : (query : Query) (row : ResultRow) → IsAllowedRow query row → sum_first query ≡ false
-    → row_of query (codes "row" ∷ (map value_text row.groups ++ sum_text row.sum ∷ [])) ≡ Some row
-fields-last query row allowed last =
-    let kinds = group_kinds query in
+fields-last : (question : Query × List Value) (row : ResultRow) → IsAllowedRow question row → sum_first question.0 ≡ false
+    → row_of question (codes "row" ∷ (map value_text row.groups ++ sum_text row.sum ∷ [])) ≡ Some row
+fields-last question row allowed last =
+    let kinds = group_kinds question in
     let fields : List (List ℕ) = codes "row" ∷ (map value_text row.groups ++ sum_text row.sum ∷ []) in
     let count : length (map value_text row.groups) ≡ length kinds = as_many_values kinds row.groups allowed.groups in
     let many : has_columns (2 + length kinds) fields ≡ true
@@ -94,26 +97,26 @@ fields-last query row allowed last =
     let place : length (codes "row" ∷ map value_text row.groups) ≡ 1 + length kinds = omega (arith, count) in
     let sum : field fields (1 + length kinds) ≡ sum_text row.sum
     = ap (field fields) (sym place) ∙ field_there (codes "row" ∷ map value_text row.groups) (sum_text row.sum) []
-    (sum-text-kept query row.sum allowed.sum) in
+    (sum-text-kept kinds row.sum allowed.sum) in
     let groups : constants_from 1 kinds fields ≡ Some row.groups =
     values_read (codes "row" ∷ []) kinds row.groups (sum_text row.sum ∷ []) allowed.groups in
-    rw (many, last, sum, sum-text-read query row.sum allowed.sum, groups) refl
+    rw (many, last, sum, sum-text-read kinds row.sum allowed.sum, groups) refl
 
-row-read : (query : Query) (row : ResultRow) → IsAllowedRow query row
-    → row_of query (codes "row" ∷ columns_of query row) ≡ Some row
-row-read query row allowed = elim (cases_Bool (sum_first query)) [
+row-read : (question : Query × List Value) (row : ResultRow) → IsAllowedRow question row
+    → row_of question (codes "row" ∷ columns_of question.0 row) ≡ Some row
+row-read question row allowed = elim (cases_Bool (sum_first question.0)) [
   | inl first ↦
-      let columns : columns_of query row ≡ sum_text row.sum ∷ map value_text row.groups = rw first refl in
-      ap (λ found. row_of query (codes "row" ∷ found)) columns ∙ fields-first query row allowed first
+      let columns : columns_of question.0 row ≡ sum_text row.sum ∷ map value_text row.groups = rw first refl in
+      ap (λ found. row_of question (codes "row" ∷ found)) columns ∙ fields-first question row allowed first
   | inr last ↦
-      let columns : columns_of query row ≡ map value_text row.groups ++ sum_text row.sum ∷ [] = rw last refl in
-      ap (λ found. row_of query (codes "row" ∷ found)) columns ∙ fields-last query row allowed last
+      let columns : columns_of question.0 row ≡ map value_text row.groups ++ sum_text row.sum ∷ [] = rw last refl in
+      ap (λ found. row_of question (codes "row" ∷ found)) columns ∙ fields-last question row allowed last
 ]
 
-says-row : (query : Query) (row : ResultRow) → IsAllowedRow query row
-    → Says (codes "row" ∷ columns_of query row) (Row query row)
+says-row : (question : Query × List Value) (row : ResultRow) → IsAllowedRow question row
+    → Says (codes "row" ∷ columns_of question.0 row) (Row question row)
 unfolding word_of without_spaces
-says-row query row allowed = row-read query row allowed
+says-row question row allowed = row-read question row allowed
 
 -- the columns are plain
 both-plain : (one other : List (List ℕ)) → AllByRecursion IsPlainField one → AllByRecursion IsPlainField other
@@ -121,13 +124,13 @@ both-plain : (one other : List (List ℕ)) → AllByRecursion IsPlainField one �
 both-plain [] other a b = b
 both-plain (x ∷ one) other a b = (a.0, both-plain one other a.1 b)
 
-columns-plain : (query : Query) (row : ResultRow) → IsAllowedRow query row
-    → AllByRecursion IsPlainField (columns_of query row)
-columns-plain query row allowed =
+columns-plain : (question : Query × List Value) (row : ResultRow) → IsAllowedRow question row
+    → AllByRecursion IsPlainField (columns_of question.0 row)
+columns-plain question row allowed =
     let groups : AllByRecursion IsPlainField (map value_text row.groups) =
-    values_plain (group_kinds query) row.groups allowed.groups in
-    let sum : IsPlainField (sum_text row.sum) = (sum-text-kept query row.sum allowed.sum).plain in
-    elim (cases_Bool (sum_first query)) [
+    values_plain (group_kinds question) row.groups allowed.groups in
+    let sum : IsPlainField (sum_text row.sum) = (sum-text-kept (group_kinds question) row.sum allowed.sum).plain in
+    elim (cases_Bool (sum_first question.0)) [
       | inl first ↦ rw first (sum, groups)
       | inr last ↦ rw last (both-plain (map value_text row.groups) (sum_text row.sum ∷ []) groups (sum, tt))
     ]
@@ -154,23 +157,24 @@ row-written : (query : Query) (row : ResultRow) → record_text (codes "row") (c
     row
 row-written query row = ap (λ rest. codes "row" ++ rest) (sym (columns-joined query row))
 
-written-row : (query : Query) (row : ResultRow) → IsAllowedRow query row
-    → Written (told_row_text query row) (Row query row ∷ [])
-written-row query row allowed =
-    written_as (record_text (codes "row") (columns_of query row)) (told_row_text query row) (Row query row ∷ [])
-    (Row query row ∷ []) (row-written query row) refl
-    (written_one (codes "row" ∷ columns_of query row) (Row query row) (refl, refl, columns-plain query row allowed)
-    (says-row query row allowed))
+written-row : (question : Query × List Value) (row : ResultRow) → IsAllowedRow question row
+    → Written (told_row_text question.0 row) (Row question row ∷ [])
+written-row question row allowed =
+    let query = question.0 in
+    written_as (record_text (codes "row") (columns_of query row)) (told_row_text query row) (Row question row ∷ [])
+    (Row question row ∷ []) (row-written query row) refl
+    (written_one (codes "row" ∷ columns_of query row) (Row question row) (refl, refl, columns-plain question row allowed)
+    (says-row question row allowed))
 
-each-row : (query : Query) (rows : List ResultRow) → AllByRecursion (IsAllowedRow query) rows
-    → AllByRecursion (λ row. Written (told_row_text query row) (Row query row ∷ [])) rows
-each-row query [] all = tt
-each-row query (row ∷ rows) all = (written-row query row all.0, each-row query rows all.1)
+each-row : (question : Query × List Value) (rows : List ResultRow) → AllByRecursion (IsAllowedRow question) rows
+    → AllByRecursion (λ row. Written (told_row_text question.0 row) (Row question row ∷ [])) rows
+each-row question [] all = tt
+each-row question (row ∷ rows) all = (written-row question row all.0, each-row question rows all.1)
 
 pub written_told : (told : Told) → IsAllowedTold told → Written (told_text told) (lines_of_told told)
 written_told told allowed =
-    let query = told.question.0 in
-    written_both (head_text told) (flat_map (told_row_text query) told.rows) (Answer (head_of_told told) ∷ [])
-    (map (Row query) told.rows)
+    let question = told.question in
+    written_both (head_text told) (flat_map (told_row_text question.0) told.rows) (Answer (head_of_told told) ∷ [])
+    (map (Row question) told.rows)
     (written_head told allowed.head)
-    (written_map (told_row_text query) (Row query) told.rows (each-row query told.rows allowed.rows))
+    (written_map (told_row_text question.0) (Row question) told.rows (each-row question told.rows allowed.rows))

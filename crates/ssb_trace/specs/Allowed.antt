@@ -73,15 +73,15 @@ IsGroup constant.Number (value.Number number) = number < 2 ^ 32
 IsGroup (constant.Text column) (value.Number number) = ⊥
 IsGroup constant.Number (value.Text text) = ⊥
 
--- a sum has 64 bits with its sign; there may be none where a query has no group columns
-abbrev pub IsAllowedSum : Query → Option ℤ → Type 0
-IsAllowedSum query None = has_no_groups (group_kinds query) ≡ true
-IsAllowedSum query (Some sum) = FitsSigned w64 sum
+-- a sum has 64 bits with its sign; there may be none where a question has no group columns
+abbrev pub IsAllowedSum : List ConstantKind → Option ℤ → Type 0
+IsAllowedSum kinds None = has_no_groups kinds ≡ true
+IsAllowedSum kinds (Some sum) = FitsSigned w64 sum
 
--- a row that an answer to the query may have
-pub record IsAllowedRow (query : Query) (row : ResultRow) : Type 0 where
-  pub groups : AllZip IsGroup (group_kinds query) row.groups
-  pub sum : IsAllowedSum query row.sum
+-- a row that an answer to the question may have
+pub record IsAllowedRow (question : Query × List Value) (row : ResultRow) : Type 0 where
+  pub groups : AllZip IsGroup (group_kinds question) row.groups
+  pub sum : IsAllowedSum (group_kinds question) row.sum
 
 -- an answer to a client, whose numbers have 64 bits, but for its rows
 pub record HasAllowedHead (told : Told) : Type 0 where
@@ -92,7 +92,7 @@ pub record HasAllowedHead (told : Told) : Type 0 where
 
 pub record IsAllowedTold (told : Told) : Type 0 where
   pub head : HasAllowedHead told
-  pub rows : AllByRecursion (IsAllowedRow told.question.0) told.rows
+  pub rows : AllByRecursion (IsAllowedRow told.question) told.rows
 
 pub record IsAllowed (trace : Trace) : Type 0 where
   pub commits : AllByRecursion IsAllowedCommit trace.commits

@@ -9,6 +9,7 @@ use Rattle.ssb_script.specs.Requests.{IsWholeRequest, Refresh, lines_of_request}
 use Rattle.ssb_script.specs.Scripts.{HasRoom, IsSettled, is_outside, lines_of_begun}
 use Rattle.ssb_script.specs.Steps.{begun_in}
 use Rattle.ssb_trace.specs.Lines.{TraceLine, Begin, Inside, Answer, Row}
+use Rattle.ssb_trace.specs.Rows.{group_kinds}
 use Rattle.ssb_trace.specs.declared.entry.TraceEntry.{TraceEntry}
 use Rattle.ssb_trace.specs.declared.entry.TraceEntry.TheVariants as entry
 use Rattle.ssb_trace.specs.declared.heads.AnswerHead.{AnswerHead}
@@ -44,7 +45,7 @@ abbrev pub head_of_told : Told → AnswerHead
 head_of_told told = record { client = told.client; at = told.at; question = told.question; count = length told.rows }
 
 abbrev pub lines_of_told : Told → List TraceLine
-lines_of_told told = Answer (head_of_told told) ∷ map (Row told.question.0) told.rows
+lines_of_told told = Answer (head_of_told told) ∷ map (Row told.question) told.rows
 
 abbrev pub lines_of_entry : TraceEntry → List TraceLine
 lines_of_entry (entry.Commit commit) = lines_of_commit commit
@@ -62,12 +63,14 @@ IsWholeEntry (entry.Answer told) = Unit {0}
 abbrev pub lines_of_unfinished : Unfinished → List TraceLine
 lines_of_unfinished unfinished.Nothing = []
 lines_of_unfinished (unfinished.Commit commit) = map (in_commit commit.client) (lines_of_begun (begun_in commit.begun))
-lines_of_unfinished (unfinished.Answer answer) = Answer answer.head ∷ map (Row answer.head.question.0) answer.rows
+lines_of_unfinished (unfinished.Answer answer) = Answer answer.head ∷ map (Row answer.head.question) answer.rows
 
--- what is begun is not ended, after so many records: a refresh has room for what was read of it, an answer lacks rows
+-- what is begun is not ended, after so many records: a refresh has room for what was read of it; an answer lacks rows,
+-- and is kept with what the group columns of its question hold
 abbrev pub IsUnfinished : ℕ → Unfinished → Type 0
 IsUnfinished count unfinished.Nothing = Unit {0}
 IsUnfinished count (unfinished.Commit commit) =
     (is_outside (begun_in commit.begun) ≡ false) × HasRoom count (begun_in commit.begun)
     × IsSettled (begun_in commit.begun)
-IsUnfinished count (unfinished.Answer answer) = length answer.rows < answer.head.count
+IsUnfinished count (unfinished.Answer answer) =
+    (length answer.rows < answer.head.count) × (answer.kinds ≡ group_kinds answer.head.question)

@@ -22,6 +22,7 @@ use Rattle.std.specs.Prelude.{
 }
 use Rattle.std.specs.Cmp.Lexicographic.{pointwise}
 use Rattle.ssb_questions.specs.declared.query.Query.{Query}
+use Rattle.ssb_questions.specs.declared.value.Value.{Value}
 use Rattle.ssb_answers.specs.declared.answer.ResultRow.{ResultRow}
 use Rattle.ssb_text.specs.Row as row
 use Rattle.ssb_text.specs.Spelling.{field}
@@ -53,8 +54,8 @@ pub data TraceLine : Type 0 where
   Inside : ScriptLine → TraceLine
   -- it begins an answer
   Answer : AnswerHead → TraceLine
-  -- it is a row of an answer to this query
-  Row : Query → ResultRow → TraceLine
+  -- it is a row of an answer to this question
+  Row : Query × List Value → ResultRow → TraceLine
 
 -- the words that a record may begin with
 abbrev pub spelling_of : TraceWord → List ℕ
@@ -98,9 +99,9 @@ entry_begun (Some word.Commit) fields = option_map Begin (commit_of fields)
 entry_begun (Some word.Answer) fields = option_map Answer (head_of fields)
 entry_begun _ _ = None
 
--- the row of an answer to the query that a record of this word spells
-abbrev pub row_after : Query → Option TraceWord → List (List ℕ) → Option ResultRow
-row_after query (Some word.Row) fields = row_of query fields
+-- the row of an answer to the question that a record of this word spells
+abbrev pub row_after : Query × List Value → Option TraceWord → List (List ℕ) → Option ResultRow
+row_after question (Some word.Row) fields = row_of question fields
 row_after _ _ _ = None
 
 -- a record of this word spells this
@@ -108,7 +109,7 @@ abbrev pub SaysAfter : Option TraceWord → List (List ℕ) → TraceLine → Ty
 SaysAfter word fields (Begin client) = entry_begun word fields ≡ Some (Begin client)
 SaysAfter word fields (Inside line) = line_inside word fields ≡ Ok line
 SaysAfter word fields (Answer head) = entry_begun word fields ≡ Some (Answer head)
-SaysAfter word fields (Row query row) = row_after query word fields ≡ Some row
+SaysAfter word fields (Row question row) = row_after question word fields ≡ Some row
 
 -- a record spells this
 abbrev pub Says : List (List ℕ) → TraceLine → Type 0

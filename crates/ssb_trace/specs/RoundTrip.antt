@@ -32,7 +32,7 @@ abbrev pub AnswersHaveAllowedRows : Type 0
 AnswersHaveAllowedRows =
     (question : Query × List Value) (dimensions : Dimensions) (facts : List Fact) (row : ResultRow)
     → AreTakenDimensions dimensions → Has (answer_of question dimensions facts) row
-    → IfSome row.sum (FitsSigned w64) → IsAllowedRow question.0 row
+    → IfSome row.sum (FitsSigned w64) → IsAllowedRow question row
 
 -- a legal trace over such dimensions is allowed, where its commits, the heads of its answers and their sums are
 abbrev pub LegalTracesAreAllowed : Type 0

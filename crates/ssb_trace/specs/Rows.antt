@@ -27,29 +27,21 @@ use Rattle.std.specs.Prelude.{
 }
 use Rattle.std.specs.Option.{option_and_then}
 use Rattle.std.specs.Cmp.Lexicographic.{pointwise}
-use Rattle.ssb_schema.specs.Columns.{column_kind}
-use Rattle.ssb_schema.specs.declared.column.Column.{Column}
-use Rattle.ssb_schema.specs.declared.kind.Kind.{Kind}
-use Rattle.ssb_schema.specs.declared.kind.Kind.TheVariants as kind
 use Rattle.ssb_text.specs.Records.{has_columns}
 use Rattle.ssb_schema.specs.Numerals.{number_of}
 use Rattle.ssb_text.specs.Spelling.{field}
-use Rattle.ssb_questions.specs.Queries.{plan_of}
+use Rattle.ssb_questions.specs.Clause.{kind_in}
+use Rattle.ssb_questions.specs.Queries.{plan_over}
 use Rattle.ssb_questions.specs.Query.{sum_first}
 use Rattle.ssb_questions.specs.declared.kind.ConstantKind.{ConstantKind}
-use Rattle.ssb_questions.specs.declared.kind.ConstantKind.TheVariants.{Text, Number}
 use Rattle.ssb_questions.specs.declared.query.Query.{Query}
+use Rattle.ssb_questions.specs.declared.value.Value.{Value}
 use Rattle.ssb_answers.specs.declared.answer.ResultRow.{ResultRow}
 use Rattle.ssb_script.specs.Lines.{constants_from}
 
--- what a group column holds: a number of 32 bits, or a text
-abbrev pub kind_in : Column → Option Kind → ConstantKind
-kind_in column (Some kind.Text) = Text column
-kind_in column _ = Number
-
--- what each group column of a query holds, in printed order
-abbrev pub group_kinds : Query → List ConstantKind
-group_kinds query = map (λ column. kind_in column (column_kind column)) (plan_of query).groups
+-- what each group column of a question holds, in printed order: a number of 32 bits, or a text
+abbrev pub group_kinds : Query × List Value → List ConstantKind
+group_kinds question = map kind_in (plan_over question.0 question.1).groups
 
 -- the number that 1 to 19 digits spell
 abbrev pub amount_of : List ℕ → Option ℕ
@@ -68,7 +60,7 @@ signed_of [] = None
 signed_of (b ∷ bytes) = if b == 45 then option_and_then negative (amount_of bytes) else option_and_then positive
     (amount_of (b ∷ bytes))
 
--- a query without group columns has one row, whose sum may be NULL
+-- a question without group columns has one row, whose sum may be NULL
 abbrev pub has_no_groups : List ConstantKind → Bool
 has_no_groups [] = true
 has_no_groups (kind ∷ kinds) = false
@@ -77,20 +69,24 @@ abbrev pub null_of : Bool → Option (Option ℤ)
 null_of true = Some None
 null_of false = None
 
--- the sum that bytes spell in a row of the query
-abbrev pub sum_of : Query → List ℕ → Option (Option ℤ)
-sum_of query bytes = if pointwise nat_eq bytes (codes "NULL") then null_of (has_no_groups (group_kinds query)) else
+-- the sum that bytes spell in a row of such group columns
+abbrev pub sum_of : List ConstantKind → List ℕ → Option (Option ℤ)
+sum_of kinds bytes = if pointwise nat_eq bytes (codes "NULL") then null_of (has_no_groups kinds) else
     option_map Some (signed_of bytes)
 
 -- the row whose sum stands at one place, and whose group columns from another on
-abbrev pub row_at : Query → ℕ → ℕ → List (List ℕ) → Option ResultRow
-row_at query sum_place groups_place fields =
+abbrev pub row_at : List ConstantKind → ℕ → ℕ → List (List ℕ) → Option ResultRow
+row_at kinds sum_place groups_place fields =
     option_and_then (λ sum. option_map (λ groups. record { groups = groups; sum = sum })
-    (constants_from groups_place (group_kinds query) fields)) (sum_of query (field fields sum_place))
+    (constants_from groups_place kinds fields)) (sum_of kinds (field fields sum_place))
 
--- the row of the query that a record spells behind its word: its printed columns
-abbrev pub row_of : Query → List (List ℕ) → Option ResultRow
-row_of query fields =
-    if has_columns (2 + length (group_kinds query)) fields
-    then (if sum_first query then row_at query 1 2 fields else row_at query (1 + length (group_kinds query)) 1 fields)
+-- the row of printed columns that a record spells behind its word, for a query and what its group columns hold
+abbrev pub row_with : Query → List ConstantKind → List (List ℕ) → Option ResultRow
+row_with query kinds fields =
+    if has_columns (2 + length kinds) fields
+    then (if sum_first query then row_at kinds 1 2 fields else row_at kinds (1 + length kinds) 1 fields)
     else None
+
+-- the row of the question
+abbrev pub row_of : Query × List Value → List (List ℕ) → Option ResultRow
+row_of question fields = row_with question.0 (group_kinds question) fields

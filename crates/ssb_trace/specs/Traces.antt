@@ -71,7 +71,7 @@ checks_after number unfinished.Nothing word fields = bad_unless number (entry_be
 checks_after number (unfinished.Commit commit) word fields =
     order_refused (begun_in commit.begun) word ∷ checks_in number (begun_in commit.begun) (line_inside word fields)
 checks_after number (unfinished.Answer answer) word fields =
-    bad_unless number (row_after answer.head.question.0 word fields) ∷ []
+    bad_unless number (row_after answer.head.question word fields) ∷ []
 
 -- first of all, a record is not past the bound
 abbrev pub fault_of : ℕ → ℕ → Unfinished → List (List ℕ) → Option ScriptError

@@ -8,6 +8,7 @@ ghost use Rattle.ssb_script.specs.Steps.{Follows as FollowsInScript, IsFoundBy, 
 ghost use Rattle.ssb_trace.specs.Entries.{IsUnfinished, lines_of_unfinished};
 ghost use Rattle.ssb_trace.specs.Lines as spec;
 ghost use Rattle.ssb_trace.specs.Lines.{line_inside, row_after};
+ghost use Rattle.ssb_trace.specs.Rows.{group_kinds as kinds_of};
 ghost use Rattle.ssb_trace.specs.Steps.{CommitStep, Follows, Takes, TakesRecord};
 ghost use Rattle.ssb_trace.specs.Traces.{checks_after, order_refused};
 ghost use Rattle.ssb_trace.specs.declared.unfinished.Unfinished.TheVariants as unfinished;
@@ -17,13 +18,13 @@ ghost use Rattle.ssb_script.specs.declared.error.ScriptError.TheVariants.{OutOfM
 use crate::control::control_of;
 use crate::entry::TraceEntry;
 use crate::heads::{AnswerHead, client_of_commit, head_of};
-use crate::rows::row_of;
+use crate::rows::{group_kinds, row_of};
 use crate::word::{TraceWord, is_line};
 use csv::ByteRecord;
 use row_store::Commit;
 use ssb_answers::ResultRow;
 use ssb_audit::Told;
-use ssb_questions::Query;
+use ssb_questions::{ConstantKind, Question};
 use ssb_schema::Items;
 use ssb_script::{Begun, OrderLine, ScriptError};
 use std::alloc::{AllocError, Global};
@@ -42,6 +43,8 @@ pub(crate) struct UnfinishedCommit {
 pub(crate) struct UnfinishedAnswer {
     /// What its first record says.
     pub head: AnswerHead,
+    /// What the group columns of its question hold.
+    pub kinds: Items<ConstantKind>,
     /// Its rows so far.
     pub rows: Items<ResultRow>,
 }
@@ -92,8 +95,9 @@ fn begin_answer(alloc: Global, number: u64, fields: &ByteRecord) -> Result<Trace
 {
     match head_of(alloc, fields)? {
         Some(head) => {
+            let kinds = group_kinds(alloc, &head.question)?;
             let rows = Items::from_vec(Vec::new(alloc));
-            Ok(UnfinishedAnswer { head, rows }.step())
+            Ok(UnfinishedAnswer { head, kinds, rows }.step())
         }
         None => Err(ScriptError::BadLine(number)),
     }
@@ -155,17 +159,19 @@ fn step_of_commit(client: u32, step: ssb_script::Step) -> TraceStep
     }
 }
 
-// The row of the query that a record of this word spells, if it spells one.
+// The row of the question that a record of this word spells, if it spells one.
 fn row_in(
     alloc: Global,
-    query: Query,
+    question: &Question,
+    kinds: &[ConstantKind],
     word: Option<TraceWord>,
     fields: &ByteRecord,
 ) -> Result<Option<ResultRow>, AllocError>
-    ensures { IfOk result (λ row. row ≡ row_after query word (fields_of fields.now)) }
+    requires { kinds.now ≡ kinds_of question.now }
+    ensures { IfOk result (λ row. row ≡ row_after question.now word (fields_of fields.now)) }
 {
     match word {
-        Some(TraceWord::Row) => row_of(alloc, query, fields),
+        Some(TraceWord::Row) => row_of(alloc, question.query(), kinds, fields),
         _ => Ok(None),
     }
 }
@@ -194,7 +200,8 @@ impl UnfinishedCommit {
 impl UnfinishedAnswer {
     // The answer, once it has all its rows.
     fn step(self) -> TraceStep
-        requires { length self.rows ≤ self.head.count }
+        requires few { length self.rows ≤ self.head.count }
+        requires kinds { self.kinds ≡ kinds_of self.head.question }
         ensures { (number : ℕ) → Takes number (lines_of_unfinished (unfinished.Answer self)) result }
     {
         if self.rows.len() as u64 == self.head.count {
@@ -217,9 +224,10 @@ impl UnfinishedAnswer {
 
     // One more row.
     fn with(self, row: ResultRow) -> Result<TraceStep, ScriptError>
-        requires { length self.rows < self.head.count }
+        requires fewer { length self.rows < self.head.count }
+        requires kinds { self.kinds ≡ kinds_of self.head.question }
         ensures step { IfOk result (λ step. (number : ℕ)
-            → Follows number (unfinished.Answer self) (spec.Row self.head.question.0 row) step) }
+            → Follows number (unfinished.Answer self) (spec.Row self.head.question row) step) }
         ensures fault { IfErr result (λ e. e ≡ OutOfMemory) }
     {
         let mut rows = self.rows.into_vec();
@@ -227,6 +235,7 @@ impl UnfinishedAnswer {
         let rows = Items::from_vec(rows);
         Ok(UnfinishedAnswer {
             head: self.head,
+            kinds: self.kinds,
             rows,
         }
         .step())
@@ -240,12 +249,13 @@ impl UnfinishedAnswer {
         word: Option<TraceWord>,
         fields: &ByteRecord,
     ) -> Result<TraceStep, ScriptError>
-        requires { length self.rows < self.head.count }
+        requires fewer { length self.rows < self.head.count }
+        requires kinds { self.kinds ≡ kinds_of self.head.question }
         ensures step { IfOk result (TakesRecord number (unfinished.Answer self) word (fields_of fields.now)) }
         ensures fault { IfErr result (IsFoundBy (checks_after number (unfinished.Answer self) word
             (fields_of fields.now))) }
     {
-        match row_in(alloc, self.head.question.query(), word, fields)? {
+        match row_in(alloc, &self.head.question, self.kinds.as_slice(), word, fields)? {
             Some(row) => self.with(row),
             None => Err(ScriptError::BadLine(number)),
         }

@@ -9,6 +9,6 @@ returns-in-Some-clause-step c =
     let head = c.in-Some.head in (
       Answer head,
       ap (option_map Answer) (sym c.in_ok-head.ensures ∙ c.in-Some.is),
-      subst (λ rows. Takes c.args.number (Answer head ∷ map (Row head.question.0) rows) c.step.result)
+      subst (λ rows. Takes c.args.number (Answer head ∷ map (Row head.question) rows) c.step.result)
           (c.from_vec-rows.ensures ∙ c.new.ensures.items) (c.step.ensures c.args.number),
     )

@@ -7,9 +7,9 @@ use Rattle.ssb_trace.proofs.unfinished.UnfinishedAnswer.after.Goals as goal
 
 pub returns-in-Some-clause-step : goal.returns-in-Some-clause-step
 returns-in-Some-clause-step c =
-    let query = c.args.self.head.question.0 in
+    let question = c.args.self.head.question in
     let fields = fields_of c.args.fields.now in
-    let says : row_after query c.args.word fields ≡ Some c.in-Some.row =
-    rw c.query.ensures at (sym c.in_ok-row.ensures ∙ c.in-Some.is) in
-    takes_said c.with.result c.args.number (Answer c.args.self) c.args.word fields (Row query c.in-Some.row) says
+    let says : row_after question c.args.word fields ≡ Some c.in-Some.row =
+    sym c.in_ok-row.ensures ∙ c.in-Some.is in
+    takes_said c.with.result c.args.number (Answer c.args.self) c.args.word fields (Row question c.in-Some.row) says
     c.with.ensures.step

@@ -10,5 +10,5 @@ returns-clause-step c =
     let rows : c.from_vec-rows.result ≡ c.args.self.rows ++ c.args.row ∷ [] =
     c.from_vec-rows.ensures ∙ (c.in_ok-push.ensures.items
     ∙ ap (λ rows. rows ++ c.args.row ∷ []) c.into_vec-rows.ensures) in
-    let lines = ap (map (Row head.question.0)) rows ∙ map_push (Row head.question.0) c.args.self.rows c.args.row in
+    let lines = ap (map (Row head.question)) rows ∙ map_push (Row head.question) c.args.self.rows c.args.row in
     λ number. subst (λ lines. Takes number (Answer head ∷ lines) c.step.result) lines (c.step.ensures number)
