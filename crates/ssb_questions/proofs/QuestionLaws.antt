@@ -14,13 +14,13 @@ use Rattle.ssb_questions.specs.Text.{text_eq}
 use Rattle.ssb_questions.specs.Value.{value_cmp}
 use Rattle.ssb_questions.specs.declared.query.Query.{Query}
 use Rattle.ssb_questions.specs.declared.query.Query.TheVariants.{Q1_1, Q1_2, Q1_3, Q2_1, Q2_2, Q2_3, Q3_1, Q3_2, Q3_3, Q3_4}
-use Rattle.ssb_questions.specs.declared.query.Query.TheVariants.{Q4_1, Q4_2, Q4_3}
-use Rattle.ssb_questions.specs.declared.query.TheConstants.{QUERIES}
+use Rattle.ssb_questions.specs.declared.query.Query.TheVariants.{Q4_1, Q4_2, Q4_3, Star}
+use Rattle.ssb_questions.specs.declared.query.TheConstants.{QUERIES_AND_STAR}
 use Rattle.ssb_questions.specs.declared.value.Value.{Value}
 
 -- the query of a name
 abbrev named : List ℕ → Option Query
-named name = find (λ query. text_eq (name_of query) name) QUERIES
+named name = find (λ query. text_eq (name_of query) name) QUERIES_AND_STAR
 
 named-name : (query : Query) → named (name_of query) ≡ Some query
 named-name Q1_1 = refl
@@ -36,6 +36,7 @@ named-name Q3_4 = refl
 named-name Q4_1 = refl
 named-name Q4_2 = refl
 named-name Q4_3 = refl
+named-name Star = refl
 
 pub name_of-same : (a b : Query) → name_of a ≡ name_of b → a ≡ b
 name_of-same a b e = ap (λ (query : Option Query). unwrap_or query a) (sym (named-name a) ∙ ap named e ∙ named-name b)

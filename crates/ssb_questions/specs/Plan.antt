@@ -1,5 +1,5 @@
 -- What is true of a plan.
-use Rattle.std.specs.Prelude.{◌≡◌, ℕ, ◌<◌, Bool, true, false, List, ◌∷◌, length, Option, Some, None, option_map}
+use Rattle.std.specs.Prelude.{◌≡◌, ◌⊎◌, ℕ, ◌<◌, Bool, true, false, List, ◌∷◌, length, Option, Some, None, option_map}
 use Rattle.std.specs.Prelude.{slice_get}
 use Rattle.std.specs.List.{AllByRecursion}
 use Rattle.ssb_schema.specs.Columns.{column_kind, query_columns}
@@ -8,12 +8,15 @@ use Rattle.ssb_schema.specs.declared.kind.Kind.{Kind}
 use Rattle.ssb_schema.specs.declared.kind.Kind.TheVariants as takes
 use Rattle.ssb_schema.specs.declared.table.Table.{Table}
 use Rattle.ssb_schema.specs.declared.table.Table.TheVariants as table
+use Rattle.ssb_questions.specs.Clause.{Clause, Is, FromTo, QuantityIn, DiscountIn}
+use Rattle.ssb_questions.specs.Clauses.{clauses_of}
 use Rattle.ssb_questions.specs.Kind.{constant_kinds}
 use Rattle.ssb_questions.specs.Members.{Has}
 use Rattle.ssb_questions.specs.declared.cond.Cond.{Cond}
 use Rattle.ssb_questions.specs.declared.cond.Cond.TheVariants.{TextIs, TextFromTo, TextOneOf, NumberIs, NumberFromTo}
 use Rattle.ssb_questions.specs.declared.cond.Cond.TheVariants.{NumberOneOf}
 use Rattle.ssb_questions.specs.declared.cond.Test.{Test}
+use Rattle.ssb_questions.specs.declared.kind.ConstantKind.{ConstantKind}
 use Rattle.ssb_questions.specs.declared.kind.ConstantKind.TheVariants as kind
 use Rattle.ssb_questions.specs.declared.plan.NumberRange.{NumberRange}
 use Rattle.ssb_questions.specs.declared.plan.OrderKey.TheVariants.{Group}
@@ -60,42 +63,60 @@ pub record IsOverColumns (plan : Plan) : Type 0 where
   pub dates : AllByRecursion (IsTestOf table.Date) plan.dates
   pub groups : AllByRecursion (Has query_columns) plan.groups
 
--- the text stands among a query's constants, at a place for texts of the column
-abbrev pub IsTextConstant : Query → List Value → Column → List ℕ → Type 0
-IsTextConstant query constants column text =
-    (place : ℕ) × (slice_get (constant_kinds query) place ≡ Some (kind.Text column))
-    × (slice_get constants place ≡ Some (value.Text text))
+-- the value stands among constants of these kinds, at a place of its kind
+abbrev pub StandsAmong : List ConstantKind → List Value → ConstantKind → Value → Type 0
+StandsAmong kinds constants k v =
+    (place : ℕ) × (slice_get kinds place ≡ Some k) × (slice_get constants place ≡ Some v)
 
--- the number stands among a query's constants, at a place for numbers
-abbrev pub IsNumberConstant : Query → List Value → ℕ → Type 0
-IsNumberConstant query constants number =
-    (place : ℕ) × (slice_get (constant_kinds query) place ≡ Some kind.Number)
-    × (slice_get constants place ≡ Some (value.Number number))
+-- a text stands at a place for texts of the column, a number at a place for numbers
+abbrev pub IsConstant : List ConstantKind → List Value → Column → Value → Type 0
+IsConstant kinds constants column (value.Text text) = StandsAmong kinds constants (kind.Text column) (value.Text text)
+IsConstant kinds constants column (value.Number n) = StandsAmong kinds constants kind.Number (value.Number n)
 
--- what a condition on a column looks for stands among the constants, at places for that column
-abbrev pub AreConstants : Query → List Value → Column → Cond → Type 0
-AreConstants query constants column (TextIs text) = IsTextConstant query constants column text
-AreConstants query constants column (TextFromTo from to) =
-    IsTextConstant query constants column from × IsTextConstant query constants column to
-AreConstants query constants column (TextOneOf texts) = AllByRecursion (IsTextConstant query constants column) texts
-AreConstants query constants column (NumberIs number) = IsNumberConstant query constants number
-AreConstants query constants column (NumberFromTo from to) =
-    IsNumberConstant query constants from × IsNumberConstant query constants to
-AreConstants query constants column (NumberOneOf numbers) = AllByRecursion (IsNumberConstant query constants) numbers
+-- a clause looks for the value in the column
+abbrev pub LooksFor : Column → Value → Clause → Type 0
+LooksFor column wanted (Is own v) = (own ≡ column) × (v ≡ wanted)
+LooksFor column wanted (FromTo own from to) = (own ≡ column) × ((from ≡ wanted) ⊎ (to ≡ wanted))
+LooksFor column wanted _ = ⊥
 
-abbrev pub IsTestOfConstants : Query → List Value → Test → Type 0
-IsTestOfConstants query constants test = AreConstants query constants test.column test.cond
+-- one of the clauses that constants spell looks for the value in the column
+abbrev pub IsSpelled : List Value → Column → Value → Type 0
+IsSpelled constants column wanted =
+    (clause : Clause) × Has (clauses_of constants) clause × LooksFor column wanted clause
 
-abbrev pub IsRangeOfConstants : Query → List Value → Option NumberRange → Type 0
-IsRangeOfConstants query constants None = Unit {0}
-IsRangeOfConstants query constants (Some range) =
-    IsNumberConstant query constants range.from × IsNumberConstant query constants range.to
+-- the value that is looked for in a column stands among constants of these kinds; without kinds, one of the constants
+-- spells it
+abbrev pub IsGiven : Option (List ConstantKind) → List Value → Column → Value → Type 0
+IsGiven (Some kinds) constants column v = IsConstant kinds constants column v
+IsGiven None constants column v = IsSpelled constants column v
 
--- the plan looks for the question's constants alone, each where its place says
+-- each value that a condition looks for is so
+abbrev pub AreValues : (Value → Type 0) → Cond → Type 0
+AreValues IsSo (TextIs text) = IsSo (value.Text text)
+AreValues IsSo (TextFromTo from to) = IsSo (value.Text from) × IsSo (value.Text to)
+AreValues IsSo (TextOneOf texts) = AllByRecursion (λ text. IsSo (value.Text text)) texts
+AreValues IsSo (NumberIs number) = IsSo (value.Number number)
+AreValues IsSo (NumberFromTo from to) = IsSo (value.Number from) × IsSo (value.Number to)
+AreValues IsSo (NumberOneOf numbers) = AllByRecursion (λ number. IsSo (value.Number number)) numbers
+
+-- what a test looks for is given for its column
+abbrev pub IsTestOfConstants : Option (List ConstantKind) → List Value → Test → Type 0
+IsTestOfConstants kinds constants test = AreValues (IsGiven kinds constants test.column) test.cond
+
+-- both numbers of a range stand among constants of these kinds; without kinds, one of the constants says the range
+abbrev pub IsRangeOfConstants : Option (List ConstantKind) → (NumberRange → Clause) → List Value → Option NumberRange
+    → Type 0
+IsRangeOfConstants kinds says constants None = Unit {0}
+IsRangeOfConstants (Some kinds) says constants (Some range) =
+    StandsAmong kinds constants kind.Number (value.Number range.from)
+    × StandsAmong kinds constants kind.Number (value.Number range.to)
+IsRangeOfConstants None says constants (Some range) = Has (clauses_of constants) (says range)
+
+-- the plan looks for the question's constants alone, each where its place says, or for what clauses of `star` spell
 pub record LooksForConstants (query : Query) (constants : List Value) (plan : Plan) : Type 0 where
-  pub customers : AllByRecursion (IsTestOfConstants query constants) plan.customers
-  pub suppliers : AllByRecursion (IsTestOfConstants query constants) plan.suppliers
-  pub parts : AllByRecursion (IsTestOfConstants query constants) plan.parts
-  pub dates : AllByRecursion (IsTestOfConstants query constants) plan.dates
-  pub quantity : IsRangeOfConstants query constants plan.quantity
-  pub discount : IsRangeOfConstants query constants plan.discount
+  pub customers : AllByRecursion (IsTestOfConstants (constant_kinds query) constants) plan.customers
+  pub suppliers : AllByRecursion (IsTestOfConstants (constant_kinds query) constants) plan.suppliers
+  pub parts : AllByRecursion (IsTestOfConstants (constant_kinds query) constants) plan.parts
+  pub dates : AllByRecursion (IsTestOfConstants (constant_kinds query) constants) plan.dates
+  pub quantity : IsRangeOfConstants (constant_kinds query) QuantityIn constants plan.quantity
+  pub discount : IsRangeOfConstants (constant_kinds query) DiscountIn constants plan.discount

@@ -1,8 +1,9 @@
--- The thirteen queries as data: their constants, and their plans over constants.
+-- The thirteen queries as data: their constants, and their plans over constants; and `star`.
 use Rattle.std.specs.Prelude.{ℕ, ◌+◌, List, [], ◌∷◌, Option, None, Some, codes, slice_get}
 use Rattle.ssb_schema.specs.declared.column.Column.{Column}
 use Rattle.ssb_schema.specs.Columns.{C_CITY, C_NATION, C_REGION, S_CITY, S_NATION, S_REGION}
 use Rattle.ssb_schema.specs.Columns.{P_MFGR, P_CATEGORY, P_BRAND1, D_YEAR, D_YEARMONTHNUM, D_YEARMONTH, D_WEEKNUMINYEAR}
+use Rattle.ssb_questions.specs.Star.{star_plan_over}
 use Rattle.ssb_questions.specs.declared.value.Value.{Value}
 use Rattle.ssb_questions.specs.declared.value.Value.TheVariants.{Text, Number}
 use Rattle.ssb_questions.specs.declared.cond.Cond.TheVariants.{TextIs, TextFromTo, TextOneOf, NumberIs, NumberFromTo}
@@ -16,9 +17,9 @@ use Rattle.ssb_questions.specs.declared.plan.OrderKey.TheVariants.{Group, SumDes
 use Rattle.ssb_questions.specs.declared.plan.Plan.{Plan}
 use Rattle.ssb_questions.specs.declared.query.Query.{Query}
 use Rattle.ssb_questions.specs.declared.query.Query.TheVariants.{Q1_1, Q1_2, Q1_3, Q2_1, Q2_2, Q2_3, Q3_1, Q3_2, Q3_3, Q3_4}
-use Rattle.ssb_questions.specs.declared.query.Query.TheVariants.{Q4_1, Q4_2, Q4_3}
+use Rattle.ssb_questions.specs.declared.query.Query.TheVariants.{Q4_1, Q4_2, Q4_3, Star}
 
--- the constants of each query where a question gives none, in the order in which it gives its own
+-- the constants of each query where a question gives none, in the order in which it gives its own; `star` has none
 abbrev pub standard_constants : Query → List Value
 standard_constants Q1_1 = Number 1993 ∷ Number 1 ∷ Number 3 ∷ Number 0 ∷ Number 24 ∷ []
 standard_constants Q1_2 = Number 199401 ∷ Number 4 ∷ Number 6 ∷ Number 26 ∷ Number 35 ∷ []
@@ -38,6 +39,7 @@ standard_constants Q4_2 = Text (codes "AMERICA") ∷ Text (codes "AMERICA") ∷ 
     ∷ Text (codes "MFGR#2") ∷ Number 1997 ∷ Number 1998 ∷ []
 standard_constants Q4_3 = Text (codes "AMERICA") ∷ Text (codes "UNITED STATES") ∷ Number 1997 ∷ Number 1998
     ∷ Text (codes "MFGR#14") ∷ []
+standard_constants Star = []
 
 -- the constant at a place, counted from 0; the number 0, or the empty text, where there is none of its kind
 abbrev pub number_of : Option Value → ℕ
@@ -185,6 +187,7 @@ plan_over Q4_3 constants = record (over_all_lines Profit (D_YEAR ∷ S_CITY ∷ 
   dates = number_one_of_two D_YEAR constants 2 ∷ [];
   parts = text_is P_CATEGORY constants 4 ∷ [];
 }
+plan_over Star constants = star_plan_over constants
 
 -- the plan of a query over the constants that it has where none are given
 abbrev pub plan_of : Query → Plan

@@ -2,7 +2,7 @@
 use Rattle.std.specs.Prelude.{ℕ, Bool, true, false, List, codes}
 use Rattle.ssb_questions.specs.declared.query.Query.{Query}
 use Rattle.ssb_questions.specs.declared.query.Query.TheVariants.{Q1_1, Q1_2, Q1_3, Q2_1, Q2_2, Q2_3, Q3_1, Q3_2, Q3_3, Q3_4}
-use Rattle.ssb_questions.specs.declared.query.Query.TheVariants.{Q4_1, Q4_2, Q4_3}
+use Rattle.ssb_questions.specs.declared.query.Query.TheVariants.{Q4_1, Q4_2, Q4_3, Star}
 
 abbrev pub name_of : Query → List ℕ
 name_of Q1_1 = codes "Q1.1"
@@ -18,6 +18,7 @@ name_of Q3_4 = codes "Q3.4"
 name_of Q4_1 = codes "Q4.1"
 name_of Q4_2 = codes "Q4.2"
 name_of Q4_3 = codes "Q4.3"
+name_of Star = codes "star"
 
 -- whether a report prints the sum before the group columns, as the first two flights have it
 abbrev pub sum_first : Query → Bool
@@ -34,3 +35,4 @@ sum_first Q3_4 = false
 sum_first Q4_1 = false
 sum_first Q4_2 = false
 sum_first Q4_3 = false
+sum_first Star = false

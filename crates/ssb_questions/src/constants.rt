@@ -61,7 +61,7 @@ impl Constant {
     }
 }
 
-// The constants that each query has where none are given.
+// The constants that each of the thirteen has where none are given.
 const Q1_1: &[Constant] = &[Number(1993), Number(1), Number(3), Number(0), Number(24)];
 
 const Q1_2: &[Constant] = &[Number(199401), Number(4), Number(6), Number(26), Number(35)];
@@ -149,10 +149,11 @@ fn standard(query: Query) -> &'static [Constant]
         Query::Q4_1 => Q4_1,
         Query::Q4_2 => Q4_2,
         Query::Q4_3 => Q4_3,
+        Query::Star => &[],
     }
 }
 
-/// The constants that a query has where none are given.
+/// The constants that a query has where none are given; `star` has none.
 pub fn standard_constants(alloc: Global, query: Query) -> Result<Items<Value>, AllocError>
     ensures { IfOk result (λ constants. constants ≡ standard_constants query) }
 {

@@ -1,10 +1,11 @@
-//! The plan of each query over its constants, one function for each.
+//! The plan of each query over its constants, one function for each of the thirteen.
 ghost use Rattle.std.specs.Prelude.{◌≡◌, ◌∷◌, [], IfOk};
 ghost use Rattle.ssb_questions.specs.Queries.{plan_over, over_all_lines, by_two_columns, by_three_columns, by_year_and_sum};
 
 use crate::build::*;
 use crate::plan::{Measure, Plan};
 use crate::query::Query;
+use crate::star::star_plan;
 use crate::value::Value;
 use ssb_schema::{
     C_CITY, C_NATION, C_REGION, Column, D_WEEKNUMINYEAR, D_YEAR, D_YEARMONTH, D_YEARMONTHNUM,
@@ -214,5 +215,6 @@ pub fn plan_over(alloc: Global, query: Query, constants: &[Value]) -> Result<Pla
         Query::Q4_1 => q4_1(alloc, constants),
         Query::Q4_2 => q4_2(alloc, constants),
         Query::Q4_3 => q4_3(alloc, constants),
+        Query::Star => star_plan(alloc, constants),
     }
 }

@@ -1,5 +1,5 @@
-//! The thirteen queries, and their names.
-ghost use Rattle.std.specs.Prelude.{◌≡◌, ◌≢◌, IfOk, IfErr, Some};
+//! The thirteen queries and `star`, and their names.
+ghost use Rattle.std.specs.Prelude.{◌≡◌, ◌≢◌, IfOk, IfErr, Some, option_map};
 ghost use Rattle.ssb_questions.specs.declared.query.Query.{Query as Named};
 ghost use Rattle.ssb_questions.specs.Kind.{constant_kinds};
 ghost use Rattle.ssb_questions.specs.Query.{name_of, sum_first};
@@ -13,7 +13,7 @@ use ssb_schema::{
 use std::fmt;
 use thiserror::Error;
 
-/// A query of the benchmark, without its constants.
+/// A query, without its constants: one of the benchmark's thirteen, or `star`.
 #[derive(Clone, Copy, Debug, PartialEq, Eq)]
 pub enum Query {
     /// What discounts took away in a year.
@@ -42,6 +42,8 @@ pub enum Query {
     Q4_2,
     /// Profit by year, suppliers' city and brand, of a category in two years.
     Q4_3,
+    /// What its constants spell.
+    Star,
 }
 
 /// No query has the name.
@@ -49,7 +51,7 @@ pub enum Query {
 #[error("30 NoSuchQuery")]
 pub struct NoSuchQuery;
 
-/// The queries in the order of their names.
+/// The benchmark's queries in the order of their names.
 pub const QUERIES: [Query; 13] = [
     Query::Q1_1,
     Query::Q1_2,
@@ -66,8 +68,26 @@ pub const QUERIES: [Query; 13] = [
     Query::Q4_3,
 ];
 
+/// The queries that have a name: the benchmark's, and `star`.
+pub const QUERIES_AND_STAR: [Query; 14] = [
+    Query::Q1_1,
+    Query::Q1_2,
+    Query::Q1_3,
+    Query::Q2_1,
+    Query::Q2_2,
+    Query::Q2_3,
+    Query::Q3_1,
+    Query::Q3_2,
+    Query::Q3_3,
+    Query::Q3_4,
+    Query::Q4_1,
+    Query::Q4_2,
+    Query::Q4_3,
+    Query::Star,
+];
+
 impl Query {
-    /// The name as scripts and reports have it, `Q1.1` to `Q4.3`.
+    /// The name as scripts and reports have it: `Q1.1` to `Q4.3`, or `star`.
     pub fn name(self) -> &'static str
         ensures { result.now ≡ name_of self }
     {
@@ -85,6 +105,7 @@ impl Query {
             Query::Q4_1 => "Q4.1",
             Query::Q4_2 => "Q4.2",
             Query::Q4_3 => "Q4.3",
+            Query::Star => "star",
         }
     }
 
@@ -93,7 +114,7 @@ impl Query {
         ensures named { IfOk result (λ query. name_of query ≡ name.now) }
         ensures none { IfErr result (λ _. (query : Named) → name_of query ≢ name.now) }
     {
-        for query in &QUERIES {
+        for query in &QUERIES_AND_STAR {
             if query.name() == name {
                 return Ok(*query);
             }
@@ -101,49 +122,51 @@ impl Query {
         Err(NoSuchQuery)
     }
 
-    /// The kinds of the query's constants, in the order in which a question gives them.
-    pub fn constant_kinds(self) -> &'static [ConstantKind]
-        ensures { result.now ≡ constant_kinds self }
+    /// The kinds of the query's constants, in the order in which a question gives them; none of `star`, whose
+    /// constants are clauses: texts, as many as are given.
+    pub fn constant_kinds(self) -> Option<&'static [ConstantKind]>
+        ensures { option_map (λ kinds. kinds.now) result ≡ constant_kinds self }
     {
         match self {
-            Query::Q1_1 | Query::Q1_2 => &[Number, Number, Number, Number, Number],
-            Query::Q1_3 => &[Number, Number, Number, Number, Number, Number],
-            Query::Q2_1 => &[Text(P_CATEGORY), Text(S_REGION)],
-            Query::Q2_2 => &[Text(P_BRAND1), Text(P_BRAND1), Text(S_REGION)],
-            Query::Q2_3 => &[Text(P_BRAND1), Text(S_REGION)],
-            Query::Q3_1 => &[Text(C_REGION), Text(S_REGION), Number, Number],
-            Query::Q3_2 => &[Text(C_NATION), Text(S_NATION), Number, Number],
-            Query::Q3_3 => &[
+            Query::Q1_1 | Query::Q1_2 => Some(&[Number, Number, Number, Number, Number]),
+            Query::Q1_3 => Some(&[Number, Number, Number, Number, Number, Number]),
+            Query::Q2_1 => Some(&[Text(P_CATEGORY), Text(S_REGION)]),
+            Query::Q2_2 => Some(&[Text(P_BRAND1), Text(P_BRAND1), Text(S_REGION)]),
+            Query::Q2_3 => Some(&[Text(P_BRAND1), Text(S_REGION)]),
+            Query::Q3_1 => Some(&[Text(C_REGION), Text(S_REGION), Number, Number]),
+            Query::Q3_2 => Some(&[Text(C_NATION), Text(S_NATION), Number, Number]),
+            Query::Q3_3 => Some(&[
                 Text(C_CITY),
                 Text(C_CITY),
                 Text(S_CITY),
                 Text(S_CITY),
                 Number,
                 Number,
-            ],
-            Query::Q3_4 => &[
+            ]),
+            Query::Q3_4 => Some(&[
                 Text(C_CITY),
                 Text(C_CITY),
                 Text(S_CITY),
                 Text(S_CITY),
                 Text(D_YEARMONTH),
-            ],
-            Query::Q4_1 => &[Text(C_REGION), Text(S_REGION), Text(P_MFGR), Text(P_MFGR)],
-            Query::Q4_2 => &[
+            ]),
+            Query::Q4_1 => Some(&[Text(C_REGION), Text(S_REGION), Text(P_MFGR), Text(P_MFGR)]),
+            Query::Q4_2 => Some(&[
                 Text(C_REGION),
                 Text(S_REGION),
                 Text(P_MFGR),
                 Text(P_MFGR),
                 Number,
                 Number,
-            ],
-            Query::Q4_3 => &[
+            ]),
+            Query::Q4_3 => Some(&[
                 Text(C_REGION),
                 Text(S_NATION),
                 Number,
                 Number,
                 Text(P_CATEGORY),
-            ],
+            ]),
+            Query::Star => None,
         }
     }
 

@@ -1,11 +1,14 @@
 //! A query with its constants.
-ghost use Rattle.std.specs.Prelude.{◌≡◌, ◌↔◌, ◌<◌, IfOk, IfErr, IfSome, IsTrue, None, length, not, position};
+ghost use Rattle.std.specs.Prelude.{◌≡◌, ◌↔◌, ◌<◌, ◌+◌, ◌^◌, IfOk, IfErr, IfSome, IsTrue, None, length, not, position};
+ghost use Rattle.std.specs.Prelude.{option_map};
 ghost use Rattle.std.specs.List.{zip};
 ghost use Rattle.ssb_questions.specs.Kind.{fits};
 ghost use Rattle.ssb_questions.specs.Plan.{IsOverColumns, LooksForConstants, OrdersAllGroups};
 ghost use Rattle.ssb_questions.specs.Queries.{plan_over, standard_constants};
 ghost use Rattle.ssb_questions.specs.Question.{constants_fault, fault_of, back_of};
+ghost use Rattle.ssb_questions.specs.declared.question.ConstantsFault.TheVariants.{BadConstant};
 
+use crate::clauses::first_bad;
 use crate::constants::{is_standard, standard_constants};
 use crate::flights::plan_over;
 use crate::kind::ConstantKind;
@@ -25,7 +28,8 @@ pub enum ConstantsFault {
     /// There are more or fewer constants than the query has.
     #[error("31 WrongCount {0}")]
     WrongCount(Query),
-    /// The constant at this place, from 1, is of the other kind, or a text that its column could not hold.
+    /// The constant at this place, from 1, is of the other kind, or a text that its column could not hold, or of
+    /// `star` no clause that may stand there.
     #[error("32 BadConstant {0}")]
     BadConstant(usize),
 }
@@ -72,30 +76,44 @@ fn first_unfit(kinds: &[ConstantKind], constants: &[Value]) -> Option<usize>
         .position(|(kind, constant)| !kind.fits(constant))
 }
 
-// The first fault of a query's constants.
-fn first_fault(query: Query, constants: &[Value]) -> Option<ConstantsFault>
-    ensures { result ≡ constants_fault query constants.now }
+// The fault of the constant at a place, counted from 0.
+fn bad_at(place: Option<usize>) -> Option<ConstantsFault>
+    requires { IfSome place (λ place. place + 1 < 2 ^ 64) }
+    ensures { result ≡ option_map (λ place. BadConstant (place + 1)) place }
 {
-    let kinds = query.constant_kinds();
-    if constants.len() != kinds.len() {
-        return Some(ConstantsFault::WrongCount(query));
-    }
-    match first_unfit(kinds, constants) {
+    match place {
         Some(place) => Some(ConstantsFault::BadConstant(place + 1)),
         None => None,
     }
 }
 
+// The first fault of a query's constants.
+fn first_fault(query: Query, constants: &[Value]) -> Option<ConstantsFault>
+    ensures { result ≡ constants_fault query constants.now }
+{
+    match query.constant_kinds() {
+        Some(kinds) if constants.len() != kinds.len() => Some(ConstantsFault::WrongCount(query)),
+        Some(kinds) => bad_at(first_unfit(kinds, constants)),
+        None => bad_at(first_bad(constants)),
+    }
+}
+
 impl Question {
-    /// The query with the constants that it has where none are given.
-    pub fn standard(alloc: Global, query: Query) -> Result<Question, AllocError>
-        ensures { IfOk result (λ question. question ≡ (query, standard_constants query)) }
+    /// The query with the constants that it has where none are given; `star` has none, which it refuses.
+    pub fn standard(alloc: Global, query: Query) -> Result<Question, QuestionError>
+        ensures fault { fault_of result ≡ constants_fault query (standard_constants query) }
+        ensures question { IfOk result (λ question. question ≡ (query, standard_constants query)) }
     {
-        let constants = Arc::new(alloc, standard_constants(alloc, query)?)?;
-        Ok(Question { query, constants })
+        if let Query::Star = query {
+            return Question::with(alloc, query, Vec::new(alloc));
+        }
+        match standard_constants(alloc, query) {
+            Ok(constants) => Question::with(alloc, query, constants.into_vec()),
+            Err(AllocError) => Err(QuestionError::OutOfMemory(Vec::new(alloc))),
+        }
     }
 
-    /// The query with these constants, in the order of `Query::constant_kinds`.
+    /// The query with these constants, in the order of `Query::constant_kinds`, or as clauses of `star`.
     ///
     /// A range whose first bound is greater than its last is no fault: it holds nothing. Nor are two
     /// equal names in a list.
@@ -124,7 +142,7 @@ impl Question {
         self.query
     }
 
-    /// The constants, in the order of `Query::constant_kinds`, which they fit.
+    /// The constants, in the order of `Query::constant_kinds`, which they fit, or the clauses of `star`.
     pub fn constants(&self) -> &[Value]
         ensures constants { result.now ≡ self.now.1 }
         ensures fit { constants_fault self.now.0 self.now.1 ≡ None }
