@@ -33,6 +33,7 @@ use Rattle.std.specs.Ordering.{is_eq}
 use Rattle.std.specs.Prelude.{nat_eq}
 use Rattle.std.proofs.lemmas.Cmp.{tied_itself}
 use Rattle.std.proofs.lemmas.Option.{none-some}
+use Rattle.ssb_questions.proofs.StarLaws.{groups_read}
 use Rattle.ssb_questions.specs.Members.{Has}
 use Rattle.ssb_questions.specs.Clause.{kind_in}
 use Rattle.ssb_questions.specs.Queries.{plan_over}
@@ -57,7 +58,6 @@ use Rattle.ssb_schema.specs.declared.table.Table.TheVariants as table
 use Rattle.ssb_trace.specs.Rows.{group_kinds, has_no_groups}
 use Rattle.ssb_trace.specs.Allowed.{AreTakenDimensions, IsAllowedRow, IsAllowedSum, IsGroup, IsTakenRow}
 use Rattle.ssb_trace.specs.RoundTrip.{AnswersHaveAllowedRows}
-use Rattle.ssb_trace.proofs.ClauseLaws.{groups_are_columns}
 use Rattle.ssb_trace.proofs.ColumnLaws.{customer_fits, date_fits, part_fits, supplier_fits}
 
 -- a combination of rows that the schema takes
@@ -193,7 +193,7 @@ columns-fit c taken (column ∷ columns) all = (each-fits c taken column all.0, 
 groups-fit : (question : Query × List Value) (c : Combination) → IsTaken c
     → AllZip IsGroup (group_kinds question) (group_of (plan_over question.0 question.1) c)
 groups-fit question c taken =
-    columns-fit c taken (plan_over question.0 question.1).groups (groups_are_columns question.0 question.1)
+    columns-fit c taken (plan_over question.0 question.1).groups (groups_read question.0 question.1)
 
 -- a group is that of a combination, unless there are no group columns
 module _ (group : Combination → List Value) (found : List Combination) where

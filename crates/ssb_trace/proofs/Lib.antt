@@ -6,6 +6,7 @@ pub mod ClientLaws
 pub mod ColumnLaws
 pub mod CommittedLaws
 pub mod ValueLaws
+pub mod ClauseLaws
 pub mod HeadLaws
 pub mod RowLaws
 pub mod TraceLaws

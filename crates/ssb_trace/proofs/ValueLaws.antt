@@ -33,6 +33,7 @@ use Rattle.std.proofs.Common.{
   ◌∙◌,
   append_assoc,
   length-append,
+  subst,
   arith,
   inl,
   inr,
@@ -41,7 +42,7 @@ use Rattle.std.specs.List.{AllByRecursion, AllZip, position_or_len}
 use Rattle.std.proofs.lemmas.Bool.{cases_Bool}
 use Rattle.std.proofs.lemmas.Option.{none-some}
 use Rattle.ssb_questions.specs.Kind.{constant_kinds, fits}
-use Rattle.ssb_questions.specs.Question.{constants_fault}
+use Rattle.ssb_questions.specs.Question.{fault_by}
 use Rattle.ssb_questions.specs.declared.kind.ConstantKind.{ConstantKind}
 use Rattle.ssb_questions.specs.declared.kind.ConstantKind.TheVariants as kind
 use Rattle.ssb_questions.specs.declared.query.Query.{Query}
@@ -144,14 +145,14 @@ not-mapped : {A B : Type 0} (f : A → B) (o : Option A) → option_map f o ≡ 
 not-mapped f None e = refl
 not-mapped f (Some x) e = absurd (none-some _ (sym e))
 
-no-fault : (query : Query) (constants : List Value) → constants_fault query constants ≡ None
-    → (length constants ≡ length (constant_kinds query))
-    × (position misfits (zip (constant_kinds query) constants) ≡ None)
-no-fault query constants none = elim (cases_Bool (nat_eq (length constants) (length (constant_kinds query)))) [
+no-fault : (query : Query) (kinds : List ConstantKind) (constants : List Value)
+    → fault_by (Some kinds) query constants ≡ None
+    → (length constants ≡ length kinds) × (position misfits (zip kinds constants) ≡ None)
+no-fault query kinds constants none = elim (cases_Bool (nat_eq (length constants) (length kinds))) [
   | inl same ↦ (
     eqb-true _ _ same,
     not-mapped (λ place. BadConstant (place + 1))
-        (position misfits (zip (constant_kinds query) constants)) (rw same at none),
+        (position misfits (zip kinds constants)) (rw same at none),
   )
   | inr other ↦ absurd (none-some _ (sym (rw other at none)))
 ]
@@ -162,9 +163,9 @@ nowhere p xs none = elim (cases_Bool (nat_lt (position_or_len p xs) (length xs))
   | inr past ↦ ltb-false _ _ past
 ]
 
-pub constants_fit : (question : Query × List Value) → IsAllowedQuestion question
-    → AllZip IsGroup (constant_kinds question.0) question.1
-constants_fit question allowed =
-    let found = no-fault question.0 question.1 allowed.taken in
-    all-fit (constant_kinds question.0) question.1 found.0
-    (nowhere misfits (zip (constant_kinds question.0) question.1) found.1) allowed.constants
+pub constants_fit : (question : Query × List Value) (kinds : List ConstantKind)
+    → constant_kinds question.0 ≡ Some kinds → IsAllowedQuestion question → AllZip IsGroup kinds question.1
+constants_fit question kinds are allowed =
+    let found = no-fault question.0 kinds question.1
+    (subst (λ given. fault_by given question.0 question.1 ≡ None) are allowed.taken) in
+    all-fit kinds question.1 found.0 (nowhere misfits (zip kinds question.1) found.1) allowed.constants
