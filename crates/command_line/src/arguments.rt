@@ -16,8 +16,8 @@ Loads the five table files of a folder and prints the report of one question: a 
 of commits (0) and the number of rows, and then the rows. With --all it prints those of the thirteen queries with the
 benchmark's constants, in order, answered in one pass over the lines.
 
-The queries are Q1.1, Q1.2, Q1.3, Q2.1, Q2.2, Q2.3, Q3.1, Q3.2, Q3.3, Q3.4, Q4.1, Q4.2 and Q4.3. Without constants a
-query has those of the benchmark; else all of its constants are given, in this order:
+The queries are Q1.1, Q1.2, Q1.3, Q2.1, Q2.2, Q2.3, Q3.1, Q3.2, Q3.3, Q3.4, Q4.1, Q4.2, Q4.3 and star. Without
+constants one of the thirteen has those of the benchmark; else all of its constants are given, in this order:
 
   Q1.1        year; discount from, to; quantity from, to
   Q1.2        year and month, as 199401; discount from, to; quantity from, to
@@ -33,9 +33,26 @@ query has those of the benchmark; else all of its constants are given, in this o
   Q4.2        as Q4.1; two years
   Q4.3        customer region; supplier nation; two years; category
 
+A question of one's own is the query star. Its constants, at most 64, are a measure, then group columns, then tests:
+
+  LO_REVENUE, LO_REVENUE-LO_SUPPLYCOST, LO_EXTENDEDPRICE*LO_DISCOUNT, LO_QUANTITY or COUNT
+              what is summed over the lines; COUNT is their number
+  COLUMN      a group column, in the order in which they are printed; at most four, each once
+  COLUMN=VALUE
+              the column has the value; again for the same column: one of the values, at most 16
+  COLUMN=FROM..TO
+              from the first to the last, both included; once a column, and no other test of it
+  LO_QUANTITY=FROM..TO, LO_DISCOUNT=FROM..TO
+              of the line itself; also one number; once each
+  ORDER=SUM   at the end: from the greatest sum down; else rows stand in the order of the group columns
+
+COLUMN is C_CITY, C_NATION, C_REGION, S_CITY, S_NATION, S_REGION, P_MFGR, P_CATEGORY, P_BRAND1, D_YEAR, D_YEARMONTHNUM,
+D_YEARMONTH or D_WEEKNUMINYEAR.
+
 Examples:
   ssb_live query --data tables Q4.1
   ssb_live query --data tables Q2.1 'MFGR#12' EUROPE
+  ssb_live query --data tables star LO_REVENUE D_YEAR P_BRAND1 'P_CATEGORY=MFGR#12' 'S_REGION=AMERICA'
   ssb_live query --data tables --all --times";
 
 const RUN_HELP: &str = "\
@@ -92,6 +109,22 @@ is one refresh. The end of the input (Ctrl-D) ends the session. The queries, and
   Q4.1        customer region; supplier region; two manufacturers
   Q4.2        as Q4.1; two years
   Q4.3        customer region; supplier nation; two years; category
+
+A question of one's own is the query star. Its constants, at most 64, are a measure, then group columns, then tests:
+
+  LO_REVENUE, LO_REVENUE-LO_SUPPLYCOST, LO_EXTENDEDPRICE*LO_DISCOUNT, LO_QUANTITY or COUNT
+              what is summed over the lines; COUNT is their number
+  COLUMN      a group column, in the order in which they are printed; at most four, each once
+  COLUMN=VALUE
+              the column has the value; again for the same column: one of the values, at most 16
+  COLUMN=FROM..TO
+              from the first to the last, both included; once a column, and no other test of it
+  LO_QUANTITY=FROM..TO, LO_DISCOUNT=FROM..TO
+              of the line itself; also one number; once each
+  ORDER=SUM   at the end: from the greatest sum down; else rows stand in the order of the group columns
+
+COLUMN is C_CITY, C_NATION, C_REGION, S_CITY, S_NATION, S_REGION, P_MFGR, P_CATEGORY, P_BRAND1, D_YEAR, D_YEARMONTHNUM,
+D_YEARMONTH or D_WEEKNUMINYEAR.
 ";
 
 // The folder of the five table files.
@@ -134,13 +167,13 @@ fn query_command<'a>(alloc: Global) -> Result<Command<'a>, AllocError> {
     );
     let name = Arg::new(alloc, "name")
         .value_name("NAME")
-        .help("The query, as Q4.1")
+        .help("The query, as Q4.1, or star")
         .required_unless_present("all")?
         .conflicts_with("all")?
         .action(ArgAction::Set);
     let constants = Arg::new(alloc, "constants")
         .value_name("CONSTANT")
-        .help("All constants of the query; without them it has the benchmark's")
+        .help("All constants of the query; without them one of the thirteen has the benchmark's")
         .num_args(0..)
         .action(ArgAction::Append);
     Command::new(alloc, "query")

@@ -1,5 +1,6 @@
 -- The question that the words of a command line ask.
 use Rattle.std.specs.Prelude.{◌≡◌, ◌⊎◌, ℕ, ◌^◌, List, [], ◌∷◌, map, Option, Some, None, nat_lt, if◌then◌else◌}
+use Rattle.std.specs.Prelude.{unwrap_or}
 use Rattle.ssb_schema.specs.Numerals.{number_of}
 use Rattle.ssb_questions.specs.Kind.{constant_kinds}
 use Rattle.ssb_questions.specs.Queries.{standard_constants}
@@ -31,10 +32,14 @@ values_spelled kinds [] = []
 values_spelled [] (word ∷ words) = value_spelled None word ∷ values_spelled [] words
 values_spelled (kind ∷ kinds) (word ∷ words) = value_spelled (Some kind) word ∷ values_spelled kinds words
 
--- the constants of a query: the benchmark's where no words are given
+-- the kinds of a query's constants; `star` has none, and each of its words is a text
+abbrev pub kinds_of : Query → List ConstantKind
+kinds_of query = unwrap_or (constant_kinds query) []
+
+-- the constants of a query: the benchmark's where no words are given, which `star` does not take
 abbrev pub constants_asked : Query → List (List ℕ) → List Value
 constants_asked query [] = standard_constants query
-constants_asked query (word ∷ words) = values_spelled (constant_kinds query) (word ∷ words)
+constants_asked query (word ∷ words) = values_spelled (kinds_of query) (word ∷ words)
 
 -- a name and words ask this question, whose constants are not refused
 pub record IsAsked (name : List ℕ) (words : List (List ℕ)) (question : Query × List Value) : Type 0 where

@@ -1,9 +1,13 @@
 //! The question that the words of a command line ask.
 
-ghost use Rattle.std.specs.Prelude.{◌≡◌, ◌≢◌, IfOk, IfErr, map};
+ghost use Rattle.std.specs.Prelude.{◌≡◌, ◌≢◌, IfOk, IfErr, Ok, None, Some, map};
 ghost use Rattle.std.specs.Option.{option_copied};
-ghost use Rattle.query_command.specs.Asked.{AskNothing, IsAsked, standard_questions, values_spelled, value_spelled};
+ghost use Rattle.query_command.specs.Asked.{AskNothing, IsAsked, kinds_of, standard_question, standard_questions};
+ghost use Rattle.query_command.specs.Asked.{values_spelled, value_spelled};
 ghost use Rattle.ssb_files.specs.Status.{status_of};
+ghost use Rattle.ssb_questions.specs.Queries.{standard_constants};
+ghost use Rattle.ssb_questions.specs.Question.{constants_fault, fault_of};
+ghost use Rattle.ssb_questions.specs.declared.question.ConstantsFault.{ConstantsFault};
 
 use ssb_files::Fault;
 use ssb_questions::{ConstantKind, QUERIES, Query, Question, QuestionError, Value};
@@ -36,6 +40,30 @@ fn values(alloc: Global, kinds: &[ConstantKind], words: &[&str]) -> Result<Vec<V
     Ok(values)
 }
 
+// The kinds of a query's constants; none of `star`, whose words are texts.
+fn kinds_of(query: Query) -> &'static [ConstantKind]
+    ensures { result.now ≡ kinds_of query }
+{
+    match query.constant_kinds() {
+        Some(kinds) => kinds,
+        None => &[],
+    }
+}
+
+// What comes of a question that was made or not.
+fn taken(made: Result<Question, QuestionError>) -> Result<Question, Fault>
+    ensures question { IfOk result (λ question. made ≡ Ok question) }
+    ensures words { IfErr result (λ fault. status_of fault ≡ 2
+        → (refused : ConstantsFault) × (fault_of made ≡ Some refused)) }
+    ensures early { IfErr result (λ fault. status_of fault ≢ 1) }
+{
+    match made {
+        Ok(question) => Ok(question),
+        Err(QuestionError::Refused(fault, _)) => Err(Fault::Constants(fault)),
+        Err(QuestionError::OutOfMemory(_)) => Err(Fault::OutOfMemory),
+    }
+}
+
 /// The question of this name and these constants; without constants, the benchmark's.
 pub fn ask(alloc: Global, name: &str, constants: &[&str]) -> Result<Question, Fault>
     ensures question { IfOk result (λ question. IsAsked name.now (map (λ word. word.now) constants.now) question) }
@@ -45,13 +73,21 @@ pub fn ask(alloc: Global, name: &str, constants: &[&str]) -> Result<Question, Fa
 {
     let query = Query::by_name(name).map_err(|fault| Fault::NoSuchQuery(fault))?;
     if constants.is_empty() {
-        return Ok(Question::standard(alloc, query)?);
+        return taken(Question::standard(alloc, query));
     }
-    let values = values(alloc, query.constant_kinds(), constants)?;
-    match Question::with(alloc, query, values) {
+    let values = values(alloc, kinds_of(query), constants)?;
+    taken(Question::with(alloc, query, values))
+}
+
+// A query with the benchmark's constants, which it takes.
+fn standard_question(alloc: Global, query: Query) -> Result<Question, AllocError>
+    requires { constants_fault query (standard_constants query) ≡ None }
+    ensures { IfOk result (λ question. question ≡ standard_question query) }
+{
+    match Question::standard(alloc, query) {
         Ok(question) => Ok(question),
-        Err(QuestionError::Refused(fault, _)) => Err(Fault::Constants(fault)),
-        Err(QuestionError::OutOfMemory(_)) => Err(Fault::OutOfMemory),
+        Err(QuestionError::Refused(_, _)) => unreachable!(),
+        Err(QuestionError::OutOfMemory(_)) => Err(AllocError),
     }
 }
 
@@ -61,7 +97,7 @@ pub fn standard_questions(alloc: Global) -> Result<Vec<Question>, AllocError>
 {
     let mut questions = Vec::with_capacity(alloc, QUERIES.len())?;
     for query in &QUERIES {
-        questions.push(Question::standard(alloc, *query)?)?;
+        questions.push(standard_question(alloc, *query)?)?;
     }
     Ok(questions)
 }

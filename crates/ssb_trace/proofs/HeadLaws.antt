@@ -190,11 +190,6 @@ module _ (question : Query × List Value) (a b c d e : List ℕ) (allowed : IsAl
       let clauses : AllByRecursion IsClause question.1 = clauses_kept question are allowed in
       ap (λ values. texts_spelled (without_closing (map value_text values))) written
       ∙ (ap texts_spelled (no_closing question.1 clauses) ∙ clauses_read question.1 clauses)
-  own-plain : (kinds : Option (List ConstantKind)) → constant_kinds question.0 ≡ kinds
-      → AllByRecursion IsPlainField (map value_text question.1)
-  own-plain (Some kinds) are = values_plain kinds question.1 (constants_fit question kinds are allowed)
-  own-plain None are = clauses_plain question.1 (clauses_kept question are allowed)
-
 constants-read : (question : Query × List Value) (a b c d e : List ℕ) → IsAllowedQuestion question
     → constants_at 5 question.0 (a ∷ b ∷ c ∷ d ∷ e ∷ map value_text (written_constants question)) ≡ Some question.1
 unfolding constants_at behind
@@ -202,12 +197,17 @@ constants-read question a b c d e allowed =
     ap (option_and_then (taken_by question.0)) (given-read question a b c d e allowed (constant_kinds question.0) refl)
     ∙ rw allowed.taken refl
 
+own-plain : (question : Query × List Value) (kinds : Option (List ConstantKind)) → constant_kinds question.0 ≡ kinds
+    → IsAllowedQuestion question → AllByRecursion IsPlainField (map value_text question.1)
+own-plain question (Some kinds) are allowed = values_plain kinds question.1 (constants_fit question kinds are allowed)
+own-plain question None are allowed = clauses_plain question.1 (clauses_kept question are allowed)
+
 constants-plain : (question : Query × List Value) → IsAllowedQuestion question
     → AllByRecursion IsPlainField (map value_text (written_constants question))
 constants-plain question allowed =
     elim (cases_Bool (question_eq question (question.0, standard_constants question.0))) [
       | inl standard ↦ rw standard tt
-      | inr own ↦ rw own (own-plain question [] [] [] [] [] allowed (constant_kinds question.0) refl)
+      | inr own ↦ rw own (own-plain question (constant_kinds question.0) refl allowed)
     ]
 
 -- the fields of the record
