@@ -94,7 +94,7 @@ each-takes : AllByRecursion Takes queries_in_order
 unfolding Takes
 each-takes = (
   refl,
-  (refl, (refl, (refl, (refl, (refl, (refl, (refl, (refl, (refl, (refl, (refl, (refl, tt))))))))))))
+  (refl, (refl, (refl, (refl, (refl, (refl, (refl, (refl, (refl, (refl, (refl, (refl, tt)))))))))))),
 )
 
 at-place : (P : Query → Type 0) (queries : List Query) (i : ℕ) (d : Query) → AllByRecursion P queries

@@ -190,6 +190,7 @@ module _ (question : Query × List Value) (a b c d e : List ℕ) (allowed : IsAl
       let clauses : AllByRecursion IsClause question.1 = clauses_kept question are allowed in
       ap (λ values. texts_spelled (without_closing (map value_text values))) written
       ∙ (ap texts_spelled (no_closing question.1 clauses) ∙ clauses_read question.1 clauses)
+
 constants-read : (question : Query × List Value) (a b c d e : List ℕ) → IsAllowedQuestion question
     → constants_at 5 question.0 (a ∷ b ∷ c ∷ d ∷ e ∷ map value_text (written_constants question)) ≡ Some question.1
 unfolding constants_at behind

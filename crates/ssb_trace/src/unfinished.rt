@@ -255,7 +255,13 @@ impl UnfinishedAnswer {
         ensures fault { IfErr result (IsFoundBy (checks_after number (unfinished.Answer self) word
             (fields_of fields.now))) }
     {
-        match row_in(alloc, &self.head.question, self.kinds.as_slice(), word, fields)? {
+        match row_in(
+            alloc,
+            &self.head.question,
+            self.kinds.as_slice(),
+            word,
+            fields,
+        )? {
             Some(row) => self.with(row),
             None => Err(ScriptError::BadLine(number)),
         }
