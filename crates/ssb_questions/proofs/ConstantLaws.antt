@@ -1,4 +1,4 @@
--- In each of the thirteen plans what is looked for stands among the constants, at the places of its columns.
+-- In each plan what is looked for stands among the constants: of the thirteen at the places of its columns.
 use Rattle.std.proofs.Common.{◌≡◌, ◌∙◌, ℕ, zero, suc, ◌+◌, Bool, true, false, not, cond, nat_eq, List, [], ◌∷◌, Option}
 use Rattle.std.proofs.Common.{Some, None, length, refl, sym, ap, arith}
 use Rattle.std.specs.List.{slice_get, zip, position, position_from}
@@ -8,17 +8,18 @@ use Rattle.ssb_schema.specs.Columns.{C_CITY, C_NATION, C_REGION, S_CITY, S_NATIO
 use Rattle.ssb_schema.specs.Columns.{P_BRAND1, D_YEARMONTH}
 use Rattle.ssb_schema.specs.declared.column.Column.{Column}
 use Rattle.ssb_questions.specs.Kind.{fits, constant_kinds}
-use Rattle.ssb_questions.specs.Plan.{IsNumberConstant, IsTextConstant, LooksForConstants}
-use Rattle.ssb_questions.specs.Queries.{plan_over, number_at, text_at, number_of, text_of}
-use Rattle.ssb_questions.specs.Question.{constants_fault}
-use Rattle.std.specs.Option.{option_map}
+use Rattle.ssb_questions.specs.Plan.{LooksForConstants, StandsAmong}
+use Rattle.ssb_questions.specs.Queries.{plan_over, number_at, text_at, number_of, text_of, standard_constants}
+use Rattle.ssb_questions.proofs.GivenLaws.{star_looks}
+use Rattle.ssb_questions.specs.Question.{constants_fault, fault_by}
+use Rattle.std.specs.Option.{option_map, unwrap_or}
 use Rattle.ssb_questions.specs.declared.question.ConstantsFault.{ConstantsFault}
 use Rattle.ssb_questions.specs.declared.question.ConstantsFault.TheVariants.{BadConstant}
 use Rattle.ssb_questions.specs.declared.kind.ConstantKind.{ConstantKind}
 use Rattle.ssb_questions.specs.declared.kind.ConstantKind.TheVariants as kind
 use Rattle.ssb_questions.specs.declared.query.Query.{Query}
 use Rattle.ssb_questions.specs.declared.query.Query.TheVariants.{Q1_1, Q1_2, Q1_3, Q2_1, Q2_2, Q2_3, Q3_1, Q3_2, Q3_3}
-use Rattle.ssb_questions.specs.declared.query.Query.TheVariants.{Q3_4, Q4_1, Q4_2, Q4_3}
+use Rattle.ssb_questions.specs.declared.query.Query.TheVariants.{Q3_4, Q4_1, Q4_2, Q4_3, Star}
 use Rattle.ssb_questions.specs.declared.value.Value.{Value}
 use Rattle.ssb_questions.specs.declared.value.Value.TheVariants as value
 
@@ -48,15 +49,25 @@ no_fault true None fault e = (refl, refl)
 no_fault true (Some n) fault e = absurd cc
 no_fault false place fault e = absurd cc
 
-at_place : (query : Query) (constants : List Value) → constants_fault query constants ≡ None
-    → (place : ℕ) (k : ConstantKind) → slice_get (constant_kinds query) place ≡ Some k
+-- the kinds of the thirteen's constants
+abbrev kinds_of : Query → List ConstantKind
+kinds_of query = unwrap_or (constant_kinds query) []
+
+by_kinds : (kinds : Option (List ConstantKind)) (query : Query) (constants : List Value)
+    → fault_by kinds query constants ≡ None → (place : ℕ) (k : ConstantKind) → slice_get (unwrap_or kinds []) place ≡ Some k
     → (v : Value) × (slice_get constants place ≡ Some v) × (fits k v ≡ true)
-at_place query constants fit =
-    let pairs = zip (constant_kinds query) constants in
+by_kinds None query constants fit place k at = absurd cc
+by_kinds (Some kinds) query constants fit place k at =
+    let pairs = zip kinds constants in
     let test = λ (at : ConstantKind × Value). not (fits at.0 at.1) in
-    let parts = no_fault (nat_eq (length constants) (length (constant_kinds query))) (position test pairs) _ fit in
-    let same : length constants ≡ length (constant_kinds query) = grind (arith, parts.0, nat_tests) in
-    fits_each (constant_kinds query) constants 0 same (sym (position_from-zero test pairs) ∙ parts.1)
+    let parts = no_fault (nat_eq (length constants) (length kinds)) (position test pairs) _ fit in
+    let same : length constants ≡ length kinds = grind (arith, parts.0, nat_tests) in
+    fits_each kinds constants 0 same (sym (position_from-zero test pairs) ∙ parts.1) place k at
+
+at_place : (query : Query) (constants : List Value) → constants_fault query constants ≡ None
+    → (place : ℕ) (k : ConstantKind) → slice_get (kinds_of query) place ≡ Some k
+    → (v : Value) × (slice_get constants place ≡ Some v) × (fits k v ≡ true)
+at_place query constants fit = by_kinds (constant_kinds query) query constants fit
 
 text_fits : (at : Option Value) (v : Value) (column : Column) → at ≡ Some v → fits (kind.Text column) v ≡ true
     → at ≡ Some (value.Text (text_of at))
@@ -70,15 +81,15 @@ number_fits at (value.Number n) e fit = e ∙ ap (λ (o : Option Value). Some (v
 
 -- the constant at a place of its kind
 text : (query : Query) (constants : List Value) → constants_fault query constants ≡ None → (column : Column) (place : ℕ)
-    → slice_get (constant_kinds query) place ≡ Some (kind.Text column)
-    → IsTextConstant query constants column (text_at constants place)
+    → slice_get (kinds_of query) place ≡ Some (kind.Text column)
+    → StandsAmong (kinds_of query) constants (kind.Text column) (value.Text (text_at constants place))
 text query constants fit column place at =
     let found = at_place query constants fit place (kind.Text column) at in
     (place, at, text_fits (slice_get constants place) found.0 column found.1 found.2)
 
 number : (query : Query) (constants : List Value) → constants_fault query constants ≡ None → (place : ℕ)
-    → slice_get (constant_kinds query) place ≡ Some kind.Number
-    → IsNumberConstant query constants (number_at constants place)
+    → slice_get (kinds_of query) place ≡ Some kind.Number
+    → StandsAmong (kinds_of query) constants kind.Number (value.Number (number_at constants place))
 number query constants fit place at =
     let found = at_place query constants fit place kind.Number at in
     (place, at, number_fits (slice_get constants place) found.0 found.1 found.2)
@@ -189,3 +200,21 @@ looks_for_constants Q4_3 constants fit = record {
   quantity = tt;
   discount = tt;
 }
+looks_for_constants Star constants fit = star_looks constants
+
+-- what the thirteen have where no constants are given fits them
+pub standard_fit : (query : Query) → (query ≡ Star → ⊥) → constants_fault query (standard_constants query) ≡ None
+standard_fit Q1_1 h = refl
+standard_fit Q1_2 h = refl
+standard_fit Q1_3 h = refl
+standard_fit Q2_1 h = refl
+standard_fit Q2_2 h = refl
+standard_fit Q2_3 h = refl
+standard_fit Q3_1 h = refl
+standard_fit Q3_2 h = refl
+standard_fit Q3_3 h = refl
+standard_fit Q3_4 h = refl
+standard_fit Q4_1 h = refl
+standard_fit Q4_2 h = refl
+standard_fit Q4_3 h = refl
+standard_fit Star h = absurd (h refl)

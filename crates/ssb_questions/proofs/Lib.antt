@@ -1,6 +1,11 @@
 pub mod ValueLaws
+pub mod SomeLaws
 pub mod OrderLaws
 pub mod QuestionLaws
+pub mod ColumnLaws
+pub mod GivenLaws
 pub mod ConstantLaws
+pub mod StarLaws
+pub mod PlainLaws
 pub mod PartedLaws
 pub mod ClauseLaws

@@ -17,3 +17,4 @@ pub mod Constant
 pub mod Plan
 pub mod Question
 pub mod QuestionEq
+pub mod Laws

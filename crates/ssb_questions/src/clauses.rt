@@ -1,5 +1,5 @@
 //! Which constants spell a star question.
-ghost use Rattle.std.specs.Prelude.{◌≡◌, ◌≤◌, ◌<◌, IfSome, length, max, option_and_then, slice_get};
+ghost use Rattle.std.specs.Prelude.{◌≡◌, ◌≤◌, length, option_and_then, slice_get};
 ghost use Rattle.std.specs.List.{list_all};
 ghost use Rattle.ssb_questions.specs.Clauses as spec;
 
@@ -173,8 +173,7 @@ fn may_stand(constants: &[Value], place: usize) -> bool
 
 /// The place, from 0, of the first constant that may not stand there in a star question; without constants the first.
 pub fn first_bad(constants: &[Value]) -> Option<usize>
-    ensures place { result ≡ spec.first_bad constants.now }
-    ensures within { IfSome result (λ place. place < max 1 (length constants.now)) }
+    ensures { result ≡ spec.first_bad constants.now }
 {
     (0..constants.len().max(1)).find(|place| !may_stand(constants, *place))
 }

@@ -27,6 +27,7 @@ pub mod cond;
 mod constants;
 mod flights;
 pub mod kind;
+pub mod laws;
 pub mod plan;
 pub mod query;
 pub mod question;

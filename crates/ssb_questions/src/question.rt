@@ -1,5 +1,5 @@
 //! A query with its constants.
-ghost use Rattle.std.specs.Prelude.{◌≡◌, ◌↔◌, ◌<◌, ◌+◌, ◌^◌, IfOk, IfErr, IfSome, IsTrue, None, length, not, position};
+ghost use Rattle.std.specs.Prelude.{◌≡◌, ◌↔◌, ◌<◌, ◌≤◌, ◌+◌, ◌^◌, IfOk, IfErr, IfSome, IsTrue, None, length, not, position};
 ghost use Rattle.std.specs.Prelude.{option_map};
 ghost use Rattle.std.specs.List.{zip};
 ghost use Rattle.ssb_questions.specs.Kind.{fits};
@@ -92,8 +92,12 @@ fn first_fault(query: Query, constants: &[Value]) -> Option<ConstantsFault>
     ensures { result ≡ constants_fault query constants.now }
 {
     match query.constant_kinds() {
-        Some(kinds) if constants.len() != kinds.len() => Some(ConstantsFault::WrongCount(query)),
-        Some(kinds) => bad_at(first_unfit(kinds, constants)),
+        Some(kinds) => {
+            if constants.len() != kinds.len() {
+                return Some(ConstantsFault::WrongCount(query));
+            }
+            bad_at(first_unfit(kinds, constants))
+        }
         None => bad_at(first_bad(constants)),
     }
 }
@@ -202,6 +206,7 @@ pub fn plan(alloc: Global, question: &Question) -> Result<Plan, AllocError>
     ensures plan { IfOk result (λ plan. plan ≡ plan_over question.now.0 question.now.1) }
     ensures without_ties { IfOk result OrdersAllGroups }
     ensures columns { IfOk result IsOverColumns }
+    ensures few { IfOk result (λ plan. length plan.groups ≤ 4) }
     ensures constants { IfOk result (LooksForConstants question.now.0 question.now.1) }
 {
     plan_over(alloc, question.query(), question.constants())

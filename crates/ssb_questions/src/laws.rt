@@ -1,0 +1,9 @@
+//! Laws of star questions, over the definitions in `specs/`.
+//!
+//! Each is the contract of a function that does nothing.
+ghost use Rattle.ssb_questions.specs.Laws.{ClausesArePlain};
+
+/// The constants that `star` takes are texts that a table file can hold as they are.
+pub fn clauses_are_plain()
+    ensures { ClausesArePlain }
+{}
