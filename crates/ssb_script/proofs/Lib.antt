@@ -1,3 +1,4 @@
+pub mod ClosingLaws
 pub mod FaultLaws
 pub mod LineLaws
 pub mod OneReadingLaws
