@@ -26,15 +26,17 @@ use Rattle.std.proofs.Common.{
   arith,
   ◌+◌,
   append_assoc,
+  append-nil,
   Result,
+  Ok,
   IfOk,
 }
-use Rattle.std.specs.List.{All, flat_map}
+use Rattle.std.specs.List.{All, AllZip, flat_map}
 use Rattle.std.specs.declared.alloc.AllocError.{AllocError}
-use Rattle.std.proofs.lemmas.List.Concat.{flat_map-cons}
+use Rattle.std.proofs.lemmas.List.Concat.{flat_map-append, flat_map-cons}
 use Rattle.std.proofs.Math.Seq.{take-add}
-use Rattle.std.proofs.lemmas.List.{length-drop, length-take-le, map_more, length-map, map-append, take-map, drop-map, take_at, drop_at, drop_more}
-use Rattle.std.proofs.lemmas.List.Elements.{All-push, All-take, All-drop}
+use Rattle.std.proofs.lemmas.List.{map_more, length-map, map-append, take-map, drop-map, take_at, drop_at, drop_more, take_more}
+use Rattle.std.proofs.lemmas.List.Elements.{All-append, All-push, All-take, All-drop}
 use Rattle.ssb_base.specs.Base.{Dimensions}
 use Rattle.ssb_schema.specs.declared.fact.Fact.{Fact}
 use Rattle.ssb_schema.specs.declared.line.LineFields.{LineFields}
@@ -45,7 +47,8 @@ use Rattle.row_store.specs.State.{Counts, with_fact}
 use Rattle.fact_columns.specs.declared.place.Place.{Place}
 use Rattle.fact_columns.specs.Places.{fact_at, is_live}
 use Rattle.fact_columns.specs.Classed.{IsPlaceOf}
-use Rattle.fact_columns.specs.Coded.{AreCoded, AreCodesOf, IsCodeOf, IsCoded, with_places}
+use Rattle.fact_columns.specs.Columns.{Held}
+use Rattle.fact_columns.specs.Coded.{AreCodesOf, IsCodeOf, IsCoded, with_places}
 
 pub some_row : {R : Type 0} (rows : List R) → 0 < length rows → R
 some_row [] some = absurd (omega (arith, some))
@@ -159,38 +162,69 @@ codes_more dimensions before lines i line places later place within is longer co
     (subst (λ f. AreCodesOf dimensions f (places ++ place ∷ [])) facts
     (codes_push dimensions done places (fact_of line) place codes code))
 
--- as many lines are coded as there are codes
-pub coded_count : (dimensions : Dimensions) (lines : List LineFields) (codes : List (Result Place AllocError))
-    → AreCoded dimensions lines codes → length lines ≡ length codes
-coded_count dimensions [] [] coded = refl
-coded_count dimensions [] (code ∷ codes) coded = absurd coded
-coded_count dimensions (line ∷ lines) [] coded = absurd coded
-coded_count dimensions (line ∷ lines) (code ∷ codes) coded = ap suc (coded_count dimensions lines codes coded.1)
+-- places behind one another
+pub codes_append : (dimensions : Dimensions) (facts more : List Fact) (places later : List Place)
+    → AreCodesOf dimensions facts places → AreCodesOf dimensions more later
+    → AreCodesOf dimensions (facts ++ more) (places ++ later)
+codes_append dimensions facts more places later codes behind = record {
+  read = map-append (fact_at dimensions) places later ∙ (λ i. codes.read i ++ behind.read i);
+  lives = All-append (λ p. is_live p ≡ true) places later codes.lives behind.lives;
+  inside = All-append (IsPlaceOf dimensions) places later codes.inside behind.inside;
+}
 
--- the line that a code is of
-pub coded_at : (dimensions : Dimensions) (lines : List LineFields) (codes : List (Result Place AllocError)) (i : ℕ)
-    (code : Result Place AllocError) → AreCoded dimensions lines codes → i < length codes → code ≡ get_or codes i code
-    → (line : LineFields) × (i < length lines) × (line ≡ get_or lines i line)
-    × IfOk code (IsCodeOf dimensions (fact_of line))
+-- the lines that a table is of
+piece_at : (dimensions : Dimensions) (pieces : List (List LineFields)) (tables : List (Result Held AllocError)) (i : ℕ)
+    (table : Held) → AllZip (IsCoded dimensions) pieces tables → i < length tables
+    → Ok table ≡ get_or tables i (Ok table)
+    → (piece : List LineFields) × (i < length pieces) × (piece ≡ get_or pieces i piece)
+    × AreCodesOf dimensions (facts_of piece) table.places
 unfolding IsCoded
-coded_at dimensions [] [] i code coded within is = absurd (omega (arith, within))
-coded_at dimensions [] (own ∷ codes) i code coded within is = absurd coded
-coded_at dimensions (line ∷ lines) [] i code coded within is = absurd coded
-coded_at dimensions (line ∷ lines) (own ∷ codes) zero code coded within is =
-    (line, omega arith, refl, rw is coded.0)
-coded_at dimensions (line ∷ lines) (own ∷ codes) (suc i) code coded within is =
-    let rest = coded_at dimensions lines codes i code coded.1 (omega (arith, within)) is in
+piece_at dimensions [] [] i table coded within is = absurd (omega (arith, within))
+piece_at dimensions [] (own ∷ tables) i table coded within is = absurd coded
+piece_at dimensions (piece ∷ pieces) [] i table coded within is = absurd coded
+piece_at dimensions (piece ∷ pieces) (own ∷ tables) zero table coded within is = (
+  piece,
+  omega arith,
+  refl,
+  subst (λ (t : Result Held AllocError). IfOk t
+      (λ (h : Held). AreCodesOf dimensions (facts_of piece) h.places)) (sym is) coded.0,
+)
+piece_at dimensions (piece ∷ pieces) (own ∷ tables) (suc i) table coded within is =
+    let rest = piece_at dimensions pieces tables i table coded.1 (omega (arith, within)) is in
     (rest.0, omega (arith, rest.1), rest.2, rest.3)
 
--- the lines between two places have as many codes
-pub batch_count : (dimensions : Dimensions) (lines : List LineFields) (codes : List (Result Place AllocError))
-    (from to : ℕ) → from ≤ to → to ≤ length lines
-    → AreCoded dimensions (take (to - from) (drop from lines)) codes → from + length codes ≡ to
-batch_count dimensions lines codes from to rising within coded = omega (
-  arith,
-  coded_count dimensions (take (to - from) (drop from lines)) codes coded,
-  length-take-le (to - from) (drop from lines) (omega (arith, length-drop from lines)),
-)
+-- the facts of the first pieces
+abbrev pub facts_until : ℕ → List (List LineFields) → List Fact
+facts_until i pieces = facts_of (flat_map (λ piece. piece) (take i pieces))
+
+-- the next table is put behind the others
+pub piece_more : (dimensions : Dimensions) (before : List Fact) (pieces : List (List LineFields))
+    (tables : List (Result Held AllocError)) (i : ℕ) (table : Held) (places : List Place)
+    → AllZip (IsCoded dimensions) pieces tables → i < length tables → Ok table ≡ get_or tables i (Ok table)
+    → AreCodesOf dimensions (before ++ facts_until i pieces) places
+    → AreCodesOf dimensions (before ++ facts_until (i + 1) pieces) (places ++ table.places)
+piece_more dimensions before pieces tables i table places coded within is codes =
+    let here = piece_at dimensions pieces tables i table coded within is in
+    let piece = here.0 in
+    let lines : flat_map (λ p. p) (take (i + 1) pieces) ≡ flat_map (λ p. p) (take i pieces) ++ piece =
+    ap (flat_map (λ p. p)) (take_more pieces i piece here.1 ∙ ap (λ p. take i pieces ++ p ∷ []) (sym here.2))
+    ∙ flat_map-append (λ p. p) (take i pieces) (piece ∷ [])
+    ∙ ap (λ l. flat_map (λ p. p) (take i pieces) ++ l) (append-nil piece) in
+    let facts : (before ++ facts_until i pieces) ++ facts_of piece ≡ before ++ facts_until (i + 1) pieces =
+    append_assoc before (facts_until i pieces) (facts_of piece)
+    ∙ ap (λ l. before ++ l) (sym (map-append fact_of (flat_map (λ p. p) (take i pieces)) piece)
+    ∙ ap facts_of (sym lines)) in
+    subst (λ f. AreCodesOf dimensions f (places ++ table.places)) facts
+    (codes_append dimensions (before ++ facts_until i pieces) (facts_of piece) places table.places codes here.3)
+
+-- there are as many tables as pieces
+pub tables_count : (dimensions : Dimensions) (pieces : List (List LineFields)) (tables : List (Result Held AllocError))
+    → AllZip (IsCoded dimensions) pieces tables → length pieces ≡ length tables
+tables_count dimensions [] [] coded = refl
+tables_count dimensions [] (table ∷ tables) coded = absurd coded
+tables_count dimensions (piece ∷ pieces) [] coded = absurd coded
+tables_count dimensions (piece ∷ pieces) (table ∷ tables) coded =
+    ap suc (tables_count dimensions pieces tables coded.1)
 
 -- the facts of the first lines, and of those up to a later place
 pub batch_facts : (lines : List LineFields) (from to : ℕ) → from ≤ to

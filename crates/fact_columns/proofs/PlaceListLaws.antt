@@ -4,6 +4,7 @@ use Rattle.std.proofs.Common.{
   ◌≢◌,
   ℕ,
   ◌+◌,
+  ◌-◌,
   ◌<◌,
   ◌≤◌,
   List,
@@ -21,6 +22,8 @@ use Rattle.std.proofs.Common.{
   ◌∙◌,
   sym,
   arith,
+  append_assoc,
+  append-nil,
 }
 use Rattle.std.specs.List.{range_with_len}
 use Rattle.std.proofs.lemmas.List.{
@@ -28,6 +31,7 @@ use Rattle.std.proofs.lemmas.List.{
   get_or-set_other,
   get_or_push,
   get_or_append_left,
+  get_or-append-add,
   get_or-map,
   get_or_default,
   length-map,
@@ -238,6 +242,78 @@ push_places order customer supplier part date terms price revenue cost customer_
       date_class = before date_class x.date_class n j long.date_class_len within i;
     })
 
+-- a column after others behind it
+front : (xs ys : List ℕ) (n j : ℕ) → length xs ≡ n → j < n → get_or (xs ++ ys) j 0 ≡ get_or xs j 0
+front xs ys n j long within = get_or_append_left xs ys 0 j (omega (arith, long, within))
+
+behind : (xs ys : List ℕ) (n j : ℕ) → length xs ≡ n → get_or (xs ++ ys) (n + j) 0 ≡ get_or ys j 0
+behind xs ys n j long = ap (λ k. get_or (xs ++ ys) (k + j) 0) (sym long) ∙ get_or-append-add xs ys j 0
+
+-- places behind one another
+append_some : {X : Type 0} (f g h : ℕ → X) (n m : ℕ) → ((j : ℕ) → j < n → h j ≡ f j)
+    → ((j : ℕ) → j < m → h (n + j) ≡ g j)
+    → map h (range_with_len 0 (n + m)) ≡ map f (range_with_len 0 n) ++ map g (range_with_len 0 m)
+append_some f g h n zero first second =
+    ap (λ k. map h (range_with_len 0 k)) (nothing n) ∙ agree f h 0 n (λ j within. first j (omega (arith, within)))
+    ∙ sym (append-nil (map f (range_with_len 0 n)))
+  where
+    nothing : (k : ℕ) → k + 0 ≡ k
+    nothing k = omega arith
+append_some f g h n (suc m) first second =
+    ap (λ k. map h (range_with_len 0 k)) (one_more n m)
+    ∙ map-range_with_len_more h 0 (n + m) (n + m) (omega arith)
+    ∙ ap (λ xs. xs ++ h (n + m) ∷ []) (append_some f g h n m first (λ j within. second j (omega (arith, within))))
+    ∙ append_assoc (map f (range_with_len 0 n)) (map g (range_with_len 0 m)) (h (n + m) ∷ [])
+    ∙ ap (λ xs. map f (range_with_len 0 n) ++ xs) (ap (λ x. map g (range_with_len 0 m) ++ x ∷ [])
+    (second m (omega arith)) ∙ sym (map-range_with_len_more g 0 m m (omega arith))
+    ∙ ap (λ k. map g (range_with_len 0 k)) (next_is m))
+  where
+    one_more : (k i : ℕ) → k + suc i ≡ (k + i) + 1
+    one_more k i = omega arith
+
+    next_is : (k : ℕ) → k + 1 ≡ suc k
+    next_is k = omega arith
+
+pub append_places : (order customer supplier part date terms price revenue cost customer_class supplier_class part_class date_class order2 customer2 supplier2 part2 date2 terms2 price2 revenue2 cost2 customer_class2 supplier_class2 part_class2 date_class2 : List ℕ) (n m : ℕ)
+    → AreLong order customer supplier part date terms price revenue cost customer_class supplier_class part_class date_class n → AreLong order2 customer2 supplier2 part2 date2 terms2 price2 revenue2 cost2 customer_class2 supplier_class2 part_class2 date_class2 m
+    → map (place_at (order ++ order2) (customer ++ customer2) (supplier ++ supplier2) (part ++ part2) (date ++ date2) (terms ++ terms2) (price ++ price2) (revenue ++ revenue2) (cost ++ cost2) (customer_class ++ customer_class2) (supplier_class ++ supplier_class2) (part_class ++ part_class2) (date_class ++ date_class2)) (range_with_len 0 (n + m))
+    ≡ map (place_at order customer supplier part date terms price revenue cost customer_class supplier_class part_class date_class) (range_with_len 0 n)
+    ++ map (place_at order2 customer2 supplier2 part2 date2 terms2 price2 revenue2 cost2 customer_class2 supplier_class2 part_class2 date_class2) (range_with_len 0 m)
+append_places order customer supplier part date terms price revenue cost customer_class supplier_class part_class date_class order2 customer2 supplier2 part2 date2 terms2 price2 revenue2 cost2 customer_class2 supplier_class2 part_class2 date_class2 n m long long2 =
+    append_some (place_at order customer supplier part date terms price revenue cost customer_class supplier_class part_class date_class) (place_at order2 customer2 supplier2 part2 date2 terms2 price2 revenue2 cost2 customer_class2 supplier_class2 part_class2 date_class2)
+    (place_at (order ++ order2) (customer ++ customer2) (supplier ++ supplier2) (part ++ part2) (date ++ date2) (terms ++ terms2) (price ++ price2) (revenue ++ revenue2) (cost ++ cost2) (customer_class ++ customer_class2) (supplier_class ++ supplier_class2) (part_class ++ part_class2) (date_class ++ date_class2))
+    n m
+    (λ j within i. record {
+      order = front order order2 n j long.order_len within i;
+      customer = front customer customer2 n j long.customer_len within i;
+      supplier = front supplier supplier2 n j long.supplier_len within i;
+      part = front part part2 n j long.part_len within i;
+      date = front date date2 n j long.date_len within i;
+      terms = front terms terms2 n j long.terms_len within i;
+      price = front price price2 n j long.price_len within i;
+      revenue = front revenue revenue2 n j long.revenue_len within i;
+      cost = front cost cost2 n j long.cost_len within i;
+      customer_class = front customer_class customer_class2 n j long.customer_class_len within i;
+      supplier_class = front supplier_class supplier_class2 n j long.supplier_class_len within i;
+      part_class = front part_class part_class2 n j long.part_class_len within i;
+      date_class = front date_class date_class2 n j long.date_class_len within i;
+    })
+    (λ j within i. record {
+      order = behind order order2 n j long.order_len i;
+      customer = behind customer customer2 n j long.customer_len i;
+      supplier = behind supplier supplier2 n j long.supplier_len i;
+      part = behind part part2 n j long.part_len i;
+      date = behind date date2 n j long.date_len i;
+      terms = behind terms terms2 n j long.terms_len i;
+      price = behind price price2 n j long.price_len i;
+      revenue = behind revenue revenue2 n j long.revenue_len i;
+      cost = behind cost cost2 n j long.cost_len i;
+      customer_class = behind customer_class customer_class2 n j long.customer_class_len i;
+      supplier_class = behind supplier_class supplier_class2 n j long.supplier_class_len i;
+      part_class = behind part_class part_class2 n j long.part_class_len i;
+      date_class = behind date_class date_class2 n j long.date_class_len i;
+    })
+
 -- a table's columns are so long
 pub alike_long : (t : Inside) → AreAlike t → AreLong t.order.items t.customer.items t.supplier.items t.part.items
     t.date.items t.terms.items t.price.items t.revenue.items t.cost.items t.customer_class.items t.supplier_class.items
@@ -257,6 +333,13 @@ alike_long t alike = record {
   part_class_len = omega (arith, t.part_class.ok, alike.part_class);
   date_class_len = omega (arith, t.date_class.ok, alike.date_class);
 }
+
+-- a table that has room for so many places has memory for the columns of as many
+pub room_for : (t o : Inside) (h k : Held) (count : ℕ) → AreAlike t → held t ≡ h → held o ≡ k → count ≤ h.room
+    → count ≡ length k.places → vec_len t.order + vec_len o.order ≤ t.capacity
+room_for t o h k count alike is others room all =
+    let own : t.capacity - vec_len t.order ≡ h.room = ap (λ (x : Held). x.room) is in
+    omega (arith, own, room, all, long o k others, alike.within)
 
 -- a column is read off the places
 pub column_of : (field : Place → ℕ) (f : ℕ → Place) (xs : List ℕ) (n : ℕ) → length xs ≡ n

@@ -1,9 +1,9 @@
 -- Lines in codes, and what they add to the counts.
-use Rattle.std.specs.Prelude.{◌≡◌, ℕ, true, All, List, map, fold, Result, IfOk}
+use Rattle.std.specs.Prelude.{◌≡◌, ℕ, true, All, List, map, flat_map, fold, Result, IfOk}
 use Rattle.std.specs.List.{AllZip}
 use Rattle.std.specs.declared.alloc.AllocError.{AllocError}
 use Rattle.ssb_base.specs.Base.{Dimensions}
-use Rattle.ssb_schema.specs.Facts.{fact_of}
+use Rattle.ssb_schema.specs.Facts.{facts_of}
 use Rattle.ssb_schema.specs.declared.fact.Fact.{Fact}
 use Rattle.ssb_schema.specs.declared.line.LineFields.{LineFields}
 use Rattle.ssb_schema.specs.declared.refresh.Action.{Action}
@@ -13,6 +13,7 @@ use Rattle.row_store.specs.State.{Counts, with_fact, fact_counts}
 use Rattle.fact_columns.specs.declared.place.Place.{Place}
 use Rattle.fact_columns.specs.Places.{is_live, fact_at, live_facts}
 use Rattle.fact_columns.specs.Classed.{IsPlaceOf}
+use Rattle.fact_columns.specs.Columns.{Held}
 
 -- the place is live, within the dimensions, and read back it is the fact
 pub record IsCodeOf (dimensions : Dimensions) (fact : Fact) (place : Place) : Type 0 where
@@ -26,13 +27,16 @@ pub record AreCodesOf (dimensions : Dimensions) (facts : List Fact) (places : Li
   pub lives : All (λ place. is_live place ≡ true) places
   pub inside : All (IsPlaceOf dimensions) places
 
--- a line in codes, where it could be coded
-unfoldable pub IsCoded : Dimensions → LineFields → Result Place AllocError → Type 0
-IsCoded dimensions line code = IfOk code (IsCodeOf dimensions (fact_of line))
+-- a table of lines in codes, where it could be made
+unfoldable pub IsCoded : Dimensions → List LineFields → Result Held AllocError → Type 0
+IsCoded dimensions lines table = IfOk table (λ t. AreCodesOf dimensions (facts_of lines) t.places)
 
--- each line in codes, where it could be coded
-abbrev pub AreCoded : Dimensions → List LineFields → List (Result Place AllocError) → Type 0
-AreCoded dimensions lines codes = AllZip (IsCoded dimensions) lines codes
+-- the lines, cut into pieces, each in a table of its own, where it could be made
+pub record AreCoded (dimensions : Dimensions) (lines : List LineFields) (tables : List (Result Held AllocError))
+    : Type 0 where
+  pub pieces : List (List LineFields)
+  pub whole : flat_map (λ piece. piece) pieces ≡ lines
+  pub coded : AllZip (IsCoded dimensions) pieces tables
 
 -- how often each fact is live
 abbrev pub counts_at : Dimensions → List Place → Counts

@@ -8,6 +8,7 @@ ghost use Rattle.dimension_index.specs.Keys.{position_of};
 ghost use Rattle.fact_columns.specs.Coded.{AreCoded, AreCodesOf, IsCodeOf, IsCoded};
 
 use crate::action::added;
+use crate::fact_table::FactTable;
 use crate::place::{Place, terms};
 use dimension_index::DimIndex;
 use rayon::prelude::*;
@@ -15,8 +16,8 @@ use ssb_schema::{Action, Line, Table};
 use std::alloc::{AllocError, Global};
 use std::thread::Threads;
 
-// How many lines are enough work for a thread.
-const LEAST_LINES: usize = 64 * 1024;
+// How many lines are coded into one table.
+const PIECE: usize = 16 * 1024;
 
 // The position of the row of a dimension that has the key, and its class; an error where there is none. Inlined, since
 // each line asks for four.
@@ -58,30 +59,35 @@ pub fn coded(index: &DimIndex, line: &Line) -> Result<Place, AllocError>
     })
 }
 
-// A line in codes, where it can be coded.
+// Lines in codes, in a table of their own.
 #[tactic(auto, unfolding(crate::specs::Coded::IsCoded))]
-fn code_of(index: &DimIndex, line: &Line) -> Result<Place, AllocError>
-    ensures { IsCoded index.now.dimensions line.now result }
+fn table_of_piece(alloc: Global, index: &DimIndex, lines: &[Line]) -> Result<FactTable, AllocError>
+    ensures { IsCoded index.now.dimensions lines.now result }
 {
-    coded(index, line)
+    let mut table = FactTable::new(alloc);
+    table.reserve(lines.len())?;
+    for line in lines {
+        table.push(coded(index, line)?);
+    }
+    Ok(table)
 }
 
-/// Lines in codes, each an error where the base lacks a row that it names, by as many threads as there are processors.
-pub fn coded_lines(
+/// Lines in codes, in tables one behind another, by as many threads as there are processors; an error in place of a
+/// table for which there is no memory, or where the base lacks a row that a line names.
+pub fn coded_pieces(
     rt: &(impl Threads + Sync),
     alloc: Global,
     index: &DimIndex,
     lines: &[Line],
-) -> Result<Vec<Result<Place, AllocError>>, AllocError>
-    ensures { IfOk result (λ codes. AreCoded index.now.dimensions lines.now codes.items) }
+) -> Result<Vec<Result<FactTable, AllocError>>, AllocError>
+    ensures { IfOk result (λ pieces. AreCoded index.now.dimensions lines.now pieces.items) }
 {
     lines
-        .par_iter()
-        .with_min_len(LEAST_LINES)
+        .par_chunks(PIECE)
         .map(
-            |line: &Line| -> Result<Place, AllocError>
-                ensures { IsCoded index.entry.now.dimensions line.now result }
-            { code_of(index, line) },
+            |lines: &[Line]| -> Result<FactTable, AllocError>
+                ensures { IsCoded index.entry.now.dimensions lines.now result }
+            { table_of_piece(alloc, index, lines) },
         )
         .collect(rt, alloc)
 }

@@ -1,6 +1,6 @@
 //! The columns.
 ghost use Rattle.std.specs.Prelude.{◌≡◌, ◌+◌, ◌≤◌, ◌<◌, ◌++◌, [], ◌∷◌, length, set, slice_index_or, IfOk, OnErr, OnOk};
-ghost use Rattle.std.specs.Prelude.{ℕ};
+ghost use Rattle.std.specs.Prelude.{ℕ, vec_len, vec_capacity};
 ghost use Rattle.fact_columns.specs.declared.place.Place.{Place as PlainPlace};
 ghost use Rattle.fact_columns.specs.Columns.{Held, AreColumnsOf};
 ghost use Rattle.fact_columns.specs.Places.{freed};
@@ -39,6 +39,16 @@ impl Model for FactTable {
     ghost view = { held };
 
     ghost invariant = { AreAlike };
+}
+
+// Puts elements behind those of a column, in the memory that was taken.
+fn extend<T: Copy>(column: &mut Vec<T>, with: &[T])
+    requires { vec_len column.old + length with.now ≤ vec_capacity column.old }
+    ensures items { column.new.items ≡ column.old.items ++ with.now }
+    ensures len { vec_len column.new ≡ vec_len column.old + length with.now }
+    ensures capacity { vec_capacity column.old ≤ vec_capacity column.new }
+{
+    let _within = column.extend_from_slice(with);
 }
 
 impl FactTable {
@@ -170,6 +180,28 @@ impl FactTable {
         self.supplier_class.push_reserved(with.supplier_class);
         self.part_class.push_reserved(with.part_class);
         self.date_class.push_reserved(with.date_class);
+    }
+
+    /// Puts the places of another table behind those of this one.
+    pub fn append(&mut self, other: &FactTable) -> Result<(), AllocError>
+        ensures places { OnOk result (self.new.places ≡ self.old.places ++ other.now.places) }
+        ensures unchanged { OnErr result (self.new ≡ self.old) }
+    {
+        self.reserve(other.len())?;
+        extend(&mut self.order, other.order.as_slice());
+        extend(&mut self.customer, other.customer.as_slice());
+        extend(&mut self.supplier, other.supplier.as_slice());
+        extend(&mut self.part, other.part.as_slice());
+        extend(&mut self.date, other.date.as_slice());
+        extend(&mut self.terms, other.terms.as_slice());
+        extend(&mut self.price, other.price.as_slice());
+        extend(&mut self.revenue, other.revenue.as_slice());
+        extend(&mut self.cost, other.cost.as_slice());
+        extend(&mut self.customer_class, other.customer_class.as_slice());
+        extend(&mut self.supplier_class, other.supplier_class.as_slice());
+        extend(&mut self.part_class, other.part_class.as_slice());
+        extend(&mut self.date_class, other.date_class.as_slice());
+        Ok(())
     }
 
     /// The columns that queries read: a line's rows by their classes.

@@ -8,9 +8,8 @@ ghost use Rattle.ssb_schema.specs.Facts.{facts_of};
 ghost use Rattle.fact_columns.specs.Spans.{Covers};
 ghost use Rattle.fact_columns.specs.Coded.{AreCoded, AreCodesOf};
 
-use crate::coding::coded_lines;
+use crate::coding::coded_pieces;
 use crate::fact_table::FactTable;
-use crate::place::Place;
 use crate::span::{Span, Spans, widen};
 use dimension_index::DimIndex;
 use ssb_schema::Line;
@@ -19,7 +18,7 @@ use std::collections::HashMap;
 use std::hash::RandomState;
 use std::thread::Threads;
 
-// How many lines are coded before they are put into the table.
+// How many lines are coded, in pieces, before they are put into the table.
 const BATCH: usize = 256 * 1024;
 
 // The end of the batch of lines that begins at a place.
@@ -34,17 +33,18 @@ fn batch_end(from: usize, len: usize) -> usize
     }
 }
 
-// Puts lines in codes behind those of the table, in the memory that was taken; an error at the first that has none.
-fn push_all(table: &mut FactTable, codes: &[Result<Place, AllocError>]) -> Result<(), AllocError>
-    requires { length codes.now ≤ table.old.room }
-    ensures places { OnOk result ((dimensions : Dimensions) (before : List PlainFact) (lines : List LineFields)
-        → AreCodesOf dimensions before table.old.places → AreCoded dimensions lines codes.now
+// Puts tables behind one another; an error at the first that could not be made.
+fn append_all(
+    table: &mut FactTable,
+    pieces: &[Result<FactTable, AllocError>],
+) -> Result<(), AllocError>
+    ensures { OnOk result ((dimensions : Dimensions) (before : List PlainFact) (lines : List LineFields)
+        → AreCodesOf dimensions before table.old.places → AreCoded dimensions lines pieces.now
         → AreCodesOf dimensions (before ++ facts_of lines) table.new.places) }
-    ensures room { OnOk result (table.old.room ≤ table.new.room + length codes.now) }
 {
-    for code in codes {
-        match code {
-            Ok(place) => table.push(*place),
+    for piece in pieces {
+        match piece {
+            Ok(piece) => table.append(piece)?,
             Err(_) => return Err(AllocError),
         }
     }
@@ -65,8 +65,8 @@ pub fn table_of(
     let mut done = 0;
     while done < lines.len() {
         let end = batch_end(done, lines.len());
-        let codes = coded_lines(rt, alloc, index, &lines[done..end])?;
-        push_all(&mut table, codes.as_slice())?;
+        let pieces = coded_pieces(rt, alloc, index, &lines[done..end])?;
+        append_all(&mut table, pieces.as_slice())?;
         done = end;
     }
     Ok(table)

@@ -1,17 +1,10 @@
-use Rattle.std.proofs.Common.{◌≡◌, ◌-◌, List, take, drop, subst, ap, arith, rules}
+use Rattle.std.proofs.Common.{◌-◌, List, take, drop, subst, ap, arith}
 use Rattle.std.proofs.lemmas.List.{take_all}
 use Rattle.ssb_schema.specs.declared.fact.Fact.{Fact}
 use Rattle.ssb_schema.specs.Facts.{facts_of}
 use Rattle.fact_columns.specs.Coded.{AreCoded, AreCodesOf}
-use Rattle.fact_columns.proofs.CodingLaws.{batch_count, batch_facts}
+use Rattle.fact_columns.proofs.CodingLaws.{batch_facts}
 use Rattle.fact_columns.proofs.loading.table_of.Goals as goal
-
-pub push_all-requires : goal.push_all-requires
-push_all-requires g c =
-    let end = c.batch_end-end.ensures in
-    let count = batch_count c.args.index.now.dimensions c.args.lines.now _ c.loop-done.done _ (omega (arith, end.0)) end.1
-    c.in_ok-codes.ensures in
-    omega (arith, count, end.1, c.loop-done.invariant.room)
 
 pub loop-done-preserved : goal.loop-done-preserved
 loop-done-preserved g c =
@@ -19,15 +12,13 @@ loop-done-preserved g c =
     let lines = c.args.lines.now in
     let done = c.loop-done.done in
     let end = c.batch_end-end.ensures in
-    let count = batch_count dimensions lines _ done _ (omega (arith, end.0)) end.1 c.in_ok-codes.ensures in
     let coded : AreCoded dimensions (take (c.batch_end-end.result - done) (drop done lines)) c.as_slice.result.now =
-    rw c.as_slice.ensures.value c.in_ok-codes.ensures in
+    rw c.as_slice.ensures.value c.in_ok-pieces.ensures in
     record {
       within = end.1;
-      codes = subst (λ (f : List Fact). AreCodesOf dimensions f c.push_all.new.table.places)
+      codes = subst (λ (f : List Fact). AreCodesOf dimensions f c.append_all.new.table.places)
           (batch_facts lines done _ (omega (arith, end.0)))
-          (c.in_ok-push_all.ensures.places dimensions _ _ c.loop-done.invariant.codes coded);
-      room = omega (arith, count, c.in_ok-push_all.ensures.room, c.loop-done.invariant.room, c.as_slice.ensures.value);
+          (c.in_ok-append_all.ensures dimensions _ _ c.loop-done.invariant.codes coded);
     }
 
 pub returns : goal.returns

@@ -1,4 +1,4 @@
-use Rattle.std.proofs.Common.{◌+◌, ◌-◌, ◌≤◌, length, take}
+use Rattle.std.proofs.Common.{◌-◌, ◌≤◌, length, take}
 use Rattle.ssb_schema.specs.Facts.{facts_of}
 use Rattle.fact_columns.specs.Coded.{AreCodesOf}
 use Rattle.fact_columns.proofs.loading.table_of.Given as goal
@@ -7,7 +7,6 @@ abbrev pub invariant-loop-done : goal.invariant-loop-done
 invariant-loop-done g l = record {
   within : l.done ≤ length l.lines;
   codes : AreCodesOf l.index.dimensions (facts_of (take l.done l.lines)) l.table.places;
-  room : length l.lines ≤ l.table.room + l.done;
 }
 
 abbrev pub decreases-loop-done : goal.decreases-loop-done

@@ -21,6 +21,14 @@ use Rattle.shared_scan.proofs.SparseLaws.{beside_is, all_unmapped, keys_below, s
 use Rattle.shared_scan.proofs.TotalLaws.{gains_small, losses_small}
 use Rattle.shared_scan.proofs.sparse.sparse_rows.Goals as goal
 
+pub sparse_columns-requires : goal.sparse_columns-requires
+sparse_columns-requires c =
+    let ready = c.args.ready.now in
+    let prepared = c.requires.scanned.is_ready.prepared in
+    ap length (sym c.requires.parts)
+    ∙ (prepared_lengths c.args.index.now c.args.masks.now c.args.number ready.plan.groups ready.groups.columns.items 1
+    _ prepared).1 ∙ sym (ap length c.as_slice.ensures)
+
 pub sparse_totals-requires-clause-columns : goal.sparse_totals-requires-clause-columns
 sparse_totals-requires-clause-columns c =
     let ready = c.args.ready.now in

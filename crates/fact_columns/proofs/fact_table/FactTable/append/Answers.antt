@@ -1,0 +1,155 @@
+use Rattle.std.proofs.Common.{◌≡◌, ◌+◌, ◌++◌, ◌∙◌, ap, map, arith, vec_len}
+use Rattle.std.specs.List.{range_with_len}
+use Rattle.fact_columns.specs.Columns.{place_at}
+use Rattle.fact_columns.proofs.PlaceListLaws.{alike_long, append_places, room_for}
+use Rattle.fact_columns.proofs.fact_table.FactTable.append.Goals as goal
+
+pub extend-requires : goal.extend-requires
+extend-requires c =
+    let room = room_for c.self.inside c.other.inside _ _ _ c.self.invariant c.self.view_is c.other.view_is
+    c.in_ok-reserve.ensures.room c.len.ensures in
+    omega (arith, room, c.self.invariant.order_room, c.as_slice.ensures.len)
+
+pub extend-requires-2 : goal.extend-requires-2
+extend-requires-2 c =
+    let room = room_for c.self.inside c.other.inside _ _ _ c.self.invariant c.self.view_is c.other.view_is
+    c.in_ok-reserve.ensures.room c.len.ensures in
+    omega (arith, room, c.self.invariant.customer, c.other.invariant.customer, c.self.invariant.customer_room, c.as_slice-2.ensures.len)
+
+pub extend-requires-3 : goal.extend-requires-3
+extend-requires-3 c =
+    let room = room_for c.self.inside c.other.inside _ _ _ c.self.invariant c.self.view_is c.other.view_is
+    c.in_ok-reserve.ensures.room c.len.ensures in
+    omega (arith, room, c.self.invariant.supplier, c.other.invariant.supplier, c.self.invariant.supplier_room, c.as_slice-3.ensures.len)
+
+pub extend-requires-4 : goal.extend-requires-4
+extend-requires-4 c =
+    let room = room_for c.self.inside c.other.inside _ _ _ c.self.invariant c.self.view_is c.other.view_is
+    c.in_ok-reserve.ensures.room c.len.ensures in
+    omega (arith, room, c.self.invariant.part, c.other.invariant.part, c.self.invariant.part_room, c.as_slice-4.ensures.len)
+
+pub extend-requires-5 : goal.extend-requires-5
+extend-requires-5 c =
+    let room = room_for c.self.inside c.other.inside _ _ _ c.self.invariant c.self.view_is c.other.view_is
+    c.in_ok-reserve.ensures.room c.len.ensures in
+    omega (arith, room, c.self.invariant.date, c.other.invariant.date, c.self.invariant.date_room, c.as_slice-5.ensures.len)
+
+pub extend-requires-6 : goal.extend-requires-6
+extend-requires-6 c =
+    let room = room_for c.self.inside c.other.inside _ _ _ c.self.invariant c.self.view_is c.other.view_is
+    c.in_ok-reserve.ensures.room c.len.ensures in
+    omega (arith, room, c.self.invariant.terms, c.other.invariant.terms, c.self.invariant.terms_room, c.as_slice-6.ensures.len)
+
+pub extend-requires-7 : goal.extend-requires-7
+extend-requires-7 c =
+    let room = room_for c.self.inside c.other.inside _ _ _ c.self.invariant c.self.view_is c.other.view_is
+    c.in_ok-reserve.ensures.room c.len.ensures in
+    omega (arith, room, c.self.invariant.price, c.other.invariant.price, c.self.invariant.price_room, c.as_slice-7.ensures.len)
+
+pub extend-requires-8 : goal.extend-requires-8
+extend-requires-8 c =
+    let room = room_for c.self.inside c.other.inside _ _ _ c.self.invariant c.self.view_is c.other.view_is
+    c.in_ok-reserve.ensures.room c.len.ensures in
+    omega (arith, room, c.self.invariant.revenue, c.other.invariant.revenue, c.self.invariant.revenue_room, c.as_slice-8.ensures.len)
+
+pub extend-requires-9 : goal.extend-requires-9
+extend-requires-9 c =
+    let room = room_for c.self.inside c.other.inside _ _ _ c.self.invariant c.self.view_is c.other.view_is
+    c.in_ok-reserve.ensures.room c.len.ensures in
+    omega (arith, room, c.self.invariant.cost, c.other.invariant.cost, c.self.invariant.cost_room, c.as_slice-9.ensures.len)
+
+pub extend-requires-10 : goal.extend-requires-10
+extend-requires-10 c =
+    let room = room_for c.self.inside c.other.inside _ _ _ c.self.invariant c.self.view_is c.other.view_is
+    c.in_ok-reserve.ensures.room c.len.ensures in
+    omega (arith, room, c.self.invariant.customer_class, c.other.invariant.customer_class, c.self.invariant.customer_class_room, c.as_slice-10.ensures.len)
+
+pub extend-requires-11 : goal.extend-requires-11
+extend-requires-11 c =
+    let room = room_for c.self.inside c.other.inside _ _ _ c.self.invariant c.self.view_is c.other.view_is
+    c.in_ok-reserve.ensures.room c.len.ensures in
+    omega (arith, room, c.self.invariant.supplier_class, c.other.invariant.supplier_class, c.self.invariant.supplier_class_room, c.as_slice-11.ensures.len)
+
+pub extend-requires-12 : goal.extend-requires-12
+extend-requires-12 c =
+    let room = room_for c.self.inside c.other.inside _ _ _ c.self.invariant c.self.view_is c.other.view_is
+    c.in_ok-reserve.ensures.room c.len.ensures in
+    omega (arith, room, c.self.invariant.part_class, c.other.invariant.part_class, c.self.invariant.part_class_room, c.as_slice-12.ensures.len)
+
+pub extend-requires-13 : goal.extend-requires-13
+extend-requires-13 c =
+    let room = room_for c.self.inside c.other.inside _ _ _ c.self.invariant c.self.view_is c.other.view_is
+    c.in_ok-reserve.ensures.room c.len.ensures in
+    omega (arith, room, c.self.invariant.date_class, c.other.invariant.date_class, c.self.invariant.date_class_room, c.as_slice-13.ensures.len)
+
+pub invariant_of-self : goal.invariant_of-self
+invariant_of-self c =
+    let room = room_for c.self.inside c.other.inside _ _ _ c.self.invariant c.self.view_is c.other.view_is
+    c.in_ok-reserve.ensures.room c.len.ensures in
+    let count : vec_len c.extend.new.column ≡ vec_len c.self.inside.order + vec_len c.other.inside.order =
+    c.extend.ensures.len ∙ ap (λ n. vec_len c.self.inside.order + n) c.as_slice.ensures.len in
+    record {
+      customer = omega (arith, count, c.extend-2.ensures.len, c.as_slice-2.ensures.len, c.self.invariant.customer, c.other.invariant.customer);
+      supplier = omega (arith, count, c.extend-3.ensures.len, c.as_slice-3.ensures.len, c.self.invariant.supplier, c.other.invariant.supplier);
+      part = omega (arith, count, c.extend-4.ensures.len, c.as_slice-4.ensures.len, c.self.invariant.part, c.other.invariant.part);
+      date = omega (arith, count, c.extend-5.ensures.len, c.as_slice-5.ensures.len, c.self.invariant.date, c.other.invariant.date);
+      terms = omega (arith, count, c.extend-6.ensures.len, c.as_slice-6.ensures.len, c.self.invariant.terms, c.other.invariant.terms);
+      price = omega (arith, count, c.extend-7.ensures.len, c.as_slice-7.ensures.len, c.self.invariant.price, c.other.invariant.price);
+      revenue = omega (arith, count, c.extend-8.ensures.len, c.as_slice-8.ensures.len, c.self.invariant.revenue, c.other.invariant.revenue);
+      cost = omega (arith, count, c.extend-9.ensures.len, c.as_slice-9.ensures.len, c.self.invariant.cost, c.other.invariant.cost);
+      customer_class = omega (arith, count, c.extend-10.ensures.len, c.as_slice-10.ensures.len, c.self.invariant.customer_class, c.other.invariant.customer_class);
+      supplier_class = omega (arith, count, c.extend-11.ensures.len, c.as_slice-11.ensures.len, c.self.invariant.supplier_class, c.other.invariant.supplier_class);
+      part_class = omega (arith, count, c.extend-12.ensures.len, c.as_slice-12.ensures.len, c.self.invariant.part_class, c.other.invariant.part_class);
+      date_class = omega (arith, count, c.extend-13.ensures.len, c.as_slice-13.ensures.len, c.self.invariant.date_class, c.other.invariant.date_class);
+      within = omega (arith, count, room);
+      order_room = omega (arith, c.self.invariant.order_room, c.extend.ensures.capacity);
+      customer_room = omega (arith, c.self.invariant.customer_room, c.extend-2.ensures.capacity);
+      supplier_room = omega (arith, c.self.invariant.supplier_room, c.extend-3.ensures.capacity);
+      part_room = omega (arith, c.self.invariant.part_room, c.extend-4.ensures.capacity);
+      date_room = omega (arith, c.self.invariant.date_room, c.extend-5.ensures.capacity);
+      terms_room = omega (arith, c.self.invariant.terms_room, c.extend-6.ensures.capacity);
+      price_room = omega (arith, c.self.invariant.price_room, c.extend-7.ensures.capacity);
+      revenue_room = omega (arith, c.self.invariant.revenue_room, c.extend-8.ensures.capacity);
+      cost_room = omega (arith, c.self.invariant.cost_room, c.extend-9.ensures.capacity);
+      customer_class_room = omega (arith, c.self.invariant.customer_class_room, c.extend-10.ensures.capacity);
+      supplier_class_room = omega (arith, c.self.invariant.supplier_class_room, c.extend-11.ensures.capacity);
+      part_class_room = omega (arith, c.self.invariant.part_class_room, c.extend-12.ensures.capacity);
+      date_class_room = omega (arith, c.self.invariant.date_class_room, c.extend-13.ensures.capacity);
+    }
+
+pub returns-clause-places : goal.returns-clause-places
+returns-clause-places c =
+    let t = c.self.inside in
+    let o = c.other.inside in
+    let order : c.extend.new.column.items ≡ t.order.items ++ o.order.items =
+    c.extend.ensures.items ∙ ap (λ l. t.order.items ++ l) c.as_slice.ensures.value in
+    let customer : c.extend-2.new.column.items ≡ t.customer.items ++ o.customer.items =
+    c.extend-2.ensures.items ∙ ap (λ l. t.customer.items ++ l) c.as_slice-2.ensures.value in
+    let supplier : c.extend-3.new.column.items ≡ t.supplier.items ++ o.supplier.items =
+    c.extend-3.ensures.items ∙ ap (λ l. t.supplier.items ++ l) c.as_slice-3.ensures.value in
+    let part : c.extend-4.new.column.items ≡ t.part.items ++ o.part.items =
+    c.extend-4.ensures.items ∙ ap (λ l. t.part.items ++ l) c.as_slice-4.ensures.value in
+    let date : c.extend-5.new.column.items ≡ t.date.items ++ o.date.items =
+    c.extend-5.ensures.items ∙ ap (λ l. t.date.items ++ l) c.as_slice-5.ensures.value in
+    let terms : c.extend-6.new.column.items ≡ t.terms.items ++ o.terms.items =
+    c.extend-6.ensures.items ∙ ap (λ l. t.terms.items ++ l) c.as_slice-6.ensures.value in
+    let price : c.extend-7.new.column.items ≡ t.price.items ++ o.price.items =
+    c.extend-7.ensures.items ∙ ap (λ l. t.price.items ++ l) c.as_slice-7.ensures.value in
+    let revenue : c.extend-8.new.column.items ≡ t.revenue.items ++ o.revenue.items =
+    c.extend-8.ensures.items ∙ ap (λ l. t.revenue.items ++ l) c.as_slice-8.ensures.value in
+    let cost : c.extend-9.new.column.items ≡ t.cost.items ++ o.cost.items =
+    c.extend-9.ensures.items ∙ ap (λ l. t.cost.items ++ l) c.as_slice-9.ensures.value in
+    let customer_class : c.extend-10.new.column.items ≡ t.customer_class.items ++ o.customer_class.items =
+    c.extend-10.ensures.items ∙ ap (λ l. t.customer_class.items ++ l) c.as_slice-10.ensures.value in
+    let supplier_class : c.extend-11.new.column.items ≡ t.supplier_class.items ++ o.supplier_class.items =
+    c.extend-11.ensures.items ∙ ap (λ l. t.supplier_class.items ++ l) c.as_slice-11.ensures.value in
+    let part_class : c.extend-12.new.column.items ≡ t.part_class.items ++ o.part_class.items =
+    c.extend-12.ensures.items ∙ ap (λ l. t.part_class.items ++ l) c.as_slice-12.ensures.value in
+    let date_class : c.extend-13.new.column.items ≡ t.date_class.items ++ o.date_class.items =
+    c.extend-13.ensures.items ∙ ap (λ l. t.date_class.items ++ l) c.as_slice-13.ensures.value in
+    let count : vec_len c.extend.new.column ≡ vec_len t.order + vec_len o.order =
+    c.extend.ensures.len ∙ ap (λ n. vec_len t.order + n) c.as_slice.ensures.len in
+    (λ i. map (place_at (order i) (customer i) (supplier i) (part i) (date i) (terms i) (price i) (revenue i) (cost i) (customer_class i) (supplier_class i) (part_class i) (date_class i)) (range_with_len 0 (count i)))
+    ∙ append_places t.order.items t.customer.items t.supplier.items t.part.items t.date.items t.terms.items t.price.items t.revenue.items t.cost.items t.customer_class.items t.supplier_class.items t.part_class.items t.date_class.items o.order.items o.customer.items o.supplier.items o.part.items o.date.items o.terms.items o.price.items o.revenue.items o.cost.items o.customer_class.items o.supplier_class.items o.part_class.items o.date_class.items (vec_len t.order) (vec_len o.order) (alike_long t c.self.invariant) (alike_long o c.other.invariant)
+    ∙ (λ i. (c.self.view_is i).places ++ (c.other.view_is i).places)
+    ∙ ap (λ places. places ++ c.args.other.now.places) c.reserve.ensures.places
