@@ -19,6 +19,8 @@ use Rattle.std.proofs.Common.{
   refl,
   ap,
   subst,
+  arith,
+  ne_eqb,
 }
 use Rattle.std.specs.Prelude.{slice_get}
 use Rattle.std.specs.List.{AllByRecursion}
@@ -62,7 +64,8 @@ clause-kept (value.Text []) plain allowed clause said =
     absurd (none-some clause (subst (λ found. found ≡ Some clause) nothing-said said))
 clause-kept (value.Text (b ∷ bytes)) plain allowed clause said =
     let same : b ∷ bytes ≡ plain.0 = ap bytes_in plain.1 in
-    (text_kept (b ∷ bytes) (ap is_plain same ∙ plain.2), refl, allowed)
+    let some : nat_eq (length (b ∷ bytes)) 0 ≡ false = ne_eqb (length (b ∷ bytes)) 0 (λ e. absurd (omega (arith, e))) in
+    (text_kept (b ∷ bytes) (ap is_plain same ∙ plain.2), some, allowed)
 clause-kept (value.Number n) plain allowed clause said = absurd (none-some clause said)
 
 each-kept : (values : List Value) → AllByRecursion IsPlainClause values → AllByRecursion IsAllowedValue values

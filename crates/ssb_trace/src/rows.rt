@@ -1,6 +1,7 @@
 //! The `row` records of a trace.
-ghost use Rattle.std.specs.Prelude.{◌≡◌, ◌<◌, ◌^◌, IfOk};
+ghost use Rattle.std.specs.Prelude.{◌≡◌, ◌<◌, ◌^◌, map, IfOk};
 ghost use Rattle.csv.specs.Records.{fields_of};
+ghost use Rattle.ssb_questions.specs.Clause as clause;
 ghost use Rattle.ssb_trace.specs.Rows as spec;
 
 use crate::sums::signed_of;
@@ -8,21 +9,28 @@ use csv::ByteRecord;
 use ssb_answers::ResultRow;
 use ssb_questions::clause::kind_in;
 use ssb_questions::{ConstantKind, Query, Question, question};
-use ssb_schema::Items;
+use ssb_schema::{Column, Items};
 use ssb_script::constants_from;
 use ssb_text::{has_columns, trimmed_at};
 use std::alloc::{AllocError, Global};
+
+// What these columns hold, one by one.
+fn kinds_in(alloc: Global, columns: &[Column]) -> Result<Items<ConstantKind>, AllocError>
+    ensures { IfOk result (λ kinds. kinds ≡ map clause.kind_in columns.now) }
+{
+    let mut kinds = Vec::new(alloc);
+    for column in columns {
+        kinds.push(kind_in(*column))?;
+    }
+    Ok(Items::from_vec(kinds))
+}
 
 /// What each group column of a question holds, in printed order.
 pub fn group_kinds(alloc: Global, asked: &Question) -> Result<Items<ConstantKind>, AllocError>
     ensures { IfOk result (λ kinds. kinds ≡ spec.group_kinds asked.now) }
 {
     let plan = question::plan(alloc, asked)?;
-    let mut kinds = Vec::new(alloc);
-    for column in plan.groups.as_slice() {
-        kinds.push(kind_in(*column))?;
-    }
-    Ok(Items::from_vec(kinds))
+    kinds_in(alloc, plan.groups.as_slice())
 }
 
 // The sum that bytes spell: NULL in the one row of a question without group columns, else a number.

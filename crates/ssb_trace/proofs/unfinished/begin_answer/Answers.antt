@@ -4,8 +4,8 @@ use Rattle.ssb_trace.specs.Lines.{Answer, Row}
 use Rattle.ssb_trace.specs.Steps.{Takes}
 use Rattle.ssb_trace.proofs.unfinished.begin_answer.Goals as goal
 
-pub returns-in-Some-clause-step : goal.returns-in-Some-clause-step
-returns-in-Some-clause-step c =
+pub returns-in_ok-kinds-in-Some-clause-step : goal.returns-in_ok-kinds-in-Some-clause-step
+returns-in_ok-kinds-in-Some-clause-step c =
     let head = c.in-Some.head in (
       Answer head,
       ap (option_map Answer) (sym c.in_ok-head.ensures ∙ c.in-Some.is),
