@@ -1,5 +1,6 @@
 -- The columns that clauses of a star question name, and what its plan tests in them.
-use Rattle.std.proofs.Common.{◌≡◌, ◌∙◌, ℕ, Bool, true, false, List, [], ◌∷◌, Option, Some, None, refl, sym, ap, inl, inr}
+use Rattle.std.proofs.Common.{◌≡◌, ◌∙◌, ℕ, Bool, true, false, List, [], ◌∷◌, Option, Some, None, refl, sym, ap, inl}
+use Rattle.std.proofs.Common.{inr}
 use Rattle.std.specs.Prelude.{IfSome, codes, cond, option_and_then, option_map}
 use Rattle.std.specs.List.{AllByRecursion, filter_map}
 use Rattle.std.specs.Option.{unwrap_or}
@@ -54,7 +55,8 @@ column_test_read column has bytes (Some ends) =
     (some_any (λ to. IsRead (FromTo column from to)) (λ to. has) _)) _)
 
 column_clause_read : (name bytes : List ℕ)
-    → IfSome (option_and_then (λ column. column_test column bytes (parted (codes "..") bytes)) (column_named name)) IsRead
+    → IfSome (option_and_then (λ column. column_test column bytes (parted (codes "..") bytes)) (column_named name))
+    IsRead
 column_clause_read name bytes =
     let ends = parted (codes "..") bytes in
     some_and_then IsRead (λ column. column_test column bytes ends) (column_named name)
@@ -110,7 +112,8 @@ group_read (QuantityIn range) has = tt
 group_read (DiscountIn range) has = tt
 group_read BySum has = tt
 
-pub star_groups_read : (constants : List Value) → AllByRecursion (Has query_columns) (filter_map group_in (clauses_of constants))
+pub star_groups_read : (constants : List Value)
+    → AllByRecursion (Has query_columns) (filter_map group_in (clauses_of constants))
 star_groups_read constants =
     all_kept (Has query_columns) group_in (clauses_of constants)
     (all_weaker IsRead (λ clause. IfSome (group_in clause) (Has query_columns)) group_read (clauses_of constants)
@@ -121,7 +124,7 @@ named_back : AllByRecursion (λ column. column_named (column_name column) ≡ So
 named_back =
     (refl, (refl, (refl, (refl, (refl, (refl, (refl, (refl, (refl, (refl, (refl, (refl, (refl, tt)))))))))))))
 
-at : {X : Type 0} (P : X → Type 0) (xs : List X) (x : X) → AllByRecursion P xs → Has xs x → P x
+pub at : {X : Type 0} (P : X → Type 0) (xs : List X) (x : X) → AllByRecursion P xs → Has xs x → P x
 at P [] x all has = absurd has
 at P (y ∷ xs) x all (inl e) = let here : P y = all.0 in rw e here
 at P (y ∷ xs) x all (inr has) = at P xs x all.1 has
@@ -181,11 +184,13 @@ tests_are t columns all clauses =
 pub read : AllByRecursion (Has query_columns) query_columns
 read = all_has query_columns
 
-pub customer_tests : (clauses : List Clause) → AllByRecursion (IsTestOf table.Customer) (tests_of clauses customer_columns)
+pub customer_tests : (clauses : List Clause)
+    → AllByRecursion (IsTestOf table.Customer) (tests_of clauses customer_columns)
 customer_tests = tests_are table.Customer customer_columns
     ((refl, read.0, true, refl), ((refl, read.1.0, true, refl), ((refl, read.1.1.0, true, refl), tt)))
 
-pub supplier_tests : (clauses : List Clause) → AllByRecursion (IsTestOf table.Supplier) (tests_of clauses supplier_columns)
+pub supplier_tests : (clauses : List Clause)
+    → AllByRecursion (IsTestOf table.Supplier) (tests_of clauses supplier_columns)
 supplier_tests = tests_are table.Supplier supplier_columns
     ((refl, read.1.1.1.0, true, refl), ((refl, read.1.1.1.1.0, true, refl), ((refl, read.1.1.1.1.1.0, true, refl), tt)))
 

@@ -54,7 +54,8 @@ abbrev kinds_of : Query → List ConstantKind
 kinds_of query = unwrap_or (constant_kinds query) []
 
 by_kinds : (kinds : Option (List ConstantKind)) (query : Query) (constants : List Value)
-    → fault_by kinds query constants ≡ None → (place : ℕ) (k : ConstantKind) → slice_get (unwrap_or kinds []) place ≡ Some k
+    → fault_by kinds query constants ≡ None → (place : ℕ) (k : ConstantKind)
+    → slice_get (unwrap_or kinds []) place ≡ Some k
     → (v : Value) × (slice_get constants place ≡ Some v) × (fits k v ≡ true)
 by_kinds None query constants fit place k at = absurd cc
 by_kinds (Some kinds) query constants fit place k at =

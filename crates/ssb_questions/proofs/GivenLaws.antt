@@ -10,7 +10,8 @@ use Rattle.ssb_questions.specs.Clause.{Clause, Sums, GroupsBy, Is, FromTo, Quant
 use Rattle.ssb_questions.specs.Clauses.{clauses_of, same_column}
 use Rattle.ssb_questions.specs.Members.{Has}
 use Rattle.ssb_questions.specs.Plan.{AreValues, IsRangeOfConstants, IsSpelled, IsTestOfConstants, LooksForConstants}
-use Rattle.ssb_questions.specs.Star.{cond_by, cond_of, customer_columns, date_columns, discount_in, first_in, number_cond}
+use Rattle.ssb_questions.specs.Star.{cond_by, cond_of, customer_columns, date_columns, discount_in, first_in}
+use Rattle.ssb_questions.specs.Star.{number_cond}
 use Rattle.ssb_questions.specs.Star.{number_in, numbers_in, part_columns, quantity_in, star_plan_over, supplier_columns}
 use Rattle.ssb_questions.specs.Star.{test_of, tests_of, text_cond, text_in, texts_in}
 use Rattle.ssb_questions.specs.declared.kind.ConstantKind.{ConstantKind}
@@ -69,8 +70,10 @@ module _ (constants : List Value) (column : Column) (has : Has query_columns col
       → IfSome (texts_in column clause) (λ ends. So (Text ends.0) × So (Text ends.1))
   texts_so (FromTo c (Text from) (Text to)) is =
       some_where (λ ends. So (Text ends.0) × So (Text ends.1)) (same_column c column) (from, to)
-      (λ same. let named = same_is c column is.1 has same in
-      ((FromTo c (Text from) (Text to), is.0, (named, inl refl)), (FromTo c (Text from) (Text to), is.0, (named, inr refl))))
+      (λ same. let named = same_is c column is.1 has same in (
+        (FromTo c (Text from) (Text to), is.0, (named, inl refl)),
+        (FromTo c (Text from) (Text to), is.0, (named, inr refl)),
+      ))
   texts_so (FromTo c (Text from) (Number to)) is = tt
   texts_so (FromTo c (Number from) to) is = tt
   texts_so (Is c v) is = tt
@@ -115,14 +118,16 @@ module _ (constants : List Value) (column : Column) (has : Has query_columns col
 
   cond_so : (k : ConstantKind) → IfSome (cond_by k column (clauses_of constants)) (AreValues So)
   cond_so (kind.Text c) =
-      texts_cond (first_in (texts_in column) (clauses_of constants)) (filter_map (text_in column) (clauses_of constants))
+      texts_cond (first_in (texts_in column) (clauses_of constants))
+      (filter_map (text_in column) (clauses_of constants))
       (some_first (λ ends. So (Text ends.0) × So (Text ends.1)) (filter_map (texts_in column) (clauses_of constants))
       (all_say constants (texts_in column) (λ ends. So (Text ends.0) × So (Text ends.1)) texts_so))
       (all_say constants (text_in column) (λ text. So (Text text)) text_so)
   cond_so kind.Number =
       numbers_cond (first_in (numbers_in column) (clauses_of constants))
       (filter_map (number_in column) (clauses_of constants))
-      (some_first (λ ends. So (Number ends.0) × So (Number ends.1)) (filter_map (numbers_in column) (clauses_of constants))
+      (some_first (λ ends. So (Number ends.0) × So (Number ends.1))
+      (filter_map (numbers_in column) (clauses_of constants))
       (all_say constants (numbers_in column) (λ ends. So (Number ends.0) × So (Number ends.1)) numbers_so))
       (all_say constants (number_in column) (λ n. So (Number n)) number_so)
 

@@ -7,5 +7,6 @@ pub mod GivenLaws
 pub mod ConstantLaws
 pub mod StarLaws
 pub mod PlainLaws
+pub mod SpellingLaws
 pub mod PartedLaws
 pub mod ClauseLaws

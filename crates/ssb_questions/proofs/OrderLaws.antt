@@ -1,12 +1,14 @@
 -- In each plan the order names every group column, so that no two groups tie.
-use Rattle.std.proofs.Common.{◌≡◌, ◌≢◌, ℕ, ◌<◌, ◌≤◌, ◌+◌, zero, suc, Bool, true, false, nat_eq, List, ◌∷◌, map, length, refl, ap, inl}
+use Rattle.std.proofs.Common.{◌≡◌, ◌≢◌, ℕ, ◌<◌, ◌≤◌, ◌+◌, zero, suc, Bool, true, false, nat_eq, List, ◌∷◌, map, length}
+use Rattle.std.proofs.Common.{refl, ap, inl}
 use Rattle.std.proofs.Common.{inr, arith}
 use Rattle.std.specs.List.{range_with_len, filter_map}
 use Rattle.std.specs.Cmp.{unsigned_Decides}
 use Rattle.ssb_questions.specs.declared.value.Value.{Value}
 use Rattle.ssb_questions.specs.declared.plan.OrderKey.TheVariants.{Group}
 use Rattle.ssb_questions.specs.declared.query.Query.{Query}
-use Rattle.ssb_questions.specs.declared.query.Query.TheVariants.{Q1_1, Q1_2, Q1_3, Q2_1, Q2_2, Q2_3, Q3_1, Q3_2, Q3_3, Q3_4}
+use Rattle.ssb_questions.specs.declared.query.Query.TheVariants.{Q1_1, Q1_2, Q1_3, Q2_1, Q2_2, Q2_3, Q3_1, Q3_2, Q3_3}
+use Rattle.ssb_questions.specs.declared.query.Query.TheVariants.{Q3_4}
 use Rattle.ssb_questions.specs.declared.query.Query.TheVariants.{Q4_1, Q4_2, Q4_3, Star}
 use Rattle.ssb_questions.specs.Members.{Has}
 use Rattle.ssb_questions.specs.Queries.{plan_over, by_two_columns, by_three_columns, by_year_and_sum}
@@ -39,10 +41,12 @@ by_year = below_3 (λ place. Has by_year_and_sum (Group place)) (inr (inr (inl r
 keys : (n a place : ℕ) → a ≤ place → place < a + n → Has (map Group (range_with_len a n)) (Group place)
 keys zero a place from to = absurd (omega (arith, from, to))
 keys (suc n) a place from to =
-    elim (nat_eq place a) as (λ b. nat_eq place a ≡ b → Has (Group a ∷ map Group (range_with_len (a + 1) n)) (Group place)) [
+    elim (nat_eq place a) as (λ b. nat_eq place a ≡ b
+    → Has (Group a ∷ map Group (range_with_len (a + 1) n)) (Group place)) [
       | true ↦ λ t. inl (ap Group ((unsigned_Decides place a).0 t))
       | false ↦ λ f. inr (keys n (a + 1) place (let other : place ≢ a = λ e. let t :
-          nat_eq place a ≡ true = (unsigned_Decides place a).1 e in cc in omega (arith, from, other)) (omega (arith, to)))
+          nat_eq place a ≡ true = (unsigned_Decides place a).1 e in cc in omega (arith, from, other))
+          (omega (arith, to)))
     ] refl
 
 by_all : (by_sum : Bool) (n place : ℕ) → place < n → Has (order_of by_sum n) (Group place)

@@ -15,8 +15,10 @@ use Rattle.ssb_schema.specs.declared.fault.SchemaFault.{SchemaFault}
 use Rattle.ssb_questions.proofs.SomeLaws.{some_and_then, some_map, some_or, some_weaker}
 use Rattle.ssb_questions.proofs.StarLaws.{says}
 use Rattle.ssb_questions.specs.Clause.{Clause, Sums, GroupsBy, Is, FromTo, QuantityIn, DiscountIn, BySum, clause_of}
-use Rattle.ssb_questions.specs.Clause.{clause_parted, column_named, column_test, kind_in, measure_name, measure_named, measures}
-use Rattle.ssb_questions.specs.Clause.{number_spelled, parted, range_of, range_spelled, spelled_as, test_clause, value_for}
+use Rattle.ssb_questions.specs.Clause.{clause_parted, column_named, column_test, kind_in, measure_name, measure_named}
+use Rattle.ssb_questions.specs.Clause.{measures}
+use Rattle.ssb_questions.specs.Clause.{number_spelled, parted, range_of, range_spelled, spelled_as, test_clause}
+use Rattle.ssb_questions.specs.Clause.{value_for}
 use Rattle.ssb_questions.specs.Clause.{word_clause}
 use Rattle.ssb_questions.specs.Clauses.{clause_said}
 use Rattle.ssb_questions.specs.Kind.{fits}
@@ -52,7 +54,8 @@ two_plain b c rest byte plain =
     both (is_plain_byte b && list_all is_plain_byte (c ∷ rest)) (not (ends_in_space (b ∷ c ∷ rest)))
     (both (is_plain_byte b) (list_all is_plain_byte (c ∷ rest)) byte bytes) (ap not (later b c rest) ∙ end)
 
-behind_mark : (b : ℕ) (bytes : List ℕ) → is_plain_byte b ≡ true → nat_eq 32 b ≡ false → IsPlain bytes → IsPlain (b ∷ bytes)
+behind_mark : (b : ℕ) (bytes : List ℕ) → is_plain_byte b ≡ true → nat_eq 32 b ≡ false → IsPlain bytes
+    → IsPlain (b ∷ bytes)
 behind_mark b [] byte other plain = one_plain b byte other
 behind_mark b (c ∷ rest) byte other plain = two_plain b c rest byte plain
 
@@ -128,7 +131,8 @@ unfolding parted
 joined mark [] = tt
 joined mark (b ∷ rest) =
     elim (starts_with nat_eq (b ∷ rest) mark) as (λ t. starts_with nat_eq (b ∷ rest) mark ≡ t
-    → IfSome (cond t (Some ([], drop (length mark) (b ∷ rest))) (option_map (λ parts. (b ∷ parts.0, parts.1)) (parted mark rest)))
+    → IfSome (cond t (Some ([], drop (length mark) (b ∷ rest)))
+    (option_map (λ parts. (b ∷ parts.0, parts.1)) (parted mark rest)))
     (IsJoined mark (b ∷ rest))) [
       | true ↦ λ begins. (starts_is Decides-eqb (b ∷ rest) mark (starts_with nat_eq (b ∷ rest) mark) refl).0 begins
       | false ↦ λ _. some_map (IsJoined mark (b ∷ rest)) (λ parts. (b ∷ parts.0, parts.1)) (parted mark rest)
@@ -253,7 +257,8 @@ there None Q x e some = absurd cc
 there (Some y) Q x e some = some
 
 said_plain : (v : Value) (clause : Clause) → clause_said v ≡ Some clause → IsPlainClause v
-said_plain (value.Text bytes) clause e = (bytes, refl, there (clause_of bytes) (IsPlain bytes) clause e (clause_plain bytes))
+said_plain (value.Text bytes) clause e =
+    (bytes, refl, there (clause_of bytes) (IsPlain bytes) clause e (clause_plain bytes))
 said_plain (value.Number n) clause e = absurd cc
 
 all_from_places : {X : Type 0} (P : X → Type 0) (xs : List X) → ((i : ℕ) (x : X) → slice_get xs i ≡ Some x → P x)

@@ -1,5 +1,6 @@
 -- What holds of a value wherever there is one.
-use Rattle.std.proofs.Common.{◌≡◌, ◌≢◌, ℕ, zero, suc, ◌+◌, ◌≤◌, ap, arith, Bool, true, false, cond, List, [], ◌∷◌, Option, Some, None, refl}
+use Rattle.std.proofs.Common.{◌≡◌, ◌≢◌, ℕ, zero, suc, ◌+◌, ◌≤◌, ap, arith, Bool, true, false, cond, List, [], ◌∷◌}
+use Rattle.std.proofs.Common.{Option, Some, None, refl}
 use Rattle.std.specs.Prelude.{IfSome, option_map, option_and_then, find, slice_get}
 use Rattle.std.specs.List.{AllByRecursion, filter_map, cons_option, range_with_len}
 use Rattle.std.specs.Option.{option_or}

@@ -1,6 +1,7 @@
 -- What every plan promises, and what is true of the constants that `star` takes.
 use Rattle.std.proofs.Common.{◌≡◌, ◌∙◌, ℕ, zero, suc, ◌+◌, ◌-◌, ◌<◌, ◌≤◌, max, Bool, true, false, not, ◌&&◌, cond}
-use Rattle.std.proofs.Common.{nat_eq, nat_lt, nat_le, List, [], ◌∷◌, length, take, Option, Some, None, refl, sym, ap, rules}
+use Rattle.std.proofs.Common.{nat_eq, nat_lt, nat_le, List, [], ◌∷◌, length, take, Option, Some, None, refl, sym, ap}
+use Rattle.std.proofs.Common.{rules}
 use Rattle.std.proofs.Common.{arith, inl, inr}
 use Rattle.std.specs.Prelude.{if◌then◌else◌, find, option_and_then, option_map, slice_get}
 use Rattle.std.specs.List.{AllByRecursion, filter_map, cons_option, range_with_len}
@@ -11,7 +12,8 @@ use Rattle.ssb_schema.specs.Columns.{query_columns}
 use Rattle.ssb_schema.specs.declared.column.Column.{Column}
 use Rattle.ssb_questions.proofs.ColumnLaws.{customer_tests, date_tests, part_tests, star_groups_read, supplier_tests}
 use Rattle.ssb_questions.specs.Clause.{Clause, Sums, GroupsBy, Is, FromTo, QuantityIn, DiscountIn, BySum}
-use Rattle.ssb_questions.specs.Clauses.{clause_said, clauses_of, first_bad, may_stand, may_stand_at, subject, subject_of}
+use Rattle.ssb_questions.specs.Clauses.{clause_said, clauses_of, first_bad, may_stand, may_stand_at, subject}
+use Rattle.ssb_questions.specs.Clauses.{subject_of}
 use Rattle.ssb_questions.specs.Clauses.{subjects_of}
 use Rattle.ssb_questions.specs.Members.{Has}
 use Rattle.ssb_questions.specs.Plan.{IsOverColumns}
@@ -21,7 +23,8 @@ use Rattle.ssb_questions.specs.Star.{group_in}
 use Rattle.ssb_questions.specs.declared.clauses.Subject.{Subject}
 use Rattle.ssb_questions.specs.declared.question.ConstantsFault.TheVariants.{BadConstant}
 use Rattle.ssb_questions.specs.declared.query.Query.{Query}
-use Rattle.ssb_questions.specs.declared.query.Query.TheVariants.{Q1_1, Q1_2, Q1_3, Q2_1, Q2_2, Q2_3, Q3_1, Q3_2, Q3_3, Q3_4}
+use Rattle.ssb_questions.specs.declared.query.Query.TheVariants.{Q1_1, Q1_2, Q1_3, Q2_1, Q2_2, Q2_3, Q3_1, Q3_2, Q3_3}
+use Rattle.ssb_questions.specs.declared.query.Query.TheVariants.{Q3_4}
 use Rattle.ssb_questions.specs.declared.query.Query.TheVariants.{Q4_1, Q4_2, Q4_3, Star}
 use Rattle.ssb_questions.specs.declared.value.Value.{Value}
 
@@ -47,7 +50,8 @@ over_columns Star constants = record {
   groups = star_groups_read constants;
 }
 
-pub groups_read : (query : Query) (constants : List Value) → AllByRecursion (Has query_columns) (plan_over query constants).groups
+pub groups_read : (query : Query) (constants : List Value)
+    → AllByRecursion (Has query_columns) (plan_over query constants).groups
 groups_read query constants = (over_columns query constants).groups
 
 -- where no place is bad, each constant may stand at its place
@@ -55,7 +59,8 @@ not_found : (here : Bool) (a : ℕ) (later : Option ℕ) → cond here (Some a) 
 not_found false a later e = (refl, e)
 not_found true a later e = absurd cc
 
-nowhere : (p : ℕ → Bool) (n a : ℕ) → find p (range_with_len a n) ≡ None → (place : ℕ) → place < n → p (a + place) ≡ false
+nowhere : (p : ℕ → Bool) (n a : ℕ) → find p (range_with_len a n) ≡ None → (place : ℕ) → place < n
+    → p (a + place) ≡ false
 nowhere p zero a none place lt = absurd (omega (arith, lt))
 nowhere p (suc n) a none zero lt =
     let here : p a ≡ false = (not_found (p a) a (find p (range_with_len (a + 1) n)) none).0 in
@@ -95,7 +100,8 @@ stands : (constants : List Value) → constants_fault Star constants ≡ None �
     → may_stand_at i (subjects_of (take i constants)) (option_map subject (clause_said v)) ≡ true
 stands constants none i v at =
     let m = second_so (nat_lt i 64) _ (may constants none i (within constants i v at)) in
-    ap (λ (o : Option Value). may_stand_at i (subjects_of (take i constants)) (option_and_then subject_of o)) (sym at) ∙ m
+    ap (λ (o : Option Value). may_stand_at i (subjects_of (take i constants)) (option_and_then subject_of o)) (sym at)
+    ∙ m
 
 -- a group column stands at the second to fifth place
 behind : (i : ℕ) (first second : Bool) → (if nat_eq i 0 then false else (nat_le i 4 && first && second)) ≡ true
@@ -147,7 +153,8 @@ few_star_groups : (constants : List Value) → constants_fault Star constants �
     → length (filter_map group_in (clauses_of constants)) ≤ 4
 few_star_groups constants none =
     let few = few_from constants 0 (λ i v column at e.
-    let place = group_place i (subjects_of (take i constants)) (clause_said v) column (stands constants none i v at) e in
+    let place = group_place i (subjects_of (take i constants)) (clause_said v) column
+    (stands constants none i v at) e in
     (omega (arith, place.0), omega (arith, place.1))) in
     omega (arith, few)
 

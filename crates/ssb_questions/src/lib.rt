@@ -10,7 +10,8 @@
 //! evaluation and the scan, in crates above, are both stated over this plan.
 //!
 //! The contract: a plan is the row of the table in `specs/Queries.antt` with the question's constants
-//! in their places, or what the clauses spell by `specs/Star.antt`; and its order looks at every group column, so that no two rows tie.
+//! in their places, or what the clauses of `star` spell by `specs/Star.antt`. Its order looks at every
+//! group column, so that no two rows tie.
 //!
 //! ```text
 //! let query = Query::by_name("Q2.1")?;
