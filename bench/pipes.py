@@ -110,6 +110,38 @@ class Client:
         time.sleep(SETTLING)
 
 
+class Asker:
+    """A client that has one request under way, and reads with no thread between."""
+
+    def __init__(self, ends):
+        into, out = ends
+        self.out = os.open(out, os.O_RDONLY)
+        self.into = os.open(into, os.O_WRONLY)
+
+    def ask(self, request):
+        """Sends a request, and gives the seconds until its reply was read."""
+        start = time.perf_counter()
+        os.write(self.into, request)
+        reply = os.read(self.out, 1 << 20)
+        while not self.is_whole(reply):
+            part = os.read(self.out, 1 << 20)
+            if not part:
+                raise Disagreement("the session ended")
+            reply += part
+        self.reply = reply
+        return time.perf_counter() - start
+
+    @staticmethod
+    def is_whole(reply):
+        head, end, rows = reply.partition(b"\n")
+        wanted = int(head.rpartition(b" rows ")[2]) if b" rows " in head else 0
+        return bool(end) and rows.count(b"\n") == wanted and (not rows or rows.endswith(b"\n"))
+
+    def close(self):
+        os.close(self.into)
+        os.close(self.out)
+
+
 class Told(Lines):
     """The lines of a session, as `read_reply` reads them."""
 
