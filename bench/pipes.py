@@ -23,7 +23,7 @@ BAD_REQUESTS = [("que", "70 BadLine 1"), ("commit", "70 BadLine 1"), ("query|Q9.
 class Server:
     """The program with so many clients, each over two named pipes in a folder."""
 
-    def __init__(self, data, folder, clients, *words):
+    def __init__(self, data, folder, clients, *words, quiet=True):
         self.ends = []
         for number in range(1, clients + 1):
             ends = folder / f"in-{number}", folder / f"out-{number}"
@@ -32,8 +32,8 @@ class Server:
                     os.mkfifo(end)
             self.ends.append(ends)
         self.errors = open(folder / "errors", "w+")
-        given = [word for ends in self.ends for word in ("--client", *ends)]
-        self.process = subprocess.Popen([LIVE, "serve", "--data", data, "--quiet", *words, *given], stderr=self.errors,
+        given = ["--quiet"] * quiet + [word for ends in self.ends for word in ("--client", *ends)]
+        self.process = subprocess.Popen([LIVE, "serve", "--data", data, *words, *given], stderr=self.errors,
                                         stdin=subprocess.DEVNULL, stdout=subprocess.DEVNULL)
 
     def told(self):
