@@ -142,6 +142,38 @@ class Asker:
         os.close(self.out)
 
 
+def refreshes(tables, first, count):
+    """The text of so many refreshes, each of which adds an order of one line."""
+    line = (f"|1|{tables.customers[0]}|{tables.parts[0]}|{tables.suppliers[0]}|{tables.dates[0]}|5-LOW|0|10|1000000|"
+            f"1000000|2|980000|600000|0|{tables.dates[0]}|AIR\ncommit\n")
+    return "".join(f"begin\nadd\nline|{key}{line}" for key in range(first, first + count)).encode()
+
+
+def floods(ends, text, count):
+    """Sends refreshes without waiting, and reads as many replies: the seconds from the first byte to the last."""
+    into, out = ends
+    out = os.open(out, os.O_RDONLY)
+    into = os.open(into, os.O_WRONLY)
+
+    def send():
+        left = memoryview(text)
+        while left:
+            left = left[os.write(into, left[:1 << 20]):]
+        os.close(into)
+
+    sender = threading.Thread(target=send, daemon=True)
+    start = time.monotonic()
+    sender.start()
+    told, replies = 0, b"-"
+    while replies:
+        replies = os.read(out, 1 << 20)
+        told += replies.count(b"\n")
+    os.close(out)
+    if told != count:
+        raise Disagreement(f"{told} replies to {count} refreshes")
+    return start, time.monotonic()
+
+
 class Told(Lines):
     """The lines of a session, as `read_reply` reads them."""
 
