@@ -20,7 +20,8 @@ from pipes import refreshes
 
 CLIENTS = 16
 FIRST_KEY = 10**12          # of the sixteen; those of the one follow from ten times that on
-CHECKED = [("customer", "c_custkey", 2), ("supplier", "s_suppkey", 4), ("part", "p_partkey", 3), ("dwdate", "d_datekey", 5)]
+CHECKED = [("customer", "c_custkey", 2), ("supplier", "s_suppkey", 4), ("part", "p_partkey", 3),
+           ("dwdate", "d_datekey", 5)]
 SYNCS = 200
 
 

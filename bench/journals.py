@@ -1,4 +1,4 @@
-"""Reads a journal of `ssb_live serve --journal`, by docs/FORMATS.md alone: its groups, and the commits that they keep."""
+"""Reads a journal of `ssb_live serve --journal`, by docs/FORMATS.md alone: its groups, and the commits in them."""
 import hashlib
 import re
 

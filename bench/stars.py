@@ -7,6 +7,10 @@ GREATEST = 2**32 - 1
 MOST_GROUPS, MOST_VALUES, MOST_CONSTANTS = 4, 16, 64
 ORDER = "ORDER=SUM"
 
+# Values that hardly any row has.
+ODD_TEXTS = ["ATLANTIS", "", "mfgr#1", "MFGR#1=", "a=b", ".", "it's", "Überlänge ✓", "\\", "x" * 64]
+ODD_NUMBERS = ["0", "7", "01993", str(GREATEST), "0000000000000199401"]
+
 # The columns that a question may group by and test, each with the kind of its values in `traffic.Tables`.
 COLUMNS = {
     "C_CITY": "city", "C_NATION": "nation", "C_REGION": "region", "S_CITY": "city", "S_NATION": "nation",
@@ -99,12 +103,14 @@ class Stars:
         if not self.chance(0.06):
             return self.random.choice(self.values[COLUMNS[column]])
         if column in NUMBER_COLUMNS:
-            return self.random.choice(["0", "7", "01993", str(GREATEST), "0000000000000199401"])
-        return self.random.choice(["ATLANTIS", "", "mfgr#1", "MFGR#1=", "a=b", ".", "it's", "Überlänge ✓", "\\", "x" * 64])
+            return self.random.choice(ODD_NUMBERS)
+        return self.random.choice(ODD_TEXTS)
 
     def line_test(self, column):
         def number():
-            return self.random.choice([GREATEST, 99]) if self.chance(0.05) else self.random.randint(0, LINE_COLUMNS[column])
+            if self.chance(0.05):
+                return self.random.choice([GREATEST, 99])
+            return self.random.randint(0, LINE_COLUMNS[column])
 
         if self.chance(0.3):
             return f"{column}={number()}"
