@@ -23,7 +23,7 @@ BAD_REQUESTS = [("que", "70 BadLine 1"), ("commit", "70 BadLine 1"), ("query|Q9.
 class Server:
     """The program with so many clients, each over two named pipes in a folder."""
 
-    def __init__(self, data, folder, clients, *words, quiet=True):
+    def __init__(self, data, folder, clients, *words, quiet=True, env=None):
         self.ends = []
         for number in range(1, clients + 1):
             ends = folder / f"in-{number}", folder / f"out-{number}"
@@ -34,7 +34,7 @@ class Server:
         self.errors = open(folder / "errors", "w+")
         given = ["--quiet"] * quiet + [word for ends in self.ends for word in ("--client", *ends)]
         self.process = subprocess.Popen([LIVE, "serve", "--data", data, *words, *given], stderr=self.errors,
-                                        stdin=subprocess.DEVNULL, stdout=subprocess.DEVNULL)
+                                        stdin=subprocess.DEVNULL, stdout=subprocess.DEVNULL, env=env)
 
     def told(self):
         self.errors.seek(0)
