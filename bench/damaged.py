@@ -68,7 +68,7 @@ class Damaged:
         self.journal.write_bytes(content)
         status, told = self.start(data)
         if (status, told) != (1, f"ssb_live: journal: {fault}\n") or self.journal.read_bytes() != content:
-            raise Disagreement(f"{kind}: status {status}, {told.strip()!r} in place of {fault}, or the file was changed")
+            raise Disagreement(f"{kind}: status {status}, {told.strip()!r} in place of {fault}, or another file")
         self.told[kind] = self.told.get(kind, 0) + 1
 
     def in_use(self, content):

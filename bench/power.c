@@ -1,6 +1,6 @@
-// Keeps, beside the file POWER_FILE, what a power cut would leave of it at the least: POWER_FILE.synced has the bytes that
-// its last sync put on the disk. Loaded before the C library, by bench/crash --power, which writes that file before a
-// start and mixes it with the unsynced bytes behind a kill.
+// Keeps, beside the file POWER_FILE, what a power cut would leave of it at the least: POWER_FILE.synced has the bytes
+// that its last sync put on the disk. Loaded before the C library, by bench/crash --power, which writes that file before
+// a start and mixes it with the unsynced bytes behind a kill.
 #define _GNU_SOURCE
 #include <dlfcn.h>
 #include <fcntl.h>
@@ -18,8 +18,8 @@ static off_t unsynced = LLONG_MAX;      // the first byte that was changed since
 static int is_watched(int file) {
     struct stat this, watched;
     const char *name = getenv("POWER_FILE");
-    return name && !fstat(file, &this) && S_ISREG(this.st_mode) && !stat(name, &watched) && this.st_dev == watched.st_dev
-           && this.st_ino == watched.st_ino;
+    return name && !fstat(file, &this) && S_ISREG(this.st_mode) && !stat(name, &watched)
+           && this.st_dev == watched.st_dev && this.st_ino == watched.st_ino;
 }
 
 static void changed(off_t at) {
