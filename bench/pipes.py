@@ -16,6 +16,7 @@ SETTLING = 0.5          # seconds in which the server notices that a client has 
 MOST_BYTES = 1 << 20    # of a request
 AHEAD = 40              # requests that a client sends at most before it reads their replies
 BAD_REQUESTS = [("que", "70 BadLine 1"), ("commit", "70 BadLine 1"), ("query|Q9.9", "70 BadLine 1"),
+                ("query|star", "70 BadLine 1"), ("query|star|COUNT|D_YEAR|D_YEAR", "70 BadLine 1"),
                 ("begin\ncommit", "72 EmptyBlock 2"), ("begin\nwithdraw|x\ncommit", "70 BadLine 2"),
                 ("begin\nadd\ncommit", "73 Row 2 1 NoLines")]
 
