@@ -8,6 +8,7 @@ import re
 import sqlite3
 
 from common import HERE, read_queries
+from stars import sql_of
 from traffic import CONSTANTS, NUMBERS, Question, Withdrawal
 
 COMMITTED = re.compile(r"committed (\d+)")
@@ -155,12 +156,15 @@ class Warehouse:
                 self.insert("lineorder", action.lines)
 
     def rows(self, question):
-        sql, constants = self.questions[question.name]
-        kinds = CONSTANTS[question.name].split()
-        given = [int(text) if kind in NUMBERS else text for kind, text in zip(kinds, question.constants)]
-        if given:
-            given = [given[place] for place in SQL_ORDER.get(question.name, range(len(given)))]
-        rows = self.base.execute(sql, given or constants).fetchall()
+        if question.name == "star":
+            rows = self.base.execute(sql_of(question.constants)).fetchall()
+        else:
+            sql, constants = self.questions[question.name]
+            kinds = CONSTANTS[question.name].split()
+            given = [int(text) if kind in NUMBERS else text for kind, text in zip(kinds, question.constants)]
+            if given:
+                given = [given[place] for place in SQL_ORDER.get(question.name, range(len(given)))]
+            rows = self.base.execute(sql, given or constants).fetchall()
         return ["|".join("NULL" if value is None else str(value) for value in row) for row in rows]
 
 

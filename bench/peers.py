@@ -207,7 +207,7 @@ class ClickHouse(Peer):
     def post(self, body, **words):
         """One request over HTTP; the body is a text or an open file."""
         connection = http.client.HTTPConnection("127.0.0.1", self.port, blocksize=1 << 20)
-        connection.request("POST", "/?" + urllib.parse.urlencode(words), body)
+        connection.request("POST", "/?" + urllib.parse.urlencode(words), body.encode() if isinstance(body, str) else body)
         reply = connection.getresponse()
         text = reply.read().decode()
         connection.close()

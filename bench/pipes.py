@@ -16,6 +16,7 @@ SETTLING = 0.5          # seconds in which the server notices that a client has 
 MOST_BYTES = 1 << 20    # of a request
 AHEAD = 40              # requests that a client sends at most before it reads their replies
 BAD_REQUESTS = [("que", "70 BadLine 1"), ("commit", "70 BadLine 1"), ("query|Q9.9", "70 BadLine 1"),
+                ("query|star", "70 BadLine 1"), ("query|star|COUNT|D_YEAR|D_YEAR", "70 BadLine 1"),
                 ("begin\ncommit", "72 EmptyBlock 2"), ("begin\nwithdraw|x\ncommit", "70 BadLine 2"),
                 ("begin\nadd\ncommit", "73 Row 2 1 NoLines")]
 
@@ -23,7 +24,7 @@ BAD_REQUESTS = [("que", "70 BadLine 1"), ("commit", "70 BadLine 1"), ("query|Q9.
 class Server:
     """The program with so many clients, each over two named pipes in a folder."""
 
-    def __init__(self, data, folder, clients, *words):
+    def __init__(self, data, folder, clients, *words, quiet=True, env=None):
         self.ends = []
         for number in range(1, clients + 1):
             ends = folder / f"in-{number}", folder / f"out-{number}"
@@ -32,9 +33,9 @@ class Server:
                     os.mkfifo(end)
             self.ends.append(ends)
         self.errors = open(folder / "errors", "w+")
-        given = [word for ends in self.ends for word in ("--client", *ends)]
-        self.process = subprocess.Popen([LIVE, "serve", "--data", data, "--quiet", *words, *given], stderr=self.errors,
-                                        stdin=subprocess.DEVNULL, stdout=subprocess.DEVNULL)
+        given = ["--quiet"] * quiet + [word for ends in self.ends for word in ("--client", *ends)]
+        self.process = subprocess.Popen([LIVE, "serve", "--data", data, *words, *given], stderr=self.errors,
+                                        stdin=subprocess.DEVNULL, stdout=subprocess.DEVNULL, env=env)
 
     def told(self):
         self.errors.seek(0)
@@ -108,6 +109,70 @@ class Client:
         self.reader.join(PATIENCE)
         os.close(self.into)
         time.sleep(SETTLING)
+
+
+class Asker:
+    """A client that has one request under way, and reads with no thread between."""
+
+    def __init__(self, ends):
+        into, out = ends
+        self.out = os.open(out, os.O_RDONLY)
+        self.into = os.open(into, os.O_WRONLY)
+
+    def ask(self, request):
+        """Sends a request, and gives the seconds until its reply was read."""
+        start = time.perf_counter()
+        os.write(self.into, request)
+        reply = os.read(self.out, 1 << 20)
+        while not self.is_whole(reply):
+            part = os.read(self.out, 1 << 20)
+            if not part:
+                raise Disagreement("the session ended")
+            reply += part
+        self.reply = reply
+        return time.perf_counter() - start
+
+    @staticmethod
+    def is_whole(reply):
+        head, end, rows = reply.partition(b"\n")
+        wanted = int(head.rpartition(b" rows ")[2]) if b" rows " in head else 0
+        return bool(end) and rows.count(b"\n") == wanted and (not rows or rows.endswith(b"\n"))
+
+    def close(self):
+        os.close(self.into)
+        os.close(self.out)
+
+
+def refreshes(tables, first, count):
+    """The text of so many refreshes, each of which adds an order of one line."""
+    line = (f"|1|{tables.customers[0]}|{tables.parts[0]}|{tables.suppliers[0]}|{tables.dates[0]}|5-LOW|0|10|1000000|"
+            f"1000000|2|980000|600000|0|{tables.dates[0]}|AIR\ncommit\n")
+    return "".join(f"begin\nadd\nline|{key}{line}" for key in range(first, first + count)).encode()
+
+
+def floods(ends, text, count):
+    """Sends refreshes without waiting, and reads as many replies: the seconds from the first byte to the last."""
+    into, out = ends
+    out = os.open(out, os.O_RDONLY)
+    into = os.open(into, os.O_WRONLY)
+
+    def send():
+        left = memoryview(text)
+        while left:
+            left = left[os.write(into, left[:1 << 20]):]
+        os.close(into)
+
+    sender = threading.Thread(target=send, daemon=True)
+    start = time.monotonic()
+    sender.start()
+    told, replies = 0, b"-"
+    while replies:
+        replies = os.read(out, 1 << 20)
+        told += replies.count(b"\n")
+    os.close(out)
+    if told != count:
+        raise Disagreement(f"{told} replies to {count} refreshes")
+    return start, time.monotonic()
 
 
 class Told(Lines):

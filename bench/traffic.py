@@ -1,12 +1,19 @@
 """Random requests for `soak`: scripts of refreshes and questions over the tables of a folder, from a seed.
 
 Clients share a few keys of orders, so that they get into each other's way: what one adds, another finds there. Some
-lines name a customer, supplier, part or date that is not there, and some constants no value that is there."""
+lines name a customer, supplier, part or date that is not there, and some constants no value that is there.
+
+A word in the environment: STARS, the share of star questions in all (by default 0.2)."""
+import os
+
+from stars import Stars
 
 GREATEST = 2**32 - 1            # amount, and number in a question
 GREATEST_KEY = 2**63 - 1        # that SQLite can keep too
 UNKNOWN = GREATEST_KEY - 7      # key of no row
 COMMON_KEYS = 64
+STAR_ROWS = 5000                # that a star question may have groups for
+STARS = float(os.environ.get("STARS", 0.2))
 TEXTS = ["1-URGENT", "5-LOW", "AIR", "", " leading", "Überlänge ✓", "x" * 64, 'a "quoted" word', "NULL", "-0"]
 
 # The constants of each query, in the order in which a question gives them.
@@ -90,6 +97,7 @@ class Traffic:
 
     def __init__(self, tables, client, random):
         self.tables, self.client, self.random = tables, client, random
+        self.stars = Stars(tables, random)
         self.questions = random.choice([0.05, 0.2, 0.5, 0.9])     # their share in all requests
         self.fresh = 0
         self.own = []           # keys of orders that this client has added, if nobody withdrew them
@@ -158,6 +166,8 @@ class Traffic:
     # ---- questions ----
 
     def question(self):
+        if self.chance(STARS):
+            return Question("star", self.stars.constants(STAR_ROWS))
         name = self.random.choice(list(CONSTANTS))
         return Question(name, [] if self.chance(0.3) else self.constants(CONSTANTS[name].split()))
 
