@@ -274,14 +274,31 @@ append_some f g h n (suc m) first second =
     next_is : (k : ℕ) → k + 1 ≡ suc k
     next_is k = omega arith
 
-pub append_places : (order customer supplier part date terms price revenue cost customer_class supplier_class part_class date_class order2 customer2 supplier2 part2 date2 terms2 price2 revenue2 cost2 customer_class2 supplier_class2 part_class2 date_class2 : List ℕ) (n m : ℕ)
-    → AreLong order customer supplier part date terms price revenue cost customer_class supplier_class part_class date_class n → AreLong order2 customer2 supplier2 part2 date2 terms2 price2 revenue2 cost2 customer_class2 supplier_class2 part_class2 date_class2 m
-    → map (place_at (order ++ order2) (customer ++ customer2) (supplier ++ supplier2) (part ++ part2) (date ++ date2) (terms ++ terms2) (price ++ price2) (revenue ++ revenue2) (cost ++ cost2) (customer_class ++ customer_class2) (supplier_class ++ supplier_class2) (part_class ++ part_class2) (date_class ++ date_class2)) (range_with_len 0 (n + m))
-    ≡ map (place_at order customer supplier part date terms price revenue cost customer_class supplier_class part_class date_class) (range_with_len 0 n)
-    ++ map (place_at order2 customer2 supplier2 part2 date2 terms2 price2 revenue2 cost2 customer_class2 supplier_class2 part_class2 date_class2) (range_with_len 0 m)
-append_places order customer supplier part date terms price revenue cost customer_class supplier_class part_class date_class order2 customer2 supplier2 part2 date2 terms2 price2 revenue2 cost2 customer_class2 supplier_class2 part_class2 date_class2 n m long long2 =
-    append_some (place_at order customer supplier part date terms price revenue cost customer_class supplier_class part_class date_class) (place_at order2 customer2 supplier2 part2 date2 terms2 price2 revenue2 cost2 customer_class2 supplier_class2 part_class2 date_class2)
-    (place_at (order ++ order2) (customer ++ customer2) (supplier ++ supplier2) (part ++ part2) (date ++ date2) (terms ++ terms2) (price ++ price2) (revenue ++ revenue2) (cost ++ cost2) (customer_class ++ customer_class2) (supplier_class ++ supplier_class2) (part_class ++ part_class2) (date_class ++ date_class2))
+pub append_places : (order customer supplier part date terms price revenue cost customer_class supplier_class
+    part_class date_class order2 customer2 supplier2 part2 date2 terms2 price2 revenue2 cost2 customer_class2
+    supplier_class2 part_class2 date_class2 : List ℕ) (n m : ℕ)
+    → AreLong order customer supplier part date terms price revenue cost customer_class supplier_class part_class
+    date_class n
+    → AreLong order2 customer2 supplier2 part2 date2 terms2 price2 revenue2 cost2 customer_class2 supplier_class2
+    part_class2 date_class2 m
+    → map (place_at (order ++ order2) (customer ++ customer2) (supplier ++ supplier2) (part ++ part2) (date ++ date2)
+    (terms ++ terms2) (price ++ price2) (revenue ++ revenue2) (cost ++ cost2) (customer_class ++ customer_class2)
+    (supplier_class ++ supplier_class2) (part_class ++ part_class2) (date_class ++ date_class2)) (range_with_len 0 (n
+    + m))
+    ≡ map (place_at order customer supplier part date terms price revenue cost customer_class supplier_class
+    part_class date_class) (range_with_len 0 n)
+    ++ map (place_at order2 customer2 supplier2 part2 date2 terms2 price2 revenue2 cost2 customer_class2
+    supplier_class2 part_class2 date_class2) (range_with_len 0 m)
+append_places order customer supplier part date terms price revenue cost customer_class supplier_class part_class
+    date_class order2 customer2 supplier2 part2 date2 terms2 price2 revenue2 cost2 customer_class2 supplier_class2
+    part_class2 date_class2 n m long long2 =
+    append_some (place_at order customer supplier part date terms price revenue cost customer_class supplier_class
+    part_class date_class)
+    (place_at order2 customer2 supplier2 part2 date2 terms2 price2 revenue2 cost2 customer_class2 supplier_class2
+    part_class2 date_class2)
+    (place_at (order ++ order2) (customer ++ customer2) (supplier ++ supplier2) (part ++ part2) (date ++ date2) (terms
+    ++ terms2) (price ++ price2) (revenue ++ revenue2) (cost ++ cost2) (customer_class ++ customer_class2)
+    (supplier_class ++ supplier_class2) (part_class ++ part_class2) (date_class ++ date_class2))
     n m
     (λ j within i. record {
       order = front order order2 n j long.order_len within i;

@@ -6,115 +6,172 @@ use Rattle.fact_columns.proofs.fact_table.FactTable.append.Goals as goal
 
 pub extend-requires : goal.extend-requires
 extend-requires c =
-    let room = room_for c.self.inside c.other.inside _ _ _ c.self.invariant c.self.view_is c.other.view_is
+    let own = c.self.invariant in
+    let room = room_for c.self.inside c.other.inside _ _ _ own c.self.view_is c.other.view_is
     c.in_ok-reserve.ensures.room c.len.ensures in
-    omega (arith, room, c.self.invariant.order_room, c.as_slice.ensures.len)
+    omega (arith, room, own.order_room, c.as_slice.ensures.len)
 
 pub extend-requires-2 : goal.extend-requires-2
 extend-requires-2 c =
-    let room = room_for c.self.inside c.other.inside _ _ _ c.self.invariant c.self.view_is c.other.view_is
+    let own = c.self.invariant in
+    let room = room_for c.self.inside c.other.inside _ _ _ own c.self.view_is c.other.view_is
     c.in_ok-reserve.ensures.room c.len.ensures in
-    omega (arith, room, c.self.invariant.customer, c.other.invariant.customer, c.self.invariant.customer_room, c.as_slice-2.ensures.len)
+    omega (arith, room, own.customer, c.other.invariant.customer, own.customer_room, c.as_slice-2.ensures.len)
 
 pub extend-requires-3 : goal.extend-requires-3
 extend-requires-3 c =
-    let room = room_for c.self.inside c.other.inside _ _ _ c.self.invariant c.self.view_is c.other.view_is
+    let own = c.self.invariant in
+    let room = room_for c.self.inside c.other.inside _ _ _ own c.self.view_is c.other.view_is
     c.in_ok-reserve.ensures.room c.len.ensures in
-    omega (arith, room, c.self.invariant.supplier, c.other.invariant.supplier, c.self.invariant.supplier_room, c.as_slice-3.ensures.len)
+    omega (arith, room, own.supplier, c.other.invariant.supplier, own.supplier_room, c.as_slice-3.ensures.len)
 
 pub extend-requires-4 : goal.extend-requires-4
 extend-requires-4 c =
-    let room = room_for c.self.inside c.other.inside _ _ _ c.self.invariant c.self.view_is c.other.view_is
+    let own = c.self.invariant in
+    let room = room_for c.self.inside c.other.inside _ _ _ own c.self.view_is c.other.view_is
     c.in_ok-reserve.ensures.room c.len.ensures in
-    omega (arith, room, c.self.invariant.part, c.other.invariant.part, c.self.invariant.part_room, c.as_slice-4.ensures.len)
+    omega (arith, room, own.part, c.other.invariant.part, own.part_room, c.as_slice-4.ensures.len)
 
 pub extend-requires-5 : goal.extend-requires-5
 extend-requires-5 c =
-    let room = room_for c.self.inside c.other.inside _ _ _ c.self.invariant c.self.view_is c.other.view_is
+    let own = c.self.invariant in
+    let room = room_for c.self.inside c.other.inside _ _ _ own c.self.view_is c.other.view_is
     c.in_ok-reserve.ensures.room c.len.ensures in
-    omega (arith, room, c.self.invariant.date, c.other.invariant.date, c.self.invariant.date_room, c.as_slice-5.ensures.len)
+    omega (arith, room, own.date, c.other.invariant.date, own.date_room, c.as_slice-5.ensures.len)
 
 pub extend-requires-6 : goal.extend-requires-6
 extend-requires-6 c =
-    let room = room_for c.self.inside c.other.inside _ _ _ c.self.invariant c.self.view_is c.other.view_is
+    let own = c.self.invariant in
+    let room = room_for c.self.inside c.other.inside _ _ _ own c.self.view_is c.other.view_is
     c.in_ok-reserve.ensures.room c.len.ensures in
-    omega (arith, room, c.self.invariant.terms, c.other.invariant.terms, c.self.invariant.terms_room, c.as_slice-6.ensures.len)
+    omega (arith, room, own.terms, c.other.invariant.terms, own.terms_room, c.as_slice-6.ensures.len)
 
 pub extend-requires-7 : goal.extend-requires-7
 extend-requires-7 c =
-    let room = room_for c.self.inside c.other.inside _ _ _ c.self.invariant c.self.view_is c.other.view_is
+    let own = c.self.invariant in
+    let room = room_for c.self.inside c.other.inside _ _ _ own c.self.view_is c.other.view_is
     c.in_ok-reserve.ensures.room c.len.ensures in
-    omega (arith, room, c.self.invariant.price, c.other.invariant.price, c.self.invariant.price_room, c.as_slice-7.ensures.len)
+    omega (arith, room, own.price, c.other.invariant.price, own.price_room, c.as_slice-7.ensures.len)
 
 pub extend-requires-8 : goal.extend-requires-8
 extend-requires-8 c =
-    let room = room_for c.self.inside c.other.inside _ _ _ c.self.invariant c.self.view_is c.other.view_is
+    let own = c.self.invariant in
+    let room = room_for c.self.inside c.other.inside _ _ _ own c.self.view_is c.other.view_is
     c.in_ok-reserve.ensures.room c.len.ensures in
-    omega (arith, room, c.self.invariant.revenue, c.other.invariant.revenue, c.self.invariant.revenue_room, c.as_slice-8.ensures.len)
+    omega (arith, room, own.revenue, c.other.invariant.revenue, own.revenue_room, c.as_slice-8.ensures.len)
 
 pub extend-requires-9 : goal.extend-requires-9
 extend-requires-9 c =
-    let room = room_for c.self.inside c.other.inside _ _ _ c.self.invariant c.self.view_is c.other.view_is
+    let own = c.self.invariant in
+    let room = room_for c.self.inside c.other.inside _ _ _ own c.self.view_is c.other.view_is
     c.in_ok-reserve.ensures.room c.len.ensures in
-    omega (arith, room, c.self.invariant.cost, c.other.invariant.cost, c.self.invariant.cost_room, c.as_slice-9.ensures.len)
+    omega (arith, room, own.cost, c.other.invariant.cost, own.cost_room, c.as_slice-9.ensures.len)
 
 pub extend-requires-10 : goal.extend-requires-10
 extend-requires-10 c =
-    let room = room_for c.self.inside c.other.inside _ _ _ c.self.invariant c.self.view_is c.other.view_is
+    let own = c.self.invariant in
+    let room = room_for c.self.inside c.other.inside _ _ _ own c.self.view_is c.other.view_is
     c.in_ok-reserve.ensures.room c.len.ensures in
-    omega (arith, room, c.self.invariant.customer_class, c.other.invariant.customer_class, c.self.invariant.customer_class_room, c.as_slice-10.ensures.len)
+    omega (
+      arith,
+      room,
+      own.customer_class,
+      c.other.invariant.customer_class,
+      own.customer_class_room,
+      c.as_slice-10.ensures.len,
+    )
 
 pub extend-requires-11 : goal.extend-requires-11
 extend-requires-11 c =
-    let room = room_for c.self.inside c.other.inside _ _ _ c.self.invariant c.self.view_is c.other.view_is
+    let own = c.self.invariant in
+    let room = room_for c.self.inside c.other.inside _ _ _ own c.self.view_is c.other.view_is
     c.in_ok-reserve.ensures.room c.len.ensures in
-    omega (arith, room, c.self.invariant.supplier_class, c.other.invariant.supplier_class, c.self.invariant.supplier_class_room, c.as_slice-11.ensures.len)
+    omega (
+      arith,
+      room,
+      own.supplier_class,
+      c.other.invariant.supplier_class,
+      own.supplier_class_room,
+      c.as_slice-11.ensures.len,
+    )
 
 pub extend-requires-12 : goal.extend-requires-12
 extend-requires-12 c =
-    let room = room_for c.self.inside c.other.inside _ _ _ c.self.invariant c.self.view_is c.other.view_is
+    let own = c.self.invariant in
+    let room = room_for c.self.inside c.other.inside _ _ _ own c.self.view_is c.other.view_is
     c.in_ok-reserve.ensures.room c.len.ensures in
-    omega (arith, room, c.self.invariant.part_class, c.other.invariant.part_class, c.self.invariant.part_class_room, c.as_slice-12.ensures.len)
+    omega (arith, room, own.part_class, c.other.invariant.part_class, own.part_class_room, c.as_slice-12.ensures.len)
 
 pub extend-requires-13 : goal.extend-requires-13
 extend-requires-13 c =
-    let room = room_for c.self.inside c.other.inside _ _ _ c.self.invariant c.self.view_is c.other.view_is
+    let own = c.self.invariant in
+    let room = room_for c.self.inside c.other.inside _ _ _ own c.self.view_is c.other.view_is
     c.in_ok-reserve.ensures.room c.len.ensures in
-    omega (arith, room, c.self.invariant.date_class, c.other.invariant.date_class, c.self.invariant.date_class_room, c.as_slice-13.ensures.len)
+    omega (arith, room, own.date_class, c.other.invariant.date_class, own.date_class_room, c.as_slice-13.ensures.len)
 
 pub invariant_of-self : goal.invariant_of-self
 invariant_of-self c =
-    let room = room_for c.self.inside c.other.inside _ _ _ c.self.invariant c.self.view_is c.other.view_is
+    let own = c.self.invariant in
+    let other = c.other.invariant in
+    let room = room_for c.self.inside c.other.inside _ _ _ own c.self.view_is c.other.view_is
     c.in_ok-reserve.ensures.room c.len.ensures in
     let count : vec_len c.extend.new.column ≡ vec_len c.self.inside.order + vec_len c.other.inside.order =
     c.extend.ensures.len ∙ ap (λ n. vec_len c.self.inside.order + n) c.as_slice.ensures.len in
     record {
-      customer = omega (arith, count, c.extend-2.ensures.len, c.as_slice-2.ensures.len, c.self.invariant.customer, c.other.invariant.customer);
-      supplier = omega (arith, count, c.extend-3.ensures.len, c.as_slice-3.ensures.len, c.self.invariant.supplier, c.other.invariant.supplier);
-      part = omega (arith, count, c.extend-4.ensures.len, c.as_slice-4.ensures.len, c.self.invariant.part, c.other.invariant.part);
-      date = omega (arith, count, c.extend-5.ensures.len, c.as_slice-5.ensures.len, c.self.invariant.date, c.other.invariant.date);
-      terms = omega (arith, count, c.extend-6.ensures.len, c.as_slice-6.ensures.len, c.self.invariant.terms, c.other.invariant.terms);
-      price = omega (arith, count, c.extend-7.ensures.len, c.as_slice-7.ensures.len, c.self.invariant.price, c.other.invariant.price);
-      revenue = omega (arith, count, c.extend-8.ensures.len, c.as_slice-8.ensures.len, c.self.invariant.revenue, c.other.invariant.revenue);
-      cost = omega (arith, count, c.extend-9.ensures.len, c.as_slice-9.ensures.len, c.self.invariant.cost, c.other.invariant.cost);
-      customer_class = omega (arith, count, c.extend-10.ensures.len, c.as_slice-10.ensures.len, c.self.invariant.customer_class, c.other.invariant.customer_class);
-      supplier_class = omega (arith, count, c.extend-11.ensures.len, c.as_slice-11.ensures.len, c.self.invariant.supplier_class, c.other.invariant.supplier_class);
-      part_class = omega (arith, count, c.extend-12.ensures.len, c.as_slice-12.ensures.len, c.self.invariant.part_class, c.other.invariant.part_class);
-      date_class = omega (arith, count, c.extend-13.ensures.len, c.as_slice-13.ensures.len, c.self.invariant.date_class, c.other.invariant.date_class);
+      customer = omega (arith, count, c.extend-2.ensures.len, c.as_slice-2.ensures.len, own.customer, other.customer);
+      supplier = omega (arith, count, c.extend-3.ensures.len, c.as_slice-3.ensures.len, own.supplier, other.supplier);
+      part = omega (arith, count, c.extend-4.ensures.len, c.as_slice-4.ensures.len, own.part, other.part);
+      date = omega (arith, count, c.extend-5.ensures.len, c.as_slice-5.ensures.len, own.date, other.date);
+      terms = omega (arith, count, c.extend-6.ensures.len, c.as_slice-6.ensures.len, own.terms, other.terms);
+      price = omega (arith, count, c.extend-7.ensures.len, c.as_slice-7.ensures.len, own.price, other.price);
+      revenue = omega (arith, count, c.extend-8.ensures.len, c.as_slice-8.ensures.len, own.revenue, other.revenue);
+      cost = omega (arith, count, c.extend-9.ensures.len, c.as_slice-9.ensures.len, own.cost, other.cost);
+      customer_class = omega (
+        arith,
+        count,
+        c.extend-10.ensures.len,
+        c.as_slice-10.ensures.len,
+        own.customer_class,
+        other.customer_class,
+      );
+      supplier_class = omega (
+        arith,
+        count,
+        c.extend-11.ensures.len,
+        c.as_slice-11.ensures.len,
+        own.supplier_class,
+        other.supplier_class,
+      );
+      part_class = omega (
+        arith,
+        count,
+        c.extend-12.ensures.len,
+        c.as_slice-12.ensures.len,
+        own.part_class,
+        other.part_class,
+      );
+      date_class = omega (
+        arith,
+        count,
+        c.extend-13.ensures.len,
+        c.as_slice-13.ensures.len,
+        own.date_class,
+        other.date_class,
+      );
       within = omega (arith, count, room);
-      order_room = omega (arith, c.self.invariant.order_room, c.extend.ensures.capacity);
-      customer_room = omega (arith, c.self.invariant.customer_room, c.extend-2.ensures.capacity);
-      supplier_room = omega (arith, c.self.invariant.supplier_room, c.extend-3.ensures.capacity);
-      part_room = omega (arith, c.self.invariant.part_room, c.extend-4.ensures.capacity);
-      date_room = omega (arith, c.self.invariant.date_room, c.extend-5.ensures.capacity);
-      terms_room = omega (arith, c.self.invariant.terms_room, c.extend-6.ensures.capacity);
-      price_room = omega (arith, c.self.invariant.price_room, c.extend-7.ensures.capacity);
-      revenue_room = omega (arith, c.self.invariant.revenue_room, c.extend-8.ensures.capacity);
-      cost_room = omega (arith, c.self.invariant.cost_room, c.extend-9.ensures.capacity);
-      customer_class_room = omega (arith, c.self.invariant.customer_class_room, c.extend-10.ensures.capacity);
-      supplier_class_room = omega (arith, c.self.invariant.supplier_class_room, c.extend-11.ensures.capacity);
-      part_class_room = omega (arith, c.self.invariant.part_class_room, c.extend-12.ensures.capacity);
-      date_class_room = omega (arith, c.self.invariant.date_class_room, c.extend-13.ensures.capacity);
+      order_room = omega (arith, own.order_room, c.extend.ensures.capacity);
+      customer_room = omega (arith, own.customer_room, c.extend-2.ensures.capacity);
+      supplier_room = omega (arith, own.supplier_room, c.extend-3.ensures.capacity);
+      part_room = omega (arith, own.part_room, c.extend-4.ensures.capacity);
+      date_room = omega (arith, own.date_room, c.extend-5.ensures.capacity);
+      terms_room = omega (arith, own.terms_room, c.extend-6.ensures.capacity);
+      price_room = omega (arith, own.price_room, c.extend-7.ensures.capacity);
+      revenue_room = omega (arith, own.revenue_room, c.extend-8.ensures.capacity);
+      cost_room = omega (arith, own.cost_room, c.extend-9.ensures.capacity);
+      customer_class_room = omega (arith, own.customer_class_room, c.extend-10.ensures.capacity);
+      supplier_class_room = omega (arith, own.supplier_class_room, c.extend-11.ensures.capacity);
+      part_class_room = omega (arith, own.part_class_room, c.extend-12.ensures.capacity);
+      date_class_room = omega (arith, own.date_class_room, c.extend-13.ensures.capacity);
     }
 
 pub returns-clause-places : goal.returns-clause-places
@@ -149,7 +206,13 @@ returns-clause-places c =
     c.extend-13.ensures.items ∙ ap (λ l. t.date_class.items ++ l) c.as_slice-13.ensures.value in
     let count : vec_len c.extend.new.column ≡ vec_len t.order + vec_len o.order =
     c.extend.ensures.len ∙ ap (λ n. vec_len t.order + n) c.as_slice.ensures.len in
-    (λ i. map (place_at (order i) (customer i) (supplier i) (part i) (date i) (terms i) (price i) (revenue i) (cost i) (customer_class i) (supplier_class i) (part_class i) (date_class i)) (range_with_len 0 (count i)))
-    ∙ append_places t.order.items t.customer.items t.supplier.items t.part.items t.date.items t.terms.items t.price.items t.revenue.items t.cost.items t.customer_class.items t.supplier_class.items t.part_class.items t.date_class.items o.order.items o.customer.items o.supplier.items o.part.items o.date.items o.terms.items o.price.items o.revenue.items o.cost.items o.customer_class.items o.supplier_class.items o.part_class.items o.date_class.items (vec_len t.order) (vec_len o.order) (alike_long t c.self.invariant) (alike_long o c.other.invariant)
+    (λ i. map (place_at (order i) (customer i) (supplier i) (part i) (date i) (terms i) (price i) (revenue i) (cost i)
+    (customer_class i) (supplier_class i) (part_class i) (date_class i)) (range_with_len 0 (count i)))
+    ∙ append_places t.order.items t.customer.items t.supplier.items t.part.items t.date.items t.terms.items
+    t.price.items t.revenue.items t.cost.items t.customer_class.items t.supplier_class.items t.part_class.items
+    t.date_class.items o.order.items o.customer.items o.supplier.items o.part.items o.date.items o.terms.items
+    o.price.items o.revenue.items o.cost.items o.customer_class.items o.supplier_class.items o.part_class.items
+    o.date_class.items (vec_len t.order) (vec_len o.order) (alike_long t c.self.invariant) (alike_long o
+    c.other.invariant)
     ∙ (λ i. (c.self.view_is i).places ++ (c.other.view_is i).places)
     ∙ ap (λ places. places ++ c.args.other.now.places) c.reserve.ensures.places
