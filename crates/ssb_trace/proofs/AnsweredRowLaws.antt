@@ -182,7 +182,8 @@ each-fits c taken column (inr (inr (inr (inr (inr (inr (inr (inr (inr (inr (inr 
     so c column D_YEARMONTH e (in-month c taken)
 each-fits c taken column (inr (inr (inr (inr (inr (inr (inr (inr (inr (inr (inr (inr (inl e))))))))))))) =
     so c column D_WEEKNUMINYEAR e (in-week c taken)
-each-fits c taken column (inr (inr (inr (inr (inr (inr (inr (inr (inr (inr (inr (inr (inr none))))))))))))) = absurd none
+each-fits c taken column (inr (inr (inr (inr (inr (inr (inr (inr (inr (inr (inr (inr (inr none))))))))))))) =
+    absurd none
 
 -- and so it has in the group columns of a question
 columns-fit : (c : Combination) → IsTaken c → (columns : List Column) → AllByRecursion (Has query_columns) columns

@@ -129,7 +129,8 @@ unfolding said
 says_row question (Some word.Row) fields row e = ap (option_map (Row question)) e
 says_row question _ fields row e = absurd cc
 
-says_said : (question : Query × List Value) (w : Option TraceWord) (fields : List (List ℕ)) (line : TraceLine) → IsOf question line
+says_said : (question : Query × List Value) (w : Option TraceWord) (fields : List (List ℕ)) (line : TraceLine)
+    → IsOf question line
     → SaysAfter w fields line → said question w fields ≡ Some line
 unfolding IsOf
 says_said question w fields (Begin client) of says = says_begin question w fields (Begin client) says
@@ -149,7 +150,8 @@ Follow : Query × List Value → List TraceLine → Type 0
 Follow question [] = Unit {0}
 Follow question (line ∷ lines) = IsOf question line × Follow (next_question question line) lines
 
-same_lines : (question : Query × List Value) (records : List (List (List ℕ))) (one other : List TraceLine) → AreLines records one
+same_lines : (question : Query × List Value) (records : List (List (List ℕ))) (one other : List TraceLine)
+    → AreLines records one
     → AreLines records other → Follow question one → Follow question other → one ≡ other
 unfolding Follow
 same_lines question [] [] [] a b c d = refl
@@ -164,8 +166,8 @@ same_lines question (f ∷ records) (l ∷ one) (k ∷ other) a b c d =
     (subst (λ line. Follow (next_question question line) other) (sym first) d.1) in
     rw (first, later) refl
 
-follow_commit : (question : Query × List Value) (client : ℕ) (lines : List ScriptLine) (rest : List TraceLine) → Follow question rest
-    → Follow question (map (in_commit client) lines ++ rest)
+follow_commit : (question : Query × List Value) (client : ℕ) (lines : List ScriptLine) (rest : List TraceLine)
+    → Follow question rest → Follow question (map (in_commit client) lines ++ rest)
 unfolding Follow IsOf next_question
 follow_commit question client [] rest f = f
 follow_commit question client (script.Begin ∷ lines) rest f = (tt, follow_commit question client lines rest f)
@@ -177,7 +179,8 @@ unfolding Follow IsOf next_question
 follow_rows question [] rest f = f
 follow_rows question (row ∷ rows) rest f = (refl, follow_rows question rows rest f)
 
-follow_entries : (question : Query × List Value) (entries : List TraceEntry) → Follow question (lines_of_entries entries)
+follow_entries : (question : Query × List Value) (entries : List TraceEntry)
+    → Follow question (lines_of_entries entries)
 unfolding Follow IsOf next_question
 follow_entries question [] = tt
 follow_entries question (entry.Commit commit ∷ entries) = follow_commit question commit.client

@@ -67,7 +67,8 @@ sum-text-read kinds None allowed = rw allowed refl
 sum-text-read kinds (Some sum) allowed = rw (sum_no_null sum allowed.sfits, sum_read sum allowed.sfits) refl
 
 -- the fields of a row, behind its word
-fields-first : (question : Query × List Value) (row : ResultRow) → IsAllowedRow question row → sum_first question.0 ≡ true
+fields-first : (question : Query × List Value) (row : ResultRow) → IsAllowedRow question row
+    → sum_first question.0 ≡ true
     → row_of question (codes "row" ∷ sum_text row.sum ∷ map value_text row.groups) ≡ Some row
 fields-first question row allowed first =
     let kinds = group_kinds question in
@@ -82,7 +83,8 @@ fields-first question row allowed first =
     rw (many, first, (sum-text-kept kinds row.sum allowed.sum).kept, sum-text-read kinds row.sum allowed.sum, groups)
     refl
 
-fields-last : (question : Query × List Value) (row : ResultRow) → IsAllowedRow question row → sum_first question.0 ≡ false
+fields-last : (question : Query × List Value) (row : ResultRow) → IsAllowedRow question row
+    → sum_first question.0 ≡ false
     → row_of question (codes "row" ∷ (map value_text row.groups ++ sum_text row.sum ∷ [])) ≡ Some row
 fields-last question row allowed last =
     let kinds = group_kinds question in
@@ -163,7 +165,8 @@ written-row question row allowed =
     let query = question.0 in
     written_as (record_text (codes "row") (columns_of query row)) (told_row_text query row) (Row question row ∷ [])
     (Row question row ∷ []) (row-written query row) refl
-    (written_one (codes "row" ∷ columns_of query row) (Row question row) (refl, refl, columns-plain question row allowed)
+    (written_one (codes "row" ∷ columns_of query row) (Row question row)
+    (refl, refl, columns-plain question row allowed)
     (says-row question row allowed))
 
 each-row : (question : Query × List Value) (rows : List ResultRow) → AllByRecursion (IsAllowedRow question) rows

@@ -1,4 +1,5 @@
-use Rattle.std.proofs.Common.{◌≡◌, ◌+◌, ◌∙◌, Option, Some, true, false, length, List, IfOk, refl, sym, subst, option_map}
+use Rattle.std.proofs.Common.{◌≡◌, ◌+◌, ◌∙◌, Option, Some, true, false, length, List, IfOk, refl, sym, subst}
+use Rattle.std.proofs.Common.{option_map}
 use Rattle.std.specs.Option.{option_and_then}
 use Rattle.csv.specs.Records.{fields_of}
 use Rattle.ssb_questions.specs.declared.value.Value.{Value}
@@ -13,7 +14,8 @@ returns c =
     let some : has_columns c.args.place fields ≡ false = sym c.has_columns.ensures ∙ c.if-has_columns.false in
     let all : has_columns (c.args.place + length kinds) fields ≡ true =
     sym c.has_columns-2.ensures ∙ c.if-not-has_columns.false in
-    let read : constants_from c.args.place kinds fields ≡ constants_given c.args.place c.args.query (Some kinds) fields =
+    let read : constants_from c.args.place kinds fields ≡ constants_given c.args.place c.args.query (Some kinds)
+    fields =
     rw (some, all) refl in
     subst (λ (given : Option (List Value)). IfOk c.taken.result (λ question. question ≡ option_map
     (λ constants. (c.args.query, constants)) (option_and_then (taken_by c.args.query) given)))
