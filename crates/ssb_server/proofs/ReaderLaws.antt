@@ -1,15 +1,12 @@
 -- Who reads the log: one dispatcher more, that answers nothing.
-use Rattle.std.proofs.Common.{◌≡◌, ℕ, ◌+◌, ◌≤◌, Bool, true, false, List, [], ◌∷◌, ◌++◌, length, refl, ap, sym, subst}
-use Rattle.std.proofs.Common.{◌∙◌, arith, IsTrue, Some}
-use Rattle.std.specs.Prelude.{All, cond, count_by, ◌==◌, ◌↔◌}
-use Rattle.std.specs.List.{range_with_len}
-use Rattle.std.proofs.lemmas.Bool.{eqb-true, eq-eqb}
-use Rattle.std.proofs.lemmas.List.Sums.{sum_by_push}
+use Rattle.std.proofs.Common.{◌≡◌, ℕ, ◌≤◌, List, [], ◌∷◌, ◌++◌, length, ap, sym, subst}
+use Rattle.std.proofs.Common.{◌∙◌, arith, Some}
+use Rattle.std.specs.Prelude.{All}
 use Rattle.std.proofs.lemmas.List.Elements.{All-pop, All-push}
 use Rattle.std.proofs.lemmas.List.FromFn.{length-map-range_with_len}
 use Rattle.row_store.specs.History.{CommitRecord, IsPrefix}
 use Rattle.row_store.proofs.PrefixLaws.{beginnings_are_shorter}
-use Rattle.history.specs.Tokens.{TableRecord, TokenRecord, IsSound, IsFree, Saw, new_dispatchers}
+use Rattle.history.specs.Tokens.{TableRecord, TokenRecord, IsSound, Saw, new_dispatchers}
 use Rattle.history.specs.Closing.{AreNumbered, AreDispatchers}
 use Rattle.ssb_server.specs.Opening.{IsNewDispatcher}
 use Rattle.ssb_server.specs.Ready.{IsIdle}
@@ -24,7 +21,8 @@ still_within before after taken begins few =
     let n = beginnings_are_shorter before after begins in omega (arith, n, few)
 
 -- the last token of the dispatchers is one that has done nothing
-pub idle_at_first : (table : TableRecord) (t : TokenRecord) → IsNewDispatcher table.base t → (number : ℕ) × IsIdle number t
+pub idle_at_first : (table : TableRecord) (t : TokenRecord) → IsNewDispatcher table.base t
+    → (number : ℕ) × IsIdle number t
 idle_at_first table t new = (new.number, record { who_is = new.who_is; free = new.free; sound = new.sound })
 
 pub idle_after_fetch : (number : ℕ) (before after : TokenRecord) → Fetches before after → IsSound after

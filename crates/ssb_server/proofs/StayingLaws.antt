@@ -79,8 +79,8 @@ module _ (table : TableRecord) where
   -- in a new server, of those that answer and of who reads the log
   pub new_reader_is_of_it : (dispatchers : List TokenRecord) (reader : TokenRecord)
       → dispatchers ++ reader ∷ [] ≡ new_dispatchers table → All (IsOf table) dispatchers × IsOf table reader
-  new_reader_is_of_it dispatchers reader are = All-pop (IsOf table) (dispatchers ++ reader ∷ []) dispatchers (Some reader)
-      refl (new_dispatchers_are_of_it (dispatchers ++ reader ∷ []) are)
+  new_reader_is_of_it dispatchers reader are = All-pop (IsOf table) (dispatchers ++ reader ∷ []) dispatchers
+      (Some reader) refl (new_dispatchers_are_of_it (dispatchers ++ reader ∷ []) are)
 
   -- who reads the log has seen nothing then
   pub new_reader_has_seen_nothing : (dispatchers : List TokenRecord) (reader : TokenRecord)

@@ -110,8 +110,8 @@ impl<W: EndsCopies + Drop> LogReader<W> {
         server.table.look(&mut self.token)
     }
 
-    /// All commits of the log behind the first `taken`. It waits for the row store as a dispatcher does, and has it only
-    /// while it copies them; where memory for that is wanting, it has seen them all the same.
+    /// All commits of the log behind the first `taken`. It waits for the row store as a dispatcher does, and has it
+    /// only while it copies them; where memory for that is wanting, it has seen them all the same.
     pub fn commits_from<R: Wait>(
         &mut self,
         rt: &R,

@@ -1,5 +1,5 @@
 //! How a server is opened.
-ghost use Rattle.std.specs.Prelude.{◌≡◌, ◌⊎◌, ℕ, ◌+◌, ◌≤◌, [], ◌∷◌, ◌++◌, All, length, IfOk, OnOk, IfErr, MatchOption};
+ghost use Rattle.std.specs.Prelude.{◌≡◌, ℕ, ◌+◌, ◌≤◌, [], ◌∷◌, ◌++◌, All, length, IfOk, OnOk, IfErr, MatchOption};
 ghost use Rattle.row_store.specs.State.{state_of};
 ghost use Rattle.fact_columns.specs.Stored.{columns_state};
 ghost use Rattle.history.specs.Tokens.{new_clients, new_dispatchers};

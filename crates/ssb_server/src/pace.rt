@@ -18,8 +18,8 @@ const LONGEST_WAIT: u64 = 2;
 /// each batch would have more to take over than the one before it, and its answers would come later. So a refresh
 /// that is far ahead of the batch that is being served waits for its end; and since a client that commits without a
 /// pause leaves the row store home for moments only, a refresh waits while a dispatcher or who reads the log wants it.
-/// None waits for more than two milliseconds. No contract tells of it: it changes when a refresh returns, and never what
-/// it does.
+/// None waits for more than two milliseconds. No contract tells of it: it changes when a refresh returns, and never
+/// what it does.
 #[derive(Drop)]
 pub(crate) struct Pace {
     // Refreshes up to this commit do not wait.
@@ -58,8 +58,8 @@ impl Pace {
         bells.ring_clients();
     }
 
-    /// Lets the client wait that has made this commit, if the row store is wanted or it is far ahead of a
-    /// batch. Whoever waits for the row store then goes on, since nobody else would wake them.
+    /// Lets the client wait that has made this commit, if the row store is wanted or it is far ahead of a batch.
+    /// Whoever waits for the row store then goes on, since nobody else would wake them.
     pub(crate) fn keep<W: EndsCopies + Drop, R: Wait>(
         &self,
         rt: &R,

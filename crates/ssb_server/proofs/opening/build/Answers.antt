@@ -13,5 +13,5 @@ seat_all-requires-clause-dispatchers g c =
 pub seat_all-requires-clause-each : goal.seat_all-requires-clause-each
 seat_all-requires-clause-each g c =
     let opened = c.in_ok-made.made.opened in
-    c.in_ok-made.ensures.each ∙ sym (dispatcher_count opened.shared opened.dispatchers.items c.in_ok-made.ensures.dispatchers
-    ∙ c.in_ok-made.ensures.counts.1)
+    c.in_ok-made.ensures.each ∙ sym (dispatcher_count opened.shared opened.dispatchers.items
+    c.in_ok-made.ensures.dispatchers ∙ c.in_ok-made.ensures.counts.1)

@@ -26,7 +26,8 @@ close-requires-clause-dispatchers g c =
     let others : c.gather_dispatchers.new.tokens.items ≡ tokens =
     c.gather_dispatchers.ensures.items ∙ ap (λ xs. xs ++ tokens) c.into_inner-client_tokens.result.no_dispatchers in
     let is : c.push_reserved.new.self.items ≡ tokens ++ reader ∷ [] =
-    c.push_reserved.ensures.items ∙ (ap (λ t. c.gather_dispatchers.new.tokens.items ++ t ∷ []) c.into_token.ensures.token
+    c.push_reserved.ensures.items
+    ∙ (ap (λ t. c.gather_dispatchers.new.tokens.items ++ t ∷ []) c.into_token.ensures.token
     ∙ ap (λ xs. xs ++ reader ∷ []) others) in
     all_with_reader c.self.inside.table tokens c.push_reserved.new.self.items reader is
     (subst (λ (h : TableRecord). AreNumbered h.dispatchers (tokens ++ reader ∷ [])) (sym c.self.view_is) there)
