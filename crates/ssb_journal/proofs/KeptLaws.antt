@@ -1,14 +1,13 @@
 -- What texts of a journal spell.
-use Rattle.std.proofs.Common.{◌≡◌, ℕ, ◌+◌, ◌<◌, ◌≤◌, inl, inr, ⊎_elim, List, [], ◌∷◌, ◌++◌, Vec, Global, length, get_or, take, map, Some, refl, sym, ◌∙◌, ap, subst, arith, append_assoc}
+use Rattle.std.proofs.Common.{◌≡◌, ℕ, ◌+◌, ◌<◌, ◌≤◌, inl, inr, ⊎_elim, List, [], ◌∷◌, ◌++◌, Vec, Global, length, get_or, take, map, Some, refl, sym, ◌∙◌, ap, subst, arith}
 use Rattle.std.specs.Prelude.{◌⊎◌, Result, Ok, Err, IfOk, IfErr}
-use Rattle.std.specs.List.{AllByRecursion, AllZip, flat_map, slice_get}
+use Rattle.std.specs.List.{AllByRecursion, AllZip, flat_map}
 use Rattle.std.proofs.lemmas.List.{append-nil, take_more, get_or-map, length-map, map_push}
 use Rattle.std.proofs.lemmas.Grind.{flat_map-append}
 use Rattle.std.proofs.lemmas.Option.{slice_get-get_or}
 use Rattle.journal.specs.Groups.{lists, recovered, IsBeforeOrAfter}
 use Rattle.row_store.specs.History.{CommitRecord}
 use Rattle.ssb_journal.specs.Seals.{sealed}
-use Rattle.ssb_journal.specs.Texts.{AreSealed, IsJournalOf}
 use Rattle.ssb_journal.specs.Heads.{head_text}
 use Rattle.ssb_journal.specs.declared.head.TableSize.{TableSize}
 use Rattle.ssb_journal.specs.declared.fault.JournalFault.{JournalFault}
@@ -18,7 +17,7 @@ use Rattle.ssb_audit.specs.declared.trace.Trace.{Trace}
 use Rattle.ssb_script.specs.declared.error.ScriptError.{ScriptError}
 use Rattle.ssb_script.specs.declared.error.ScriptError.TheVariants as error
 use Rattle.ssb_trace.specs.Laws.{HasOneReading}
-use Rattle.ssb_trace.specs.Traces.{EndsInBlock, IsFirstFault, IsTraceFault, SpellsTrace}
+use Rattle.ssb_trace.specs.Traces.{IsTraceFault, SpellsTrace}
 use Rattle.ssb_journal.specs.Kept.{trace_of, SpellsBatch, SpellCommits, SpellsNoBatch, IsFirstNoBatch, KeepsCommits, KeepsWithOrWithout, IsGroupOf, batch_fault}
 
 -- each has P, and where it has P it has Q

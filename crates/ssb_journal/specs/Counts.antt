@@ -1,5 +1,5 @@
 -- How many commits a journal keeps, and of which log.
-use Rattle.std.specs.Prelude.{◌≡◌, ◌≤◌, List, ℕ, length, take}
+use Rattle.std.specs.Prelude.{◌≤◌, List, ℕ, length, take}
 use Rattle.row_store.specs.History.{CommitRecord}
 use Rattle.ssb_journal.specs.declared.head.TableSize.{TableSize}
 use Rattle.ssb_journal.specs.Kept.{KeepsCommits}

@@ -1,5 +1,5 @@
 -- The commits that a journal keeps.
-use Rattle.std.specs.Prelude.{◌≡◌, ◌⊎◌, ◌<◌, List, ℕ, [], ◌∷◌, ◌++◌, length, ◌+◌, take, slice_get, Some}
+use Rattle.std.specs.Prelude.{◌≡◌, ◌⊎◌, ◌<◌, List, ℕ, [], ◌++◌, length, ◌+◌, take, slice_get, Some}
 use Rattle.std.specs.List.{AllZip, flat_map}
 use Rattle.journal.specs.Groups.{recovered}
 use Rattle.row_store.specs.History.{CommitRecord}

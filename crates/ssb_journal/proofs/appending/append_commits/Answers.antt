@@ -1,4 +1,4 @@
-use Rattle.std.proofs.Common.{◌≡◌, ℕ, List, [], ◌∷◌, ◌++◌, sym, subst}
+use Rattle.std.proofs.Common.{◌≡◌, List, [], ◌∷◌, ◌++◌, sym, subst}
 use Rattle.journal.specs.Disk.{LeavesOnly}
 use Rattle.journal.specs.Groups.{recovered, IsBeforeOrAfter}
 use Rattle.journal.proofs.MomentLaws.{leaves}

@@ -1,4 +1,4 @@
-use Rattle.std.proofs.Common.{◌≡◌, ◌<◌, ℕ, List, refl, sym, subst, inr, length, arith}
+use Rattle.std.proofs.Common.{◌≡◌, ◌<◌, refl, sym, subst, inr, length, arith}
 use Rattle.std.specs.Prelude.{◌⊎◌}
 use Rattle.ssb_journal.specs.declared.fault.JournalFault.{JournalFault}
 use Rattle.ssb_journal.specs.declared.fault.JournalFault.TheVariants.{Damaged, OutOfMemory}

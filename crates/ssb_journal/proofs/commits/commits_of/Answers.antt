@@ -1,4 +1,4 @@
-use Rattle.std.proofs.Common.{◌≡◌, ℕ, List, inl, inr, ⊎_elim, subst, ap, ◌∙◌}
+use Rattle.std.proofs.Common.{ℕ, List, inl, inr, ⊎_elim, subst}
 use Rattle.ssb_journal.specs.Kept.{SpellsBatch, SpellsNoBatch}
 use Rattle.ssb_journal.proofs.KeptLaws.{commits_more, first_no_batch}
 use Rattle.ssb_journal.proofs.commits.commits_of.Goals as goal

@@ -1,4 +1,4 @@
-use Rattle.std.proofs.Common.{⊎_elim, List, [], ◌∷◌, sym, ◌∙◌, subst}
+use Rattle.std.proofs.Common.{⊎_elim, [], sym, ◌∙◌, subst}
 use Rattle.ssb_journal.specs.Kept.{SpellCommits}
 use Rattle.ssb_journal.proofs.KeptLaws.{spell_none}
 use Rattle.ssb_journal.proofs.laws.begun_journal_keeps.Goals as goal

@@ -1,5 +1,4 @@
-use Rattle.std.proofs.Common.{◌≡◌, ℕ, List, sym, ◌∙◌, subst}
-use Rattle.row_store.specs.History.{CommitRecord}
+use Rattle.std.proofs.Common.{ℕ, List, subst}
 use Rattle.ssb_journal.specs.Kept.{SpellCommits}
 use Rattle.ssb_journal.proofs.KeptLaws.{one_list}
 use Rattle.ssb_journal.proofs.laws.one_list_of_commits.Goals as goal
