@@ -1,5 +1,6 @@
 mod columns;
 mod copies;
 mod definition;
+mod journal;
 mod machine;
 mod rows;

@@ -1,0 +1,2 @@
+pub mod DiskCalls
+pub mod TearingDisks

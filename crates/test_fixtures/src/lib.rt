@@ -1,4 +1,5 @@
-//! What tests share: the small data set as a base, refreshes and questions as a script writes them.
+//! What tests share: the small data set as a base, refreshes and questions as a script writes them, and a disk in
+//! memory that a crash may tear.
 //!
 //! It promises nothing: what is done with it, the tests compare with answers that were worked out by hand.
 //!
@@ -10,6 +11,8 @@
 
 mod records;
 mod small;
+mod tearing_disk;
 
 pub use records::{adding, question, refresh, requests};
 pub use small::{small_base, standard_base};
+pub use tearing_disk::{DiskCall, TearingDisk};
