@@ -106,8 +106,8 @@ fn has_one_once<W: EndsCopies + Drop>(
     reader: &LogReader<W>,
     number: u32,
 ) -> bool
-    ensures { result ≡ (count_by (λ (t : TokenRecord). number_of t.who == number) (dispatchers.now ++ reader.now ∷ [])
-        == 1) }
+    ensures { IsTrue result ↔ (count_by (λ (t : TokenRecord). number_of t.who == number)
+        (dispatchers.now ++ reader.now ∷ []) ≡ 1) }
 {
     let others = dispatchers
         .iter()
