@@ -123,7 +123,7 @@ fn deal<W: Follower + Drop>(
 }
 
 impl<W: Follower + Drop> SharedTable<W> {
-    /// The table over an empty row store and a writer that has taken nothing, for 1 to 16 clients and 1 to 4
+    /// The table over an empty row store and a writer that has taken nothing, for 1 to 16 clients and 1 to 5
     /// dispatchers. Where memory is refused, both parts are dropped.
     pub fn new(
         alloc: Global,
@@ -133,7 +133,7 @@ impl<W: Follower + Drop> SharedTable<W> {
         dispatchers: u32,
     ) -> Result<OpenedTable<W>, AllocError>
         requires clients { (1 ≤ clients) × (clients ≤ 16) }
-        requires dispatchers { (1 ≤ dispatchers) × (dispatchers ≤ 4) }
+        requires dispatchers { (1 ≤ dispatchers) × (dispatchers ≤ 5) }
         requires rows { rows.log ≡ [] }
         requires writer { (W.base writer ≡ rows.base) × (W.commits writer ≡ []) }
         ensures table { IfOk result (λ made. (made.shared.base ≡ rows.base) × (made.shared.clients ≡ clients)

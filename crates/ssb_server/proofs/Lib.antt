@@ -7,3 +7,4 @@ pub mod TurningLaws
 pub mod RefreshingLaws
 pub mod PollingLaws
 pub mod StayingLaws
+pub mod ReaderLaws

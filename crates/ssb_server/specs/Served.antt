@@ -2,9 +2,9 @@
 use Rattle.std.specs.Prelude.{◌≡◌, ℕ, ◌≤◌}
 use Rattle.history.specs.Tokens.{TableRecord}
 
--- the numbers of clients and dispatchers are the table's
+-- the numbers of clients and dispatchers are the table's; who reads the log is one of the dispatchers
 pub record IsServed (table : TableRecord) (clients dispatchers : ℕ) : Type 0 where
   pub clients_is : clients ≡ table.clients
   pub dispatchers_is : dispatchers ≡ table.dispatchers
   pub few_clients : clients ≤ 16
-  pub few_dispatchers : dispatchers ≤ 4
+  pub few_dispatchers : dispatchers ≤ 5

@@ -112,6 +112,13 @@ impl<W: EndsCopies + Drop> Client<W> {
         self.number
     }
 
+    /// How many commits the client has seen.
+    pub fn seen(&self) -> u64
+        ensures { result ≡ length self.now.seen }
+    {
+        self.token.seen_len()
+    }
+
     /// The client's token.
     pub(crate) fn into_token(self) -> Token<W>
         ensures token { result ≡ self }

@@ -1,5 +1,5 @@
 //! How a server is closed.
-ghost use Rattle.std.specs.Prelude.{◌≡◌, All, IfOk, OnOk, OnErr, IfErr};
+ghost use Rattle.std.specs.Prelude.{◌≡◌, [], ◌∷◌, ◌++◌, All, IfOk, OnOk, OnErr, IfErr};
 ghost use Rattle.row_store.specs.History.{IsPrefix};
 ghost use Rattle.row_store.specs.Legal.{IsLegal};
 ghost use Rattle.history.specs.Closing.{IsLogOf};
@@ -9,10 +9,12 @@ ghost use Rattle.ssb_server.specs.Tickets.{IsOf, IsQuiet, AreAllThere};
 
 use crate::client::Client;
 use crate::dispatcher::Dispatcher;
+use crate::log_reader::LogReader;
 use crate::room::ClosingRoom;
 use crate::server::Server;
 use crate::tickets::{
-    are_clients_numbered, are_dispatchers_numbered, gather_clients, gather_dispatchers,
+    are_all_numbered, are_clients_numbered, are_dispatchers_numbered, gather_clients,
+    gather_dispatchers,
 };
 use row_store::Commit;
 use ssb_base::Base;
@@ -37,6 +39,21 @@ pub struct CloseError<W: EndsCopies + Drop> {
 }
 
 impl<W: EndsCopies + Drop> Display for CloseError<W> {
+    fn fmt<O: fmt::Write>(&self, f: &mut Formatter<O>) -> fmt::Result {
+        f.write_str("63 TokenMissing")
+    }
+}
+
+/// A client, a dispatcher or the reader of the log is missing, or there twice. All is handed back.
+#[derive(Drop)]
+pub struct CloseWithReaderError<W: EndsCopies + Drop> {
+    pub server: Server<W>,
+    pub clients: Vec<Client<W>>,
+    pub reader: LogReader<W>,
+    pub dispatchers: Vec<Dispatcher<W>>,
+}
+
+impl<W: EndsCopies + Drop> Display for CloseWithReaderError<W> {
     fn fmt<O: fmt::Write>(&self, f: &mut Formatter<O>) -> fmt::Result {
         f.write_str("63 TokenMissing")
     }
@@ -87,6 +104,60 @@ impl<W: EndsCopies + Drop> Server<W> {
         } = room.into_inner();
         gather_clients(&mut client_tokens, clients);
         gather_dispatchers(&mut dispatcher_tokens, dispatchers);
+        let (base, log) = table.close(client_tokens, dispatcher_tokens).into_parts();
+        Ok(Closed { base, log })
+    }
+
+    /// Ends a server that was opened with a reader of its log. All are handed in, each once, the clients and the
+    /// dispatchers in any order, and no client is asking.
+    pub fn close_with_reader(
+        self,
+        clients: Vec<Client<W>>,
+        reader: LogReader<W>,
+        dispatchers: Vec<Dispatcher<W>>,
+    ) -> Result<Closed, CloseWithReaderError<W>>
+        requires clients { All (IsQuiet self) clients.items }
+        requires reader { IsOf self reader }
+        requires dispatchers { All (IsOf self) dispatchers.items }
+        ensures whole { OnOk result (AreAllThere self clients.items (dispatchers.items ++ reader ∷ [])) }
+        ensures missing { OnErr result (¬ AreAllThere self clients.items (dispatchers.items ++ reader ∷ [])) }
+        ensures back { IfErr result (λ error. (error.server ≡ self) × (error.clients ≡ clients)
+            × (error.reader ≡ reader) × (error.dispatchers ≡ dispatchers)) }
+        ensures base { IfOk result (λ closed. closed.base.value ≡ self.base) }
+        ensures legal { IfOk result (λ closed. IsLegal self.base closed.log.items) }
+        ensures named { IfOk result (λ closed. IsOfClients self.clients closed.log.items) }
+        ensures seen { IfOk result (λ closed. All (λ t. IsPrefix t.seen closed.log.items) clients.items
+            × IsPrefix reader.seen closed.log.items × All (λ t. IsPrefix t.seen closed.log.items) dispatchers.items) }
+        ensures true_log { IfOk result (λ closed. IsLogOf self clients.items (dispatchers.items ++ reader ∷ [])
+            closed.log.items) }
+        ensures owns { IfOk result (λ closed. All (λ t. Owns t.who t.mine closed.log.items) clients.items) }
+    {
+        let there = are_clients_numbered(clients.as_slice(), self.clients)
+            && are_all_numbered(dispatchers.as_slice(), &reader, self.dispatchers);
+        if !there {
+            return Err(CloseWithReaderError {
+                server: self,
+                clients,
+                reader,
+                dispatchers,
+            });
+        }
+        let Server {
+            table,
+            clients: _,
+            dispatchers: _,
+            bells: _,
+            pace: _,
+            alloc: _,
+            room,
+        } = self;
+        let ClosingRoom {
+            clients: mut client_tokens,
+            dispatchers: mut dispatcher_tokens,
+        } = room.into_inner();
+        gather_clients(&mut client_tokens, clients);
+        gather_dispatchers(&mut dispatcher_tokens, dispatchers);
+        dispatcher_tokens.push_reserved(reader.into_token());
         let (base, log) = table.close(client_tokens, dispatcher_tokens).into_parts();
         Ok(Closed { base, log })
     }

@@ -19,8 +19,10 @@
 //! - what others have seen: `Client::meet`, clause `met`;
 //! - batches: `Dispatcher::turn`, clauses `turned` (idle, answered at the length of what is then seen, or given up) and
 //!   `free`;
+//! - who keeps a journal: `LogReader::commits_from`, clauses `commits` (all of the log behind those that it has taken)
+//!   and `reads`;
 //! - the beginning and the end: `open`, clauses `clients` and `dispatchers`; `Server::close`, clauses `whole`, `legal`,
-//!   `seen`.
+//!   `seen`; the same with a reader of the log: `open_with_reader`, `Server::close_with_reader`.
 //!
 //! ```text
 //! client ── refresh ─▶ row store ── log ─▶ copies of the columns ── scan ─▶ dispatcher ── answer ─▶ client
@@ -37,8 +39,10 @@ mod batch;
 mod bells;
 mod client;
 mod closing;
+mod copying;
 mod dispatcher;
 mod grabbing;
+mod log_reader;
 mod opening;
 mod pace;
 mod room;
@@ -48,9 +52,12 @@ mod tickets;
 mod turn;
 
 pub use client::Client;
-pub use closing::{CloseError, Closed};
+pub use closing::{CloseError, CloseWithReaderError, Closed};
 pub use dispatcher::Dispatcher;
-pub use opening::{MOST_DISPATCHERS, OpenError, OpenFault, Opened, open};
+pub use log_reader::LogReader;
+pub use opening::{
+    MOST_DISPATCHERS, OpenError, OpenFault, Opened, OpenedWithReader, open, open_with_reader,
+};
 pub use server::Server;
 pub use turn::{OpenGate, ScanGate, Turn};
 pub use twin_cell::EndsCopies;

@@ -1,14 +1,15 @@
 //! How a server is opened.
-ghost use Rattle.std.specs.Prelude.{◌≡◌, ◌≤◌, [], All, length, IfOk, OnOk, IfErr};
+ghost use Rattle.std.specs.Prelude.{◌≡◌, ◌⊎◌, ℕ, ◌+◌, ◌≤◌, [], ◌∷◌, ◌++◌, All, length, IfOk, OnOk, IfErr, MatchOption};
 ghost use Rattle.row_store.specs.State.{state_of};
 ghost use Rattle.fact_columns.specs.Stored.{columns_state};
 ghost use Rattle.history.specs.Tokens.{new_clients, new_dispatchers};
-ghost use Rattle.ssb_server.specs.Opening.{AreCounts, IsOpenFault, IsNewReader, AreSeats};
+ghost use Rattle.ssb_server.specs.Opening.{AreCounts, IsOpenFault, IsNewReader, IsNewDispatcher, AreSeats};
 
 use crate::batch::{Batch, MOST_CLIENTS};
 use crate::bells::Bells;
 use crate::client::Client;
 use crate::dispatcher::Dispatcher;
+use crate::log_reader::LogReader;
 use crate::pace::Pace;
 use crate::room::ClosingRoom;
 use crate::server::{Server, SharedTable, Token};
@@ -59,6 +60,15 @@ pub struct Opened<W: EndsCopies + Drop> {
     pub dispatchers: Vec<Dispatcher<W>>,
 }
 
+/// A new server with who reads its log, which at the table is one dispatcher more, behind the others.
+#[derive(Drop)]
+pub struct OpenedWithReader<W: EndsCopies + Drop> {
+    pub server: Server<W>,
+    pub clients: Vec<Client<W>>,
+    pub reader: LogReader<W>,
+    pub dispatchers: Vec<Dispatcher<W>>,
+}
+
 // A dispatcher of each token, with a reader and room for a batch.
 fn dispatchers_of<W: EndsCopies + Drop>(
     alloc: Global,
@@ -87,7 +97,7 @@ fn server_over<W: EndsCopies + Drop>(
     dispatchers: u32,
 ) -> Result<Server<W>, AllocError>
     requires counts { (clients ≡ table.clients) × (dispatchers ≡ table.dispatchers) }
-    requires few { (clients ≤ 16) × (dispatchers ≤ 4) }
+    requires few { (clients ≤ 16) × (dispatchers ≤ 5) }
     ensures { IfOk result (λ server. server ≡ table) }
 {
     Ok(Server {
@@ -101,7 +111,7 @@ fn server_over<W: EndsCopies + Drop>(
     })
 }
 
-// The clients and dispatchers of a table that was just made, with the server over it.
+// The clients and dispatchers of these tokens of a table that was just made, with the server over it.
 fn seat_all<W: EndsCopies + Drop>(
     alloc: Global,
     opened: history::OpenedTable<twin_cell::TwinWriter<Columns, W>>,
@@ -109,14 +119,14 @@ fn seat_all<W: EndsCopies + Drop>(
     counts: (u32, u32),
 ) -> Result<Opened<W>, AllocError>
     requires counts { (counts.0 ≡ opened.shared.clients) × (counts.1 ≡ opened.shared.dispatchers) }
-    requires few { (counts.0 ≤ 16) × (counts.1 ≤ 4) }
+    requires few { (counts.0 ≤ 16) × (counts.1 ≤ 5) }
     requires clients { opened.clients.items ≡ new_clients opened.shared }
-    requires dispatchers { opened.dispatchers.items ≡ new_dispatchers opened.shared }
+    requires dispatchers { All (IsNewDispatcher opened.shared.base) opened.dispatchers.items }
     requires readers { All (IsNewReader opened.shared.base) readers.items }
-    requires each { length readers.items ≡ counts.1 }
+    requires each { length readers.items ≡ length opened.dispatchers.items }
     ensures server { IfOk result (λ made. made.server ≡ opened.shared) }
     ensures clients { IfOk result (λ made. made.clients.items ≡ new_clients made.server) }
-    ensures dispatchers { IfOk result (λ made. made.dispatchers.items ≡ new_dispatchers made.server) }
+    ensures dispatchers { IfOk result (λ made. made.dispatchers.items ≡ opened.dispatchers.items) }
 {
     let history::OpenedTable {
         shared,
@@ -154,6 +164,43 @@ fn parts_of(
     Ok(ServerParts { rows, columns })
 }
 
+// A table that was just made, and readers of its columns.
+struct MadeTable<W: EndsCopies + Drop> {
+    opened: history::OpenedTable<twin_cell::TwinWriter<Columns, W>>,
+    readers: Vec<TwinReader<Columns>>,
+}
+
+// The table over a base, with so many tokens of dispatchers, and a reader of the columns for each that is to answer.
+fn table_over<W: Threads + Sync + Wait + Drop>(
+    alloc: Global,
+    rt: W,
+    hashing: RandomState,
+    base: &Arc<Base>,
+    counts: (u32, u32),
+    answering: u32,
+) -> Result<MadeTable<W>, TwinError>
+    requires clients { (1 ≤ counts.0) × (counts.0 ≤ 16) }
+    requires tokens { (1 ≤ counts.1) × (counts.1 ≤ 5) }
+    requires answering { (1 ≤ answering) × (answering ≤ 4) }
+    ensures base { IfOk result (λ made. made.opened.shared.base ≡ base.now.value) }
+    ensures counts { IfOk result (λ made. (made.opened.shared.clients ≡ counts.0)
+        × (made.opened.shared.dispatchers ≡ counts.1)) }
+    ensures clients { IfOk result (λ made. made.opened.clients.items ≡ new_clients made.opened.shared) }
+    ensures dispatchers { IfOk result (λ made. made.opened.dispatchers.items ≡ new_dispatchers made.opened.shared) }
+    ensures readers { IfOk result (λ made. All (IsNewReader made.opened.shared.base) made.readers.items) }
+    ensures each { IfOk result (λ made. length made.readers.items ≡ answering) }
+{
+    let Ok(parts) = parts_of(&rt, alloc, hashing, base) else {
+        return Err(TwinError::OutOfMemory);
+    };
+    let ServerParts { rows, columns } = parts;
+    let (writer, readers) = twin(alloc, rt, columns, answering as usize)?;
+    match SharedTable::new(alloc, rows, writer, counts.0, counts.1) {
+        Ok(opened) => Ok(MadeTable { opened, readers }),
+        Err(_) => Err(TwinError::OutOfMemory),
+    }
+}
+
 // Builds all parts over a base, for counts in their ranges.
 fn build<W: Threads + Sync + Wait + Drop>(
     alloc: Global,
@@ -169,18 +216,75 @@ fn build<W: Threads + Sync + Wait + Drop>(
     ensures clients { IfOk result (λ made. made.clients.items ≡ new_clients made.server) }
     ensures dispatchers { IfOk result (λ made. made.dispatchers.items ≡ new_dispatchers made.server) }
 {
-    let Ok(parts) = parts_of(&rt, alloc, hashing, base) else {
+    let counts = (clients, dispatchers);
+    let MadeTable { opened, readers } = table_over(alloc, rt, hashing, base, counts, dispatchers)?;
+    match seat_all(alloc, opened, readers, counts) {
+        Ok(made) => Ok(made),
+        Err(_) => Err(TwinError::OutOfMemory),
+    }
+}
+
+// The same with who reads the log, who gets the last token of a dispatcher.
+fn build_with_reader<W: Threads + Sync + Wait + Drop>(
+    alloc: Global,
+    rt: W,
+    hashing: RandomState,
+    base: &Arc<Base>,
+    clients: u32,
+    dispatchers: u32,
+) -> Result<OpenedWithReader<W>, TwinError>
+    requires counts { AreCounts clients dispatchers }
+    ensures base { IfOk result (λ made. made.server.base ≡ base.now.value) }
+    ensures counts { IfOk result (λ made. (made.server.clients ≡ clients)
+        × (made.server.dispatchers ≡ dispatchers + 1)) }
+    ensures clients { IfOk result (λ made. made.clients.items ≡ new_clients made.server) }
+    ensures dispatchers { IfOk result (λ made. made.dispatchers.items ++ made.reader ∷ []
+        ≡ new_dispatchers made.server) }
+{
+    let counts = (clients, dispatchers + 1);
+    let MadeTable { opened, readers } = table_over(alloc, rt, hashing, base, counts, dispatchers)?;
+    let mut opened = opened;
+    let Some(token) = opened.dispatchers.pop() else {
+        unreachable!()
+    };
+    let reader = LogReader::new(token);
+    let Ok(made) = seat_all(alloc, opened, readers, counts) else {
         return Err(TwinError::OutOfMemory);
     };
-    let ServerParts { rows, columns } = parts;
-    let (writer, readers) = twin(alloc, rt, columns, dispatchers as usize)?;
-    let Ok(opened) = SharedTable::new(alloc, rows, writer, clients, dispatchers) else {
-        return Err(TwinError::OutOfMemory);
-    };
-    let Ok(made) = seat_all(alloc, opened, readers, (clients, dispatchers)) else {
-        return Err(TwinError::OutOfMemory);
-    };
-    Ok(made)
+    let Opened {
+        server,
+        clients,
+        dispatchers,
+    } = made;
+    Ok(OpenedWithReader {
+        server,
+        clients,
+        reader,
+        dispatchers,
+    })
+}
+
+// Which count is out of its range, if one is.
+fn count_fault(clients: u32, dispatchers: u32) -> Option<OpenFault>
+    ensures { MatchOption result (AreCounts clients dispatchers) (IsOpenFault clients dispatchers) }
+{
+    if clients == 0 || clients as usize > MOST_CLIENTS {
+        return Some(OpenFault::ClientCount);
+    }
+    if dispatchers == 0 || dispatchers > MOST_DISPATCHERS {
+        return Some(OpenFault::DispatcherCount);
+    }
+    None
+}
+
+// What is told of a fault that comes where the counts are in their ranges.
+fn fault_of(error: TwinError) -> OpenFault
+    ensures { (clients dispatchers : ℕ) → AreCounts clients dispatchers → IsOpenFault clients dispatchers result }
+{
+    match error {
+        TwinError::NoReader => OpenFault::NoReader,
+        TwinError::OutOfMemory => OpenFault::OutOfMemory,
+    }
 }
 
 /// Opens a server over a base, for 1 to 16 clients and 1 to 4 dispatchers. `rt` is the handle by which the writer of
@@ -202,26 +306,44 @@ pub fn open<W: Threads + Sync + Wait + Drop>(
     ensures fault { IfErr result (λ error. IsOpenFault clients dispatchers error.fault) }
     ensures back { IfErr result (λ error. error.back ≡ base) }
 {
-    if clients == 0 || clients as usize > MOST_CLIENTS {
-        return Err(OpenError {
-            fault: OpenFault::ClientCount,
-            back: base,
-        });
-    }
-    if dispatchers == 0 || dispatchers > MOST_DISPATCHERS {
-        return Err(OpenError {
-            fault: OpenFault::DispatcherCount,
-            back: base,
-        });
+    if let Some(fault) = count_fault(clients, dispatchers) {
+        return Err(OpenError { fault, back: base });
     }
     match build(alloc, rt, hashing, &base, clients, dispatchers) {
         Ok(opened) => Ok(opened),
-        Err(TwinError::NoReader) => Err(OpenError {
-            fault: OpenFault::NoReader,
+        Err(error) => Err(OpenError {
+            fault: fault_of(error),
             back: base,
         }),
-        Err(TwinError::OutOfMemory) => Err(OpenError {
-            fault: OpenFault::OutOfMemory,
+    }
+}
+
+/// Opens a server as `open` does, with who reads its log: at the table that is one dispatcher more, the last one.
+pub fn open_with_reader<W: Threads + Sync + Wait + Drop>(
+    alloc: Global,
+    rt: W,
+    hashing: RandomState,
+    base: Arc<Base>,
+    clients: u32,
+    dispatchers: u32,
+) -> Result<OpenedWithReader<W>, OpenError>
+    ensures range { OnOk result (AreCounts clients dispatchers) }
+    ensures base { IfOk result (λ made. made.server.base ≡ base.value) }
+    ensures counts { IfOk result (λ made. (made.server.clients ≡ clients)
+        × (made.server.dispatchers ≡ dispatchers + 1)) }
+    ensures clients { IfOk result (λ made. made.clients.items ≡ new_clients made.server) }
+    ensures dispatchers { IfOk result (λ made. made.dispatchers.items ++ made.reader ∷ []
+        ≡ new_dispatchers made.server) }
+    ensures fault { IfErr result (λ error. IsOpenFault clients dispatchers error.fault) }
+    ensures back { IfErr result (λ error. error.back ≡ base) }
+{
+    if let Some(fault) = count_fault(clients, dispatchers) {
+        return Err(OpenError { fault, back: base });
+    }
+    match build_with_reader(alloc, rt, hashing, &base, clients, dispatchers) {
+        Ok(opened) => Ok(opened),
+        Err(error) => Err(OpenError {
+            fault: fault_of(error),
             back: base,
         }),
     }

@@ -17,8 +17,9 @@ const LONGEST_WAIT: u64 = 2;
 /// The flow of refreshes beside a batch. A client commits faster than a dispatcher takes commits into both copies, so
 /// each batch would have more to take over than the one before it, and its answers would come later. So a refresh
 /// that is far ahead of the batch that is being served waits for its end; and since a client that commits without a
-/// pause leaves the row store home for moments only, a refresh waits while a dispatcher wants it. None waits for more
-/// than two milliseconds. No contract tells of it: it changes when a refresh returns, and never what it does.
+/// pause leaves the row store home for moments only, a refresh waits while a dispatcher or who reads the log wants it.
+/// None waits for more than two milliseconds. No contract tells of it: it changes when a refresh returns, and never what
+/// it does.
 #[derive(Drop)]
 pub(crate) struct Pace {
     // Refreshes up to this commit do not wait.
@@ -33,9 +34,16 @@ impl Pace {
         }
     }
 
-    /// A dispatcher wants the row store: each client waits behind its next commit.
-    pub(crate) fn hold(&self) {
-        self.limit.store(0, Ordering::Relaxed);
+    /// The row store is wanted: each client waits behind its next commit. It tells the limit that was.
+    pub(crate) fn hold(&self) -> u64 {
+        self.limit.swap(0, Ordering::Relaxed)
+    }
+
+    /// It was read: the limit is as before, but where a dispatcher has set another since.
+    pub(crate) fn release(&self, before: u64) {
+        let _ = self
+            .limit
+            .compare_exchange(0, before, Ordering::Relaxed, Ordering::Relaxed);
     }
 
     /// A batch is being served that is brought up to so many commits.
@@ -50,7 +58,7 @@ impl Pace {
         bells.ring_clients();
     }
 
-    /// Lets the client wait that has made this commit, if a dispatcher wants the row store or it is far ahead of a
+    /// Lets the client wait that has made this commit, if the row store is wanted or it is far ahead of a
     /// batch. Whoever waits for the row store then goes on, since nobody else would wake them.
     pub(crate) fn keep<W: EndsCopies + Drop, R: Wait>(
         &self,

@@ -7,6 +7,7 @@ ghost use Rattle.ssb_server.specs.Turns.{IsDispatcher, HoldsNothing, HasFetched,
 ghost use Rattle.ssb_server.specs.Turns.{HasTaken, Appends, Follows, Misses};
 
 use crate::bells::Bells;
+use crate::copying::copy_and_put;
 use crate::pace::Pace;
 use crate::server::{SharedTable, Token};
 use fact_columns::Columns;
@@ -19,18 +20,8 @@ use twin_cell::{EndsCopies, Guard, TwinReader, TwinWriter};
 /// Why no copy was entered, with the reader.
 pub(crate) type Missed = (TwinReader<Columns>, Unserved);
 
-fn copy_of(alloc: Global, commits: &[Commit]) -> Result<Vec<Commit>, AllocError>
-    ensures { IfOk result (λ copies. copies.items ≡ commits.now) }
-{
-    let mut copies = Vec::with_capacity(alloc, commits.len())?;
-    for commit in commits {
-        copies.push(commit.clone()?)?;
-    }
-    Ok(copies)
-}
-
-// Takes the rows, copies the commits that the writer lacks, and gives the rows back as they were. Clients let it token,
-// and keep near to these commits from then on.
+// Takes the rows, copies the commits that the writer lacks, and gives the rows back as they were. Clients let it go
+// first, and keep near to these commits from then on.
 fn fetch<W: EndsCopies + Drop, R: Wait>(
     rt: &R,
     alloc: Global,
@@ -51,9 +42,8 @@ fn fetch<W: EndsCopies + Drop, R: Wait>(
     pace.hold();
     let rows = table.take_rows(rt, token);
     pace.begin(rows.len() as u64);
-    let commits = copy_of(alloc, rows.log_from(taken as usize));
     rows.soundness();
-    table.put_rows(token, rows);
+    let commits = copy_and_put(alloc, table, token, rows, taken);
     bells.ring_clients();
     commits
 }

@@ -1,5 +1,6 @@
 //! The tokens that a server is opened with, and that it is closed with.
-ghost use Rattle.std.specs.Prelude.{◌≡◌, ◌+◌, ◌≤◌, ◌++◌, ◌↔◌, ◌==◌, IsTrue, All, IfOk, count_by, vec_len, vec_capacity};
+ghost use Rattle.std.specs.Prelude.{◌≡◌, ◌+◌, ◌≤◌, [], ◌∷◌, ◌++◌, ◌↔◌, ◌==◌, IsTrue, All, IfOk, count_by};
+ghost use Rattle.std.specs.Prelude.{vec_len, vec_capacity};
 ghost use Rattle.history.specs.Tokens.{TokenRecord};
 ghost use Rattle.ssb_server.specs.Tickets.{IsNewClient, IsResting, IsLeft};
 ghost use Rattle.history.specs.World.{number_of};
@@ -7,6 +8,7 @@ ghost use Rattle.history.specs.Closing.{AreNumbered};
 
 use crate::client::{Client, new_client};
 use crate::dispatcher::Dispatcher;
+use crate::log_reader::LogReader;
 use crate::server::Token;
 use std::alloc::{AllocError, Global};
 use twin_cell::EndsCopies;
@@ -98,6 +100,45 @@ pub(crate) fn are_dispatchers_numbered<W: EndsCopies + Drop>(
     true
 }
 
+// Whether just one of the dispatchers and the reader of the log has the number.
+fn has_one_once<W: EndsCopies + Drop>(
+    dispatchers: &[Dispatcher<W>],
+    reader: &LogReader<W>,
+    number: u32,
+) -> bool
+    ensures { IsTrue result ↔ (count_by (λ (t : TokenRecord). number_of t.who == number)
+        (dispatchers.now ++ reader.now ∷ []) ≡ 1) }
+{
+    let others = dispatchers
+        .iter()
+        .filter(|dispatcher| dispatcher.number() == number)
+        .count();
+    if reader.number() == number {
+        others == 0
+    } else {
+        others == 1
+    }
+}
+
+/// Whether the dispatchers and the reader of the log are so many, with each number once.
+pub(crate) fn are_all_numbered<W: EndsCopies + Drop>(
+    dispatchers: &[Dispatcher<W>],
+    reader: &LogReader<W>,
+    count: u32,
+) -> bool
+    ensures { IsTrue result ↔ AreNumbered count (dispatchers.now ++ reader.now ∷ []) }
+{
+    if dispatchers.len() + 1 != count as usize {
+        return false;
+    }
+    for before in 0..count {
+        if !has_one_once(dispatchers, reader, before + 1) {
+            return false;
+        }
+    }
+    true
+}
+
 /// The tokens of the dispatchers, in room that is there.
 pub(crate) fn gather_dispatchers<W: EndsCopies + Drop>(
     tokens: &mut Vec<Token<W>>,
@@ -105,6 +146,8 @@ pub(crate) fn gather_dispatchers<W: EndsCopies + Drop>(
 )
     requires { vec_len tokens.old + vec_len dispatchers ≤ vec_capacity tokens.old }
     ensures items { tokens.new.items ≡ tokens.old.items ++ dispatchers.items }
+    ensures len { vec_len tokens.new ≡ vec_len tokens.old + vec_len dispatchers }
+    ensures capacity { vec_capacity tokens.new ≡ vec_capacity tokens.old }
     ensures left { All IsLeft dispatchers.items }
 {
     for dispatcher in dispatchers {

@@ -1,0 +1,99 @@
+-- Who reads the log: one dispatcher more, that answers nothing.
+use Rattle.std.proofs.Common.{◌≡◌, ℕ, ◌+◌, ◌≤◌, Bool, true, false, List, [], ◌∷◌, ◌++◌, length, refl, ap, sym, subst}
+use Rattle.std.proofs.Common.{◌∙◌, arith, IsTrue, Some}
+use Rattle.std.specs.Prelude.{All, cond, count_by, ◌==◌, ◌↔◌}
+use Rattle.std.specs.List.{range_with_len}
+use Rattle.std.proofs.lemmas.Bool.{eqb-true, eq-eqb}
+use Rattle.std.proofs.lemmas.List.Sums.{sum_by_push}
+use Rattle.std.proofs.lemmas.List.Elements.{All-pop, All-push}
+use Rattle.std.proofs.lemmas.List.FromFn.{length-map-range_with_len}
+use Rattle.row_store.specs.History.{CommitRecord, IsPrefix}
+use Rattle.row_store.proofs.PrefixLaws.{beginnings_are_shorter}
+use Rattle.history.specs.Tokens.{TableRecord, TokenRecord, IsSound, IsFree, Saw, new_dispatchers}
+use Rattle.history.specs.Closing.{AreNumbered, AreDispatchers}
+use Rattle.ssb_server.specs.Opening.{IsNewDispatcher}
+use Rattle.ssb_server.specs.Ready.{IsIdle}
+use Rattle.ssb_server.specs.Tickets.{IsLeft, IsOf}
+use Rattle.ssb_server.specs.Turns.{Fetches}
+use Rattle.ssb_server.proofs.SeatLaws.{all_dispatchers, dispatchers_are_new}
+
+-- it has not taken more than it sees
+pub still_within : (before after : List CommitRecord) (taken : ℕ) → IsPrefix before after → taken ≤ length before
+    → taken ≤ length after
+still_within before after taken begins few =
+    let n = beginnings_are_shorter before after begins in omega (arith, n, few)
+
+-- the last token of the dispatchers is one that has done nothing
+pub idle_at_first : (table : TableRecord) (t : TokenRecord) → IsNewDispatcher table.base t → (number : ℕ) × IsIdle number t
+idle_at_first table t new = (new.number, record { who_is = new.who_is; free = new.free; sound = new.sound })
+
+pub idle_after_fetch : (number : ℕ) (before after : TokenRecord) → Fetches before after → IsSound after
+    → IsIdle number before → IsIdle number after
+idle_after_fetch number before after fetches sound idle = record {
+  who_is = ap (λ (t : TokenRecord). t.who) fetches.now ∙ idle.who_is;
+  free = record {
+    rows = ap (λ (t : TokenRecord). t.has_rows) fetches.now ∙ idle.free.rows;
+    writer = ap (λ (t : TokenRecord). t.has_writer) fetches.now ∙ idle.free.writer;
+    hand = ap (λ (t : TokenRecord). t.grabbed) fetches.now ∙ idle.free.hand;
+  };
+  sound = sound;
+}
+
+pub idle_after_look : (number : ℕ) (before after : TokenRecord) → Saw before after → IsSound after
+    → IsIdle number before → IsIdle number after
+idle_after_look number before after saw sound idle = record {
+  who_is = ap (λ (t : TokenRecord). t.who) saw.now ∙ idle.who_is;
+  free = record {
+    rows = ap (λ (t : TokenRecord). t.has_rows) saw.now ∙ idle.free.rows;
+    writer = ap (λ (t : TokenRecord). t.has_writer) saw.now ∙ idle.free.writer;
+    hand = ap (λ (t : TokenRecord). t.grabbed) saw.now ∙ idle.free.hand;
+  };
+  sound = sound;
+}
+
+-- as many tokens of dispatchers as the table has
+pub dispatcher_count : (table : TableRecord) (tokens : List TokenRecord) → tokens ≡ new_dispatchers table
+    → length tokens ≡ table.dispatchers
+dispatcher_count table tokens are = ap length are ∙ length-map-range_with_len _ 1 table.dispatchers
+
+-- the tokens before the last are of new dispatchers too, and so is the last
+pub parted : (table : TableRecord) (tokens rest : List TokenRecord) (last : TokenRecord)
+    → tokens ≡ new_dispatchers table → tokens ≡ rest ++ last ∷ []
+    → All (IsNewDispatcher table.base) rest × IsNewDispatcher table.base last
+parted table tokens rest last are whole = All-pop (IsNewDispatcher table.base) tokens rest (Some last) whole
+    (subst (All (IsNewDispatcher table.base)) (sym are) (dispatchers_are_new table))
+
+-- how often a test holds with one token more
+module _ (p : TokenRecord → Bool) (tokens : List TokenRecord) (last : TokenRecord) where
+  one_more : p last ≡ true → count_by p (tokens ++ last ∷ []) ≡ count_by p tokens + 1
+  one_more yes = sum_by_push (λ t. cond (p t) 1 0) tokens last ∙ ap (λ b. count_by p tokens + cond b 1 0) yes
+
+  no_more : p last ≡ false → count_by p (tokens ++ last ∷ []) ≡ count_by p tokens + 0
+  no_more no = sum_by_push (λ t. cond (p t) 1 0) tokens last ∙ ap (λ b. count_by p tokens + cond b 1 0) no
+
+  pub once_by_the_last : (others : ℕ) → others ≡ count_by p tokens → p last ≡ true
+      → IsTrue (others == 0) ↔ (count_by p (tokens ++ last ∷ []) ≡ 1)
+  once_by_the_last others count yes = let whole = one_more yes in (
+    (λ none. let e : others ≡ 0 = eqb-true others 0 none in omega (arith, count, whole, e)),
+    λ once. eq-eqb others 0 (omega (arith, count, whole, once)),
+  )
+
+  pub once_by_others : (others : ℕ) → others ≡ count_by p tokens → p last ≡ false
+      → IsTrue (others == 1) ↔ (count_by p (tokens ++ last ∷ []) ≡ 1)
+  once_by_others others count no = let whole = no_more no in (
+    (λ one. let e : others ≡ 1 = eqb-true others 1 one in omega (arith, count, whole, e)),
+    λ once. eq-eqb others 1 (omega (arith, count, whole, once)),
+  )
+
+-- the tokens of the dispatchers with that of the reader, in the room for them
+pub all_with_reader : (table : TableRecord) (tokens room : List TokenRecord) (reader : TokenRecord)
+    → room ≡ tokens ++ reader ∷ [] → AreNumbered table.dispatchers (tokens ++ reader ∷ []) → All IsLeft tokens
+    → IsLeft reader → All (IsOf table) tokens → IsOf table reader → AreDispatchers table room
+all_with_reader table tokens room reader is numbered left reader_left here reader_here =
+    all_dispatchers table (tokens ++ reader ∷ []) room is numbered (All-push IsLeft tokens reader left reader_left)
+    (All-push (IsOf table) tokens reader here reader_here)
+
+-- what is true of all of them is true of each part
+pub each_of_both : (P : TokenRecord → Type 0) (tokens room : List TokenRecord) (reader : TokenRecord)
+    → room ≡ tokens ++ reader ∷ [] → All P room → All P tokens × P reader
+each_of_both P tokens room reader is all = All-pop P room tokens (Some reader) is all
