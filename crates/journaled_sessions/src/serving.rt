@@ -32,6 +32,7 @@ pub trait KeepsTorn {
 }
 
 /// A journal that was read and looked at, over tables of these sizes, and what keeps what a crash has torn of it.
+#[derive(Drop)]
 pub struct Recovered<'a, D: Disk, T> {
     pub opened: OpenedJournal<D>,
     pub sizes: &'a [TableSize],

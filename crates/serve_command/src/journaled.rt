@@ -23,6 +23,7 @@ use std::time::Clock;
 use stream_sessions::Speaks;
 
 /// Where the journal is, and what is told of it.
+#[derive(Drop)]
 pub struct JournalPlace<'a, F: Files> {
     pub files: &'a F,
     pub path: &'a str,
@@ -49,6 +50,7 @@ fn table_sizes(base: &Base, bytes: &TableBytes) -> [TableSize; 5] {
 }
 
 // Keeps what a crash has torn beside the journal, and tells how many commits it has.
+#[derive(Drop)]
 struct TornKeeper<'a, F: Files, E: Print> {
     place: &'a JournalPlace<'a, F>,
     alloc: Global,

@@ -7,6 +7,7 @@ use std::io::Read;
 use std::sync::atomic::{AtomicU64, Ordering};
 
 /// How many bytes were read of each table.
+#[derive(Drop)]
 pub struct TableBytes {
     customer: AtomicU64,
     supplier: AtomicU64,
