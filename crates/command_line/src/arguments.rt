@@ -214,7 +214,9 @@ fn serve_command<'a>(alloc: Global) -> Result<Command<'a>, AllocError> {
     let journal = Arg::new(alloc, "journal")
         .long("journal")
         .value_name("FILE")
-        .help("Where the commits are kept: clients are told nothing before it is on the disk; the next server goes on from it")
+        .help(
+            "Where the commits are kept: clients are told nothing before it is on the disk; the next server goes on from it",
+        )
         .action(ArgAction::Set);
     Command::new(alloc, "serve")
         .about("Serves clients as their requests come: standard input and output, or named pipes")

@@ -4,9 +4,9 @@ use crate::arguments::{TERMINAL_HELP, matches, tell};
 use crate::streams::Streams;
 use audit_command::run_audit;
 use clap::ArgMatches;
+use journal_file::JournalFile;
 use query_command::{Settings, run_all, run_query};
 use run_command::{RunSettings, demo, run_scripts};
-use journal_file::JournalFile;
 use serve_command::{
     EndPaths, JournalPlace, Prompted, ServeSettings, serve_clients, serve_clients_journaled,
     serve_stream, serve_stream_journaled,

@@ -1,6 +1,6 @@
 -- What the sessions of a server with a journal leave.
-use Rattle.std.specs.Prelude.{◌≡◌, ℕ, List, length, Some, slice_get}
-use Rattle.history.specs.Tokens.{TokenRecord}
+use Rattle.std.specs.Prelude.{◌≡◌, ℕ, All, List, length, Some, slice_get}
+use Rattle.history.specs.Tokens.{TableRecord, TokenRecord}
 use Rattle.history_core.specs.OwnCommits.{IsOfClients}
 use Rattle.row_store.specs.History.{CommitRecord, IsPrefix}
 use Rattle.row_store.specs.Legal.{IsLegal}
@@ -20,6 +20,12 @@ pub record IsServedAfter {S L : Type 0} (Spoken : S → TokenRecord → TokenRec
   pub spoken : IsSpoken Spoken speaker client closed left
   pub begins : IsPrefix closed.seen log
 
+-- the log of a server that was closed, in which what each of these clients sees is a beginning
+pub record IsClosedAfter (table : TableRecord) (clients : List TokenRecord) (log : List CommitRecord) : Type 0 where
+  pub legal : IsLegal table.base log
+  pub named : IsOfClients table.clients log
+  pub begin : All (λ (token : TokenRecord). IsPrefix token.seen log) clients
+
 -- a server over the base, whose log began with the recovered commits, served these speakers, each by a client of its
 -- own: this is what they left, in order, and the log
 pub record IsJournaledRun {S L : Type 0} (Spoken : S → TokenRecord → TokenRecord → L → Type 0) (base : Tables)
@@ -36,5 +42,6 @@ pub record IsJournaledRun {S L : Type 0} (Spoken : S → TokenRecord → TokenRe
 abbrev pub IsJournaledFault : Tables → List CommitRecord → JournaledFault → Type 0
 IsJournaledFault base recovered (fault.NotRun why) = Unit {0}
 IsJournaledFault base recovered (fault.Replay why) = IsReplayFault base recovered why
+IsJournaledFault base recovered fault.Disturbed = Unit {0}
 IsJournaledFault base recovered fault.Write = Unit {0}
 IsJournaledFault base recovered fault.OutOfMemory = Unit {0}

@@ -17,6 +17,9 @@ pub enum JournaledFault {
     /// The journal's commits are no history over the tables. The file is as it was.
     #[error("journal: {0}")]
     Replay(ReplayFault),
+    /// The log has commits that are not the journal's: somebody else refreshes the server.
+    #[error("journal: another refreshes the server")]
+    Disturbed,
     /// The journal could not be written: clients are told nothing more.
     #[error("journal write failed")]
     Write,

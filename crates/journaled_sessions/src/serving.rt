@@ -1,7 +1,14 @@
 //! Sessions over a server with a journal, from its opening to its end.
 
-ghost use Rattle.std.specs.Prelude.{◌≤◌, IfOk, IfErr, IfSome, vec_len};
-ghost use Rattle.journaled_sessions.specs.Served.{IsJournaledFault, IsJournaledRun};
+ghost use Rattle.std.specs.Prelude.{◌≡◌, ◌≤◌, ◌++◌, [], ◌∷◌, All, IfOk, IfErr, IfSome, OnOk, map, vec_len};
+ghost use Rattle.history.specs.Tokens.{new_clients, new_dispatchers};
+ghost use Rattle.journal.specs.Groups.{recovered as recovered_groups};
+ghost use Rattle.ssb_journal.specs.Counts.{KeepsFirst};
+ghost use Rattle.ssb_journal.specs.Opening.{IsKept};
+ghost use Rattle.ssb_server.specs.Tickets.{AreAllThere, IsOf, IsQuiet};
+ghost use Rattle.ssb_sessions.specs.Sessions.{AreStill};
+ghost use Rattle.stream_sessions.specs.Streams.{AreSpoken};
+ghost use Rattle.journaled_sessions.specs.Served.{IsClosedAfter, IsJournaledFault, IsJournaledRun};
 
 use crate::acknowledging::Journaled;
 use crate::fault::JournaledFault;
@@ -10,10 +17,10 @@ use crate::source::ServerLog;
 use journal::{Disk, Journal};
 use row_store::Commit;
 use ssb_base::Base;
-use ssb_journal::{
-    JournaledLog, KeptCommits, OpenedJournal, SharedJournal, TableSize, begin,
+use ssb_journal::{JournaledLog, KeptCommits, OpenedJournal, SharedJournal, TableSize, begin};
+use ssb_server::{
+    Client, Closed, Dispatcher, LogReader, OpenedWithReader, Server, open_with_reader,
 };
-use ssb_server::{Client, Closed, Dispatcher, LogReader, OpenedWithReader, Server, open_with_reader};
 use ssb_sessions::{Batches, RunFault};
 use std::alloc::{AllocError, Global};
 use std::hash::RandomState;
@@ -56,6 +63,9 @@ fn seat<W: Wait + Drop>(
     clients: Vec<Client<W>>,
     count: usize,
 ) -> Result<(Vec<Client<W>>, Vec<Client<W>>), AllocError>
+    requires { count ≤ vec_len clients }
+    ensures parts { IfOk result (λ parts. parts.0.items ++ parts.1.items ≡ clients.items) }
+    ensures count { IfOk result (λ parts. vec_len parts.0 ≡ count) }
 {
     let mut seated = Vec::with_capacity(alloc, count)?;
     let mut resting = Vec::new(alloc);
@@ -74,7 +84,7 @@ fn begin_again<D, T, W, R>(
     rt: &R,
     alloc: Global,
     server: &Server<W>,
-    clients: &mut Vec<Client<W>>,
+    clients: &mut [Client<W>],
     reader: &mut LogReader<W>,
     recovered: Recovered<'_, D, T>,
 ) -> Result<(Journal<D>, u64), JournaledFault>
@@ -83,6 +93,14 @@ where
     T: KeepsTorn,
     W: Wait + Drop,
     R: Wait,
+    requires clients { All (IsQuiet server.now) clients.old }
+    requires reader { (reader.old.table ≡ server.now) × (reader.old.seen ≡ []) }
+    requires kept { IsKept recovered.sizes.now (recovered_groups (D.seen recovered.opened.found)) recovered.opened.kept }
+    ensures clients { All (IsQuiet server.now) clients.new }
+    ensures reader { reader.new.table ≡ server.now }
+    ensures seen { OnOk result (reader.new.seen ≡ recovered.opened.kept.commits.items) }
+    ensures kept { IfOk result (λ begun. KeepsFirst begun.1 reader.new.seen (D.seen begun.0)) }
+    ensures fault { IfErr result (IsJournaledFault server.now.base recovered.opened.kept.commits.items) }
 {
     let Recovered {
         opened,
@@ -91,9 +109,7 @@ where
     } = recovered;
     let OpenedJournal { found, kept, torn } = opened;
     let KeptCommits { commits, is_new } = kept;
-    if let Err(fault) = remake(rt, server, clients, reader, &commits) {
-        return Err(JournaledFault::Replay(fault));
-    }
+    remake(rt, server, clients, reader, &commits)?;
     if keeper.keep_torn(&torn).is_err() {
         return Err(JournaledFault::Write);
     }
@@ -108,7 +124,11 @@ fn gather<W: Wait + Drop, L: Drop>(
     alloc: Global,
     spoken: Vec<Spoken<W, L>>,
     resting: Vec<Client<W>>,
-) -> Result<(Vec<Client<W>>, Vec<L>), AllocError> {
+) -> Result<(Vec<Client<W>>, Vec<L>), AllocError>
+    ensures clients { IfOk result (λ gathered. gathered.0.items ≡ map (λ one. one.client) spoken.items
+        ++ resting.items) }
+    ensures left { IfOk result (λ gathered. gathered.1.items ≡ map (λ one. one.left) spoken.items) }
+{
     let mut clients = Vec::new(alloc);
     let mut all_left = Vec::new(alloc);
     for one in spoken {
@@ -138,20 +158,19 @@ where
     R: Wait + Threads + Sync,
     S: Speaks<R> + Drop + Send,
     S::Left: Drop + Send,
+    requires clients { All (IsQuiet server.now) seated.items }
+    requires dispatchers { All (IsOf server.now) dispatchers.items }
+    requires speakers { vec_len seated ≡ vec_len speakers }
+    ensures served { IfOk result (λ end. AreSpoken S.spoken speakers.items seated.items
+        (map (λ one. one.client) end.0.spoken.items) (map (λ one. one.left) end.0.spoken.items)) }
+    ensures dispatchers { IfOk result (λ end. AreStill dispatchers.items end.0.dispatchers.items) }
+    ensures reader { IfOk result (λ end. IfSome end.1 (λ reader. reader.table ≡ server.now)) }
 {
     let journaled = Journaled {
         journal: SharedJournal::new(log),
         failed: AtomicBool::new(false),
     };
-    let ended = serve_opened(
-        rt,
-        alloc,
-        &journaled,
-        server,
-        seated,
-        dispatchers,
-        speakers,
-    )?;
+    let ended = serve_opened(rt, alloc, &journaled, server, seated, dispatchers, speakers)?;
     let Journaled { journal, failed: _ } = journaled;
     match journal.into_log() {
         Ok(log) => {
@@ -174,7 +193,14 @@ fn close<W: Wait + Drop, L: Drop>(
     ended: Ended<W, Spoken<W, L>>,
     resting: Vec<Client<W>>,
     reader: Option<LogReader<W>>,
-) -> Result<JournaledRun<L>, AllocError> {
+) -> Result<JournaledRun<L>, AllocError>
+    requires clients { All (IsQuiet server) (map (λ one. one.client) ended.spoken.items ++ resting.items) }
+    requires there { IfSome reader (λ reader. AreAllThere server (map (λ one. one.client) ended.spoken.items
+        ++ resting.items) (ended.dispatchers.items ++ reader ∷ [])) }
+    ensures left { IfOk result (λ run. run.left.items ≡ map (λ one. one.left) ended.spoken.items) }
+    ensures log { IfOk result (λ run. IfSome run.log (λ log. IsClosedAfter server (map (λ one. one.client)
+        ended.spoken.items) log.items)) }
+{
     let Ended {
         spoken,
         dispatchers,
@@ -213,6 +239,14 @@ where
     R: Wait + Threads + Sync,
     S: Speaks<R> + Drop + Send,
     S::Left: Drop + Send,
+    requires few { vec_len speakers ≤ 16 }
+    requires kept { IsKept recovered.sizes.now (recovered_groups (D.seen recovered.opened.found)) recovered.opened.kept }
+    requires clients { opened.clients.items ≡ new_clients opened.server }
+    requires sixteen { opened.server.clients ≡ 16 }
+    requires dispatchers { opened.dispatchers.items ++ opened.reader ∷ [] ≡ new_dispatchers opened.server }
+    ensures served { IfOk result (λ run. IfSome run.log (λ log. IsJournaledRun S.spoken opened.server.base
+        recovered.opened.kept.commits.items speakers.items run.left.items log.items)) }
+    ensures fault { IfErr result (IsJournaledFault opened.server.base recovered.opened.kept.commits.items) }
 {
     let OpenedWithReader {
         server,
@@ -220,14 +254,7 @@ where
         mut reader,
         dispatchers,
     } = opened;
-    let (journal, count) = begin_again(
-        rt,
-        alloc,
-        &server,
-        &mut clients,
-        &mut reader,
-        recovered,
-    )?;
+    let (journal, count) = begin_again(rt, alloc, &server, &mut clients, &mut reader, recovered)?;
     let (seated, resting) = seat(alloc, clients, speakers.len())?;
     let source = ServerLog {
         server: &server,
@@ -260,9 +287,10 @@ where
     S: Speaks<R> + Drop + Send,
     S::Left: Drop + Send,
     requires few { vec_len speakers ≤ 16 }
+    requires kept { IsKept recovered.sizes.now (recovered_groups (D.seen recovered.opened.found)) recovered.opened.kept }
     ensures served { IfOk result (λ run. IfSome run.log (λ log. IsJournaledRun S.spoken base.value
         recovered.opened.kept.commits.items speakers.items run.left.items log.items)) }
-    ensures fault { IfErr result (λ fault. IsJournaledFault base.value recovered.opened.kept.commits.items fault) }
+    ensures fault { IfErr result (IsJournaledFault base.value recovered.opened.kept.commits.items) }
 {
     match open_with_reader(alloc, rt, hashing, base, CLIENTS, dispatchers) {
         Ok(opened) => serve(rt, alloc, opened, speakers, recovered),

@@ -25,6 +25,9 @@ impl<'a, W: Wait + Drop> LogSource for ServerLog<'a, W> {
         _alloc: Global,
         taken: u64,
     ) -> Result<Vec<Commit>, AllocError> {
-        self.reader.commits_from(rt, self.server, taken)
+        let commits = self.reader.commits_from(rt, self.server, taken);
+        // For the proof: the log is no longer than a number of 64 bits tells.
+        let _count = self.reader.seen();
+        commits
     }
 }

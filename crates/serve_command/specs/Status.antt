@@ -13,7 +13,7 @@ use Rattle.journaled_sessions.specs.declared.fault.JournaledFault.TheVariants as
 use Rattle.ssb_journal.specs.declared.fault.JournalFault.{JournalFault}
 use Rattle.ssb_journal.specs.declared.fault.JournalFault.TheVariants as journal
 use Rattle.ssb_journal.specs.declared.opening.JournalOpenFault.{JournalOpenFault}
-use Rattle.ssb_journal.specs.declared.opening.JournalOpenFault.TheVariants as open
+use Rattle.ssb_journal.specs.declared.opening.JournalOpenFault.TheVariants as not_kept
 use Rattle.ssb_journal.specs.declared.replaying.ReplayFault.{ReplayFault}
 use Rattle.ssb_journal.specs.declared.replaying.ReplayFault.TheVariants as replay
 use Rattle.stream_sessions.specs.declared.outcome.Served.{Served}
@@ -38,14 +38,15 @@ opening_status opening.InUse = 1
 opening_status (opening.Io error) = 4
 
 abbrev pub kept_status : JournalOpenFault → ℕ
-kept_status (open.Journal journal.OutOfMemory) = 4
-kept_status (open.Journal _) = 1
-kept_status (open.Disk error) = 4
+kept_status (not_kept.Journal journal.OutOfMemory) = 4
+kept_status (not_kept.Journal _) = 1
+kept_status (not_kept.Disk error) = 4
 
 abbrev pub journaled_status : JournaledFault → ℕ
 journaled_status (journaled.Replay replay.OutOfMemory) = 4
 journaled_status (journaled.Replay _) = 1
 journaled_status (journaled.NotRun why) = 4
+journaled_status journaled.Disturbed = 4
 journaled_status journaled.Write = 4
 journaled_status journaled.OutOfMemory = 4
 

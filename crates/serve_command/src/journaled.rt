@@ -1,16 +1,23 @@
 //! The word `serve` with a journal: what clients are told is on the disk before.
 
-ghost use Rattle.std.specs.Prelude.{◌≡◌, ◌≢◌, ◌↔◌, ◌<◌, ◌≤◌, vec_len};
+ghost use Rattle.std.specs.Prelude.{◌≡◌, ◌≢◌, ◌↔◌, ◌<◌, ◌≤◌, ℕ, List, true, IfOk, IfErr, IfSome, vec_len};
+ghost use Rattle.journal.specs.Disk.{Only};
+ghost use Rattle.serve_command.specs.Journaled.{GoesOn, GoesOnOver, ServesJournaled};
+ghost use Rattle.serve_command.specs.Status.{journal_status};
+ghost use Rattle.ssb_files.specs.Status.{job_status};
+ghost use Rattle.ssb_schema.specs.declared.table.Table.{Table};
+ghost use Rattle.ssb_text.specs.Load.{AreTexts};
 
 use crate::ends::EndPaths;
 use crate::journal_fault::{JournalRefusal, JournalServingFault};
 use crate::serving::{MOST_CLIENTS, ServeSettings, StreamEnd, speakers_of, tell_ended};
 use crate::speakers::{StreamClient, StreamLeft};
+use journal::Disk;
 use journal_file::{FileDisk, JournalFile, keep_torn};
 use journaled_sessions::{JournaledRun, KeepsTorn, Recovered, serve_journaled};
 use ssb_base::Base;
 use ssb_files::{Fault, TableBytes, base_to_serve};
-use ssb_journal::{OpenedJournal, TableSize, open};
+use ssb_journal::{TableSize, open};
 use ssb_schema::Table;
 use ssb_text::Tables;
 use std::alloc::Global;
@@ -66,52 +73,46 @@ impl<'a, F: Files, E: Print> KeepsTorn for TornKeeper<'a, F, E> {
             let commits = self.commits;
             let _ = match torn.len() {
                 0 => writeln!(screen, "ssb_live: journal: {commits} commits"),
-                cut => writeln!(screen, "ssb_live: journal: {commits} commits, {cut} bytes cut off"),
+                cut => writeln!(
+                    screen,
+                    "ssb_live: journal: {commits} commits, {cut} bytes cut off"
+                ),
             };
         }
         Ok(())
     }
 }
 
-// Opens the journal's file, and looks at all of it; nothing is written.
-fn open_journal<F: Files>(
-    alloc: Global,
-    place: &JournalPlace<'_, F>,
-    sizes: &[TableSize],
-) -> Result<OpenedJournal<FileDisk<F::File>>, JournalServingFault>
-where
-    F::File: JournalFile,
-{
-    let disk = match FileDisk::open(place.files, alloc, place.path) {
-        Ok(disk) => disk,
-        Err(error) => return Err(JournalServingFault::Found(JournalRefusal::NotOpened(error))),
-    };
-    match open(alloc, sizes, disk) {
-        Ok(opened) => Ok(opened),
-        Err((fault, _)) => Err(JournalServingFault::Found(JournalRefusal::NotKept(fault))),
-    }
-}
-
-// Serves clients at once over the base that the tables spell, behind the commits of the journal.
-fn serve<R, F: Files, I: Read + Drop, S: Speaks<R> + Drop + Send, E: Print>(
+// Serves clients at once over a base, behind the commits of a journal's file that was just opened. All of it is looked at
+// before anything is written.
+fn serve_disk<R, F, D, S, E>(
     rt: &R,
     settings: ServeSettings,
-    tables: Tables<I>,
+    base: Arc<Base>,
     place: &JournalPlace<'_, F>,
+    disk: D,
     speakers: Vec<S>,
     screen: &E,
-) -> Result<JournaledRun<S::Left>, JournalServingFault>
+) -> Result<JournaledRun<S::Left>, JournalRefusal>
 where
     R: Threads + Sync + Wait + Clock + AllocGlobal,
-    F::File: JournalFile + Send,
+    F: Files,
+    D: Disk + Drop + Send,
+    S: Speaks<R> + Drop + Send,
     S::Left: Drop + Send,
-    requires { vec_len speakers ≤ 16 }
+    E: Print,
+    requires readable { D.is_readable disk }
+    requires durable { Only (D.seen disk) (D.may_leave disk) }
+    requires few { vec_len speakers ≤ 16 }
+    ensures served { IfOk result (λ run. IfSome run.log (λ log. GoesOn base.value log.items)) }
+    ensures words { IfErr result (λ refusal. journal_status refusal ≢ 2) }
 {
     let alloc = rt.alloc();
-    let base = base_to_serve(rt, alloc, tables)?;
     let sizes = table_sizes(&base, place.bytes);
-    let base = Arc::new(alloc, base)?;
-    let opened = open_journal(alloc, place, &sizes)?;
+    let opened = match open(alloc, &sizes, disk) {
+        Ok(opened) => opened,
+        Err((fault, _)) => return Err(JournalRefusal::NotKept(fault)),
+    };
     let keeper = TornKeeper {
         place,
         alloc,
@@ -129,7 +130,38 @@ where
     } = settings;
     match serve_journaled(rt, alloc, hashing, base, speakers, dispatchers, recovered) {
         Ok(run) => Ok(run),
-        Err(fault) => Err(JournalServingFault::Found(JournalRefusal::NotServed(fault))),
+        Err(fault) => Err(JournalRefusal::NotServed(fault)),
+    }
+}
+
+// Serves clients at once over the base that the tables spell, behind the commits of the journal.
+fn serve<R, F: Files, I: Read + Drop, S: Speaks<R> + Drop + Send, E: Print>(
+    rt: &R,
+    settings: ServeSettings,
+    tables: Tables<I>,
+    place: &JournalPlace<'_, F>,
+    speakers: Vec<S>,
+    screen: &E,
+) -> Result<JournaledRun<S::Left>, JournalServingFault>
+where
+    R: Threads + Sync + Wait + Clock + AllocGlobal,
+    F::File: JournalFile + Send,
+    S::Left: Drop + Send,
+    requires { vec_len speakers ≤ 16 }
+    ensures served { IfOk result (λ run. IfSome run.log (λ log. (texts : Table → List ℕ)
+        → AreTexts I.remaining tables texts → GoesOnOver texts log.items)) }
+    ensures words { IfErr result (λ fault. job_status journal_status fault ≢ 2) }
+{
+    let alloc = rt.alloc();
+    let base = base_to_serve(rt, alloc, tables)?;
+    let base = Arc::new(alloc, base)?;
+    let disk = match FileDisk::open(place.files, alloc, place.path) {
+        Ok(disk) => disk,
+        Err(error) => return Err(JournalServingFault::Found(JournalRefusal::NotOpened(error))),
+    };
+    match serve_disk(rt, settings, base, place, disk, speakers, screen) {
+        Ok(run) => Ok(run),
+        Err(refusal) => Err(JournalServingFault::Found(refusal)),
     }
 }
 
@@ -159,6 +191,9 @@ where
     J: Read + Drop + Send,
     O: Write + Drop + Send,
     E: Print,
+    ensures served { IfOk result (λ end. end.1 ≡ true → (texts : Table → List ℕ)
+        → AreTexts I.remaining tables texts → ServesJournaled texts) }
+    ensures words { IfErr result (λ fault. job_status journal_status fault ≢ 2) }
 {
     let mut speakers = Vec::new(rt.alloc());
     speakers.push(StreamClient { input, output })?;
@@ -195,6 +230,8 @@ where
     J: Read + Drop + Send,
     O: Write + Drop + Send,
     E: Print,
+    ensures served { result.status ≡ 0 → (texts : Table → List ℕ) → AreTexts I.remaining tables texts
+        → ServesJournaled texts }
     ensures others { result.status ≢ 0 → result.status ≢ 1 → result.status ≡ 4 }
 {
     let mut err = io::writer(screen);
@@ -238,6 +275,8 @@ where
     F::Dir: Send,
     I: Read + Drop,
     E: Print + Sync,
+    ensures served { result ≡ 0 → (texts : Table → List ℕ) → AreTexts I.remaining tables texts
+        → ServesJournaled texts }
     ensures many { (result ≡ 2) ↔ (16 < vec_len clients) }
     ensures others { result ≢ 0 → result ≢ 1 → result ≢ 2 → result ≡ 4 }
 {

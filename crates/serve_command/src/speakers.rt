@@ -55,15 +55,7 @@ fn serve_over<W: Wait + Drop, R: Wait, K: Acknowledges, I: Read + Drop, O: Write
     ensures same { AreAlike client.old client.new }
 {
     match BufReader::with_capacity(alloc, READ_AHEAD, input) {
-        Ok(mut input) => serve_session(
-            rt,
-            alloc,
-            acknowledger,
-            server,
-            client,
-            &mut input,
-            output,
-        ),
+        Ok(mut input) => serve_session(rt, alloc, acknowledger, server, client, &mut input, output),
         Err(_) => Err(SessionError {
             answered: 0,
             fault: SessionFault::OutOfMemory,
@@ -88,15 +80,7 @@ impl<R: Wait, I: Read + Drop, O: Write + Drop> Speaks<R> for StreamClient<I, O> 
         client: &mut Client<W>,
     ) -> StreamLeft<O> {
         let StreamClient { input, mut output } = self;
-        let ended = serve_over(
-            rt,
-            alloc,
-            acknowledger,
-            server,
-            client,
-            input,
-            &mut output,
-        );
+        let ended = serve_over(rt, alloc, acknowledger, server, client, input, &mut output);
         StreamLeft { output, ended }
     }
 }
@@ -170,15 +154,7 @@ impl<'a, F: Files, E: Print> PathClient<'a, F, E> {
         };
         let comes_again = self.keeps && ends.are_named_pipes();
         let Ends { input, mut output } = ends;
-        let ended = serve_over(
-            rt,
-            alloc,
-            acknowledger,
-            server,
-            client,
-            input,
-            &mut output,
-        );
+        let ended = serve_over(rt, alloc, acknowledger, server, client, input, &mut output);
         match ended {
             Ok(_) if comes_again => SessionEnd::Again,
             Ok(_) => SessionEnd::Last,

@@ -69,7 +69,10 @@ fn count_table<'a, I: Drop>(bytes: &'a TableBytes, table: Table, reader: I) -> C
 }
 
 /// The files of the five tables, whose bytes are counted while they are read.
-pub fn count_tables<'a, I: Drop>(bytes: &'a TableBytes, tables: Tables<I>) -> Tables<Counted<'a, I>> {
+pub fn count_tables<'a, I: Drop>(
+    bytes: &'a TableBytes,
+    tables: Tables<I>,
+) -> Tables<Counted<'a, I>> {
     Tables {
         customer: count_table(bytes, Table::Customer, tables.customer),
         supplier: count_table(bytes, Table::Supplier, tables.supplier),

@@ -193,14 +193,6 @@ pub fn serve_session<W: Wait + Drop, R: Wait, K: Acknowledges, I: Read, O: Write
             &mut replies,
             served,
         ),
-        Err(error) => Err(break_off(
-            rt,
-            alloc,
-            acknowledger,
-            client,
-            output,
-            &mut replies,
-            error,
-        )),
+        Err(error) => Err(break_off(rt, alloc, acknowledger, client, output, &mut replies, error)),
     }
 }
