@@ -1,24 +1,82 @@
--- How what a journal keeps grows.
-use Rattle.std.proofs.Common.{◌≡◌, ℕ, ◌+◌, ◌≤◌, List, [], ◌++◌, length, sym, ◌∙◌, ap, subst, arith, append_assoc, length-append}
-use Rattle.std.proofs.lemmas.List.{append-nil}
-use Rattle.row_store.specs.History.{CommitRecord}
+-- How what a journal keeps of a log grows.
+use Rattle.std.proofs.Common.{◌≡◌, ⊎_elim, ℕ, ◌+◌, ◌≤◌, List, ◌++◌, length, take, drop, sym, ◌∙◌, ap, subst, arith}
+use Rattle.std.proofs.lemmas.List.{length-append, length-take-le, take_all, take-append-drop, take-append-le}
+use Rattle.journal.specs.Disk.{LeavesOnly, Only}
+use Rattle.journal.proofs.MomentLaws.{leaves, stays}
+use Rattle.row_store.specs.History.{CommitRecord, IsPrefix}
 use Rattle.ssb_journal.specs.declared.head.TableSize.{TableSize}
-use Rattle.ssb_journal.specs.Kept.{KeepsCommits}
-use Rattle.ssb_journal.specs.Counts.{KeepsAtLeast, KeepsMore}
+use Rattle.ssb_journal.specs.Kept.{KeepsCommits, KeepsWithOrWithout}
+use Rattle.ssb_journal.specs.Counts.{KeepsAtLeast, KeepsBeginning, KeepsFirst}
 
--- with more commits, so many more at least
-pub keeps_counted : (count sum : ℕ) (batch : List CommitRecord) (old new : List ℕ) → KeepsAtLeast count old → KeepsMore batch old new → sum ≤ count + length batch → KeepsAtLeast sum new
-keeps_counted count sum batch old new kept more few = record {
-  sizes = kept.sizes;
-  commits = kept.commits ++ batch;
-  keeps = more kept.sizes kept.commits kept.keeps;
-  enough = omega (arith, kept.enough, length-append kept.commits batch, few);
+-- so many commits at least
+pub keeps_enough : (count : ℕ) (log : List CommitRecord) (file : List ℕ) → KeepsFirst count log file → KeepsAtLeast count file
+keeps_enough count log file first = record {
+  sizes = first.sizes;
+  commits = take count log;
+  keeps = first.keeps;
+  enough = omega (arith, length-take-le count log first.inside);
 }
 
-pub keeps_none : (file : List ℕ) → KeepsMore [] file file
-keeps_none file sizes commits keeps = subst (λ (cs : List CommitRecord). KeepsCommits sizes cs file) (sym (append-nil commits)) keeps
+-- of a longer log too
+pub keeps_of_longer : (count : ℕ) (shorter longer : List CommitRecord) (file : List ℕ) → IsPrefix shorter longer → KeepsFirst count shorter file → KeepsFirst count longer file
+keeps_of_longer count shorter longer file begins first =
+    let whole : longer ≡ shorter ++ begins.rest = begins.whole in
+    let same : take count longer ≡ take count shorter = ap (take count) whole ∙ take-append-le count shorter begins.rest first.inside in
+    record {
+      sizes = first.sizes;
+      keeps = subst (λ (commits : List CommitRecord). KeepsCommits first.sizes commits file) (sym same) first.keeps;
+      inside = omega (arith, first.inside, ap length whole, length-append shorter begins.rest);
+    }
 
--- one batch after another
-pub keeps_both : (more batch : List CommitRecord) (old mid new : List ℕ) → KeepsMore more old mid → KeepsMore batch mid new → KeepsMore (more ++ batch) old new
-keeps_both more batch old mid new first second sizes commits keeps =
-    subst (λ (cs : List CommitRecord). KeepsCommits sizes cs new) (append_assoc commits more batch) (second sizes (commits ++ more) (first sizes commits keeps))
+whole_log : (count : ℕ) (log rest : List CommitRecord) → rest ≡ drop count log → take count log ++ rest ≡ take (length log) log
+whole_log count log rest is = ap (λ (end : List CommitRecord). take count log ++ end) is ∙ take-append-drop count log ∙ sym (take_all (length log) log (omega arith))
+
+-- with the rest of the log, all of it
+pub keeps_whole : (count : ℕ) (log rest : List CommitRecord) (old new : List ℕ) → rest ≡ drop count log → KeepsFirst count log old
+    → ((sizes : List TableSize) (before : List CommitRecord) → KeepsCommits sizes before old → KeepsCommits sizes (before ++ rest) new)
+    → KeepsFirst (length log) log new
+keeps_whole count log rest old new is first more =
+    record {
+      sizes = first.sizes;
+      keeps = subst (λ (commits : List CommitRecord). KeepsCommits first.sizes commits new) (whole_log count log rest is) (more first.sizes (take count log) first.keeps);
+      inside = omega arith;
+    }
+
+-- the rest of a log completes its count
+pub counted : (count : ℕ) (log rest : List CommitRecord) → rest ≡ drop count log → count ≤ length log → count + length rest ≡ length log
+counted count log rest is inside =
+    omega (arith, length-append (take count log) (drop count log), ap length (take-append-drop count log), length-take-le count log inside, ap length is)
+
+-- with the rest of the log or without it
+keeps_either_way : (count : ℕ) (log rest : List CommitRecord) (old file : List ℕ) → rest ≡ drop count log → (first : KeepsFirst count log old) → KeepsWithOrWithout first.sizes (take count log) rest file → KeepsBeginning count log file
+keeps_either_way count log rest old file is first left =
+    ⊎_elim
+    (λ same. record { count = count; enough = omega arith; first = record { sizes = first.sizes; keeps = same; inside = first.inside } })
+    (λ grown. record {
+        count = length log;
+        enough = first.inside;
+        first = record {
+          sizes = first.sizes;
+          keeps = subst (λ (commits : List CommitRecord). KeepsCommits first.sizes commits file) (whole_log count log rest is) grown;
+          inside = omega arith;
+        };
+      })
+    left
+
+module _ {D : Type 0} (moment : D → ℕ) (left_since : D → ℕ → List ℕ → Type 0) (seen : D → List ℕ) where
+  -- while the rest of the log is appended
+  pub leaves_beginning : (count : ℕ) (log rest : List CommitRecord) (old new : D) → rest ≡ drop count log → KeepsFirst count log (seen old)
+      → ((sizes : List TableSize) (before : List CommitRecord) → KeepsCommits sizes before (seen old) → LeavesOnly moment left_since old new (KeepsWithOrWithout sizes before rest))
+      → LeavesOnly moment left_since old new (KeepsBeginning count log)
+  leaves_beginning count log rest old new is first run =
+      leaves moment left_since old new (KeepsWithOrWithout first.sizes (take count log) rest) (KeepsBeginning count log)
+      (run first.sizes (take count log) first.keeps)
+      (λ file left. keeps_either_way count log rest (seen old) file is first left)
+
+  -- where no call is made
+  pub stays_beginning : (count : ℕ) (log : List CommitRecord) (disk : D) (may_leave : D → List ℕ → Type 0) → KeepsFirst count log (seen disk)
+      → ((file : List ℕ) → left_since disk (moment disk) file → may_leave disk file) → Only (seen disk) (may_leave disk)
+      → LeavesOnly moment left_since disk disk (KeepsBeginning count log)
+  stays_beginning count log disk may_leave first now durable =
+      stays moment left_since disk (KeepsBeginning count log)
+      (λ file left. subst (KeepsBeginning count log) (sym (durable file (now file left))) (record { count = count; enough = omega arith; first = first }))

@@ -1,5 +1,5 @@
--- How many commits a journal keeps.
-use Rattle.std.specs.Prelude.{◌≡◌, ◌≤◌, ◌++◌, List, ℕ, length}
+-- How many commits a journal keeps, and of which log.
+use Rattle.std.specs.Prelude.{◌≡◌, ◌≤◌, List, ℕ, length, take}
 use Rattle.row_store.specs.History.{CommitRecord}
 use Rattle.ssb_journal.specs.declared.head.TableSize.{TableSize}
 use Rattle.ssb_journal.specs.Kept.{KeepsCommits}
@@ -11,7 +11,20 @@ pub record KeepsAtLeast (count : ℕ) (file : List ℕ) : Type 0 where
   pub keeps : KeepsCommits sizes commits file
   pub enough : count ≤ length commits
 
--- whatever commits the old file keeps, the new one keeps these and then more
-abbrev pub KeepsMore : List CommitRecord → List ℕ → List ℕ → Type 0
-KeepsMore more old new = (sizes : List TableSize) (commits : List CommitRecord)
-    → KeepsCommits sizes commits old → KeepsCommits sizes (commits ++ more) new
+-- a file is a journal, and keeps the first commits of a log, so many of them, and no others
+pub record KeepsFirst (count : ℕ) (log : List CommitRecord) (file : List ℕ) : Type 0 where
+  pub sizes : List TableSize
+  pub keeps : KeepsCommits sizes (take count log) file
+  pub inside : count ≤ length log
+
+-- a file is a journal, and keeps a beginning of a log, of at least so many commits
+pub record KeepsBeginning (least : ℕ) (log : List CommitRecord) (file : List ℕ) : Type 0 where
+  pub count : ℕ
+  pub enough : least ≤ count
+  pub first : KeepsFirst count log file
+
+-- a journal beside a log, as contracts see it: its disk, the log, and how many commits it keeps
+pub record Journaled (D L : Type 0) : Type 0 where
+  pub disk : D
+  pub source : L
+  pub count : ℕ

@@ -5,4 +5,4 @@ pub mod Kept
 pub mod Opening
 pub mod Replays
 pub mod Counts
-pub mod Sources
+pub mod Turns

@@ -1,8 +1,12 @@
 //! What holds of every journal: each law is the contract of a function that does nothing.
-ghost use Rattle.std.specs.Prelude.{◌≡◌, List, ℕ};
-ghost use Rattle.row_store.specs.History.{CommitRecord};
+ghost use Rattle.std.specs.Prelude.{◌≡◌, List, ℕ, [], length, true, false};
+ghost use Rattle.journal.specs.Groups.{recovered};
+ghost use Rattle.row_store.specs.History.{CommitRecord, IsPrefix};
 ghost use Rattle.ssb_journal.specs.declared.head.TableSize.{TableSize};
+ghost use Rattle.ssb_journal.specs.declared.opening.KeptCommits.{KeptCommits};
+ghost use Rattle.ssb_journal.specs.Counts.{KeepsFirst};
 ghost use Rattle.ssb_journal.specs.Kept.{KeepsCommits};
+ghost use Rattle.ssb_journal.specs.Opening.{IsKept};
 ghost use Rattle.ssb_journal.specs.Texts.{IsJournalOf};
 
 use ssb_trace::one_reading;
@@ -21,3 +25,18 @@ pub fn one_list_of_commits()
     one_list_of_texts();
     one_reading();
 }
+
+/// A journal that is opened and then begun keeps the commits that were read.
+pub fn begun_journal_keeps()
+    ensures { (sizes : List TableSize) (kept : KeptCommits) (old new : List ℕ)
+        → IsKept sizes (recovered old) kept
+        → (kept.is_new ≡ false → recovered new ≡ recovered old)
+        → (kept.is_new ≡ true → IsJournalOf sizes [] new)
+        → KeepsCommits sizes kept.commits.items new }
+{}
+
+/// A journal keeps the first commits of each log that begins with its commits.
+pub fn first_of_log()
+    ensures { (sizes : List TableSize) (commits log : List CommitRecord) (file : List ℕ)
+        → KeepsCommits sizes commits file → IsPrefix commits log → KeepsFirst (length commits) log file }
+{}

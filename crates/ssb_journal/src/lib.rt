@@ -9,52 +9,55 @@
 //! ```
 //!
 //! [`append_commits`] writes commits as one group: their text, as a trace has it, behind the line of its checksum.
-//! [`open`] reads a file, looks at all of it and writes nothing: it gives the commits that the file keeps, or tells why it
-//! is no journal over these tables. [`replay`] makes them again over the tables, or names the first that is refused. Then
-//! [`begin`] cuts off what a crash has torn, and writes the head of a new journal.
+//! [`open`] reads a file, looks at all of it and writes nothing: it gives the commits that the file keeps, or tells why
+//! it is no journal over these tables. [`replay`] makes them again over the tables, or names the first that is refused.
+//! Then [`begin`] cuts off what a crash has torn, and writes the head of a new journal.
 //!
-//! The contract: a file keeps these commits (`specs/Kept`: `KeepsCommits`) where its groups are the head of these tables
-//! and texts that spell the commits, in order. It keeps one list only (`laws::one_list_of_commits`), so what is read back
-//! is what was appended. A crash at any moment of an append leaves the commits from before, with the new ones all or
-//! without them. `specs/Opening` says why a file is not opened, `specs/Replays` which commit is refused. The proof against
-//! crashes (`journal`) does not lean on checksums: a crash damages no group.
+//! The contract: a file keeps these commits (`specs/Kept`: `KeepsCommits`) where its groups are the head of these
+//! tables and texts that spell the commits, in order. It keeps one list only (`laws::one_list_of_commits`), so what is
+//! read back is what was appended. A crash at any moment of an append leaves the commits from before, with the new ones
+//! all or without them. `specs/Opening` says why a file is not opened, `specs/Replays` which commit is refused. The
+//! proof against crashes (`journal`) does not lean on checksums: a crash damages no group.
 //!
-//! [`keep_journal`] is what the journal's thread does: it takes all commits since its last look as one group, appends it,
-//! publishes the count and wakes who waits. A session asks [`JournaledCount::wait_for`] for the number of its last reply,
-//! and then tells its client. An [`OnDisk`] is made only of an open journal that keeps so many commits (`specs/Counts`:
-//! `KeepsAtLeast`): who publishes has to hold one, and who waits gets one of at least the number that it asked for.
+//! A [`JournaledLog`] is a journal beside the log of a live server ([`LogSource`]): it keeps the beginning of the log
+//! (`specs/Counts`: `KeepsFirst`). Threads share it as a [`SharedJournal`]. Who has to tell a client of a commit asks
+//! [`SharedJournal::reach`] for its number. If the journal is there, it takes it away, appends all commits of the log
+//! that the journal lacks as one group, puts it back and wakes the others; else it waits. What is committed meanwhile
+//! is the next group. An [`OnDisk`] is made only of an open journal that keeps so many commits (`KeepsAtLeast`): who
+//! tells of a commit holds one of at least its number.
 //!
 //! ```text
 //! let OpenedJournal { found, kept, torn } = open(alloc, &sizes, disk)?;
 //! let store = replay(alloc, base, hashing, &kept.commits)?;
 //! keep_torn(rt, alloc, path, &torn)?;
 //! let journal = begin(alloc, &sizes, found, kept.is_new)?;
-//! let journal = append_commits(alloc, journal, commits)?;      // on the disk
+//! let shared = SharedJournal::new(JournaledLog::new(journal, source, count));
+//! let on_disk = shared.reach(rt, alloc, receipt.number)?;       // in each thread; then it is told
 //! ```
 #![tactic(auto)]
 
 mod appending;
 mod checksum;
 mod commits;
-mod count;
 mod fault;
 mod head;
-mod journaling;
+mod journaled_log;
 pub mod laws;
 mod on_disk;
 mod opening;
 mod replaying;
+mod shared_journal;
 mod source;
 mod texts;
 
 pub use appending::append_commits;
 pub use checksum::{CHECKSUM_LINE, seal};
-pub use count::JournaledCount;
 pub use fault::JournalFault;
 pub use head::{TableSize, head_of};
-pub use journaling::keep_journal;
+pub use journaled_log::JournaledLog;
 pub use on_disk::OnDisk;
 pub use opening::{JournalOpenFault, KeptCommits, OpenedJournal, begin, open};
 pub use replaying::{ReplayFault, replay};
-pub use source::CommitSource;
+pub use shared_journal::{JournalFailed, SharedJournal};
+pub use source::LogSource;
 pub use texts::texts_of;

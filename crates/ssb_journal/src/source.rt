@@ -1,21 +1,28 @@
 //! Where the commits of a journal come from.
-ghost use Rattle.std.specs.Prelude.{◌≡◌, ◌++◌, List, IfOk, IfSome, OnErr};
+ghost use Rattle.std.specs.Prelude.{◌≡◌, ◌<◌, ◌≤◌, ◌^◌, List, length, drop, IfOk};
 ghost use Rattle.std.specs.List.{AllByRecursion};
-ghost use Rattle.row_store.specs.History.{CommitRecord};
+ghost use Rattle.row_store.specs.History.{CommitRecord, IsPrefix};
 ghost use Rattle.ssb_trace.specs.Allowed.{IsClient};
-ghost use Rattle.ssb_journal.specs.Sources.{Gives};
 
 use row_store::Commit;
 use std::alloc::{AllocError, Global};
 use std::sync::Wait;
 
-/// Where the commits of a journal come from, in the order of the log.
-pub trait CommitSource {
-    /// The commits that it has given.
-    ghost given: { Self → List CommitRecord };
+/// The log of a live server, to one who only looks at it.
+pub trait LogSource {
+    /// The commits that were seen of the log.
+    ghost log: { Self → List CommitRecord };
 
-    /// All commits that were made since the last call, where need be after a wait for the first of them. `None` where
-    /// no more will come. An error has given nothing.
-    fn next<R: Wait>(&mut self, rt: &R, alloc: Global) -> Result<Option<Vec<Commit>>, AllocError>
-        ensures { Gives (given self.old) (given self.new) result };
+    /// Looks at the log, and gives the commits behind the first ones, so many of them.
+    fn commits_from<R: Wait>(
+        &mut self,
+        rt: &R,
+        alloc: Global,
+        taken: u64,
+    ) -> Result<Vec<Commit>, AllocError>
+        requires { taken ≤ length (log self.old) }
+        ensures grown { IsPrefix (log self.old) (log self.new) }
+        ensures few { length (log self.new) < 2 ^ 64 }
+        ensures commits { IfOk result (λ commits. commits.items ≡ drop taken (log self.new)) }
+        ensures clients { IfOk result (λ commits. AllByRecursion (λ commit. IsClient commit.client) commits.items) };
 }

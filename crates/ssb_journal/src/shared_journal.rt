@@ -1,0 +1,149 @@
+//! A journal that threads share: whoever needs a commit on the disk appends for all, or waits for the one who does.
+ghost use Rattle.std.specs.Prelude.{◌≤◌, IfOk};
+ghost use Rattle.ssb_journal.specs.Turns.{HasEnough};
+
+use crate::journaled_log::JournaledLog;
+use crate::on_disk::OnDisk;
+use crate::source::LogSource;
+use journal::Disk;
+use std::alloc::Global;
+use std::mem;
+use std::sync::{Condvar, Mutex, Wait};
+use thiserror::Error;
+
+/// The journal has failed, as its disk or memory has: nobody may be told anything more.
+#[derive(Clone, Copy, Debug, PartialEq, Eq, Error)]
+#[error("journal write failed")]
+pub struct JournalFailed;
+
+// Where the journal is.
+#[derive(Drop)]
+enum Place<J> {
+    // Here, for the next who needs more commits on the disk.
+    Here(J),
+    // With one who appends. So many commits were on the disk before.
+    Away(OnDisk),
+    // It has failed.
+    Failed,
+}
+
+// What is left to do for one who needs commits on the disk.
+#[derive(Drop)]
+enum Turn<J> {
+    // Nothing: they are.
+    Reached(OnDisk),
+    // To append, for all.
+    Append(J),
+    // To wait for the one who appends.
+    Wait,
+    // To give up.
+    Failed,
+}
+
+impl<D: Disk + Drop, L: LogSource + Drop> Place<JournaledLog<D, L>> {
+    // The turn of one who needs so many commits. Who is to append takes the journal away.
+    fn turn(&mut self, commits: u64) -> Turn<JournaledLog<D, L>>
+        ensures { HasEnough commits result }
+    {
+        match mem::replace(self, Place::Failed) {
+            Place::Here(log) => {
+                let on_disk = log.on_disk();
+                if on_disk.commits() >= commits {
+                    *self = Place::Here(log);
+                    return Turn::Reached(on_disk);
+                }
+                *self = Place::Away(on_disk);
+                Turn::Append(log)
+            },
+            Place::Away(on_disk) => {
+                *self = Place::Away(on_disk);
+                if on_disk.commits() >= commits {
+                    Turn::Reached(on_disk)
+                } else {
+                    Turn::Wait
+                }
+            },
+            Place::Failed => Turn::Failed,
+        }
+    }
+}
+
+/// A journal that threads share. Who needs commits on the disk appends for all; the others wait, and what is committed
+/// meanwhile is the next group.
+#[derive(Drop)]
+pub struct SharedJournal<D: Disk + Drop, L: LogSource + Drop> {
+    place: Mutex<Place<JournaledLog<D, L>>>,
+    changed: Condvar,
+}
+
+impl<D: Disk + Drop, L: LogSource + Drop> SharedJournal<D, L> {
+    /// Shares a journal.
+    pub fn new(log: JournaledLog<D, L>) -> SharedJournal<D, L> {
+        SharedJournal {
+            place: Mutex::new(Place::Here(log)),
+            changed: Condvar::new(),
+        }
+    }
+
+    // Puts the journal back, and wakes all who wait.
+    fn put_back<R: Wait>(&self, rt: &R, place: Place<JournaledLog<D, L>>) {
+        *self.place.lock(rt) = place;
+        self.changed.notify_all();
+    }
+
+    // Appends for all, where so many commits are needed.
+    fn append_for_all<R: Wait>(
+        &self,
+        rt: &R,
+        alloc: Global,
+        log: JournaledLog<D, L>,
+        commits: u64,
+    ) -> Result<OnDisk, JournalFailed>
+        ensures { IfOk result (λ on_disk. commits ≤ on_disk.commits) }
+    {
+        let Ok(log) = log.append_new(rt, alloc) else {
+            self.put_back(rt, Place::Failed);
+            return Err(JournalFailed);
+        };
+        let on_disk = log.on_disk();
+        self.put_back(rt, Place::Here(log));
+        if on_disk.commits() < commits {
+            return Err(JournalFailed);
+        }
+        Ok(on_disk)
+    }
+
+    /// Waits until so many commits are on the disk, and gives the evidence; where nobody appends, it appends itself.
+    /// `Err` where the journal fails or has failed, or the log has not so many commits.
+    pub fn reach<R: Wait>(
+        &self,
+        rt: &R,
+        alloc: Global,
+        commits: u64,
+    ) -> Result<OnDisk, JournalFailed>
+        ensures { IfOk result (λ on_disk. commits ≤ on_disk.commits) }
+    {
+        let mut place = self.place.lock(rt);
+        for _ in rt.forever() {
+            match place.turn(commits) {
+                Turn::Reached(on_disk) => return Ok(on_disk),
+                Turn::Append(log) => {
+                    drop(place);
+                    return self.append_for_all(rt, alloc, log, commits);
+                },
+                Turn::Wait => place = self.changed.wait(rt, place),
+                Turn::Failed => return Err(JournalFailed),
+            }
+        }
+        unreachable!()
+    }
+
+    /// The journal and its log, when no thread shares it any more. `Err` where it has failed.
+    pub fn into_log(self) -> Result<JournaledLog<D, L>, JournalFailed> {
+        let SharedJournal { place, changed: _ } = self;
+        match place.into_inner() {
+            Place::Here(log) => Ok(log),
+            Place::Away(_) | Place::Failed => Err(JournalFailed),
+        }
+    }
+}
