@@ -92,8 +92,3 @@ pub all_with_reader : (table : TableRecord) (tokens room : List TokenRecord) (re
 all_with_reader table tokens room reader is numbered left reader_left here reader_here =
     all_dispatchers table (tokens ++ reader ∷ []) room is numbered (All-push IsLeft tokens reader left reader_left)
     (All-push (IsOf table) tokens reader here reader_here)
-
--- what is true of all of them is true of each part
-pub each_of_both : (P : TokenRecord → Type 0) (tokens room : List TokenRecord) (reader : TokenRecord)
-    → room ≡ tokens ++ reader ∷ [] → All P room → All P tokens × P reader
-each_of_both P tokens room reader is all = All-pop P room tokens (Some reader) is all

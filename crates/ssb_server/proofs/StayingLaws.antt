@@ -1,9 +1,9 @@
 -- Whose the tokens are, and whether a client asks, through the calls.
-use Rattle.std.proofs.Common.{◌≡◌, ℕ, List, true, refl, ap, sym, subst, ◌∙◌}
+use Rattle.std.proofs.Common.{◌≡◌, ℕ, List, [], ◌∷◌, ◌++◌, Some, true, refl, ap, sym, subst, ◌∙◌}
 use Rattle.std.specs.Prelude.{All, Result, Ok, Err}
 use Rattle.std.specs.List.{range_with_len}
 use Rattle.std.specs.Option.{is_some}
-use Rattle.std.proofs.lemmas.List.Elements.{All-map}
+use Rattle.std.proofs.lemmas.List.Elements.{All-map, All-pop}
 use Rattle.ssb_schema.specs.declared.refresh.Action.{Action}
 use Rattle.row_store.specs.declared.commit.Receipt.{Receipt}
 use Rattle.row_store.specs.declared.refusal.RefreshError.{RefreshError}
@@ -16,6 +16,7 @@ use Rattle.history.specs.Tokens.{TableRecord, TokenRecord, new_token, new_client
 use Rattle.ssb_server.specs.Clients.{Refreshed, Looks, HandsBack, Asks, Polls}
 use Rattle.ssb_server.specs.Ends.{Turned}
 use Rattle.ssb_server.specs.Tickets.{IsQuiet, IsOf}
+use Rattle.ssb_server.specs.Turns.{Fetches}
 use Rattle.ssb_server.specs.declared.turn.Turn.{Turn}
 use Rattle.ssb_server.specs.declared.turn.Turn.TheVariants.{Idle, Answered, Unserved}
 
@@ -71,3 +72,21 @@ module _ (table : TableRecord) where
   new_dispatchers_are_of_it tokens is = subst (All (IsOf table)) (sym is)
       (All-map (IsOf table) (λ number. new_token table (Dispatcher number)) (range_with_len 1 table.dispatchers)
       (λ k d low. refl))
+
+  pub fetches_stays : (before after : TokenRecord) → IsOf table before → Fetches before after → IsOf table after
+  fetches_stays before after here fetches = ap (λ (t : TokenRecord). t.table) fetches.now ∙ here
+
+  -- in a new server, of those that answer and of who reads the log
+  pub new_reader_is_of_it : (dispatchers : List TokenRecord) (reader : TokenRecord)
+      → dispatchers ++ reader ∷ [] ≡ new_dispatchers table → All (IsOf table) dispatchers × IsOf table reader
+  new_reader_is_of_it dispatchers reader are = All-pop (IsOf table) (dispatchers ++ reader ∷ []) dispatchers (Some reader)
+      refl (new_dispatchers_are_of_it (dispatchers ++ reader ∷ []) are)
+
+  -- who reads the log has seen nothing then
+  pub new_reader_has_seen_nothing : (dispatchers : List TokenRecord) (reader : TokenRecord)
+      → dispatchers ++ reader ∷ [] ≡ new_dispatchers table → reader.seen ≡ []
+  new_reader_has_seen_nothing dispatchers reader are =
+      let P : TokenRecord → Type 0 = λ t. t.seen ≡ [] in
+      let all : All P (new_dispatchers table) = All-map P (λ number. new_token table (Dispatcher number))
+      (range_with_len 1 table.dispatchers) (λ k d low. refl) in
+      (All-pop P (new_dispatchers table) dispatchers (Some reader) (sym are) all).1

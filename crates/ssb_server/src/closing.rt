@@ -127,7 +127,7 @@ impl<W: EndsCopies + Drop> Server<W> {
         ensures legal { IfOk result (λ closed. IsLegal self.base closed.log.items) }
         ensures named { IfOk result (λ closed. IsOfClients self.clients closed.log.items) }
         ensures seen { IfOk result (λ closed. All (λ t. IsPrefix t.seen closed.log.items) clients.items
-            × IsPrefix reader.seen closed.log.items × All (λ t. IsPrefix t.seen closed.log.items) dispatchers.items) }
+            × All (λ t. IsPrefix t.seen closed.log.items) (dispatchers.items ++ reader ∷ [])) }
         ensures true_log { IfOk result (λ closed. IsLogOf self clients.items (dispatchers.items ++ reader ∷ [])
             closed.log.items) }
         ensures owns { IfOk result (λ closed. All (λ t. Owns t.who t.mine closed.log.items) clients.items) }

@@ -217,9 +217,9 @@ fn build<W: Threads + Sync + Wait + Drop>(
     ensures dispatchers { IfOk result (λ made. made.dispatchers.items ≡ new_dispatchers made.server) }
 {
     let counts = (clients, dispatchers);
-    let MadeTable { opened, readers } = table_over(alloc, rt, hashing, base, counts, dispatchers)?;
-    match seat_all(alloc, opened, readers, counts) {
-        Ok(made) => Ok(made),
+    let made = table_over(alloc, rt, hashing, base, counts, dispatchers)?;
+    match seat_all(alloc, made.opened, made.readers, counts) {
+        Ok(seated) => Ok(seated),
         Err(_) => Err(TwinError::OutOfMemory),
     }
 }
@@ -242,20 +242,19 @@ fn build_with_reader<W: Threads + Sync + Wait + Drop>(
         ≡ new_dispatchers made.server) }
 {
     let counts = (clients, dispatchers + 1);
-    let MadeTable { opened, readers } = table_over(alloc, rt, hashing, base, counts, dispatchers)?;
-    let mut opened = opened;
-    let Some(token) = opened.dispatchers.pop() else {
+    let mut made = table_over(alloc, rt, hashing, base, counts, dispatchers)?;
+    let Some(token) = made.opened.dispatchers.pop() else {
         unreachable!()
     };
     let reader = LogReader::new(token);
-    let Ok(made) = seat_all(alloc, opened, readers, counts) else {
+    let Ok(seated) = seat_all(alloc, made.opened, made.readers, counts) else {
         return Err(TwinError::OutOfMemory);
     };
     let Opened {
         server,
         clients,
         dispatchers,
-    } = made;
+    } = seated;
     Ok(OpenedWithReader {
         server,
         clients,

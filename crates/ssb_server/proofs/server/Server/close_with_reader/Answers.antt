@@ -1,0 +1,34 @@
+use Rattle.std.proofs.Common.{rules, ◌≡◌, ◌∙◌, [], ◌∷◌, ◌++◌, ap, sym, subst}
+use Rattle.std.specs.Prelude.{All}
+use Rattle.history.specs.Tokens.{TableRecord}
+use Rattle.history.specs.Closing.{AreNumbered}
+use Rattle.ssb_server.specs.Tickets.{IsQuiet, IsOf}
+use Rattle.ssb_server.proofs.SeatLaws.{all_clients}
+use Rattle.ssb_server.proofs.ReaderLaws.{all_with_reader}
+use Rattle.ssb_server.proofs.server.Server.close_with_reader.Goals as goal
+
+pub close-requires-clause-clients : goal.close-requires-clause-clients
+close-requires-clause-clients g c =
+    let tokens = c.args.clients.items in
+    let there : AreNumbered c.args.self.clients tokens = search rules in
+    let is : c.gather_clients.new.tokens.items ≡ tokens =
+    c.gather_clients.ensures.items ∙ ap (λ xs. xs ++ tokens) c.into_inner-client_tokens.result.no_clients in
+    all_clients c.self.inside.table tokens c.gather_clients.new.tokens.items is
+    (subst (λ (h : TableRecord). AreNumbered h.clients tokens) (sym c.self.view_is) there) c.gather_clients.ensures.rest
+    (subst (λ (h : TableRecord). All (IsQuiet h) tokens) (sym c.self.view_is) c.requires.clients)
+
+pub close-requires-clause-dispatchers : goal.close-requires-clause-dispatchers
+close-requires-clause-dispatchers g c =
+    let tokens = c.args.dispatchers.items in
+    let reader = c.args.reader in
+    let there : AreNumbered c.args.self.dispatchers (tokens ++ reader ∷ []) = search rules in
+    let others : c.gather_dispatchers.new.tokens.items ≡ tokens =
+    c.gather_dispatchers.ensures.items ∙ ap (λ xs. xs ++ tokens) c.into_inner-client_tokens.result.no_dispatchers in
+    let is : c.push_reserved.new.self.items ≡ tokens ++ reader ∷ [] =
+    c.push_reserved.ensures.items ∙ (ap (λ t. c.gather_dispatchers.new.tokens.items ++ t ∷ []) c.into_token.ensures.token
+    ∙ ap (λ xs. xs ++ reader ∷ []) others) in
+    all_with_reader c.self.inside.table tokens c.push_reserved.new.self.items reader is
+    (subst (λ (h : TableRecord). AreNumbered h.dispatchers (tokens ++ reader ∷ [])) (sym c.self.view_is) there)
+    c.gather_dispatchers.ensures.left c.into_token.ensures.left
+    (subst (λ (h : TableRecord). All (IsOf h) tokens) (sym c.self.view_is) c.requires.dispatchers)
+    (subst (λ (h : TableRecord). IsOf h reader) (sym c.self.view_is) c.requires.reader)
