@@ -349,8 +349,8 @@ impl FileExt for BreakingFile {
         if contents.len() < end {
             contents.resize(end, 0)?;
         }
-        if let Some(place) = contents.get_mut(at..end) {
-            place.copy_from_slice(part);
+        for (byte, new) in contents.iter_mut().skip(at).zip(part.iter()) {
+            *byte = *new;
         }
         Ok(part.len())
     }

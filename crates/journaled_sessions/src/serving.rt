@@ -17,6 +17,7 @@ use crate::source::ServerLog;
 use journal::{Disk, Journal};
 use row_store::Commit;
 use ssb_base::Base;
+use ssb_journal::laws::{begun_journal_keeps, first_of_log};
 use ssb_journal::{JournaledLog, KeptCommits, OpenedJournal, SharedJournal, TableSize, begin};
 use ssb_server::{
     Client, Closed, Dispatcher, LogReader, OpenedWithReader, Server, open_with_reader,
@@ -113,6 +114,8 @@ where
     if keeper.keep_torn(&torn).is_err() {
         return Err(JournaledFault::Write);
     }
+    begun_journal_keeps();
+    first_of_log();
     match begin(alloc, sizes, found, is_new) {
         Ok(journal) => Ok((journal, commits.len() as u64)),
         Err(_) => Err(JournaledFault::Write),
@@ -174,11 +177,7 @@ where
     let Journaled { journal, failed: _ } = journaled;
     match journal.into_log() {
         Ok(log) => {
-            let JournaledLog {
-                journal: _,
-                source,
-                count: _,
-            } = log;
+            let (_journal, source, _count) = log.into_parts();
             let ServerLog { server: _, reader } = source;
             Ok((ended, Some(reader)))
         },
