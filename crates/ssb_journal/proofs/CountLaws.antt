@@ -53,14 +53,14 @@ keeps_either_way count log rest old file is first left =
     ⊎_elim
     (λ same. record { count = count; enough = omega arith; first = record { sizes = first.sizes; keeps = same; inside = first.inside } })
     (λ grown. record {
-        count = length log;
-        enough = first.inside;
-        first = record {
-          sizes = first.sizes;
-          keeps = subst (λ (commits : List CommitRecord). KeepsCommits first.sizes commits file) (whole_log count log rest is) grown;
-          inside = omega arith;
-        };
-      })
+      count = length log;
+      enough = first.inside;
+      first = record {
+        sizes = first.sizes;
+        keeps = subst (λ (commits : List CommitRecord). KeepsCommits first.sizes commits file) (whole_log count log rest is) grown;
+        inside = omega arith;
+      };
+    })
     left
 
 module _ {D : Type 0} (moment : D → ℕ) (left_since : D → ℕ → List ℕ → Type 0) (seen : D → List ℕ) where

@@ -127,9 +127,9 @@ impl<D: Disk + Drop, L: LogSource + Drop> SharedJournal<D, L> {
         for _ in rt.forever() {
             match place.turn(commits) {
                 Turn::Reached(on_disk) => return Ok(on_disk),
-                Turn::Append(log) => {
+                Turn::Append(taken) => {
                     drop(place);
-                    return self.append_for_all(rt, alloc, log, commits);
+                    return self.append_for_all(rt, alloc, taken, commits);
                 },
                 Turn::Wait => place = self.changed.wait(rt, place),
                 Turn::Failed => return Err(JournalFailed),
