@@ -63,28 +63,6 @@ pub parted : (table : TableRecord) (tokens rest : List TokenRecord) (last : Toke
 parted table tokens rest last are whole = All-pop (IsNewDispatcher table.base) tokens rest (Some last) whole
     (subst (All (IsNewDispatcher table.base)) (sym are) (dispatchers_are_new table))
 
--- how often a test holds with one token more
-module _ (p : TokenRecord → Bool) (tokens : List TokenRecord) (last : TokenRecord) where
-  one_more : p last ≡ true → count_by p (tokens ++ last ∷ []) ≡ count_by p tokens + 1
-  one_more yes = sum_by_push (λ t. cond (p t) 1 0) tokens last ∙ ap (λ b. count_by p tokens + cond b 1 0) yes
-
-  no_more : p last ≡ false → count_by p (tokens ++ last ∷ []) ≡ count_by p tokens + 0
-  no_more no = sum_by_push (λ t. cond (p t) 1 0) tokens last ∙ ap (λ b. count_by p tokens + cond b 1 0) no
-
-  pub once_by_the_last : (others : ℕ) → others ≡ count_by p tokens → p last ≡ true
-      → IsTrue (others == 0) ↔ (count_by p (tokens ++ last ∷ []) ≡ 1)
-  once_by_the_last others count yes = let whole = one_more yes in (
-    (λ none. let e : others ≡ 0 = eqb-true others 0 none in omega (arith, count, whole, e)),
-    λ once. eq-eqb others 0 (omega (arith, count, whole, once)),
-  )
-
-  pub once_by_others : (others : ℕ) → others ≡ count_by p tokens → p last ≡ false
-      → IsTrue (others == 1) ↔ (count_by p (tokens ++ last ∷ []) ≡ 1)
-  once_by_others others count no = let whole = no_more no in (
-    (λ one. let e : others ≡ 1 = eqb-true others 1 one in omega (arith, count, whole, e)),
-    λ once. eq-eqb others 1 (omega (arith, count, whole, once)),
-  )
-
 -- the tokens of the dispatchers with that of the reader, in the room for them
 pub all_with_reader : (table : TableRecord) (tokens room : List TokenRecord) (reader : TokenRecord)
     → room ≡ tokens ++ reader ∷ [] → AreNumbered table.dispatchers (tokens ++ reader ∷ []) → All IsLeft tokens

@@ -1,5 +1,5 @@
 //! Who keeps a journal, and reads the log for it.
-ghost use Rattle.std.specs.Prelude.{◌≡◌, ℕ, ◌≤◌, length, drop, IfOk};
+ghost use Rattle.std.specs.Prelude.{◌≡◌, ℕ, ◌≤◌, false, length, drop, IfOk};
 ghost use Rattle.row_store.specs.History.{IsPrefix};
 ghost use Rattle.history_core.specs.declared.event.Who.TheVariants.{Dispatcher as IsNumbered};
 ghost use Rattle.history.specs.Tokens.{IsSound, IsFree};

@@ -165,6 +165,7 @@ fn parts_of(
 }
 
 // A table that was just made, and readers of its columns.
+#[derive(Drop)]
 struct MadeTable<W: EndsCopies + Drop> {
     opened: history::OpenedTable<twin_cell::TwinWriter<Columns, W>>,
     readers: Vec<TwinReader<Columns>>,

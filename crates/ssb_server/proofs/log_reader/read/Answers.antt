@@ -2,8 +2,8 @@ use Rattle.ssb_server.proofs.SnapshotLaws.{fetches}
 use Rattle.ssb_server.proofs.ReaderLaws.{still_within}
 use Rattle.ssb_server.proofs.log_reader.read.Goals as goal
 
-pub copy_and_put-requires-clause-taken : goal.copy_and_put-requires-clause-taken
-copy_and_put-requires-clause-taken g c = still_within c.args.token.now.seen c.take_rows-rows.new.token.seen c.args.taken
+pub copy_and_put-commits-requires-clause-taken : goal.copy_and_put-commits-requires-clause-taken
+copy_and_put-commits-requires-clause-taken g c = still_within c.args.token.now.seen c.take_rows-rows.new.token.seen c.args.taken
     c.take_rows-rows.ensures.took.begins c.requires.taken
 
 pub returns-clause-reads : goal.returns-clause-reads

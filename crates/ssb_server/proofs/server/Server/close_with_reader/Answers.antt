@@ -1,5 +1,6 @@
-use Rattle.std.proofs.Common.{rules, ◌≡◌, ◌∙◌, [], ◌∷◌, ◌++◌, ap, sym, subst}
+use Rattle.std.proofs.Common.{rules, ◌≡◌, ◌≤◌, ◌∙◌, [], ◌∷◌, ◌++◌, length, ap, sym, subst, arith}
 use Rattle.std.specs.Prelude.{All}
+use Rattle.std.proofs.lemmas.List.{length_push}
 use Rattle.history.specs.Tokens.{TableRecord}
 use Rattle.history.specs.Closing.{AreNumbered}
 use Rattle.ssb_server.specs.Tickets.{IsQuiet, IsOf}
@@ -32,3 +33,23 @@ close-requires-clause-dispatchers g c =
     c.gather_dispatchers.ensures.left c.into_token.ensures.left
     (subst (λ (h : TableRecord). All (IsOf h) tokens) (sym c.self.view_is) c.requires.dispatchers)
     (subst (λ (h : TableRecord). IsOf h reader) (sym c.self.view_is) c.requires.reader)
+
+pub push_reserved-requires : goal.push_reserved-requires
+push_reserved-requires g c =
+    let tokens = c.args.dispatchers.items in
+    let reader = c.args.reader in
+    let room = c.into_inner-client_tokens.result in
+    let there : AreNumbered c.args.self.dispatchers (tokens ++ reader ∷ []) = search rules in
+    let few : c.args.self.dispatchers ≤ 5 = subst (λ (h : TableRecord). h.dispatchers ≤ 5) c.self.view_is
+    (subst (λ n. n ≤ 5) c.self.invariant.dispatchers_is c.self.invariant.few_dispatchers) in
+    omega (
+      arith,
+      there.count_is,
+      length_push tokens reader,
+      few,
+      room.dispatcher_room,
+      room.dispatchers.ok.0 ∙ ap length room.no_dispatchers,
+      c.args.dispatchers.ok.0,
+      c.gather_dispatchers.ensures.len,
+      c.gather_dispatchers.ensures.capacity,
+    )
