@@ -2,12 +2,14 @@
 
 use crate::breaking::Breaking;
 use crate::case::Break;
+use journal_file::{JournalFile, OpenError};
 use small_data::{CUSTOMER, DATE, LINEORDER, PART, SUPPLIER};
 use std::alloc::{Allocator, Global};
 use std::collections::BTreeMap;
 use std::fs::{Metadata, OpenFile, OpenOptions};
 use std::io;
 use std::io::{Error, ErrorKind, Read, Seek, SeekFrom, Write};
+use std::os::unix::fs::FileExt;
 use std::rt::Files;
 use std::sync::{Arc, Mutex, MutexGuard};
 use std::thread::yield_now;
@@ -56,7 +58,7 @@ impl Stream {
     /// What the command writes to.
     pub fn writer(&self) -> io::Result<BreakingFile> {
         let file = MemoryFile::Opened(Arc::try_clone(&self.contents)?, 0);
-        Ok(BreakingFile(Breaking::new(file, self.after)))
+        BreakingFile::new(file, self.after)
     }
 
     /// What was written.
@@ -76,7 +78,12 @@ pub enum MemoryFile {
 
 /// A file of [`MemoryFiles`] that may fail behind its first bytes.
 #[derive(Drop)]
-pub struct BreakingFile(Breaking<MemoryFile>);
+pub struct BreakingFile {
+    file: Breaking<MemoryFile>,
+    // The bytes of the file, and behind how many of them a write at a place fails.
+    contents: Option<FileBytes>,
+    after: Option<usize>,
+}
 
 impl MemoryFiles {
     /// The small data set in the folder `small`.
@@ -134,10 +141,13 @@ impl MemoryFiles {
     // This file of this path, as it is opened: it may fail behind its first bytes.
     fn opened(&self, path: &str, file: MemoryFile) -> io::Result<BreakingFile> {
         let after = hold(&self.breaks)?.get(path).copied();
-        Ok(BreakingFile(Breaking::new(file, after)))
+        BreakingFile::new(file, after)
     }
 
     fn is_folder(&self, path: &str) -> io::Result<bool> {
+        if path == "." {
+            return Ok(true);
+        }
         let files = hold(&self.files)?;
         Ok(
             files.keys().any(|file| match file.strip_prefix(path) {
@@ -181,14 +191,11 @@ impl Files for MemoryFiles {
     type Dir = io::Empty;
 
     fn open_file(&self, how: &OpenOptions, path: &str) -> io::Result<BreakingFile> {
-        let file = if how.asks_create() {
-            MemoryFile::Opened(self.make(path)?, 0)
-        } else {
-            match self.contents_of(path)? {
-                Some(contents) => MemoryFile::Opened(contents, 0),
-                None if self.is_folder(path)? => MemoryFile::Folder,
-                None => return Err(Error::from(ErrorKind::NotFound)),
-            }
+        let file = match self.contents_of(path)? {
+            Some(contents) if !how.asks_truncate() => MemoryFile::Opened(contents, 0),
+            _ if how.asks_create() => MemoryFile::Opened(self.make(path)?, 0),
+            _ if self.is_folder(path)? => MemoryFile::Folder,
+            _ => return Err(Error::from(ErrorKind::NotFound)),
         };
         self.opened(path, file)
     }
@@ -262,19 +269,40 @@ impl Write for MemoryFile {
     }
 }
 
+impl BreakingFile {
+    fn new(file: MemoryFile, after: Option<usize>) -> io::Result<BreakingFile> {
+        let contents = match &file {
+            MemoryFile::Opened(contents, _) => Some(Arc::try_clone(contents)?),
+            MemoryFile::Folder => None,
+        };
+        Ok(BreakingFile {
+            file: Breaking::new(file, after),
+            contents,
+            after,
+        })
+    }
+
+    // The bytes of the file; a folder has none.
+    fn contents(&self) -> io::Result<&FileBytes> {
+        self.contents
+            .as_ref()
+            .ok_or(Error::from(ErrorKind::IsADirectory))
+    }
+}
+
 impl Read for BreakingFile {
     fn read(&mut self, buf: &mut [u8]) -> io::Result<usize> {
-        self.0.read(buf)
+        self.file.read(buf)
     }
 }
 
 impl Write for BreakingFile {
     fn write(&mut self, buf: &[u8]) -> io::Result<usize> {
-        self.0.write(buf)
+        self.file.write(buf)
     }
 
     fn flush(&mut self) -> io::Result<()> {
-        self.0.flush()
+        self.file.flush()
     }
 }
 
@@ -289,15 +317,48 @@ impl OpenFile for BreakingFile {
         unsupported()
     }
 
-    fn set_len(&self, _size: u64) -> io::Result<()> {
-        unsupported()
+    fn set_len(&self, size: u64) -> io::Result<()> {
+        hold(self.contents()?)?.resize(size as usize, 0)?;
+        Ok(())
     }
 
     fn sync_all(&self) -> io::Result<()> {
-        unsupported()
+        Ok(())
     }
 
     fn sync_data(&self) -> io::Result<()> {
+        Ok(())
+    }
+}
+
+impl FileExt for BreakingFile {
+    fn read_at(&self, _buf: &mut [u8], _offset: u64) -> io::Result<usize> {
         unsupported()
+    }
+
+    fn write_at(&self, buf: &[u8], offset: u64) -> io::Result<usize> {
+        let at = offset as usize;
+        let room = match self.after {
+            Some(after) if after <= at => return Err(Error::from(ErrorKind::Other)),
+            Some(after) => after - at,
+            None => buf.len(),
+        };
+        let part = &buf[..buf.len().min(room)];
+        let mut contents = hold(self.contents()?)?;
+        let end = at.saturating_add(part.len());
+        if contents.len() < end {
+            contents.resize(end, 0)?;
+        }
+        for (byte, new) in contents.iter_mut().skip(at).zip(part.iter()) {
+            *byte = *new;
+        }
+        Ok(part.len())
+    }
+}
+
+// Commands run one after another: nobody else has a file.
+impl JournalFile for BreakingFile {
+    fn lock_alone(&self) -> Result<(), OpenError> {
+        Ok(())
     }
 }

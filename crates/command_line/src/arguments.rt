@@ -87,8 +87,13 @@ A client sends the records of a script: a line 'query|NAME' or 'query|NAME|CONST
 follow. A request with a fault is answered 'fault: ..', and does nothing. The end of the input ends the session. On a
 terminal the word 'help' shows the queries and their constants.
 
+With --journal the commits are kept in FILE, which is made where there is none: a receipt is told when its commit is on
+the disk, an answer when every commit that it saw is. The next server with that FILE, over the same tables, goes on from
+there, whatever ended this one.
+
 Examples:
   ssb_live serve --data tables
+  ssb_live serve --data tables --journal orders.journal
   mkfifo in out; ssb_live serve --data tables --keep --client in out";
 
 /// What the word `help` shows on the terminal of a live session.
@@ -239,6 +244,13 @@ fn serve_command<'a>(alloc: Global) -> Result<Command<'a>, AllocError> {
         .long("keep")
         .help("Opens a client's named pipes again for its next session; a signal ends the server")
         .action(ArgAction::SetTrue);
+    let journal = Arg::new(alloc, "journal")
+        .long("journal")
+        .value_name("FILE")
+        .help(
+            "Where the commits are kept: clients are told nothing before it is on the disk; the next server goes on from it",
+        )
+        .action(ArgAction::Set);
     Command::new(alloc, "serve")
         .about("Serves clients as their requests come: standard input and output, or named pipes")
         .long_about(SERVE_HELP)
@@ -246,6 +258,7 @@ fn serve_command<'a>(alloc: Global) -> Result<Command<'a>, AllocError> {
         .arg(dispatchers_argument(alloc))?
         .arg(clients)?
         .arg(keep)?
+        .arg(journal)?
         .arg(quiet_argument(alloc))
 }
 

@@ -13,7 +13,7 @@
 //! [`keep_torn`] puts the bytes that a mend will cut off behind those of a file beside the journal.
 //!
 //! ```text
-//! let disk = FileDisk::open(rt, alloc, "orders.journal")?;
+//! let disk = FileDisk::open(rt, alloc, "orders.journal")?;      // of rt's files: each that is a JournalFile
 //! let (found, contents) = Found::read(alloc, disk)?;
 //! keep_torn(rt, alloc, "orders.journal", contents.torn())?;
 //! let journal = found.mend()?;
@@ -24,5 +24,5 @@ mod file_disk;
 mod torn;
 mod transcript;
 
-pub use file_disk::{FileDisk, OpenError};
+pub use file_disk::{FileDisk, JournalFile, OpenError};
 pub use torn::keep_torn;

@@ -1,5 +1,6 @@
 //! Who keeps a journal, and reads the log for it.
 ghost use Rattle.std.specs.Prelude.{◌≡◌, ℕ, ◌≤◌, false, length, drop, IfOk};
+ghost use Rattle.row_store.specs.History.{IsPrefix};
 ghost use Rattle.history_core.specs.declared.event.Who.TheVariants.{Dispatcher as IsNumbered};
 ghost use Rattle.history.specs.Tokens.{IsSound, IsFree};
 ghost use Rattle.history.specs.World.{number_of};
@@ -9,6 +10,7 @@ ghost use Rattle.ssb_server.specs.Tickets.{IsLeft};
 ghost use Rattle.ssb_server.specs.Turns.{IsDispatcher, Fetches};
 
 use crate::bells::Bells;
+use crate::client::Client;
 use crate::copying::copy_and_put;
 use crate::pace::Pace;
 use crate::server::{Server, SharedTable, Token};
