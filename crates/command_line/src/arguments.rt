@@ -96,6 +96,18 @@ Examples:
   ssb_live serve --data tables --journal orders.journal
   mkfifo in out; ssb_live serve --data tables --keep --client in out";
 
+const EXPORT_HELP: &str = "\
+Reads the commits that 'ssb_live serve --journal' kept in FILE, over the same five table files of a folder, and writes
+the tables as they are after them into FOLDER, which is made where there is none, and must be empty: the dimensions in
+their order, the loaded lines that still stand, and then those of commits in the order of the commits. Other programs
+can load them, and a new journal can begin over them. FILE is as it was.
+
+The tables are written under other names and named once they are on the disk, lineorder.tbl last: a folder that has it
+has all five. What a run that failed has left in FOLDER has to be taken away by hand.
+
+Example:
+  ssb_live export --data tables --journal orders.journal --to tables-2";
+
 /// What the word `help` shows on the terminal of a live session.
 pub const TERMINAL_HELP: &str = "\
 query|NAME or query|NAME|CONSTANT.. asks. begin, then add or amend with line|.. records, and withdraw|KEY, then commit
@@ -277,6 +289,29 @@ fn audit_command<'a>(alloc: Global) -> Result<Command<'a>, AllocError> {
         .arg(trace)
 }
 
+// The words of `export`.
+fn export_command<'a>(alloc: Global) -> Result<Command<'a>, AllocError> {
+    let journal = Arg::new(alloc, "journal")
+        .long("journal")
+        .value_name("FILE")
+        .help("The journal of a server over these tables; it is as it was")
+        .required(true)
+        .action(ArgAction::Set);
+    let folder = Arg::new(alloc, "to")
+        .long("to")
+        .value_name("FOLDER")
+        .help("Where the tables are written: a folder that is not there, or is empty")
+        .required(true)
+        .action(ArgAction::Set);
+    Command::new(alloc, "export")
+        .about("Writes the tables as they are after the commits of a journal")
+        .long_about(EXPORT_HELP)
+        .arg(data_argument(alloc))?
+        .arg(journal)?
+        .arg(folder)?
+        .arg(quiet_argument(alloc))
+}
+
 // All words of the program.
 fn command<'a>(alloc: Global) -> Result<Command<'a>, AllocError> {
     Command::new(alloc, "ssb_live")
@@ -288,7 +323,8 @@ fn command<'a>(alloc: Global) -> Result<Command<'a>, AllocError> {
         .subcommand(query_command(alloc)?)?
         .subcommand(run_command(alloc)?)?
         .subcommand(serve_command(alloc)?)?
-        .subcommand(audit_command(alloc)?)
+        .subcommand(audit_command(alloc)?)?
+        .subcommand(export_command(alloc)?)
 }
 
 /// The words of the command line, the program's name first.

@@ -4,6 +4,7 @@ use crate::arguments::{TERMINAL_HELP, matches, tell};
 use crate::streams::Streams;
 use audit_command::run_audit;
 use clap::ArgMatches;
+use export_command::{ExportPlace, run_export};
 use journal_file::JournalFile;
 use query_command::{Settings, run_all, run_query};
 use run_command::{RunSettings, demo, run_scripts};
@@ -309,6 +310,39 @@ where
     }
 }
 
+// Exports the tables after a journal's commits, over the files of a folder.
+fn export_tables<R, F: Files + AllocGlobal, P: Print, E: Write>(
+    rt: &R,
+    files: &F,
+    matches: &ArgMatches<'_>,
+    terminal: Option<&P>,
+    err: &mut E,
+) -> u8
+where
+    R: Clock + RandomSource + Threads + Sync + AllocGlobal,
+    F::File: JournalFile,
+{
+    let tables = match open_tables(files, matches.get_str("data").unwrap_or("")) {
+        Ok(tables) => tables,
+        Err(fault) => return fault.tell(err),
+    };
+    let screen = screen_of(rt, matches, terminal);
+    let tables = watch_tables(screen.as_ref(), tables);
+    let bytes = TableBytes::new();
+    let tables = count_tables(&bytes, tables);
+    let place = ExportPlace {
+        files,
+        journal: matches.get_str("journal").unwrap_or(""),
+        folder: matches.get_str("to").unwrap_or(""),
+        bytes: &bytes,
+        tells: !matches.get_flag("quiet"),
+    };
+    match RandomState::new(rt) {
+        Ok(hashing) => run_export(rt, hashing, tables, &place, err),
+        Err(_) => Fault::NoRandomness.tell(err),
+    }
+}
+
 // Serves a script. The keys of its orders are hashed at random, so that no client can choose some that collide.
 fn serve_script<R, I: Read + Drop, W: Write, E: Write>(
     rt: &R,
@@ -360,6 +394,7 @@ where
     match subcommand {
         Some(("run", words)) => serve_scripts(rt, files, words, terminal, out, err),
         Some(("audit", words)) => check_trace(rt, files, words, terminal, out, err),
+        Some(("export", words)) => export_tables(rt, files, words, terminal, err),
         Some((_, words)) => answer_query(rt, files, words, terminal, out, err),
         None => serve_script(rt, input, out, err),
     }

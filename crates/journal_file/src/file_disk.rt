@@ -71,11 +71,35 @@ impl<O: Read + OpenFile + JournalFile + Drop> FileDisk<O> {
     ) -> Result<FileDisk<O>, OpenError>
         ensures { IfOk result IsFresh }
     {
-        let mut file = OpenOptions::new()
+        let file = OpenOptions::new()
             .read(true)
             .write(true)
             .create(true)
             .open(files, path)?;
+        Self::locked(files, alloc, path, file)
+    }
+
+    /// Opens a journal's file that is there, to be read alone: no write to it succeeds. It is locked likewise.
+    pub fn open_to_read<R: Files<File = O>>(
+        files: &R,
+        alloc: Global,
+        path: &str,
+    ) -> Result<FileDisk<O>, OpenError>
+        ensures { IfOk result IsFresh }
+    {
+        let file = fs::open(files, path)?;
+        Self::locked(files, alloc, path, file)
+    }
+
+    // Locks a file that was just opened, and reads it.
+    fn locked<R: Files<File = O>>(
+        files: &R,
+        alloc: Global,
+        path: &str,
+        mut file: O,
+    ) -> Result<FileDisk<O>, OpenError>
+        ensures { IfOk result IsFresh }
+    {
         file.lock_alone()?;
         file.sync_all()?;
         sync_folder(files, path)?;
