@@ -5,10 +5,10 @@ use crate::case::Break;
 use journal_file::{JournalFile, OpenError};
 use small_data::{CUSTOMER, DATE, LINEORDER, PART, SUPPLIER};
 use std::alloc::{Allocator, Global};
-use std::collections::BTreeMap;
+use std::collections::{BTreeMap, BTreeSet};
 use std::fs::{Metadata, OpenFile, OpenOptions};
 use std::io;
-use std::io::{Error, ErrorKind, Read, Seek, SeekFrom, Write};
+use std::io::{Cursor, Error, ErrorKind, Read, Seek, SeekFrom, Write};
 use std::os::unix::fs::FileExt;
 use std::rt::Files;
 use std::sync::{Arc, Mutex, MutexGuard};
@@ -32,12 +32,13 @@ pub fn hold<T>(lock: &Mutex<T>) -> io::Result<MutexGuard<'_, T>> {
     Err(Error::from(ErrorKind::WouldBlock))
 }
 
-/// Files by their paths, which threads share. A path that has none is a folder where it stands before a slash of one
-/// that has.
+/// Files by their paths, which threads share. A path that has none is a folder where it was made one, or stands before a
+/// slash of one that has.
 #[derive(Drop)]
 pub struct MemoryFiles {
     alloc: Global,
     files: Mutex<BTreeMap<String, FileBytes>>,
+    folders: Mutex<BTreeSet<String>>,
     breaks: Mutex<BTreeMap<String, usize>>,
 }
 
@@ -91,6 +92,7 @@ impl MemoryFiles {
         let files = MemoryFiles {
             alloc,
             files: Mutex::new(BTreeMap::new(alloc)),
+            folders: Mutex::new(BTreeSet::new(alloc)),
             breaks: Mutex::new(BTreeMap::new(alloc)),
         };
         for (path, text) in [
@@ -145,7 +147,7 @@ impl MemoryFiles {
     }
 
     fn is_folder(&self, path: &str) -> io::Result<bool> {
-        if path == "." {
+        if path == "." || hold(&self.folders)?.contains(path) {
             return Ok(true);
         }
         let files = hold(&self.files)?;
@@ -157,15 +159,41 @@ impl MemoryFiles {
         )
     }
 
+    // The names of what is in a folder, each ended by a NUL, as often as files have it.
+    fn names_in(&self, folder: &str) -> io::Result<Vec<u8>> {
+        let mut names = Vec::new(self.alloc);
+        for file in hold(&self.files)?.keys() {
+            let Some(rest) = file.strip_prefix(folder) else {
+                continue;
+            };
+            let Some(within) = rest.strip_prefix('/') else {
+                continue;
+            };
+            let name = match within.split_once('/') {
+                Some((name, _)) => name,
+                None => within,
+            };
+            names.extend_from_slice(name.as_bytes())?;
+            names.push(0)?;
+        }
+        Ok(names)
+    }
+
+    // Whether the folder that a path lies in is there.
+    fn has_parent(&self, path: &str) -> io::Result<bool> {
+        match path.rsplit_once('/') {
+            Some((folder, _)) => self.is_folder(folder),
+            None => Ok(true),
+        }
+    }
+
     // An empty file at this path, in a folder that is there.
     fn make(&self, path: &str) -> io::Result<FileBytes> {
         if self.is_folder(path)? {
             return Err(Error::from(ErrorKind::IsADirectory));
         }
-        if let Some((folder, _)) = path.rsplit_once('/') {
-            if !self.is_folder(folder)? {
-                return Err(Error::from(ErrorKind::NotFound));
-            }
+        if !self.has_parent(path)? {
+            return Err(Error::from(ErrorKind::NotFound));
         }
         self.put(path, &[])?;
         self.contents_of(path)?
@@ -188,20 +216,29 @@ fn unsupported<T>() -> io::Result<T> {
 impl Files for MemoryFiles {
     type File = BreakingFile;
 
-    type Dir = io::Empty;
+    type Dir = Cursor<Vec<u8>>;
 
     fn open_file(&self, how: &OpenOptions, path: &str) -> io::Result<BreakingFile> {
         let file = match self.contents_of(path)? {
+            Some(_) if how.asks_create_new() => return Err(Error::from(ErrorKind::AlreadyExists)),
             Some(contents) if !how.asks_truncate() => MemoryFile::Opened(contents, 0),
-            _ if how.asks_create() => MemoryFile::Opened(self.make(path)?, 0),
+            _ if how.asks_create() || how.asks_create_new() =>
+                MemoryFile::Opened(self.make(path)?, 0),
             _ if self.is_folder(path)? => MemoryFile::Folder,
             _ => return Err(Error::from(ErrorKind::NotFound)),
         };
         self.opened(path, file)
     }
 
-    fn open_dir(&self, _path: &str) -> io::Result<io::Empty> {
-        unsupported()
+    fn open_dir(&self, path: &str) -> io::Result<Cursor<Vec<u8>>> {
+        let folder = path.strip_suffix('/').unwrap_or(path);
+        if self.is_folder(folder)? {
+            return Ok(Cursor::new(self.names_in(folder)?));
+        }
+        Err(Error::from(match self.contents_of(folder)? {
+            Some(_) => ErrorKind::NotADirectory,
+            None => ErrorKind::NotFound,
+        }))
     }
 
     fn metadata(&self, _path: &str) -> io::Result<Metadata> {
@@ -216,16 +253,31 @@ impl Files for MemoryFiles {
         unsupported()
     }
 
-    fn rename(&self, _from: &str, _to: &str) -> io::Result<()> {
-        unsupported()
+    fn rename(&self, from: &str, to: &str) -> io::Result<()> {
+        let to = String::from_str(self.alloc, to)?;
+        let mut files = hold(&self.files)?;
+        match files.remove(from) {
+            Some(contents) => {
+                files.insert(to, contents)?;
+                Ok(())
+            }
+            None => Err(Error::from(ErrorKind::NotFound)),
+        }
     }
 
     fn remove_file(&self, _path: &str) -> io::Result<()> {
         unsupported()
     }
 
-    fn create_dir(&self, _path: &str) -> io::Result<()> {
-        unsupported()
+    fn create_dir(&self, path: &str) -> io::Result<()> {
+        if self.is_folder(path)? || self.contents_of(path)?.is_some() {
+            return Err(Error::from(ErrorKind::AlreadyExists));
+        }
+        if !self.has_parent(path)? {
+            return Err(Error::from(ErrorKind::NotFound));
+        }
+        hold(&self.folders)?.insert(String::from_str(self.alloc, path)?)?;
+        Ok(())
     }
 
     fn remove_dir(&self, _path: &str) -> io::Result<()> {
