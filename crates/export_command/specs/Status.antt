@@ -8,7 +8,7 @@ use Rattle.ssb_files.specs.declared.job.JobFault.{JobFault}
 
 -- 1: the folder or the journal is refused; 4: a call of the system failed, or memory ran out
 abbrev pub refusal_status : ExportRefusal → ℕ
-refusal_status refusal.NotEmpty = 1
+refusal_status (refusal.Folder why) = 1
 refusal_status (refusal.CannotWrite path) = 4
 refusal_status (refusal.Journal why) = opening_status why
 

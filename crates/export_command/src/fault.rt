@@ -6,12 +6,18 @@ ghost use Rattle.export_command.specs.Status.{refusal_status};
 use journal_opening::OpeningFault;
 use ssb_files::{Finding, JobFault};
 use std::fmt;
+use thiserror::Error;
+
+/// A folder that is to take tables has something in it, or is none. Its text is its number and its name.
+#[derive(Clone, Copy, Debug, PartialEq, Eq, Error)]
+#[error("95 NotEmpty")]
+pub struct NotEmpty;
 
 /// Why tables were not exported.
 #[derive(Debug, Drop)]
 pub enum ExportRefusal {
-    /// The folder has something in it, or is none.
-    NotEmpty,
+    /// The folder takes no tables.
+    Folder(NotEmpty),
     /// The folder, by its path, could not be made.
     CannotWrite(String),
     /// The journal's commits are not at hand.
@@ -23,7 +29,7 @@ impl Finding for ExportRefusal {
 
     fn status(&self) -> u8 {
         match self {
-            ExportRefusal::NotEmpty => 1,
+            ExportRefusal::Folder(_) => 1,
             ExportRefusal::CannotWrite(_) => 4,
             ExportRefusal::Journal(fault) => fault.status(),
         }
@@ -33,7 +39,7 @@ impl Finding for ExportRefusal {
 impl fmt::Display for ExportRefusal {
     fn fmt<W: fmt::Write>(&self, f: &mut fmt::Formatter<W>) -> fmt::Result {
         match self {
-            ExportRefusal::NotEmpty => f.write_str("export: 95 NotEmpty"),
+            ExportRefusal::Folder(fault) => write!(f, "export: {fault}"),
             ExportRefusal::CannotWrite(path) => write!(f, "cannot write {path}"),
             ExportRefusal::Journal(fault) => write!(f, "{fault}"),
         }

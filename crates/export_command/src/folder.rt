@@ -11,7 +11,7 @@ ghost use Rattle.export_command.specs.Status.{export_status};
 ghost use Rattle.ssb_schema.specs.declared.table.Table.{Table as AnyTable};
 ghost use Rattle.table_text.specs.RoundTrip.{AreTableRows};
 
-use crate::fault::{ExportFault, ExportRefusal};
+use crate::fault::{ExportFault, ExportRefusal, NotEmpty};
 use crate::tables_after::TablesAfter;
 use crate::writing::write_table;
 use ssb_files::Fault;
@@ -65,7 +65,7 @@ impl<'a, F: Files> ExportFolder<'a, F> {
         };
         match is_free {
             Ok(true) => Ok(folder),
-            Ok(false) => Err(ExportFault::Found(ExportRefusal::NotEmpty)),
+            Ok(false) => Err(ExportFault::Found(ExportRefusal::Folder(NotEmpty))),
             Err(_) => Err(ExportFault::Program(Fault::CannotRead(String::from_str(
                 alloc, path,
             )?))),

@@ -29,7 +29,7 @@ mod tables_after;
 mod writing;
 
 pub use exporting::{ExportPlace, run_export};
-pub use fault::{ExportFault, ExportRefusal};
+pub use fault::{ExportFault, ExportRefusal, NotEmpty};
 pub use last_gone::LastGone;
 pub use laws::tables_after_are_sound;
 pub use tables_after::TablesAfter;
