@@ -1,5 +1,6 @@
 //! Every fault that has a number, with the values that the page's words in capitals stand for.
 
+use export_command::NotEmpty;
 use journal_file::OpenError;
 use row_store::Cause;
 use session_requests::RequestError;
@@ -204,6 +205,16 @@ impl ListsFaults for OpenError {
     }
 }
 
+impl ListsFaults for NotEmpty {
+    fn first() -> NotEmpty {
+        NotEmpty
+    }
+
+    fn next(&self) -> Option<NotEmpty> {
+        None
+    }
+}
+
 // Adds the line that each fault of a type prints.
 fn push_lines<F: ListsFaults>(alloc: Global, lines: &mut Vec<String>) -> Result<(), AllocError> {
     let mut fault = F::first();
@@ -232,5 +243,6 @@ pub fn all_lines(alloc: Global) -> Result<Vec<String>, AllocError> {
     push_lines::<JournalFault>(alloc, &mut lines)?;
     push_lines::<ReplayFault>(alloc, &mut lines)?;
     push_lines::<OpenError>(alloc, &mut lines)?;
+    push_lines::<NotEmpty>(alloc, &mut lines)?;
     Ok(lines)
 }
