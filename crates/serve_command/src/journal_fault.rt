@@ -3,10 +3,10 @@
 ghost use Rattle.std.specs.Prelude.{◌≡◌};
 ghost use Rattle.serve_command.specs.Status.{journal_status};
 
-use journal_file::OpenError;
+use journal_opening::OpeningFault;
 use journaled_sessions::JournaledFault;
 use ssb_files::{Finding, JobFault};
-use ssb_journal::{JournalFault, JournalOpenFault, ReplayFault};
+use ssb_journal::ReplayFault;
 use std::fmt;
 
 /// Why clients were not served with a journal.
@@ -14,10 +14,8 @@ use std::fmt;
 pub enum JournalRefusal {
     /// More clients than a server has.
     TooManyClients,
-    /// The journal's file could not be opened.
-    NotOpened(OpenError),
-    /// The file is no journal over these tables, or could not be read.
-    NotKept(JournalOpenFault),
+    /// The journal's commits are not at hand.
+    Journal(OpeningFault),
     /// The journal's commits are refused, no server was opened, or the journal could not be written.
     NotServed(JournaledFault),
 }
@@ -28,11 +26,7 @@ impl Finding for JournalRefusal {
     fn status(&self) -> u8 {
         match self {
             JournalRefusal::TooManyClients => 2,
-            JournalRefusal::NotOpened(OpenError::InUse) => 1,
-            JournalRefusal::NotOpened(_) => 4,
-            JournalRefusal::NotKept(JournalOpenFault::Journal(JournalFault::OutOfMemory)) => 4,
-            JournalRefusal::NotKept(JournalOpenFault::Journal(_)) => 1,
-            JournalRefusal::NotKept(_) => 4,
+            JournalRefusal::Journal(fault) => fault.status(),
             JournalRefusal::NotServed(JournaledFault::Replay(ReplayFault::OutOfMemory)) => 4,
             JournalRefusal::NotServed(JournaledFault::Replay(_)) => 1,
             JournalRefusal::NotServed(_) => 4,
@@ -44,11 +38,7 @@ impl fmt::Display for JournalRefusal {
     fn fmt<W: fmt::Write>(&self, f: &mut fmt::Formatter<W>) -> fmt::Result {
         match self {
             JournalRefusal::TooManyClients => f.write_str("too many clients"),
-            JournalRefusal::NotOpened(fault) => write!(f, "journal: {fault}"),
-            JournalRefusal::NotKept(JournalOpenFault::Journal(JournalFault::OutOfMemory)) => {
-                f.write_str("out of memory")
-            }
-            JournalRefusal::NotKept(fault) => write!(f, "journal: {fault}"),
+            JournalRefusal::Journal(fault) => write!(f, "{fault}"),
             JournalRefusal::NotServed(fault) => write!(f, "{fault}"),
         }
     }

@@ -14,11 +14,11 @@ use crate::serving::{MOST_CLIENTS, ServeSettings, StreamEnd, speakers_of, tell_e
 use crate::speakers::{StreamClient, StreamLeft};
 use journal::Disk;
 use journal_file::{FileDisk, JournalFile, keep_torn};
+use journal_opening::{OpeningFault, table_sizes};
 use journaled_sessions::{JournaledRun, KeepsTorn, Recovered, serve_journaled};
 use ssb_base::Base;
 use ssb_files::{Fault, TableBytes, base_to_serve};
-use ssb_journal::{TableSize, open};
-use ssb_schema::Table;
+use ssb_journal::open;
 use ssb_text::Tables;
 use std::alloc::Global;
 use std::io;
@@ -38,22 +38,6 @@ pub struct JournalPlace<'a, F: Files> {
     pub bytes: &'a TableBytes,
     /// Whether it is told how many commits the journal has.
     pub tells: bool,
-}
-
-// How many bytes and rows each table has.
-fn table_sizes(base: &Base, bytes: &TableBytes) -> [TableSize; 5] {
-    let size = |table: Table, rows: usize| TableSize {
-        table,
-        bytes: bytes.of(table),
-        rows: rows as u64,
-    };
-    [
-        size(Table::Customer, base.customers().rows().len()),
-        size(Table::Supplier, base.suppliers().rows().len()),
-        size(Table::Part, base.parts().rows().len()),
-        size(Table::Date, base.dates().rows().len()),
-        size(Table::Lineorder, base.lines().len()),
-    ]
 }
 
 // Keeps what a crash has torn beside the journal, and tells how many commits it has.
@@ -111,7 +95,7 @@ where
     let sizes = table_sizes(&base, place.bytes);
     let opened = match open(alloc, &sizes, disk) {
         Ok(opened) => opened,
-        Err((fault, _)) => return Err(JournalRefusal::NotKept(fault)),
+        Err((fault, _)) => return Err(JournalRefusal::Journal(OpeningFault::Kept(fault))),
     };
     let keeper = TornKeeper {
         place,
@@ -157,7 +141,10 @@ where
     let base = Arc::new(alloc, base)?;
     let disk = match FileDisk::open(place.files, alloc, place.path) {
         Ok(disk) => disk,
-        Err(error) => return Err(JournalServingFault::Found(JournalRefusal::NotOpened(error))),
+        Err(error) => {
+            let fault = OpeningFault::File(error);
+            return Err(JournalServingFault::Found(JournalRefusal::Journal(fault)));
+        }
     };
     match serve_disk(rt, settings, base, place, disk, speakers, screen) {
         Ok(run) => Ok(run),
