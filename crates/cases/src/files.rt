@@ -32,8 +32,8 @@ pub fn hold<T>(lock: &Mutex<T>) -> io::Result<MutexGuard<'_, T>> {
     Err(Error::from(ErrorKind::WouldBlock))
 }
 
-/// Files by their paths, which threads share. A path that has none is a folder where it was made one, or stands before a
-/// slash of one that has.
+/// Files by their paths, which threads share. A path that has none is a folder where it was made one, or stands before
+/// a slash of one that has.
 #[derive(Drop)]
 pub struct MemoryFiles {
     alloc: Global,
