@@ -2,14 +2,16 @@
 use Rattle.std.specs.Prelude.{◌≡◌, ℕ, ◌+◌, ◌-◌, ◌<◌, Bool, true, false, not, nat_eq, List, [], ◌∷◌, ◌++◌}
 use Rattle.std.specs.Prelude.{length, drop, filter, flat_map, slice_get, Option, Some, None}
 use Rattle.std.specs.HashMap.{get}
-use Rattle.std.specs.List.{list_any}
+use Rattle.std.specs.List.{AllByRecursion, list_any}
 use Rattle.row_store.specs.Absorbing.{gone_by}
 use Rattle.row_store.specs.History.{CommitRecord, lines_after}
 use Rattle.row_store.specs.Legal.{IsLegal}
 use Rattle.row_store.specs.Lines.{added_by}
 use Rattle.ssb_base.specs.Base.{Tables, IsSound}
 use Rattle.ssb_schema.specs.declared.line.LineFields.{LineFields}
+use Rattle.ssb_schema.specs.Orders.{IsOrder}
 use Rattle.ssb_schema.specs.declared.refresh.Action.{Action}
+use Rattle.ssb_schema.specs.declared.refresh.Action.TheVariants.{Add, Amend, Withdraw}
 use Rattle.export_command.specs.declared.last_gone.LastGone.{LastGone}
 
 -- the dimensions as they were, and the lines after the history
@@ -56,7 +58,13 @@ abbrev pub LinesStand : Type 0
 LinesStand = (base : Tables) (history : List CommitRecord) → let actions = actions_of history in
     lines_after base history ≡ standing actions 0 base.lines ++ standing_added actions 0 actions
 
--- the tables after a legal history keep what those of a base keep
+-- what an action adds is an order
+abbrev pub AddsOrder : Action → Type 0
+AddsOrder (Add order) = IsOrder order
+AddsOrder (Amend order) = IsOrder order
+AddsOrder (Withdraw key) = Unit {0}
+
+-- the tables after a legal history of such actions keep what those of a base keep
 abbrev pub TablesAfterAreSound : Type 0
 TablesAfterAreSound = (base : Tables) (history : List CommitRecord) → IsSound base → IsLegal base history
-    → IsSound (tables_after base history)
+    → AllByRecursion AddsOrder (actions_of history) → IsSound (tables_after base history)

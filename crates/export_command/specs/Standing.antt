@@ -10,13 +10,14 @@ use Rattle.ssb_schema.specs.declared.line.LineFields.{LineFields}
 use Rattle.ssb_schema.specs.declared.table.Table.TheVariants as table
 use Rattle.table_text.specs.RoundTrip.{IsTableRow}
 use Rattle.table_text.specs.TableText.{rows_text}
-use Rattle.export_command.specs.After.{IsLastGoneOf, actions_of}
+use Rattle.export_command.specs.After.{AddsOrder, IsLastGoneOf, actions_of}
 use Rattle.export_command.specs.declared.last_gone.LastGone.{LastGone}
 
--- the log is a legal history over a base, and these are the last actions by which lines go
+-- the log is a legal history over a sound base, its actions add orders, and these are the last by which lines go
 pub record AreAfter (base : Tables) (log : List CommitRecord) (last : LastGone) : Type 0 where
   pub sound : IsSound base
   pub legal : IsLegal base log
+  pub orders : AllByRecursion AddsOrder (actions_of log)
   pub last_of : IsLastGoneOf (actions_of log) last
 
 -- known bytes grow by the text of these lines, each of which is a row of lineorder; or by a part of it

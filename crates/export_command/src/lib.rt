@@ -25,6 +25,7 @@ mod fault;
 mod folder;
 mod last_gone;
 mod laws;
+mod orders;
 mod tables_after;
 mod writing;
 

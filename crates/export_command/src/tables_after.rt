@@ -5,6 +5,7 @@ ghost use Rattle.ssb_base.specs.Base.{IsSound};
 ghost use Rattle.export_command.specs.After.{tables_after};
 
 use crate::last_gone::LastGone;
+use crate::orders::log_adds_orders;
 use row_store::{Commit, RowStore};
 use ssb_base::Base;
 use std::alloc::{AllocError, Global};
@@ -44,6 +45,7 @@ impl TablesAfter {
         store.soundness();
         store.base().soundness();
         let (base, log) = store.into_parts();
+        log_adds_orders(log.as_slice());
         let last = LastGone::of(alloc, hashing, log.as_slice())?;
         Ok(TablesAfter { base, log, last })
     }
