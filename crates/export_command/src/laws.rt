@@ -3,7 +3,7 @@
 ghost use Rattle.export_command.specs.After.{LinesStand, TablesAfterAreSound};
 
 /// The lines after a history are the loaded lines that stand after its actions, and then those that the actions added
-/// and that stand, action by action; and the tables after a legal one, whose actions add orders, keep what those of a base
+/// and that stand, action by action. The tables after a legal one, whose actions add orders, keep what those of a base
 /// keep.
 pub fn tables_after_are_sound()
     ensures lines { LinesStand }
