@@ -162,11 +162,12 @@ impl MemoryFiles {
     // The names of what is in a folder, each ended by a NUL, as often as files have it.
     fn names_in(&self, folder: &str) -> io::Result<Vec<u8>> {
         let mut names = Vec::new(self.alloc);
-        for file in hold(&self.files)?.keys() {
+        let files = hold(&self.files)?;
+        for file in files.keys() {
             let Some(rest) = file.strip_prefix(folder) else {
                 continue;
             };
-            let Some(within) = rest.strip_prefix('/') else {
+            let Some(within) = rest.strip_prefix("/") else {
                 continue;
             };
             let name = match within.split_once('/') {
@@ -231,7 +232,7 @@ impl Files for MemoryFiles {
     }
 
     fn open_dir(&self, path: &str) -> io::Result<Cursor<Vec<u8>>> {
-        let folder = path.strip_suffix('/').unwrap_or(path);
+        let folder = path.strip_suffix("/").unwrap_or(path);
         if self.is_folder(folder)? {
             return Ok(Cursor::new(self.names_in(folder)?));
         }

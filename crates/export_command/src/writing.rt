@@ -1,14 +1,10 @@
 //! The tables after a history, written.
 
-ghost use Rattle.std.specs.Prelude.{◌≡◌, ◌+◌, ◌≤◌, ◌<◌, ◌^◌, List, OnOk, length, map};
-ghost use Rattle.std.specs.List.{AllByRecursion};
+ghost use Rattle.std.specs.Prelude.{◌≡◌, ◌+◌, ◌≤◌, ◌<◌, ◌^◌, List, OnOk, length};
 ghost use Rattle.ssb_report.specs.Written.{Writes};
-ghost use Rattle.ssb_schema.specs.Rows.{line_values};
 ghost use Rattle.ssb_schema.specs.declared.refresh.Action.{Action as ActionRecord};
-ghost use Rattle.ssb_schema.specs.declared.table.Table.TheVariants as table;
-ghost use Rattle.ssb_text.specs.Load.{values_in};
-ghost use Rattle.table_text.specs.RoundTrip.{AreTableRows, IsTableRow};
-ghost use Rattle.table_text.specs.TableText.{base_texts, rows_text};
+ghost use Rattle.table_text.specs.RoundTrip.{AreTableRows};
+ghost use Rattle.table_text.specs.TableText.{base_texts};
 ghost use Rattle.row_store.specs.Lines.{added_by};
 ghost use Rattle.export_command.specs.After.{IsLastGoneOf, actions_of, standing, standing_added};
 ghost use Rattle.export_command.specs.Standing.{WritesLines};
