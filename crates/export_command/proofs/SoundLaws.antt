@@ -20,7 +20,6 @@ use Rattle.std.proofs.Common.{
   ◌++◌,
   length,
   take,
-  filter,
   Option,
   Some,
   None,
@@ -30,13 +29,12 @@ use Rattle.std.proofs.Common.{
   ap,
   ◌∙◌,
   subst,
-  arith,
+  append_assoc,
+  append-nil,
 }
-use Rattle.std.specs.Prelude.{◌==◌, nat_le, if◌then◌else◌}
+use Rattle.std.specs.Prelude.{nat_le, if◌then◌else◌}
 use Rattle.std.specs.List.{AllByRecursion, list_any}
 use Rattle.std.specs.Option.{option_map, option_or}
-use Rattle.std.proofs.lemmas.Bool.Decides.{nat_tests}
-use Rattle.std.proofs.lemmas.List.{take_all}
 use Rattle.std.proofs.lemmas.List.Elements.{All-from_recursion, recursion_from_All}
 use Rattle.row_store.specs.History.{CommitRecord, lines_after}
 use Rattle.row_store.specs.Legal.{IsLegal}
@@ -55,6 +53,7 @@ use Rattle.row_store.specs.Refusals.{
 }
 use Rattle.row_store.specs.declared.refusal.Cause.{Cause}
 use Rattle.row_store.specs.declared.refusal.Cause.TheVariants as cause
+use Rattle.row_store.specs.declared.refusal.Refusal.{Refusal}
 use Rattle.row_store.proofs.FewLaws.{legal_histories_are_few}
 use Rattle.row_store.proofs.StateLaws.{lines_after-push}
 use Rattle.ssb_base.specs.Base.{
@@ -166,7 +165,7 @@ keys-known d (line ∷ order) c s p e =
       keys-known d order customer.1 supplier.1 part.1 date.1,
     )
 
-none-tested : (b : Bool) (found : Cause) (rest : Option Cause) → (if b then Some found else rest) ≡ None
+none-tested : {X : Type 0} (b : Bool) (found : X) (rest : Option X) → (if b then Some found else rest) ≡ None
     → (b ≡ false) × (rest ≡ None)
 none-tested true found rest e = absurd cc
 none-tested false found rest e = (refl, e)
@@ -235,3 +234,61 @@ good-refresh base number lines (action ∷ actions) good orders none =
     (first_refusal base (number + 1) (lines_after_action lines action) actions) none in
     good-refresh base (number + 1) (lines_after_action lines action) actions
     (good-action base lines action good orders.0 both.0) orders.1 both.1
+
+-- the elements at the seam of two lists
+at-seam : {X : Type 0} (front : List X) (x : X) (back : List X) → slice_get (front ++ x ∷ back) (length front) ≡ Some x
+at-seam [] x back = refl
+at-seam (y ∷ front) x back = at-seam front x back
+
+front-of : {X : Type 0} (front back : List X) → take (length front) (front ++ back) ≡ front
+front-of [] back = refl
+front-of (y ∷ front) back = ap (λ l. y ∷ l) (front-of front back)
+
+all-front : {X : Type 0} (P : X → Type 0) (xs ys : List X) → AllByRecursion P (xs ++ ys)
+    → AllByRecursion P xs × AllByRecursion P ys
+all-front P [] ys all = (tt, all)
+all-front P (x ∷ xs) ys all =
+    let rest = all-front P xs ys all.1 in
+    ((all.0, rest.0), rest.1)
+
+-- a commit that is not refused leaves good lines
+good-commit : (base : Tables) (front : List CommitRecord) (commit : CommitRecord)
+    → AreGood base.dimensions (lines_after base front) → AllByRecursion AddsOrder commit.actions
+    → refusal_of base front commit.actions ≡ None → AreGood base.dimensions (lines_after base (front ++ commit ∷ []))
+good-commit base front commit good orders none =
+    let accepted = none-tested (nat_le base.limits.commits (length front)) _
+    (first_refusal base 1 (lines_after base front) commit.actions) none in
+    subst (AreGood base.dimensions) (sym (lines_after-push base front commit))
+    (good-refresh base 1 (lines_after base front) commit.actions good orders accepted.1)
+
+-- and so do all commits of a legal history, from the first ones on
+good-after : (base : Tables) (front rest : List CommitRecord) → IsLegal base (front ++ rest)
+    → AllByRecursion AddsOrder (actions_of rest) → AreGood base.dimensions (lines_after base front)
+    → AreGood base.dimensions (lines_after base (front ++ rest))
+good-after base front [] legal orders good =
+    subst (λ history. AreGood base.dimensions (lines_after base history)) (sym (append-nil front)) good
+good-after base front (commit ∷ later) legal orders good =
+    let whole : (front ++ commit ∷ []) ++ later ≡ front ++ commit ∷ later = append_assoc front (commit ∷ []) later in
+    let parts = all-front AddsOrder commit.actions (actions_of later) orders in
+    let accepted : refusal_of base front commit.actions ≡ None =
+    subst (λ history. refusal_of base history commit.actions ≡ None) (front-of front (commit ∷ later))
+    (legal.accepted (length front) commit (at-seam front commit later)) in
+    subst (λ history. AreGood base.dimensions (lines_after base history)) whole
+    (good-after base (front ++ commit ∷ []) later (subst (IsLegal base) (sym whole) legal) parts.1
+    (good-commit base front commit good parts.0 accepted))
+
+pub tables_after_are_sound : TablesAfterAreSound
+tables_after_are_sound base history sound legal orders =
+    let loaded : AreGood base.dimensions base.lines = record {
+      apart = apart_of_distinct is_same_line base.lines sound.numbered;
+      known = recursion_from_All (IsKnown base.dimensions) base.lines sound.known;
+    } in
+    let good = good-after base [] history legal orders loaded in record {
+      customers = sound.customers;
+      suppliers = sound.suppliers;
+      parts = sound.parts;
+      dates = sound.dates;
+      few = (legal_histories_are_few base history sound legal).1;
+      numbered = distinct_of_apart is_same_line (lines_after base history) good.apart;
+      known = All-from_recursion (IsKnown base.dimensions) (lines_after base history) good.known;
+    }
