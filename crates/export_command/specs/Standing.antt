@@ -1,5 +1,5 @@
 -- What the code keeps of the tables after a history, and what it writes of their lines.
-use Rattle.std.specs.Prelude.{ℕ, List, map, OnOk, Option, Result}
+use Rattle.std.specs.Prelude.{ℕ, ◌<◌, ◌^◌, List, length, map, OnOk, Option, Result}
 use Rattle.std.specs.List.{AllByRecursion}
 use Rattle.row_store.specs.History.{CommitRecord}
 use Rattle.row_store.specs.Legal.{IsLegal}
@@ -13,10 +13,12 @@ use Rattle.table_text.specs.TableText.{rows_text}
 use Rattle.export_command.specs.After.{AddsOrder, IsLastGoneOf, actions_of}
 use Rattle.export_command.specs.declared.last_gone.LastGone.{LastGone}
 
--- the log is a legal history over a sound base, its actions add orders, and these are the last by which lines go
+-- the log is a legal history over a sound base, within the limits, its actions add orders, and these are the last by
+-- which lines go
 pub record AreAfter (base : Tables) (log : List CommitRecord) (last : LastGone) : Type 0 where
   pub sound : IsSound base
   pub legal : IsLegal base log
+  pub few : length log < 2 ^ 32
   pub orders : AllByRecursion AddsOrder (actions_of log)
   pub last_of : IsLastGoneOf (actions_of log) last
 

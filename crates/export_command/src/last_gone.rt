@@ -18,12 +18,13 @@ pub struct LastGone {
 }
 
 impl LastGone {
-    /// Of a log.
+    /// Of a log, which has as many commits as a warehouse takes at most.
     pub fn of(
         alloc: Global,
         hashing: RandomState,
         log: &[Commit],
     ) -> Result<LastGone, AllocError>
+        requires few { length log.now < 2 ^ 32 }
         ensures { IfOk result (IsLastGoneOf (actions_of log.now)) }
     {
         let mut last = LastGone {

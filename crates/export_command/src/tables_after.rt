@@ -44,6 +44,7 @@ impl TablesAfter {
     {
         store.soundness();
         store.base().soundness();
+        let _count = store.len();
         let (base, log) = store.into_parts();
         log_adds_orders(log.as_slice());
         let last = LastGone::of(alloc, hashing, log.as_slice())?;
