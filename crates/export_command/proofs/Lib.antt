@@ -1,3 +1,4 @@
 pub mod StandingLaws
 pub mod ApartLaws
 pub mod SoundLaws
+pub mod WritingLaws
