@@ -13,13 +13,13 @@ use std::hash::RandomState;
 /// Of each order that a log amends or withdraws, by its key, the number of the last action that does, counted from 1
 /// over all commits. Clients picked the keys, so they hash with random keys.
 #[derive(Drop)]
-pub struct LastGone {
+pub(crate) struct LastGone {
     numbers: HashMap<u64, u64, RandomState>,
 }
 
 impl LastGone {
     /// Of a log, which has as many commits as a warehouse takes at most.
-    pub fn of(
+    pub(crate) fn of(
         alloc: Global,
         hashing: RandomState,
         log: &[Commit],
@@ -63,7 +63,7 @@ impl LastGone {
 
     /// Whether lines of an order that came with an action of the log, by its number from 1, stand after the log; of
     /// number 0, loaded lines.
-    pub fn stand(&self, number: u64, key: u64) -> bool
+    pub(crate) fn stand(&self, number: u64, key: u64) -> bool
         ensures { (actions : List ActionRecord) → IsLastGoneOf actions self.now → number ≤ length actions
             → result ≡ stands actions number key }
     {

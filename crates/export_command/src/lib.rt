@@ -7,8 +7,8 @@
 //!
 //! The tables after a history (`specs/After`: `tables_after`) are the dimensions as they were and the lines after it.
 //! Those of the loaded lines that still stand come first, and then the lines that commits added and none took away, in
-//! the order of the commits: each order has at most one last action by which its earlier lines go ([`LastGone`]), so
-//! that one pass over the loaded lines and one over the log write them all, and no line is copied.
+//! the order of the commits: each order has at most one last action by which its earlier lines go (`last_gone`), so that
+//! one pass over the loaded lines and one over the log write them all, and no line is copied.
 //!
 //! The contract of [`write_table`]: what is written is the text of a table after the history. That of [`run_export`]
 //! (`specs/Exported`): with status 0 the tables spell a base, the commits are a legal history over it, and the texts of
@@ -31,7 +31,6 @@ mod writing;
 
 pub use exporting::{ExportPlace, run_export};
 pub use fault::{ExportFault, ExportRefusal, NotEmpty};
-pub use last_gone::LastGone;
 pub use laws::tables_after_are_sound;
 pub use tables_after::TablesAfter;
 pub use writing::write_table;
