@@ -1,6 +1,6 @@
 //! Which lines of an order stand after a log: those that came since its last action by which earlier ones go.
 
-ghost use Rattle.std.specs.Prelude.{◌≡◌, ◌+◌, ◌++◌, ◌≤◌, ◌<◌, ◌^◌, List, length, OnOk, IfOk};
+ghost use Rattle.std.specs.Prelude.{◌≡◌, ◌+◌, ◌++◌, ◌<◌, ◌^◌, List, length, OnOk, IfOk};
 ghost use Rattle.ssb_schema.specs.declared.refresh.Action.{Action as ActionRecord};
 ghost use Rattle.export_command.specs.After.{IsLastGoneOf, actions_of, stands};
 
@@ -64,8 +64,7 @@ impl LastGone {
     /// Whether lines of an order that came with an action of the log, by its number from 1, stand after the log; of
     /// number 0, loaded lines.
     pub(crate) fn stand(&self, number: u64, key: u64) -> bool
-        ensures { (actions : List ActionRecord) → IsLastGoneOf actions self.now → number ≤ length actions
-            → result ≡ stands actions number key }
+        ensures { (actions : List ActionRecord) → IsLastGoneOf actions self.now → result ≡ stands actions number key }
     {
         match self.numbers.get(&key) {
             Some(gone) => *gone <= number,

@@ -1,6 +1,6 @@
 //! The tables after a history, written.
 
-ghost use Rattle.std.specs.Prelude.{◌≡◌, ◌+◌, ◌≤◌, ◌<◌, ◌^◌, List, OnOk, length};
+ghost use Rattle.std.specs.Prelude.{◌≡◌, ◌+◌, ◌<◌, ◌^◌, List, OnOk, length};
 ghost use Rattle.ssb_report.specs.Written.{Writes};
 ghost use Rattle.ssb_schema.specs.declared.refresh.Action.{Action as ActionRecord};
 ghost use Rattle.table_text.specs.RoundTrip.{AreTableRows};
@@ -25,7 +25,7 @@ fn write_standing<W: Write>(
     number: u64,
     lines: &[Line],
 ) -> Result<(), WriteFault>
-    ensures { (actions : List ActionRecord) → IsLastGoneOf actions last.now → number ≤ length actions
+    ensures { (actions : List ActionRecord) → IsLastGoneOf actions last.now
         → WritesLines (W.contents out.old) (W.contents out.new) result (standing actions number lines.now) }
 {
     for line in lines {
@@ -54,7 +54,7 @@ fn write_added<W: Write>(
     added: &[Action],
 ) -> Result<(), WriteFault>
     requires few { before + length added.now < 2 ^ 64 }
-    ensures { (actions : List ActionRecord) → IsLastGoneOf actions last.now → before + length added.now ≤ length actions
+    ensures { (actions : List ActionRecord) → IsLastGoneOf actions last.now
         → WritesLines (W.contents out.old) (W.contents out.new) result (standing_added actions before added.now) }
 {
     let mut number = before;
