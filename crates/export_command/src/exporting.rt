@@ -4,6 +4,7 @@ ghost use Rattle.std.specs.Prelude.{◌≡◌, ◌≢◌, ℕ, List, IfOk, IfErr
 ghost use Rattle.journal.specs.Disk.{Only};
 ghost use Rattle.export_command.specs.Exported.{AreTablesAfter, Exports};
 ghost use Rattle.export_command.specs.Status.{export_status};
+ghost use Rattle.journal_opening.specs.Status.{opening_status};
 ghost use Rattle.ssb_schema.specs.declared.table.Table.{Table};
 ghost use Rattle.ssb_text.specs.Load.{AreTexts};
 
@@ -46,7 +47,9 @@ struct JournalTables {
     torn: usize,
 }
 
-fn refused(fault: OpeningFault) -> ExportFault {
+fn refused(fault: OpeningFault) -> ExportFault
+    ensures { export_status result ≡ opening_status fault }
+{
     ExportFault::Found(ExportRefusal::Journal(fault))
 }
 
