@@ -223,8 +223,10 @@ impl Files for MemoryFiles {
         let file = match self.contents_of(path)? {
             Some(_) if how.asks_create_new() => return Err(Error::from(ErrorKind::AlreadyExists)),
             Some(contents) if !how.asks_truncate() => MemoryFile::Opened(contents, 0),
-            _ if how.asks_create() || how.asks_create_new() =>
-                MemoryFile::Opened(self.make(path)?, 0),
+            _ if how.asks_create() || how.asks_create_new() => MemoryFile::Opened(
+                self.make(path)?,
+                0,
+            ),
             _ if self.is_folder(path)? => MemoryFile::Folder,
             _ => return Err(Error::from(ErrorKind::NotFound)),
         };

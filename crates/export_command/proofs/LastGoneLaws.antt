@@ -92,12 +92,12 @@ pub stands_behind : (actions : List Action) (number key : ℕ) (last : Option �
 stands_behind actions number key None is = sym (ap not (none-dropped (goes_by key) actions number is))
 stands_behind actions number key (Some gone) is = elim (cases_Bool (nat_le gone number)) [
   | inl within ↦
-    let none = none-later (goes_by key) actions gone number (leb-true gone number within) is.4 in
-    within ∙ sym (ap not none)
+      let none = none-later (goes_by key) actions gone number (leb-true gone number within) is.4 in
+      within ∙ sym (ap not none)
   | inr before ↦
-    let later : number ≤ gone - 1 = let less = leb-false gone number before in omega (arith, less) in
-    let found = found-later (goes_by key) actions (gone - 1) number is.0 is.1 is.3 later in
-    before ∙ sym (ap not found)
+      let later : number ≤ gone - 1 = let less = leb-false gone number before in omega (arith, less) in
+      let found = found-later (goes_by key) actions (gone - 1) number is.0 is.1 is.3 later in
+      before ∙ sym (ap not found)
 ]
 
 -- one action more

@@ -109,7 +109,7 @@ without-it key [] = tt
 without-it key (line ∷ lines) =
     let rest = without-it key lines in
     let step : (b : Bool) → is_of key line ≡ b
-        → AreOfOthers key (cond (not b) (line ∷ lines_without key lines) (lines_without key lines)) = elim [
+    → AreOfOthers key (cond (not b) (line ∷ lines_without key lines) (lines_without key lines)) = elim [
       | true ↦ λ is. rest
       | false ↦ λ is. (is, rest)
     ] in
@@ -212,7 +212,7 @@ good-action base lines (Add order) good is none =
 good-action base lines (Amend order) good is none =
     let key = order_key order in
     let step : (b : Bool) → (if b then order_cause base (lines_without key lines) order else Some
-        (cause.AmendAbsent key)) ≡ None → order_cause base (lines_without key lines) order ≡ None = elim [
+    (cause.AmendAbsent key)) ≡ None → order_cause base (lines_without key lines) order ≡ None = elim [
       | true ↦ λ e. e
       | false ↦ λ e. absurd cc
     ] in

@@ -91,7 +91,10 @@ fn tell_commits<E: Write>(err: &mut E, found: &JournalTables) {
     let commits = found.tables.commits();
     let _ = match found.torn {
         0 => writeln!(err, "ssb_live: journal: {commits} commits"),
-        torn => writeln!(err, "ssb_live: journal: {commits} commits, {torn} bytes torn"),
+        torn => writeln!(
+            err,
+            "ssb_live: journal: {commits} commits, {torn} bytes torn"
+        ),
     };
 }
 

@@ -66,9 +66,7 @@ impl<'a, F: Files> ExportFolder<'a, F> {
         match is_free {
             Ok(true) => Ok(folder),
             Ok(false) => Err(ExportFault::Found(ExportRefusal::Folder(NotEmpty))),
-            Err(_) => Err(ExportFault::Program(Fault::CannotRead(String::from_str(
-                alloc, path,
-            )?))),
+            Err(_) => Err(ExportFault::Program(Fault::CannotRead(String::from_str(alloc, path)?))),
         }
     }
 
