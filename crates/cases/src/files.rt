@@ -2,12 +2,14 @@
 
 use crate::breaking::Breaking;
 use crate::case::Break;
+use journal_file::{JournalFile, OpenError};
 use small_data::{CUSTOMER, DATE, LINEORDER, PART, SUPPLIER};
 use std::alloc::{Allocator, Global};
-use std::collections::BTreeMap;
+use std::collections::{BTreeMap, BTreeSet};
 use std::fs::{Metadata, OpenFile, OpenOptions};
 use std::io;
-use std::io::{Error, ErrorKind, Read, Seek, SeekFrom, Write};
+use std::io::{Cursor, Error, ErrorKind, Read, Seek, SeekFrom, Write};
+use std::os::unix::fs::FileExt;
 use std::rt::Files;
 use std::sync::{Arc, Mutex, MutexGuard};
 use std::thread::yield_now;
@@ -30,12 +32,13 @@ pub fn hold<T>(lock: &Mutex<T>) -> io::Result<MutexGuard<'_, T>> {
     Err(Error::from(ErrorKind::WouldBlock))
 }
 
-/// Files by their paths, which threads share. A path that has none is a folder where it stands before a slash of one
-/// that has.
+/// Files by their paths, which threads share. A path that has none is a folder where it was made one, or stands before
+/// a slash of one that has.
 #[derive(Drop)]
 pub struct MemoryFiles {
     alloc: Global,
     files: Mutex<BTreeMap<String, FileBytes>>,
+    folders: Mutex<BTreeSet<String>>,
     breaks: Mutex<BTreeMap<String, usize>>,
 }
 
@@ -56,7 +59,7 @@ impl Stream {
     /// What the command writes to.
     pub fn writer(&self) -> io::Result<BreakingFile> {
         let file = MemoryFile::Opened(Arc::try_clone(&self.contents)?, 0);
-        Ok(BreakingFile(Breaking::new(file, self.after)))
+        BreakingFile::new(file, self.after)
     }
 
     /// What was written.
@@ -76,7 +79,12 @@ pub enum MemoryFile {
 
 /// A file of [`MemoryFiles`] that may fail behind its first bytes.
 #[derive(Drop)]
-pub struct BreakingFile(Breaking<MemoryFile>);
+pub struct BreakingFile {
+    file: Breaking<MemoryFile>,
+    // The bytes of the file, and behind how many of them a write at a place fails.
+    contents: Option<FileBytes>,
+    after: Option<usize>,
+}
 
 impl MemoryFiles {
     /// The small data set in the folder `small`.
@@ -84,6 +92,7 @@ impl MemoryFiles {
         let files = MemoryFiles {
             alloc,
             files: Mutex::new(BTreeMap::new(alloc)),
+            folders: Mutex::new(BTreeSet::new(alloc)),
             breaks: Mutex::new(BTreeMap::new(alloc)),
         };
         for (path, text) in [
@@ -134,10 +143,13 @@ impl MemoryFiles {
     // This file of this path, as it is opened: it may fail behind its first bytes.
     fn opened(&self, path: &str, file: MemoryFile) -> io::Result<BreakingFile> {
         let after = hold(&self.breaks)?.get(path).copied();
-        Ok(BreakingFile(Breaking::new(file, after)))
+        BreakingFile::new(file, after)
     }
 
     fn is_folder(&self, path: &str) -> io::Result<bool> {
+        if path == "." || hold(&self.folders)?.contains(path) {
+            return Ok(true);
+        }
         let files = hold(&self.files)?;
         Ok(
             files.keys().any(|file| match file.strip_prefix(path) {
@@ -147,15 +159,42 @@ impl MemoryFiles {
         )
     }
 
+    // The names of what is in a folder, each ended by a NUL, as often as files have it.
+    fn names_in(&self, folder: &str) -> io::Result<Vec<u8>> {
+        let mut names = Vec::new(self.alloc);
+        let files = hold(&self.files)?;
+        for file in files.keys() {
+            let Some(rest) = file.strip_prefix(folder) else {
+                continue;
+            };
+            let Some(within) = rest.strip_prefix("/") else {
+                continue;
+            };
+            let name = match within.split_once('/') {
+                Some((name, _)) => name,
+                None => within,
+            };
+            names.extend_from_slice(name.as_bytes())?;
+            names.push(0)?;
+        }
+        Ok(names)
+    }
+
+    // Whether the folder that a path lies in is there.
+    fn has_parent(&self, path: &str) -> io::Result<bool> {
+        match path.rsplit_once('/') {
+            Some((folder, _)) => self.is_folder(folder),
+            None => Ok(true),
+        }
+    }
+
     // An empty file at this path, in a folder that is there.
     fn make(&self, path: &str) -> io::Result<FileBytes> {
         if self.is_folder(path)? {
             return Err(Error::from(ErrorKind::IsADirectory));
         }
-        if let Some((folder, _)) = path.rsplit_once('/') {
-            if !self.is_folder(folder)? {
-                return Err(Error::from(ErrorKind::NotFound));
-            }
+        if !self.has_parent(path)? {
+            return Err(Error::from(ErrorKind::NotFound));
         }
         self.put(path, &[])?;
         self.contents_of(path)?
@@ -178,23 +217,31 @@ fn unsupported<T>() -> io::Result<T> {
 impl Files for MemoryFiles {
     type File = BreakingFile;
 
-    type Dir = io::Empty;
+    type Dir = Cursor<Vec<u8>>;
 
     fn open_file(&self, how: &OpenOptions, path: &str) -> io::Result<BreakingFile> {
-        let file = if how.asks_create() {
-            MemoryFile::Opened(self.make(path)?, 0)
-        } else {
-            match self.contents_of(path)? {
-                Some(contents) => MemoryFile::Opened(contents, 0),
-                None if self.is_folder(path)? => MemoryFile::Folder,
-                None => return Err(Error::from(ErrorKind::NotFound)),
-            }
+        let file = match self.contents_of(path)? {
+            Some(_) if how.asks_create_new() => return Err(Error::from(ErrorKind::AlreadyExists)),
+            Some(contents) if !how.asks_truncate() => MemoryFile::Opened(contents, 0),
+            _ if how.asks_create() || how.asks_create_new() => MemoryFile::Opened(
+                self.make(path)?,
+                0,
+            ),
+            _ if self.is_folder(path)? => MemoryFile::Folder,
+            _ => return Err(Error::from(ErrorKind::NotFound)),
         };
         self.opened(path, file)
     }
 
-    fn open_dir(&self, _path: &str) -> io::Result<io::Empty> {
-        unsupported()
+    fn open_dir(&self, path: &str) -> io::Result<Cursor<Vec<u8>>> {
+        let folder = path.strip_suffix("/").unwrap_or(path);
+        if self.is_folder(folder)? {
+            return Ok(Cursor::new(self.names_in(folder)?));
+        }
+        Err(Error::from(match self.contents_of(folder)? {
+            Some(_) => ErrorKind::NotADirectory,
+            None => ErrorKind::NotFound,
+        }))
     }
 
     fn metadata(&self, _path: &str) -> io::Result<Metadata> {
@@ -209,16 +256,31 @@ impl Files for MemoryFiles {
         unsupported()
     }
 
-    fn rename(&self, _from: &str, _to: &str) -> io::Result<()> {
-        unsupported()
+    fn rename(&self, from: &str, to: &str) -> io::Result<()> {
+        let to = String::from_str(self.alloc, to)?;
+        let mut files = hold(&self.files)?;
+        match files.remove(from) {
+            Some(contents) => {
+                files.insert(to, contents)?;
+                Ok(())
+            }
+            None => Err(Error::from(ErrorKind::NotFound)),
+        }
     }
 
     fn remove_file(&self, _path: &str) -> io::Result<()> {
         unsupported()
     }
 
-    fn create_dir(&self, _path: &str) -> io::Result<()> {
-        unsupported()
+    fn create_dir(&self, path: &str) -> io::Result<()> {
+        if self.is_folder(path)? || self.contents_of(path)?.is_some() {
+            return Err(Error::from(ErrorKind::AlreadyExists));
+        }
+        if !self.has_parent(path)? {
+            return Err(Error::from(ErrorKind::NotFound));
+        }
+        hold(&self.folders)?.insert(String::from_str(self.alloc, path)?)?;
+        Ok(())
     }
 
     fn remove_dir(&self, _path: &str) -> io::Result<()> {
@@ -262,19 +324,40 @@ impl Write for MemoryFile {
     }
 }
 
+impl BreakingFile {
+    fn new(file: MemoryFile, after: Option<usize>) -> io::Result<BreakingFile> {
+        let contents = match &file {
+            MemoryFile::Opened(contents, _) => Some(Arc::try_clone(contents)?),
+            MemoryFile::Folder => None,
+        };
+        Ok(BreakingFile {
+            file: Breaking::new(file, after),
+            contents,
+            after,
+        })
+    }
+
+    // The bytes of the file; a folder has none.
+    fn contents(&self) -> io::Result<&FileBytes> {
+        self.contents
+            .as_ref()
+            .ok_or(Error::from(ErrorKind::IsADirectory))
+    }
+}
+
 impl Read for BreakingFile {
     fn read(&mut self, buf: &mut [u8]) -> io::Result<usize> {
-        self.0.read(buf)
+        self.file.read(buf)
     }
 }
 
 impl Write for BreakingFile {
     fn write(&mut self, buf: &[u8]) -> io::Result<usize> {
-        self.0.write(buf)
+        self.file.write(buf)
     }
 
     fn flush(&mut self) -> io::Result<()> {
-        self.0.flush()
+        self.file.flush()
     }
 }
 
@@ -289,15 +372,48 @@ impl OpenFile for BreakingFile {
         unsupported()
     }
 
-    fn set_len(&self, _size: u64) -> io::Result<()> {
-        unsupported()
+    fn set_len(&self, size: u64) -> io::Result<()> {
+        hold(self.contents()?)?.resize(size as usize, 0)?;
+        Ok(())
     }
 
     fn sync_all(&self) -> io::Result<()> {
-        unsupported()
+        Ok(())
     }
 
     fn sync_data(&self) -> io::Result<()> {
+        Ok(())
+    }
+}
+
+impl FileExt for BreakingFile {
+    fn read_at(&self, _buf: &mut [u8], _offset: u64) -> io::Result<usize> {
         unsupported()
+    }
+
+    fn write_at(&self, buf: &[u8], offset: u64) -> io::Result<usize> {
+        let at = offset as usize;
+        let room = match self.after {
+            Some(after) if after <= at => return Err(Error::from(ErrorKind::Other)),
+            Some(after) => after - at,
+            None => buf.len(),
+        };
+        let part = &buf[..buf.len().min(room)];
+        let mut contents = hold(self.contents()?)?;
+        let end = at.saturating_add(part.len());
+        if contents.len() < end {
+            contents.resize(end, 0)?;
+        }
+        for (byte, new) in contents.iter_mut().skip(at).zip(part.iter()) {
+            *byte = *new;
+        }
+        Ok(part.len())
+    }
+}
+
+// Commands run one after another: nobody else has a file.
+impl JournalFile for BreakingFile {
+    fn lock_alone(&self) -> Result<(), OpenError> {
+        Ok(())
     }
 }

@@ -87,9 +87,26 @@ A client sends the records of a script: a line 'query|NAME' or 'query|NAME|CONST
 follow. A request with a fault is answered 'fault: ..', and does nothing. The end of the input ends the session. On a
 terminal the word 'help' shows the queries and their constants.
 
+With --journal the commits are kept in FILE, which is made where there is none: a receipt is told when its commit is on
+the disk, an answer when every commit that it saw is. The next server with that FILE, over the same tables, goes on from
+there, whatever ended this one.
+
 Examples:
   ssb_live serve --data tables
+  ssb_live serve --data tables --journal orders.journal
   mkfifo in out; ssb_live serve --data tables --keep --client in out";
+
+const EXPORT_HELP: &str = "\
+Reads the commits that 'ssb_live serve --journal' kept in FILE, over the same five table files of a folder, and writes
+the tables as they are after them into FOLDER, which is made where there is none, and must be empty: the dimensions in
+their order, the loaded lines that still stand, and then those of commits in the order of the commits. Other programs
+can load them, and a new journal can begin over them. FILE is as it was.
+
+The tables are written under other names and named once they are on the disk, lineorder.tbl last: a folder that has it
+has all five. What a run that failed has left in FOLDER has to be taken away by hand.
+
+Example:
+  ssb_live export --data tables --journal orders.journal --to tables-2";
 
 /// What the word `help` shows on the terminal of a live session.
 pub const TERMINAL_HELP: &str = "\
@@ -239,6 +256,13 @@ fn serve_command<'a>(alloc: Global) -> Result<Command<'a>, AllocError> {
         .long("keep")
         .help("Opens a client's named pipes again for its next session; a signal ends the server")
         .action(ArgAction::SetTrue);
+    let journal = Arg::new(alloc, "journal")
+        .long("journal")
+        .value_name("FILE")
+        .help(
+            "Where the commits are kept: clients are told nothing before it is on the disk; the next server goes on from it",
+        )
+        .action(ArgAction::Set);
     Command::new(alloc, "serve")
         .about("Serves clients as their requests come: standard input and output, or named pipes")
         .long_about(SERVE_HELP)
@@ -246,6 +270,7 @@ fn serve_command<'a>(alloc: Global) -> Result<Command<'a>, AllocError> {
         .arg(dispatchers_argument(alloc))?
         .arg(clients)?
         .arg(keep)?
+        .arg(journal)?
         .arg(quiet_argument(alloc))
 }
 
@@ -264,6 +289,29 @@ fn audit_command<'a>(alloc: Global) -> Result<Command<'a>, AllocError> {
         .arg(trace)
 }
 
+// The words of `export`.
+fn export_command<'a>(alloc: Global) -> Result<Command<'a>, AllocError> {
+    let journal = Arg::new(alloc, "journal")
+        .long("journal")
+        .value_name("FILE")
+        .help("The journal of a server over these tables; it is as it was")
+        .required(true)
+        .action(ArgAction::Set);
+    let folder = Arg::new(alloc, "to")
+        .long("to")
+        .value_name("FOLDER")
+        .help("Where the tables are written: a folder that is not there, or is empty")
+        .required(true)
+        .action(ArgAction::Set);
+    Command::new(alloc, "export")
+        .about("Writes the tables as they are after the commits of a journal")
+        .long_about(EXPORT_HELP)
+        .arg(data_argument(alloc))?
+        .arg(journal)?
+        .arg(folder)?
+        .arg(quiet_argument(alloc))
+}
+
 // All words of the program.
 fn command<'a>(alloc: Global) -> Result<Command<'a>, AllocError> {
     Command::new(alloc, "ssb_live")
@@ -275,7 +323,8 @@ fn command<'a>(alloc: Global) -> Result<Command<'a>, AllocError> {
         .subcommand(query_command(alloc)?)?
         .subcommand(run_command(alloc)?)?
         .subcommand(serve_command(alloc)?)?
-        .subcommand(audit_command(alloc)?)
+        .subcommand(audit_command(alloc)?)?
+        .subcommand(export_command(alloc)?)
 }
 
 /// The words of the command line, the program's name first.

@@ -4,12 +4,17 @@ use crate::arguments::{TERMINAL_HELP, matches, tell};
 use crate::streams::Streams;
 use audit_command::run_audit;
 use clap::ArgMatches;
+use export_command::{ExportPlace, run_export};
+use journal_file::JournalFile;
 use query_command::{Settings, run_all, run_query};
 use run_command::{RunSettings, demo, run_scripts};
-use serve_command::{EndPaths, Prompted, ServeSettings, serve_clients, serve_stream};
+use serve_command::{
+    EndPaths, JournalPlace, Prompted, ServeSettings, serve_clients, serve_clients_journaled,
+    serve_stream, serve_stream_journaled,
+};
 use ssb_files::{
-    Fault, InputSource, Screen, make_file, open_file, open_files, open_tables, watch,
-    watch_scripts, watch_tables,
+    Fault, InputSource, Screen, TableBytes, count_tables, make_file, open_file, open_files,
+    open_tables, watch, watch_scripts, watch_tables,
 };
 use ssb_text::Tables;
 use std::alloc::Global;
@@ -151,6 +156,15 @@ struct OpenedServer<O: Drop> {
     clients: Vec<EndPaths>,
 }
 
+// Whom a live server serves.
+#[derive(Drop)]
+enum Served<I: Drop, O: Drop> {
+    // Clients, each over its own two ends, and whether these are opened again.
+    Paths(Vec<EndPaths>, bool),
+    // One, over standard input and output.
+    Streams(I, O),
+}
+
 // Opens the tables of a live server. Its clients open their own ends.
 fn open_server<R: RandomSource, F: Files + AllocGlobal>(
     rt: &R,
@@ -173,6 +187,52 @@ fn open_server<R: RandomSource, F: Files + AllocGlobal>(
     })
 }
 
+// The journal's place, where the words name one.
+fn journal_place<'a, F: Files>(
+    files: &'a F,
+    bytes: &'a TableBytes,
+    matches: &'a ArgMatches<'_>,
+) -> Option<JournalPlace<'a, F>> {
+    Some(JournalPlace {
+        files,
+        path: matches.get_str("journal")?,
+        bytes,
+        tells: !matches.get_flag("quiet"),
+    })
+}
+
+// Serves clients with a journal, or without one.
+fn serve_whom<R, F, T: Read + Drop, I: Read + Drop + Send, W: Write + Drop + Send, E: Print + Sync>(
+    rt: &R,
+    files: &F,
+    journal: Option<&JournalPlace<'_, F>>,
+    settings: ServeSettings,
+    tables: Tables<T>,
+    whom: Served<I, W>,
+    errors: &E,
+) -> u8
+where
+    R: Clock + RandomSource + Threads + Sync + Wait + AllocGlobal,
+    F: Files + Sync + AllocGlobal,
+    F::File: JournalFile + Send,
+    F::Dir: Send,
+{
+    match (whom, journal) {
+        (Served::Paths(clients, keeps), None) => {
+            serve_clients(rt, settings, tables, files, clients, keeps, errors)
+        }
+        (Served::Paths(clients, keeps), Some(place)) => {
+            serve_clients_journaled(rt, settings, tables, place, clients, keeps, errors)
+        }
+        (Served::Streams(input, output), None) => {
+            serve_stream(rt, settings, tables, input, output, errors).status
+        }
+        (Served::Streams(input, output), Some(place)) => {
+            serve_stream_journaled(rt, settings, tables, place, input, output, errors).status
+        }
+    }
+}
+
 // Serves clients over the files of a folder: those that the words name, or else standard input and output.
 fn serve_live<R, F, I: Read + Drop + Send, W: Write + Drop + Send, E: Print + Sync>(
     rt: &R,
@@ -183,7 +243,7 @@ fn serve_live<R, F, I: Read + Drop + Send, W: Write + Drop + Send, E: Print + Sy
 where
     R: Clock + RandomSource + Threads + Sync + Wait + AllocGlobal,
     F: Files + Sync + AllocGlobal,
-    F::File: Send,
+    F::File: JournalFile + Send,
     F::Dir: Send,
 {
     let Streams {
@@ -204,15 +264,21 @@ where
     let terminal = if shows_progress { Some(errors) } else { None };
     let screen = screen_of(rt, matches, terminal);
     let tables = watch_tables(screen.as_ref(), tables);
+    let bytes = TableBytes::new();
+    let tables = count_tables(&bytes, tables);
+    let place = journal_place(files, &bytes, matches);
+    let journal = place.as_ref();
     if !clients.is_empty() {
-        let keeps = matches.get_flag("keep");
-        return serve_clients(rt, settings, tables, files, clients, keeps, errors);
+        let whom: Served<I, W> = Served::Paths(clients, matches.get_flag("keep"));
+        return serve_whom(rt, files, journal, settings, tables, whom, errors);
     }
     if is_typed {
         let typed = Prompted::new(rt.alloc(), input, io::writer(errors), TERMINAL_HELP);
-        return serve_stream(rt, settings, tables, typed, output, errors).status;
+        let whom = Served::Streams(typed, output);
+        return serve_whom(rt, files, journal, settings, tables, whom, errors);
     }
-    serve_stream(rt, settings, tables, input, output, errors).status
+    let whom = Served::Streams(input, output);
+    serve_whom(rt, files, journal, settings, tables, whom, errors)
 }
 
 // Checks a trace over the files of a folder.
@@ -244,6 +310,39 @@ where
     }
 }
 
+// Exports the tables after a journal's commits, over the files of a folder.
+fn export_tables<R, F: Files + AllocGlobal, P: Print, E: Write>(
+    rt: &R,
+    files: &F,
+    matches: &ArgMatches<'_>,
+    terminal: Option<&P>,
+    err: &mut E,
+) -> u8
+where
+    R: Clock + RandomSource + Threads + Sync + AllocGlobal,
+    F::File: JournalFile,
+{
+    let tables = match open_tables(files, matches.get_str("data").unwrap_or("")) {
+        Ok(tables) => tables,
+        Err(fault) => return fault.tell(err),
+    };
+    let screen = screen_of(rt, matches, terminal);
+    let tables = watch_tables(screen.as_ref(), tables);
+    let bytes = TableBytes::new();
+    let tables = count_tables(&bytes, tables);
+    let place = ExportPlace {
+        files,
+        journal: matches.get_str("journal").unwrap_or(""),
+        folder: matches.get_str("to").unwrap_or(""),
+        bytes: &bytes,
+        tells: !matches.get_flag("quiet"),
+    };
+    match RandomState::new(rt) {
+        Ok(hashing) => run_export(rt, hashing, tables, &place, err),
+        Err(_) => Fault::NoRandomness.tell(err),
+    }
+}
+
 // Serves a script. The keys of its orders are hashed at random, so that no client can choose some that collide.
 fn serve_script<R, I: Read + Drop, W: Write, E: Write>(
     rt: &R,
@@ -271,7 +370,7 @@ pub fn run_command_line<R, F, I: Read + Drop + Send, W: Write + Drop + Send, E: 
 where
     R: Clock + RandomSource + Threads + Sync + Wait + AllocGlobal,
     F: Files + Sync + AllocGlobal,
-    F::File: Send,
+    F::File: JournalFile + Send,
     F::Dir: Send,
 {
     let matched = match matches(rt.alloc(), words) {
@@ -295,6 +394,7 @@ where
     match subcommand {
         Some(("run", words)) => serve_scripts(rt, files, words, terminal, out, err),
         Some(("audit", words)) => check_trace(rt, files, words, terminal, out, err),
+        Some(("export", words)) => export_tables(rt, files, words, terminal, err),
         Some((_, words)) => answer_query(rt, files, words, terminal, out, err),
         None => serve_script(rt, input, out, err),
     }

@@ -1,12 +1,13 @@
-//! The words of the program's command line, and which of the five jobs they ask for.
+//! The words of the program's command line, and which of the six jobs they ask for.
 //!
 //! ```text
 //! system ── words ─▶ words ── run_command_line ─┬─ query, run or none, ──────▶ query_command, run_command,
-//!                                               │  audit, serve                  audit_command, serve_command
+//!                                               │  audit, serve, export          audit_command, serve_command,
+//!                                               │                                export_command
 //!                                               └─ help, version, wrong words ─▶ a text and a status
 //! ```
 //!
-//! It stands on `clap` and promises no more than safety: what the jobs write is in the contracts of those four
+//! It stands on `clap` and promises no more than safety: what the jobs write is in the contracts of those five
 //! libraries, and what is written for which words is shown by the cases of the program `cases`.
 //!
 //! ```text

@@ -1,8 +1,11 @@
 //! Every fault that has a number, with the values that the page's words in capitals stand for.
 
+use export_command::NotEmpty;
+use journal_file::OpenError;
 use row_store::Cause;
 use session_requests::RequestError;
 use ssb_audit::AuditFault;
+use ssb_journal::{JournalFault, ReplayFault};
 use ssb_questions::{ConstantsFault, NoSuchQuery, Query};
 use ssb_schema::{C_CITY, SchemaFault, Table};
 use ssb_script::ScriptError;
@@ -160,6 +163,58 @@ impl ListsFaults for AuditFault {
     }
 }
 
+impl ListsFaults for JournalFault {
+    fn first() -> JournalFault {
+        JournalFault::NotAJournal
+    }
+
+    fn next(&self) -> Option<JournalFault> {
+        match self {
+            JournalFault::NotAJournal => Some(JournalFault::OtherTables(Table::Customer)),
+            JournalFault::OtherTables(_) => Some(JournalFault::Damaged(3)),
+            JournalFault::Damaged(_) | JournalFault::OutOfMemory => None,
+        }
+    }
+}
+
+impl ListsFaults for ReplayFault {
+    fn first() -> ReplayFault {
+        ReplayFault::Refused {
+            number: 3,
+            action: 4,
+            cause: Cause::Absent(77),
+        }
+    }
+
+    fn next(&self) -> Option<ReplayFault> {
+        match self {
+            ReplayFault::Refused { .. } | ReplayFault::OutOfMemory => None,
+        }
+    }
+}
+
+impl ListsFaults for OpenError {
+    fn first() -> OpenError {
+        OpenError::InUse
+    }
+
+    fn next(&self) -> Option<OpenError> {
+        match self {
+            OpenError::InUse | OpenError::Io(_) => None,
+        }
+    }
+}
+
+impl ListsFaults for NotEmpty {
+    fn first() -> NotEmpty {
+        NotEmpty
+    }
+
+    fn next(&self) -> Option<NotEmpty> {
+        None
+    }
+}
+
 // Adds the line that each fault of a type prints.
 fn push_lines<F: ListsFaults>(alloc: Global, lines: &mut Vec<String>) -> Result<(), AllocError> {
     let mut fault = F::first();
@@ -185,5 +240,9 @@ pub fn all_lines(alloc: Global) -> Result<Vec<String>, AllocError> {
     push_lines::<ScriptError>(alloc, &mut lines)?;
     push_lines::<RequestError>(alloc, &mut lines)?;
     push_lines::<AuditFault>(alloc, &mut lines)?;
+    push_lines::<JournalFault>(alloc, &mut lines)?;
+    push_lines::<ReplayFault>(alloc, &mut lines)?;
+    push_lines::<OpenError>(alloc, &mut lines)?;
+    push_lines::<NotEmpty>(alloc, &mut lines)?;
     Ok(lines)
 }

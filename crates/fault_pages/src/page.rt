@@ -24,6 +24,8 @@ fn value_of(word: &str) -> &str {
         "KEY" => "77",
         "CLIENT" => "5",
         "K" => "6",
+        "ACTION:" => "4:",
+        "CAUSE" => "47 Absent 77",
         _ => word,
     }
 }

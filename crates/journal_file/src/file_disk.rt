@@ -6,7 +6,7 @@ ghost use Rattle.journal.specs.Calls.{seen_after, left_after, left_during, failu
 use crate::transcript::Transcript;
 use journal::{Disk, DiskError};
 use std::alloc::Global;
-use std::fs::{File, OpenOptions, TryLockError};
+use std::fs::{self, File, OpenFile, OpenOptions, TryLockError};
 use std::io::{self, Read};
 use std::os::unix::fs::FileExt;
 use std::path::Path;
@@ -24,10 +24,26 @@ pub enum OpenError {
     InUse,
 }
 
+/// A file that may keep a journal.
+pub trait JournalFile: FileExt {
+    /// Locks the file, until it is dropped, against other processes and other handles of this one.
+    fn lock_alone(&self) -> Result<(), OpenError>;
+}
+
+impl JournalFile for File {
+    fn lock_alone(&self) -> Result<(), OpenError> {
+        match self.try_lock() {
+            Ok(()) => Ok(()),
+            Err(TryLockError::WouldBlock) => Err(OpenError::InUse),
+            Err(TryLockError::Error(error)) => Err(error.into()),
+        }
+    }
+}
+
 /// A file of the operating system. After a call that fails, each further one fails.
 #[derive(Drop)]
-pub struct FileDisk {
-    file: File,
+pub struct FileDisk<O: Drop> {
+    file: O,
     /// What it held as it was opened, until that is read or changed.
     first: Option<Vec<u8>>,
     is_failed: bool,
@@ -35,42 +51,58 @@ pub struct FileDisk {
     ghost same: { ForSome first (λ bytes. bytes.items ≡ seen_after transcript.calls) },
 }
 
-fn lock(file: &File) -> Result<(), OpenError> {
-    match file.try_lock() {
-        Ok(()) => Ok(()),
-        Err(TryLockError::WouldBlock) => Err(OpenError::InUse),
-        Err(TryLockError::Error(error)) => Err(error.into()),
-    }
-}
-
 /// Syncs the folder in which a file lies, so that its name is on the disk.
-pub(crate) fn sync_folder<R: Files<File = File>>(rt: &R, path: &str) -> io::Result<()> {
+pub(crate) fn sync_folder<R: Files>(files: &R, path: &str) -> io::Result<()> {
     let folder = match Path::new(path).parent() {
         Some(parent) if !parent.as_str().is_empty() => parent.as_str(),
         _ => ".",
     };
-    File::open(rt, folder)?.sync_all()
+    fs::open(files, folder)?.sync_all()
 }
 
-impl FileDisk {
+impl<O: Read + OpenFile + JournalFile + Drop> FileDisk<O> {
     ghost use Rattle.journal_file.specs.FileDisk.{IsFresh};
 
     /// Opens a journal's file, and makes it where there is none. It is locked until the result is dropped.
-    pub fn open<R: Files<File = File>>(
-        rt: &R,
+    pub fn open<R: Files<File = O>>(
+        files: &R,
         alloc: Global,
         path: &str,
-    ) -> Result<FileDisk, OpenError>
+    ) -> Result<FileDisk<O>, OpenError>
         ensures { IfOk result IsFresh }
     {
-        let mut file = OpenOptions::new()
+        let file = OpenOptions::new()
             .read(true)
             .write(true)
             .create(true)
-            .open(rt, path)?;
-        lock(&file)?;
+            .open(files, path)?;
+        Self::locked(files, alloc, path, file)
+    }
+
+    /// Opens a journal's file that is there, to be read alone: no write to it succeeds. It is locked likewise.
+    pub fn open_to_read<R: Files<File = O>>(
+        files: &R,
+        alloc: Global,
+        path: &str,
+    ) -> Result<FileDisk<O>, OpenError>
+        ensures { IfOk result IsFresh }
+    {
+        let file = fs::open(files, path)?;
+        Self::locked(files, alloc, path, file)
+    }
+
+    // Locks a file that was just opened, and reads it.
+    fn locked<R: Files<File = O>>(
+        files: &R,
+        alloc: Global,
+        path: &str,
+        mut file: O,
+    ) -> Result<FileDisk<O>, OpenError>
+        ensures { IfOk result IsFresh }
+    {
+        file.lock_alone()?;
         file.sync_all()?;
-        sync_folder(rt, path)?;
+        sync_folder(files, path)?;
         let mut bytes = Vec::new(alloc);
         file.read_to_end(&mut bytes)?;
         let transcript = Transcript::new(&bytes);
@@ -83,7 +115,7 @@ impl FileDisk {
     }
 }
 
-impl Disk for FileDisk {
+impl<O: OpenFile + JournalFile + Drop> Disk for FileDisk<O> {
     ghost seen = { λ f. seen_after f.transcript.calls };
 
     ghost may_leave = { λ f. left_after f.transcript.calls };

@@ -3,6 +3,7 @@
 //! [`FileDisk::open`] opens a file, makes it where there is none, locks it, syncs it and its folder, and reads it. From
 //! then on each method makes one call of the system and notes it, with whether it succeeded, in a transcript that only
 //! clauses read. The contract is that of `journal`'s `Disk`, over that transcript (`journal/specs/Calls`).
+//! [`FileDisk::open_to_read`] is the same of a file that is there, and no write to it succeeds.
 //!
 //! What no contract can state, and a reader of `src/file_disk` has to hold for true: each method makes the call that
 //! it notes; what `open` reads after `sync_all` is what is on the disk; `sync_data` keeps its promise; the bytes
@@ -13,7 +14,7 @@
 //! [`keep_torn`] puts the bytes that a mend will cut off behind those of a file beside the journal.
 //!
 //! ```text
-//! let disk = FileDisk::open(rt, alloc, "orders.journal")?;
+//! let disk = FileDisk::open(rt, alloc, "orders.journal")?;      // of rt's files: each that is a JournalFile
 //! let (found, contents) = Found::read(alloc, disk)?;
 //! keep_torn(rt, alloc, "orders.journal", contents.torn())?;
 //! let journal = found.mend()?;
@@ -24,5 +25,5 @@ mod file_disk;
 mod torn;
 mod transcript;
 
-pub use file_disk::{FileDisk, OpenError};
+pub use file_disk::{FileDisk, JournalFile, OpenError};
 pub use torn::keep_torn;

@@ -2,18 +2,13 @@
 
 use crate::file_disk::sync_folder;
 use std::alloc::Global;
-use std::fs::{File, OpenOptions};
+use std::fs::{OpenFile, OpenOptions};
 use std::io::{self, Write};
 use std::rt::Files;
 
 /// Puts bytes behind those of the file `PATH.torn`, which is made where there is none, and syncs it and its folder. No
 /// bytes: does nothing.
-pub fn keep_torn<R: Files<File = File>>(
-    rt: &R,
-    alloc: Global,
-    path: &str,
-    torn: &[u8],
-) -> io::Result<()> {
+pub fn keep_torn<R: Files>(files: &R, alloc: Global, path: &str, torn: &[u8]) -> io::Result<()> {
     if torn.is_empty() {
         return Ok(());
     }
@@ -21,8 +16,8 @@ pub fn keep_torn<R: Files<File = File>>(
     let mut file = OpenOptions::new()
         .append(true)
         .create(true)
-        .open(rt, beside.as_str())?;
+        .open(files, beside.as_str())?;
     file.write_all(torn)?;
     file.sync_all()?;
-    sync_folder(rt, path)
+    sync_folder(files, path)
 }

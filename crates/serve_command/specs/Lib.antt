@@ -1,3 +1,4 @@
 pub mod Status
 pub mod Sessions
 pub mod Served
+pub mod Journaled

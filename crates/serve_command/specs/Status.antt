@@ -4,6 +4,11 @@ use Rattle.ssb_files.specs.Status.{job_status}
 use Rattle.ssb_files.specs.declared.job.JobFault.{JobFault}
 use Rattle.serve_command.specs.declared.fault.NotServed.{NotServed}
 use Rattle.serve_command.specs.declared.fault.NotServed.TheVariants as not_served
+use Rattle.serve_command.specs.declared.journal_fault.JournalRefusal.{JournalRefusal}
+use Rattle.serve_command.specs.declared.journal_fault.JournalRefusal.TheVariants as journal_refusal
+use Rattle.journal_opening.specs.Status.{opening_status, replay_status}
+use Rattle.journaled_sessions.specs.declared.fault.JournaledFault.{JournaledFault}
+use Rattle.journaled_sessions.specs.declared.fault.JournaledFault.TheVariants as journaled
 use Rattle.stream_sessions.specs.declared.outcome.Served.{Served}
 use Rattle.stream_sessions.specs.declared.outcome.SessionError.{SessionError}
 
@@ -19,3 +24,17 @@ serving_status fault = job_status not_served_status fault
 abbrev pub session_status : Result Served SessionError → ℕ
 session_status (Ok served) = 0
 session_status (Err error) = 4
+
+-- 1: a commit is refused; 4: no server could be opened, the journal could not be written, or memory ran out
+abbrev pub journaled_status : JournaledFault → ℕ
+journaled_status (journaled.Replay why) = replay_status why
+journaled_status (journaled.NotRun why) = 4
+journaled_status journaled.Disturbed = 4
+journaled_status journaled.Write = 4
+journaled_status journaled.OutOfMemory = 4
+
+-- that of a journal which clients were not served with
+abbrev pub journal_status : JournalRefusal → ℕ
+journal_status journal_refusal.TooManyClients = 2
+journal_status (journal_refusal.Journal why) = opening_status why
+journal_status (journal_refusal.NotServed why) = journaled_status why

@@ -22,10 +22,14 @@
 
 mod ends;
 mod fault;
+mod journal_fault;
+mod journaled;
 mod prompted;
 mod serving;
 mod speakers;
 
 pub use ends::{EndFault, EndPaths, Ends, open_ends};
+pub use journal_fault::JournalRefusal;
+pub use journaled::{JournalPlace, serve_clients_journaled, serve_stream_journaled};
 pub use prompted::Prompted;
 pub use serving::{MOST_CLIENTS, ServeSettings, StreamEnd, serve_clients, serve_stream};

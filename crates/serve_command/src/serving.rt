@@ -102,8 +102,8 @@ where
     Ok(one)
 }
 
-// Tells what broke the only client's session, and gives the exit status.
-fn tell_ended<E: Write>(ended: &Result<Served, SessionError>, err: &mut E) -> u8
+/// Tells what broke the only client's session, and gives the exit status.
+pub(crate) fn tell_ended<E: Write>(ended: &Result<Served, SessionError>, err: &mut E) -> u8
     ensures { result ≡ session_status ended.now }
 {
     match ended {
@@ -153,8 +153,8 @@ where
     }
 }
 
-// The clients of these ends, numbered from 1.
-fn speakers_of<'a, F: Files + AllocGlobal, E: Print>(
+/// The clients of these ends, numbered from 1.
+pub(crate) fn speakers_of<'a, F: Files + AllocGlobal, E: Print>(
     files: &'a F,
     clients: Vec<EndPaths>,
     keeps: bool,

@@ -14,7 +14,9 @@ use std::rt::Files;
 use std::sync::Wait;
 use std::time::{Clock, Duration};
 use std::{fmt, io, thread};
-use stream_sessions::{Served, SessionError, SessionFault, Speaker, Speaks, serve_session};
+use stream_sessions::{
+    Acknowledges, Served, SessionError, SessionFault, Speaker, Speaks, serve_session,
+};
 
 // How many bytes of a client's requests are read at once.
 const READ_AHEAD: usize = 65_536;
@@ -37,9 +39,10 @@ pub struct StreamLeft<O: Write + Drop> {
 }
 
 // A session over a reader and a writer.
-fn serve_over<W: Wait + Drop, R: Wait, I: Read + Drop, O: Write>(
+fn serve_over<W: Wait + Drop, R: Wait, K: Acknowledges, I: Read + Drop, O: Write>(
     rt: &R,
     alloc: Global,
+    acknowledger: &K,
     server: &Server<W>,
     client: &mut Client<W>,
     input: I,
@@ -52,7 +55,7 @@ fn serve_over<W: Wait + Drop, R: Wait, I: Read + Drop, O: Write>(
     ensures same { AreAlike client.old client.new }
 {
     match BufReader::with_capacity(alloc, READ_AHEAD, input) {
-        Ok(mut input) => serve_session(rt, alloc, server, client, &mut input, output),
+        Ok(mut input) => serve_session(rt, alloc, acknowledger, server, client, &mut input, output),
         Err(_) => Err(SessionError {
             answered: 0,
             fault: SessionFault::OutOfMemory,
@@ -68,15 +71,16 @@ impl<I: Read + Drop, O: Write + Drop> Speaker for StreamClient<I, O> {
 }
 
 impl<R: Wait, I: Read + Drop, O: Write + Drop> Speaks<R> for StreamClient<I, O> {
-    fn speak<W: Wait + Drop>(
+    fn speak<W: Wait + Drop, K: Acknowledges>(
         self,
         rt: &R,
         alloc: Global,
+        acknowledger: &K,
         server: &Server<W>,
         client: &mut Client<W>,
     ) -> StreamLeft<O> {
         let StreamClient { input, mut output } = self;
-        let ended = serve_over(rt, alloc, server, client, input, &mut output);
+        let ended = serve_over(rt, alloc, acknowledger, server, client, input, &mut output);
         StreamLeft { output, ended }
     }
 }
@@ -128,10 +132,11 @@ impl<'a, F: Files, E: Print> PathClient<'a, F, E> {
     }
 
     // Opens the ends, and serves a session over them. The end that is read is closed first.
-    fn serve_once<W: Wait + Drop, R: Wait>(
+    fn serve_once<W: Wait + Drop, R: Wait, K: Acknowledges>(
         &self,
         rt: &R,
         alloc: Global,
+        acknowledger: &K,
         server: &Server<W>,
         client: &mut Client<W>,
     ) -> SessionEnd
@@ -149,9 +154,12 @@ impl<'a, F: Files, E: Print> PathClient<'a, F, E> {
         };
         let comes_again = self.keeps && ends.are_named_pipes();
         let Ends { input, mut output } = ends;
-        match serve_over(rt, alloc, server, client, input, &mut output) {
+        let ended = serve_over(rt, alloc, acknowledger, server, client, input, &mut output);
+        match ended {
             Ok(_) if comes_again => SessionEnd::Again,
             Ok(_) => SessionEnd::Last,
+            // It is told once, and not by each client.
+            Err(_) if acknowledger.has_failed() => SessionEnd::Broken,
             Err(error) => {
                 self.tell(&ClientFault::Session(error.fault));
                 if comes_again {
@@ -172,15 +180,16 @@ impl<'a, F: Files, E: Print> Speaker for PathClient<'a, F, E> {
 }
 
 impl<'a, R: Wait + Clock, F: Files, E: Print> Speaks<R> for PathClient<'a, F, E> {
-    fn speak<W: Wait + Drop>(
+    fn speak<W: Wait + Drop, K: Acknowledges>(
         self,
         rt: &R,
         alloc: Global,
+        acknowledger: &K,
         server: &Server<W>,
         client: &mut Client<W>,
     ) -> bool {
         for _ in rt.forever() {
-            match self.serve_once(rt, alloc, server, client) {
+            match self.serve_once(rt, alloc, acknowledger, server, client) {
                 SessionEnd::Again => {
                     thread::sleep(rt, Duration::from_millis(BETWEEN_SESSIONS));
                 },

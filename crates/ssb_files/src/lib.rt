@@ -23,6 +23,7 @@
 //! ```
 #![tactic(auto)]
 
+mod counting;
 mod fault;
 mod job;
 mod loading;
@@ -30,6 +31,7 @@ mod opening;
 mod progress;
 mod reading;
 
+pub use counting::{Counted, TableBytes, count_tables};
 pub use fault::Fault;
 pub use job::{Finding, JobFault};
 pub use loading::{base_of, base_to_serve};

@@ -21,7 +21,7 @@ use twin_cell::EndsCopies;
 /// A client's token. Contracts see it.
 #[derive(Drop)]
 pub struct Client<W: EndsCopies + Drop> {
-    token: Token<W>,
+    pub(crate) token: Token<W>,
     number: u32,
     asking: bool,
 }

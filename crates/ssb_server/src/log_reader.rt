@@ -1,5 +1,6 @@
 //! Who keeps a journal, and reads the log for it.
 ghost use Rattle.std.specs.Prelude.{◌≡◌, ℕ, ◌≤◌, false, length, drop, IfOk};
+ghost use Rattle.row_store.specs.History.{IsPrefix};
 ghost use Rattle.history_core.specs.declared.event.Who.TheVariants.{Dispatcher as IsNumbered};
 ghost use Rattle.history.specs.Tokens.{IsSound, IsFree};
 ghost use Rattle.history.specs.World.{number_of};
@@ -9,6 +10,7 @@ ghost use Rattle.ssb_server.specs.Tickets.{IsLeft};
 ghost use Rattle.ssb_server.specs.Turns.{IsDispatcher, Fetches};
 
 use crate::bells::Bells;
+use crate::client::Client;
 use crate::copying::copy_and_put;
 use crate::pace::Pace;
 use crate::server::{Server, SharedTable, Token};
@@ -108,6 +110,32 @@ impl<W: EndsCopies + Drop> LogReader<W> {
         ensures sound { IsSound self.new }
     {
         server.table.look(&mut self.token)
+    }
+
+    /// Lets the reader see all that a client has seen: the number of commits that the reader sees then.
+    pub fn meet(&mut self, server: &Server<W>, client: &mut Client<W>) -> u64
+        requires table { self.old.table ≡ server.now }
+        requires client { client.old.table ≡ server.now }
+        ensures length { result ≡ length self.new.seen }
+        ensures looks { Looks self.old self.new }
+        ensures met { IsPrefix client.old.seen self.new.seen }
+        ensures client { Looks client.old client.new }
+        ensures sound { IsSound self.new × IsSound client.new }
+    {
+        server.table.meet(&mut self.token, &mut client.token)
+    }
+
+    /// Lets a client see all that the reader has seen: the number of commits that the client sees then.
+    pub fn show(&mut self, server: &Server<W>, client: &mut Client<W>) -> u64
+        requires table { self.old.table ≡ server.now }
+        requires client { client.old.table ≡ server.now }
+        ensures length { result ≡ length client.new.seen }
+        ensures looks { Looks client.old client.new }
+        ensures shown { IsPrefix self.old.seen client.new.seen }
+        ensures reader { Looks self.old self.new }
+        ensures sound { IsSound self.new × IsSound client.new }
+    {
+        server.table.meet(&mut client.token, &mut self.token)
     }
 
     /// All commits of the log behind the first `taken`. It waits for the row store as a dispatcher does, and has it

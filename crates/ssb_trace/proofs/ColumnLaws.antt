@@ -75,14 +75,14 @@ value-read column kind.Text (Text bytes) fits = rw ((text_kept bytes fits.0).kep
 value-read column (kind.Number least most) (Text bytes) fits = absurd fits
 value-read column kind.Text (Number n) fits = absurd fits
 
-values-read : (t : Table) (front : List (List ℕ)) (kinds : List Kind) (values : List Value)
+pub values_read : (t : Table) (front : List (List ℕ)) (kinds : List Kind) (values : List Value)
     → AllZip IsColumn kinds values
     → values_from t (length front) kinds (front ++ map column_text values) ≡ Ok values
 unfolding values_from
-values-read t front [] [] fit = refl
-values-read t front [] (v ∷ values) fit = absurd fit
-values-read t front (k ∷ kinds) [] fit = absurd fit
-values-read t front (k ∷ kinds) (v ∷ values) fit =
+values_read t front [] [] fit = refl
+values_read t front [] (v ∷ values) fit = absurd fit
+values_read t front (k ∷ kinds) [] fit = absurd fit
+values_read t front (k ∷ kinds) (v ∷ values) fit =
     let there : get_or (front ++ column_text v ∷ map column_text values) (length front) [] ≡ column_text v =
     get_or-append_seam front (column_text v) (map column_text values) [] in
     let later : values_from t (length front + 1) kinds (front ++ column_text v ∷ map column_text values) ≡ Ok values
@@ -90,7 +90,7 @@ values-read t front (k ∷ kinds) (v ∷ values) fit =
     (sym (length-append front (column_text v ∷ [])))
     ∙ (ap (values_from t (length (front ++ column_text v ∷ [])) kinds)
     (sym (append_assoc front (column_text v ∷ []) (map column_text values)))
-    ∙ values-read t (front ++ column_text v ∷ []) kinds values fit.1) in
+    ∙ values_read t (front ++ column_text v ∷ []) kinds values fit.1) in
     rw (there, value-read (record { table = t; place = length front + 1 }) k v fit.0, later) refl
 
 -- what the schema takes is read back
@@ -111,16 +111,16 @@ or-right : (a b : Bool) → (a || b) ≡ false → b ≡ false
 or-right false b e = e
 or-right true b e = absurd cc
 
-number-fits : (column : Column) (least most n : ℕ) → column_fault column (kind.Number least most) (Number n) ≡ None
+pub number_fits : (column : Column) (least most n : ℕ) → column_fault column (kind.Number least most) (Number n) ≡ None
     → n ≤ most
-number-fits column least most n none = elim (cases_Bool (nat_lt n least || nat_lt most n)) [
+number_fits column least most n none = elim (cases_Bool (nat_lt n least || nat_lt most n)) [
   | inl outside ↦ absurd (none-some _ (sym (rw outside at none)))
   | inr within ↦ ltb-false most n (or-right (nat_lt n least) (nat_lt most n) within)
 ]
 
-text-fits : (column : Column) (bytes : List ℕ) → column_fault column kind.Text (Text bytes) ≡ None
+pub text_fits : (column : Column) (bytes : List ℕ) → column_fault column kind.Text (Text bytes) ≡ None
     → is_plain bytes ≡ true
-text-fits column bytes none = elim (cases_Bool (is_plain bytes)) [
+text_fits column bytes none = elim (cases_Bool (is_plain bytes)) [
   | inl plain ↦ plain
   | inr other ↦ elim (cases_Bool (nat_lt 64 (length bytes))) [
     | inl long ↦ absurd (none-some _ (sym (rw long at none)))
@@ -135,19 +135,19 @@ column-fits : (column : Column) (k : Kind) (v : Value) → matches k v ≡ true 
     → column_fault column k v ≡ None → IsColumn k v
 unfolding matches
 column-fits column (kind.Number least most) (Number n) match text none =
-    let within : n ≤ most = number-fits column least most n none in
+    let within : n ≤ most = number_fits column least most n none in
     (within, omega (arith, within, ltb-true most (2 ^ 64) match))
-column-fits column kind.Text (Text bytes) match text none = (text-fits column bytes none, text)
+column-fits column kind.Text (Text bytes) match text none = (text_fits column bytes none, text)
 column-fits column (kind.Number least most) (Text bytes) match text none = absurd (false-true match)
 column-fits column kind.Text (Number n) match text none = absurd (false-true match)
 
-no-first : (f other : Option SchemaFault) → or_else f other ≡ None → f ≡ None
-no-first None other e = refl
-no-first (Some f) other e = absurd cc
+pub no_first : (f other : Option SchemaFault) → or_else f other ≡ None → f ≡ None
+no_first None other e = refl
+no_first (Some f) other e = absurd cc
 
-no-other : (f other : Option SchemaFault) → or_else f other ≡ None → other ≡ None
-no-other None other e = e
-no-other (Some f) other e = absurd cc
+pub no_other : (f other : Option SchemaFault) → or_else f other ≡ None → other ≡ None
+no_other None other e = e
+no_other (Some f) other e = absurd cc
 
 columns-fit : (t : Table) (place : ℕ) (kinds : List Kind) (values : List Value) → all_match kinds values ≡ true
     → AllByRecursion IsColumnText values
@@ -159,9 +159,9 @@ columns-fit t place (k ∷ kinds) [] match texts none = absurd (false-true match
 columns-fit t place (k ∷ kinds) (v ∷ values) match texts none =
     let column : Column = record { table = t; place = place } in (
       column-fits column k v (and-left (matches k v) (all_match kinds values) match) texts.0
-          (no-first (column_fault column k v) (first_fault t (place + 1) kinds values) none),
+          (no_first (column_fault column k v) (first_fault t (place + 1) kinds values) none),
       columns-fit t (place + 1) kinds values (and-right (matches k v) (all_match kinds values) match) texts.1
-          (no-other (column_fault column k v) (first_fault t (place + 1) kinds values) none),
+          (no_other (column_fault column k v) (first_fault t (place + 1) kinds values) none),
     )
 
 row-fits : (t : Table) (values : List Value) → all_match (kinds_of t) values ≡ true → IsTakenRow t values
@@ -200,7 +200,7 @@ unfolding row.row_of
 line_read line allowed =
     let values : values_from table.Lineorder 0 (kinds_of table.Lineorder) (map column_text (line_values line)) ≡ Ok
     (line_values line)
-    = values-read table.Lineorder [] (kinds_of table.Lineorder) (line_values line) (line-fits line allowed) in
+    = values_read table.Lineorder [] (kinds_of table.Lineorder) (line_values line) (line-fits line allowed) in
     rw (values, allowed.taken) refl
 
 -- and their texts are plain
@@ -210,13 +210,13 @@ value-plain kind.Text (Text bytes) fits = (text_kept bytes fits.0).plain
 value-plain (kind.Number least most) (Text bytes) fits = absurd fits
 value-plain kind.Text (Number n) fits = absurd fits
 
-values-plain : (kinds : List Kind) (values : List Value) → AllZip IsColumn kinds values
+pub values_plain : (kinds : List Kind) (values : List Value) → AllZip IsColumn kinds values
     → AllByRecursion IsPlainField (map column_text values)
-values-plain [] [] fit = tt
-values-plain [] (v ∷ values) fit = absurd fit
-values-plain (k ∷ kinds) [] fit = absurd fit
-values-plain (k ∷ kinds) (v ∷ values) fit = (value-plain k v fit.0, values-plain kinds values fit.1)
+values_plain [] [] fit = tt
+values_plain [] (v ∷ values) fit = absurd fit
+values_plain (k ∷ kinds) [] fit = absurd fit
+values_plain (k ∷ kinds) (v ∷ values) fit = (value-plain k v fit.0, values_plain kinds values fit.1)
 
 pub line_plain : (line : LineFields) → IsAllowedLine line
     → AllByRecursion IsPlainField (map column_text (line_values line))
-line_plain line allowed = values-plain (kinds_of table.Lineorder) (line_values line) (line-fits line allowed)
+line_plain line allowed = values_plain (kinds_of table.Lineorder) (line_values line) (line-fits line allowed)

@@ -1,5 +1,6 @@
 mod AnswerLaws
 mod StepLaws
+mod ToldLaws
 mod SessionLaws
 mod EndLaws
 mod WholeScriptLaws

@@ -37,7 +37,7 @@ use Rattle.ssb_sessions.proofs.PlaceLaws.{some_is, get_mapped, map_at, row_at, a
 use Rattle.ssb_sessions.proofs.SessionLaws.{number_in, new_clients_quiet, ready_where}
 use Rattle.ssb_sessions.specs.Sessions.{AreStill, IsReady}
 use Rattle.ssb_sessions.specs.Steps.{AreAlike}
-use Rattle.stream_sessions.specs.Streams.{IsSpoken, IsSpokenTo, IsStreamRun, IsClosedWith}
+use Rattle.stream_sessions.specs.Streams.{AreSpoken, IsSpoken, IsSpokenTo, IsStreamRun, IsClosedWith}
 
 -- one of each more
 pub zip_longer : {X Y : Type 0} (R : X → Y → Type 0) (xs longer : List X) (ys more : List Y) (x : X) (y : Y)
@@ -195,3 +195,61 @@ stream_where Spoken (Ok run) left_in log_in table speakers seats spoken client_o
     (log_in run) count new of_speakers all still closed left_are
 stream_where Spoken (Err e) left_in log_in table speakers seats spoken client_of speaker_of closed_of left_of ended
     count new of_speakers all still closed left_are = closed
+
+-- the clients of seats ask nothing
+pub seats_ask_nothing : {X : Type 0} (table : TableRecord) (clients : List TokenRecord) (seats : List X)
+    (client_of : X → TokenRecord) → map client_of seats ≡ clients → All (IsQuiet table) clients
+    → All (λ seat. IsQuiet table (client_of seat)) seats
+seats_ask_nothing table clients seats client_of are quiet =
+    all_mapped (IsQuiet table) client_of seats (subst (All (IsQuiet table)) (sym are) quiet)
+
+-- what was spoken to a seat was spoken to its client by its speaker
+spoken_so : {S L : Type 0} (Spoken : S → TokenRecord → TokenRecord → L → Type 0) (seated speaker : S)
+    (sat client ended after : TokenRecord) (remains one : L) → seated ≡ speaker → sat ≡ client → ended ≡ after
+    → remains ≡ one → IsSpoken Spoken seated sat ended remains → IsSpoken Spoken speaker client after one
+spoken_so Spoken seated speaker sat client ended after remains one same_speaker same_client same_end same_left is =
+    subst (λ l. IsSpoken Spoken speaker client after l) same_left
+    (subst (λ t. IsSpoken Spoken speaker client t remains) same_end
+    (subst (λ t. IsSpoken Spoken speaker t ended remains) same_client
+    (subst (λ s. IsSpoken Spoken s sat ended remains) same_speaker is)))
+
+are_spoken : {X Y S L : Type 0} (Spoken : S → TokenRecord → TokenRecord → L → Type 0) (speakers : List S)
+    (clients : List TokenRecord) (seats : List X) (spoken : List Y) (client_of : X → TokenRecord) (speaker_of : X → S)
+    (closed_of : Y → TokenRecord) (left_of : Y → L) → map client_of seats ≡ clients → map speaker_of seats ≡ speakers
+    → AllZip (λ seat one. IsSpoken Spoken (speaker_of seat) (client_of seat) (closed_of one) (left_of one)) seats spoken
+    → AreSpoken Spoken speakers clients (map closed_of spoken) (map left_of spoken)
+are_spoken {X} {Y} Spoken speakers clients seats spoken client_of speaker_of closed_of left_of of_clients of_speakers
+    all =
+    let Fits : X → Y → Type 0 =
+    λ seat one. IsSpoken Spoken (speaker_of seat) (client_of seat) (closed_of one) (left_of one) in
+    let many : length spoken ≡ length speakers =
+    AllZip-long Fits seats spoken all ∙ (sym (length-map seats speaker_of) ∙ ap length of_speakers) in record {
+      closed_each = length-map spoken closed_of ∙ many;
+      left_each = length-map spoken left_of ∙ many;
+      each = λ i speaker client after one at_speaker at_client at_after at_left.
+          let seat = get_mapped speaker_of seats i speaker (ap (λ xs. slice_get xs i) of_speakers ∙ at_speaker) in
+          let end = get_mapped closed_of spoken i after at_after in
+          spoken_so Spoken (speaker_of seat.0) speaker (client_of seat.0) client (closed_of end.0) after
+          (left_of end.0) one seat.2
+          (some_is (sym (map_at client_of seats i seat.0 seat.1)
+          ∙ (ap (λ xs. slice_get xs i) of_clients ∙ at_client)))
+          end.2 (some_is (sym (map_at left_of spoken i end.0 end.1) ∙ at_left))
+          (zip_at Fits seats spoken i seat.0 end.0 all seat.1 end.1);
+    }
+
+-- the same of a result
+pub spoken_where : {X Y S L Z E : Type 0} (Spoken : S → TokenRecord → TokenRecord → L → Type 0) (result : Result Z E)
+    (spoken_in : Z → List Y) (speakers : List S) (clients : List TokenRecord) (seats : List X)
+    (client_of : X → TokenRecord) (speaker_of : X → S) (closed_of : Y → TokenRecord) (left_of : Y → L)
+    → map client_of seats ≡ clients → map speaker_of seats ≡ speakers
+    → IfOk result (λ made. AllZip
+      (λ seat one. IsSpoken Spoken (speaker_of seat) (client_of seat) (closed_of one) (left_of one)) seats
+      (spoken_in made))
+    → IfOk result (λ made. AreSpoken Spoken speakers clients (map closed_of (spoken_in made))
+      (map left_of (spoken_in made)))
+spoken_where Spoken (Ok made) spoken_in speakers clients seats client_of speaker_of closed_of left_of of_clients
+    of_speakers all =
+    are_spoken Spoken speakers clients seats (spoken_in made) client_of speaker_of closed_of left_of of_clients
+    of_speakers all
+spoken_where Spoken (Err e) spoken_in speakers clients seats client_of speaker_of closed_of left_of of_clients
+    of_speakers all = all

@@ -1,4 +1,5 @@
 pub mod FaultLine
+pub mod Told
 pub mod Answers
 pub mod Session
 pub mod Steps

@@ -18,6 +18,15 @@ pub record IsSpoken {S L : Type 0} (Spoken : S → TokenRecord → TokenRecord �
   pub alike : AreAlike client closed
   pub spoken : Spoken speaker client closed left
 
+-- each speaker, in order, was given the client of its place, and kept what it promises of it and of what it left
+pub record AreSpoken {S L : Type 0} (Spoken : S → TokenRecord → TokenRecord → L → Type 0) (speakers : List S)
+    (clients closed : List TokenRecord) (left : List L) : Type 0 where
+  pub closed_each : length closed ≡ length speakers
+  pub left_each : length left ≡ length speakers
+  pub each : (i : ℕ) (speaker : S) (client after : TokenRecord) (one : L) → slice_get speakers i ≡ Some speaker
+      → slice_get clients i ≡ Some client → slice_get closed i ≡ Some after → slice_get left i ≡ Some one
+      → IsSpoken Spoken speaker client after one
+
 -- the new client of this number was served by its speaker, which kept what it promises; what the client sees at the end
 -- is a beginning of the log, and the commits that it made are those of its number in the log
 pub record IsSpokenTo {S L : Type 0} (Spoken : S → TokenRecord → TokenRecord → L → Type 0) (table : TableRecord)

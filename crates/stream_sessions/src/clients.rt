@@ -6,6 +6,7 @@ ghost use Rattle.history.specs.Tokens.{TokenRecord};
 ghost use Rattle.ssb_server.specs.Tickets.{IsQuiet};
 ghost use Rattle.stream_sessions.specs.Streams.{IsSpoken};
 
+use crate::acknowledges::Acknowledges;
 use crate::speaks::{Speaker, Speaks};
 use ssb_server::{Client, Server};
 use std::alloc::{AllocError, Global};
@@ -13,18 +14,19 @@ use std::snapshot::Snapshot;
 use std::sync::Wait;
 use std::thread::{Promise, PromisedHandle, Scope, Threads};
 
-/// A client, and what is to serve it.
+/// A client, what is to serve it, and what has to be before it is told of commits.
 #[derive(Drop)]
-pub(crate) struct Seat<W: Wait + Drop, S: Drop> {
+pub(crate) struct Seat<'a, W: Wait + Drop, S: Drop, K> {
     pub(crate) client: Client<W>,
     pub(crate) speaker: S,
+    pub(crate) acknowledger: &'a K,
 }
 
 /// A client that was served, and what was left.
 #[derive(Drop)]
-pub(crate) struct Spoken<W: Wait + Drop, L: Drop> {
-    pub(crate) client: Client<W>,
-    pub(crate) left: L,
+pub struct Spoken<W: Wait + Drop, L: Drop> {
+    pub client: Client<W>,
+    pub left: L,
 }
 
 /// What contracts see of a seat: its client, and what may be left of it.
@@ -34,7 +36,7 @@ pub(crate) trait Leaves<P> {
     ghost leaves: { Self → P → Type 0 };
 }
 
-impl<W: Wait + Drop, S: Speaker + Drop> Leaves<Spoken<W, S::Left>> for Seat<W, S>
+impl<'a, W: Wait + Drop, S: Speaker + Drop, K> Leaves<Spoken<W, S::Left>> for Seat<'a, W, S, K>
 where
     S::Left: Drop,
 {
@@ -51,16 +53,20 @@ pub(crate) trait TakesSeat<W: Wait + Drop, R, P>: Leaves<P> {
         ensures { Self.leaves self result };
 }
 
-impl<W: Wait + Drop, R, S: Speaks<R> + Drop> TakesSeat<W, R, Spoken<W, S::Left>> for Seat<W, S>
+impl<'a, W, R, S, K> TakesSeat<W, R, Spoken<W, S::Left>> for Seat<'a, W, S, K>
 where
+    W: Wait + Drop,
+    S: Speaks<R> + Drop,
+    K: Acknowledges,
     S::Left: Drop,
 {
     fn take(self, rt: &R, alloc: Global, server: &Server<W>) -> Spoken<W, S::Left> {
         let Seat {
             mut client,
             speaker,
+            acknowledger,
         } = self;
-        let left = speaker.speak(rt, alloc, server, &mut client);
+        let left = speaker.speak(rt, alloc, acknowledger, server, &mut client);
         // Who waits for the row store was to be woken by one of the commits that this client makes no more.
         server.ring();
         Spoken { client, left }

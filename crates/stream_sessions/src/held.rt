@@ -1,16 +1,29 @@
 //! The replies that are held until the server waits for its client.
 
-ghost use Rattle.std.specs.Prelude.{◌≡◌, [], MatchResult};
+ghost use Rattle.std.specs.Prelude.{◌≡◌, [], length, OnOk, MatchResult};
 ghost use Rattle.std.specs.Io.KnownBytes.{Appends};
 ghost use Rattle.ssb_report.specs.Written.{AppendsPart};
+ghost use Rattle.stream_sessions.specs.Told.{MayBeToldOf};
 ghost use Rattle.stream_sessions.specs.declared.outcome.SessionFault.TheVariants.{Write as FailedWrite};
 
+use crate::acknowledges::Acknowledges;
 use crate::outcome::SessionFault;
 use ssb_report::write_bytes;
+use ssb_server::Client;
+use std::alloc::Global;
 use std::io::Write;
+use std::sync::Wait;
 
-/// Writes the replies that are held, and has the writer hand them on. Replies leave a session by this function alone.
-pub(crate) fn hand_on<O: Write>(output: &mut O, replies: &mut Vec<u8>) -> Result<(), SessionFault>
+// Writes the replies that are held, and has the writer hand them on: with the evidence in hand of all commits that the
+// client has seen.
+fn write_held<W: Wait + Drop, K: Acknowledges, O: Write>(
+    _acknowledger: &K,
+    _client: &Client<W>,
+    _evidence: K::Evidence,
+    output: &mut O,
+    replies: &mut Vec<u8>,
+) -> Result<(), SessionFault>
+    requires evidence { K.covers _evidence (length _client.now.seen) }
     ensures handed { MatchResult result
         (λ _. Appends (O.contents output.old) (O.contents output.new) replies.old.items × (replies.new.items ≡ []))
         (λ fault. AppendsPart (O.contents output.old) (O.contents output.new) replies.old.items
@@ -27,6 +40,28 @@ pub(crate) fn hand_on<O: Write>(output: &mut O, replies: &mut Vec<u8>) -> Result
             replies.clear();
             Ok(())
         }
+        Err(_) => Err(SessionFault::Write),
+    }
+}
+
+/// Writes the replies that are held, once all commits that the client has seen may be told, and has the writer hand
+/// them on. Replies leave a session by this function alone.
+pub(crate) fn hand_on<W: Wait + Drop, R: Wait, K: Acknowledges, O: Write>(
+    rt: &R,
+    alloc: Global,
+    acknowledger: &K,
+    client: &Client<W>,
+    output: &mut O,
+    replies: &mut Vec<u8>,
+) -> Result<(), SessionFault>
+    ensures handed { MatchResult result
+        (λ _. Appends (O.contents output.old) (O.contents output.new) replies.old.items × (replies.new.items ≡ []))
+        (λ fault. AppendsPart (O.contents output.old) (O.contents output.new) replies.old.items
+        × (fault ≡ FailedWrite)) }
+    ensures told { OnOk result (MayBeToldOf K.covers (length client.now.seen)) }
+{
+    match acknowledger.acknowledge(rt, alloc, client.seen()) {
+        Ok(evidence) => write_held(acknowledger, client, evidence, output, replies),
         Err(_) => Err(SessionFault::Write),
     }
 }

@@ -16,6 +16,9 @@
 //! changed nothing (`specs/Answers.antt`); the client went through exactly those, in order; and this text was written.
 //! A session that breaks says how many requests were answered.
 //!
+//! Replies leave with evidence in hand ([`Acknowledges`]): of all commits that the client has seen then, so of all that a
+//! receipt or an answer tells of. A server without a journal tells at once ([`AtOnce`]), and pays nothing.
+//!
 //! A law (`specs/WholeScripts.antt`): a legal script without lone CRs and byte order marks has the replies of the whole
 //! script though it is answered request by request.
 //!
@@ -25,11 +28,12 @@
 //! claimed by no proof.
 //!
 //! ```text
-//! let served = serve_session(rt, alloc, &server, &mut client, &mut input, &mut output)?;
+//! let served = serve_session(rt, alloc, &AtOnce, &server, &mut client, &mut input, &mut output)?;
 //! let run = serve_streams(&rt, rt.alloc(), hashing, base, speakers, 2)?;
 //! ```
 #![tactic(auto)]
 
+mod acknowledges;
 mod answer;
 mod clients;
 mod fault_line;
@@ -42,8 +46,11 @@ mod step;
 mod streams;
 mod threads;
 
+pub use acknowledges::{Acknowledges, AtOnce, NotAcknowledged, Nothing};
+pub use clients::Spoken;
 pub use fault_line::write_fault_line;
 pub use outcome::{Ending, Served, SessionError, SessionFault};
 pub use session::serve_session;
 pub use speaks::{Speaker, Speaks};
-pub use streams::{StreamRun, serve_streams};
+pub use streams::{StreamRun, serve_opened, serve_streams};
+pub use threads::Ended;

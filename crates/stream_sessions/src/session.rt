@@ -1,6 +1,6 @@
 //! A live session, from its first request to its last.
 
-ghost use Rattle.std.specs.Prelude.{◌≡◌, ℕ, List, [], Option, false, Err, IfOk, IfErr, MatchResult};
+ghost use Rattle.std.specs.Prelude.{◌≡◌, ◌≢◌, ℕ, List, [], length, Option, false, Err, IfOk, IfErr, OnOk, MatchResult};
 ghost use Rattle.std.specs.Option.{is_some};
 ghost use Rattle.std.specs.Io.Buffered.{reader_remaining};
 ghost use Rattle.history.specs.Tokens.{IsSound, TokenRecord};
@@ -8,7 +8,10 @@ ghost use Rattle.history.specs.World.{number_of};
 ghost use Rattle.ssb_sessions.specs.Steps.{AreAlike};
 ghost use Rattle.stream_sessions.specs.Session.{Breaks, IsServed, Serves};
 ghost use Rattle.stream_sessions.specs.Steps.{EndsHeld, IsHeld};
+ghost use Rattle.stream_sessions.specs.Told.{MayBeToldOf};
+ghost use Rattle.stream_sessions.specs.declared.outcome.SessionFault.TheVariants.{Write as FailedWrite};
 
+use crate::acknowledges::Acknowledges;
 use crate::held::hand_on;
 use crate::outcome::{Ending, Served, SessionError, SessionFault};
 use crate::step::{Step, serve_next};
@@ -18,9 +21,10 @@ use std::io::{BufReader, Read, Write};
 use std::sync::Wait;
 
 // Answers requests until the session ends; the last replies are still held.
-fn answer_all<W: Wait + Drop, R: Wait, I: Read, O: Write>(
+fn answer_all<W: Wait + Drop, R: Wait, K: Acknowledges, I: Read, O: Write>(
     rt: &R,
     alloc: Global,
+    acknowledger: &K,
     server: &Server<W>,
     client: &mut Client<W>,
     input: &mut BufReader<I>,
@@ -41,6 +45,7 @@ fn answer_all<W: Wait + Drop, R: Wait, I: Read, O: Write>(
         match serve_next(
             rt,
             alloc,
+            acknowledger,
             server,
             client,
             input,
@@ -78,17 +83,23 @@ fn answer_all<W: Wait + Drop, R: Wait, I: Read, O: Write>(
 }
 
 // Hands on the last replies of a session that was served to its end.
-fn end<O: Write>(
+fn end<W: Wait + Drop, R: Wait, K: Acknowledges, O: Write>(
+    rt: &R,
+    alloc: Global,
+    acknowledger: &K,
+    client: &Client<W>,
     output: &mut O,
     replies: &mut Vec<u8>,
     served: Served,
 ) -> Result<Served, SessionError>
-    ensures { (number : ℕ) (old new : TokenRecord) (unread left before : Option (List ℕ))
+    ensures ended { (number : ℕ) (old new : TokenRecord) (unread left before : Option (List ℕ))
         → IsHeld before (O.contents output.old) replies.old.items (IsServed served number old new unread left)
         → MatchResult result (λ served. Serves served number old new unread left before (O.contents output.new))
         (λ error. Breaks error number old new unread left before (O.contents output.new)) }
+    ensures told { OnOk result (MayBeToldOf K.covers (length client.now.seen)) }
+    ensures not_told { IfErr result (λ error. error.fault ≡ FailedWrite) }
 {
-    match hand_on(output, replies) {
+    match hand_on(rt, alloc, acknowledger, client, output, replies) {
         Ok(()) => Ok(served),
         Err(fault) => Err(SessionError {
             answered: served.answered,
@@ -98,15 +109,24 @@ fn end<O: Write>(
 }
 
 // Hands on the last replies of a session that broke. What was not written is not tried again.
-fn break_off<O: Write>(output: &mut O, replies: &mut Vec<u8>, error: SessionError) -> SessionError
-    ensures { (number : ℕ) (old new : TokenRecord) (unread left before : Option (List ℕ))
+fn break_off<W: Wait + Drop, R: Wait, K: Acknowledges, O: Write>(
+    rt: &R,
+    alloc: Global,
+    acknowledger: &K,
+    client: &Client<W>,
+    output: &mut O,
+    replies: &mut Vec<u8>,
+    error: SessionError,
+) -> SessionError
+    ensures broken { (number : ℕ) (old new : TokenRecord) (unread left before : Option (List ℕ))
         → EndsHeld (Err error) number old new unread left before (O.contents output.old) replies.old.items
         → Breaks result number old new unread left before (O.contents output.new) }
+    ensures told { result.fault ≢ FailedWrite → MayBeToldOf K.covers (length client.now.seen) }
 {
     if let SessionFault::Write = error.fault {
         return error;
     }
-    match hand_on(output, replies) {
+    match hand_on(rt, alloc, acknowledger, client, output, replies) {
         Ok(()) => error,
         Err(fault) => SessionError {
             answered: error.answered,
@@ -123,14 +143,16 @@ fn break_off<O: Write>(output: &mut O, replies: &mut Vec<u8>, error: SessionErro
 /// answered likewise, where there is any. A request that is too long is told as soon as it is known.
 ///
 /// Replies are held while whole requests are at hand in the input's buffer, 64 KiB of them at most and one more, and
-/// are handed on before the session waits for its client, and at its end. Memory does not grow with the session. It
-/// waits for the rows and for answers; a dispatcher has to take its turns meanwhile.
+/// are handed on before the session waits for its client, and at its end, once there is the evidence of all commits that
+/// the client has seen: receipts and answers tell of those alone. Memory does not grow with the session. It waits for the
+/// rows, for answers and for that evidence; a dispatcher has to take its turns meanwhile.
 ///
-/// A failed read or write, or want of memory, breaks it, and so many requests were answered before. In each case
-/// nothing is outstanding then.
-pub fn serve_session<W: Wait + Drop, R: Wait, I: Read, O: Write>(
+/// A failed read or write, or want of memory, breaks it, and so many requests were answered before. Evidence that is not
+/// got is a failed write: nothing more is written. In each case nothing is outstanding then.
+pub fn serve_session<W: Wait + Drop, R: Wait, K: Acknowledges, I: Read, O: Write>(
     rt: &R,
     alloc: Global,
+    acknowledger: &K,
     server: &Server<W>,
     client: &mut Client<W>,
     input: &mut BufReader<I>,
@@ -144,12 +166,33 @@ pub fn serve_session<W: Wait + Drop, R: Wait, I: Read, O: Write>(
     ensures broken { IfErr result (λ error. Breaks error (number_of client.old.who) client.old client.new
         (reader_remaining I.remaining input.old) (reader_remaining I.remaining input.new)
         (O.contents output.old) (O.contents output.new)) }
+    ensures told { OnOk result (MayBeToldOf K.covers (length client.new.seen)) }
+    ensures told_broken { IfErr result (λ error. error.fault ≢ FailedWrite
+        → MayBeToldOf K.covers (length client.new.seen)) }
     ensures same { AreAlike client.old client.new }
     ensures sound { IsSound client.old → IsSound client.new }
 {
     let mut replies = Vec::new(alloc);
-    match answer_all(rt, alloc, server, client, input, output, &mut replies) {
-        Ok(served) => end(output, &mut replies, served),
-        Err(error) => Err(break_off(output, &mut replies, error)),
+    let answered = answer_all(
+        rt,
+        alloc,
+        acknowledger,
+        server,
+        client,
+        input,
+        output,
+        &mut replies,
+    );
+    match answered {
+        Ok(served) => end(
+            rt,
+            alloc,
+            acknowledger,
+            client,
+            output,
+            &mut replies,
+            served,
+        ),
+        Err(error) => Err(break_off(rt, alloc, acknowledger, client, output, &mut replies, error)),
     }
 }

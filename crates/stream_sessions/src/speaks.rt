@@ -5,6 +5,7 @@ ghost use Rattle.std.specs.Option.{is_some};
 ghost use Rattle.history.specs.Tokens.{TokenRecord};
 ghost use Rattle.ssb_sessions.specs.Steps.{AreAlike};
 
+use crate::acknowledges::Acknowledges;
 use ssb_server::{Client, Server};
 use std::alloc::Global;
 use std::sync::Wait;
@@ -19,12 +20,14 @@ pub trait Speaker {
 }
 
 /// Serves a client in the thread that is started for it: it opens the client's streams, serves one session over them or
-/// several, by [`serve_session`](crate::serve_session), and gives the client back, which asks nothing then.
+/// several, by [`serve_session`](crate::serve_session) with this acknowledger, and gives the client back, which asks
+/// nothing then.
 pub trait Speaks<R>: Speaker {
-    fn speak<W: Wait + Drop>(
+    fn speak<W: Wait + Drop, K: Acknowledges>(
         self,
         rt: &R,
         alloc: Global,
+        acknowledger: &K,
         server: &Server<W>,
         client: &mut Client<W>,
     ) -> Self::Left

@@ -13,6 +13,7 @@ ghost use Rattle.stream_sessions.specs.Steps.{Fails, HandsOn, Steps};
 ghost use Rattle.stream_sessions.specs.declared.outcome.SessionFault.TheVariants.{OutOfMemory, Write as FailedWrite};
 ghost use Rattle.stream_sessions.specs.declared.step.Step.TheVariants.{TooLong};
 
+use crate::acknowledges::Acknowledges;
 use crate::answer::answer;
 use crate::held::hand_on;
 use crate::outcome::SessionFault;
@@ -40,7 +41,11 @@ pub(crate) enum Step {
 }
 
 // Hands the replies on before the session waits for its client, or where many are held.
-fn hand_on_in_time<I: Read, O: Write>(
+fn hand_on_in_time<W: Wait + Drop, R: Wait, K: Acknowledges, I: Read, O: Write>(
+    rt: &R,
+    alloc: Global,
+    acknowledger: &K,
+    client: &Client<W>,
     input: &BufReader<I>,
     output: &mut O,
     replies: &mut Vec<u8>,
@@ -52,7 +57,7 @@ fn hand_on_in_time<I: Read, O: Write>(
     ensures in_time { OnOk result ((replies.new.items ≡ []) ⊎ BeginsWithRequest (reader_buffer input.now)) }
 {
     if replies.len() >= MOST_HELD || !has_request(input.buffer()) {
-        hand_on(output, replies)?;
+        hand_on(rt, alloc, acknowledger, client, output, replies)?;
     }
     Ok(())
 }
@@ -74,9 +79,10 @@ fn tell_too_long(replies: &mut Vec<u8>) -> Result<Step, SessionFault>
 }
 
 /// Takes the next request, answers it, and adds the reply to those that are held.
-pub(crate) fn serve_next<W: Wait + Drop, R: Wait, I: Read, O: Write>(
+pub(crate) fn serve_next<W: Wait + Drop, R: Wait, K: Acknowledges, I: Read, O: Write>(
     rt: &R,
     alloc: Global,
+    acknowledger: &K,
     server: &Server<W>,
     client: &mut Client<W>,
     input: &mut BufReader<I>,
@@ -96,7 +102,7 @@ pub(crate) fn serve_next<W: Wait + Drop, R: Wait, I: Read, O: Write>(
     ensures same { AreAlike client.old client.new }
     ensures sound { IsSound client.old → IsSound client.new }
 {
-    hand_on_in_time(input, output, replies)?;
+    hand_on_in_time(rt, alloc, acknowledger, client, input, output, replies)?;
     let step = match next_request(input, request, MOST_BYTES) {
         Ok(Found::Request) => Step::Request,
         Ok(Found::Rest) => Step::Rest,

@@ -3,16 +3,18 @@
 ghost use Rattle.std.specs.Prelude.{◌≡◌, All, IfOk, IfErr, OnOk, map, vec_len};
 ghost use Rattle.history.specs.Tokens.{new_clients, new_dispatchers};
 ghost use Rattle.ssb_server.specs.Opening.{AreCounts};
+ghost use Rattle.ssb_server.specs.Tickets.{IsOf, IsQuiet};
 ghost use Rattle.ssb_sessions.specs.Run.{IsRunFault};
-ghost use Rattle.ssb_sessions.specs.Sessions.{IsReady};
-ghost use Rattle.stream_sessions.specs.Streams.{IsClosedWith, IsStreamRun};
+ghost use Rattle.ssb_sessions.specs.Sessions.{AreStill, IsReady};
+ghost use Rattle.stream_sessions.specs.Streams.{AreSpoken, IsClosedWith, IsStreamRun};
 
+use crate::acknowledges::{Acknowledges, AtOnce};
 use crate::clients::{Seat, Spoken};
 use crate::speaks::Speaks;
 use crate::threads::{Ended, run_threads};
 use row_store::Commit;
 use ssb_base::Base;
-use ssb_server::{Client, Closed, Opened, Server, open};
+use ssb_server::{Client, Closed, Dispatcher, Opened, Server, open};
 use ssb_sessions::{Batches, RunFault};
 use std::alloc::{AllocError, Global};
 use std::hash::RandomState;
@@ -36,11 +38,12 @@ struct Gathered<W: Wait + Drop, L: Drop> {
 }
 
 // Each client with its speaker.
-fn seats_of<W: Wait + Drop, S: Drop>(
+fn seats_of<'a, W: Wait + Drop, S: Drop, K>(
     alloc: Global,
+    acknowledger: &'a K,
     clients: Vec<Client<W>>,
     speakers: Vec<S>,
-) -> Result<Vec<Seat<W, S>>, AllocError>
+) -> Result<Vec<Seat<'a, W, S, K>>, AllocError>
     requires { vec_len clients ≡ vec_len speakers }
     ensures clients { IfOk result (λ seats. map (λ seat. seat.client) seats.items ≡ clients.items) }
     ensures speakers { IfOk result (λ seats. map (λ seat. seat.speaker) seats.items ≡ speakers.items) }
@@ -51,7 +54,11 @@ fn seats_of<W: Wait + Drop, S: Drop>(
         let Some(speaker) = speakers.next() else {
             unreachable!()
         };
-        seats.push(Seat { client, speaker })?;
+        seats.push(Seat {
+            client,
+            speaker,
+            acknowledger,
+        })?;
     }
     Ok(seats)
 }
@@ -120,9 +127,38 @@ where
         clients,
         dispatchers,
     } = opened;
-    let seats = seats_of(alloc, clients, speakers)?;
+    let at_once = AtOnce;
+    let seats = seats_of(alloc, &at_once, clients, speakers)?;
     let ended = run_threads(rt, alloc, &server, seats, dispatchers)?;
     close(alloc, server, ended)
+}
+
+/// Serves quiet clients of a server that is open already, one for each speaker, each client and each dispatcher in a
+/// thread of its own, and waits until all of them have ended. Replies leave once there is the acknowledger's evidence.
+pub fn serve_opened<W, R, K, S>(
+    rt: &R,
+    alloc: Global,
+    acknowledger: &K,
+    server: &Server<W>,
+    clients: Vec<Client<W>>,
+    dispatchers: Vec<Dispatcher<W>>,
+    speakers: Vec<S>,
+) -> Result<Ended<W, Spoken<W, S::Left>>, AllocError>
+where
+    W: Wait + Drop + Send,
+    R: Wait + Threads + Sync,
+    K: Acknowledges + Sync,
+    S: Speaks<R> + Drop + Send,
+    S::Left: Drop + Send,
+    requires clients { All (IsQuiet server.now) clients.items }
+    requires dispatchers { All (IsOf server.now) dispatchers.items }
+    requires speakers { vec_len clients ≡ vec_len speakers }
+    ensures served { IfOk result (λ ended. AreSpoken S.spoken speakers.items clients.items
+        (map (λ one. one.client) ended.spoken.items) (map (λ one. one.left) ended.spoken.items)) }
+    ensures dispatchers { IfOk result (λ ended. AreStill dispatchers.items ended.dispatchers.items) }
+{
+    let seats = seats_of(alloc, acknowledger, clients, speakers)?;
+    run_threads(rt, alloc, server, seats, dispatchers)
 }
 
 /// Serves 1 to 16 clients, one for each speaker, by 1 to 4 dispatchers over a base, each client and each dispatcher in

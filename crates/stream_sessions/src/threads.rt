@@ -16,10 +16,10 @@ use std::thread::{Scope, Threads};
 
 /// All who took part, after their threads ended.
 #[derive(Drop)]
-pub(crate) struct Ended<W: Wait + Drop, P: Drop> {
-    pub(crate) spoken: Vec<P>,
-    pub(crate) dispatchers: Vec<Dispatcher<W>>,
-    pub(crate) batches: Batches,
+pub struct Ended<W: Wait + Drop, P: Drop> {
+    pub spoken: Vec<P>,
+    pub dispatchers: Vec<Dispatcher<W>>,
+    pub batches: Batches,
 }
 
 // All who are to take part, with room for the clients' threads and for what these leave. The room is made before the

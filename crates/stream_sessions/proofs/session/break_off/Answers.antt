@@ -1,16 +1,16 @@
 use Rattle.stream_sessions.proofs.EndLaws.{broken, broken_twice, broken_writing}
 use Rattle.stream_sessions.proofs.session.break_off.Goals as goal
 
-pub returns-in-Write : goal.returns-in-Write
-returns-in-Write g c = λ number old new unread left before ends.
+pub returns-in-Write-clause-broken : goal.returns-in-Write-clause-broken
+returns-in-Write-clause-broken g c = λ number old new unread left before ends.
     broken_writing c.args.error number old new unread left before _ _ c.in-Write.is ends
 
-pub returns-in-Ok : goal.returns-in-Ok
-returns-in-Ok g c = λ number old new unread left before ends.
+pub returns-in-Ok-clause-broken : goal.returns-in-Ok-clause-broken
+returns-in-Ok-clause-broken g c = λ number old new unread left before ends.
     broken c.args.error number old new unread left before _ _ _ c.in_default.not-Write ends c.in-Ok.ensures.handed.0
 
-pub returns-in-Err : goal.returns-in-Err
-returns-in-Err g c = λ number old new unread left before ends.
+pub returns-in-Err-clause-broken : goal.returns-in-Err-clause-broken
+returns-in-Err-clause-broken g c = λ number old new unread left before ends.
     rw c.in-Err.ensures.handed.1
     (broken_twice c.args.error number old new unread left before _ _ _ c.in_default.not-Write ends
     c.in-Err.ensures.handed.0)

@@ -1,0 +1,5 @@
+pub mod StandingLaws
+pub mod ApartLaws
+pub mod SoundLaws
+pub mod WritingLaws
+pub mod LastGoneLaws

@@ -1,0 +1,294 @@
+-- The tables after a legal history keep what those of a base keep.
+use Rattle.std.proofs.Common.{
+  ◌≡◌,
+  ℕ,
+  zero,
+  suc,
+  ◌+◌,
+  Bool,
+  true,
+  false,
+  not,
+  cond,
+  ◌&&◌,
+  ◌||◌,
+  nat_eq,
+  All,
+  List,
+  [],
+  ◌∷◌,
+  ◌++◌,
+  length,
+  take,
+  Option,
+  Some,
+  None,
+  slice_get,
+  refl,
+  sym,
+  ap,
+  ◌∙◌,
+  subst,
+  append_assoc,
+  append-nil,
+}
+use Rattle.std.specs.Prelude.{nat_le, if◌then◌else◌}
+use Rattle.std.specs.List.{AllByRecursion, list_any}
+use Rattle.std.specs.Option.{option_map, option_or}
+use Rattle.std.proofs.lemmas.List.Elements.{All-from_recursion, recursion_from_All}
+use Rattle.row_store.specs.History.{CommitRecord, lines_after}
+use Rattle.row_store.specs.Legal.{IsLegal}
+use Rattle.row_store.specs.Lines.{is_of, is_present, lines_after_action, lines_after_refresh, lines_without}
+use Rattle.row_store.specs.Refusals.{
+  cause_of,
+  first_refusal,
+  lacks_customer,
+  lacks_date,
+  lacks_part,
+  lacks_supplier,
+  lines_full,
+  order_cause,
+  refusal_of,
+  unknown_key,
+}
+use Rattle.row_store.specs.declared.refusal.Cause.{Cause}
+use Rattle.row_store.specs.declared.refusal.Cause.TheVariants as cause
+use Rattle.row_store.specs.declared.refusal.Refusal.{Refusal}
+use Rattle.row_store.proofs.FewLaws.{legal_histories_are_few}
+use Rattle.row_store.proofs.StateLaws.{lines_after-push}
+use Rattle.ssb_base.specs.Base.{
+  Dimensions,
+  IsKnown,
+  IsSound,
+  Tables,
+  customer_key,
+  date_key,
+  has_key,
+  is_same_line,
+  part_key,
+  supplier_key,
+}
+use Rattle.ssb_schema.specs.Orders.{IsOrder, has_number_of, order_key}
+use Rattle.ssb_schema.specs.declared.line.LineFields.{LineFields}
+use Rattle.ssb_schema.specs.declared.refresh.Action.{Action}
+use Rattle.ssb_schema.specs.declared.refresh.Action.TheVariants.{Add, Amend, Withdraw}
+use Rattle.export_command.specs.After.{AddsOrder, TablesAfterAreSound, actions_of}
+use Rattle.export_command.proofs.ApartLaws.{
+  IsApart,
+  all_append,
+  all_filter,
+  all_more,
+  apart_append,
+  apart_filter,
+  apart_more,
+  apart_of_distinct,
+  distinct_of_apart,
+}
+
+-- lines that may be those of a sound base over these dimensions
+record AreGood (dimensions : Dimensions) (lines : List LineFields) : Type 0 where
+  apart : IsApart is_same_line lines
+  known : AllByRecursion (IsKnown dimensions) lines
+
+-- no line is of the order
+abbrev AreOfOthers : ℕ → List LineFields → Type 0
+AreOfOthers key lines = AllByRecursion (λ line. is_of key line ≡ false) lines
+
+or-false : (a b : Bool) → (a || b) ≡ false → (a ≡ false) × (b ≡ false)
+or-false true b e = absurd cc
+or-false false b e = (refl, e)
+
+absent : (key : ℕ) (lines : List LineFields) → is_present key lines ≡ false → AreOfOthers key lines
+absent key [] none = tt
+absent key (line ∷ lines) none =
+    let both = or-false (is_of key line) (is_present key lines) none in
+    (both.0, absent key lines both.1)
+
+without-it : (key : ℕ) (lines : List LineFields) → AreOfOthers key (lines_without key lines)
+without-it key [] = tt
+without-it key (line ∷ lines) =
+    let rest = without-it key lines in
+    let step : (b : Bool) → is_of key line ≡ b
+    → AreOfOthers key (cond (not b) (line ∷ lines_without key lines) (lines_without key lines)) = elim [
+      | true ↦ λ is. rest
+      | false ↦ λ is. (is, rest)
+    ] in
+    step (is_of key line) refl
+
+-- lines of other orders are other lines than those of the order
+other-key : (key : ℕ) (line other : LineFields) → is_of key line ≡ false → other.order_key ≡ key
+    → is_same_line line other ≡ false
+other-key key line other is same =
+    let apart : nat_eq line.order_key other.order_key ≡ false = subst (λ k. nat_eq line.order_key k ≡ false) (sym same) is
+    in rw apart refl
+
+other-lines : (key : ℕ) (lines order : List LineFields) → AreOfOthers key lines
+    → AllByRecursion (λ line. line.order_key ≡ key) order
+    → AllByRecursion (λ line. AllByRecursion (λ other. is_same_line line other ≡ false) order) lines
+other-lines key lines order others own =
+    all_more (λ line. is_of key line ≡ false) (λ line. AllByRecursion (λ other. is_same_line line other ≡ false) order)
+    (λ line is. all_more (λ other. other.order_key ≡ key) (λ other. is_same_line line other ≡ false)
+    (λ other same. other-key key line other is same) order own) lines others
+
+and-false : (b : Bool) → (b && false) ≡ false
+and-false true = refl
+and-false false = refl
+
+-- the lines of an order are apart by their numbers
+order-apart : (order : List LineFields) → IsOrder order → IsApart is_same_line order
+order-apart order is =
+    apart_more has_number_of is_same_line
+    (λ line other apart. ap (λ b. nat_eq line.order_key other.order_key && b) apart
+    ∙ and-false (nat_eq line.order_key other.order_key))
+    order (apart_of_distinct has_number_of order is.numbered)
+
+-- the lines of an order whose keys are known
+not-false : (b : Bool) → not b ≡ false → b ≡ true
+not-false true e = refl
+not-false false e = absurd cc
+
+keys-known : (d : Dimensions) (order : List LineFields) → list_any (lacks_customer d) order ≡ false
+    → list_any (lacks_supplier d) order ≡ false → list_any (lacks_part d) order ≡ false
+    → list_any (lacks_date d) order ≡ false → AllByRecursion (IsKnown d) order
+keys-known d [] c s p e = tt
+keys-known d (line ∷ order) c s p e =
+    let customer = or-false (lacks_customer d line) (list_any (lacks_customer d) order) c in
+    let supplier = or-false (lacks_supplier d line) (list_any (lacks_supplier d) order) s in
+    let part = or-false (lacks_part d line) (list_any (lacks_part d) order) p in
+    let date = or-false (lacks_date d line) (list_any (lacks_date d) order) e in (
+      record {
+        customer = not-false (has_key customer_key d.customers line.customer_key) customer.0;
+        supplier = not-false (has_key supplier_key d.suppliers line.supplier_key) supplier.0;
+        part = not-false (has_key part_key d.parts line.part_key) part.0;
+        date = not-false (has_key date_key d.dates line.order_date) date.0;
+      },
+      keys-known d order customer.1 supplier.1 part.1 date.1,
+    )
+
+none-tested : {X : Type 0} (b : Bool) (found : X) (rest : Option X) → (if b then Some found else rest) ≡ None
+    → (b ≡ false) × (rest ≡ None)
+none-tested true found rest e = absurd cc
+none-tested false found rest e = (refl, e)
+
+first-none : (first second : Option Cause) → option_or first second ≡ None → first ≡ None
+first-none None second e = refl
+first-none (Some found) second e = absurd cc
+
+order-known : (base : Tables) (lines order : List LineFields) → order_cause base lines order ≡ None
+    → AllByRecursion (IsKnown base.dimensions) order
+order-known base lines order none =
+    let d = base.dimensions in
+    let first = first-none (unknown_key d order) (lines_full base.limits.lines lines order) none in
+    let customer = none-tested (list_any (lacks_customer d) order) cause.UnknownCustomer _ first in
+    let supplier = none-tested (list_any (lacks_supplier d) order) cause.UnknownSupplier _ customer.1 in
+    let part = none-tested (list_any (lacks_part d) order) cause.UnknownPart _ supplier.1 in
+    let date = none-tested (list_any (lacks_date d) order) cause.UnknownDate _ part.1 in
+    keys-known d order customer.0 supplier.0 part.0 date.0
+
+-- an order joins lines of other orders
+good-joined : (base : Tables) (lines order : List LineFields) → AreGood base.dimensions lines
+    → AreOfOthers (order_key order) lines → IsOrder order → AllByRecursion (IsKnown base.dimensions) order
+    → AreGood base.dimensions (lines ++ order)
+good-joined base lines order good others is known = record {
+  apart = apart_append is_same_line lines order good.apart (order-apart order is)
+      (other-lines (order_key order) lines order others
+      (recursion_from_All (λ line. line.order_key ≡ order_key order) order is.alike));
+  known = all_append (IsKnown base.dimensions) lines order good.known known;
+}
+
+good-without : (d : Dimensions) (key : ℕ) (lines : List LineFields) → AreGood d lines
+    → AreGood d (lines_without key lines)
+good-without d key lines good = record {
+  apart = apart_filter is_same_line (λ line. not (is_of key line)) lines good.apart;
+  known = all_filter (IsKnown d) (λ line. not (is_of key line)) lines good.known;
+}
+
+good-action : (base : Tables) (lines : List LineFields) (action : Action) → AreGood base.dimensions lines
+    → AddsOrder action → cause_of base lines action ≡ None → AreGood base.dimensions (lines_after_action lines action)
+good-action base lines (Add order) good is none =
+    let key = order_key order in
+    let tested = none-tested (is_present key lines) (cause.Present key) (order_cause base lines order) none in
+    good-joined base lines order good (absent key lines tested.0) is (order-known base lines order tested.1)
+good-action base lines (Amend order) good is none =
+    let key = order_key order in
+    let step : (b : Bool) → (if b then order_cause base (lines_without key lines) order else Some
+    (cause.AmendAbsent key)) ≡ None → order_cause base (lines_without key lines) order ≡ None = elim [
+      | true ↦ λ e. e
+      | false ↦ λ e. absurd cc
+    ] in
+    good-joined base (lines_without key lines) order (good-without base.dimensions key lines good)
+    (without-it key lines) is (order-known base (lines_without key lines) order (step (is_present key lines) none))
+good-action base lines (Withdraw key) good is none = good-without base.dimensions key lines good
+
+both-none : {X Y : Type 0} (f : X → Y) (first : Option X) (second : Option Y)
+    → option_or (option_map f first) second ≡ None → (first ≡ None) × (second ≡ None)
+both-none f None second e = (refl, e)
+both-none f (Some x) second e = absurd cc
+
+good-refresh : (base : Tables) (number : ℕ) (lines : List LineFields) (actions : List Action)
+    → AreGood base.dimensions lines → AllByRecursion AddsOrder actions
+    → first_refusal base number lines actions ≡ None → AreGood base.dimensions (lines_after_refresh lines actions)
+good-refresh base number lines [] good orders none = good
+good-refresh base number lines (action ∷ actions) good orders none =
+    let both = both-none (λ (why : Cause). record { action = number; cause = why }) (cause_of base lines action)
+    (first_refusal base (number + 1) (lines_after_action lines action) actions) none in
+    good-refresh base (number + 1) (lines_after_action lines action) actions
+    (good-action base lines action good orders.0 both.0) orders.1 both.1
+
+-- the elements at the seam of two lists
+at-seam : {X : Type 0} (front : List X) (x : X) (back : List X) → slice_get (front ++ x ∷ back) (length front) ≡ Some x
+at-seam [] x back = refl
+at-seam (y ∷ front) x back = at-seam front x back
+
+front-of : {X : Type 0} (front back : List X) → take (length front) (front ++ back) ≡ front
+front-of [] back = refl
+front-of (y ∷ front) back = ap (λ l. y ∷ l) (front-of front back)
+
+all-front : {X : Type 0} (P : X → Type 0) (xs ys : List X) → AllByRecursion P (xs ++ ys)
+    → AllByRecursion P xs × AllByRecursion P ys
+all-front P [] ys all = (tt, all)
+all-front P (x ∷ xs) ys all =
+    let rest = all-front P xs ys all.1 in
+    ((all.0, rest.0), rest.1)
+
+-- a commit that is not refused leaves good lines
+good-commit : (base : Tables) (front : List CommitRecord) (commit : CommitRecord)
+    → AreGood base.dimensions (lines_after base front) → AllByRecursion AddsOrder commit.actions
+    → refusal_of base front commit.actions ≡ None → AreGood base.dimensions (lines_after base (front ++ commit ∷ []))
+good-commit base front commit good orders none =
+    let accepted = none-tested (nat_le base.limits.commits (length front)) _
+    (first_refusal base 1 (lines_after base front) commit.actions) none in
+    subst (AreGood base.dimensions) (sym (lines_after-push base front commit))
+    (good-refresh base 1 (lines_after base front) commit.actions good orders accepted.1)
+
+-- and so do all commits of a legal history, from the first ones on
+good-after : (base : Tables) (front rest : List CommitRecord) → IsLegal base (front ++ rest)
+    → AllByRecursion AddsOrder (actions_of rest) → AreGood base.dimensions (lines_after base front)
+    → AreGood base.dimensions (lines_after base (front ++ rest))
+good-after base front [] legal orders good =
+    subst (λ history. AreGood base.dimensions (lines_after base history)) (sym (append-nil front)) good
+good-after base front (commit ∷ later) legal orders good =
+    let whole : (front ++ commit ∷ []) ++ later ≡ front ++ commit ∷ later = append_assoc front (commit ∷ []) later in
+    let parts = all-front AddsOrder commit.actions (actions_of later) orders in
+    let accepted : refusal_of base front commit.actions ≡ None =
+    subst (λ history. refusal_of base history commit.actions ≡ None) (front-of front (commit ∷ later))
+    (legal.accepted (length front) commit (at-seam front commit later)) in
+    subst (λ history. AreGood base.dimensions (lines_after base history)) whole
+    (good-after base (front ++ commit ∷ []) later (subst (IsLegal base) (sym whole) legal) parts.1
+    (good-commit base front commit good parts.0 accepted))
+
+pub tables_after_are_sound : TablesAfterAreSound
+tables_after_are_sound base history sound legal orders =
+    let loaded : AreGood base.dimensions base.lines = record {
+      apart = apart_of_distinct is_same_line base.lines sound.numbered;
+      known = recursion_from_All (IsKnown base.dimensions) base.lines sound.known;
+    } in
+    let good = good-after base [] history legal orders loaded in record {
+      customers = sound.customers;
+      suppliers = sound.suppliers;
+      parts = sound.parts;
+      dates = sound.dates;
+      few = (legal_histories_are_few base history sound legal).1;
+      numbered = distinct_of_apart is_same_line (lines_after base history) good.apart;
+      known = All-from_recursion (IsKnown base.dimensions) (lines_after base history) good.known;
+    }

@@ -1,0 +1,6 @@
+use Rattle.std.proofs.Common.{take, All}
+use Rattle.export_command.specs.After.{AddsOrder}
+use Rattle.export_command.proofs.orders.all_add_orders.Given as goal
+
+abbrev pub invariant-loop-action : goal.invariant-loop-action
+invariant-loop-action l = All AddsOrder (take l.action-index l.actions)

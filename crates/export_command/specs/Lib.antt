@@ -1,0 +1,4 @@
+pub mod After
+pub mod Standing
+pub mod Status
+pub mod Exported

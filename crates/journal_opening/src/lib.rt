@@ -1,0 +1,20 @@
+//! A journal's file, opened over loaded tables: what the words `serve` and `export` share.
+//!
+//! ```text
+//! base, bytes of its files ── table_sizes ─▶ sizes, which a journal's head tells
+//! file in use, other tables, damage, a refused commit ── OpeningFault ─▶ status 1; a failed call, memory ─▶ 4
+//! ```
+//!
+//! The contract of [`OpeningFault`] is its status (`specs/Status`). How many bytes were read is in no contract.
+//!
+//! ```text
+//! let sizes = table_sizes(&base, &bytes);
+//! let opened = open(alloc, &sizes, disk).map_err(|(fault, _)| OpeningFault::Kept(fault))?;
+//! ```
+#![tactic(auto)]
+
+mod fault;
+mod sizes;
+
+pub use fault::OpeningFault;
+pub use sizes::table_sizes;

@@ -1,0 +1,42 @@
+//! What a session waits for before it tells its client of commits.
+
+ghost use Rattle.std.specs.Prelude.{◌≤◌};
+
+use journal::Disk;
+use ssb_journal::{LogSource, OnDisk, SharedJournal};
+use std::alloc::Global;
+use std::sync::Wait;
+use std::sync::atomic::{AtomicBool, Ordering};
+use stream_sessions::{Acknowledges, NotAcknowledged};
+
+/// A journal that sessions share. Its evidence is that commits are on the disk.
+#[derive(Drop)]
+pub struct Journaled<D: Disk + Drop, L: LogSource + Drop> {
+    pub(crate) journal: SharedJournal<D, L>,
+    pub(crate) failed: AtomicBool,
+}
+
+impl<D: Disk + Drop, L: LogSource + Drop> Acknowledges for Journaled<D, L> {
+    type Evidence = OnDisk;
+
+    ghost covers = { λ on_disk commits. commits ≤ on_disk.commits };
+
+    fn acknowledge<R: Wait>(
+        &self,
+        rt: &R,
+        alloc: Global,
+        commits: u64,
+    ) -> Result<OnDisk, NotAcknowledged> {
+        match self.journal.reach(rt, alloc, commits) {
+            Ok(on_disk) => Ok(on_disk),
+            Err(_) => {
+                self.failed.store(true, Ordering::SeqCst);
+                Err(NotAcknowledged)
+            },
+        }
+    }
+
+    fn has_failed(&self) -> bool {
+        self.failed.load(Ordering::SeqCst)
+    }
+}
