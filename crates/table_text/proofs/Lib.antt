@@ -1,4 +1,6 @@
 pub mod RowLaws
+pub mod CellLaws
+pub mod RowsLaws
 pub mod ReadBackLaws
 pub mod OneBaseLaws
 pub mod SoundLaws

@@ -1,5 +1,5 @@
 -- Texts spell the rows of one base only: the records of a text are one list, and a record spells one row.
-use Rattle.std.proofs.Common.{◌≡◌, ℕ, List, [], ◌∷◌, ◌++◌, get_or, map, None, Ok, Result, refl, sym, ap, ◌∙◌, subst}
+use Rattle.std.proofs.Common.{◌≡◌, ℕ, List, [], ◌∷◌, get_or, map, Ok, Result, refl, sym, ap, ◌∙◌, subst}
 use Rattle.std.specs.List.{AllZip}
 use Rattle.csv.specs.Reading.{strip_bom}
 use Rattle.csv.specs.declared.parser.State.TheVariants as st
@@ -18,8 +18,7 @@ use Rattle.ssb_script.proofs.OneReadingLaws.{one_list}
 use Rattle.ssb_text.specs.Load.{SpellsBase, values_in}
 use Rattle.ssb_text.specs.Records.{HasRecords, record_config}
 use Rattle.ssb_text.specs.Row.{row_of}
-use Rattle.ssb_text.specs.Tables.{SpellsRow, SpellsRows}
-use Rattle.ssb_text.specs.declared.error.LineFault.{LineFault}
+use Rattle.ssb_text.specs.Tables.{SpellsRow}
 use Rattle.table_text.specs.RoundTrip.{TextsSpellOneBase}
 
 pub one_records : (text : List ℕ) (one other : List (List (List ℕ))) → HasRecords text one → HasRecords text other
@@ -50,11 +49,11 @@ same_values texts one other a b t =
     (subst (λ rs. AllZip (SpellsRow t) rs (values_in other t)) (sym records) (b t).spelled)
 
 -- a row is read off its values
-the-number : Value → ℕ
+abbrev the-number : Value → ℕ
 the-number (Number n) = n
 the-number (Text bytes) = 0
 
-the-text : Value → List ℕ
+abbrev the-text : Value → List ℕ
 the-text (Number n) = []
 the-text (Text bytes) = bytes
 

@@ -1,6 +1,6 @@
 -- The text of tables spells them, and no others; and of sound ones nothing is refused.
-use Rattle.std.proofs.Common.{◌≡◌, ℕ, ◌+◌, ◌≤◌, List, [], ◌∷◌, ◌++◌, length, map, refl, sym, ap, ◌∙◌, subst}
-use Rattle.std.specs.List.{AllByRecursion, AllZip, flat_map}
+use Rattle.std.proofs.Common.{◌≡◌, ℕ, suc, ◌≤◌, List, [], ◌∷◌, ◌++◌, length, map, refl, sym, ap, ◌∙◌, subst}
+use Rattle.std.specs.List.{AllByRecursion, AllZip}
 use Rattle.ssb_schema.specs.Columns.{Value}
 use Rattle.ssb_schema.specs.declared.table.Table.{Table}
 use Rattle.ssb_text.specs.Load.{limit_of, values_in}
@@ -9,7 +9,7 @@ use Rattle.ssb_text.specs.Tables.{SpellsRow, SpellsRows}
 use Rattle.ssb_trace.specs.TraceText.{column_text}
 use Rattle.ssb_trace.proofs.RecordLaws.{IsReadable, has_records, text_of_record, text_of_records}
 use Rattle.table_text.specs.RoundTrip.{IsTableRow, TextsSpellTheirBase}
-use Rattle.table_text.specs.TableText.{row_text, rows_text}
+use Rattle.table_text.specs.TableText.{rows_text}
 use Rattle.table_text.proofs.RowLaws.{row_is_record, row_read, row_readable}
 
 -- the records of rows: the texts of their columns
@@ -35,7 +35,7 @@ all-read t (values ∷ rows) all = (row_read t values all.0, all-read t rows all
 
 as-many : (rows : List (List Value)) → length (records_of rows) ≡ length rows
 as-many [] = refl
-as-many (values ∷ rows) = ap (λ n. n + 1) (as-many rows)
+as-many (values ∷ rows) = ap suc (as-many rows)
 
 pub spells_rows : (t : Table) (limit : ℕ) (rows : List (List Value)) → AllByRecursion (IsTableRow t) rows
     → length rows ≤ limit → SpellsRows t limit (rows_text rows) rows

@@ -1,29 +1,5 @@
 -- Of texts that spell sound tables nothing is refused.
-use Rattle.std.proofs.Common.{
-  ◌≡◌,
-  ℕ,
-  ◌+◌,
-  ◌≤◌,
-  List,
-  [],
-  ◌∷◌,
-  ◌++◌,
-  length,
-  Some,
-  None,
-  Ok,
-  Err,
-  refl,
-  sym,
-  ap,
-  ◌∙◌,
-  subst,
-  inl,
-  inr,
-  arith,
-  append_assoc,
-  length-append,
-}
+use Rattle.std.proofs.Common.{◌≡◌, ℕ, ◌+◌, ◌≤◌, List, [], ◌∷◌, ◌++◌, length, None, Ok, Err, refl, sym, ap, ◌∙◌, subst, inl, inr, arith, append_assoc, length-append}
 use Rattle.std.specs.List.{AllZip}
 use Rattle.std.proofs.lemmas.Option.{none-some, same_Some}
 use Rattle.csv.specs.Machine.{Read, next_record}
@@ -37,10 +13,10 @@ use Rattle.ssb_schema.specs.Columns.{Value}
 use Rattle.ssb_schema.specs.declared.line.LineFields.{LineFields}
 use Rattle.ssb_schema.specs.declared.table.Table.{Table}
 use Rattle.ssb_schema.specs.declared.table.Table.TheVariants as table
-use Rattle.ssb_text.specs.Load.{IsBaseFault, IsWhole, SpellsBase, StopsAt, StopsIn, all_tables, limit_of, values_in}
+use Rattle.ssb_text.specs.Load.{IsBaseFault, SpellsBase, StopsAt, StopsIn, all_tables, limit_of, values_in}
 use Rattle.ssb_text.specs.Records.{BeginsWith, HasRecords, record_config}
 use Rattle.ssb_text.specs.Row.{row_of}
-use Rattle.ssb_text.specs.Tables.{HasFault, IsFirstFault, IsReadFault, SpellsRow, SpellsRows}
+use Rattle.ssb_text.specs.Tables.{IsFirstFault, IsReadFault, SpellsRow, SpellsRows}
 use Rattle.ssb_text.specs.declared.error.LineFault.{LineFault}
 use Rattle.ssb_text.specs.declared.error.LoadError.{LoadError}
 use Rattle.ssb_text.specs.declared.error.LoadError.TheVariants as errors

@@ -1,39 +1,15 @@
 -- A row that a table may have is read back from its text.
-use Rattle.std.proofs.Common.{
-  ◌≡◌,
-  ℕ,
-  ◌+◌,
-  ◌<◌,
-  ◌≤◌,
-  ◌^◌,
-  ◌||◌,
-  Bool,
-  true,
-  false,
-  List,
-  [],
-  ◌∷◌,
-  ◌++◌,
-  length,
-  map,
-  None,
-  Ok,
-  decimal,
-  refl,
-  sym,
-  ap,
-  ◌∙◌,
-  append_assoc,
-  arith,
-}
+use Rattle.std.proofs.Common.{◌≡◌, ℕ, suc, ◌+◌, ◌<◌, true, false, List, [], ◌∷◌, ◌++◌, length, map, None, Ok, decimal, refl, ap, ◌∙◌, append_assoc, arith}
 use Rattle.std.specs.Prelude.{◌==◌}
 use Rattle.std.specs.Char.{is_ascii_digit}
-use Rattle.std.specs.List.{AllByRecursion, AllZip, flat_map, join_with_byte, list_all}
+use Rattle.std.specs.List.{AllByRecursion, AllZip, join_with_byte, list_all}
 use Rattle.std.proofs.lemmas.Bool.Decides.{nat_tests}
 use Rattle.std.proofs.lemmas.Fmt.{decimal_nonempty}
 use Rattle.ssb_report.specs.Numbers.{line_feed}
-use Rattle.ssb_schema.specs.Columns.{Value, Number, Text, column_fault, first_fault, kinds_of, row_fault}
+use Rattle.ssb_schema.specs.Columns.{Value, Number, Text, column_fault, first_fault, kinds_of}
+use Rattle.ssb_schema.specs.Rows.{date_values}
 use Rattle.ssb_schema.specs.declared.column.Column.{Column}
+use Rattle.ssb_schema.specs.declared.date.DateFields.{DateFields}
 use Rattle.ssb_schema.specs.declared.kind.Kind.{Kind}
 use Rattle.ssb_schema.specs.declared.kind.Kind.TheVariants as kind
 use Rattle.ssb_schema.specs.declared.table.Table.{Table}
@@ -41,14 +17,15 @@ use Rattle.ssb_schema.specs.declared.table.Table.TheVariants as table
 use Rattle.ssb_text.specs.Records.{has_columns}
 use Rattle.ssb_text.specs.Row.{row_of, values_from}
 use Rattle.ssb_trace.specs.TraceText.{column_text, fields_text}
-use Rattle.ssb_trace.proofs.ColumnLaws.{IsColumn, no_first, no_other, number_fits, text_fits, values_plain, values_read}
+use Rattle.ssb_trace.specs.Allowed.{IsTakenRow}
+use Rattle.ssb_trace.proofs.ColumnLaws.{IsColumn, date_fits, no_first, no_other, number_fits, text_fits, values_plain, values_read}
 use Rattle.ssb_trace.proofs.NumberLaws.{all_digits}
 use Rattle.ssb_trace.proofs.RecordLaws.{IsPlainField, IsReadable, and-left, text_of_record}
 use Rattle.table_text.specs.RoundTrip.{IsOfKind, IsTableRow}
 use Rattle.table_text.specs.TableText.{row_text}
 
 -- fields parted by bars, and the end of the line, are a record of these fields
-joined : (field : List ℕ) (fields : List (List ℕ))
+pub joined : (field : List ℕ) (fields : List (List ℕ))
     → join_with_byte 124 (field ∷ fields) ++ line_feed ≡ field ++ fields_text fields
 joined field [] = refl
 joined field (next ∷ fields) =
@@ -82,13 +59,32 @@ columns-fit t place (k ∷ kinds) (v ∷ values) are none =
 pub row_fits : (t : Table) (values : List Value) → IsTableRow t values → AllZip IsColumn (kinds_of t) values
 row_fits t values row = columns-fit t 1 (kinds_of t) values row.kinds row.taken
 
+-- and what is read back is of its column's kind
+of-kind : (k : Kind) (v : Value) → IsColumn k v → IsOfKind k v
+of-kind (kind.Number least most) (Number n) fits = fits.1
+of-kind kind.Text (Text bytes) fits = fits.1
+of-kind (kind.Number least most) (Text bytes) fits = absurd fits
+of-kind kind.Text (Number n) fits = absurd fits
+
+of-kinds : (kinds : List Kind) (values : List Value) → AllZip IsColumn kinds values → AllZip IsOfKind kinds values
+of-kinds [] [] fit = tt
+of-kinds [] (v ∷ values) fit = absurd fit
+of-kinds (k ∷ kinds) [] fit = absurd fit
+of-kinds (k ∷ kinds) (v ∷ values) fit = (of-kind k v fit.0, of-kinds kinds values fit.1)
+
+pub date_row : (row : DateFields) → IsTakenRow table.Date (date_values row) → IsTableRow table.Date (date_values row)
+date_row row taken = record {
+  kinds = of-kinds (kinds_of table.Date) (date_values row) (date_fits row taken);
+  taken = taken.taken;
+}
+
 -- it has as many fields as the table has columns
 as-many : (kinds : List Kind) (values : List Value) → AllZip IsColumn kinds values
     → length (map column_text values) ≡ length kinds
 as-many [] [] fit = refl
 as-many [] (v ∷ values) fit = absurd fit
 as-many (k ∷ kinds) [] fit = absurd fit
-as-many (k ∷ kinds) (v ∷ values) fit = ap (λ n. n + 1) (as-many kinds values fit.1)
+as-many (k ∷ kinds) (v ∷ values) fit = ap suc (as-many kinds values fit.1)
 
 has-columns : (count : ℕ) (fields : List (List ℕ)) → length fields ≡ count → has_columns count fields ≡ true
 has-columns count fields same =
@@ -116,20 +112,30 @@ digits-first (c ∷ digits) fields some all plain =
     (digit-no-mark c (and-left (is_ascii_digit c) (list_all is_ascii_digit digits) all), plain.0, plain.1)
 
 -- a table's first column is a key
-begins-with-key : (kinds : List Kind) (least most : ℕ) (values : List Value)
-    → AllZip IsColumn (kind.Number least most ∷ kinds) values → IsReadable (map column_text values)
-begins-with-key kinds least most [] fit = absurd fit
-begins-with-key kinds least most (Text bytes ∷ values) fit = absurd fit.0
-begins-with-key kinds least most (Number n ∷ values) fit =
+abbrev BeginsWithNumber : List Kind → Type 0
+BeginsWithNumber [] = ⊥
+BeginsWithNumber (kind.Number least most ∷ kinds) = Unit {0}
+BeginsWithNumber (kind.Text ∷ kinds) = ⊥
+
+begins-with-key : (t : Table) → BeginsWithNumber (kinds_of t)
+begins-with-key table.Customer = tt
+begins-with-key table.Supplier = tt
+begins-with-key table.Part = tt
+begins-with-key table.Date = tt
+begins-with-key table.Lineorder = tt
+
+fit-readable : (kinds : List Kind) (values : List Value) → BeginsWithNumber kinds → AllZip IsColumn kinds values
+    → IsReadable (map column_text values)
+fit-readable [] values begins fit = absurd begins
+fit-readable (kind.Text ∷ kinds) values begins fit = absurd begins
+fit-readable (kind.Number least most ∷ kinds) [] begins fit = absurd fit
+fit-readable (kind.Number least most ∷ kinds) (Text bytes ∷ values) begins fit = absurd fit.0
+fit-readable (kind.Number least most ∷ kinds) (Number n ∷ values) begins fit =
     digits-first (decimal n) (map column_text values) (decimal_nonempty n fit.0.1) (all_digits n fit.0.1)
     (values_plain (kind.Number least most ∷ kinds) (Number n ∷ values) fit)
 
 pub row_readable : (t : Table) (values : List Value) → IsTableRow t values → IsReadable (map column_text values)
-row_readable table.Customer values row = begins-with-key _ _ _ values (row_fits table.Customer values row)
-row_readable table.Supplier values row = begins-with-key _ _ _ values (row_fits table.Supplier values row)
-row_readable table.Part values row = begins-with-key _ _ _ values (row_fits table.Part values row)
-row_readable table.Date values row = begins-with-key _ _ _ values (row_fits table.Date values row)
-row_readable table.Lineorder values row = begins-with-key _ _ _ values (row_fits table.Lineorder values row)
+row_readable t values row = fit-readable (kinds_of t) values (begins-with-key t) (row_fits t values row)
 
 -- and its text is that of a record
 as-record : (values : List Value) → IsReadable (map column_text values)

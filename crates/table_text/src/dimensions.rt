@@ -16,8 +16,7 @@ impl RowText for Customer {
 
     fn write_row<W: Write>(&self, writer: &mut W) -> Result<(), WriteFault> {
         let fields = self.fields();
-        let cells = [
-            Cell::Number(fields.key),
+        let others = [
             Cell::Text(fields.name.as_str()),
             Cell::Text(fields.address.as_str()),
             Cell::Text(fields.city.as_str()),
@@ -26,7 +25,7 @@ impl RowText for Customer {
             Cell::Text(fields.phone.as_str()),
             Cell::Text(fields.market_segment.as_str()),
         ];
-        write_cells(writer, &cells)
+        write_cells(writer, fields.key, &others)
     }
 }
 
@@ -37,8 +36,7 @@ impl RowText for Supplier {
 
     fn write_row<W: Write>(&self, writer: &mut W) -> Result<(), WriteFault> {
         let fields = self.fields();
-        let cells = [
-            Cell::Number(fields.key),
+        let others = [
             Cell::Text(fields.name.as_str()),
             Cell::Text(fields.address.as_str()),
             Cell::Text(fields.city.as_str()),
@@ -46,7 +44,7 @@ impl RowText for Supplier {
             Cell::Text(fields.region.as_str()),
             Cell::Text(fields.phone.as_str()),
         ];
-        write_cells(writer, &cells)
+        write_cells(writer, fields.key, &others)
     }
 }
 
@@ -57,8 +55,7 @@ impl RowText for Part {
 
     fn write_row<W: Write>(&self, writer: &mut W) -> Result<(), WriteFault> {
         let fields = self.fields();
-        let cells = [
-            Cell::Number(fields.key),
+        let others = [
             Cell::Text(fields.name.as_str()),
             Cell::Text(fields.manufacturer.as_str()),
             Cell::Text(fields.category.as_str()),
@@ -68,7 +65,7 @@ impl RowText for Part {
             Cell::Text(fields.size.as_str()),
             Cell::Text(fields.container.as_str()),
         ];
-        write_cells(writer, &cells)
+        write_cells(writer, fields.key, &others)
     }
 }
 
@@ -79,8 +76,7 @@ impl RowText for DateRow {
 
     fn write_row<W: Write>(&self, writer: &mut W) -> Result<(), WriteFault> {
         let fields = self.fields();
-        let cells = [
-            Cell::Number(fields.key),
+        let others = [
             Cell::Text(fields.field2.as_str()),
             Cell::Text(fields.field3.as_str()),
             Cell::Text(fields.field4.as_str()),
@@ -98,6 +94,6 @@ impl RowText for DateRow {
             Cell::Text(fields.field16.as_str()),
             Cell::Text(fields.field17.as_str()),
         ];
-        write_cells(writer, &cells)
+        write_cells(writer, fields.key, &others)
     }
 }

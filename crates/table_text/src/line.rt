@@ -16,8 +16,7 @@ impl RowText for Line {
 
     fn write_row<W: Write>(&self, writer: &mut W) -> Result<(), WriteFault> {
         self.soundness();
-        let cells = [
-            Cell::Number(self.order_key()),
+        let others = [
             Cell::Number(u64::from(self.line_number())),
             Cell::Number(self.customer_key()),
             Cell::Number(self.part_key()),
@@ -35,6 +34,6 @@ impl RowText for Line {
             Cell::Number(self.commit_date()),
             Cell::Text(self.ship_mode()),
         ];
-        write_cells(writer, &cells)
+        write_cells(writer, self.order_key(), &others)
     }
 }

@@ -6,7 +6,8 @@ use Rattle.table_text.proofs.rows.write_rows.Given as goal
 
 -- the rows so far
 abbrev pub invariant-loop-row : goal.invariant-loop-row
-invariant-loop-row g l =
-    Appends (g.W.Write.contents l.fn.writer) (g.W.Write.contents l.writer)
-    (rows_text (map g.T.RowText.values (take l.row-index l.rows)))
-    × All (λ row. IsTableRow g.T.RowText.of_table (g.T.RowText.values row)) (take l.row-index l.rows)
+invariant-loop-row g l = record {
+  text : Appends (g.W.Write.contents l.fn.writer) (g.W.Write.contents l.writer)
+      (rows_text (map g.T.RowText.values (take l.row-index l.rows)));
+  rows : All (λ row. IsTableRow g.T.RowText.of_table (g.T.RowText.values row)) (take l.row-index l.rows);
+}
