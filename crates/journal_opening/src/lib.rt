@@ -5,7 +5,8 @@
 //! file in use, other tables, damage, a refused commit ── OpeningFault ─▶ status 1; a failed call, memory ─▶ 4
 //! ```
 //!
-//! The contract of [`OpeningFault`] is its status (`specs/Status`). How many bytes were read is in no contract.
+//! The contract of [`OpeningFault`] is its status (`specs/Status`), that of [`table_sizes`] the tables in their order and
+//! the rows of each (`specs/Sizes`). How many bytes were read is in no contract.
 //!
 //! ```text
 //! let sizes = table_sizes(&base, &bytes);

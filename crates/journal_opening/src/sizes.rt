@@ -1,12 +1,16 @@
 //! How large the files of the tables are, as a journal's head tells it.
 
+ghost use Rattle.journal_opening.specs.Sizes.{AreSizes};
+
 use ssb_base::Base;
 use ssb_files::TableBytes;
 use ssb_journal::TableSize;
 use ssb_schema::Table;
 
-/// How many bytes and rows each table has. Its bytes were counted while it was loaded.
-pub fn table_sizes(base: &Base, bytes: &TableBytes) -> [TableSize; 5] {
+/// How many bytes and rows each table has, in the order of a journal's head. Its bytes were counted while it was loaded.
+pub fn table_sizes(base: &Base, bytes: &TableBytes) -> [TableSize; 5]
+    ensures { AreSizes base.now result }
+{
     let size = |table: Table, rows: usize| TableSize {
         table,
         bytes: bytes.of(table),

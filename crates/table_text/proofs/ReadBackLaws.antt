@@ -1,4 +1,4 @@
--- The text of tables spells them, and no others; and of sound ones nothing is refused.
+-- The texts of a base spell it: the text of each row is that of a record which spells the row.
 use Rattle.std.proofs.Common.{◌≡◌, ℕ, suc, ◌≤◌, List, [], ◌∷◌, ◌++◌, length, map, refl, sym, ap, ◌∙◌, subst}
 use Rattle.std.specs.List.{AllByRecursion, AllZip}
 use Rattle.ssb_schema.specs.Columns.{Value}
