@@ -1,46 +1,13 @@
 -- The last action by which the lines of an order go tells which of its lines stand.
-use Rattle.std.proofs.Common.{
-  ◌≡◌,
-  ℕ,
-  zero,
-  suc,
-  ◌+◌,
-  ◌-◌,
-  ◌<◌,
-  ◌≤◌,
-  Bool,
-  true,
-  false,
-  not,
-  ◌||◌,
-  nat_le,
-  List,
-  [],
-  ◌∷◌,
-  ◌++◌,
-  length,
-  drop,
-  Option,
-  Some,
-  None,
-  slice_get,
-  refl,
-  sym,
-  ap,
-  ◌∙◌,
-  subst,
-  arith,
-  le-leb,
-  leb-false,
-  leb-true,
-  inl,
-  inr,
-}
+use Rattle.std.proofs.Common.{◌≡◌, ℕ, zero, suc, ◌+◌, ◌-◌, ◌≤◌, Bool, true, false, not, ◌||◌, nat_le, nat_eq, cond, List, [], ◌∷◌, ◌++◌, length, drop, Option, Some, None, slice_get, refl, sym, ap, ◌∙◌, subst, arith, add-one, leb-false, leb-true, inl, inr}
+use Rattle.std.specs.HashMap.{Updates, get}
 use Rattle.std.specs.List.{list_any}
 use Rattle.std.proofs.lemmas.Bool.{cases_Bool}
 use Rattle.std.proofs.lemmas.List.Folds.{list_any-append}
+use Rattle.row_store.specs.Absorbing.{gone_by}
 use Rattle.ssb_schema.specs.declared.refresh.Action.{Action}
-use Rattle.export_command.specs.After.{IsLastOf, goes_by, stands}
+use Rattle.export_command.specs.After.{IsLastGoneOf, IsLastOf, goes_by, stands}
+use Rattle.export_command.specs.declared.last_gone.LastGone.{LastGone}
 
 or-false : (a b : Bool) → (a || b) ≡ false → (a ≡ false) × (b ≡ false)
 or-false true b e = absurd cc
@@ -127,18 +94,45 @@ last_kept actions action key (Some gone) is stays = (
 
 pub last_set : (actions : List Action) (action : Action) (key : ℕ) → goes_by key action ≡ true
     → IsLastOf (actions ++ action ∷ []) key (Some (length actions + 1))
-last_set actions action key goes = (
-  action,
-  at-end actions action,
-  omega arith,
-  goes,
-  ap (list_any (goes_by key)) (all-gone actions action),
-)
+last_set actions action key goes =
+    let place : length actions ≡ length actions + 1 - 1 = omega arith in (
+      action,
+      subst (λ i. slice_get (actions ++ action ∷ []) i ≡ Some action) place (at-end actions action),
+      omega arith,
+      goes,
+      ap (λ n. list_any (goes_by key) (drop n (actions ++ action ∷ []))) (add-one (length actions))
+          ∙ ap (list_any (goes_by key)) (all-gone actions action),
+    )
   where
-    at-end : {X : Type 0} (xs : List X) (x : X) → slice_get (xs ++ x ∷ []) (length xs + 1 - 1) ≡ Some x
+    at-end : {X : Type 0} (xs : List X) (x : X) → slice_get (xs ++ x ∷ []) (length xs) ≡ Some x
     at-end [] x = refl
     at-end (y ∷ xs) x = at-end xs x
 
-    all-gone : {X : Type 0} (xs : List X) (x : X) → drop (length xs + 1) (xs ++ x ∷ []) ≡ []
+    all-gone : {X : Type 0} (xs : List X) (x : X) → drop (suc (length xs)) (xs ++ x ∷ []) ≡ []
     all-gone [] x = refl
     all-gone (y ∷ xs) x = all-gone xs x
+
+-- an action by which no lines go
+pub none_go : (earlier : List Action) (action : Action) (last : LastGone) → gone_by action ≡ []
+    → IsLastGoneOf earlier last → IsLastGoneOf (earlier ++ action ∷ []) last
+none_go earlier action last none is key =
+    last_kept earlier action key (get nat_eq last.numbers key) (is key) (ap (list_any (λ gone. nat_eq gone key)) none)
+
+-- an action by which the lines of an order go
+pub some_go : (earlier : List Action) (action : Action) (key number : ℕ) (old new : LastGone)
+    → gone_by action ≡ key ∷ [] → number ≡ length earlier + 1
+    → Updates nat_eq old.numbers new.numbers key (Some number) → IsLastGoneOf earlier old
+    → IsLastGoneOf (earlier ++ action ∷ []) new
+some_go earlier action key number old new one count updates is other =
+    let goes : goes_by other action ≡ (nat_eq key other || false) =
+    ap (list_any (λ gone. nat_eq gone other)) one in
+    let step : (b : Bool) → nat_eq key other ≡ b → IsLastOf (earlier ++ action ∷ []) other
+    (cond b (Some number) (get nat_eq old.numbers other)) = elim [
+      | true ↦ λ same.
+          subst (λ n. IsLastOf (earlier ++ action ∷ []) other (Some n)) (sym count)
+          (last_set earlier action other (goes ∙ ap (λ t. t || false) same))
+      | false ↦ λ apart.
+          last_kept earlier action other (get nat_eq old.numbers other) (is other)
+          (goes ∙ ap (λ t. t || false) apart)
+    ] in
+    subst (IsLastOf (earlier ++ action ∷ []) other) (sym (updates.0 other)) (step (nat_eq key other) refl)

@@ -1,44 +1,16 @@
 -- What was written of lines so far, and how it grows.
-use Rattle.std.proofs.Common.{
-  ◌≡◌,
-  ℕ,
-  ◌+◌,
-  cond,
-  Bool,
-  true,
-  false,
-  List,
-  [],
-  ◌∷◌,
-  ◌++◌,
-  length,
-  drop,
-  map,
-  flat_map,
-  not,
-  Option,
-  Result,
-  Ok,
-  Err,
-  OnOk,
-  refl,
-  sym,
-  ap,
-  ◌∙◌,
-  subst,
-  append_assoc,
-}
+use Rattle.std.proofs.Common.{◌≡◌, ℕ, List, [], ◌∷◌, ◌++◌, map, Option, Result, Ok, Err, refl, sym, ap, ◌∙◌, subst, append-nil, IsErrAnd}
 use Rattle.std.specs.Io.KnownBytes.{Appends}
-use Rattle.std.specs.List.{AllByRecursion, list_any}
+use Rattle.std.specs.List.{AllByRecursion}
 use Rattle.std.proofs.lemmas.List.Concat.{flat_map-append}
-use Rattle.ssb_report.specs.Written.{StopsShort, Writes}
-use Rattle.ssb_report.proofs.WrittenLaws.{appends_both, appends_none, part_longer}
-use Rattle.ssb_schema.specs.Columns.{Value}
+use Rattle.ssb_report.specs.Written.{StopsShort}
+use Rattle.ssb_report.proofs.WrittenLaws.{appends_both, appends_none, appends_part, part_longer}
 use Rattle.ssb_schema.specs.Rows.{line_values}
 use Rattle.ssb_schema.specs.declared.line.LineFields.{LineFields}
 use Rattle.ssb_schema.specs.declared.table.Table.TheVariants as table
 use Rattle.table_text.specs.RoundTrip.{IsTableRow}
 use Rattle.table_text.specs.TableText.{row_text, rows_text}
+use Rattle.export_command.specs.Standing.{WritesLines}
 use Rattle.export_command.proofs.ApartLaws.{all_append}
 
 abbrev pub lines_text : List LineFields → List ℕ
@@ -75,4 +47,54 @@ written_both old mid new one other a b = record {
   text = subst (Appends old new) (sym (text_both one other))
       (appends_both old mid new (lines_text one) (lines_text other) a.text b.text);
   rows = rows_both one other a.rows b.rows;
+}
+
+-- a line was written
+pub line_written : (old new : Option (List ℕ)) (line : LineFields) → Appends old new (row_text (line_values line))
+    → IsTableRow table.Lineorder (line_values line) → HasWritten old new (line ∷ [])
+line_written old new line text row = record {
+  text = subst (Appends old new) (sym (append-nil (row_text (line_values line)))) text;
+  rows = (row, tt);
+}
+
+-- a part of the first lines is one of all
+pub stopped_before : (old new : Option (List ℕ)) (one other : List LineFields) → StopsShort old new (lines_text one)
+    → StopsShort old new (lines_text (one ++ other))
+stopped_before old new one other part =
+    subst (StopsShort old new) (sym (text_both one other)) (part_longer old new (lines_text one) (lines_text other) part)
+
+-- lines, and then a part of others
+pub stopped_behind : (old mid new : Option (List ℕ)) (one other : List LineFields) → HasWritten old mid one
+    → StopsShort mid new (lines_text other) → StopsShort old new (lines_text (one ++ other))
+stopped_behind old mid new one other a part =
+    subst (StopsShort old new) (sym (text_both one other))
+    (appends_part old mid new (lines_text one) (lines_text other) a.text part)
+
+pub all_written : {X E : Type 0} (old new : Option (List ℕ)) (v : X) (lines : List LineFields)
+    → WritesLines {X = X} {E = E} old new (Ok v) lines → HasWritten old new lines
+all_written old new v lines written = record { text = written.text; rows = written.rows }
+
+pub part_written : {X E : Type 0} (old new : Option (List ℕ)) (e : E) (lines : List LineFields)
+    → WritesLines {X = X} {E = E} old new (Err e) lines → StopsShort old new (lines_text lines)
+part_written old new e lines written = written.text
+
+pub writes_all : {X E : Type 0} (old new : Option (List ℕ)) (v : X) (lines : List LineFields)
+    → HasWritten old new lines → WritesLines {X = X} {E = E} old new (Ok v) lines
+writes_all old new v lines written = record { text = written.text; rows = written.rows }
+
+-- what stopped with an error has written a part
+pub writes_part : {X E : Type 0} (Q : E → Type 0) (r : Result X E) (old new : Option (List ℕ))
+    (lines : List LineFields) → IsErrAnd r Q → StopsShort old new (lines_text lines) → WritesLines old new r lines
+writes_part Q (Ok v) old new lines failed part = absurd failed
+writes_part Q (Err e) old new lines failed part = record { text = part; rows = tt }
+
+-- lines, and then what writes others
+pub writes_behind : {X E : Type 0} (old mid new : Option (List ℕ)) (r : Result X E) (one other : List LineFields)
+    → HasWritten old mid one → WritesLines mid new r other → WritesLines old new r (one ++ other)
+writes_behind old mid new (Ok v) one other a written =
+    writes_all old new v (one ++ other)
+    (written_both old mid new one other a (all_written mid new v other written))
+writes_behind old mid new (Err e) one other a written = record {
+  text = stopped_behind old mid new one other a written.text;
+  rows = tt;
 }

@@ -1,6 +1,6 @@
 -- The tables after a history, and which lines stand after it.
 use Rattle.std.specs.Prelude.{◌≡◌, ℕ, ◌+◌, ◌-◌, ◌<◌, Bool, true, false, not, nat_eq, List, [], ◌∷◌, ◌++◌}
-use Rattle.std.specs.Prelude.{length, drop, filter, flat_map, slice_get, Option, Some, None}
+use Rattle.std.specs.Prelude.{drop, filter, flat_map, slice_get, Option, Some, None}
 use Rattle.std.specs.HashMap.{get}
 use Rattle.std.specs.List.{AllByRecursion, list_any}
 use Rattle.row_store.specs.Absorbing.{gone_by}

@@ -1,3 +1,4 @@
 pub mod StatusLaws
 pub mod SessionLaws
 pub mod ServedLaws
+pub mod JournaledLaws

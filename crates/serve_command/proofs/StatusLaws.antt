@@ -1,7 +1,7 @@
 -- The exit statuses that there are.
 use Rattle.std.proofs.Common.{◌≡◌, ℕ, ◌⊎◌, inl, inr, Result, Ok, Err, refl, arith}
 use Rattle.std.specs.Prelude.{◌≢◌}
-use Rattle.ssb_files.specs.Status.{data_status, script_status, status_of}
+use Rattle.ssb_files.specs.Status.{data_status, job_status, script_status, status_of}
 use Rattle.ssb_files.specs.declared.fault.Fault.{Fault}
 use Rattle.ssb_files.specs.declared.fault.Fault.TheVariants as fault
 use Rattle.ssb_files.specs.declared.job.JobFault.{JobFault}
@@ -10,9 +10,23 @@ use Rattle.ssb_script.specs.declared.error.ScriptError.{ScriptError}
 use Rattle.ssb_script.specs.declared.error.ScriptError.TheVariants as script
 use Rattle.ssb_text.specs.declared.error.LoadError.{LoadError}
 use Rattle.ssb_text.specs.declared.error.LoadError.TheVariants as load
-use Rattle.serve_command.specs.Status.{serving_status, session_status}
+use Rattle.journal_file.specs.declared.file_disk.OpenError.{OpenError}
+use Rattle.journal_file.specs.declared.file_disk.OpenError.TheVariants as file
+use Rattle.journal_opening.specs.Status.{file_status, kept_status, opening_status, replay_status}
+use Rattle.journal_opening.specs.declared.fault.OpeningFault.{OpeningFault}
+use Rattle.journal_opening.specs.declared.fault.OpeningFault.TheVariants as opening
+use Rattle.journaled_sessions.specs.declared.fault.JournaledFault.{JournaledFault}
+use Rattle.journaled_sessions.specs.declared.fault.JournaledFault.TheVariants as journaled
+use Rattle.serve_command.specs.Status.{journal_status, journaled_status, serving_status, session_status}
 use Rattle.serve_command.specs.declared.fault.NotServed.{NotServed}
 use Rattle.serve_command.specs.declared.fault.NotServed.TheVariants as not_served
+use Rattle.serve_command.specs.declared.journal_fault.JournalRefusal.{JournalRefusal}
+use Rattle.serve_command.specs.declared.journal_fault.JournalRefusal.TheVariants as journal_refusal
+use Rattle.ssb_journal.specs.declared.fault.JournalFault.TheVariants as journal
+use Rattle.ssb_journal.specs.declared.opening.JournalOpenFault.{JournalOpenFault}
+use Rattle.ssb_journal.specs.declared.opening.JournalOpenFault.TheVariants as kept
+use Rattle.ssb_journal.specs.declared.replaying.ReplayFault.{ReplayFault}
+use Rattle.ssb_journal.specs.declared.replaying.ReplayFault.TheVariants as replay
 use Rattle.stream_sessions.specs.declared.outcome.Served.{Served}
 use Rattle.stream_sessions.specs.declared.outcome.SessionError.{SessionError}
 
@@ -82,3 +96,63 @@ session_broke (Err error) broke = refl
 pub session_refuses_nothing : (outcome : Result Served SessionError) → session_status outcome ≢ 1
 session_refuses_nothing (Ok served) is = absurd cc
 session_refuses_nothing (Err error) is = absurd cc
+
+-- a refused journal, or a failure
+abbrev IsJournalStatus : ℕ → Type 0
+IsJournalStatus status = (status ≡ 1) ⊎ (status ≡ 4)
+
+of_file : (why : OpenError) → IsJournalStatus (file_status why)
+of_file file.InUse = inl refl
+of_file (file.Io error) = inr refl
+
+of_kept : (why : JournalOpenFault) → IsJournalStatus (kept_status why)
+of_kept (kept.Journal journal.NotAJournal) = inl refl
+of_kept (kept.Journal (journal.OtherTables table)) = inl refl
+of_kept (kept.Journal (journal.Damaged number)) = inl refl
+of_kept (kept.Journal journal.OutOfMemory) = inr refl
+of_kept (kept.Disk error) = inr refl
+
+of_replay : (why : ReplayFault) → IsJournalStatus (replay_status why)
+of_replay (replay.Refused number action cause) = inl refl
+of_replay replay.OutOfMemory = inr refl
+
+of_opening : (why : OpeningFault) → IsJournalStatus (opening_status why)
+of_opening (opening.File why) = of_file why
+of_opening (opening.Kept why) = of_kept why
+of_opening (opening.Replay why) = of_replay why
+
+of_journaled : (why : JournaledFault) → IsJournalStatus (journaled_status why)
+of_journaled (journaled.NotRun why) = inr refl
+of_journaled (journaled.Replay why) = of_replay why
+of_journaled journaled.Disturbed = inr refl
+of_journaled journaled.Write = inr refl
+of_journaled journaled.OutOfMemory = inr refl
+
+no_words : (status : ℕ) → IsJournalStatus status → status ≢ 2
+no_words status (inl is) two = omega (arith, is, two)
+no_words status (inr is) two = omega (arith, is, two)
+
+-- what is wrong with a journal is no wrong word
+pub opening_no_words : (why : OpeningFault) → opening_status why ≢ 2
+opening_no_words why = no_words (opening_status why) (of_opening why)
+
+pub journaled_no_words : (why : JournaledFault) → journaled_status why ≢ 2
+journaled_no_words why = no_words (journaled_status why) (of_journaled why)
+
+a_fault : (status : ℕ) → IsJournalStatus status → IsFaultStatus status
+a_fault status (inl is) = inl is
+a_fault status (inr is) = inr (inr is)
+
+of_journal_serving : (why : JobFault JournalRefusal) → IsFaultStatus (job_status journal_status why)
+of_journal_serving (job.Program why) = of_program why
+of_journal_serving (job.Found journal_refusal.TooManyClients) = inr (inl refl)
+of_journal_serving (job.Found (journal_refusal.Journal why)) = a_fault _ (of_opening why)
+of_journal_serving (job.Found (journal_refusal.NotServed why)) = a_fault _ (of_journaled why)
+
+-- the same as `serving_failed` and `serving_told`, with a journal
+pub journal_failed : (why : JobFault JournalRefusal) → job_status journal_status why ≢ 1
+    → job_status journal_status why ≢ 2 → job_status journal_status why ≡ 4
+journal_failed why = else_failed (job_status journal_status why) (of_journal_serving why)
+
+pub journal_told : (why : JobFault JournalRefusal) → job_status journal_status why ≢ 0
+journal_told why = no_zero (job_status journal_status why) (of_journal_serving why)

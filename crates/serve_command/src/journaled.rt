@@ -89,6 +89,7 @@ where
     requires durable { Only (D.seen disk) (D.may_leave disk) }
     requires few { vec_len speakers ≤ 16 }
     ensures served { IfOk result (λ run. IfSome run.log (λ log. GoesOn base.value log.items)) }
+    ensures left { IfOk result (λ run. vec_len run.left ≡ vec_len speakers) }
     ensures words { IfErr result (λ refusal. journal_status refusal ≢ 2) }
 {
     let alloc = rt.alloc();
@@ -134,6 +135,7 @@ where
     requires { vec_len speakers ≤ 16 }
     ensures served { IfOk result (λ run. IfSome run.log (λ log. (texts : Table → List ℕ)
         → AreTexts I.remaining tables texts → GoesOnOver texts log.items)) }
+    ensures left { IfOk result (λ run. vec_len run.left ≡ vec_len speakers) }
     ensures words { IfErr result (λ fault. job_status journal_status fault ≢ 2) }
 {
     let alloc = rt.alloc();
@@ -223,7 +225,8 @@ where
 {
     let mut err = io::writer(screen);
     match serve_one(rt, settings, tables, place, input, output, screen) {
-        Ok((StreamLeft { output, ended }, was_written)) => {
+        Ok((left, was_written)) => {
+            let StreamLeft { output, ended } = left;
             let status = if was_written {
                 tell_ended(&ended, &mut err)
             } else {

@@ -1,11 +1,19 @@
 -- One step of a session.
-use Rattle.std.proofs.Common.{◌≡◌, ℕ, List, Option, subst, sym, inr}
+use Rattle.std.proofs.Common.{◌≡◌, ℕ, List, ◌++◌, Option, Result, Ok, Err, refl, subst, sym, inl, inr}
+use Rattle.std.specs.Prelude.{MatchResult}
 use Rattle.std.specs.Io.KnownBytes.{Consumes}
 use Rattle.history.specs.Tokens.{TokenRecord}
+use Rattle.session_requests.specs.Next.{IsRequestFault}
+use Rattle.session_requests.specs.Requests.{IsUnfinished}
+use Rattle.session_requests.specs.declared.error.RequestError.{RequestError}
+use Rattle.session_requests.specs.declared.error.RequestError.TheVariants as error
+use Rattle.stream_sessions.specs.FaultLine.{too_long_line}
+use Rattle.stream_sessions.specs.Session.{most_bytes}
 use Rattle.stream_sessions.specs.Steps.{AddsNothing, HandsOn, IsText, Steps, Fails}
 use Rattle.stream_sessions.specs.declared.outcome.SessionFault.{SessionFault}
 use Rattle.stream_sessions.specs.declared.outcome.SessionFault.TheVariants as fault
 use Rattle.stream_sessions.specs.declared.step.Step.{Step}
+use Rattle.stream_sessions.specs.declared.step.Step.TheVariants as step
 
 -- memory ran out for the answer to a text, and the replies before it are held
 pub runs_out : (number : ℕ) (old new : TokenRecord) (unread left before after : Option (List ℕ))
@@ -36,3 +44,33 @@ pub fails_so : (why : SessionFault) (one number : ℕ) (old new : TokenRecord)
     → Fails why number old new unread left before after held kept
 fails_so why one number old new unread left before after held kept numbered fails =
     subst (λ n. Fails why n old new unread left before after held kept) numbered fails
+
+-- the next request is too long, and that is told; or memory ran out for it, and the replies before it are held
+pub too_long_told : (result : Result Step SessionFault) (found : RequestError) (number : ℕ) (old : TokenRecord)
+    (unread left before after : Option (List ℕ))
+    (held kept now bytes : List ℕ)
+    → HandsOn before after held kept → Consumes unread left bytes → found ≡ error.TooLong
+    → IsRequestFault found most_bytes unread bytes
+    → MatchResult result (λ is. (is ≡ step.TooLong) × (now ≡ kept ++ too_long_line))
+    (λ why. (why ≡ fault.OutOfMemory) × (now ≡ kept))
+    → MatchResult result (λ is. Steps is number old old unread left before after held now)
+    (λ why. Fails why number old old unread left before after held now)
+too_long_told (Ok this) found number old unread left before after held kept now bytes hands taken long is told =
+    let so : IsRequestFault error.TooLong most_bytes unread bytes =
+    subst (λ e. IsRequestFault e most_bytes unread bytes) long is in
+    subst (λ s. Steps s number old old unread left before after held now) (sym told.0) (record {
+      kept = kept;
+      handed = hands;
+      bytes = bytes;
+      read = taken;
+      so = (so.0, so.1, so.2, refl, told.1);
+    })
+too_long_told (Err why) found number old unread left before after held kept now bytes hands taken long is told =
+    let so : IsRequestFault error.TooLong most_bytes unread bytes =
+    subst (λ e. IsRequestFault e most_bytes unread bytes) long is in
+    subst (λ w. Fails w number old old unread left before after held now) (sym told.0) (inr (record {
+      handed = subst (HandsOn before after held) (sym told.1) hands;
+      bytes = bytes;
+      read = taken;
+      so = inl (so.0, refl);
+    }))

@@ -213,7 +213,8 @@ spoken_so Spoken seated speaker sat client ended after remains one same_speaker 
     (subst (λ t. IsSpoken Spoken speaker t ended remains) same_client
     (subst (λ s. IsSpoken Spoken s sat ended remains) same_speaker is)))
 
-are_spoken : {X Y S L : Type 0} (Spoken : S → TokenRecord → TokenRecord → L → Type 0) (speakers : List S)
+-- each speaker was given the client of its place
+pub are_spoken : {X Y S L : Type 0} (Spoken : S → TokenRecord → TokenRecord → L → Type 0) (speakers : List S)
     (clients : List TokenRecord) (seats : List X) (spoken : List Y) (client_of : X → TokenRecord) (speaker_of : X → S)
     (closed_of : Y → TokenRecord) (left_of : Y → L) → map client_of seats ≡ clients → map speaker_of seats ≡ speakers
     → AllZip (λ seat one. IsSpoken Spoken (speaker_of seat) (client_of seat) (closed_of one) (left_of one)) seats spoken
@@ -236,20 +237,3 @@ are_spoken {X} {Y} Spoken speakers clients seats spoken client_of speaker_of clo
           end.2 (some_is (sym (map_at left_of spoken i end.0 end.1) ∙ at_left))
           (zip_at Fits seats spoken i seat.0 end.0 all seat.1 end.1);
     }
-
--- the same of a result
-pub spoken_where : {X Y S L Z E : Type 0} (Spoken : S → TokenRecord → TokenRecord → L → Type 0) (result : Result Z E)
-    (spoken_in : Z → List Y) (speakers : List S) (clients : List TokenRecord) (seats : List X)
-    (client_of : X → TokenRecord) (speaker_of : X → S) (closed_of : Y → TokenRecord) (left_of : Y → L)
-    → map client_of seats ≡ clients → map speaker_of seats ≡ speakers
-    → IfOk result (λ made. AllZip
-      (λ seat one. IsSpoken Spoken (speaker_of seat) (client_of seat) (closed_of one) (left_of one)) seats
-      (spoken_in made))
-    → IfOk result (λ made. AreSpoken Spoken speakers clients (map closed_of (spoken_in made))
-      (map left_of (spoken_in made)))
-spoken_where Spoken (Ok made) spoken_in speakers clients seats client_of speaker_of closed_of left_of of_clients
-    of_speakers all =
-    are_spoken Spoken speakers clients seats (spoken_in made) client_of speaker_of closed_of left_of of_clients
-    of_speakers all
-spoken_where Spoken (Err e) spoken_in speakers clients seats client_of speaker_of closed_of left_of of_clients
-    of_speakers all = all

@@ -1,6 +1,6 @@
 -- What a client may be told of, whatever comes of telling it.
-use Rattle.std.proofs.Common.{◌≡◌, List, ℕ, [], Option, Result, Ok, Err, refl}
-use Rattle.std.specs.Prelude.{◌≢◌, IfErr, OnOk}
+use Rattle.std.proofs.Common.{List, ℕ, [], Option, Result, Ok, Err, refl}
+use Rattle.std.specs.Prelude.{OnOk}
 use Rattle.ssb_report.specs.Written.{AppendsPart}
 use Rattle.ssb_report.proofs.WrittenLaws.{appends_none}
 
@@ -12,9 +12,3 @@ none_written known text = record { part = []; rest = text; begins = refl; append
 pub on_ok_too : {T E P : Type 0} (result : Result T E) → P → OnOk result P
 on_ok_too (Ok value) holds = holds
 on_ok_too (Err error) holds = tt
-
--- what each error is says what an error that is not so would
-pub no_other_error : {T E F P : Type 0} (fault_of : E → F) (fault : F) (result : Result T E)
-    → IfErr result (λ error. fault_of error ≡ fault) → IfErr result (λ error. fault_of error ≢ fault → P)
-no_other_error fault_of fault (Ok value) is = tt
-no_other_error fault_of fault (Err error) is = λ other. absurd (other is)

@@ -148,6 +148,7 @@ where
     W: Wait + Drop + Send,
     R: Wait + Threads + Sync,
     K: Acknowledges + Sync,
+    K::Evidence: Send,
     S: Speaks<R> + Drop + Send,
     S::Left: Drop + Send,
     requires clients { All (IsQuiet server.now) clients.items }
@@ -158,7 +159,8 @@ where
     ensures dispatchers { IfOk result (λ ended. AreStill dispatchers.items ended.dispatchers.items) }
 {
     let seats = seats_of(alloc, acknowledger, clients, speakers)?;
-    run_threads(rt, alloc, server, seats, dispatchers)
+    let ended = run_threads(rt, alloc, server, seats, dispatchers)?;
+    Ok(ended)
 }
 
 /// Serves 1 to 16 clients, one for each speaker, by 1 to 4 dispatchers over a base, each client and each dispatcher in
