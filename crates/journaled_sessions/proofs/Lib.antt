@@ -1,0 +1,5 @@
+mod BeginningLaws
+mod ReadingLaws
+mod SeatLaws
+mod RemakingLaws
+mod ServingLaws

@@ -1,2 +1,4 @@
+pub mod Reading
+pub mod Seated
 pub mod Remade
 pub mod Served

@@ -1,47 +1,77 @@
 -- What the sessions of a server with a journal leave.
-use Rattle.std.specs.Prelude.{◌≡◌, ℕ, All, List, length, Some, slice_get}
+use Rattle.std.specs.Prelude.{◌≡◌, ℕ, ◌+◌, List, [], ◌∷◌, ◌++◌, length, Option, Some, None, slice_get}
 use Rattle.history.specs.Tokens.{TableRecord, TokenRecord}
-use Rattle.history_core.specs.OwnCommits.{IsOfClients}
+use Rattle.history_core.specs.OwnCommits.{IsOfClients, commits_of}
+use Rattle.history_core.specs.declared.event.Who.TheVariants.{Client}
 use Rattle.row_store.specs.History.{CommitRecord, IsPrefix}
 use Rattle.row_store.specs.Legal.{IsLegal}
 use Rattle.ssb_base.specs.Base.{Tables}
 use Rattle.ssb_journal.specs.Replays.{IsReplayFault}
-use Rattle.stream_sessions.specs.Streams.{IsSpoken}
+use Rattle.ssb_sessions.specs.Run.{IsRunFault}
+use Rattle.stream_sessions.specs.Streams.{IsClosedWith, IsSpoken}
 use Rattle.journaled_sessions.specs.declared.fault.JournaledFault.{JournaledFault}
 use Rattle.journaled_sessions.specs.declared.fault.JournaledFault.TheVariants as fault
 
 -- the client of this number, which had seen all that was recovered or a part of it, was served by its speaker, which
--- kept what it promises; what the client sees at the end is a beginning of the log
-pub record IsServedAfter {S L : Type 0} (Spoken : S → TokenRecord → TokenRecord → L → Type 0)
-    (recovered log : List CommitRecord) (speaker : S) (left : L) : Type 0 where
+-- kept what it promises
+pub record IsServedBehind {S L : Type 0} (Spoken : S → TokenRecord → TokenRecord → L → Type 0)
+    (recovered : List CommitRecord) (number : ℕ) (speaker : S) (left : L) : Type 0 where
   pub client : TokenRecord
   pub closed : TokenRecord
+  pub who_is : client.who ≡ Client number
+  pub seen : IsPrefix client.seen recovered
+  pub spoken : IsSpoken Spoken speaker client closed left
+
+-- the speakers were served, each by a client of its own, the clients numbered from 1 in the order of the speakers: this
+-- is what they left, in order
+pub record AreServedBehind {S L : Type 0} (Spoken : S → TokenRecord → TokenRecord → L → Type 0)
+    (recovered : List CommitRecord) (speakers : List S) (left : List L) : Type 0 where
+  pub one_left : length left ≡ length speakers
+  pub served : (i : ℕ) (speaker : S) (one : L) → slice_get speakers i ≡ Some speaker → slice_get left i ≡ Some one
+      → IsServedBehind Spoken recovered (i + 1) speaker one
+
+-- the same client was served; what it sees at the end is a beginning of the log, and the commits that it made, those of
+-- the journal among them, are those of its number in the log
+pub record IsServedAfter {S L : Type 0} (Spoken : S → TokenRecord → TokenRecord → L → Type 0)
+    (recovered log : List CommitRecord) (number : ℕ) (speaker : S) (left : L) : Type 0 where
+  pub client : TokenRecord
+  pub closed : TokenRecord
+  pub who_is : client.who ≡ Client number
   pub seen : IsPrefix client.seen recovered
   pub spoken : IsSpoken Spoken speaker client closed left
   pub begins : IsPrefix closed.seen log
+  pub made : closed.mine ≡ commits_of number log
 
--- the log of a server that was closed, in which what each of these clients sees is a beginning
-pub record IsClosedAfter (table : TableRecord) (clients : List TokenRecord) (log : List CommitRecord) : Type 0 where
-  pub legal : IsLegal table.base log
-  pub named : IsOfClients table.clients log
-  pub begin : All (λ (token : TokenRecord). IsPrefix token.seen log) clients
+-- the log of a server that was closed with these clients, these dispatchers and the reader of the log, which was there
+abbrev pub IsClosedBy : TableRecord → List TokenRecord → List TokenRecord → Option TokenRecord → List CommitRecord
+    → Type 0
+IsClosedBy table clients dispatchers None log = ⊥
+IsClosedBy table clients dispatchers (Some reader) log = IsClosedWith table clients (dispatchers ++ reader ∷ []) log
 
 -- a server over the base, whose log began with the recovered commits, served these speakers, each by a client of its
--- own: this is what they left, in order, and the log
+-- own, the clients numbered from 1 in the order of the speakers: this is what they left, in order, and the log
 pub record IsJournaledRun {S L : Type 0} (Spoken : S → TokenRecord → TokenRecord → L → Type 0) (base : Tables)
     (recovered : List CommitRecord) (speakers : List S) (left : List L) (log : List CommitRecord) : Type 0 where
   pub one_left : length left ≡ length speakers
   pub served : (i : ℕ) (speaker : S) (one : L) → slice_get speakers i ≡ Some speaker → slice_get left i ≡ Some one
-      → IsServedAfter Spoken recovered log speaker one
+      → IsServedAfter Spoken recovered log (i + 1) speaker one
   pub goes_on : IsPrefix recovered log
   pub legal : IsLegal base log
   pub named : IsOfClients 16 log
 
--- why nothing was served: a commit of the journal is refused, and then it is the first that is; the others tell nothing
--- of the journal's commits
-abbrev pub IsJournaledFault : Tables → List CommitRecord → JournaledFault → Type 0
-IsJournaledFault base recovered (fault.NotRun why) = Unit {0}
-IsJournaledFault base recovered (fault.Replay why) = IsReplayFault base recovered why
-IsJournaledFault base recovered fault.Disturbed = Unit {0}
-IsJournaledFault base recovered fault.Write = Unit {0}
-IsJournaledFault base recovered fault.OutOfMemory = Unit {0}
+-- why an opened server served nothing: a commit of the journal is refused, and then it is the first that is; the others
+-- tell nothing of the journal's commits
+abbrev pub IsOpenedFault : Tables → List CommitRecord → JournaledFault → Type 0
+IsOpenedFault base recovered (fault.NotRun why) = ⊥
+IsOpenedFault base recovered (fault.Replay why) = IsReplayFault base recovered why
+IsOpenedFault base recovered fault.Disturbed = Unit {0}
+IsOpenedFault base recovered fault.Write = Unit {0}
+IsOpenedFault base recovered fault.OutOfMemory = Unit {0}
+
+-- why nothing was served: no server was opened for 16 clients and so many dispatchers; or an opened one served nothing
+abbrev pub IsJournaledFault : Tables → List CommitRecord → ℕ → JournaledFault → Type 0
+IsJournaledFault base recovered dispatchers (fault.NotRun why) = IsRunFault 16 dispatchers why
+IsJournaledFault base recovered dispatchers (fault.Replay why) = IsOpenedFault base recovered (fault.Replay why)
+IsJournaledFault base recovered dispatchers fault.Disturbed = IsOpenedFault base recovered fault.Disturbed
+IsJournaledFault base recovered dispatchers fault.Write = IsOpenedFault base recovered fault.Write
+IsJournaledFault base recovered dispatchers fault.OutOfMemory = IsOpenedFault base recovered fault.OutOfMemory

@@ -1,19 +1,21 @@
 //! Sessions over a server with a journal, from its opening to its end.
 
-ghost use Rattle.std.specs.Prelude.{◌≡◌, ◌≤◌, ◌++◌, [], ◌∷◌, All, IfOk, IfErr, IfSome, OnOk, map, vec_len};
+ghost use Rattle.std.specs.Prelude.{◌≡◌, ◌≤◌, ◌++◌, [], ◌∷◌, All, IfOk, IfErr, IfSome, OnOk, Some, map, vec_len};
 ghost use Rattle.history.specs.Tokens.{new_clients, new_dispatchers};
 ghost use Rattle.journal.specs.Groups.{recovered as recovered_groups};
 ghost use Rattle.ssb_journal.specs.Counts.{KeepsFirst};
 ghost use Rattle.ssb_journal.specs.Opening.{IsKept};
-ghost use Rattle.ssb_server.specs.Tickets.{AreAllThere, IsOf, IsQuiet};
-ghost use Rattle.ssb_sessions.specs.Sessions.{AreStill};
-ghost use Rattle.stream_sessions.specs.Streams.{AreSpoken};
-ghost use Rattle.journaled_sessions.specs.Served.{IsClosedAfter, IsJournaledFault, IsJournaledRun};
+ghost use Rattle.ssb_server.specs.Tickets.{IsOf, IsQuiet};
+ghost use Rattle.ssb_sessions.specs.Sessions.{AreStill, IsReady, IsStill};
+ghost use Rattle.stream_sessions.specs.Streams.{AreSpoken, IsClosedWith};
+ghost use Rattle.journaled_sessions.specs.Reading.{IsLater};
+ghost use Rattle.journaled_sessions.specs.Seated.{AreSeated};
+ghost use Rattle.journaled_sessions.specs.Served.{AreServedBehind, IsClosedBy, IsJournaledFault, IsJournaledRun, IsOpenedFault};
 
 use crate::acknowledging::Journaled;
 use crate::fault::JournaledFault;
 use crate::remaking::remake;
-use crate::source::ServerLog;
+use crate::source::{Opening, ServerLog, reader_of};
 use journal::{Disk, Journal};
 use row_store::Commit;
 use ssb_base::Base;
@@ -26,6 +28,7 @@ use ssb_sessions::{Batches, RunFault};
 use std::alloc::{AllocError, Global};
 use std::hash::RandomState;
 use std::io;
+use std::marker::Brand;
 use std::sync::atomic::AtomicBool;
 use std::sync::{Arc, Wait};
 use std::thread::Threads;
@@ -58,26 +61,12 @@ pub struct JournaledRun<L: Drop> {
     pub batches: Batches,
 }
 
-// The first clients, one for each speaker; the others rest.
-fn seat<W: Wait + Drop>(
-    alloc: Global,
-    clients: Vec<Client<W>>,
-    count: usize,
-) -> Result<(Vec<Client<W>>, Vec<Client<W>>), AllocError>
-    requires { count ≤ vec_len clients }
-    ensures parts { IfOk result (λ parts. parts.0.items ++ parts.1.items ≡ clients.items) }
-    ensures count { IfOk result (λ parts. vec_len parts.0 ≡ count) }
-{
-    let mut seated = Vec::with_capacity(alloc, count)?;
-    let mut resting = Vec::new(alloc);
-    for client in clients {
-        if seated.len() < count {
-            seated.push(client)?;
-        } else {
-            resting.push(client)?;
-        }
-    }
-    Ok((seated, resting))
+// A journal that was begun, beside the reader of the log whose first commits it keeps.
+#[derive(Drop)]
+struct Begun<D: Disk + Drop, W: Wait + Drop> {
+    journal: Journal<D>,
+    reader: LogReader<W>,
+    count: u64,
 }
 
 // Makes the journal's commits again, keeps what a crash has torn, and begins the journal.
@@ -86,23 +75,24 @@ fn begin_again<D, T, W, R>(
     alloc: Global,
     server: &Server<W>,
     clients: &mut [Client<W>],
-    reader: &mut LogReader<W>,
+    reader: LogReader<W>,
     recovered: Recovered<'_, D, T>,
-) -> Result<(Journal<D>, u64), JournaledFault>
+) -> Result<Begun<D, W>, JournaledFault>
 where
     D: Disk + Drop,
     T: KeepsTorn,
     W: Wait + Drop,
     R: Wait,
-    requires clients { All (IsQuiet server.now) clients.old }
-    requires reader { (reader.old.table ≡ server.now) × (reader.old.seen ≡ []) }
+    requires clients { AreSeated server.now [] clients.old }
+    requires reader { (reader.table ≡ server.now) × (reader.seen ≡ []) }
     requires kept { IsKept recovered.sizes.now (recovered_groups (D.seen recovered.opened.found)) recovered.opened.kept }
-    ensures clients { All (IsQuiet server.now) clients.new }
-    ensures reader { reader.new.table ≡ server.now }
-    ensures seen { OnOk result (reader.new.seen ≡ recovered.opened.kept.commits.items) }
-    ensures kept { IfOk result (λ begun. KeepsFirst begun.1 reader.new.seen (D.seen begun.0)) }
-    ensures fault { IfErr result (IsJournaledFault server.now.base recovered.opened.kept.commits.items) }
+    ensures clients { OnOk result (AreSeated server.now recovered.entry.opened.kept.commits.items clients.new) }
+    ensures reader { IfOk result (λ begun. IsStill reader begun.reader) }
+    ensures seen { IfOk result (λ begun. begun.reader.seen ≡ recovered.entry.opened.kept.commits.items) }
+    ensures kept { IfOk result (λ begun. KeepsFirst begun.count begun.reader.seen (D.seen begun.journal)) }
+    ensures fault { IfErr result (IsOpenedFault server.now.base recovered.entry.opened.kept.commits.items) }
 {
+    let mut reader = reader;
     let Recovered {
         opened,
         sizes,
@@ -110,14 +100,19 @@ where
     } = recovered;
     let OpenedJournal { found, kept, torn } = opened;
     let KeptCommits { commits, is_new } = kept;
-    remake(rt, server, clients, reader, &commits)?;
+    remake(rt, server, clients, &mut reader, &commits)?;
     if keeper.keep_torn(&torn).is_err() {
         return Err(JournaledFault::Write);
     }
     begun_journal_keeps();
     first_of_log();
+    let count = commits.len() as u64;
     match begin(alloc, sizes, found, is_new) {
-        Ok(journal) => Ok((journal, commits.len() as u64)),
+        Ok(journal) => Ok(Begun {
+            journal,
+            reader,
+            count,
+        }),
         Err(_) => Err(JournaledFault::Write),
     }
 }
@@ -132,6 +127,7 @@ fn gather<W: Wait + Drop, L: Drop>(
         ++ resting.items) }
     ensures left { IfOk result (λ gathered. gathered.1.items ≡ map (λ one. one.left) spoken.items) }
 {
+    let mut resting = resting;
     let mut clients = Vec::new(alloc);
     let mut all_left = Vec::new(alloc);
     for one in spoken {
@@ -139,21 +135,19 @@ fn gather<W: Wait + Drop, L: Drop>(
         clients.push(client)?;
         all_left.push(left)?;
     }
-    for client in resting {
-        clients.push(client)?;
-    }
+    clients.append(&mut resting)?;
     Ok((clients, all_left))
 }
 
-// Serves the sessions with the journal, and gives the reader of the log back.
-fn serve_sessions<D, W, R, S>(
+// Serves the sessions with the journal, and gives the reader of the log back, where the journal has not failed.
+fn serve_sessions<D, W, R, S, K>(
     rt: &R,
     alloc: Global,
     server: &Server<W>,
     seated: Vec<Client<W>>,
     dispatchers: Vec<Dispatcher<W>>,
     speakers: Vec<S>,
-    log: JournaledLog<D, ServerLog<'_, W>>,
+    begun: Begun<D, W>,
 ) -> Result<(Ended<W, Spoken<W, S::Left>>, Option<LogReader<W>>), AllocError>
 where
     D: Disk + Drop + Send,
@@ -161,28 +155,48 @@ where
     R: Wait + Threads + Sync,
     S: Speaks<R> + Drop + Send,
     S::Left: Drop + Send,
+    K: Opening + Send + Sync,
     requires clients { All (IsQuiet server.now) seated.items }
     requires dispatchers { All (IsOf server.now) dispatchers.items }
     requires speakers { vec_len seated ≡ vec_len speakers }
+    requires few { server.now.clients ≤ 16 }
+    requires reader { begun.reader.table ≡ server.now }
+    requires picked { K.reader ≡ Some begun.reader }
+    requires kept { KeepsFirst begun.count begun.reader.seen (D.seen begun.journal) }
     ensures served { IfOk result (λ end. AreSpoken S.spoken speakers.items seated.items
         (map (λ one. one.client) end.0.spoken.items) (map (λ one. one.left) end.0.spoken.items)) }
     ensures dispatchers { IfOk result (λ end. AreStill dispatchers.items end.0.dispatchers.items) }
-    ensures reader { IfOk result (λ end. IfSome end.1 (λ reader. reader.table ≡ server.now)) }
+    ensures reader { IfOk result (λ end. IfSome end.1 (λ reader. IsLater begun.reader reader)) }
 {
+    let Begun {
+        journal,
+        reader,
+        count,
+    } = begun;
+    let source: ServerLog<'_, W, K> = ServerLog::new(server, reader);
     let journaled = Journaled {
-        journal: SharedJournal::new(log),
+        journal: SharedJournal::new(JournaledLog::new(journal, source, count)),
         failed: AtomicBool::new(false),
     };
     let ended = serve_opened(rt, alloc, &journaled, server, seated, dispatchers, speakers)?;
     let Journaled { journal, failed: _ } = journaled;
-    match journal.into_log() {
-        Ok(log) => {
-            let (_journal, source, _count) = log.into_parts();
-            let ServerLog { server: _, reader } = source;
-            Ok((ended, Some(reader)))
-        },
-        Err(_) => Ok((ended, None)),
-    }
+    Ok((ended, reader_of(journal)))
+}
+
+// The log of a server that is closed with all who took part.
+fn log_of<W: Wait + Drop>(
+    server: Server<W>,
+    clients: Vec<Client<W>>,
+    reader: LogReader<W>,
+    dispatchers: Vec<Dispatcher<W>>,
+) -> Vec<Commit>
+    requires { IsReady server clients.items (dispatchers.items ++ reader ∷ []) }
+    ensures { IsClosedWith server clients.items (dispatchers.items ++ reader ∷ []) result.items }
+{
+    let Ok(Closed { base: _, log }) = server.close_with_reader(clients, reader, dispatchers) else {
+        unreachable!()
+    };
+    log
 }
 
 // Closes the server with all who took part, where the reader of the log is left.
@@ -193,12 +207,11 @@ fn close<W: Wait + Drop, L: Drop>(
     resting: Vec<Client<W>>,
     reader: Option<LogReader<W>>,
 ) -> Result<JournaledRun<L>, AllocError>
-    requires clients { All (IsQuiet server) (map (λ one. one.client) ended.spoken.items ++ resting.items) }
-    requires there { IfSome reader (λ reader. AreAllThere server (map (λ one. one.client) ended.spoken.items
+    requires { IfSome reader (λ reader. IsReady server (map (λ one. one.client) ended.spoken.items
         ++ resting.items) (ended.dispatchers.items ++ reader ∷ [])) }
     ensures left { IfOk result (λ run. run.left.items ≡ map (λ one. one.left) ended.spoken.items) }
-    ensures log { IfOk result (λ run. IfSome run.log (λ log. IsClosedAfter server (map (λ one. one.client)
-        ended.spoken.items) log.items)) }
+    ensures closed { IfOk result (λ run. IfSome run.log (λ log. IsClosedBy server (map (λ one. one.client)
+        ended.spoken.items ++ resting.items) ended.dispatchers.items reader log.items)) }
 {
     let Ended {
         spoken,
@@ -206,21 +219,11 @@ fn close<W: Wait + Drop, L: Drop>(
         batches,
     } = ended;
     let (clients, left) = gather(alloc, spoken, resting)?;
-    let Some(reader) = reader else {
-        return Ok(JournaledRun {
-            left,
-            log: None,
-            batches,
-        });
+    let log = match reader {
+        Some(reader) => Some(log_of(server, clients, reader, dispatchers)),
+        None => None,
     };
-    let Ok(Closed { base: _, log }) = server.close_with_reader(clients, reader, dispatchers) else {
-        unreachable!()
-    };
-    Ok(JournaledRun {
-        left,
-        log: Some(log),
-        batches,
-    })
+    Ok(JournaledRun { left, log, batches })
 }
 
 // Serves the speakers by an opened server.
@@ -244,23 +247,29 @@ where
     requires sixteen { opened.server.clients ≡ 16 }
     requires dispatchers { opened.dispatchers.items ++ opened.reader ∷ [] ≡ new_dispatchers opened.server }
     ensures served { IfOk result (λ run. IfSome run.log (λ log. IsJournaledRun S.spoken opened.server.base
-        recovered.opened.kept.commits.items speakers.items run.left.items log.items)) }
-    ensures fault { IfErr result (IsJournaledFault opened.server.base recovered.opened.kept.commits.items) }
+        recovered.entry.opened.kept.commits.items speakers.items run.left.items log.items)) }
+    ensures behind { IfOk result (λ run. AreServedBehind S.spoken recovered.entry.opened.kept.commits.items
+        speakers.items run.left.items) }
+    ensures left { IfOk result (λ run. vec_len run.left ≡ vec_len speakers) }
+    ensures fault { IfErr result (IsOpenedFault opened.server.base recovered.entry.opened.kept.commits.items) }
 {
     let OpenedWithReader {
         server,
         mut clients,
-        mut reader,
+        reader,
         dispatchers,
     } = opened;
-    let (journal, count) = begin_again(rt, alloc, &server, &mut clients, &mut reader, recovered)?;
-    let (seated, resting) = seat(alloc, clients, speakers.len())?;
-    let source = ServerLog {
-        server: &server,
-        reader,
-    };
-    let log = JournaledLog::new(journal, source, count);
-    let (ended, reader) = serve_sessions(rt, alloc, &server, seated, dispatchers, speakers, log)?;
+    let begun = begin_again(rt, alloc, &server, &mut clients, reader, recovered)?;
+    let resting = clients.split_off(speakers.len())?;
+    let (ended, reader) = serve_sessions::<D, W, R, S, Brand>(
+        rt,
+        alloc,
+        &server,
+        clients,
+        dispatchers,
+        speakers,
+        begun,
+    )?;
     Ok(close(alloc, server, ended, resting, reader)?)
 }
 
@@ -288,8 +297,11 @@ where
     requires few { vec_len speakers ≤ 16 }
     requires kept { IsKept recovered.sizes.now (recovered_groups (D.seen recovered.opened.found)) recovered.opened.kept }
     ensures served { IfOk result (λ run. IfSome run.log (λ log. IsJournaledRun S.spoken base.value
-        recovered.opened.kept.commits.items speakers.items run.left.items log.items)) }
-    ensures fault { IfErr result (IsJournaledFault base.value recovered.opened.kept.commits.items) }
+        recovered.entry.opened.kept.commits.items speakers.items run.left.items log.items)) }
+    ensures behind { IfOk result (λ run. AreServedBehind S.spoken recovered.entry.opened.kept.commits.items
+        speakers.items run.left.items) }
+    ensures left { IfOk result (λ run. vec_len run.left ≡ vec_len speakers) }
+    ensures fault { IfErr result (IsJournaledFault base.value recovered.entry.opened.kept.commits.items dispatchers) }
 {
     match open_with_reader(alloc, rt, hashing, base, CLIENTS, dispatchers) {
         Ok(opened) => serve(rt, alloc, opened, speakers, recovered),

@@ -1,43 +1,114 @@
--- What the run of a server with a journal says of its log.
-use Rattle.std.proofs.Common.{◌≡◌, ℕ, List, Option, None, Some, subst, sym}
-use Rattle.std.specs.Prelude.{IfSome, false, is_none}
+-- What the run of a server with a journal says of its only client, and of all clients.
+use Rattle.std.proofs.Common.{◌≡◌, ℕ, List, [], ◌∷◌, Option, None, Some, Result, Ok, Err, refl, subst, sym}
+use Rattle.std.specs.Prelude.{IfSome, false, is_none, is_some, true}
 use Rattle.history.specs.Tokens.{TokenRecord}
-use Rattle.journaled_sessions.specs.Served.{IsJournaledRun}
-use Rattle.row_store.specs.History.{CommitRecord}
-use Rattle.serve_command.specs.Journaled.{GoesOn, GoesOnOver, ServesJournaled}
+use Rattle.history.specs.World.{number_of}
+use Rattle.history_core.specs.OwnCommits.{commits_of}
+use Rattle.history_core.specs.declared.event.Who.{Who}
+use Rattle.history_core.specs.declared.event.Who.TheVariants.{Client}
+use Rattle.journaled_sessions.specs.Served.{IsJournaledRun, IsServedAfter}
+use Rattle.row_store.specs.History.{CommitRecord, IsPrefix}
+use Rattle.serve_command.specs.Journaled.{EndsAloneJournaled, GoesOn, GoesOnOver, ServesAloneJournaled, ServesJournaled}
+use Rattle.serve_command.specs.Sessions.{HasEnded}
+use Rattle.serve_command.specs.Status.{session_status}
 use Rattle.ssb_base.specs.Base.{Tables}
 use Rattle.ssb_files.specs.Loaded.{IsLoadedToServe}
 use Rattle.ssb_schema.specs.declared.table.Table.{Table}
+use Rattle.stream_sessions.specs.declared.outcome.Served.{Served}
+use Rattle.stream_sessions.specs.declared.outcome.SessionError.{SessionError}
 
--- the log of a run, where the journal was written to the end, goes on from what was recovered
+-- a run whose journal was written to the end goes on from what was kept
 pub run_goes_on : {S L V : Type 0} (items : V → List CommitRecord)
-    (Spoken : S → TokenRecord → TokenRecord → L → Type 0) (base : Tables) (recovered : List CommitRecord)
+    (Spoken : S → TokenRecord → TokenRecord → L → Type 0) (base : Tables) (kept : List CommitRecord)
     (speakers : List S) (left : List L) (log : Option V)
-    → IfSome log (λ one. IsJournaledRun Spoken base recovered speakers left (items one))
-    → IfSome log (λ one. GoesOn base (items one))
-run_goes_on items Spoken base recovered speakers left None run = tt
-run_goes_on items Spoken base recovered speakers left (Some log) run = record {
-  recovered = recovered;
-  begins = run.goes_on;
-  legal = run.legal;
-  named = run.named;
-}
+    → IfSome log (λ one. IsJournaledRun Spoken base kept speakers left (items one))
+    → IfSome log (λ one. GoesOn Spoken base speakers left (items one))
+run_goes_on items Spoken base kept speakers left None run = tt
+run_goes_on items Spoken base kept speakers left (Some log) run = record { kept = kept; run = run }
 
 -- the same over a base that texts spell
-pub goes_on_over : {V : Type 0} (items : V → List CommitRecord) (Are : (Table → List ℕ) → Type 0) (was base : Tables)
+pub goes_on_over : {S L V : Type 0} (items : V → List CommitRecord) (Are : (Table → List ℕ) → Type 0)
+    (Spoken : S → TokenRecord → TokenRecord → L → Type 0) (was base : Tables) (speakers : List S) (left : List L)
     (log : Option V) → was ≡ base → ((texts : Table → List ℕ) → Are texts → IsLoadedToServe texts base)
-    → IfSome log (λ one. GoesOn was (items one))
-    → IfSome log (λ one. (texts : Table → List ℕ) → Are texts → GoesOnOver texts (items one))
-goes_on_over items Are was base None same loaded goes_on = tt
-goes_on_over items Are was base (Some log) same loaded goes_on = λ texts are. record {
+    → IfSome log (λ one. GoesOn Spoken was speakers left (items one))
+    → IfSome log (λ one. (texts : Table → List ℕ) → Are texts → GoesOnOver Spoken texts speakers left (items one))
+goes_on_over items Are Spoken was base speakers left None same loaded goes_on = tt
+goes_on_over items Are Spoken was base speakers left (Some log) same loaded goes_on = λ texts are. record {
   base = was;
   loaded = subst (IsLoadedToServe texts) (sym same) (loaded texts are);
   goes_on = goes_on;
 }
 
--- where there is a log, a server was closed that went on from its journal
-pub serves_journaled : {V : Type 0} (items : V → List CommitRecord) (Are : (Table → List ℕ) → Type 0) (log : Option V)
-    → IfSome log (λ one. (texts : Table → List ℕ) → Are texts → GoesOnOver texts (items one)) → is_none log ≡ false
-    → (texts : Table → List ℕ) → Are texts → ServesJournaled texts
-serves_journaled items Are None over is = absurd cc
-serves_journaled items Are (Some log) over is = λ texts are. record { log = items log; over = over texts are }
+-- the server of a run
+abbrev server_of : {S L : Type 0} (Spoken : S → TokenRecord → TokenRecord → L → Type 0) (texts : Table → List ℕ)
+    (speakers : List S) (left : List L) (log : List CommitRecord) → GoesOnOver Spoken texts speakers left log
+    → ServesJournaled texts
+server_of Spoken texts speakers left log over = record {
+  base = over.base;
+  loaded = over.loaded;
+  kept = over.goes_on.kept;
+  log = log;
+  begins = over.goes_on.run.goes_on;
+  legal = over.goes_on.run.legal;
+  named = over.goes_on.run.named;
+}
+
+-- where there is a log, there was such a server
+pub serves_journaled : {S L V : Type 0} (items : V → List CommitRecord) (Are : (Table → List ℕ) → Type 0)
+    (Spoken : S → TokenRecord → TokenRecord → L → Type 0) (speakers : List S) (left : List L) (log : Option V)
+    → IfSome log (λ one. (texts : Table → List ℕ) → Are texts → GoesOnOver Spoken texts speakers left (items one))
+    → is_none log ≡ false → (texts : Table → List ℕ) → Are texts → ServesJournaled texts
+serves_journaled items Are Spoken speakers left None over there = absurd cc
+serves_journaled items Are Spoken speakers left (Some log) over there = λ texts are.
+    server_of Spoken texts speakers left (items log) (over texts are)
+
+-- the only speaker of such a server had client 1
+pub record IsAloneJournaled {S L : Type 0} (Spoken : S → TokenRecord → TokenRecord → L → Type 0)
+    (texts : Table → List ℕ) (speaker : S) (one : L) : Type 0 where
+  pub server : ServesJournaled texts
+  pub after : IsServedAfter Spoken server.kept server.log 1 speaker one
+
+alone_of : {S L : Type 0} (Spoken : S → TokenRecord → TokenRecord → L → Type 0) (texts : Table → List ℕ) (speaker : S)
+    (one : L) (log : List CommitRecord) → GoesOnOver Spoken texts (speaker ∷ []) (one ∷ []) log
+    → IsAloneJournaled Spoken texts speaker one
+alone_of Spoken texts speaker one log over = record {
+  server = server_of Spoken texts (speaker ∷ []) (one ∷ []) log over;
+  after = over.goes_on.run.served 0 speaker one refl refl;
+}
+
+pub is_alone_journaled : {S L V : Type 0} (items : V → List CommitRecord) (Are : (Table → List ℕ) → Type 0)
+    (Spoken : S → TokenRecord → TokenRecord → L → Type 0) (speakers : List S) (speaker : S) (left : List L) (one : L)
+    (log : Option V)
+    → IfSome log (λ item. (texts : Table → List ℕ) → Are texts → GoesOnOver Spoken texts speakers left (items item))
+    → is_some log ≡ true → speakers ≡ speaker ∷ [] → left ≡ one ∷ []
+    → (texts : Table → List ℕ) → Are texts → IsAloneJournaled Spoken texts speaker one
+is_alone_journaled items Are Spoken speakers speaker left one None over there of_one left_one = absurd cc
+is_alone_journaled {L = L} items Are Spoken speakers speaker left one (Some log) over there of_one left_one =
+    λ texts are. alone_of Spoken texts speaker one (items log)
+    (subst (λ (ls : List L). GoesOnOver Spoken texts (speaker ∷ []) ls (items log)) left_one
+    (subst (λ xs. GoesOnOver Spoken texts xs left (items log)) of_one (over texts are)))
+
+-- the session of client 1, by its number
+pub ends_alone_journaled : (outcome : Result Served SessionError) (texts : Table → List ℕ)
+    (unread before after : Option (List ℕ)) (server : ServesJournaled texts) (client closed : TokenRecord)
+    → client.who ≡ Client 1 → IsPrefix client.seen server.kept
+    → HasEnded outcome (number_of client.who) client closed unread before after
+    → IsPrefix closed.seen server.log → closed.mine ≡ commits_of 1 server.log
+    → EndsAloneJournaled outcome texts unread before after
+ends_alone_journaled outcome texts unread before after server client closed who seen ended begins made = record {
+  server = server;
+  client = client;
+  closed = closed;
+  seen = seen;
+  ended =
+    subst (λ (one : Who). HasEnded outcome (number_of one) client closed unread before after) who ended;
+  begins = begins;
+  made = made;
+}
+
+-- what a session's status says of it
+pub serves_alone_journaled : (outcome : Result Served SessionError) (texts : Table → List ℕ)
+    (unread before after : Option (List ℕ)) → EndsAloneJournaled outcome texts unread before after
+    → session_status outcome ≡ 0 → ServesAloneJournaled texts unread before after
+serves_alone_journaled (Ok served) texts unread before after alone is = record { served = served; alone = alone }
+serves_alone_journaled (Err error) texts unread before after alone is = absurd cc

@@ -1,9 +1,11 @@
 //! The word `serve` with a journal: what clients are told is on the disk before.
 
 ghost use Rattle.std.specs.Prelude.{◌≡◌, ◌≢◌, ◌↔◌, ◌<◌, ◌≤◌, ℕ, List, true, IfOk, IfErr, IfSome, vec_len};
+ghost use Rattle.std.specs.Option.{option_and_then};
 ghost use Rattle.journal.specs.Disk.{Only};
-ghost use Rattle.serve_command.specs.Journaled.{GoesOn, GoesOnOver, ServesJournaled};
-ghost use Rattle.serve_command.specs.Status.{journal_status};
+ghost use Rattle.serve_command.specs.Journaled.{EndsAloneJournaled, GoesOn, GoesOnOver};
+ghost use Rattle.serve_command.specs.Journaled.{ServesAloneJournaled, ServesJournaled};
+ghost use Rattle.serve_command.specs.Status.{journal_status, session_status};
 ghost use Rattle.ssb_files.specs.Status.{job_status};
 ghost use Rattle.ssb_schema.specs.declared.table.Table.{Table};
 ghost use Rattle.ssb_text.specs.Load.{AreTexts};
@@ -27,7 +29,7 @@ use std::rt::Files;
 use std::sync::{Arc, Wait};
 use std::thread::Threads;
 use std::time::Clock;
-use stream_sessions::Speaks;
+use stream_sessions::{Served, SessionError, Speaks};
 
 /// Where the journal is, and what is told of it.
 #[derive(Drop)]
@@ -88,7 +90,8 @@ where
     requires readable { D.is_readable disk }
     requires durable { Only (D.seen disk) (D.may_leave disk) }
     requires few { vec_len speakers ≤ 16 }
-    ensures served { IfOk result (λ run. IfSome run.log (λ log. GoesOn base.value log.items)) }
+    ensures served { IfOk result (λ run. IfSome run.log (λ log. GoesOn S.spoken base.value speakers.items run.left.items
+        log.items)) }
     ensures left { IfOk result (λ run. vec_len run.left ≡ vec_len speakers) }
     ensures words { IfErr result (λ refusal. journal_status refusal ≢ 2) }
 {
@@ -134,7 +137,7 @@ where
     S::Left: Drop + Send,
     requires { vec_len speakers ≤ 16 }
     ensures served { IfOk result (λ run. IfSome run.log (λ log. (texts : Table → List ℕ)
-        → AreTexts I.remaining tables texts → GoesOnOver texts log.items)) }
+        → AreTexts I.remaining tables texts → GoesOnOver S.spoken texts speakers.items run.left.items log.items)) }
     ensures left { IfOk result (λ run. vec_len run.left ≡ vec_len speakers) }
     ensures words { IfErr result (λ fault. job_status journal_status fault ≢ 2) }
 {
@@ -162,6 +165,23 @@ fn tell_not_written<E: Write>(err: &mut E) -> u8
     4
 }
 
+// Tells what broke the only client's session, or that the journal could not be written, and gives the exit status.
+fn tell_end<E: Write>(
+    ended: &Result<Served, SessionError>,
+    was_written: bool,
+    err: &mut E,
+) -> u8
+    ensures written { result ≡ 0 → was_written ≡ true }
+    ensures served { result ≡ 0 → session_status ended.now ≡ 0 }
+    ensures others { result ≢ 0 → result ≡ 4 }
+{
+    if was_written {
+        tell_ended(ended, err)
+    } else {
+        tell_not_written(err)
+    }
+}
+
 // A client over a reader and a writer, alone: what it left, and whether the journal was written to the end.
 fn serve_one<R, F, I, J, O, E>(
     rt: &R,
@@ -180,8 +200,8 @@ where
     J: Read + Drop + Send,
     O: Write + Drop + Send,
     E: Print,
-    ensures served { IfOk result (λ end. end.1 ≡ true → (texts : Table → List ℕ)
-        → AreTexts I.remaining tables texts → ServesJournaled texts) }
+    ensures ended { IfOk result (λ end. end.1 ≡ true → (texts : Table → List ℕ) → AreTexts I.remaining tables texts
+        → EndsAloneJournaled end.0.ended texts (J.remaining input) (O.contents output) (O.contents end.0.output)) }
     ensures words { IfErr result (λ fault. job_status journal_status fault ≢ 2) }
 {
     let mut speakers = Vec::new(rt.alloc());
@@ -220,20 +240,16 @@ where
     O: Write + Drop + Send,
     E: Print,
     ensures served { result.status ≡ 0 → (texts : Table → List ℕ) → AreTexts I.remaining tables texts
-        → ServesJournaled texts }
+        → ServesAloneJournaled texts (J.remaining input) (O.contents output)
+        (option_and_then O.contents result.output) }
     ensures others { result.status ≢ 0 → result.status ≢ 1 → result.status ≡ 4 }
 {
     let mut err = io::writer(screen);
     match serve_one(rt, settings, tables, place, input, output, screen) {
         Ok((left, was_written)) => {
             let StreamLeft { output, ended } = left;
-            let status = if was_written {
-                tell_ended(&ended, &mut err)
-            } else {
-                tell_not_written(&mut err)
-            };
             StreamEnd {
-                status,
+                status: tell_end(&ended, was_written, &mut err),
                 output: Some(output),
             }
         }

@@ -1,0 +1,242 @@
+-- What the sessions of a server with a journal leave is as its definition says.
+use Rattle.std.proofs.Common.{◌≡◌, ℕ, ◌+◌, ◌≤◌, List, [], ◌∷◌, ◌++◌, length, take, drop, Option, Some, None}
+use Rattle.std.proofs.Common.{refl, sym, ap, ◌∙◌, subst, arith, length-append}
+use Rattle.std.specs.Prelude.{All, IfSome, slice_get}
+use Rattle.std.specs.List.{AllZip, range_with_len}
+use Rattle.std.proofs.lemmas.List.{length-take-le, take-append-drop, take_at}
+use Rattle.std.proofs.lemmas.Option.{slice_get_within}
+use Rattle.std.proofs.lemmas.List.Elements.{All-nil, All-cons, All-head, All-tail, All-pop}
+use Rattle.history.specs.Tokens.{TableRecord, TokenRecord, new_clients, new_dispatchers}
+use Rattle.history.specs.Words.{Owns}
+use Rattle.history_core.specs.OwnCommits.{IsOfClients}
+use Rattle.row_store.specs.History.{CommitRecord, IsPrefix}
+use Rattle.row_store.proofs.PrefixLaws.{beginnings_chain}
+use Rattle.ssb_server.specs.Tickets.{IsQuiet}
+use Rattle.ssb_sessions.proofs.PlaceLaws.{all_at, get_below}
+use Rattle.ssb_sessions.proofs.SessionLaws.{ready_where, still_push}
+use Rattle.ssb_sessions.specs.Sessions.{AreStill, IsReady, IsStill}
+use Rattle.ssb_sessions.specs.Steps.{AreAlike}
+use Rattle.stream_sessions.specs.Streams.{AreSpoken, IsClosedWith}
+use Rattle.journaled_sessions.proofs.SeatLaws.{
+  AreStanding,
+  alike_stand,
+  get_front,
+  new_are_seated,
+  seated_stand,
+  standing_numbers,
+  standing_quiet,
+  zip_of_places,
+}
+use Rattle.journaled_sessions.specs.Reading.{IsLater}
+use Rattle.journaled_sessions.specs.Seated.{AreSeated}
+use Rattle.journaled_sessions.specs.Served.{AreServedBehind, IsClosedBy, IsJournaledRun, IsServedAfter}
+
+-- the speakers gave back the clients that they were given
+alike_sessions : {S L : Type 0} (Spoken : S → TokenRecord → TokenRecord → L → Type 0) (speakers : List S)
+    (seated closed : List TokenRecord) (left : List L) → length seated ≡ length speakers
+    → AreSpoken Spoken speakers seated closed left → AllZip AreAlike seated closed
+alike_sessions Spoken speakers seated closed left same spoken =
+    zip_of_places AreAlike seated closed (spoken.closed_each ∙ sym same) (λ i client after here there.
+    let within = slice_get_within seated i client here in
+    let speaker = get_below speakers i (omega (arith, within, same)) in
+    let one = get_below left i (omega (arith, within, same, spoken.left_each)) in
+    (spoken.each i speaker.0 client after one.0 speaker.1 here there one.1).alike)
+
+-- of the reader that is still the same
+still_later : (opened begun now : TokenRecord) → IsStill opened begun → IsLater begun now → IsStill opened now
+still_later opened begun now still later = record {
+  table = later.table ∙ still.table;
+  who = later.who ∙ still.who;
+}
+
+-- the clients of the sessions and those that rested, before the sessions
+pub record AreParted (table : TableRecord) (recovered : List CommitRecord) (count : ℕ)
+    (seated resting : List TokenRecord) : Type 0 where
+  pub all : List TokenRecord
+  pub parts : seated ++ resting ≡ all
+  pub are : AreSeated table recovered all
+  pub many : length seated ≡ count
+
+parted : (table : TableRecord) (recovered : List CommitRecord) (count : ℕ) (all seated resting : List TokenRecord)
+    → AreSeated table recovered all → count ≤ length all → seated ≡ take count all → resting ≡ drop count all
+    → AreParted table recovered count seated resting
+parted table recovered count all seated resting are few front back = record {
+  all = all;
+  parts = ap (λ xs. xs ++ resting) front ∙ ap (λ xs. take count all ++ xs) back ∙ take-append-drop count all;
+  are = are;
+  many = ap length front ∙ length-take-le count all few;
+}
+
+-- the same of clients that were lent and came back
+pub parted_again : (table : TableRecord) (recovered : List CommitRecord) (count n len : ℕ)
+    (old all seated resting : List TokenRecord) → AreSeated table recovered all → n ≡ count → count ≤ table.clients
+    → len ≡ table.clients → seated ≡ take n (take len (all ++ drop (length all) old))
+    → resting ≡ drop n (take len (all ++ drop (length all) old)) → AreParted table recovered count seated resting
+parted_again table recovered count n len old all seated resting are same few whole front back =
+    let back_again : take len (all ++ drop (length all) old) ≡ all =
+    take_at all (drop (length all) old) len (are.count ∙ sym whole) in
+    parted table recovered count all seated resting are (omega (arith, few, are.count))
+    (front ∙ (ap (λ xs. take n xs) back_again ∙ ap (λ k. take k all) same))
+    (back ∙ (ap (λ xs. drop n xs) back_again ∙ ap (λ k. drop k all) same))
+
+parts_stand : (table : TableRecord) (recovered : List CommitRecord) (count : ℕ) (seated resting : List TokenRecord)
+    → AreParted table recovered count seated resting → AreStanding table 1 (seated ++ resting)
+parts_stand table recovered count seated resting parted =
+    subst (AreStanding table 1) (sym parted.parts) (seated_stand table recovered parted.all parted.are)
+
+front_quiet : {X : Type 0} (P : X → Type 0) (front rest : List X) → All P (front ++ rest) → All P front
+front_quiet P [] rest all = All-nil P
+front_quiet P (x ∷ front) rest all = All-cons P x front (All-head P x (front ++ rest) all)
+    (front_quiet P front rest (All-tail P x (front ++ rest) all))
+
+pub seated_quiet : (table : TableRecord) (recovered : List CommitRecord) (count : ℕ) (seated resting : List TokenRecord)
+    → AreParted table recovered count seated resting → All (IsQuiet table) seated
+seated_quiet table recovered count seated resting parted =
+    front_quiet (IsQuiet table) seated resting
+    (standing_quiet table 1 (seated ++ resting) (parts_stand table recovered count seated resting parted))
+
+-- the server can be closed with all that it was opened with
+ready_to_close : {S L : Type 0} (Spoken : S → TokenRecord → TokenRecord → L → Type 0) (table : TableRecord)
+    (recovered : List CommitRecord) (speakers : List S) (seated resting closed : List TokenRecord) (left : List L)
+    (dispatchers ended : List TokenRecord) (opened now : TokenRecord)
+    → AreParted table recovered (length speakers) seated resting → AreSpoken Spoken speakers seated closed left
+    → dispatchers ++ opened ∷ [] ≡ new_dispatchers table → AreStill dispatchers ended → IsStill opened now
+    → IsReady table (closed ++ resting) (ended ++ now ∷ [])
+ready_to_close Spoken table recovered speakers seated resting closed left dispatchers ended opened now parted spoken new
+    still reader =
+    let stand = alike_stand table 1 seated closed resting
+    (alike_sessions Spoken speakers seated closed left parted.many spoken)
+    (parts_stand table recovered (length speakers) seated resting parted) in
+    let fresh = new_are_seated table (new_clients table) refl in
+    let whole : length (seated ++ resting) ≡ length parted.all = ap length parted.parts in
+    let count : length (closed ++ resting) ≡ length (new_clients table) =
+    omega (
+      arith,
+      length-append closed resting,
+      length-append seated resting,
+      whole,
+      parted.are.count,
+      parted.many,
+      spoken.closed_each,
+      fresh.count,
+    ) in
+    ready_where table (closed ++ resting) (dispatchers ++ opened ∷ []) (ended ++ now ∷ [])
+    (standing_quiet table 1 (closed ++ resting) stand)
+    (standing_numbers table 1 (closed ++ resting) stand ∙ ap (range_with_len 1) count
+    ∙ sym (standing_numbers table 1 (new_clients table) (seated_stand table [] (new_clients table) fresh)))
+    new (still_push dispatchers ended opened now still reader)
+
+pub ready_where_left : {S L : Type 0} (Spoken : S → TokenRecord → TokenRecord → L → Type 0) (table : TableRecord)
+    (recovered : List CommitRecord) (speakers : List S) (seated resting closed : List TokenRecord) (left : List L)
+    (dispatchers ended : List TokenRecord) (opened begun : TokenRecord) (reader : Option TokenRecord)
+    → AreParted table recovered (length speakers) seated resting → AreSpoken Spoken speakers seated closed left
+    → dispatchers ++ opened ∷ [] ≡ new_dispatchers table → AreStill dispatchers ended → IsStill opened begun
+    → IfSome reader (λ one. IsLater begun one)
+    → IfSome reader (λ one. IsReady table (closed ++ resting) (ended ++ one ∷ []))
+ready_where_left Spoken table recovered speakers seated resting closed left dispatchers ended opened begun None parted
+    spoken new still reader later = tt
+ready_where_left Spoken table recovered speakers seated resting closed left dispatchers ended opened begun (Some now)
+    parted spoken new still reader later =
+    ready_to_close Spoken table recovered speakers seated resting closed left dispatchers ended opened now parted spoken
+    new still (still_later opened begun now reader later)
+
+-- what the reader sees at the end begins with what was recovered
+later_begins : (begun now : TokenRecord) → IsLater begun now → IsPrefix begun.seen now.seen
+later_begins begun now later = record {
+  rest = drop (length begun.seen) now.seen;
+  whole = sym (take-append-drop (length begun.seen) now.seen)
+      ∙ ap (λ list. list ++ drop (length begun.seen) now.seen) later.begins;
+}
+
+-- a session and its client
+served_after : {S L : Type 0} (Spoken : S → TokenRecord → TokenRecord → L → Type 0) (table : TableRecord)
+    (recovered log : List CommitRecord) (speakers : List S) (seated resting closed : List TokenRecord) (left : List L)
+    (ended : List TokenRecord) (i : ℕ) (speaker : S) (one : L)
+    → AreParted table recovered (length speakers) seated resting → AreSpoken Spoken speakers seated closed left
+    → IsClosedWith table (closed ++ resting) ended log → slice_get speakers i ≡ Some speaker
+    → slice_get left i ≡ Some one → IsServedAfter Spoken recovered log (i + 1) speaker one
+served_after Spoken table recovered log speakers seated resting closed left ended i speaker one parted spoken closed_with
+    at_speaker at_left =
+    let within = slice_get_within speakers i speaker at_speaker in
+    let client = get_below seated i (omega (arith, within, parted.many)) in
+    let after = get_below closed i (omega (arith, within, spoken.closed_each)) in
+    let is = spoken.each i speaker client.0 after.0 one at_speaker client.1 after.1 at_left in
+    let seat = parted.are.each i client.0
+    (ap (λ xs. slice_get xs i) (sym parted.parts) ∙ get_front seated resting i client.0 client.1) in
+    let there = get_front closed resting i after.0 after.1 in
+    record {
+      client = client.0;
+      closed = after.0;
+      who_is = seat.who_is;
+      seen = seat.begins;
+      spoken = is;
+      begins = all_at (λ (token : TokenRecord). IsPrefix token.seen log) (closed ++ resting) i after.0 closed_with.begin
+          there;
+      made = subst (λ who. Owns who after.0.mine log) (is.alike.who ∙ seat.who_is)
+          (all_at (λ (token : TokenRecord). Owns token.who token.mine log) (closed ++ resting) i after.0
+          closed_with.own there);
+    }
+
+-- the sessions, whether or not there is a log
+pub served_behind : {S L : Type 0} (Spoken : S → TokenRecord → TokenRecord → L → Type 0) (table : TableRecord)
+    (recovered : List CommitRecord) (speakers : List S) (seated resting closed : List TokenRecord)
+    (left all_left : List L) → AreParted table recovered (length speakers) seated resting
+    → AreSpoken Spoken speakers seated closed left → all_left ≡ left
+    → AreServedBehind Spoken recovered speakers all_left
+served_behind Spoken table recovered speakers seated resting closed left all_left parted spoken same = record {
+  one_left = ap length same ∙ spoken.left_each;
+  served = λ i speaker one at_speaker at_left.
+      let within = slice_get_within speakers i speaker at_speaker in
+      let client = get_below seated i (omega (arith, within, parted.many)) in
+      let after = get_below closed i (omega (arith, within, spoken.closed_each)) in
+      let seat = parted.are.each i client.0
+      (ap (λ xs. slice_get xs i) (sym parted.parts) ∙ get_front seated resting i client.0 client.1) in
+      record {
+        client = client.0;
+        closed = after.0;
+        who_is = seat.who_is;
+        seen = seat.begins;
+        spoken = spoken.each i speaker client.0 after.0 one at_speaker client.1 after.1
+            (ap (λ xs. slice_get xs i) (sym same) ∙ at_left);
+      };
+}
+
+journaled_run : {S L : Type 0} (Spoken : S → TokenRecord → TokenRecord → L → Type 0) (table : TableRecord)
+    (recovered log : List CommitRecord) (speakers : List S) (seated resting closed : List TokenRecord)
+    (left all_left : List L) (ended : List TokenRecord) (begun : TokenRecord) (reader : Option TokenRecord)
+    → AreParted table recovered (length speakers) seated resting → AreSpoken Spoken speakers seated closed left
+    → table.clients ≡ 16 → begun.seen ≡ recovered → IfSome reader (λ one. IsLater begun one)
+    → all_left ≡ left → IsClosedBy table (closed ++ resting) ended reader log
+    → IsJournaledRun Spoken table.base recovered speakers all_left log
+journaled_run Spoken table recovered log speakers seated resting closed left all_left ended begun None parted spoken
+    sixteen seen later same closed_with = absurd closed_with
+journaled_run Spoken table recovered log speakers seated resting closed left all_left ended begun (Some now) parted
+    spoken sixteen seen later same closed_with =
+    let begins = (All-pop (λ (token : TokenRecord). IsPrefix token.seen log) (ended ++ now ∷ []) ended (Some now) refl
+    closed_with.ended_begin).1 in
+    record {
+      one_left = ap length same ∙ spoken.left_each;
+      served = λ i speaker one at_speaker at_left.
+          served_after Spoken table recovered log speakers seated resting closed left (ended ++ now ∷ []) i speaker one
+          parted spoken closed_with at_speaker (ap (λ xs. slice_get xs i) (sym same) ∙ at_left);
+      goes_on = subst (λ list. IsPrefix list log) seen
+          (beginnings_chain begun.seen now.seen log (later_begins begun now later) begins);
+      legal = closed_with.legal;
+      named = subst (λ n. IsOfClients n log) sixteen closed_with.named;
+    }
+
+-- the same, where there is a log
+pub run_where : {S L V : Type 0} (Spoken : S → TokenRecord → TokenRecord → L → Type 0) (items : V → List CommitRecord)
+    (table : TableRecord) (recovered : List CommitRecord) (speakers : List S) (seated resting closed : List TokenRecord)
+    (left all_left : List L) (ended : List TokenRecord) (begun : TokenRecord) (reader : Option TokenRecord)
+    (log : Option V)
+    → AreParted table recovered (length speakers) seated resting → AreSpoken Spoken speakers seated closed left
+    → table.clients ≡ 16 → begun.seen ≡ recovered → IfSome reader (λ one. IsLater begun one)
+    → all_left ≡ left → IfSome log (λ one. IsClosedBy table (closed ++ resting) ended reader (items one))
+    → IfSome log (λ one. IsJournaledRun Spoken table.base recovered speakers all_left (items one))
+run_where Spoken items table recovered speakers seated resting closed left all_left ended begun reader None parted spoken
+    sixteen seen later same closed_by = tt
+run_where Spoken items table recovered speakers seated resting closed left all_left ended begun reader (Some log) parted
+    spoken sixteen seen later same closed_by =
+    journaled_run Spoken table recovered (items log) speakers seated resting closed left all_left ended begun reader
+    parted spoken sixteen seen later same closed_by

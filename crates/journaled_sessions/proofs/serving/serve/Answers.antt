@@ -1,0 +1,99 @@
+use Rattle.std.proofs.Common.{◌≡◌, ◌≤◌, ◌∙◌, length, ap, arith}
+use Rattle.std.proofs.lemmas.List.FromFn.{length-map-range_with_len}
+use Rattle.journaled_sessions.proofs.BeginningLaws.{begun_table, opened_dispatchers, opened_reader}
+use Rattle.journaled_sessions.proofs.SeatLaws.{new_are_seated}
+use Rattle.journaled_sessions.proofs.ServingLaws.{parted_again, ready_where_left, run_where, seated_quiet, served_behind}
+use Rattle.journaled_sessions.proofs.serving.serve.Goals as goal
+
+pub begin_again-requires-clause-clients : goal.begin_again-requires-clause-clients
+begin_again-requires-clause-clients g c =
+    new_are_seated c.args.opened.server c.deref_mut.result.now (c.deref_mut.ensures.value ∙ c.requires.clients)
+
+pub begin_again-requires-clause-reader : goal.begin_again-requires-clause-reader
+begin_again-requires-clause-reader g c =
+    (opened_reader c.args.opened.server c.args.opened.dispatchers.items c.args.opened.reader c.requires.dispatchers).1
+
+pub serve_sessions-requires-clause-clients : goal.serve_sessions-requires-clause-clients
+serve_sessions-requires-clause-clients g c κs within =
+    let speakers = c.args.speakers in
+    let clients = c.args.opened.clients in
+    let same : c.len.result ≡ length speakers.items = omega (arith, c.len.ensures, speakers.ok.0, speakers.ok.1) in
+    let each : length clients.items ≡ c.args.opened.server.clients =
+    ap length c.requires.clients ∙ length-map-range_with_len _ 1 c.args.opened.server.clients in
+    let few : length speakers.items ≤ c.args.opened.server.clients =
+    omega (arith, c.requires.few, c.requires.sixteen, speakers.ok.0, speakers.ok.1) in
+    let whole : clients.len ≡ c.args.opened.server.clients = omega (arith, each, clients.ok.0, clients.ok.1) in
+    let parts = parted_again c.args.opened.server c.args.recovered.opened.kept.commits.items (length speakers.items)
+    c.len.result clients.len clients.items c.begin_again.new.clients c.split_off.new.self.items
+    c.in_ok-resting.resting.items c.in_ok-begun.ensures.clients same few whole c.in_ok-resting.ensures.items
+    c.in_ok-resting.ensures.tail in
+    seated_quiet c.args.opened.server c.args.recovered.opened.kept.commits.items (length c.args.speakers.items)
+    c.split_off.new.self.items c.in_ok-resting.resting.items parts
+
+pub serve_sessions-requires-clause-dispatchers : goal.serve_sessions-requires-clause-dispatchers
+serve_sessions-requires-clause-dispatchers g c κs within =
+    opened_dispatchers c.args.opened.server c.args.opened.dispatchers.items c.args.opened.reader c.requires.dispatchers
+
+pub serve_sessions-requires-clause-reader : goal.serve_sessions-requires-clause-reader
+serve_sessions-requires-clause-reader g c κs within =
+    begun_table c.args.opened.server c.args.opened.reader c.in_ok-begun.begun.reader
+    (opened_reader c.args.opened.server c.args.opened.dispatchers.items c.args.opened.reader c.requires.dispatchers).1.0
+    c.in_ok-begun.ensures.reader
+
+pub close-requires : goal.close-requires
+close-requires g c =
+    let speakers = c.args.speakers in
+    let clients = c.args.opened.clients in
+    let same : c.len.result ≡ length speakers.items = omega (arith, c.len.ensures, speakers.ok.0, speakers.ok.1) in
+    let each : length clients.items ≡ c.args.opened.server.clients =
+    ap length c.requires.clients ∙ length-map-range_with_len _ 1 c.args.opened.server.clients in
+    let few : length speakers.items ≤ c.args.opened.server.clients =
+    omega (arith, c.requires.few, c.requires.sixteen, speakers.ok.0, speakers.ok.1) in
+    let whole : clients.len ≡ c.args.opened.server.clients = omega (arith, each, clients.ok.0, clients.ok.1) in
+    let parts = parted_again c.args.opened.server c.args.recovered.opened.kept.commits.items (length speakers.items)
+    c.len.result clients.len clients.items c.begin_again.new.clients c.split_off.new.self.items
+    c.in_ok-resting.resting.items c.in_ok-begun.ensures.clients same few whole c.in_ok-resting.ensures.items
+    c.in_ok-resting.ensures.tail in
+    ready_where_left g.S.Speaker.spoken c.args.opened.server c.args.recovered.opened.kept.commits.items
+    c.args.speakers.items c.split_off.new.self.items c.in_ok-resting.resting.items _ _ c.args.opened.dispatchers.items
+    c.in_ok-ended.ended.dispatchers.items c.args.opened.reader c.in_ok-begun.begun.reader c.in_ok-ended.reader parts
+    c.in_ok-ended.ensures.served c.requires.dispatchers c.in_ok-ended.ensures.dispatchers
+    c.in_ok-begun.ensures.reader c.in_ok-ended.ensures.reader
+
+pub returns-clause-served : goal.returns-clause-served
+returns-clause-served g c =
+    let speakers = c.args.speakers in
+    let clients = c.args.opened.clients in
+    let same : c.len.result ≡ length speakers.items = omega (arith, c.len.ensures, speakers.ok.0, speakers.ok.1) in
+    let each : length clients.items ≡ c.args.opened.server.clients =
+    ap length c.requires.clients ∙ length-map-range_with_len _ 1 c.args.opened.server.clients in
+    let few : length speakers.items ≤ c.args.opened.server.clients =
+    omega (arith, c.requires.few, c.requires.sixteen, speakers.ok.0, speakers.ok.1) in
+    let whole : clients.len ≡ c.args.opened.server.clients = omega (arith, each, clients.ok.0, clients.ok.1) in
+    let parts = parted_again c.args.opened.server c.args.recovered.opened.kept.commits.items (length speakers.items)
+    c.len.result clients.len clients.items c.begin_again.new.clients c.split_off.new.self.items
+    c.in_ok-resting.resting.items c.in_ok-begun.ensures.clients same few whole c.in_ok-resting.ensures.items
+    c.in_ok-resting.ensures.tail in
+    run_where g.S.Speaker.spoken (λ log. log.items) c.args.opened.server c.args.recovered.opened.kept.commits.items
+    c.args.speakers.items c.split_off.new.self.items c.in_ok-resting.resting.items _ _ c.in_ok-close.field-0.left.items
+    c.in_ok-ended.ended.dispatchers.items c.in_ok-begun.begun.reader c.in_ok-ended.reader c.in_ok-close.field-0.log
+    parts c.in_ok-ended.ensures.served c.requires.sixteen c.in_ok-begun.ensures.seen c.in_ok-ended.ensures.reader
+    c.in_ok-close.ensures.left c.in_ok-close.ensures.closed
+
+pub returns-clause-behind : goal.returns-clause-behind
+returns-clause-behind g c =
+    let speakers = c.args.speakers in
+    let clients = c.args.opened.clients in
+    let same : c.len.result ≡ length speakers.items = omega (arith, c.len.ensures, speakers.ok.0, speakers.ok.1) in
+    let each : length clients.items ≡ c.args.opened.server.clients =
+    ap length c.requires.clients ∙ length-map-range_with_len _ 1 c.args.opened.server.clients in
+    let few : length speakers.items ≤ c.args.opened.server.clients =
+    omega (arith, c.requires.few, c.requires.sixteen, speakers.ok.0, speakers.ok.1) in
+    let whole : clients.len ≡ c.args.opened.server.clients = omega (arith, each, clients.ok.0, clients.ok.1) in
+    let parts = parted_again c.args.opened.server c.args.recovered.opened.kept.commits.items (length speakers.items)
+    c.len.result clients.len clients.items c.begin_again.new.clients c.split_off.new.self.items
+    c.in_ok-resting.resting.items c.in_ok-begun.ensures.clients same few whole c.in_ok-resting.ensures.items
+    c.in_ok-resting.ensures.tail in
+    served_behind g.S.Speaker.spoken c.args.opened.server c.args.recovered.opened.kept.commits.items
+    c.args.speakers.items c.split_off.new.self.items c.in_ok-resting.resting.items _ _ c.in_ok-close.field-0.left.items
+    parts c.in_ok-ended.ensures.served c.in_ok-close.ensures.left
