@@ -71,15 +71,21 @@ pub(crate) fn gather_clients<W: EndsCopies + Drop>(
     }
 }
 
-// Whether just one dispatcher has the number.
-fn has_dispatcher_once<W: EndsCopies + Drop>(dispatchers: &[Dispatcher<W>], number: u32) -> bool
-    ensures { result ≡ (count_by (λ (t : TokenRecord). number_of t.who == number) dispatchers.now == 1) }
+// How many of the dispatchers have the number.
+fn dispatchers_with<W: EndsCopies + Drop>(dispatchers: &[Dispatcher<W>], number: u32) -> usize
+    ensures { result ≡ count_by (λ (t : TokenRecord). number_of t.who == number) dispatchers.now }
 {
     dispatchers
         .iter()
         .filter(|dispatcher| dispatcher.number() == number)
         .count()
-        == 1
+}
+
+// Whether just one dispatcher has the number.
+fn has_dispatcher_once<W: EndsCopies + Drop>(dispatchers: &[Dispatcher<W>], number: u32) -> bool
+    ensures { result ≡ (count_by (λ (t : TokenRecord). number_of t.who == number) dispatchers.now == 1) }
+{
+    dispatchers_with(dispatchers, number) == 1
 }
 
 /// Whether these are so many dispatchers, with each number once.
@@ -109,10 +115,7 @@ fn has_one_once<W: EndsCopies + Drop>(
     ensures { IsTrue result ↔ (count_by (λ (t : TokenRecord). number_of t.who == number)
         (dispatchers.now ++ reader.now ∷ []) ≡ 1) }
 {
-    let others = dispatchers
-        .iter()
-        .filter(|dispatcher| dispatcher.number() == number)
-        .count();
+    let others = dispatchers_with(dispatchers, number);
     if reader.number() == number {
         others == 0
     } else {
