@@ -101,7 +101,7 @@ ends_alone_journaled outcome texts unread before after server client closed who 
   closed = closed;
   seen = seen;
   ended =
-    subst (λ (one : Who). HasEnded outcome (number_of one) client closed unread before after) who ended;
+      subst (λ (one : Who). HasEnded outcome (number_of one) client closed unread before after) who ended;
   begins = begins;
   made = made;
 }

@@ -166,11 +166,7 @@ fn tell_not_written<E: Write>(err: &mut E) -> u8
 }
 
 // Tells what broke the only client's session, or that the journal could not be written, and gives the exit status.
-fn tell_end<E: Write>(
-    ended: &Result<Served, SessionError>,
-    was_written: bool,
-    err: &mut E,
-) -> u8
+fn tell_end<E: Write>(ended: &Result<Served, SessionError>, was_written: bool, err: &mut E) -> u8
     ensures written { result ≡ 0 → was_written ≡ true }
     ensures served { result ≡ 0 → session_status ended.now ≡ 0 }
     ensures others { result ≢ 0 → result ≡ 4 }

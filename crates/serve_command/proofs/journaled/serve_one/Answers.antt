@@ -18,7 +18,7 @@ returns-clause-ended g c = λ written texts are.
     let popped = only_popped _ _ _ c.in-Some.ensures.items count in
     let there : is_some c.in_ok-run.run'.log ≡ true = sym c.is_some.ensures ∙ written in
     let alone =
-      is_alone_journaled _ (AreTexts g.I.Read.remaining c.args.tables) _ _ _ _ _ _ c.in_ok-run.ensures.served there
-      pushed popped texts are in
+    is_alone_journaled _ (AreTexts g.I.Read.remaining c.args.tables) _ _ _ _ _ _ c.in_ok-run.ensures.served there
+    pushed popped texts are in
     ends_alone_journaled _ texts _ _ _ alone.server alone.after.client alone.after.closed alone.after.who_is
     alone.after.seen alone.after.spoken.spoken alone.after.begins alone.after.made
