@@ -4,7 +4,6 @@ use Rattle.std.specs.Prelude.{MatchResult}
 use Rattle.std.specs.Io.KnownBytes.{Consumes}
 use Rattle.history.specs.Tokens.{TokenRecord}
 use Rattle.session_requests.specs.Next.{IsRequestFault}
-use Rattle.session_requests.specs.Requests.{IsUnfinished}
 use Rattle.session_requests.specs.declared.error.RequestError.{RequestError}
 use Rattle.session_requests.specs.declared.error.RequestError.TheVariants as error
 use Rattle.stream_sessions.specs.FaultLine.{too_long_line}
