@@ -1,9 +1,9 @@
 //! Runs the cases: command lines of `ssb_live`, and what they must write.
 //!
 //! ```text
-//! NAME.case ── case ─▶ files, commands ── running ─▶ statuses and bytes ── difference ─▶ what differs first
-//!                                            │
-//!                                          files: files in memory, in place of the system's
+//! NAME.case ── parse_case ─▶ files, commands ── running ─▶ statuses and bytes ── find_difference ─▶ what differs first
+//!                                                  │
+//!                                                files in memory, in place of the system's (case_files)
 //! ```
 //!
 //! A case is a text file for people who need no Rattle: the folder `data` has them, and the page of
@@ -11,7 +11,7 @@
 //! runs in is run, in the order of names, or those that the words name:
 //!
 //! ```text
-//! cases                    // 323 cases
+//! cases                    // 388 cases
 //! cases absent.case        // absent.case: command 1, output, line 2: wanted "77\n", got the end
 //!                          // 1 cases
 //! ```
@@ -19,20 +19,14 @@
 //! A line tells of each case that differs or cannot be read, and the last line how many cases there were. The
 //! status is 0 where none differs, and else 1. A case runs whole command lines by the function that `ssb_live`
 //! itself calls, over files in memory; threads, waiting, random bytes and the clock are the system's. It is proved
-//! that the program is safe, and that a command of which nothing differs wrote the bytes, and ended with the
-//! status, that its case wants (`running`).
+//! that the program is safe, and by `case_files` that a command of which nothing differs wrote the bytes, and ended
+//! with the status, that its case wants.
 #![tactic(auto)]
 
-mod breaking;
-mod case;
-mod difference;
-mod files;
 mod running;
-mod screen;
-mod section;
 
 use anyhow::Result;
-use case::parse_case;
+use case_files::parse_case;
 use running::run_case;
 use std::env::Env;
 use std::process::ExitCode;

@@ -1,27 +1,14 @@
 //! Runs a case, and finds what differs first from what it wants.
 
-ghost use Rattle.std.specs.Prelude.{◌≡◌, Ok, None};
-
-use crate::breaking::Breaking;
-use crate::case::{Case, Command};
-use crate::difference::first_difference;
-use crate::files::{MemoryFiles, Stream};
-use crate::screen::ErrorScreen;
+use case_files::{
+    Breaking, Case, Command, CommandEnd, ErrorScreen, MemoryFiles, Stream, find_difference,
+};
 use command_line::{Streams, run_command_line};
-use std::alloc::Global;
 use std::io;
 use std::random::RandomSource;
 use std::sync::Wait;
 use std::thread::Threads;
 use std::time::Clock;
-
-// What a command did.
-#[derive(Drop)]
-struct CommandEnd {
-    output: Vec<u8>,
-    errors: Vec<u8>,
-    status: u8,
-}
 
 // Runs a command over these files.
 fn run_command<R>(rt: &R, files: &MemoryFiles, command: &Command) -> io::Result<CommandEnd>
@@ -44,41 +31,6 @@ where
         errors: errors.bytes()?,
         status,
     })
-}
-
-// What differs first in what a command did, and in the files that it left.
-fn find_difference(
-    alloc: Global,
-    files: &MemoryFiles,
-    command: &Command,
-    outcome: &CommandEnd,
-) -> io::Result<Option<String>>
-    ensures errors { result ≡ Ok None → outcome.now.errors.items ≡ command.now.errors.items }
-    ensures output { result ≡ Ok None → outcome.now.output.items ≡ command.now.output.items }
-    ensures status { result ≡ Ok None → outcome.now.status ≡ command.now.status }
-{
-    let errors = first_difference(command.errors.as_slice(), outcome.errors.as_slice());
-    if let Some(difference) = errors {
-        return Ok(Some(format!(in alloc; "errors, {difference}")?));
-    }
-    let output = first_difference(command.output.as_slice(), outcome.output.as_slice());
-    if let Some(difference) = output {
-        return Ok(Some(format!(in alloc; "output, {difference}")?));
-    }
-    let (wanted, got) = (command.status, outcome.status);
-    if wanted != got {
-        return Ok(Some(format!(in alloc; "status: wanted {wanted}, got {got}")?));
-    }
-    for file in &command.leaves {
-        let path = file.path.as_str();
-        let Some(bytes) = files.bytes_of(path)? else {
-            return Ok(Some(format!(in alloc; "leaves {path}: no such file")?));
-        };
-        if let Some(difference) = first_difference(file.bytes.as_slice(), bytes.as_slice()) {
-            return Ok(Some(format!(in alloc; "leaves {path}, {difference}")?));
-        }
-    }
-    Ok(None)
 }
 
 /// Runs the commands of a case, one after the other over the same files, and says what differs first from what the case

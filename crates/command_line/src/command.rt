@@ -1,9 +1,10 @@
 //! What the words of a command line do.
 
-use crate::arguments::{TERMINAL_HELP, matches, tell};
-use crate::streams::Streams;
+use crate::streams::{Streams, tell};
+use arguments::{
+    AuditWords, ExportWords, Job, QueryWords, RunWords, ServeWords, TERMINAL_HELP, job_of,
+};
 use audit_command::run_audit;
-use clap::ArgMatches;
 use export_command::{ExportPlace, run_export};
 use journal_file::JournalFile;
 use query_command::{Settings, run_all, run_query};
@@ -30,10 +31,10 @@ use std::time::Clock;
 // The terminal, where there is one and the words let it show the progress of a load, which begins now.
 fn screen_of<'a, C: Clock, P: Print>(
     clock: &'a C,
-    matches: &ArgMatches<'_>,
+    quiet: bool,
     terminal: Option<&'a P>,
 ) -> Option<Screen<'a, C, P>> {
-    if matches.get_flag("quiet") {
+    if quiet {
         return None;
     }
     Screen::start(clock, terminal)
@@ -43,7 +44,7 @@ fn screen_of<'a, C: Clock, P: Print>(
 fn answer_query<R, F: Files + AllocGlobal, P: Print, W: Write, E: Write>(
     rt: &R,
     files: &F,
-    matches: &ArgMatches<'_>,
+    words: &QueryWords<'_>,
     terminal: Option<&P>,
     out: &mut W,
     err: &mut E,
@@ -51,23 +52,22 @@ fn answer_query<R, F: Files + AllocGlobal, P: Print, W: Write, E: Write>(
 where
     R: Clock + RandomSource + Threads + Sync + AllocGlobal,
 {
-    let tables = match open_tables(files, matches.get_str("data").unwrap_or("")) {
+    let tables = match open_tables(files, words.data) {
         Ok(tables) => tables,
         Err(fault) => return fault.tell(err),
     };
     let Ok(hashing) = RandomState::new(rt) else {
         return Fault::NoRandomness.tell(err);
     };
-    let screen = screen_of(rt, matches, terminal);
+    let screen = screen_of(rt, words.quiet, terminal);
     let tables = watch_tables(screen.as_ref(), tables);
-    let times = matches.get_flag("times");
+    let times = words.times;
     let settings = Settings { hashing, times };
-    if matches.get_flag("all") {
+    if words.all {
         return run_all(rt, settings, tables, out, err);
     }
-    let name = matches.get_str("name").unwrap_or("");
-    let constants = matches.get_strs("constants").unwrap_or(&[]);
-    run_query(rt, settings, tables, name, constants, out, err)
+    let constants = words.constants.as_slice();
+    run_query(rt, settings, tables, words.name, constants, out, err)
 }
 
 // The files of a run, opened, and how its scripts are served.
@@ -83,11 +83,11 @@ struct OpenedRun<O: Write + Drop> {
 fn open_run<R: RandomSource, F: Files + AllocGlobal>(
     rt: &R,
     files: &F,
-    matches: &ArgMatches<'_>,
+    words: &RunWords<'_>,
 ) -> Result<OpenedRun<F::File>, Fault> {
-    let tables = open_tables(files, matches.get_str("data").unwrap_or(""))?;
-    let scripts = open_files(files, matches.get_strs("scripts").unwrap_or(&[]))?;
-    let trace = match matches.get_str("trace") {
+    let tables = open_tables(files, words.data)?;
+    let scripts = open_files(files, words.scripts.as_slice())?;
+    let trace = match words.trace {
         Some(path) => Some(make_file(files, path)?),
         None => None,
     };
@@ -96,8 +96,8 @@ fn open_run<R: RandomSource, F: Files + AllocGlobal>(
     };
     let settings = RunSettings {
         hashing,
-        dispatchers: matches.get_one::<u32>("dispatchers").unwrap_or(1),
-        times: matches.get_flag("times"),
+        dispatchers: words.dispatchers,
+        times: words.times,
     };
     Ok(OpenedRun {
         settings,
@@ -111,7 +111,7 @@ fn open_run<R: RandomSource, F: Files + AllocGlobal>(
 fn serve_scripts<R, F: Files + AllocGlobal, P: Print, W: Write, E: Write>(
     rt: &R,
     files: &F,
-    matches: &ArgMatches<'_>,
+    words: &RunWords<'_>,
     terminal: Option<&P>,
     out: &mut W,
     err: &mut E,
@@ -124,11 +124,11 @@ where
         tables,
         scripts,
         mut trace,
-    } = match open_run(rt, files, matches) {
+    } = match open_run(rt, files, words) {
         Ok(opened) => opened,
         Err(fault) => return fault.tell(err),
     };
-    let screen = screen_of(rt, matches, terminal);
+    let screen = screen_of(rt, words.quiet, terminal);
     let Ok(scripts) = watch_scripts(rt.alloc(), screen.as_ref(), scripts) else {
         return Fault::OutOfMemory.tell(err);
     };
@@ -154,6 +154,7 @@ struct OpenedServer<O: Drop> {
     settings: ServeSettings,
     tables: Tables<O>,
     clients: Vec<EndPaths>,
+    journal: Option<String>,
 }
 
 // Whom a live server serves.
@@ -169,21 +170,26 @@ enum Served<I: Drop, O: Drop> {
 fn open_server<R: RandomSource, F: Files + AllocGlobal>(
     rt: &R,
     files: &F,
-    matches: &ArgMatches<'_>,
+    words: &ServeWords<'_>,
 ) -> Result<OpenedServer<F::File>, Fault> {
-    let tables = open_tables(files, matches.get_str("data").unwrap_or(""))?;
-    let clients = clients_of(files.alloc(), matches.get_strs("clients").unwrap_or(&[]))?;
+    let tables = open_tables(files, words.data)?;
+    let clients = clients_of(files.alloc(), words.clients.as_slice())?;
+    let journal = match words.journal {
+        Some(path) => Some(String::from_str(files.alloc(), path)?),
+        None => None,
+    };
     let Ok(hashing) = RandomState::new(rt) else {
         return Err(Fault::NoRandomness);
     };
     let settings = ServeSettings {
         hashing,
-        dispatchers: matches.get_one::<u32>("dispatchers").unwrap_or(1),
+        dispatchers: words.dispatchers,
     };
     Ok(OpenedServer {
         settings,
         tables,
         clients,
+        journal,
     })
 }
 
@@ -191,13 +197,14 @@ fn open_server<R: RandomSource, F: Files + AllocGlobal>(
 fn journal_place<'a, F: Files>(
     files: &'a F,
     bytes: &'a TableBytes,
-    matches: &'a ArgMatches<'_>,
+    path: Option<&'a String>,
+    quiet: bool,
 ) -> Option<JournalPlace<'a, F>> {
     Some(JournalPlace {
         files,
-        path: matches.get_str("journal")?,
+        path: path?.as_str(),
         bytes,
-        tells: !matches.get_flag("quiet"),
+        tells: !quiet,
     })
 }
 
@@ -233,11 +240,13 @@ where
     }
 }
 
-// Serves clients over the files of a folder: those that the words name, or else standard input and output.
-fn serve_live<R, F, I: Read + Drop + Send, W: Write + Drop + Send, E: Print + Sync>(
+// Serves clients over tables that are loaded and counted now: those that the words name, or else standard input and
+// output.
+fn serve_loading<R, F, T, I: Read + Drop + Send, W: Write + Drop + Send, E: Print + Sync>(
     rt: &R,
     files: &F,
-    matches: &ArgMatches<'_>,
+    words: &ServeWords<'_>,
+    opened: OpenedServer<T>,
     streams: Streams<'_, I, W, E>,
 ) -> u8
 where
@@ -245,31 +254,27 @@ where
     F: Files + Sync + AllocGlobal,
     F::File: JournalFile + Send,
     F::Dir: Send,
+    T: Read + Drop,
 {
+    let OpenedServer {
+        settings,
+        tables,
+        clients,
+        journal,
+    } = opened;
     let Streams {
         input,
         is_typed,
         output,
         errors,
-        shows_progress,
+        shows_progress: _,
     } = streams;
-    let OpenedServer {
-        settings,
-        tables,
-        clients,
-    } = match open_server(rt, files, matches) {
-        Ok(opened) => opened,
-        Err(fault) => return fault.tell(&mut io::writer(errors)),
-    };
-    let terminal = if shows_progress { Some(errors) } else { None };
-    let screen = screen_of(rt, matches, terminal);
-    let tables = watch_tables(screen.as_ref(), tables);
     let bytes = TableBytes::new();
     let tables = count_tables(&bytes, tables);
-    let place = journal_place(files, &bytes, matches);
+    let place = journal_place(files, &bytes, journal.as_ref(), words.quiet);
     let journal = place.as_ref();
     if !clients.is_empty() {
-        let whom: Served<I, W> = Served::Paths(clients, matches.get_flag("keep"));
+        let whom: Served<I, W> = Served::Paths(clients, words.keep);
         return serve_whom(rt, files, journal, settings, tables, whom, errors);
     }
     if is_typed {
@@ -281,11 +286,49 @@ where
     serve_whom(rt, files, journal, settings, tables, whom, errors)
 }
 
+// Serves clients over the files of a folder.
+fn serve_live<R, F, I: Read + Drop + Send, W: Write + Drop + Send, E: Print + Sync>(
+    rt: &R,
+    files: &F,
+    words: &ServeWords<'_>,
+    streams: Streams<'_, I, W, E>,
+) -> u8
+where
+    R: Clock + RandomSource + Threads + Sync + Wait + AllocGlobal,
+    F: Files + Sync + AllocGlobal,
+    F::File: JournalFile + Send,
+    F::Dir: Send,
+{
+    let errors = streams.errors;
+    let OpenedServer {
+        settings,
+        tables,
+        clients,
+        journal,
+    } = match open_server(rt, files, words) {
+        Ok(opened) => opened,
+        Err(fault) => return fault.tell(&mut io::writer(errors)),
+    };
+    let terminal = if streams.shows_progress {
+        Some(errors)
+    } else {
+        None
+    };
+    let screen = screen_of(rt, words.quiet, terminal);
+    let opened = OpenedServer {
+        settings,
+        tables: watch_tables(screen.as_ref(), tables),
+        clients,
+        journal,
+    };
+    serve_loading(rt, files, words, opened, streams)
+}
+
 // Checks a trace over the files of a folder.
 fn check_trace<R, F: Files + AllocGlobal, P: Print, W: Write, E: Write>(
     rt: &R,
     files: &F,
-    matches: &ArgMatches<'_>,
+    words: &AuditWords<'_>,
     terminal: Option<&P>,
     out: &mut W,
     err: &mut E,
@@ -293,15 +336,15 @@ fn check_trace<R, F: Files + AllocGlobal, P: Print, W: Write, E: Write>(
 where
     R: Clock + RandomSource + Threads + Sync + AllocGlobal,
 {
-    let tables = match open_tables(files, matches.get_str("data").unwrap_or("")) {
+    let tables = match open_tables(files, words.data) {
         Ok(tables) => tables,
         Err(fault) => return fault.tell(err),
     };
-    let trace = match open_file(files, matches.get_str("trace").unwrap_or("")) {
+    let trace = match open_file(files, words.trace) {
         Ok(trace) => trace,
         Err(fault) => return fault.tell(err),
     };
-    let screen = screen_of(rt, matches, terminal);
+    let screen = screen_of(rt, words.quiet, terminal);
     let tables = watch_tables(screen.as_ref(), tables);
     let trace = watch(screen.as_ref(), InputSource::Trace, trace);
     match RandomState::new(rt) {
@@ -314,7 +357,7 @@ where
 fn export_tables<R, F: Files + AllocGlobal, P: Print, E: Write>(
     rt: &R,
     files: &F,
-    matches: &ArgMatches<'_>,
+    words: &ExportWords<'_>,
     terminal: Option<&P>,
     err: &mut E,
 ) -> u8
@@ -322,20 +365,20 @@ where
     R: Clock + RandomSource + Threads + Sync + AllocGlobal,
     F::File: JournalFile,
 {
-    let tables = match open_tables(files, matches.get_str("data").unwrap_or("")) {
+    let tables = match open_tables(files, words.data) {
         Ok(tables) => tables,
         Err(fault) => return fault.tell(err),
     };
-    let screen = screen_of(rt, matches, terminal);
+    let screen = screen_of(rt, words.quiet, terminal);
     let tables = watch_tables(screen.as_ref(), tables);
     let bytes = TableBytes::new();
     let tables = count_tables(&bytes, tables);
     let place = ExportPlace {
         files,
-        journal: matches.get_str("journal").unwrap_or(""),
-        folder: matches.get_str("to").unwrap_or(""),
+        journal: words.journal,
+        folder: words.folder,
         bytes: &bytes,
-        tells: !matches.get_flag("quiet"),
+        tells: !words.quiet,
     };
     match RandomState::new(rt) {
         Ok(hashing) => run_export(rt, hashing, tables, &place, err),
@@ -373,29 +416,34 @@ where
     F::File: JournalFile + Send,
     F::Dir: Send,
 {
-    let matched = match matches(rt.alloc(), words) {
-        Ok(matched) => matched,
-        Err(answer) => return tell(&answer, streams),
+    let job = match job_of(rt.alloc(), words) {
+        Ok(job) => job,
+        Err(notice) => return tell(&notice, streams),
     };
-    let subcommand = matched.subcommand();
-    if let Some(("serve", words)) = subcommand {
-        return serve_live(rt, files, words, streams);
-    }
     let Streams {
         input,
-        is_typed: _,
+        is_typed,
         mut output,
         errors,
         shows_progress,
     } = streams;
-    let out = &mut output;
     let err = &mut io::writer(errors);
     let terminal = if shows_progress { Some(errors) } else { None };
-    match subcommand {
-        Some(("run", words)) => serve_scripts(rt, files, words, terminal, out, err),
-        Some(("audit", words)) => check_trace(rt, files, words, terminal, out, err),
-        Some(("export", words)) => export_tables(rt, files, words, terminal, err),
-        Some((_, words)) => answer_query(rt, files, words, terminal, out, err),
-        None => serve_script(rt, input, out, err),
+    match job {
+        Job::Script => serve_script(rt, input, &mut output, err),
+        Job::Query(words) => answer_query(rt, files, &words, terminal, &mut output, err),
+        Job::Run(words) => serve_scripts(rt, files, &words, terminal, &mut output, err),
+        Job::Serve(words) => {
+            let streams = Streams {
+                input,
+                is_typed,
+                output,
+                errors,
+                shows_progress,
+            };
+            serve_live(rt, files, &words, streams)
+        }
+        Job::Audit(words) => check_trace(rt, files, &words, terminal, &mut output, err),
+        Job::Export(words) => export_tables(rt, files, &words, terminal, err),
     }
 }

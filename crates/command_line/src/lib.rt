@@ -1,14 +1,14 @@
-//! The words of the program's command line, and which of the six jobs they ask for.
+//! Does what the words of the program's command line ask for: one of the six jobs.
 //!
 //! ```text
 //! system ── words ─▶ words ── run_command_line ─┬─ query, run or none, ──────▶ query_command, run_command,
-//!                                               │  audit, serve, export          audit_command, serve_command,
+//!                             over arguments    │  audit, serve, export          audit_command, serve_command,
 //!                                               │                                export_command
 //!                                               └─ help, version, wrong words ─▶ a text and a status
 //! ```
 //!
-//! It stands on `clap` and promises no more than safety: what the jobs write is in the contracts of those five
-//! libraries, and what is written for which words is shown by the cases of the program `cases`.
+//! It promises no more than safety: what the jobs write is in the contracts of those five libraries, and what is written
+//! for which words is shown by the cases of the program `cases`.
 //!
 //! ```text
 //! let words = words(&rt)?;                // ssb_live query --data tables Q4.1
@@ -16,10 +16,8 @@
 //! ```
 #![tactic(auto)]
 
-mod arguments;
 mod command;
 mod streams;
 
-pub use arguments::words;
 pub use command::run_command_line;
-pub use streams::Streams;
+pub use streams::{Streams, words};

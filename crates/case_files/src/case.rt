@@ -13,8 +13,8 @@
 //! refused at 0 action 1: 47 Absent 77
 //! ```
 
+use crate::fault::{CaseFault, LineFault};
 use crate::section::{Section, SectionKind};
-use anyhow::{Context, Result, bail, ensure};
 use std::alloc::{AllocError, Global};
 
 /// A file by its path.
@@ -51,17 +51,23 @@ pub struct Case {
 }
 
 /// The case that a text spells, or what is wrong with it in which line.
-pub fn parse_case(alloc: Global, text: &str) -> Result<Case> {
+pub fn parse_case(alloc: Global, text: &str) -> Result<Case, CaseFault> {
     let mut reader = Reader::new(alloc);
     let mut number = 0u64;
     for line in text.split_terminator('\n') {
         number = number.saturating_add(1);
-        reader.read(line).context(format_args!("line {number}"))?;
+        if let Err(fault) = reader.read(line) {
+            return Err(CaseFault::Line(number, fault));
+        }
     }
     let Reader { case, .. } = reader;
-    ensure!(!case.commands.is_empty(), "no command");
+    if case.commands.is_empty() {
+        return Err(CaseFault::NoCommand);
+    }
     for command in &case.commands {
-        ensure!(!command.words.is_empty(), "a command without words");
+        if command.words.is_empty() {
+            return Err(CaseFault::NoWords);
+        }
     }
     Ok(case)
 }
@@ -90,16 +96,20 @@ impl<'a> Reader<'a> {
     }
 
     // Reads the next line.
-    fn read(&mut self, line: &'a str) -> Result<()> {
+    fn read(&mut self, line: &'a str) -> Result<(), LineFault> {
         if let Some(heading) = line.strip_prefix("== ") {
-            ensure!(self.has_prose, "prose stands before the first section");
-            let section = Section::parse(heading).context("no heading of a section")?;
+            if !self.has_prose {
+                return Err(LineFault::NoProse);
+            }
+            let section = Section::parse(heading).ok_or(LineFault::NoHeading)?;
             return self.begin(section);
         }
         match self.section {
             Some(section) => self.read_text(section, line),
             None => {
-                ensure!(line.starts_with("# "), "a line of prose begins with '# '");
+                if !line.starts_with("# ") {
+                    return Err(LineFault::NotProse);
+                }
                 self.has_prose = true;
                 Ok(())
             }
@@ -107,11 +117,13 @@ impl<'a> Reader<'a> {
     }
 
     // Begins the section that follows the last one.
-    fn begin(&mut self, section: Section<'a>) -> Result<()> {
+    fn begin(&mut self, section: Section<'a>) -> Result<(), LineFault> {
         let stands = section
             .part
             .may_follow(self.section.map(|section| section.part));
-        ensure!(stands, "this section does not stand here");
+        if !stands {
+            return Err(LineFault::Misplaced);
+        }
         self.section = Some(section);
         match (section.part, self.case.commands.last_mut()) {
             (SectionKind::File(path), _) => self.case.files.push(empty_file(self.alloc, path)?)?,
@@ -130,7 +142,7 @@ impl<'a> Reader<'a> {
     }
 
     // Reads a line of a section's text.
-    fn read_text(&mut self, section: Section<'a>, line: &str) -> Result<()> {
+    fn read_text(&mut self, section: Section<'a>, line: &str) -> Result<(), LineFault> {
         match (section.part, self.case.commands.last_mut()) {
             (SectionKind::File(_), _) => append_to_last(&mut self.case.files, section, line)?,
             (SectionKind::Command, Some(command)) => command.take_words(self.alloc, line)?,
@@ -142,9 +154,9 @@ impl<'a> Reader<'a> {
                 section,
                 line,
             )?,
-            (SectionKind::Breaks(..) | SectionKind::Status(_), _) | (_, None) => bail!(
-                "no text stands here"
-            ),
+            (SectionKind::Breaks(..) | SectionKind::Status(_), _) | (_, None) => {
+                return Err(LineFault::NoText);
+            }
         }
         Ok(())
     }
@@ -159,7 +171,11 @@ fn empty_file(alloc: Global, path: &str) -> Result<NamedFile, AllocError> {
 }
 
 // Appends a line of its section's text to the last file.
-fn append_to_last(files: &mut Vec<NamedFile>, section: Section<'_>, line: &str) -> Result<()> {
+fn append_to_last(
+    files: &mut Vec<NamedFile>,
+    section: Section<'_>,
+    line: &str,
+) -> Result<(), LineFault> {
     if let Some(file) = files.last_mut() {
         section.append(&mut file.bytes, line)?;
     }
@@ -189,8 +205,10 @@ impl Command {
     }
 
     // Takes the words of its one line: those in single quotes whole, the others parted by spaces.
-    fn take_words(&mut self, alloc: Global, line: &str) -> Result<()> {
-        ensure!(self.words.is_empty(), "a command has one line");
+    fn take_words(&mut self, alloc: Global, line: &str) -> Result<(), LineFault> {
+        if !self.words.is_empty() {
+            return Err(LineFault::SecondLine);
+        }
         let mut is_quoted = true;
         for piece in line.split('\'') {
             is_quoted = !is_quoted;
@@ -204,8 +222,12 @@ impl Command {
                 }
             }
         }
-        ensure!(!is_quoted, "a quote is left open");
-        ensure!(!self.words.is_empty(), "a command has words");
+        if is_quoted {
+            return Err(LineFault::OpenQuote);
+        }
+        if self.words.is_empty() {
+            return Err(LineFault::NoWords);
+        }
         Ok(())
     }
 }

@@ -1,6 +1,6 @@
 //! The sections of a case: their headings, where they may stand, and the bytes that their lines spell.
 
-use anyhow::{Result, bail};
+use crate::fault::LineFault;
 
 /// What a section says.
 #[derive(Clone, Copy)]
@@ -82,7 +82,7 @@ fn hex_digit(byte: u8) -> Option<u8> {
 
 impl Escape {
     // Reads the next byte of a line, and appends the byte that ends here.
-    fn read(self, text: &mut Vec<u8>, byte: u8) -> Result<Escape> {
+    fn read(self, text: &mut Vec<u8>, byte: u8) -> Result<Escape, LineFault> {
         let spelled = match (self, byte) {
             (Escape::Outside, b'\\') => return Ok(Escape::Begun),
             (Escape::Outside, byte) => byte,
@@ -91,14 +91,14 @@ impl Escape {
             (Escape::Begun, b'r') => b'\r',
             (Escape::Begun, b't') => b'\t',
             (Escape::Begun, b'\\') => b'\\',
-            (Escape::Begun, _) => bail!("no escape"),
+            (Escape::Begun, _) => return Err(LineFault::NoEscape),
             (Escape::Hex, byte) => match hex_digit(byte) {
                 Some(high) => return Ok(Escape::HexDigit(high)),
-                None => bail!("no hexadecimal digit"),
+                None => return Err(LineFault::NoDigit),
             },
             (Escape::HexDigit(high), byte) => match hex_digit(byte) {
                 Some(low) => (high << 4) | low,
-                None => bail!("no hexadecimal digit"),
+                None => return Err(LineFault::NoDigit),
             },
         };
         text.push(spelled)?;
@@ -134,7 +134,7 @@ impl<'a> Section<'a> {
     }
 
     /// Appends the bytes that a line of the section spells.
-    pub fn append(self, text: &mut Vec<u8>, line: &str) -> Result<()> {
+    pub fn append(self, text: &mut Vec<u8>, line: &str) -> Result<(), LineFault> {
         if !self.is_escaped {
             text.extend_from_slice(line.as_bytes())?;
             text.push(b'\n')?;
@@ -148,7 +148,7 @@ impl<'a> Section<'a> {
             Escape::Outside => Ok(text.push(b'\n')?),
             // the lone backslash at the line's end
             Escape::Begun => Ok(()),
-            Escape::Hex | Escape::HexDigit(_) => bail!("an escape is cut off"),
+            Escape::Hex | Escape::HexDigit(_) => Err(LineFault::CutOff),
         }
     }
 }

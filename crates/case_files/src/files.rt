@@ -22,7 +22,7 @@ const MOST_READ: usize = 48;
 type FileBytes = Arc<Mutex<Vec<u8>>>;
 
 /// Takes a lock, each of which is held for a short while. It has no handle to wait with, and so tries again.
-pub fn hold<T>(lock: &Mutex<T>) -> io::Result<MutexGuard<'_, T>> {
+pub(crate) fn hold<T>(lock: &Mutex<T>) -> io::Result<MutexGuard<'_, T>> {
     for _ in 0..u64::MAX {
         if let Some(guard) = lock.try_lock() {
             return Ok(guard);
@@ -388,7 +388,7 @@ impl OpenFile for BreakingFile {
 
 impl FileExt for BreakingFile {
     fn read_at(&self, _buf: &mut [u8], _offset: u64) -> io::Result<usize> {
-        unsupported()
+        Err(Error::from(ErrorKind::Unsupported))
     }
 
     fn write_at(&self, buf: &[u8], offset: u64) -> io::Result<usize> {

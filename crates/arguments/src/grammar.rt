@@ -1,0 +1,241 @@
+//! Which words there are, as clap takes them.
+
+use crate::help::{AUDIT_HELP, EXPORT_HELP, QUERY_HELP, RUN_HELP, SERVE_HELP};
+use clap::{Arg, ArgAction, Command, value_parser};
+use std::alloc::{AllocError, Global};
+
+const VERSION: &str = "0.1.0";
+
+// The folder of the five table files.
+fn data_argument<'a>(alloc: Global) -> Arg<'a> {
+    Arg::new(alloc, "data")
+        .long("data")
+        .value_name("DIR")
+        .help("The folder of customer.tbl, supplier.tbl, part.tbl, date.tbl and lineorder.tbl")
+        .required(true)
+        .action(ArgAction::Set)
+}
+
+// A word that is there or is not.
+fn flag<'a>(alloc: Global, name: &'a str, help: &'a str) -> Arg<'a> {
+    Arg::new(alloc, name)
+        .long(name)
+        .help(help)
+        .action(ArgAction::SetTrue)
+}
+
+// Whether times are told.
+fn times_argument<'a>(alloc: Global, help: &'a str) -> Arg<'a> {
+    flag(alloc, "times", help)
+}
+
+// Whether nothing is shown while the data is read.
+fn quiet_argument<'a>(alloc: Global) -> Arg<'a> {
+    flag(
+        alloc,
+        "quiet",
+        "Shows no progress of a long load; without it a terminal shows it, and a pipe never gets it",
+    )
+}
+
+// A word with a path behind it.
+fn path_argument<'a>(alloc: Global, name: &'a str, value_name: &'a str, help: &'a str) -> Arg<'a> {
+    Arg::new(alloc, name)
+        .long(name)
+        .value_name(value_name)
+        .help(help)
+        .action(ArgAction::Set)
+}
+
+// How many dispatchers there are.
+fn dispatchers_argument<'a>(alloc: Global) -> Arg<'a> {
+    Arg::new(alloc, "dispatchers")
+        .long("dispatchers")
+        .value_name("N")
+        .help("How many dispatchers answer the questions, each in a thread of its own: 1 to 4")
+        .value_parser(value_parser!(u32).range(1..5))
+        .default_value("1")
+        .action(ArgAction::Set)
+}
+
+// A command whose first word is the folder of the tables.
+fn over_tables<'a>(
+    alloc: Global,
+    name: &'a str,
+    about: &'a str,
+    long_about: &'a str,
+) -> Result<Command<'a>, AllocError> {
+    Command::new(alloc, name)
+        .about(about)
+        .long_about(long_about)
+        .arg(data_argument(alloc))
+}
+
+// The name of a query, which is not given where all are asked.
+fn name_argument<'a>(alloc: Global) -> Result<Arg<'a>, AllocError> {
+    Arg::new(alloc, "name")
+        .value_name("NAME")
+        .help("The query, as Q4.1, or star")
+        .action(ArgAction::Set)
+        .required_unless_present("all")?
+        .conflicts_with("all")
+}
+
+// The constants of a query.
+fn constants_argument<'a>(alloc: Global) -> Arg<'a> {
+    Arg::new(alloc, "constants")
+        .value_name("CONSTANT")
+        .help("All constants of the query; without them one of the thirteen has the benchmark's")
+        .num_args(0..)
+        .action(ArgAction::Append)
+}
+
+// The words of `query`.
+fn query_command<'a>(alloc: Global) -> Result<Command<'a>, AllocError> {
+    let command = over_tables(
+        alloc,
+        "query",
+        "Prints the report of one question, or of all, over table files",
+        QUERY_HELP,
+    )?;
+    command
+        .arg(flag(
+            alloc,
+            "all",
+            "All thirteen queries with the benchmark's constants, in place of one",
+        ))?
+        .arg(times_argument(
+            alloc,
+            "Tells on standard error how many seconds each step took",
+        ))?
+        .arg(quiet_argument(alloc))?
+        .arg(name_argument(alloc)?)?
+        .arg(constants_argument(alloc))
+}
+
+// The scripts of a run.
+fn scripts_argument<'a>(alloc: Global) -> Arg<'a> {
+    Arg::new(alloc, "scripts")
+        .value_name("SCRIPT")
+        .help("The scripts, 1 to 16: client K serves the Kth")
+        .num_args(1..)
+        .required(true)
+        .action(ArgAction::Append)
+}
+
+// The words of `run`.
+fn run_command<'a>(alloc: Global) -> Result<Command<'a>, AllocError> {
+    let command = over_tables(
+        alloc,
+        "run",
+        "Serves scripts at once, a client each, and prints their reports",
+        RUN_HELP,
+    )?;
+    command
+        .arg(dispatchers_argument(alloc))?
+        .arg(path_argument(
+            alloc,
+            "trace",
+            "FILE",
+            "Where the commits and the answers are written; the file is made anew",
+        ))?
+        .arg(times_argument(
+            alloc,
+            "Tells on standard error how many seconds loading and serving took, how much was served a second, \
+             and how long a refresh and an answer took",
+        ))?
+        .arg(quiet_argument(alloc))?
+        .arg(scripts_argument(alloc))
+}
+
+// The ends of a client of a live server.
+fn clients_argument<'a>(alloc: Global) -> Arg<'a> {
+    Arg::new(alloc, "clients")
+        .long("client")
+        .value_names(&["IN", "OUT"])
+        .help("A client, by what it is read from and what it is answered to; 1 to 16 times")
+        .num_args(2)
+        .action(ArgAction::Append)
+}
+
+// The words of `serve`.
+fn serve_command<'a>(alloc: Global) -> Result<Command<'a>, AllocError> {
+    let command = over_tables(
+        alloc,
+        "serve",
+        "Serves clients as their requests come: standard input and output, or named pipes",
+        SERVE_HELP,
+    )?;
+    command
+        .arg(dispatchers_argument(alloc))?
+        .arg(clients_argument(alloc))?
+        .arg(flag(
+            alloc,
+            "keep",
+            "Opens a client's named pipes again for its next session; a signal ends the server",
+        ))?
+        .arg(path_argument(
+            alloc,
+            "journal",
+            "FILE",
+            "Where the commits are kept: clients are told nothing before it is on the disk; the next server goes on from it",
+        ))?
+        .arg(quiet_argument(alloc))
+}
+
+// The words of `audit`.
+fn audit_command<'a>(alloc: Global) -> Result<Command<'a>, AllocError> {
+    let trace = Arg::new(alloc, "trace")
+        .value_name("TRACE")
+        .help("The trace of a run over these tables")
+        .required(true)
+        .action(ArgAction::Set);
+    let command = over_tables(
+        alloc,
+        "audit",
+        "Checks the trace of a run: its commits, and the rows of its answers",
+        AUDIT_HELP,
+    )?;
+    command.arg(quiet_argument(alloc))?.arg(trace)
+}
+
+// The words of `export`.
+fn export_command<'a>(alloc: Global) -> Result<Command<'a>, AllocError> {
+    let journal = path_argument(
+        alloc,
+        "journal",
+        "FILE",
+        "The journal of a server over these tables; it is as it was",
+    );
+    let folder = path_argument(
+        alloc,
+        "to",
+        "FOLDER",
+        "Where the tables are written: a folder that is not there, or is empty",
+    );
+    let command = over_tables(
+        alloc,
+        "export",
+        "Writes the tables as they are after the commits of a journal",
+        EXPORT_HELP,
+    )?;
+    command
+        .arg(journal.required(true))?
+        .arg(folder.required(true))?
+        .arg(quiet_argument(alloc))
+}
+
+/// All words of the program.
+pub fn command<'a>(alloc: Global) -> Result<Command<'a>, AllocError> {
+    Command::new(alloc, "ssb_live")
+        .version(VERSION)
+        .about(
+            "A warehouse of the Star Schema Benchmark. Without words: serves the script on standard input \
+             over a small built-in data set, and prints the report",
+        )
+        .subcommand(query_command(alloc)?)?
+        .subcommand(run_command(alloc)?)?
+        .subcommand(serve_command(alloc)?)?
+        .subcommand(audit_command(alloc)?)?
+        .subcommand(export_command(alloc)?)
+}

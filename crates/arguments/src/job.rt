@@ -1,0 +1,152 @@
+//! What the words ask for.
+
+use crate::grammar::command;
+use crate::notice::Notice;
+use clap::ArgMatches;
+use std::alloc::{AllocError, Global};
+
+/// What the words ask for.
+#[derive(Drop)]
+pub enum Job<'a> {
+    /// The script on the input, over the small data set.
+    Script,
+    /// The report of one question, or of all.
+    Query(QueryWords<'a>),
+    /// Scripts at once, and their reports.
+    Run(RunWords<'a>),
+    /// Clients, as their requests come.
+    Serve(ServeWords<'a>),
+    /// Whether a trace is legal.
+    Audit(AuditWords<'a>),
+    /// The tables after a journal's commits.
+    Export(ExportWords<'a>),
+}
+
+/// The words of `query`.
+#[derive(Drop)]
+pub struct QueryWords<'a> {
+    pub data: &'a str,
+    pub all: bool,
+    /// Empty where all are asked.
+    pub name: &'a str,
+    pub constants: Vec<&'a str>,
+    pub times: bool,
+    pub quiet: bool,
+}
+
+/// The words of `run`.
+#[derive(Drop)]
+pub struct RunWords<'a> {
+    pub data: &'a str,
+    pub scripts: Vec<&'a str>,
+    pub trace: Option<&'a str>,
+    pub dispatchers: u32,
+    pub times: bool,
+    pub quiet: bool,
+}
+
+/// The words of `serve`.
+#[derive(Drop)]
+pub struct ServeWords<'a> {
+    pub data: &'a str,
+    /// IN and OUT of each client in turn; none where standard input and output are served.
+    pub clients: Vec<&'a str>,
+    pub keep: bool,
+    pub journal: Option<&'a str>,
+    pub dispatchers: u32,
+    pub quiet: bool,
+}
+
+/// The words of `audit`.
+#[derive(Drop)]
+pub struct AuditWords<'a> {
+    pub data: &'a str,
+    pub trace: &'a str,
+    pub quiet: bool,
+}
+
+/// The words of `export`.
+#[derive(Drop)]
+pub struct ExportWords<'a> {
+    pub data: &'a str,
+    pub journal: &'a str,
+    pub folder: &'a str,
+    pub quiet: bool,
+}
+
+// The word of this argument, or an empty one.
+fn word_of<'a>(matches: &ArgMatches<'a>, id: &str) -> &'a str {
+    matches.get_str(id).unwrap_or("")
+}
+
+// The words of this argument, as many as there are.
+fn words_of<'a>(
+    alloc: Global,
+    matches: &ArgMatches<'a>,
+    id: &str,
+) -> Result<Vec<&'a str>, AllocError> {
+    matches.get_strs(id).unwrap_or(&[]).to_vec(alloc)
+}
+
+fn query_words<'a>(alloc: Global, matches: &ArgMatches<'a>) -> Result<QueryWords<'a>, AllocError> {
+    Ok(QueryWords {
+        data: word_of(matches, "data"),
+        all: matches.get_flag("all"),
+        name: word_of(matches, "name"),
+        constants: words_of(alloc, matches, "constants")?,
+        times: matches.get_flag("times"),
+        quiet: matches.get_flag("quiet"),
+    })
+}
+
+fn run_words<'a>(alloc: Global, matches: &ArgMatches<'a>) -> Result<RunWords<'a>, AllocError> {
+    Ok(RunWords {
+        data: word_of(matches, "data"),
+        scripts: words_of(alloc, matches, "scripts")?,
+        trace: matches.get_str("trace"),
+        dispatchers: matches.get_one::<u32>("dispatchers").unwrap_or(1),
+        times: matches.get_flag("times"),
+        quiet: matches.get_flag("quiet"),
+    })
+}
+
+fn serve_words<'a>(alloc: Global, matches: &ArgMatches<'a>) -> Result<ServeWords<'a>, AllocError> {
+    Ok(ServeWords {
+        data: word_of(matches, "data"),
+        clients: words_of(alloc, matches, "clients")?,
+        keep: matches.get_flag("keep"),
+        journal: matches.get_str("journal"),
+        dispatchers: matches.get_one::<u32>("dispatchers").unwrap_or(1),
+        quiet: matches.get_flag("quiet"),
+    })
+}
+
+fn audit_words<'a>(matches: &ArgMatches<'a>) -> AuditWords<'a> {
+    AuditWords {
+        data: word_of(matches, "data"),
+        trace: word_of(matches, "trace"),
+        quiet: matches.get_flag("quiet"),
+    }
+}
+
+fn export_words<'a>(matches: &ArgMatches<'a>) -> ExportWords<'a> {
+    ExportWords {
+        data: word_of(matches, "data"),
+        journal: word_of(matches, "journal"),
+        folder: word_of(matches, "to"),
+        quiet: matches.get_flag("quiet"),
+    }
+}
+
+/// What these words ask for, the program's name first; else what is told in place of that.
+pub fn job_of<'a>(alloc: Global, words: &'a [String]) -> Result<Job<'a>, Notice> {
+    let matched = command(alloc)?.try_get_matches_from(words)?;
+    Ok(match matched.subcommand() {
+        Some(("run", words)) => Job::Run(run_words(alloc, words)?),
+        Some(("serve", words)) => Job::Serve(serve_words(alloc, words)?),
+        Some(("audit", words)) => Job::Audit(audit_words(words)),
+        Some(("export", words)) => Job::Export(export_words(words)),
+        Some((_, words)) => Job::Query(query_words(alloc, words)?),
+        None => Job::Script,
+    })
+}

@@ -1,0 +1,26 @@
+//! The words of the program's command line, and what they ask for.
+//!
+//! ```text
+//! words ── job_of ─┬─ Job: query, run, serve, audit, export, each with its words; or none: a script
+//!                  └─ Notice: help, the version, or why the words are wrong
+//! ```
+//!
+//! It stands on `clap` and on no job, and promises no more than safety: which words are taken, and what the help says, is
+//! shown by the cases of the program `cases`.
+//!
+//! ```text
+//! match job_of(alloc, words.as_slice()) {             // ssb_live query --data tables Q4.1
+//!     Ok(Job::Query(words)) => ..                     // words.data: tables, words.name: Q4.1
+//!     Err(notice) => write!(err, "{notice}")
+//! }
+//! ```
+#![tactic(auto)]
+
+mod grammar;
+mod help;
+mod job;
+mod notice;
+
+pub use help::TERMINAL_HELP;
+pub use job::{AuditWords, ExportWords, Job, QueryWords, RunWords, ServeWords, job_of};
+pub use notice::Notice;
