@@ -1,5 +1,5 @@
 -- What an export leaves, of what was loaded, kept and written.
-use Rattle.std.proofs.Common.{◌≡◌, ℕ, List, Result, Ok, Err, OnOk, ap, ◌∙◌, subst}
+use Rattle.std.proofs.Common.{◌≡◌, ℕ, List, Result, Ok, Err, IfErr, OnOk, ap, ◌∙◌, subst}
 use Rattle.ssb_base.specs.Base.{IsSound, Tables}
 use Rattle.ssb_base.specs.Limits.{limits_of}
 use Rattle.ssb_files.specs.Loaded.{IsLoadedToServe}
@@ -36,3 +36,8 @@ exports texts base held sizes file tables spell loaded same after sound rows =
 pub on_ok : {X E : Type 0} (P Q : Type 0) (result : Result X E) → (P → Q) → OnOk result P → OnOk result Q
 on_ok P Q (Ok v) more holds = more holds
 on_ok P Q (Err e) more holds = tt
+
+pub if_err : {X E : Type 0} (P Q : E → Type 0) (result : Result X E) → ((e : E) → P e → Q e) → IfErr result P
+    → IfErr result Q
+if_err P Q (Ok v) more holds = tt
+if_err P Q (Err e) more holds = more e holds

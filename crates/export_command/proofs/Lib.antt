@@ -6,3 +6,4 @@ pub mod LastGoneLaws
 pub mod NextLaws
 pub mod StepLaws
 pub mod ExportLaws
+pub mod StatusLaws

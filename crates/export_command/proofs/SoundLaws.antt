@@ -1,5 +1,34 @@
 -- The tables after a legal history keep what those of a base keep.
-use Rattle.std.proofs.Common.{◌≡◌, ℕ, ◌+◌, Bool, true, false, not, cond, ◌&&◌, ◌||◌, nat_eq, List, [], ◌∷◌, ◌++◌, length, take, Option, Some, None, slice_get, refl, sym, ap, ◌∙◌, subst, append_assoc, append-nil}
+use Rattle.std.proofs.Common.{
+  ◌≡◌,
+  ℕ,
+  ◌+◌,
+  Bool,
+  true,
+  false,
+  not,
+  cond,
+  ◌&&◌,
+  ◌||◌,
+  nat_eq,
+  List,
+  [],
+  ◌∷◌,
+  ◌++◌,
+  length,
+  take,
+  Option,
+  Some,
+  None,
+  slice_get,
+  refl,
+  sym,
+  ap,
+  ◌∙◌,
+  subst,
+  append_assoc,
+  append-nil,
+}
 use Rattle.std.specs.Prelude.{nat_le, if◌then◌else◌}
 use Rattle.std.specs.List.{AllByRecursion, list_any}
 use Rattle.std.specs.Option.{option_map, option_or}
@@ -23,7 +52,17 @@ use Rattle.row_store.specs.declared.refusal.Cause.{Cause}
 use Rattle.row_store.specs.declared.refusal.Cause.TheVariants as cause
 use Rattle.row_store.proofs.FewLaws.{legal_histories_are_few}
 use Rattle.row_store.proofs.StateLaws.{lines_after-push}
-use Rattle.ssb_base.specs.Base.{Dimensions, IsKnown, Tables, customer_key, date_key, has_key, is_same_line, part_key, supplier_key}
+use Rattle.ssb_base.specs.Base.{
+  Dimensions,
+  IsKnown,
+  Tables,
+  customer_key,
+  date_key,
+  has_key,
+  is_same_line,
+  part_key,
+  supplier_key,
+}
 use Rattle.ssb_schema.specs.Orders.{IsOrder, has_number_of, order_key}
 use Rattle.ssb_schema.specs.declared.line.LineFields.{LineFields}
 use Rattle.ssb_schema.specs.declared.refresh.Action.{Action}

@@ -1,5 +1,29 @@
 -- What a loop over lines, actions or commits has written after one step more.
-use Rattle.std.proofs.Common.{◌≡◌, ℕ, ◌+◌, ◌<◌, true, false, List, [], ◌∷◌, ◌++◌, length, take, drop, get_or, Option, refl, sym, ap, ◌∙◌, subst, arith, append-nil, append_assoc}
+use Rattle.std.proofs.Common.{
+  ◌≡◌,
+  ℕ,
+  ◌+◌,
+  ◌<◌,
+  true,
+  false,
+  List,
+  [],
+  ◌∷◌,
+  ◌++◌,
+  length,
+  take,
+  drop,
+  get_or,
+  Option,
+  refl,
+  sym,
+  ap,
+  ◌∙◌,
+  subst,
+  arith,
+  append-nil,
+  append_assoc,
+}
 use Rattle.std.specs.Io.KnownBytes.{Appends}
 use Rattle.std.proofs.lemmas.List.{length-take-le}
 use Rattle.std.proofs.lemmas.List.Concat.{flat_map-append}
@@ -15,7 +39,14 @@ use Rattle.table_text.specs.TableText.{row_text}
 use Rattle.export_command.specs.After.{actions_of, standing, standing_added, stands}
 use Rattle.export_command.proofs.NextLaws.{all_of, next_of}
 use Rattle.export_command.proofs.StandingLaws.{added_both, standing_both}
-use Rattle.export_command.proofs.WritingLaws.{HasWritten, line_written, lines_text, stopped_before, stopped_behind, written_both}
+use Rattle.export_command.proofs.WritingLaws.{
+  HasWritten,
+  line_written,
+  lines_text,
+  stopped_before,
+  stopped_behind,
+  written_both,
+}
 
 -- one line more, which stands or does not
 one-line : (actions : List Action) (number : ℕ) (lines : List LineFields) (i : ℕ) (line : LineFields) → i < length lines
@@ -74,7 +105,7 @@ line_stopped old mid new actions number lines i line within is stand so_far part
     (stopped_before old new (front ++ line ∷ []) (standing actions number (drop (i + 1) lines))
     (stopped_behind old mid new front (line ∷ []) so_far one))
 
--- the actions so far, and those behind them; what comes next has this text
+-- one action more: the lines that it added and that stand
 pub action_added : (old mid new : Option (List ℕ)) (actions : List Action) (before number : ℕ) (added : List Action)
     (i : ℕ) (action : Action) → i < length added → action ≡ get_or added i action → number ≡ before + i + 1
     → HasWritten old mid (standing_added actions before (take i added))
@@ -122,7 +153,7 @@ action_stopped old mid new actions before number added i action within is count 
     subst (λ l. StopsShort old new (lines_text l)) (sym all)
     (stopped_behind old mid new front (own ++ later) so_far (stopped_before mid new own later part))
 
--- the actions of the first commits, and of the next
+-- one commit more: its actions, and the lines that these added and that stand
 pub actions_more : (log : List CommitRecord) (i : ℕ) (commit : CommitRecord) → i < length log
     → commit ≡ get_or log i commit → actions_of (take (i + 1) log) ≡ actions_of (take i log) ++ commit.actions
 actions_more log i commit within is =

@@ -1,4 +1,4 @@
-use Rattle.std.proofs.Common.{◌≡◌, ◌∙◌, length, arith, rules, sym}
+use Rattle.std.proofs.Common.{◌≡◌, ◌∙◌, length, arith, sym}
 use Rattle.std.specs.Prelude.{is_some, true}
 use Rattle.ssb_text.specs.Load.{AreTexts}
 use Rattle.serve_command.proofs.JournaledLaws.{ends_alone_journaled, is_alone_journaled}

@@ -1,4 +1,5 @@
 use Rattle.std.proofs.Common.{◌≡◌, ◌∙◌, Err, List, arith, rules, sym, ℕ}
+use Rattle.std.specs.Prelude.{◌≢◌}
 use Rattle.ssb_files.specs.Loaded.{AreRefusedToServe}
 use Rattle.ssb_files.specs.declared.fault.Fault.TheVariants as common
 use Rattle.ssb_files.specs.declared.job.JobFault.TheVariants.{Program}
@@ -32,3 +33,24 @@ returns-in-Ok-clause-run g c = λ texts are.
 pub returns-in-Ok-clause-left : goal.returns-in-Ok-clause-left
 returns-in-Ok-clause-left g c =
     c.in-Ok.run'.left.ok.0 ∙ c.in-Ok.ensures.served.one_left ∙ sym c.args.speakers.ok.0
+
+pub returns-in_err-base-clause-words : goal.returns-in_err-base-clause-words
+returns-in_err-base-clause-words g c =
+    let is : c.from_residual.result ≡ Err (Program c.in_err-base.field-0.0) = search rules in
+    let here : serving_status (Program c.in_err-base.field-0.0) ≢ 2 = c.in_err-base.ensures.later in
+    rw is here
+
+pub returns-in_err-base-2-clause-words : goal.returns-in_err-base-2-clause-words
+returns-in_err-base-2-clause-words g c =
+    let is : c.from_residual-in_err-base-2.result ≡ Err (Program common.OutOfMemory) = search rules in
+    let here : serving_status (Program common.OutOfMemory) ≢ 2 = λ two. omega (arith, two) in
+    rw is here
+
+pub returns-in-Ok-clause-counts : goal.returns-in-Ok-clause-counts
+returns-in-Ok-clause-counts g c = c.in-Ok.ensures.counts
+
+pub returns-in-Err-clause-refused : goal.returns-in-Err-clause-refused
+returns-in-Err-clause-refused g c = λ status texts are. absurd (omega (arith, status))
+
+pub returns-in-Err-clause-words : goal.returns-in-Err-clause-words
+returns-in-Err-clause-words g c = λ two. omega (arith, two)

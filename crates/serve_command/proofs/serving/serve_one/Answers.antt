@@ -1,6 +1,20 @@
-use Rattle.std.proofs.Common.{◌≡◌, Err, length, arith, rules}
+use Rattle.std.proofs.Common.{◌≡◌, Err, List, length, arith, rules, ℕ}
+use Rattle.ssb_files.specs.Loaded.{AreRefusedToServe}
+use Rattle.ssb_files.specs.declared.fault.Fault.TheVariants as common
+use Rattle.ssb_files.specs.declared.job.JobFault.TheVariants.{Program}
+use Rattle.ssb_schema.specs.declared.table.Table.{Table}
+use Rattle.ssb_text.specs.Load.{AreTexts}
+use Rattle.serve_command.specs.Status.{serving_status}
 use Rattle.serve_command.proofs.ServedLaws.{first_pushed, is_alone, only_popped}
 use Rattle.serve_command.proofs.serving.serve_one.Goals as goal
+
+pub returns-in_err-push-clause-refused : goal.returns-in_err-push-clause-refused
+returns-in_err-push-clause-refused g c =
+    let is : c.from_residual.result ≡ Err (Program common.OutOfMemory) = search rules in
+    let here : serving_status (Program common.OutOfMemory) ≡ 1 → (texts : Table → List ℕ)
+    → AreTexts g.I.Read.remaining c.args.tables texts → AreRefusedToServe texts
+    = λ status texts are. absurd (omega (arith, status)) in
+    rw is here
 
 pub returns-in_err-run-clause-refused : goal.returns-in_err-run-clause-refused
 returns-in_err-run-clause-refused g c =

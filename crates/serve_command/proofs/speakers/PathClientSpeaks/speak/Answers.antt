@@ -14,3 +14,15 @@ serve_once-requires g c = record {
 
 pub loop-preserved : goal.loop-preserved
 loop-preserved g c = alike_both _ _ _ c.loop.invariant c.serve_once.ensures.same
+
+pub returns-in-Last : goal.returns-in-Last
+returns-in-Last g c = record {
+  same = alike_both _ _ _ c.loop.invariant c.serve_once.ensures.same;
+  spoken = alike_both _ _ _ c.loop.invariant c.serve_once.ensures.same;
+}
+
+pub returns-in-Broken : goal.returns-in-Broken
+returns-in-Broken g c = record {
+  same = alike_both _ _ _ c.loop.invariant c.serve_once.ensures.same;
+  spoken = alike_both _ _ _ c.loop.invariant c.serve_once.ensures.same;
+}
