@@ -118,6 +118,9 @@ def be_damaged(data, folder, step):
     damaged.is_refused("a table in its place: 90", (data / "supplier.tbl").read_bytes(), "90 NotAJournal")
     for end in sorted({0, 1, 2, HEAD_BYTES, HEAD_BYTES + CHECKSUM_BYTES, head - 1, head}):
         damaged.comes_back("a beginning of the head alone", (b"0" + content[1:head])[:end], 0, 0)
+        damaged.comes_back("a beginning of the head behind a torn gate", (b"x" + content[1:head])[:end], 0, 0)
+    damaged.comes_back("the head alone behind a torn gate", b"x" + content[1:head] + b"0", 0, 0)
+    damaged.is_refused("the gate of its head changed: 90", b"x" + content[1:], "90 NotAJournal")
     damaged.in_use(content)
     shutil.rmtree(folder)
     return damaged.told

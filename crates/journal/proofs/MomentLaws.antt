@@ -23,3 +23,11 @@ module _ {D : Type 0} (moment : D → ℕ) (left_since : D → ℕ → List ℕ 
   -- no call at all
   pub stays : (disk : D) (P : List ℕ → Type 0) → ((c : List ℕ) → left_since disk (moment disk) c → P c) → LeavesOnly moment left_since disk disk P
   stays disk P now = record { later = omega arith; each = now; before = λ t c le left. inl left }
+
+  -- two things that hold of each file
+  pub both : (old new : D) (P Q : List ℕ → Type 0) → LeavesOnly moment left_since old new P → LeavesOnly moment left_since old new Q → LeavesOnly moment left_since old new (λ c. P c × Q c)
+  both old new P Q one other = record {
+    later = one.later;
+    each = λ c left. (one.each c left, other.each c left);
+    before = λ t c le left. ⊎_elim (λ was. inl was) (λ p. ⊎_elim (λ was. inl was) (λ q. inr (p, q)) (other.before t c le left)) (one.before t c le left);
+  }

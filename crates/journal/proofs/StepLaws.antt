@@ -1,17 +1,17 @@
 -- What a crash leaves in each step of an append and of a recovery.
-use Rattle.std.proofs.Common.{◌≡◌, inl, inr, ℕ, ◌+◌, ◌-◌, ◌≤◌, ◌^◌, false, List, [], ◌∷◌, ◌++◌, length, get_or, take, drop, sym, ◌∙◌, ap, subst, arith, append_assoc, length-append, length-drop, take-append-drop}
+use Rattle.std.proofs.Common.{◌≡◌, inl, inr, ℕ, ◌+◌, ◌-◌, ◌≤◌, ◌^◌, false, List, [], ◌∷◌, ◌++◌, refl, length, get_or, take, drop, sym, ◌∙◌, ap, subst, arith, append_assoc, length-append, length-drop, take-append-drop}
 use Rattle.std.proofs.lemmas.Bool.{cases_eq}
 use Rattle.std.proofs.lemmas.List.{take_at, drop_at, drop_more, take_all, drop_all, append-nil}
 use Rattle.std.proofs.Math.Seq.{take-append-add}
 use Rattle.journal.specs.Disk.{Holds, Torn, Cut, Only}
-use Rattle.journal.specs.Groups.{head, block, is_whole, recovered, blocks, at_rest, IsSettled, IsBeforeOrAfter}
+use Rattle.journal.specs.Groups.{head, block, is_whole, recovered, blocks, at_rest, IsSettled, IsBeforeOrAfter, IsMending, IsAppending, behind_gate}
 use Rattle.journal.specs.declared.gated.GatedFile.{GatedFile}
 use Rattle.journal.proofs.DigitLaws.{number-digits}
 use Rattle.journal.proofs.GroupLaws.{IsTold, AllTold, recovered-blocks, recovered_then_none, blocks-push, closed, short_none, length-head, parts, front_nothing}
 
 -- what is written behind the closed gate
 abbrev pub tail : List ℕ → List ℕ
-tail group = head (length group) ++ group ++ 48 ∷ []
+tail = behind_gate
 
 pub length-tail : (group : List ℕ) → length (tail group) ≡ 18 + length group
 length-tail group = omega (arith, length-append (head (length group) ++ group) (48 ∷ []), length-append (head (length group)) group, length-head (length group))
@@ -34,12 +34,23 @@ module _ (groups : List (List ℕ)) (size : ℕ) (is_size : size ≡ length (blo
   recovered-at_rest = recovered_then_none groups (48 ∷ []) told (closed_gate [])
 
   -- the closed gate stands in each outcome of a write behind it
+  stands_closed : (n : ℕ) (c : List ℕ) → Torn (size + 1) n (at_rest groups) c → c ≡ blocks groups ++ 48 ∷ drop (size + 1) c
+  stands_closed n c torn =
+      let rest = drop (size + 1) c in
+      let front : take (size + 1) c ≡ at_rest groups = torn.before ∙ take_all (size + 1) (at_rest groups) (omega (arith, length-at_rest)) in
+      sym (take-append-drop (size + 1) c) ∙ ap (λ (l : List ℕ). l ++ rest) front ∙ append_assoc (blocks groups) (48 ∷ []) rest
+
   pub torn_behind : (n : ℕ) (c : List ℕ) → Torn (size + 1) n (at_rest groups) c → recovered c ≡ groups
   torn_behind n c torn =
       let rest = drop (size + 1) c in
-      let front : take (size + 1) c ≡ at_rest groups = torn.before ∙ take_all (size + 1) (at_rest groups) (omega (arith, length-at_rest)) in
-      let whole : c ≡ blocks groups ++ 48 ∷ rest = sym (take-append-drop (size + 1) c) ∙ ap (λ (l : List ℕ). l ++ rest) front ∙ append_assoc (blocks groups) (48 ∷ []) rest in
-      ap recovered whole ∙ recovered_then_none groups (48 ∷ rest) told (closed_gate rest)
+      ap recovered (stands_closed n c torn) ∙ recovered_then_none groups (48 ∷ rest) told (closed_gate rest)
+
+  pub appending_behind : (group c : List ℕ) → Torn (size + 1) (length (tail group)) (at_rest groups) c → IsAppending groups group c
+  appending_behind group c torn =
+      let n = length (tail group) in
+      let rest = drop (size + 1) c in
+      let short : length rest ≤ n = omega (arith, length-drop (size + 1) c, torn.no_longer, length-at_rest) in
+      (48, rest, stands_closed n c torn, inr (refl, short))
 
   pub written_behind : (bytes c : List ℕ) → Holds (at_rest groups) (size + 1) bytes c → c ≡ blocks groups ++ 48 ∷ bytes
   written_behind bytes c holds =
@@ -70,13 +81,17 @@ module _ (groups : List (List ℕ)) (size : ℕ) (is_size : size ≡ length (blo
   ]
 
   -- the group stands whole in each outcome of the write that opens its gate
-  pub torn_gate : (group c : List ℕ) → IsTold group → Torn size 1 (blocks groups ++ 48 ∷ tail group) c → IsBeforeOrAfter groups group c
-  torn_gate group c is_told torn =
+  stands_whole : (group c : List ℕ) → Torn size 1 (blocks groups ++ 48 ∷ tail group) c → c ≡ blocks groups ++ get_or c size 0 ∷ tail group
+  stands_whole group c torn =
       let gate = get_or c size 0 in
       let rest : drop size c ≡ gate ∷ tail group = drop_more c size 0 (omega (arith, torn.no_shorter, length-staged (tail group))) ∙ ap (λ (l : List ℕ). gate ∷ l) (torn.after ∙ back (tail group)) in
-      let whole : c ≡ blocks groups ++ gate ∷ tail group =
-      sym (take-append-drop size c) ∙ ap (λ (l : List ℕ). l ++ drop size c) (torn.before ∙ front (tail group)) ∙ ap (λ (l : List ℕ). blocks groups ++ l) rest in
-      subst (IsBeforeOrAfter groups group) (sym whole) (gated group gate is_told)
+      sym (take-append-drop size c) ∙ ap (λ (l : List ℕ). l ++ drop size c) (torn.before ∙ front (tail group)) ∙ ap (λ (l : List ℕ). blocks groups ++ l) rest
+
+  pub torn_gate : (group c : List ℕ) → IsTold group → Torn size 1 (blocks groups ++ 48 ∷ tail group) c → IsBeforeOrAfter groups group c
+  torn_gate group c is_told torn = subst (IsBeforeOrAfter groups group) (sym (stands_whole group c torn)) (gated group (get_or c size 0) is_told)
+
+  pub appending_gate : (group c : List ℕ) → Torn size 1 (blocks groups ++ 48 ∷ tail group) c → IsAppending groups group c
+  appending_gate group c torn = (get_or c size 0, tail group, stands_whole group c torn, inl refl)
 
   pub written_gate : (group c : List ℕ) → Holds (blocks groups ++ 48 ∷ tail group) size (49 ∷ []) c → c ≡ at_rest (groups ++ group ∷ [])
   written_gate group c holds =
@@ -122,13 +137,23 @@ module _ (file : List ℕ) (size : ℕ) (is_size : size ≡ length (blocks (reco
   cut_done = ap (λ (l : List ℕ). take size l) (parts file).split ∙ take_at (blocks groups) (parts file).end size (sym is_size)
 
   -- one byte behind the groups is no group
+  stands_before : (c : List ℕ) → Torn size 1 (blocks groups) c → c ≡ blocks groups ++ drop size c
+  stands_before c torn =
+      let rest = drop size c in
+      let start : take size c ≡ blocks groups = torn.before ∙ take_all size (blocks groups) (omega arith) in
+      sym (take-append-drop size c) ∙ ap (λ (l : List ℕ). l ++ rest) start
+
   pub torn_end : (c : List ℕ) → Torn size 1 (blocks groups) c → recovered c ≡ groups
   torn_end c torn =
       let rest = drop size c in
-      let start : take size c ≡ blocks groups = torn.before ∙ take_all size (blocks groups) (omega arith) in
-      let whole : c ≡ blocks groups ++ rest = sym (take-append-drop size c) ∙ ap (λ (l : List ℕ). l ++ rest) start in
       let short = short_none rest (omega (arith, length-drop size c, torn.no_longer)) in
-      ap recovered whole ∙ recovered_then_none groups rest (parts file).all_told short
+      ap recovered (stands_before c torn) ∙ recovered_then_none groups rest (parts file).all_told short
+
+  pub mending_cut : (c : List ℕ) → Cut size file c → IsMending file c
+  mending_cut c cut = inl (sym cut.front)
+
+  pub mending_end : (c : List ℕ) → Torn size 1 (blocks groups) c → IsMending file c
+  mending_end c torn = inr (drop size c, stands_before c torn, omega (arith, length-drop size c, torn.no_longer))
 
   pub written_end : (c : List ℕ) → Holds (blocks groups) size (48 ∷ []) c → c ≡ at_rest groups
   written_end c holds =

@@ -44,6 +44,10 @@ recovered file = recovered_in (length file) file
 unfoldable pub whole_length : List ℕ → Option ℕ
 whole_length file = if is_whole file then Some (told file) else None
 
+-- what an append writes behind the gate of a group: its head, the group, and the next closed gate
+abbrev pub behind_gate : List ℕ → List ℕ
+behind_gate group = head (length group) ++ group ++ 48 ∷ []
+
 abbrev pub blocks : List (List ℕ) → List ℕ
 blocks [] = []
 blocks (group ∷ groups) = block group ++ blocks groups
@@ -74,3 +78,16 @@ IsBeforeOrAfter groups group file = (recovered file ≡ groups) ⊎ (recovered f
 -- what stands behind the groups of a file: a closed gate and nothing else, where no crash has torn it
 abbrev pub behind : List ℕ → List ℕ
 behind file = drop (length (blocks (recovered file))) file
+
+-- what a crash leaves of a file whose end is being mended: a beginning of it, or its groups and at most one byte
+abbrev pub IsMending : List ℕ → List ℕ → Type 0
+IsMending old file =
+    (file ≡ take (length file) old)
+    ⊎ ((rest : List ℕ) × (file ≡ blocks (recovered old) ++ rest) × (length rest ≤ 1))
+
+-- what a crash leaves while a group is appended: the groups before it, and any gate with what stands behind a new group's,
+-- or a closed gate with any bytes, no more than that
+abbrev pub IsAppending : List (List ℕ) → List ℕ → List ℕ → Type 0
+IsAppending groups group file =
+    (gate : ℕ) × (rest : List ℕ) × (file ≡ blocks groups ++ gate ∷ rest)
+    × ((rest ≡ behind_gate group) ⊎ ((gate ≡ 48) × (length rest ≤ length (behind_gate group))))

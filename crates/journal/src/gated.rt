@@ -4,7 +4,7 @@
 //! write of its own once what is behind it is on the disk.
 ghost use Rattle.std.specs.Prelude.{◌≡◌, ◌⊎◌, ◌+◌, ◌<◌, ◌≤◌, ◌^◌, ◌++◌, [], ◌∷◌, List, ℕ, length, IfOk, OnOk, OnErr, IsErrOf};
 ghost use Rattle.journal.specs.Disk.{Only, LeavesOnly};
-ghost use Rattle.journal.specs.Groups.{recovered, blocks, at_rest, head, IsSettled, IsBeforeOrAfter};
+ghost use Rattle.journal.specs.Groups.{recovered, blocks, at_rest, behind_gate, IsSettled, IsBeforeOrAfter, IsMending, IsAppending};
 
 use crate::disk::{cut_through, write_through};
 use crate::groups::{CLOSED, OPEN, push_head};
@@ -23,9 +23,9 @@ pub(crate) struct GatedFile<D: Disk> {
     pub(crate) size: usize,
 }
 
-// What is written behind the closed gate: a head, the group, and the next closed gate.
-fn behind(alloc: Global, group: &[u8]) -> Result<Vec<u8>, AllocError>
-    ensures { IfOk result (λ bytes. bytes.items ≡ head (length group.now) ++ group.now ++ 48 ∷ []) }
+/// What an append writes behind the gate of a group: its head, the group, and the next closed gate.
+pub fn behind_gate(alloc: Global, group: &[u8]) -> Result<Vec<u8>, AllocError>
+    ensures { IfOk result (λ bytes. bytes.items ≡ behind_gate group.now) }
 {
     let mut bytes = Vec::with_capacity(alloc, group.len().saturating_add(18))?;
     push_head(&mut bytes, group.len())?;
@@ -46,6 +46,8 @@ impl<D: Disk> GatedFile<D> {
         // A crash at any moment of the call leaves the groups from before it, with the new one whole or without.
         ensures any_moment { LeavesOnly D.moment D.left_since self.old.disk self.new.disk
             (IsBeforeOrAfter (recovered (D.seen self.old.disk)) group.now) }
+        ensures torn { LeavesOnly D.moment D.left_since self.old.disk self.new.disk
+            (IsAppending (recovered (D.seen self.old.disk)) group.now) }
 
         // It does not give up by itself.
         ensures failed { IsErrOf result DiskError.Failed → D.faults self.old.disk < D.faults self.new.disk }
@@ -54,7 +56,7 @@ impl<D: Disk> GatedFile<D> {
         if self.size >= MAX_SIZE {
             return Err(DiskError::Full);
         }
-        let bytes = behind(alloc, group)?;
+        let bytes = behind_gate(alloc, group)?;
         write_through(&mut self.disk, self.size + 1, &bytes)?;
         write_through(&mut self.disk, self.size, &[OPEN])?;
         self.size += bytes.len();
@@ -71,6 +73,7 @@ pub(crate) fn repair<D: Disk>(disk: &mut D, end: usize) -> Result<(), DiskError>
     ensures durable { OnOk result (Only (D.seen disk.new) (D.may_leave disk.new)) }
     ensures any_moment { LeavesOnly D.moment D.left_since disk.old disk.new
         (λ c. recovered c ≡ recovered (D.seen disk.old)) }
+    ensures torn { LeavesOnly D.moment D.left_since disk.old disk.new (IsMending (D.seen disk.old)) }
     ensures failed { IsErrOf result DiskError.Failed → D.faults disk.old < D.faults disk.new }
     ensures full { IsErrOf result DiskError.Full → ⊥ }
 {

@@ -1,7 +1,7 @@
 //! A file that was read and is not yet changed, and a journal that groups are appended to.
 ghost use Rattle.std.specs.Prelude.{◌≡◌, ◌<◌, ◌≤◌, ◌^◌, ◌++◌, [], ◌∷◌, length, IfOk, IfErr};
 ghost use Rattle.journal.specs.Disk.{Only, LeavesOnly};
-ghost use Rattle.journal.specs.Groups.{recovered, blocks, behind, lists, IsSettled, IsBeforeOrAfter};
+ghost use Rattle.journal.specs.Groups.{recovered, blocks, behind, lists, IsSettled, IsBeforeOrAfter, IsMending, IsAppending};
 
 use crate::disk::read_through;
 use crate::gated::{GatedFile, repair};
@@ -88,6 +88,10 @@ impl<D: Disk> Found<D> {
             (λ c. recovered c ≡ recovered (D.seen self))) }
         ensures any_moment_err { IfErr result (λ e. LeavesOnly D.moment D.left_since self e.1
             (λ c. recovered c ≡ recovered (D.seen self))) }
+        ensures torn { IfOk result (λ journal. LeavesOnly D.moment D.left_since self journal
+            (IsMending (D.seen self))) }
+        ensures torn_err { IfErr result (λ e. LeavesOnly D.moment D.left_since self e.1
+            (IsMending (D.seen self))) }
         ensures failed { IfErr result (λ e. e.0 ≡ DiskError.Failed → D.faults self < D.faults e.1) }
         ensures full { IfErr result (λ e. e.0 ≡ DiskError.Full → ⊥) }
     {
@@ -121,6 +125,11 @@ impl<D: Disk> Journal<D> {
             (IsBeforeOrAfter (recovered (D.seen self)) group.now)) }
         ensures any_moment_err { IfErr result (λ e. LeavesOnly D.moment D.left_since self e.1
             (IsBeforeOrAfter (recovered (D.seen self)) group.now)) }
+        // What stands behind them is what this call writes, torn or whole.
+        ensures torn { IfOk result (λ journal. LeavesOnly D.moment D.left_since self journal
+            (IsAppending (recovered (D.seen self)) group.now)) }
+        ensures torn_err { IfErr result (λ e. LeavesOnly D.moment D.left_since self e.1
+            (IsAppending (recovered (D.seen self)) group.now)) }
         // It does not give up by itself.
         ensures failed { IfErr result (λ e. e.0 ≡ DiskError.Failed → D.faults self < D.faults e.1) }
         ensures full { IfErr result (λ e. e.0 ≡ DiskError.Full → 2 ^ 60 ≤ length (D.seen self)) }

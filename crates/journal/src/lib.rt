@@ -33,6 +33,6 @@ mod groups;
 mod journal;
 
 pub use disk::{Disk, DiskError};
-pub use gated::MAX_GROUP;
+pub use gated::{MAX_GROUP, behind_gate};
 pub use groups::{CLOSED, Contents};
 pub use journal::{Found, Journal};

@@ -3,3 +3,4 @@ mod HeadLaws
 mod TextLaws
 pub mod KeptLaws
 mod CountLaws
+mod NewLaws

@@ -1,6 +1,7 @@
 -- What a file of groups is to a journal of texts.
-use Rattle.std.specs.Prelude.{◌≡◌, ◌⊎◌, ◌≤◌, ◌+◌, List, ℕ, [], ◌∷◌, length, map, take, slice_index, slice_get, Some}
-use Rattle.journal.specs.Groups.{recovered}
+use Rattle.std.specs.Prelude.{◌≡◌, ◌⊎◌, ◌≤◌, List, ℕ, [], ◌∷◌, length, map, take, drop, nat_eq, true, slice_index, slice_get, Some}
+use Rattle.std.specs.List.{starts_with}
+use Rattle.journal.specs.Groups.{recovered, behind, behind_gate}
 use Rattle.ssb_journal.specs.Heads.{head_text, IsHeadFault}
 use Rattle.ssb_journal.specs.Seals.{sealed, IsNotSealed}
 use Rattle.ssb_journal.specs.declared.head.TableSize.{TableSize}
@@ -15,11 +16,21 @@ AreSealed sizes texts groups = groups ≡ map sealed (head_text sizes ∷ texts)
 abbrev pub IsJournalOf : List TableSize → List (List ℕ) → List ℕ → Type 0
 IsJournalOf sizes texts file = AreSealed sizes texts (recovered file)
 
--- bytes that a crash may leave of a journal that is being made: at most one, or a closed gate and no more behind it than
--- a head's group has
+-- what stands behind the first gate of a journal that is new
+abbrev pub behind_first_gate : List TableSize → List ℕ
+behind_first_gate sizes = behind_gate (sealed (head_text sizes))
+
+-- bytes that a crash may leave of a journal that is being made: any gate, or none, with a beginning of what stands behind
+-- the first gate of a new one; or a closed gate with any bytes, no more than stand there
 abbrev pub IsBeginning : List TableSize → List ℕ → Type 0
 IsBeginning sizes bytes =
-    (length bytes ≤ 1) ⊎ ((slice_index bytes 0 ≡ 48) × (length bytes ≤ 52 + length (head_text sizes)))
+    (starts_with nat_eq (behind_first_gate sizes) (drop 1 bytes) ≡ true)
+    ⊎ ((slice_index bytes 0 ≡ 48) × (length (drop 1 bytes) ≤ length (behind_first_gate sizes)))
+
+-- a file that is opened as a new journal, or one of the head and no texts
+abbrev pub IsNewJournal : List TableSize → List ℕ → Type 0
+IsNewJournal sizes file =
+    ((recovered file ≡ []) × IsBeginning sizes (behind file)) ⊎ IsJournalOf sizes [] file
 
 -- a group is no text behind the line of its checksum, and those before it are
 pub record IsFirstNotSealed (groups : List (List ℕ)) (number : ℕ) : Type 0 where

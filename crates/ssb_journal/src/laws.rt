@@ -1,13 +1,14 @@
 //! What holds of every journal: each law is the contract of a function that does nothing.
 ghost use Rattle.std.specs.Prelude.{◌≡◌, List, ℕ, [], length, true, false};
-ghost use Rattle.journal.specs.Groups.{recovered};
+ghost use Rattle.journal.specs.Groups.{recovered, behind};
 ghost use Rattle.row_store.specs.History.{CommitRecord, IsPrefix};
+ghost use Rattle.ssb_journal.specs.declared.fault.JournalFault.{JournalFault};
 ghost use Rattle.ssb_journal.specs.declared.head.TableSize.{TableSize};
 ghost use Rattle.ssb_journal.specs.declared.opening.KeptCommits.{KeptCommits};
 ghost use Rattle.ssb_journal.specs.Counts.{KeepsFirst};
 ghost use Rattle.ssb_journal.specs.Kept.{KeepsCommits};
-ghost use Rattle.ssb_journal.specs.Opening.{IsKept};
-ghost use Rattle.ssb_journal.specs.Texts.{IsJournalOf};
+ghost use Rattle.ssb_journal.specs.Opening.{IsKept, IsOpenFault};
+ghost use Rattle.ssb_journal.specs.Texts.{IsJournalOf, IsNewJournal};
 
 use ssb_trace::one_reading;
 
@@ -39,4 +40,10 @@ pub fn begun_journal_keeps()
 pub fn first_of_log()
     ensures { (sizes : List TableSize) (commits log : List CommitRecord) (file : List ℕ)
         → KeepsCommits sizes commits file → IsPrefix commits log → KeepsFirst (length commits) log file }
+{}
+
+/// Nothing is told against a new journal, nor against what a crash leaves of one that is being made.
+pub fn new_journal_is_opened()
+    ensures { (sizes : List TableSize) (file : List ℕ) (fault : JournalFault)
+        → IsNewJournal sizes file → IsOpenFault sizes (recovered file) (behind file) fault → ⊥ }
 {}

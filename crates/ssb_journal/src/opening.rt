@@ -2,20 +2,17 @@
 ghost use Rattle.std.specs.Prelude.{◌≡◌, ◌⊎◌, ◌<◌, [], true, false, IfOk, IfErr};
 ghost use Rattle.journal.specs.Disk.{Only, LeavesOnly};
 ghost use Rattle.journal.specs.Groups.{recovered, behind, lists};
-ghost use Rattle.ssb_journal.specs.Texts.{IsJournalOf};
-ghost use Rattle.ssb_journal.specs.Heads.{head_text};
-ghost use Rattle.ssb_journal.specs.Seals.{sealed};
+ghost use Rattle.ssb_journal.specs.Texts.{IsBeginning, IsJournalOf, IsNewJournal};
 ghost use Rattle.ssb_journal.specs.Kept.{IsAsItWasOrNew, KeepsCommits};
 ghost use Rattle.ssb_journal.specs.Opening.{IsKept, IsOpenFault, TellsOpenFault};
 
-use crate::checksum::seal;
 use crate::commits::commits_of;
 use crate::fault::JournalFault;
-use crate::head::{TableSize, head_of};
-use crate::texts::texts_of;
+use crate::head::TableSize;
+use crate::texts::{head_group, texts_of};
 use journal::{Contents, Disk, DiskError, Found, Journal, MAX_GROUP};
 use row_store::Commit;
-use std::alloc::{AllocError, Global};
+use std::alloc::Global;
 use thiserror::Error;
 
 /// Why a journal's file was not opened: its disk failed, or it is no journal over these tables.
@@ -43,6 +40,7 @@ fn kept_in(
     contents: &Contents,
 ) -> Result<KeptCommits, JournalFault>
     ensures kept { IfOk result (IsKept sizes.now (lists contents.now.groups.items)) }
+    ensures beginning { IfOk result (λ kept. kept.is_new ≡ true → IsBeginning sizes.now contents.now.rest.items) }
     ensures fault { IfErr result (λ fault. (fault ≡ JournalFault.OutOfMemory)
         ⊎ IsOpenFault sizes.now (lists contents.now.groups.items) contents.now.rest.items fault) }
 {
@@ -77,6 +75,8 @@ pub fn open<D: Disk>(
     // After a restart, what is read is what is on the disk.
     requires durable { Only (D.seen disk) (D.may_leave disk) }
     ensures kept { IfOk result (λ opened. IsKept sizes.now (recovered (D.seen disk)) opened.kept) }
+    ensures beginning { IfOk result (λ opened. opened.kept.is_new ≡ true
+        → IsBeginning sizes.now (behind (D.seen disk))) }
     ensures same { IfOk result (λ opened. D.seen opened.found ≡ D.seen disk) }
     ensures fault { IfErr result (λ e. TellsOpenFault sizes.now (D.seen disk) e.0) }
     // A crash at any moment leaves the file as it was.
@@ -101,13 +101,6 @@ pub fn open<D: Disk>(
     }
 }
 
-// The group of a head.
-fn head_group(alloc: Global, sizes: &[TableSize]) -> Result<Vec<u8>, AllocError>
-    ensures { IfOk result (λ group. group.items ≡ sealed (head_text sizes.now)) }
-{
-    seal(alloc, &head_of(alloc, sizes)?)
-}
-
 /// Cuts off what a crash has torn, and writes the head of a new journal: then commits can be appended. An `Err` hands
 /// the disk back.
 pub fn begin<D: Disk>(
@@ -124,6 +117,11 @@ pub fn begin<D: Disk>(
         (IsAsItWasOrNew sizes.now (recovered (D.seen found)))) }
     ensures any_moment_err { IfErr result (λ e. LeavesOnly D.moment D.left_since found e.1
         (IsAsItWasOrNew sizes.now (recovered (D.seen found)))) }
+    // While a new journal is made it leaves a file that is opened (`laws::new_journal_is_opened`).
+    ensures new_journal { is_new ≡ true → IsBeginning sizes.now (behind (D.seen found))
+        → IfOk result (λ journal. LeavesOnly D.moment D.left_since found journal (IsNewJournal sizes.now)) }
+    ensures new_journal_err { is_new ≡ true → IsBeginning sizes.now (behind (D.seen found))
+        → IfErr result (λ e. LeavesOnly D.moment D.left_since found e.1 (IsNewJournal sizes.now)) }
 {
     let journal = found.mend()?;
     if !is_new {

@@ -5,14 +5,11 @@ ghost use Rattle.ssb_journal.specs.Heads.{head_text};
 ghost use Rattle.ssb_journal.specs.Seals.{sealed};
 ghost use Rattle.ssb_journal.specs.Texts.{AreSealed, IsBeginning, IsDamaged, IsFileFault};
 
-use crate::checksum::{CHECKSUM_LINE, unseal};
+use crate::checksum::{seal, unseal};
 use crate::fault::JournalFault;
 use crate::head::{TableSize, check_head, head_of};
-use journal::CLOSED;
+use journal::{CLOSED, behind_gate};
 use std::alloc::{AllocError, Global};
-
-// The bytes of an open gate and a head of a group, and of the closed gate behind it.
-const AROUND: usize = 19;
 
 // The texts of groups, each behind the line of its checksum.
 fn unsealed(alloc: Global, groups: &[Vec<u8>]) -> Result<Vec<Vec<u8>>, JournalFault>
@@ -29,6 +26,13 @@ fn unsealed(alloc: Global, groups: &[Vec<u8>]) -> Result<Vec<Vec<u8>>, JournalFa
     Ok(texts)
 }
 
+/// The group of a head.
+pub(crate) fn head_group(alloc: Global, sizes: &[TableSize]) -> Result<Vec<u8>, AllocError>
+    ensures { IfOk result (λ group. group.items ≡ sealed (head_text sizes.now)) }
+{
+    seal(alloc, &head_of(alloc, sizes)?)
+}
+
 // Whether bytes are what a crash may leave of a journal that is being made.
 fn is_beginning(alloc: Global, sizes: &[TableSize], bytes: &[u8]) -> Result<bool, AllocError>
     ensures yes { IfOk result (λ is. is ≡ true → IsBeginning sizes.now bytes.now) }
@@ -37,9 +41,9 @@ fn is_beginning(alloc: Global, sizes: &[TableSize], bytes: &[u8]) -> Result<bool
     if bytes.len() <= 1 {
         return Ok(true);
     }
-    let head = head_of(alloc, sizes)?;
-    let most = head.len().saturating_add(CHECKSUM_LINE + AROUND);
-    Ok(bytes[0] == CLOSED && bytes.len() <= most)
+    let first = behind_gate(alloc, &head_group(alloc, sizes)?)?;
+    let rest = &bytes[1..];
+    Ok(first.starts_with(rest) || (bytes[0] == CLOSED && rest.len() <= first.len()))
 }
 
 /// The texts of a journal over tables of these sizes, but for its head. `None` where no group is there, and what is

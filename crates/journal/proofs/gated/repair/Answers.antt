@@ -1,9 +1,9 @@
 use Rattle.std.proofs.Common.{◌≡◌, ℕ, List, [], ◌∷◌, length, ◌∙◌, ap, subst, arith}
 use Rattle.journal.specs.Disk.{Holds, Torn, Cut}
-use Rattle.journal.specs.Groups.{recovered}
+use Rattle.journal.specs.Groups.{recovered, IsMending}
 use Rattle.journal.proofs.GroupLaws.{parts}
 use Rattle.journal.proofs.MomentLaws.{leaves, then_leaves}
-use Rattle.journal.proofs.StepLaws.{inside, cut_keeps, cut_done, torn_end, written_end, recovered-at_rest}
+use Rattle.journal.proofs.StepLaws.{inside, cut_keeps, cut_done, torn_end, mending_cut, mending_end, written_end, recovered-at_rest}
 use Rattle.journal.proofs.gated.repair.Goals as goal
 
 pub cut_through-requires-clause-inside : goal.cut_through-requires-clause-inside
@@ -56,3 +56,29 @@ pub returns-clause-same : goal.returns-clause-same
 returns-clause-same g c =
     let file = g.D.Disk.seen c.args.disk.now in
     ap recovered (returns-clause-at_rest g c) ∙ recovered-at_rest (recovered file) c.args.end c.requires.end (parts file).all_told
+
+pub returns-in_err-cut_through-clause-torn : goal.returns-in_err-cut_through-clause-torn
+returns-in_err-cut_through-clause-torn g c =
+    let file = g.D.Disk.seen c.args.disk.now in
+    leaves g.D.Disk.moment g.D.Disk.left_since c.args.disk.now c.cut_through.new.disk (Cut c.args.end file) (IsMending file)
+    c.cut_through.ensures.any_moment (mending_cut file c.args.end c.requires.end)
+
+pub returns-in_err-write_through-clause-torn : goal.returns-in_err-write_through-clause-torn
+returns-in_err-write_through-clause-torn g c =
+    let file = g.D.Disk.seen c.args.disk.now in
+    let end = c.args.end in
+    let is_cut = c.in_ok-cut_through.ensures.cut ∙ cut_done file end c.requires.end in
+    then_leaves g.D.Disk.moment g.D.Disk.left_since c.args.disk.now c.cut_through.new.disk c.write_through.new.disk (Cut end file) (Torn end 1 (g.D.Disk.seen c.cut_through.new.disk)) (IsMending file)
+    c.cut_through.ensures.any_moment c.write_through.ensures.any_moment
+    (mending_cut file end c.requires.end)
+    (λ f torn. mending_end file end c.requires.end f (subst (λ (o : List ℕ). Torn end 1 o f) is_cut torn))
+
+pub returns-clause-torn : goal.returns-clause-torn
+returns-clause-torn g c =
+    let file = g.D.Disk.seen c.args.disk.now in
+    let end = c.args.end in
+    let is_cut = c.in_ok-cut_through.ensures.cut ∙ cut_done file end c.requires.end in
+    then_leaves g.D.Disk.moment g.D.Disk.left_since c.args.disk.now c.cut_through.new.disk c.write_through.new.disk (Cut end file) (Torn end 1 (g.D.Disk.seen c.cut_through.new.disk)) (IsMending file)
+    c.cut_through.ensures.any_moment c.write_through.ensures.any_moment
+    (mending_cut file end c.requires.end)
+    (λ f torn. mending_end file end c.requires.end f (subst (λ (o : List ℕ). Torn end 1 o f) is_cut torn))

@@ -1,9 +1,9 @@
 use Rattle.std.proofs.Common.{◌≡◌, ℕ, ◌+◌, List, [], ◌∷◌, ◌++◌, length, inl, ◌∙◌, ap, subst, arith, length-append}
 use Rattle.journal.specs.Disk.{Holds, Torn}
-use Rattle.journal.specs.Groups.{recovered, blocks, block, IsBeforeOrAfter}
+use Rattle.journal.specs.Groups.{recovered, blocks, block, IsBeforeOrAfter, IsAppending}
 use Rattle.journal.proofs.GroupLaws.{parts, all_told_push, blocks-push, length-block}
 use Rattle.journal.proofs.MomentLaws.{leaves, then_leaves}
-use Rattle.journal.proofs.StepLaws.{tail, length-tail, short_told, torn_behind, written_behind, torn_gate, written_gate, settled}
+use Rattle.journal.proofs.StepLaws.{tail, length-tail, short_told, torn_behind, appending_behind, written_behind, torn_gate, appending_gate, written_gate, settled}
 use Rattle.journal.proofs.gated.GatedFile.append.Goals as goal
 
 -- the first write leaves the groups as they were
@@ -77,3 +77,55 @@ returns-clause-acknowledged g c =
     let long : length (blocks (groups ++ group ∷ [])) ≡ size + (18 + length group) = omega (arith, ap length (blocks-push groups group), length-append (blocks groups) (block group), length-block group, s.size) in
     let written : c.len.result ≡ 18 + length group = omega (arith, ap length bytes_are, length-tail group, c.deref.ensures.len, c.len.ensures) in
     settled _ _ _ (groups ++ group ∷ []) (all_told_push groups group told is_told) opened (omega arith) c.in_ok-write_through-2.ensures.durable
+
+-- what each write leaves
+pub returns-in_err-write_through-clause-torn : goal.returns-in_err-write_through-clause-torn
+returns-in_err-write_through-clause-torn g c =
+    let s = c.requires.settled in
+    let old = c.args.self.now.disk in
+    let size = c.args.self.now.size in
+    let group = c.args.group.now in
+    let groups = recovered (g.D.Disk.seen old) in
+    let told = (parts (g.D.Disk.seen old)).all_told in
+    let bytes = c.deref.result.now in
+    let bytes_are : bytes ≡ tail group = c.deref.ensures.value ∙ c.in_ok-bytes.ensures in
+    leaves g.D.Disk.moment g.D.Disk.left_since old c.write_through.new.disk (Torn (size + 1) (length bytes) (g.D.Disk.seen old)) (IsAppending groups group) c.write_through.ensures.any_moment
+    (λ f torn. appending_behind groups size s.size told group f (subst (λ (b : List ℕ). Torn (size + 1) (length b) (blocks groups ++ 48 ∷ []) f) bytes_are (subst (λ (o : List ℕ). Torn (size + 1) (length bytes) o f) s.file torn)))
+
+pub returns-in_err-write_through-2-clause-torn : goal.returns-in_err-write_through-2-clause-torn
+returns-in_err-write_through-2-clause-torn g c =
+    let s = c.requires.settled in
+    let old = c.args.self.now.disk in
+    let size = c.args.self.now.size in
+    let group = c.args.group.now in
+    let groups = recovered (g.D.Disk.seen old) in
+    let told = (parts (g.D.Disk.seen old)).all_told in
+    let bytes = c.deref.result.now in
+    let n = length bytes in
+    let mid = g.D.Disk.seen c.write_through.new.disk in
+    let bytes_are : bytes ≡ tail group = c.deref.ensures.value ∙ c.in_ok-bytes.ensures in
+    let holds = subst (λ (o : List ℕ). Holds o (size + 1) bytes mid) s.file c.in_ok-write_through.ensures.written in
+    let staged = written_behind groups size s.size told bytes mid holds ∙ ap (λ (l : List ℕ). blocks groups ++ 48 ∷ l) bytes_are in
+    then_leaves g.D.Disk.moment g.D.Disk.left_since old c.write_through.new.disk c.write_through-2.new.disk (Torn (size + 1) n (g.D.Disk.seen old)) (Torn size 1 mid) (IsAppending groups group)
+    c.write_through.ensures.any_moment c.write_through-2.ensures.any_moment
+    (λ f torn. appending_behind groups size s.size told group f (subst (λ (b : List ℕ). Torn (size + 1) (length b) (blocks groups ++ 48 ∷ []) f) bytes_are (subst (λ (o : List ℕ). Torn (size + 1) n o f) s.file torn)))
+    (λ f torn. appending_gate groups size s.size told group f (subst (λ (o : List ℕ). Torn size 1 o f) staged torn))
+
+pub returns-clause-torn : goal.returns-clause-torn
+returns-clause-torn g c =
+    let s = c.requires.settled in
+    let old = c.args.self.now.disk in
+    let size = c.args.self.now.size in
+    let group = c.args.group.now in
+    let groups = recovered (g.D.Disk.seen old) in
+    let told = (parts (g.D.Disk.seen old)).all_told in
+    let bytes = c.deref.result.now in
+    let n = length bytes in
+    let mid = g.D.Disk.seen c.write_through.new.disk in
+    let bytes_are : bytes ≡ tail group = c.deref.ensures.value ∙ c.in_ok-bytes.ensures in
+    let holds = subst (λ (o : List ℕ). Holds o (size + 1) bytes mid) s.file c.in_ok-write_through.ensures.written in
+    let staged = written_behind groups size s.size told bytes mid holds ∙ ap (λ (l : List ℕ). blocks groups ++ 48 ∷ l) bytes_are in
+    then_leaves g.D.Disk.moment g.D.Disk.left_since old c.write_through.new.disk c.write_through-2.new.disk (Torn (size + 1) n (g.D.Disk.seen old)) (Torn size 1 mid) (IsAppending groups group)
+    c.write_through.ensures.any_moment c.write_through-2.ensures.any_moment
+    (λ f torn. appending_behind groups size s.size told group f (subst (λ (b : List ℕ). Torn (size + 1) (length b) (blocks groups ++ 48 ∷ []) f) bytes_are (subst (λ (o : List ℕ). Torn (size + 1) n o f) s.file torn)))
+    (λ f torn. appending_gate groups size s.size told group f (subst (λ (o : List ℕ). Torn size 1 o f) staged torn))

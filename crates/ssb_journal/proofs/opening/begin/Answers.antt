@@ -1,0 +1,53 @@
+use Rattle.std.proofs.Common.{◌≡◌, List, [], ℕ, sym, ◌∙◌, ap, subst}
+use Rattle.journal.specs.Disk.{LeavesOnly}
+use Rattle.journal.specs.Groups.{recovered, IsBeforeOrAfter, IsAppending}
+use Rattle.journal.specs.declared.disk.DiskError.{DiskError}
+use Rattle.ssb_journal.specs.Texts.{IsNewJournal}
+use Rattle.ssb_journal.proofs.NewLaws.{mended, appended, if_both_ok, if_both_err, err_is}
+use Rattle.ssb_journal.proofs.opening.begin.Goals as goal
+
+-- where the mend fails
+pub returns-in_err-journal-clause-new_journal_err : goal.returns-in_err-journal-clause-new_journal_err
+returns-in_err-journal-clause-new_journal_err g c is_new begins =
+    err_is c.from_residual.result c.in_err-journal.field-0.0 (λ (e : DiskError × g.row.D.Denot). LeavesOnly g.D.Disk.moment g.D.Disk.left_since c.args.found e.1 (IsNewJournal c.args.sizes.now)) c.from_residual.ensures
+    (mended g.D.Disk.moment g.D.Disk.left_since c.args.sizes.now c.args.found c.in_err-journal.field-0.0.1 (g.D.Disk.seen c.args.found) (c.requires.new is_new) begins c.in_err-journal.ensures.any_moment_err c.in_err-journal.ensures.torn_err)
+
+pub returns-in-Ok-clause-new_journal : goal.returns-in-Ok-clause-new_journal
+returns-in-Ok-clause-new_journal g c is_new begins =
+    let moment = g.D.Disk.moment in
+    let left_since = g.D.Disk.left_since in
+    let sizes = c.args.sizes.now in
+    let mid = c.in_ok-journal.journal in
+    let groups = recovered (g.D.Disk.seen mid) in
+    let group = c.deref.result.now in
+    let none : groups ≡ [] = c.in_ok-journal.ensures.same ∙ c.requires.new is_new in
+    let until = mended g.D.Disk.moment g.D.Disk.left_since c.args.sizes.now c.args.found c.in_ok-journal.journal (g.D.Disk.seen c.args.found) (c.requires.new is_new) begins c.in_ok-journal.ensures.any_moment c.in_ok-journal.ensures.torn in
+    if_both_ok c.append.result (λ (after : g.row.D.Denot). LeavesOnly moment left_since mid after (IsBeforeOrAfter groups group)) (λ (after : g.row.D.Denot). LeavesOnly moment left_since mid after (IsAppending groups group))
+    (λ (after : g.row.D.Denot). LeavesOnly moment left_since c.args.found after (IsNewJournal sizes))
+    c.append.ensures.any_moment c.append.ensures.torn
+    (λ after whole torn. appended moment left_since sizes c.args.found mid after groups group none (c.deref.ensures.value ∙ c.in-Ok.ensures) until whole torn)
+
+pub returns-in-Ok-clause-new_journal_err : goal.returns-in-Ok-clause-new_journal_err
+returns-in-Ok-clause-new_journal_err g c is_new begins =
+    let moment = g.D.Disk.moment in
+    let left_since = g.D.Disk.left_since in
+    let sizes = c.args.sizes.now in
+    let mid = c.in_ok-journal.journal in
+    let groups = recovered (g.D.Disk.seen mid) in
+    let group = c.deref.result.now in
+    let none : groups ≡ [] = c.in_ok-journal.ensures.same ∙ c.requires.new is_new in
+    let until = mended g.D.Disk.moment g.D.Disk.left_since c.args.sizes.now c.args.found c.in_ok-journal.journal (g.D.Disk.seen c.args.found) (c.requires.new is_new) begins c.in_ok-journal.ensures.any_moment c.in_ok-journal.ensures.torn in
+    if_both_err c.append.result (λ (e : DiskError × g.row.D.Denot). LeavesOnly moment left_since mid e.1 (IsBeforeOrAfter groups group)) (λ (e : DiskError × g.row.D.Denot). LeavesOnly moment left_since mid e.1 (IsAppending groups group))
+    (λ (e : DiskError × g.row.D.Denot). LeavesOnly moment left_since c.args.found e.1 (IsNewJournal sizes))
+    c.append.ensures.any_moment_err c.append.ensures.torn_err
+    (λ e whole torn. appended moment left_since sizes c.args.found mid e.1 groups group none (c.deref.ensures.value ∙ c.in-Ok.ensures) until whole torn)
+
+pub returns-in-Ok-2-clause-new_journal_err : goal.returns-in-Ok-2-clause-new_journal_err
+returns-in-Ok-2-clause-new_journal_err g c is_new begins =
+    subst (λ (disk : g.row.D.Denot). LeavesOnly g.D.Disk.moment g.D.Disk.left_since c.args.found disk (IsNewJournal c.args.sizes.now)) (sym c.into_disk.ensures.same)
+    (mended g.D.Disk.moment g.D.Disk.left_since c.args.sizes.now c.args.found c.in_ok-journal.journal (g.D.Disk.seen c.args.found) (c.requires.new is_new) begins c.in_ok-journal.ensures.any_moment c.in_ok-journal.ensures.torn)
+
+pub returns-in-Err-clause-new_journal_err : goal.returns-in-Err-clause-new_journal_err
+returns-in-Err-clause-new_journal_err g c is_new begins =
+    subst (λ (disk : g.row.D.Denot). LeavesOnly g.D.Disk.moment g.D.Disk.left_since c.args.found disk (IsNewJournal c.args.sizes.now)) (sym c.into_disk-in-Err.ensures.same)
+    (mended g.D.Disk.moment g.D.Disk.left_since c.args.sizes.now c.args.found c.in_ok-journal.journal (g.D.Disk.seen c.args.found) (c.requires.new is_new) begins c.in_ok-journal.ensures.any_moment c.in_ok-journal.ensures.torn)
