@@ -1,5 +1,5 @@
 //! How a server is closed.
-ghost use Rattle.std.specs.Prelude.{◌≡◌, [], ◌∷◌, ◌++◌, All, IfOk, OnOk, OnErr, IfErr};
+ghost use Rattle.std.specs.Prelude.{◌≡◌, [], ◌∷◌, ◌++◌, ◌↔◌, IsTrue, All, IfOk, OnOk, OnErr, IfErr};
 ghost use Rattle.row_store.specs.History.{IsPrefix};
 ghost use Rattle.row_store.specs.Legal.{IsLegal};
 ghost use Rattle.history.specs.Closing.{IsLogOf};
@@ -60,6 +60,27 @@ impl<W: EndsCopies + Drop> Display for CloseWithReaderError<W> {
 }
 
 impl<W: EndsCopies + Drop> Server<W> {
+    // Whether each client and each dispatcher is there once.
+    fn are_all_there(&self, clients: &[Client<W>], dispatchers: &[Dispatcher<W>]) -> bool
+        ensures { IsTrue result ↔ AreAllThere self.now clients.now dispatchers.now }
+    {
+        are_clients_numbered(clients, self.clients)
+            && are_dispatchers_numbered(dispatchers, self.dispatchers)
+    }
+
+    // The same, with the reader of the log among the dispatchers.
+    fn are_all_there_with_reader(
+        &self,
+        clients: &[Client<W>],
+        reader: &LogReader<W>,
+        dispatchers: &[Dispatcher<W>],
+    ) -> bool
+        ensures { IsTrue result ↔ AreAllThere self.now clients.now (dispatchers.now ++ reader.now ∷ []) }
+    {
+        are_clients_numbered(clients, self.clients)
+            && are_all_numbered(dispatchers, reader, self.dispatchers)
+    }
+
     /// Ends the server. Its clients and dispatchers are handed in, each once and in any order, and no client is asking.
     pub fn close(
         self,
@@ -80,9 +101,7 @@ impl<W: EndsCopies + Drop> Server<W> {
         ensures true_log { IfOk result (λ closed. IsLogOf self clients.items dispatchers.items closed.log.items) }
         ensures owns { IfOk result (λ closed. All (λ t. Owns t.who t.mine closed.log.items) clients.items) }
     {
-        let there = are_clients_numbered(clients.as_slice(), self.clients)
-            && are_dispatchers_numbered(dispatchers.as_slice(), self.dispatchers);
-        if !there {
+        if !self.are_all_there(clients.as_slice(), dispatchers.as_slice()) {
             return Err(CloseError {
                 server: self,
                 clients,
@@ -132,9 +151,7 @@ impl<W: EndsCopies + Drop> Server<W> {
             closed.log.items) }
         ensures owns { IfOk result (λ closed. All (λ t. Owns t.who t.mine closed.log.items) clients.items) }
     {
-        let there = are_clients_numbered(clients.as_slice(), self.clients)
-            && are_all_numbered(dispatchers.as_slice(), &reader, self.dispatchers);
-        if !there {
+        if !self.are_all_there_with_reader(clients.as_slice(), &reader, dispatchers.as_slice()) {
             return Err(CloseWithReaderError {
                 server: self,
                 clients,

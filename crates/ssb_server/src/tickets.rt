@@ -29,15 +29,24 @@ pub(crate) fn clients_of<W: EndsCopies + Drop>(
     Ok(clients)
 }
 
+// How many of the clients have the number.
+fn clients_with<W: EndsCopies + Drop>(clients: &[Client<W>], number: u32) -> usize
+    ensures { result ≡ count_by (λ (t : TokenRecord). number_of t.who == number) clients.now }
+{
+    let mut count = 0;
+    for client in clients {
+        if client.number() == number {
+            count += 1;
+        }
+    }
+    count
+}
+
 // Whether just one client has the number.
 fn has_once<W: EndsCopies + Drop>(clients: &[Client<W>], number: u32) -> bool
     ensures { result ≡ (count_by (λ (t : TokenRecord). number_of t.who == number) clients.now == 1) }
 {
-    clients
-        .iter()
-        .filter(|client| client.number() == number)
-        .count()
-        == 1
+    clients_with(clients, number) == 1
 }
 
 /// Whether these are so many clients, with each number once.
@@ -75,10 +84,13 @@ pub(crate) fn gather_clients<W: EndsCopies + Drop>(
 fn dispatchers_with<W: EndsCopies + Drop>(dispatchers: &[Dispatcher<W>], number: u32) -> usize
     ensures { result ≡ count_by (λ (t : TokenRecord). number_of t.who == number) dispatchers.now }
 {
-    dispatchers
-        .iter()
-        .filter(|dispatcher| dispatcher.number() == number)
-        .count()
+    let mut count = 0;
+    for dispatcher in dispatchers {
+        if dispatcher.number() == number {
+            count += 1;
+        }
+    }
+    count
 }
 
 // Whether just one dispatcher has the number.
