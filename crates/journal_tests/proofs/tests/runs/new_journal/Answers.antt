@@ -1,0 +1,7 @@
+use Rattle.std.proofs.Common.{refl}
+use Rattle.journal_tests.proofs.NewJournalLaws.{new_keeps_none}
+use Rattle.journal_tests.proofs.tests.runs.new_journal.Goals as goal
+
+-- src/tests/runs.rt:47:1
+pub returns-in-Ok-begin : goal.returns-in-Ok-begin
+returns-in-Ok-begin c = new_keeps_none _ (c.in-Ok-begin.ensures.made refl)
