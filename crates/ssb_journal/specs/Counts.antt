@@ -2,6 +2,7 @@
 use Rattle.std.specs.Prelude.{◌≤◌, List, ℕ, length, take}
 use Rattle.row_store.specs.History.{CommitRecord}
 use Rattle.ssb_journal.specs.declared.head.TableSize.{TableSize}
+use Rattle.ssb_journal.specs.declared.on_disk.OnDisk.{OnDisk}
 use Rattle.ssb_journal.specs.Kept.{KeepsCommits}
 
 -- a file is a journal, and keeps at least so many commits
@@ -28,3 +29,7 @@ pub record Journaled (D L : Type 0) : Type 0 where
   pub disk : D
   pub source : L
   pub count : ℕ
+
+-- how many commits are on the disk, by this evidence
+abbrev pub commits_on_disk : OnDisk → ℕ
+commits_on_disk on_disk = on_disk.commits

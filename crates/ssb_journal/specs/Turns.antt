@@ -1,11 +1,12 @@
 -- What is left to do for one who needs commits on the disk.
 use Rattle.std.specs.Prelude.{◌≤◌, ℕ}
+use Rattle.ssb_journal.specs.Counts.{commits_on_disk}
 use Rattle.ssb_journal.specs.declared.shared_journal.Turn.{Turn}
 use Rattle.ssb_journal.specs.declared.shared_journal.Turn.TheVariants.{Reached, Append, Wait, Failed}
 
 -- where the count is reached, at least so many commits are on the disk
 abbrev pub HasEnough : {J : Type 0} → ℕ → Turn J → Type 0
-HasEnough commits (Reached on_disk) = commits ≤ on_disk.commits
+HasEnough commits (Reached on_disk) = commits ≤ commits_on_disk on_disk
 HasEnough commits (Append log) = Unit {0}
 HasEnough commits Wait = Unit {0}
 HasEnough commits Failed = Unit {0}

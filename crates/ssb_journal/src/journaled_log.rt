@@ -4,7 +4,7 @@ ghost use Rattle.std.specs.List.{AllByRecursion};
 ghost use Rattle.journal.specs.Disk.{LeavesOnly};
 ghost use Rattle.row_store.specs.History.{CommitRecord, IsPrefix};
 ghost use Rattle.ssb_trace.specs.Allowed.{IsClient};
-ghost use Rattle.ssb_journal.specs.Counts.{KeepsBeginning, KeepsFirst};
+ghost use Rattle.ssb_journal.specs.Counts.{KeepsBeginning, KeepsFirst, commits_on_disk};
 
 use crate::appending::append_commits;
 use crate::on_disk::OnDisk;
@@ -79,7 +79,7 @@ impl<D: Disk + Drop, L: LogSource + Drop> JournaledLog<D, L> {
 
     /// The evidence of the commits that it keeps.
     pub fn on_disk(&self) -> OnDisk
-        ensures { result.commits ≡ self.now.count }
+        ensures { commits_on_disk result ≡ self.now.count }
     {
         OnDisk::of(&self.journal, self.count)
     }

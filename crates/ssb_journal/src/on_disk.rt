@@ -1,6 +1,6 @@
 //! The evidence that so many commits are on the disk.
 ghost use Rattle.std.specs.Prelude.{◌≡◌};
-ghost use Rattle.ssb_journal.specs.Counts.{KeepsAtLeast};
+ghost use Rattle.ssb_journal.specs.Counts.{KeepsAtLeast, commits_on_disk};
 
 use journal::{Disk, Journal};
 
@@ -15,7 +15,7 @@ impl OnDisk {
     /// The evidence of a journal that keeps so many commits.
     pub fn of<D: Disk>(journal: &Journal<D>, commits: u64) -> OnDisk
         requires { KeepsAtLeast commits (D.seen journal.now) }
-        ensures { result.commits ≡ commits }
+        ensures { commits_on_disk result ≡ commits }
     {
         let _evidence = journal;
         OnDisk { commits }
@@ -23,7 +23,7 @@ impl OnDisk {
 
     /// How many commits.
     pub fn commits(self) -> u64
-        ensures { result ≡ self.commits }
+        ensures { result ≡ commits_on_disk self }
     {
         self.commits
     }

@@ -1,5 +1,6 @@
 //! A journal that threads share: whoever needs a commit on the disk appends for all, or waits for the one who does.
 ghost use Rattle.std.specs.Prelude.{◌≤◌, IfOk};
+ghost use Rattle.ssb_journal.specs.Counts.{commits_on_disk};
 ghost use Rattle.ssb_journal.specs.Turns.{HasEnough};
 
 use crate::journaled_log::JournaledLog;
@@ -99,7 +100,7 @@ impl<D: Disk + Drop, L: LogSource + Drop> SharedJournal<D, L> {
         log: JournaledLog<D, L>,
         commits: u64,
     ) -> Result<OnDisk, JournalFailed>
-        ensures { IfOk result (λ on_disk. commits ≤ on_disk.commits) }
+        ensures { IfOk result (λ on_disk. commits ≤ commits_on_disk on_disk) }
     {
         let Ok(log) = log.append_new(rt, alloc) else {
             self.put_back(rt, Place::Failed);
@@ -121,7 +122,7 @@ impl<D: Disk + Drop, L: LogSource + Drop> SharedJournal<D, L> {
         alloc: Global,
         commits: u64,
     ) -> Result<OnDisk, JournalFailed>
-        ensures { IfOk result (λ on_disk. commits ≤ on_disk.commits) }
+        ensures { IfOk result (λ on_disk. commits ≤ commits_on_disk on_disk) }
     {
         let mut place = self.place.lock(rt);
         for _ in rt.forever() {
