@@ -3,8 +3,9 @@
 //
 //   growth   malloc, calloc, realloc, aligned_alloc, posix_memalign: there is no memory
 //   read     read: an input or output error
-//   write    write, fsync, fdatasync: no space is left
-//   short    a read or a write of several bytes moves one
+//   write    write, pwrite, ftruncate, fsync, fdatasync: no space is left
+//   short    a read, write or pwrite of several bytes moves one
+//   open     open, openat, flock, mkdir, rename: an input or output error
 //
 // The file FAIL_TOLD gets a byte where a call failed. Where FAIL_AT is 0 no call fails, and the file gets their number at the
 // program's end.
@@ -12,11 +13,13 @@
 #include <dlfcn.h>
 #include <errno.h>
 #include <fcntl.h>
+#include <stdarg.h>
 #include <stdatomic.h>
 #include <stddef.h>
 #include <stdio.h>
 #include <stdlib.h>
 #include <string.h>
+#include <sys/stat.h>
 #include <sys/syscall.h>
 #include <sys/types.h>
 #include <unistd.h>
@@ -27,27 +30,27 @@ extern void *__libc_calloc(size_t, size_t);
 extern void *__libc_realloc(void *, size_t);
 extern void *__libc_memalign(size_t, size_t);
 
-enum kind { UNKNOWN, NONE, GROWTH, READ, WRITE, SHORT };
+enum kind { UNKNOWN, NONE, GROWTH, READ, WRITE, SHORT, OPEN };
 
 static atomic_long calls;
 static atomic_int kind;
 static long wanted;
 
 static enum kind find_kind(void) {
-    static const char *const names[] = {"growth", "read", "write", "short"};
+    static const char *const names[] = {"growth", "read", "write", "short", "open"};
     const char *fail = getenv("FAIL"), *at = getenv("FAIL_AT"), *in = getenv("FAIL_IN");
     const char *name = program_invocation_short_name;
     if (!fail || !at || !in || !name || strlen(name) < strlen(in) || strcmp(name + strlen(name) - strlen(in), in))
         return NONE;
     wanted = atol(at);
-    for (int it = 0; it < 4; it++)
+    for (int it = 0; it < 5; it++)
         if (!strcmp(fail, names[it]))
             return GROWTH + it;
     return NONE;
 }
 
 static void tell(const char *text) {
-    int told = open(getenv("FAIL_TOLD"), O_WRONLY | O_APPEND);
+    int told = syscall(SYS_openat, AT_FDCWD, getenv("FAIL_TOLD"), O_WRONLY | O_APPEND);
     if (told >= 0) {
         syscall(SYS_write, told, text, strlen(text));
         close(told);
@@ -122,6 +125,45 @@ ssize_t write(int file, const void *from, size_t count) {
     return syscall(SYS_write, file, from, count > 1 && fails(SHORT) ? 1 : count);
 }
 
+ssize_t pwrite(int file, const void *from, size_t count, off_t at) {
+    if (fails_with(WRITE, ENOSPC))
+        return -1;
+    return syscall(SYS_pwrite64, file, from, count > 1 && fails(SHORT) ? 1 : count, at);
+}
+
+int ftruncate(int file, off_t size) { return fails_with(WRITE, ENOSPC) ? -1 : (int)syscall(SYS_ftruncate, file, size); }
+
 int fsync(int file) { return fails_with(WRITE, ENOSPC) ? -1 : (int)syscall(SYS_fsync, file); }
 
 int fdatasync(int file) { return fails_with(WRITE, ENOSPC) ? -1 : (int)syscall(SYS_fdatasync, file); }
+
+static int open_at(int folder, const char *path, int flags, va_list more) {
+    mode_t mode = flags & O_CREAT ? va_arg(more, mode_t) : 0;
+    return fails_with(OPEN, EIO) ? -1 : (int)syscall(SYS_openat, folder, path, flags, mode);
+}
+
+int open(const char *path, int flags, ...) {
+    va_list more;
+    va_start(more, flags);
+    int file = open_at(AT_FDCWD, path, flags, more);
+    va_end(more);
+    return file;
+}
+
+int openat(int folder, const char *path, int flags, ...) {
+    va_list more;
+    va_start(more, flags);
+    int file = open_at(folder, path, flags, more);
+    va_end(more);
+    return file;
+}
+
+int flock(int file, int how) { return fails_with(OPEN, EIO) ? -1 : (int)syscall(SYS_flock, file, how); }
+
+int mkdir(const char *path, mode_t mode) {
+    return fails_with(OPEN, EIO) ? -1 : (int)syscall(SYS_mkdirat, AT_FDCWD, path, mode);
+}
+
+int rename(const char *from, const char *to) {
+    return fails_with(OPEN, EIO) ? -1 : (int)syscall(SYS_renameat2, AT_FDCWD, from, AT_FDCWD, to, 0);
+}
