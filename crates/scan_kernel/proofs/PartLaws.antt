@@ -1,10 +1,7 @@
 -- The totals of the parts together.
 use Rattle.std.proofs.Common.{
-  zero-add,
   ◌≡◌,
   ℕ,
-  zero,
-  suc,
   ◌+◌,
   ◌*◌,
   ◌<◌,
@@ -20,15 +17,10 @@ use Rattle.std.proofs.Common.{
   sym,
   subst,
   ◌∙◌,
-  Ok,
-  IfOk,
-  Result,
 }
 use Rattle.std.specs.Prelude.{vec_len}
-use Rattle.std.specs.List.{AllZip, range_with_len}
+use Rattle.std.specs.List.{range_with_len}
 use Rattle.std.proofs.lemmas.List.Elements.{filter-append}
-use Rattle.std.proofs.lemmas.List.FromFn.{length-range_with_len, get_or-range_with_len}
-use Rattle.std.proofs.lemmas.Slice.Zip.{AllZip-long}
 use Rattle.scan_kernel.specs.declared.columns.LineColumns.{LineColumns}
 use Rattle.scan_kernel.specs.declared.columns.Grouping.{Grouping}
 use Rattle.scan_kernel.specs.declared.masks.Masks.{Masks}
@@ -39,14 +31,6 @@ use Rattle.scan_kernel.specs.Totals.{AddsTo, AreBatchTotals, AreZeros}
 use Rattle.scan_kernel.proofs.AddLaws.{adds_merged}
 use Rattle.scan_kernel.proofs.FoundLaws.{range_first}
 use Rattle.scan_kernel.proofs.BatchLaws.{batch_none, zeros_sized, from_zeros}
-
-pub all_zip_at : {A B : Type 0} (R : A → B → Type 0) (xs : List A) (ys : List B) (i : ℕ) (d : A) (e : B)
-    → AllZip R xs ys → i < length ys → R (get_or xs i d) (get_or ys i e)
-all_zip_at R [] [] i d e h below = absurd (omega (arith, below))
-all_zip_at R [] (y ∷ ys) i d e h below = absurd h
-all_zip_at R (x ∷ xs) [] i d e h below = absurd h
-all_zip_at R (x ∷ xs) (y ∷ ys) zero d e h below = h.0
-all_zip_at R (x ∷ xs) (y ∷ ys) (suc i) d e h below = all_zip_at R xs ys i d e h.1 (omega (arith, below))
 
 -- two lists of places together
 pub batch_merged : (lines : LineColumns) (masks : Masks) (groupings : List Grouping) (xs ys : List ℕ)
@@ -113,30 +97,5 @@ module _ (lines : LineColumns) (masks : Masks) (groupings : List Grouping) (n si
       subst P (range_first (bound n size part) (bound n size (part + 1)) grows)
       (batch_merged lines masks groupings _ _ left right new h j len merges)
 
--- what one part's thread gave
-pub part_at : {A E : Type 0} (P : ℕ → A → Type 0) (count : ℕ) (parts : List (Result A E)) (i : ℕ) (r : Result A E)
-    (part : A)
-    → AllZip (λ number result. IfOk result (P number)) (range_with_len 0 count) parts → i < length parts
-    → r ≡ get_or parts i r → r ≡ Ok part → P i part
-part_at P count parts i r part zipped below is ok =
-    let long : i < count = omega (
-      arith,
-      below,
-      AllZip-long _ (range_with_len 0 count) parts zipped,
-      length-range_with_len 0 count,
-    ) in
-    let number : get_or (range_with_len 0 count) i 0 ≡ i = get_or-range_with_len 0 count i 0 long ∙ zero-add i in
-    let h : IfOk (get_or parts i r) (P (get_or (range_with_len 0 count) i 0)) =
-    all_zip_at (λ number result. IfOk result (P number)) (range_with_len 0 count) parts i 0 r zipped below in
-    let result : get_or parts i r ≡ Ok part = sym is ∙ ok in
-    let Q : ℕ → Type 0 = λ n. IfOk (get_or parts i r) (P n) in
-    let S : Result _ _ → Type 0 = λ v. IfOk v (P i) in
-    subst S result (subst Q number h)
-
 pub all_parts : (n size : ℕ) → n ≤ 16 * size → bound n size 16 ≡ n
 all_parts n size h = omega (arith, h)
-
-pub parts_count : {A E : Type 0} (P : ℕ → A → Type 0) (count : ℕ) (parts : List (Result A E))
-    → AllZip (λ number result. IfOk result (P number)) (range_with_len 0 count) parts → length parts ≡ count
-parts_count P count parts zipped = AllZip-long (λ number result. IfOk result (P number)) (range_with_len 0 count) parts
-    zipped ∙ length-range_with_len 0 count

@@ -12,3 +12,4 @@ pub mod Tables
 pub mod Room
 pub mod Parts
 pub mod Sparse
+pub mod Taken

@@ -36,6 +36,7 @@ mod search;
 mod selecting;
 mod sparse;
 mod sparse_rows;
+mod taking;
 mod totals;
 
 pub use columns::{GroupColumn, Grouping, LineColumns};

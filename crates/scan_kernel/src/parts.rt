@@ -1,24 +1,21 @@
 //! The totals of a batch over all places, part by part: in one thread, or in as many as there are
 //! processors.
-ghost use Rattle.std.specs.Prelude.{◌≡◌, ℕ, ◌<◌, ◌≤◌, ◌^◌, All, IfOk, length, slice_index_or, vec_len};
-ghost use Rattle.std.specs.List.{AllZip, range_with_len};
+ghost use Rattle.std.specs.Prelude.{◌≡◌, ℕ, ◌+◌, ◌<◌, ◌≤◌, ◌^◌, All, IfOk, OnOk, length, slice_index_or, vec_len};
+ghost use Rattle.std.specs.List.{range_with_len};
 ghost use Rattle.scan_kernel.specs.Places.{CanSearch};
-ghost use Rattle.scan_kernel.specs.Parts.{bound, part_places, MergesTotals, MergesBatch};
+ghost use Rattle.scan_kernel.specs.Parts.{bound, MergesTotals, MergesBatch};
 ghost use Rattle.scan_kernel.specs.Sums.{Merges};
+ghost use Rattle.scan_kernel.specs.Taken.{AreOfParts};
 ghost use Rattle.scan_kernel.specs.declared.totals.Totals.{Totals};
 ghost use Rattle.scan_kernel.specs.Totals.{CanScan, CanSumAll, AreBatchTotals};
 
 use crate::columns::{Grouping, LineColumns};
 use crate::masks::Masks;
-use crate::range::{no_batch_totals, range_totals};
+use crate::range::no_batch_totals;
+use crate::taking::{PARTS, TakenPart, part_of, part_totals, take_in_threads};
 use crate::totals::Totals;
-use rayon::prelude::*;
 use std::alloc::{AllocError, Global};
 use std::thread::Threads;
-
-/// Into how many parts the places are divided, more than a machine has processors, so that a slow
-/// one holds nobody up.
-const PARTS: u32 = 16;
 
 /// Adds each number to the one at the same place, modulo 2^64.
 fn merge_column(into: &mut [u64], from: &[u64])
@@ -54,63 +51,35 @@ fn merge_batch(into: &mut [Totals], from: &[Totals])
     }
 }
 
-/// Where a part begins.
-fn part_bound(count: usize, size: usize, part: usize) -> usize
-    requires part { part ≤ 16 }
-    requires size { size ≤ 2 ^ 32 }
-    ensures { result ≡ bound count size part }
-{
-    (part * size).min(count)
-}
-
-/// The numbers of the parts.
-fn part_numbers(alloc: Global, count: u32) -> Result<Vec<u32>, AllocError>
-    ensures { IfOk result (λ v. v.items ≡ range_with_len 0 count) }
-{
-    let mut numbers = Vec::with_capacity(alloc, count as usize)?;
-    for number in 0..count {
-        numbers.push(number)?;
-    }
-    Ok(numbers)
-}
-
-/// The totals of each part, in as many threads as there are processors. A part is much work: one is enough for a
-/// thread.
-fn parts_in_threads(
-    rt: &(impl Threads + Sync),
+/// Adds a part to the totals of the parts before it. No clause follows the threads, so a part that none of them took
+/// would be added up here.
+fn add_part(
     alloc: Global,
     lines: &LineColumns<'_>,
     masks: &Masks,
     groupings: &[Grouping<'_>],
-    parts: &[u32],
     size: usize,
-) -> Result<Vec<Result<Vec<Totals>, AllocError>>, AllocError>
-    requires parts { All (λ part. part < 16) parts.now }
+    takers: &[Result<Vec<TakenPart>, AllocError>],
+    number: u32,
+    all: &mut [Totals],
+) -> Result<(), AllocError>
+    requires part { number < 16 }
     requires size { size ≤ 2 ^ 32 }
     requires scan { CanScan lines.now masks.now groupings.now }
-    ensures { IfOk result (λ v. AllZip (λ part r. IfOk r
-        (λ t. AreBatchTotals lines.now masks.now groupings.now (part_places (length lines.now.customer.now) size part)
-        t.items)) parts.now v.items) }
+    requires takers { All (AreOfParts lines.now masks.now groupings.now size) takers.now }
+    requires before { AreBatchTotals lines.now masks.now groupings.now
+        (range_with_len 0 (bound (length lines.now.customer.now) size number)) all.old }
+    ensures len { length all.new ≡ length all.old }
+    ensures after { OnOk result (AreBatchTotals lines.now masks.now groupings.now
+        (range_with_len 0 (bound (length lines.now.customer.now) size (number + 1))) all.new) }
 {
-    parts
-        .par_iter()
-        .with_min_len(1)
-        .map(
-            |part: &u32| -> Result<Vec<Totals>, AllocError>
-                requires part { part.now < 16 }
-                requires size { size ≤ 2 ^ 32 }
-                requires scan { CanScan lines.now masks.now groupings.now }
-                ensures { IfOk result (λ t. AreBatchTotals lines.entry.now masks.entry.now groupings.entry.now
-                    (part_places (length lines.entry.now.customer.now) size part.now) t.items) }
-            {
-                let part = *part as usize;
-                let count = lines.customer.len();
-                let from = part_bound(count, size, part);
-                let to = part_bound(count, size, part + 1);
-                range_totals(alloc, lines, masks, groupings, from, to)
-            },
-        )
-        .collect(rt, alloc)
+    if let Some(part) = part_of(takers, number)? {
+        merge_batch(all, &part.totals);
+        return Ok(());
+    }
+    let part = part_totals(alloc, lines, masks, groupings, size, number)?;
+    merge_batch(all, &part);
+    Ok(())
 }
 
 /// The totals of each question over all places, in as many threads as there are processors.
@@ -129,14 +98,12 @@ pub fn parallel_totals(
         (range_with_len 0 (length lines.now.customer.now)) v.items) }
 {
     let size = lines.customer.len() / 16 + 1;
-    let numbers = part_numbers(alloc, PARTS)?;
-    let parts = parts_in_threads(rt, alloc, lines, masks, groupings, &numbers, size)?;
+    let takers = take_in_threads(rt, alloc, lines, masks, groupings, size)?;
     let mut all = no_batch_totals(alloc, groupings)?;
-    for part in parts.as_slice() {
-        match part {
-            Ok(part) => merge_batch(&mut all, part),
-            Err(error) => return Err(*error),
-        }
+    for number in 0..PARTS {
+        add_part(
+            alloc, lines, masks, groupings, size, &takers, number, &mut all,
+        )?;
     }
     Ok(all)
 }
