@@ -1,0 +1,2 @@
+mod OwnLaws
+mod NewJournalLaws

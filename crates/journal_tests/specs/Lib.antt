@@ -1,0 +1,3 @@
+pub mod DiskCalls
+pub mod TearingDisks
+pub mod OwnCommits

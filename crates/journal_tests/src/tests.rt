@@ -1,0 +1,4 @@
+mod crashes;
+mod own_log;
+mod refusals;
+mod runs;

@@ -1,0 +1,151 @@
+//! Journals on disks that tear: they are begun, and what a file keeps is looked at.
+ghost use Rattle.std.specs.Prelude.{[], IfOk};
+ghost use Rattle.ssb_journal.specs.Counts.{KeepsFirst};
+ghost use Rattle.journal_tests.specs.TearingDisks.{disk_bytes};
+
+use crate::TearingDisk;
+use crate::tests::own_log::{A_LOOK, OwnLog, own_commits};
+use journal::Journal;
+use ssb_audit::Trace;
+use ssb_journal::{JournaledLog, OpenedJournal, TableSize, append_commits, begin, open};
+use ssb_schema::{Items, Refresh, Table};
+use ssb_trace::write_trace;
+use std::alloc::{AllocError, Global};
+use std::sync::Arc;
+use std::test::Fail;
+use test_fixtures::adding;
+
+/// How many groups a run appends.
+pub(crate) const GROUPS: usize = 25;
+
+/// How many commits that are.
+pub(crate) const COMMITS: usize = A_LOOK * GROUPS;
+
+/// So many calls make a new journal: a cut, a closed gate, the group of the head and its gate, with a sync behind each.
+pub(crate) const NEW: usize = 8;
+
+/// So many calls append a group: two writes, and a sync behind each.
+pub(crate) const A_GROUP: usize = 4;
+
+/// So many calls make a run.
+pub(crate) const CALLS: usize = NEW + A_GROUP * GROUPS;
+
+const SIZES: [TableSize; 1] = [TableSize {
+    table: Table::Customer,
+    bytes: 31800,
+    rows: 300,
+}];
+
+/// The refreshes of a run: one adds order 1, the next order 2, and so on.
+pub(crate) fn refreshes(alloc: Global) -> Result<Vec<Arc<Refresh>>, Fail> {
+    let mut refreshes = Vec::new(alloc);
+    for key in 1..=COMMITS {
+        refreshes.push(adding(alloc, key as u64)?)?;
+    }
+    Ok(refreshes)
+}
+
+// A new journal of no commits.
+fn new_journal(
+    alloc: Global,
+    sizes: &[TableSize],
+    refused: Option<usize>,
+) -> Result<Journal<TearingDisk>, Fail>
+    ensures { IfOk result (λ journal. KeepsFirst 0 [] (disk_bytes journal)) }
+{
+    let Ok(
+        OpenedJournal {
+            found,
+            kept,
+            torn: _,
+        },
+    ) = open(alloc, sizes, TearingDisk::new(alloc, b"", refused)?)
+    else {
+        return Err(Fail::from("not opened"));
+    };
+    if !kept.is_new {
+        return Err(Fail::from("not new"));
+    }
+    match begin(alloc, sizes, found, true) {
+        Ok(journal) => Ok(journal),
+        Err((error, _)) => Err(Fail::from(error)),
+    }
+}
+
+/// A new journal beside a log. One call of its disk may be refused, the one before which there are so many.
+pub(crate) fn new_log<'a>(
+    alloc: Global,
+    refreshes: &'a [Arc<Refresh>],
+    refused: Option<usize>,
+) -> Result<JournaledLog<TearingDisk, OwnLog<'a>>, Fail> {
+    let journal = new_journal(alloc, &SIZES, refused)?;
+    Ok(JournaledLog::new(journal, OwnLog::new(refreshes), 0))
+}
+
+// The text of the first commits of the log, so many, as docs/FORMATS.md has commits in a trace.
+fn text_of_first(alloc: Global, commits: usize) -> Result<String, AllocError> {
+    let mut text = String::new(alloc);
+    for key in 1..=commits {
+        let commit = format!(in alloc;
+            "commit|1\nadd\nline|{key}|1|3|4|3|19971215|o|0|1|10|10|0|10|2000|0|19971215|AIR\nend\n"
+        )?;
+        text.push_str(commit.as_str())?;
+    }
+    Ok(text)
+}
+
+/// How many commits a file keeps: it is opened again, and they are the first of the log.
+pub(crate) fn kept_in(alloc: Global, bytes: &[u8]) -> Result<usize, Fail> {
+    let Ok(
+        OpenedJournal {
+            found: _,
+            kept,
+            torn: _,
+        },
+    ) = open(alloc, &SIZES, TearingDisk::new(alloc, bytes, None)?)
+    else {
+        return Err(Fail::from("not opened again"));
+    };
+    let count = kept.commits.len();
+    let trace = Trace {
+        commits: Items::from_vec(kept.commits),
+        answers: Items::from_vec(Vec::new(alloc)),
+    };
+    let mut text = Vec::new(alloc);
+    write_trace(&mut text, &trace)?;
+    if text.as_slice() != text_of_first(alloc, count)?.as_bytes() {
+        return Err(Fail::from("other commits"));
+    }
+    Ok(count)
+}
+
+/// The journal of a file that is opened again.
+pub(crate) fn mended(alloc: Global, bytes: &[u8]) -> Result<Journal<TearingDisk>, Fail> {
+    let Ok(
+        OpenedJournal {
+            found,
+            kept,
+            torn: _,
+        },
+    ) = open(alloc, &SIZES, TearingDisk::new(alloc, bytes, None)?)
+    else {
+        return Err(Fail::from("not opened again"));
+    };
+    match begin(alloc, &SIZES, found, kept.is_new) {
+        Ok(journal) => Ok(journal),
+        Err((error, _)) => Err(Fail::from(error)),
+    }
+}
+
+/// The disk of a file that is opened again, to whose commits these are appended.
+pub(crate) fn gone_on(
+    alloc: Global,
+    bytes: &[u8],
+    more: &[Arc<Refresh>],
+) -> Result<TearingDisk, Fail> {
+    let journal = mended(alloc, bytes)?;
+    match append_commits(alloc, journal, own_commits(alloc, more)?) {
+        Ok(journal) => Ok(journal.into_disk()),
+        Err((error, _)) => Err(Fail::from(error)),
+    }
+}
