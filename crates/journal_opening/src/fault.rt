@@ -3,10 +3,12 @@
 ghost use Rattle.std.specs.Prelude.{◌≡◌};
 ghost use Rattle.journal_opening.specs.Status.{opening_status};
 
+use journal::DiskError;
 use journal_file::OpenError;
 use ssb_files::Finding;
 use ssb_journal::{JournalFault, JournalOpenFault, ReplayFault};
 use std::fmt;
+use std::io::ErrorKind;
 
 /// Why the commits of a journal are not at hand, over the tables that were loaded.
 #[derive(Debug, Drop)]
@@ -39,7 +41,11 @@ impl fmt::Display for OpeningFault {
     fn fmt<W: fmt::Write>(&self, f: &mut fmt::Formatter<W>) -> fmt::Result {
         match self {
             OpeningFault::Kept(JournalOpenFault::Journal(JournalFault::OutOfMemory))
+            | OpeningFault::Kept(JournalOpenFault::Disk(DiskError::OutOfMemory))
             | OpeningFault::Replay(ReplayFault::OutOfMemory) => f.write_str("out of memory"),
+            OpeningFault::File(OpenError::Io(error)) if error.kind() == ErrorKind::OutOfMemory => {
+                f.write_str("out of memory")
+            },
             OpeningFault::File(fault) => write!(f, "journal: {fault}"),
             OpeningFault::Kept(fault) => write!(f, "journal: {fault}"),
             OpeningFault::Replay(fault) => write!(f, "journal: {fault}"),
