@@ -8,3 +8,4 @@ pub mod RefreshingLaws
 pub mod PollingLaws
 pub mod StayingLaws
 pub mod ReaderLaws
+pub mod ClosingLaws

@@ -12,7 +12,7 @@ use Rattle.history.specs.declared.request.PostedQuestion.{PostedQuestion}
 use Rattle.history_core.specs.World.{rows_after}
 use Rattle.history_core.specs.Events.{Question}
 use Rattle.history_core.specs.declared.event.Reply.TheVariants.{Done}
-use Rattle.history.specs.Tokens.{TokenRecord, Collected, Saw, posted}
+use Rattle.history.specs.Tokens.{TokenRecord, IsSound, Collected, Saw, posted}
 use Rattle.history.specs.Words.{IsRight, request}
 use Rattle.history.specs.declared.event.Event.TheVariants as event
 use Rattle.history.specs.World.{number_of, told_by}
@@ -79,3 +79,7 @@ asks before between after question saw now =
         did = before.did ++ asked before.who question (length xs);
       }) (sym s) e;
     }
+
+pub sound_posted : (t after : TokenRecord) (question : Question) → after ≡ posted t question → IsSound t → IsSound after
+sound_posted t after question now sound =
+    subst IsSound (sym now) record { legal = sound.legal; named = sound.named; owns = sound.owns }

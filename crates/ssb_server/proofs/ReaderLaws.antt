@@ -2,17 +2,15 @@
 use Rattle.std.proofs.Common.{◌≡◌, ℕ, ◌≤◌, List, [], ◌∷◌, ◌++◌, length, ap, sym, subst}
 use Rattle.std.proofs.Common.{◌∙◌, arith, Some}
 use Rattle.std.specs.Prelude.{All}
-use Rattle.std.proofs.lemmas.List.Elements.{All-pop, All-push}
+use Rattle.std.proofs.lemmas.List.Elements.{All-pop}
 use Rattle.std.proofs.lemmas.List.FromFn.{length-map-range_with_len}
 use Rattle.row_store.specs.History.{CommitRecord, IsPrefix}
 use Rattle.row_store.proofs.PrefixLaws.{beginnings_are_shorter}
 use Rattle.history.specs.Tokens.{TableRecord, TokenRecord, IsSound, Saw, new_dispatchers}
-use Rattle.history.specs.Closing.{AreNumbered, AreDispatchers}
 use Rattle.ssb_server.specs.Opening.{IsNewDispatcher}
 use Rattle.ssb_server.specs.Ready.{IsIdle}
-use Rattle.ssb_server.specs.Tickets.{IsLeft, IsOf}
 use Rattle.ssb_server.specs.Turns.{Fetches}
-use Rattle.ssb_server.proofs.SeatLaws.{all_dispatchers, dispatchers_are_new}
+use Rattle.ssb_server.proofs.SeatLaws.{dispatchers_are_new}
 
 -- it has not taken more than it sees
 pub still_within : (before after : List CommitRecord) (taken : ℕ) → IsPrefix before after → taken ≤ length before
@@ -60,11 +58,3 @@ pub parted : (table : TableRecord) (tokens rest : List TokenRecord) (last : Toke
     → All (IsNewDispatcher table.base) rest × IsNewDispatcher table.base last
 parted table tokens rest last are whole = All-pop (IsNewDispatcher table.base) tokens rest (Some last) whole
     (subst (All (IsNewDispatcher table.base)) (sym are) (dispatchers_are_new table))
-
--- the tokens of the dispatchers with that of the reader, in the room for them
-pub all_with_reader : (table : TableRecord) (tokens room : List TokenRecord) (reader : TokenRecord)
-    → room ≡ tokens ++ reader ∷ [] → AreNumbered table.dispatchers (tokens ++ reader ∷ []) → All IsLeft tokens
-    → IsLeft reader → All (IsOf table) tokens → IsOf table reader → AreDispatchers table room
-all_with_reader table tokens room reader is numbered left reader_left here reader_here =
-    all_dispatchers table (tokens ++ reader ∷ []) room is numbered (All-push IsLeft tokens reader left reader_left)
-    (All-push (IsOf table) tokens reader here reader_here)

@@ -1,5 +1,5 @@
 -- The tokens that a table deals, and those that it is closed with.
-use Rattle.std.proofs.Common.{◌≡◌, ℕ, ◌<◌, List, [], Some, refl, subst, sym, arith}
+use Rattle.std.proofs.Common.{◌≡◌, ℕ, ◌<◌, List, [], ◌++◌, Some, refl, ap, subst, sym, ◌∙◌, arith}
 use Rattle.std.specs.Prelude.{All, slice_get}
 use Rattle.std.specs.List.{range_with_len}
 use Rattle.std.proofs.lemmas.List.Elements.{All-map}
@@ -68,3 +68,7 @@ pub all_dispatchers : (table : TableRecord) (tokens room : List TokenRecord) →
     → All IsLeft tokens → All (IsOf table) tokens → AreDispatchers table room
 all_dispatchers table tokens room is numbered left here =
     subst (AreDispatchers table) (sym is) record { numbered = numbered; left = dispatchers_left table tokens left here }
+
+-- the tokens in room that was empty
+pub gathered : (tokens first room : List TokenRecord) → room ≡ first ++ tokens → first ≡ [] → room ≡ tokens
+gathered tokens first room whole none = whole ∙ ap (λ xs. xs ++ tokens) none

@@ -7,7 +7,7 @@ ghost use Rattle.ssb_server.specs.Turns.{answers_after, IsDispatcher, HoldsNothi
 ghost use Rattle.ssb_server.specs.Turns.{GaveOne, Gave};
 
 use crate::batch::Batch;
-use crate::server::{Server, Token};
+use crate::server::{Server, Token, give};
 use ssb_answers::{Answer, Rows, Unserved};
 use ssb_questions::Question;
 use twin_cell::EndsCopies;
@@ -32,7 +32,7 @@ fn serve_one<W: EndsCopies + Drop>(
         at,
         rows: found.list,
     };
-    server.table.answer(token, client, answer);
+    give(&server.table, token, client, answer);
     server.bells.ring_client(client);
 }
 
@@ -50,9 +50,8 @@ fn give_up_one<W: EndsCopies + Drop>(
     requires cause { IsCause cause }
     ensures { GaveOne token.old (GivenUp cause) token.new }
 {
-    server
-        .table
-        .answer(token, client, Answer::Unserved { query, cause });
+    let answer = Answer::Unserved { query, cause };
+    give(&server.table, token, client, answer);
     server.bells.ring_client(client);
 }
 

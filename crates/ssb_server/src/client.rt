@@ -8,7 +8,7 @@ ghost use Rattle.ssb_server.specs.Tickets.{IsNewClient, IsResting};
 ghost use Rattle.history.specs.World.{number_of};
 ghost use Rattle.ssb_server.specs.Clients.{IsClient, Refreshed, Looks, Asks, Polls};
 
-use crate::server::{Server, SharedTable, Token};
+use crate::server::{Server, SharedTable, Token, look, meet, put_rows};
 use history_core::Who;
 use row_store::{Receipt, RefreshError};
 use ssb_answers::Answer;
@@ -52,7 +52,7 @@ fn apply<W: EndsCopies + Drop, R: Wait>(
 {
     let mut rows = table.take_rows(rt, token);
     let reply = rows.refresh(number, refresh);
-    table.put_rows(token, rows);
+    put_rows(table, token, rows);
     reply
 }
 
@@ -68,7 +68,7 @@ fn ask<W: EndsCopies + Drop>(
     ensures asked { Asks token.old question token.new }
     ensures sound { IsSound token.new }
 {
-    table.look(token);
+    look(table, token);
     table.post(token, question);
 }
 
@@ -84,7 +84,7 @@ fn poll<W: EndsCopies + Drop>(
     ensures sound { IsSound token.new }
 {
     let answer = table.collect(token)?;
-    table.look(token);
+    look(table, token);
     Some(answer)
 }
 
@@ -216,6 +216,6 @@ impl<W: EndsCopies + Drop> Client<W> {
         ensures other { Looks other.old other.new }
         ensures sound { IsSound self.new × IsSound other.new }
     {
-        server.table.meet(&mut self.token, &mut other.token)
+        meet(&server.table, &mut self.token, &mut other.token)
     }
 }

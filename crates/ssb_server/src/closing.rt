@@ -1,21 +1,18 @@
 //! How a server is closed.
-ghost use Rattle.std.specs.Prelude.{◌≡◌, [], ◌∷◌, ◌++◌, All, IfOk, OnOk, OnErr, IfErr};
+ghost use Rattle.std.specs.Prelude.{◌≡◌, ◌≤◌, [], ◌∷◌, ◌++◌, ◌↔◌, IsTrue, All, IfOk, OnOk, OnErr, IfErr};
 ghost use Rattle.row_store.specs.History.{IsPrefix};
 ghost use Rattle.row_store.specs.Legal.{IsLegal};
 ghost use Rattle.history.specs.Closing.{IsLogOf};
 ghost use Rattle.history_core.specs.OwnCommits.{IsOfClients};
 ghost use Rattle.history.specs.Words.{Owns};
-ghost use Rattle.ssb_server.specs.Tickets.{IsOf, IsQuiet, AreAllThere};
+ghost use Rattle.ssb_server.specs.Tickets.{IsOf, IsQuiet, AreAllThere, Leaves, with_reader};
 
 use crate::client::Client;
 use crate::dispatcher::Dispatcher;
 use crate::log_reader::LogReader;
 use crate::room::ClosingRoom;
-use crate::server::Server;
-use crate::tickets::{
-    are_all_numbered, are_clients_numbered, are_dispatchers_numbered, gather_clients,
-    gather_dispatchers,
-};
+use crate::server::{Server, SharedTable};
+use crate::tickets::{are_all_numbered, are_clients_numbered, are_dispatchers_numbered};
 use row_store::Commit;
 use ssb_base::Base;
 use std::fmt;
@@ -60,6 +57,62 @@ impl<W: EndsCopies + Drop> Display for CloseWithReaderError<W> {
 }
 
 impl<W: EndsCopies + Drop> Server<W> {
+    // Whether each client and each dispatcher is there once.
+    fn are_all_there(&self, clients: &[Client<W>], dispatchers: &[Dispatcher<W>]) -> bool
+        ensures { IsTrue result ↔ AreAllThere self.now clients.now dispatchers.now }
+    {
+        are_clients_numbered(clients, self.clients)
+            && are_dispatchers_numbered(dispatchers, self.dispatchers)
+    }
+
+    // The same, with the reader of the log among the dispatchers.
+    fn are_all_there_with_reader(
+        &self,
+        clients: &[Client<W>],
+        reader: &LogReader<W>,
+        dispatchers: &[Dispatcher<W>],
+    ) -> bool
+        ensures { IsTrue result ↔ AreAllThere self.now clients.now (dispatchers.now ++ reader.now ∷ []) }
+    {
+        are_clients_numbered(clients, self.clients)
+            && are_all_numbered(dispatchers, reader, self.dispatchers)
+    }
+
+    // The table, and room for its tokens.
+    fn into_table(self) -> (SharedTable<W>, ClosingRoom<W>)
+        ensures table { result.0 ≡ self }
+        ensures few { (self.clients ≤ 16) × (self.dispatchers ≤ 5) }
+    {
+        let Server {
+            table,
+            clients: _,
+            dispatchers: _,
+            bells: _,
+            pace: _,
+            alloc: _,
+            room,
+        } = self;
+        (table, room.into_inner())
+    }
+
+    // Ends the server, over all clients and dispatchers, and who reads the log, if that is one of them.
+    fn end(
+        self,
+        clients: Vec<Client<W>>,
+        dispatchers: Vec<Dispatcher<W>>,
+        reader: Option<LogReader<W>>,
+    ) -> Closed
+        requires there { AreAllThere self clients.items (with_reader dispatchers.items reader) }
+        requires clients { All (IsQuiet self) clients.items }
+        requires dispatchers { All (IsOf self) (with_reader dispatchers.items reader) }
+        ensures { Leaves self clients.items (with_reader dispatchers.items reader) result.base.value result.log.items }
+    {
+        let (table, room) = self.into_table();
+        let (client_tokens, dispatcher_tokens) = room.gather(clients, dispatchers, reader);
+        let (base, log) = table.close(client_tokens, dispatcher_tokens).into_parts();
+        Closed { base, log }
+    }
+
     /// Ends the server. Its clients and dispatchers are handed in, each once and in any order, and no client is asking.
     pub fn close(
         self,
@@ -80,32 +133,14 @@ impl<W: EndsCopies + Drop> Server<W> {
         ensures true_log { IfOk result (λ closed. IsLogOf self clients.items dispatchers.items closed.log.items) }
         ensures owns { IfOk result (λ closed. All (λ t. Owns t.who t.mine closed.log.items) clients.items) }
     {
-        let there = are_clients_numbered(clients.as_slice(), self.clients)
-            && are_dispatchers_numbered(dispatchers.as_slice(), self.dispatchers);
-        if !there {
+        if !self.are_all_there(clients.as_slice(), dispatchers.as_slice()) {
             return Err(CloseError {
                 server: self,
                 clients,
                 dispatchers,
             });
         }
-        let Server {
-            table,
-            clients: _,
-            dispatchers: _,
-            bells: _,
-            pace: _,
-            alloc: _,
-            room,
-        } = self;
-        let ClosingRoom {
-            clients: mut client_tokens,
-            dispatchers: mut dispatcher_tokens,
-        } = room.into_inner();
-        gather_clients(&mut client_tokens, clients);
-        gather_dispatchers(&mut dispatcher_tokens, dispatchers);
-        let (base, log) = table.close(client_tokens, dispatcher_tokens).into_parts();
-        Ok(Closed { base, log })
+        Ok(self.end(clients, dispatchers, None))
     }
 
     /// Ends a server that was opened with a reader of its log. All are handed in, each once, the clients and the
@@ -132,9 +167,7 @@ impl<W: EndsCopies + Drop> Server<W> {
             closed.log.items) }
         ensures owns { IfOk result (λ closed. All (λ t. Owns t.who t.mine closed.log.items) clients.items) }
     {
-        let there = are_clients_numbered(clients.as_slice(), self.clients)
-            && are_all_numbered(dispatchers.as_slice(), &reader, self.dispatchers);
-        if !there {
+        if !self.are_all_there_with_reader(clients.as_slice(), &reader, dispatchers.as_slice()) {
             return Err(CloseWithReaderError {
                 server: self,
                 clients,
@@ -142,23 +175,6 @@ impl<W: EndsCopies + Drop> Server<W> {
                 dispatchers,
             });
         }
-        let Server {
-            table,
-            clients: _,
-            dispatchers: _,
-            bells: _,
-            pace: _,
-            alloc: _,
-            room,
-        } = self;
-        let ClosingRoom {
-            clients: mut client_tokens,
-            dispatchers: mut dispatcher_tokens,
-        } = room.into_inner();
-        gather_clients(&mut client_tokens, clients);
-        gather_dispatchers(&mut dispatcher_tokens, dispatchers);
-        dispatcher_tokens.push_reserved(reader.into_token());
-        let (base, log) = table.close(client_tokens, dispatcher_tokens).into_parts();
-        Ok(Closed { base, log })
+        Ok(self.end(clients, dispatchers, Some(reader)))
     }
 }

@@ -2,7 +2,7 @@
 ghost use Rattle.std.specs.Prelude.{◌≡◌, ◌≤◌, true, length, drop, IfOk};
 ghost use Rattle.history.specs.Tokens.{IsSound, gave_back};
 
-use crate::server::{SharedTable, Token};
+use crate::server::{SharedTable, Token, put_rows};
 use row_store::{Commit, RowStore};
 use std::alloc::{AllocError, Global};
 use twin_cell::EndsCopies;
@@ -34,6 +34,6 @@ pub(crate) fn copy_and_put<W: EndsCopies + Drop>(
     ensures sound { IsSound token.new }
 {
     let commits = copy_of(alloc, rows.log_from(taken as usize));
-    table.put_rows(token, rows);
+    put_rows(table, token, rows);
     commits
 }

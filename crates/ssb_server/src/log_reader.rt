@@ -13,7 +13,7 @@ use crate::bells::Bells;
 use crate::client::Client;
 use crate::copying::copy_and_put;
 use crate::pace::Pace;
-use crate::server::{Server, SharedTable, Token};
+use crate::server::{Server, SharedTable, Token, look, meet};
 use history_core::Who;
 use row_store::Commit;
 use std::alloc::{AllocError, Global};
@@ -109,7 +109,7 @@ impl<W: EndsCopies + Drop> LogReader<W> {
         ensures looks { Looks self.old self.new }
         ensures sound { IsSound self.new }
     {
-        server.table.look(&mut self.token)
+        look(&server.table, &mut self.token)
     }
 
     /// Lets the reader see all that a client has seen: the number of commits that the reader sees then.
@@ -122,7 +122,7 @@ impl<W: EndsCopies + Drop> LogReader<W> {
         ensures client { Looks client.old client.new }
         ensures sound { IsSound self.new × IsSound client.new }
     {
-        server.table.meet(&mut self.token, &mut client.token)
+        meet(&server.table, &mut self.token, &mut client.token)
     }
 
     /// Lets a client see all that the reader has seen: the number of commits that the client sees then.
@@ -135,7 +135,7 @@ impl<W: EndsCopies + Drop> LogReader<W> {
         ensures reader { Looks self.old self.new }
         ensures sound { IsSound self.new × IsSound client.new }
     {
-        server.table.meet(&mut client.token, &mut self.token)
+        meet(&server.table, &mut client.token, &mut self.token)
     }
 
     /// All commits of the log behind the first `taken`. It waits for the row store as a dispatcher does, and has it

@@ -1,7 +1,12 @@
 //! Room for the tokens that `close` and `close_with_reader` gather.
-ghost use Rattle.std.specs.Prelude.{◌≡◌, ◌≤◌, [], vec_capacity};
+ghost use Rattle.std.specs.Prelude.{◌≡◌, ◌≤◌, [], All, length, vec_capacity};
+ghost use Rattle.ssb_server.specs.Tickets.{IsResting, IsLeft, with_reader};
 
+use crate::client::Client;
+use crate::dispatcher::Dispatcher;
+use crate::log_reader::LogReader;
 use crate::server::Token;
+use crate::tickets::{gather_clients, gather_dispatchers, gather_reader};
 use std::alloc::{AllocError, Global};
 use twin_cell::EndsCopies;
 
@@ -22,5 +27,29 @@ impl<W: EndsCopies + Drop> ClosingRoom<W> {
             clients: Vec::with_capacity(alloc, 16)?,
             dispatchers: Vec::with_capacity(alloc, 5)?,
         })
+    }
+
+    /// The tokens of all clients, and of all dispatchers and who reads the log, in the room for them.
+    pub(crate) fn gather(
+        self,
+        clients: Vec<Client<W>>,
+        dispatchers: Vec<Dispatcher<W>>,
+        reader: Option<LogReader<W>>,
+    ) -> (Vec<Token<W>>, Vec<Token<W>>)
+        requires clients { length clients.items ≤ 16 }
+        requires dispatchers { length (with_reader dispatchers.items reader) ≤ 5 }
+        ensures clients { result.0.items ≡ clients.items }
+        ensures rest { All IsResting clients.items }
+        ensures dispatchers { result.1.items ≡ with_reader dispatchers.items reader }
+        ensures left { All IsLeft (with_reader dispatchers.items reader) }
+    {
+        let ClosingRoom {
+            clients: mut client_tokens,
+            dispatchers: mut dispatcher_tokens,
+        } = self;
+        gather_clients(&mut client_tokens, clients);
+        gather_dispatchers(&mut dispatcher_tokens, dispatchers);
+        gather_reader(&mut dispatcher_tokens, reader);
+        (client_tokens, dispatcher_tokens)
     }
 }

@@ -1,10 +1,14 @@
 //! What clients and dispatchers share.
-ghost use Rattle.std.specs.Prelude.{◌≡◌};
+ghost use Rattle.std.specs.Prelude.{◌≡◌, length, true, false};
+ghost use Rattle.row_store.specs.History.{IsPrefix};
+ghost use Rattle.history.specs.Tokens.{IsSound, IsDispatcher, Saw, MayAnswer, Answers, MayPut, Put};
 
 use crate::bells::Bells;
 use crate::pace::Pace;
 use crate::room::ClosingRoom;
 use fact_columns::Columns;
+use row_store::RowStore;
+use ssb_answers::Answer;
 use std::alloc::Global;
 use std::marker::Model;
 use std::sync::Mutex;
@@ -15,6 +19,67 @@ pub(crate) type SharedTable<W> = history::SharedTable<TwinWriter<Columns, W>>;
 
 /// The token of a client or dispatcher to that table.
 pub(crate) type Token<W> = history::Token<TwinWriter<Columns, W>>;
+
+// A proof about a call of the table goes through the whole type of its writer, and takes long: what several call is
+// called here.
+
+/// The number of commits, all of which the token has seen then.
+pub(crate) fn look<W: EndsCopies + Drop>(table: &SharedTable<W>, token: &mut Token<W>) -> u64
+    requires table { token.old.table ≡ table.now }
+    ensures length { result ≡ length token.new.seen }
+    ensures saw { Saw token.old token.new }
+    ensures sound { IsSound token.new }
+{
+    table.look(token)
+}
+
+/// Lets one see all that the other has seen: the number of commits that it sees then.
+pub(crate) fn meet<W: EndsCopies + Drop>(
+    table: &SharedTable<W>,
+    token: &mut Token<W>,
+    other: &mut Token<W>,
+) -> u64
+    requires table { token.old.table ≡ table.now }
+    requires other { other.old.table ≡ table.now }
+    ensures length { result ≡ length token.new.seen }
+    ensures saw { Saw token.old token.new }
+    ensures met { IsPrefix other.old.seen token.new.seen }
+    ensures other { Saw other.old other.new }
+    ensures sound { IsSound token.new × IsSound other.new }
+{
+    table.meet(token, other)
+}
+
+/// Gives the row store back, as it was taken or with one commit more of the token's client.
+pub(crate) fn put_rows<W: EndsCopies + Drop>(
+    table: &SharedTable<W>,
+    token: &mut Token<W>,
+    rows: RowStore,
+)
+    requires table { token.old.table ≡ table.now }
+    requires taken { token.old.has_rows ≡ true }
+    requires rows { MayPut token.old rows }
+    ensures put { Put token.old rows token.new }
+    ensures sound { IsSound token.new }
+{
+    table.put_rows(token, rows);
+}
+
+/// Answers a request in hand, by its client's number.
+pub(crate) fn give<W: EndsCopies + Drop>(
+    table: &SharedTable<W>,
+    token: &mut Token<W>,
+    client: u32,
+    answer: Answer,
+)
+    requires table { token.old.table ≡ table.now }
+    requires dispatcher { IsDispatcher token.old }
+    requires free { (token.old.has_rows ≡ false) × (token.old.has_writer ≡ false) }
+    requires request { MayAnswer token.old client answer }
+    ensures answers { Answers token.old client answer token.new }
+{
+    table.answer(token, client, answer);
+}
 
 /// What clients and dispatchers share: the table, and the places where they sleep. Contracts see the table: its name, the
 /// base, and how many clients and dispatchers there are. `W` is the handle by which the writer of the columns waits; what

@@ -1,8 +1,8 @@
 //! The tokens that a server is opened with, and that it is closed with.
-ghost use Rattle.std.specs.Prelude.{◌≡◌, ◌+◌, ◌≤◌, [], ◌∷◌, ◌++◌, ◌↔◌, ◌==◌, IsTrue, All, IfOk, count_by};
-ghost use Rattle.std.specs.Prelude.{vec_len, vec_capacity};
+ghost use Rattle.std.specs.Prelude.{◌≡◌, ◌+◌, ◌≤◌, [], ◌∷◌, ◌++◌, ◌↔◌, ◌==◌, IsTrue, All, IfOk, IfSome, count_by};
+ghost use Rattle.std.specs.Prelude.{length, vec_len, vec_capacity};
 ghost use Rattle.history.specs.Tokens.{TokenRecord};
-ghost use Rattle.ssb_server.specs.Tickets.{IsNewClient, IsResting, IsLeft};
+ghost use Rattle.ssb_server.specs.Tickets.{IsNewClient, IsResting, IsLeft, with_reader};
 ghost use Rattle.history.specs.World.{number_of};
 ghost use Rattle.history.specs.Closing.{AreNumbered};
 
@@ -29,15 +29,24 @@ pub(crate) fn clients_of<W: EndsCopies + Drop>(
     Ok(clients)
 }
 
+// How many of the clients have the number.
+fn clients_with<W: EndsCopies + Drop>(clients: &[Client<W>], number: u32) -> usize
+    ensures { result ≡ count_by (λ (t : TokenRecord). number_of t.who == number) clients.now }
+{
+    let mut count = 0;
+    for client in clients {
+        if client.number() == number {
+            count += 1;
+        }
+    }
+    count
+}
+
 // Whether just one client has the number.
 fn has_once<W: EndsCopies + Drop>(clients: &[Client<W>], number: u32) -> bool
-    ensures { result ≡ (count_by (λ (t : TokenRecord). number_of t.who == number) clients.now == 1) }
+    ensures { IsTrue result ↔ (count_by (λ (t : TokenRecord). number_of t.who == number) clients.now ≡ 1) }
 {
-    clients
-        .iter()
-        .filter(|client| client.number() == number)
-        .count()
-        == 1
+    clients_with(clients, number) == 1
 }
 
 /// Whether these are so many clients, with each number once.
@@ -75,15 +84,18 @@ pub(crate) fn gather_clients<W: EndsCopies + Drop>(
 fn dispatchers_with<W: EndsCopies + Drop>(dispatchers: &[Dispatcher<W>], number: u32) -> usize
     ensures { result ≡ count_by (λ (t : TokenRecord). number_of t.who == number) dispatchers.now }
 {
-    dispatchers
-        .iter()
-        .filter(|dispatcher| dispatcher.number() == number)
-        .count()
+    let mut count = 0;
+    for dispatcher in dispatchers {
+        if dispatcher.number() == number {
+            count += 1;
+        }
+    }
+    count
 }
 
 // Whether just one dispatcher has the number.
 fn has_dispatcher_once<W: EndsCopies + Drop>(dispatchers: &[Dispatcher<W>], number: u32) -> bool
-    ensures { result ≡ (count_by (λ (t : TokenRecord). number_of t.who == number) dispatchers.now == 1) }
+    ensures { IsTrue result ↔ (count_by (λ (t : TokenRecord). number_of t.who == number) dispatchers.now ≡ 1) }
 {
     dispatchers_with(dispatchers, number) == 1
 }
@@ -155,5 +167,19 @@ pub(crate) fn gather_dispatchers<W: EndsCopies + Drop>(
 {
     for dispatcher in dispatchers {
         tokens.push_reserved(dispatcher.into_token());
+    }
+}
+
+/// The token of who reads the log, if there is one, in room that is there.
+pub(crate) fn gather_reader<W: EndsCopies + Drop>(
+    tokens: &mut Vec<Token<W>>,
+    reader: Option<LogReader<W>>,
+)
+    requires { length (with_reader tokens.old.items reader) ≤ vec_capacity tokens.old }
+    ensures items { tokens.new.items ≡ with_reader tokens.old.items reader }
+    ensures left { IfSome reader IsLeft }
+{
+    if let Some(reader) = reader {
+        tokens.push_reserved(reader.into_token());
     }
 }

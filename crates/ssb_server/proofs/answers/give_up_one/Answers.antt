@@ -1,10 +1,20 @@
+use Rattle.std.proofs.Common.{◌∙◌, sym}
 use Rattle.ssb_server.proofs.GivingLaws.{may_give_up, gave_one}
 use Rattle.ssb_server.proofs.answers.give_up_one.Goals as goal
 
-pub answer-requires-clause-request : goal.answer-requires-clause-request
-answer-requires-clause-request g c = may_give_up c.args.token.now c.args.client c.args.query c.args.cause c.requires.hand
+pub give-requires-clause-table : goal.give-requires-clause-table
+give-requires-clause-table g c = c.requires.dispatcher.table_is ∙ sym c.server.view_is
+
+pub give-requires-clause-dispatcher : goal.give-requires-clause-dispatcher
+give-requires-clause-dispatcher g c = (c.requires.dispatcher.number, c.requires.dispatcher.who_is)
+
+pub give-requires-clause-free : goal.give-requires-clause-free
+give-requires-clause-free g c = (c.requires.free.rows, c.requires.free.writer)
+
+pub give-requires-clause-request : goal.give-requires-clause-request
+give-requires-clause-request g c = may_give_up c.args.token.now c.args.client c.args.query c.args.cause c.requires.hand
     c.requires.cause
 
 pub returns : goal.returns
-returns g c = gave_one c.args.token.now c.args.client c.args.query _ c.answer.new.token c.requires.hand
-    c.answer.ensures.answers
+returns g c = gave_one c.args.token.now c.args.client c.args.query _ c.give.new.token c.requires.hand
+    c.give.ensures.answers

@@ -2,7 +2,7 @@ use Rattle.std.proofs.Common.{◌≤◌, ◌∙◌, sym, subst, ap, length}
 use Rattle.std.specs.Prelude.{MatchResult}
 use Rattle.row_store.specs.History.{lines_after}
 use Rattle.history.specs.Tokens.{TokenRecord}
-use Rattle.ssb_server.specs.Turns.{StandsAt, Misses}
+use Rattle.ssb_server.specs.Turns.{Knows, StandsAt, Misses}
 use Rattle.ssb_server.proofs.SnapshotLaws.{
   dispatcher_with,
   dispatcher_fetched,
@@ -11,6 +11,27 @@ use Rattle.ssb_server.proofs.SnapshotLaws.{
   sound_without,
 }
 use Rattle.ssb_server.proofs.snapshot.snapshot.Goals as goal
+
+pub take_writer-writer-requires-clause-table : goal.take_writer-writer-requires-clause-table
+take_writer-writer-requires-clause-table g c = c.requires.dispatcher.table_is
+
+pub take_writer-writer-requires-clause-dispatcher : goal.take_writer-writer-requires-clause-dispatcher
+take_writer-writer-requires-clause-dispatcher g c = (c.requires.dispatcher.number, c.requires.dispatcher.who_is)
+
+pub take_writer-writer-requires-clause-free : goal.take_writer-writer-requires-clause-free
+take_writer-writer-requires-clause-free g c = (c.requires.free.rows, c.requires.free.writer)
+
+pub bring_up-writer-requires-clause-dispatcher : goal.bring_up-writer-requires-clause-dispatcher
+bring_up-writer-requires-clause-dispatcher g c = dispatcher_with c.args.table.now c.args.token.now _
+    c.take_writer-writer.new.token c.take_writer-writer.ensures.taken c.requires.dispatcher
+
+pub bring_up-writer-requires-clause-free : goal.bring_up-writer-requires-clause-free
+bring_up-writer-requires-clause-free g c = ap (λ (t : TokenRecord). t.has_rows) c.take_writer-writer.ensures.taken
+    ∙ c.requires.free.rows
+
+pub bring_up-writer-requires-clause-reader : goal.bring_up-writer-requires-clause-reader
+bring_up-writer-requires-clause-reader g c = subst (λ (t : TokenRecord). Knows t.table.base t.seen c.args.reader)
+    (sym c.take_writer-writer.ensures.taken) c.requires.reader
 
 pub bring_up-writer-requires-clause-writer : goal.bring_up-writer-requires-clause-writer
 bring_up-writer-requires-clause-writer g c = taken_with c.args.token.now c.take_writer-writer.result

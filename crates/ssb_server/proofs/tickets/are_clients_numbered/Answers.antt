@@ -1,7 +1,5 @@
 use Rattle.std.proofs.Common.{◌≡◌, refl, IsTrue, ℕ, ◌+◌, true, false, arith}
 use Rattle.std.specs.Prelude.{◌==◌, count_by}
-use Rattle.std.proofs.lemmas.Bool.{eq-eqb}
-use Rattle.std.proofs.lemmas.Bool.Decides.{nat_tests}
 use borrow.Author.Count.{below_more}
 use Rattle.history.specs.Tokens.{TokenRecord}
 use Rattle.history.specs.World.{number_of}
@@ -12,19 +10,15 @@ pub returns-then-not-has_once : goal.returns-then-not-has_once
 returns-then-not-has_once g c = (
   (λ (h : IsTrue false). absurd (cc)),
   λ (are : AreNumbered c.args.count c.args.clients.now).
-      let one = are.each c.loop-before.before (omega arith) in
-      let yes : (count_by (λ (t : TokenRecord). number_of t.who == c.loop-before.before + 1) c.args.clients.now == 1) ≡ true =
-      eq-eqb (count_by (λ (t : TokenRecord). number_of t.who == c.loop-before.before + 1) c.args.clients.now) 1 one in
-      let made = c.has_once.ensures in let was = c.if-not-has_once.true in absurd (cc),
+      let yes = c.has_once.ensures.1 (are.each c.loop-before.before (omega arith)) in
+      let was = c.if-not-has_once.true in absurd (cc),
 )
 
 pub loop-before-preserved : goal.loop-before-preserved
 loop-before-preserved g c =
     let P : ℕ → Type 0 = λ k. count_by (λ (t : TokenRecord). number_of t.who == k + 1) c.args.clients.now ≡ 1 in
-    let made = c.has_once.ensures in let was = c.if-not-has_once.false in
-    let here : count_by (λ (t : TokenRecord). number_of t.who == c.loop-before.before + 1) c.args.clients.now ≡ 1 =
-    grind (arith, nat_tests) in
-    below_more P c.loop-before.before c.loop-before.invariant here
+    let was = c.if-not-has_once.false in
+    below_more P c.loop-before.before c.loop-before.invariant (c.has_once.ensures.0 (cc))
 
 pub returns : goal.returns
 returns g c = (

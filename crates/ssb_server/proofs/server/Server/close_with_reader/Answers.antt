@@ -1,56 +1,25 @@
-use Rattle.std.proofs.Common.{rules, ◌≡◌, ◌≤◌, ◌∙◌, [], ◌∷◌, ◌++◌, length, ap, sym, subst, arith}
-use Rattle.std.specs.Prelude.{All}
-use Rattle.std.proofs.lemmas.List.{length_push}
-use Rattle.history.specs.Tokens.{TableRecord}
-use Rattle.history.specs.Closing.{AreNumbered}
-use Rattle.ssb_server.specs.Tickets.{IsQuiet, IsOf}
-use Rattle.ssb_server.proofs.SeatLaws.{all_clients}
-use Rattle.ssb_server.proofs.ReaderLaws.{all_with_reader}
+use Rattle.std.proofs.lemmas.List.Elements.{All-push}
+use Rattle.ssb_server.specs.Tickets.{IsOf}
 use Rattle.ssb_server.proofs.server.Server.close_with_reader.Goals as goal
 
-pub close-requires-clause-clients : goal.close-requires-clause-clients
-close-requires-clause-clients g c =
-    let tokens = c.args.clients.items in
-    let there : AreNumbered c.args.self.clients tokens = search rules in
-    let is : c.gather_clients.new.tokens.items ≡ tokens =
-    c.gather_clients.ensures.items ∙ ap (λ xs. xs ++ tokens) c.into_inner-client_tokens.result.no_clients in
-    all_clients c.self.inside.table tokens c.gather_clients.new.tokens.items is
-    (subst (λ (h : TableRecord). AreNumbered h.clients tokens) (sym c.self.view_is) there) c.gather_clients.ensures.rest
-    (subst (λ (h : TableRecord). All (IsQuiet h) tokens) (sym c.self.view_is) c.requires.clients)
+pub end-requires-clause-dispatchers : goal.end-requires-clause-dispatchers
+end-requires-clause-dispatchers g c = All-push (IsOf c.args.self) c.args.dispatchers.items c.args.reader
+    c.requires.dispatchers c.requires.reader
 
-pub close-requires-clause-dispatchers : goal.close-requires-clause-dispatchers
-close-requires-clause-dispatchers g c =
-    let tokens = c.args.dispatchers.items in
-    let reader = c.args.reader in
-    let there : AreNumbered c.args.self.dispatchers (tokens ++ reader ∷ []) = search rules in
-    let others : c.gather_dispatchers.new.tokens.items ≡ tokens =
-    c.gather_dispatchers.ensures.items ∙ ap (λ xs. xs ++ tokens) c.into_inner-client_tokens.result.no_dispatchers in
-    let is : c.push_reserved.new.self.items ≡ tokens ++ reader ∷ [] =
-    c.push_reserved.ensures.items
-    ∙ (ap (λ t. c.gather_dispatchers.new.tokens.items ++ t ∷ []) c.into_token.ensures.token
-    ∙ ap (λ xs. xs ++ reader ∷ []) others) in
-    all_with_reader c.self.inside.table tokens c.push_reserved.new.self.items reader is
-    (subst (λ (h : TableRecord). AreNumbered h.dispatchers (tokens ++ reader ∷ [])) (sym c.self.view_is) there)
-    c.gather_dispatchers.ensures.left c.into_token.ensures.left
-    (subst (λ (h : TableRecord). All (IsOf h) tokens) (sym c.self.view_is) c.requires.dispatchers)
-    (subst (λ (h : TableRecord). IsOf h reader) (sym c.self.view_is) c.requires.reader)
+pub returns-clause-base : goal.returns-clause-base
+returns-clause-base g c = c.end.ensures.base_is
 
-pub push_reserved-requires : goal.push_reserved-requires
-push_reserved-requires g c =
-    let tokens = c.args.dispatchers.items in
-    let reader = c.args.reader in
-    let room = c.into_inner-client_tokens.result in
-    let there : AreNumbered c.args.self.dispatchers (tokens ++ reader ∷ []) = search rules in
-    let few : c.args.self.dispatchers ≤ 5 = subst (λ (h : TableRecord). h.dispatchers ≤ 5) c.self.view_is
-    (subst (λ n. n ≤ 5) c.self.invariant.dispatchers_is c.self.invariant.few_dispatchers) in
-    omega (
-      arith,
-      there.count_is,
-      length_push tokens reader,
-      few,
-      room.dispatcher_room,
-      room.dispatchers.ok.0 ∙ ap length room.no_dispatchers,
-      c.args.dispatchers.ok.0,
-      c.gather_dispatchers.ensures.len,
-      c.gather_dispatchers.ensures.capacity,
-    )
+pub returns-clause-legal : goal.returns-clause-legal
+returns-clause-legal g c = c.end.ensures.legal
+
+pub returns-clause-named : goal.returns-clause-named
+returns-clause-named g c = c.end.ensures.named
+
+pub returns-clause-seen : goal.returns-clause-seen
+returns-clause-seen g c = (c.end.ensures.clients_saw, c.end.ensures.dispatchers_saw)
+
+pub returns-clause-true_log : goal.returns-clause-true_log
+returns-clause-true_log g c = c.end.ensures.true_log
+
+pub returns-clause-owns : goal.returns-clause-owns
+returns-clause-owns g c = c.end.ensures.owns
