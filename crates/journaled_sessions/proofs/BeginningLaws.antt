@@ -16,9 +16,9 @@ use Rattle.ssb_server.specs.Opening.{IsOpenFault}
 use Rattle.ssb_server.specs.Tickets.{IsOf}
 use Rattle.ssb_server.specs.declared.opening.OpenFault.{OpenFault}
 use Rattle.ssb_server.specs.declared.opening.OpenFault.TheVariants as opening
-use Rattle.ssb_sessions.specs.Run.{IsRunFault, fault_of}
-use Rattle.ssb_sessions.specs.Sessions.{IsStill}
-use Rattle.ssb_sessions.specs.declared.run_fault.RunFault.{RunFault}
+use Rattle.ssb_serving.specs.RunFaults.{IsRunFault, fault_of}
+use Rattle.ssb_serving.specs.Members.{IsStill}
+use Rattle.ssb_serving.specs.declared.run_fault.RunFault.{RunFault}
 use Rattle.journaled_sessions.specs.Served.{IsJournaledFault, IsJournaledRun, IsOpenedFault}
 use Rattle.journaled_sessions.specs.declared.fault.JournaledFault.{JournaledFault}
 use Rattle.journaled_sessions.specs.declared.fault.JournaledFault.TheVariants as fault

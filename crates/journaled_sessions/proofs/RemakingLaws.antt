@@ -15,7 +15,7 @@ use Rattle.ssb_schema.specs.declared.refresh.Action.{Action}
 use Rattle.ssb_base.specs.Base.{Tables}
 use Rattle.ssb_journal.specs.declared.replaying.ReplayFault.TheVariants as replay
 use Rattle.ssb_server.specs.Clients.{Looks, Commits, Refreshed}
-use Rattle.ssb_sessions.specs.Sessions.{IsStill}
+use Rattle.ssb_serving.specs.Members.{IsStill}
 use Rattle.journaled_sessions.proofs.SeatLaws.{seated_at, seated_set}
 use Rattle.journaled_sessions.specs.Remade.{IsNotMade, IsRemakeFault}
 use Rattle.journaled_sessions.specs.Seated.{AreSeated, IsSeated}

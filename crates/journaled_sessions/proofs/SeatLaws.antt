@@ -13,9 +13,9 @@ use Rattle.history_core.specs.declared.event.Who.TheVariants.{Client}
 use Rattle.row_store.proofs.PrefixLaws.{beginnings_chain, prefix_empty}
 use Rattle.row_store.specs.History.{CommitRecord, IsPrefix}
 use Rattle.ssb_server.specs.Tickets.{IsQuiet}
-use Rattle.ssb_sessions.proofs.PlaceLaws.{none_is, some_is, row_at}
-use Rattle.ssb_sessions.proofs.SessionLaws.{number_in}
-use Rattle.ssb_sessions.specs.Steps.{AreAlike}
+use Rattle.ssb_serving.proofs.PlaceLaws.{none_is, some_is, row_at}
+use Rattle.ssb_serving.proofs.MemberLaws.{number_in}
+use Rattle.ssb_serving.specs.Steps.{AreAlike}
 use Rattle.journaled_sessions.specs.Seated.{IsSeated, AreSeated}
 
 -- new clients are seated before any commit

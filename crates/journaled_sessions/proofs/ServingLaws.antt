@@ -12,10 +12,10 @@ use Rattle.history_core.specs.OwnCommits.{IsOfClients}
 use Rattle.row_store.specs.History.{CommitRecord, IsPrefix}
 use Rattle.row_store.proofs.PrefixLaws.{beginnings_chain}
 use Rattle.ssb_server.specs.Tickets.{IsQuiet}
-use Rattle.ssb_sessions.proofs.PlaceLaws.{all_at, get_below}
-use Rattle.ssb_sessions.proofs.SessionLaws.{ready_where, still_push}
-use Rattle.ssb_sessions.specs.Sessions.{AreStill, IsReady, IsStill}
-use Rattle.ssb_sessions.specs.Steps.{AreAlike}
+use Rattle.ssb_serving.proofs.PlaceLaws.{all_at, get_below}
+use Rattle.ssb_serving.proofs.MemberLaws.{ready_where, still_push}
+use Rattle.ssb_serving.specs.Members.{AreStill, IsReady, IsStill}
+use Rattle.ssb_serving.specs.Steps.{AreAlike}
 use Rattle.stream_sessions.specs.Streams.{AreSpoken, IsClosedWith}
 use Rattle.journaled_sessions.proofs.SeatLaws.{
   AreStanding,

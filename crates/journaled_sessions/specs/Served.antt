@@ -7,7 +7,7 @@ use Rattle.row_store.specs.History.{CommitRecord, IsPrefix}
 use Rattle.row_store.specs.Legal.{IsLegal}
 use Rattle.ssb_base.specs.Base.{Tables}
 use Rattle.ssb_journal.specs.Replays.{IsReplayFault}
-use Rattle.ssb_sessions.specs.Run.{IsRunFault}
+use Rattle.ssb_serving.specs.RunFaults.{IsRunFault}
 use Rattle.stream_sessions.specs.Streams.{IsClosedWith, IsSpoken}
 use Rattle.journaled_sessions.specs.declared.fault.JournaledFault.{JournaledFault}
 use Rattle.journaled_sessions.specs.declared.fault.JournaledFault.TheVariants as fault

@@ -4,7 +4,7 @@ ghost use Rattle.std.specs.Prelude.{◌≡◌};
 ghost use Rattle.journaled_sessions.specs.declared.fault.JournaledFault.TheVariants.{OutOfMemory};
 
 use ssb_journal::ReplayFault;
-use ssb_sessions::RunFault;
+use ssb_serving::RunFault;
 use std::alloc::{AllocError, AllocFailed};
 use thiserror::Error;
 

@@ -1,7 +1,7 @@
 //! The commits of a journal, made again by their clients.
 
 ghost use Rattle.std.specs.Prelude.{◌≡◌, ◌+◌, ◌∷◌, ◌++◌, IfErr, OnOk, [], length};
-ghost use Rattle.ssb_sessions.specs.Sessions.{IsStill};
+ghost use Rattle.ssb_serving.specs.Members.{IsStill};
 ghost use Rattle.journaled_sessions.specs.Seated.{AreSeated, IsSeated};
 ghost use Rattle.journaled_sessions.specs.Remade.{IsNotMade, IsRemakeFault};
 

@@ -6,7 +6,7 @@ ghost use Rattle.journal.specs.Groups.{recovered as recovered_groups};
 ghost use Rattle.ssb_journal.specs.Counts.{KeepsFirst};
 ghost use Rattle.ssb_journal.specs.Opening.{IsKept};
 ghost use Rattle.ssb_server.specs.Tickets.{IsOf, IsQuiet};
-ghost use Rattle.ssb_sessions.specs.Sessions.{AreStill, IsReady, IsStill};
+ghost use Rattle.ssb_serving.specs.Members.{AreStill, IsReady, IsStill};
 ghost use Rattle.stream_sessions.specs.Streams.{AreSpoken, IsClosedWith};
 ghost use Rattle.journaled_sessions.specs.Reading.{IsLater};
 ghost use Rattle.journaled_sessions.specs.Seated.{AreSeated};
@@ -24,7 +24,7 @@ use ssb_journal::{JournaledLog, KeptCommits, OpenedJournal, SharedJournal, Table
 use ssb_server::{
     Client, Closed, Dispatcher, LogReader, OpenedWithReader, Server, open_with_reader,
 };
-use ssb_sessions::{Batches, RunFault};
+use ssb_serving::{Batches, RunFault};
 use std::alloc::{AllocError, Global};
 use std::hash::RandomState;
 use std::io;

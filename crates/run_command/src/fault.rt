@@ -1,7 +1,7 @@
 //! Why scripts were not served.
 
 use ssb_files::{Finding, JobFault};
-use ssb_sessions::RunFault;
+use ssb_serving::RunFault;
 use std::fmt;
 
 /// No server was opened, or memory or threads were wanting.

@@ -1,6 +1,7 @@
 //! How fast a run of scripts was. What a clock says is in no contract.
 
-use ssb_sessions::{Batches, Latencies, Latency, Run};
+use ssb_serving::Batches;
+use ssb_sessions::{Latencies, Latency, Run};
 use std::fmt;
 use std::io::Write;
 use std::time::{Clock, Duration, Instant};

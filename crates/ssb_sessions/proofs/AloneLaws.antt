@@ -59,9 +59,9 @@ use Rattle.ssb_report.specs.Report.{AreReplies, committed}
 use Rattle.ssb_report.proofs.CommitLaws.{with_none, with_both}
 use Rattle.ssb_server.specs.Clients as client
 use Rattle.ssb_sessions.specs.Alone.{IsAlone, own, may_be_told, OneClientIsOneThread}
-use Rattle.ssb_sessions.specs.Served.{AreServed}
-use Rattle.ssb_sessions.specs.Steps.{AreAlike}
-use Rattle.ssb_sessions.proofs.RequestLaws.{refreshed_alike, answered_alike, asked_nothing}
+use Rattle.ssb_serving.specs.Served.{AreServed}
+use Rattle.ssb_serving.specs.Steps.{AreAlike}
+use Rattle.ssb_serving.proofs.RequestLaws.{refreshed_alike, answered_alike, asked_nothing}
 
 -- where there is one client, the commits of its number are all
 all_of_one : (history : List CommitRecord) → IsOfClients 1 history → commits_of 1 history ≡ history

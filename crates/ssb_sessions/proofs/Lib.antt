@@ -1,7 +1,4 @@
-pub mod RequestLaws
 pub mod TraceLaws
 pub mod AloneLaws
-pub mod ListLaws
-pub mod PlaceLaws
 pub mod SessionLaws
 mod RunLaws

@@ -43,11 +43,12 @@ use Rattle.ssb_script.specs.Requests.{requests_of}
 use Rattle.ssb_script.specs.declared.request.Script.{Script}
 use Rattle.ssb_sessions.proofs.TraceLaws.{runs_are_legal}
 use Rattle.ssb_sessions.specs.Traces.{IsTold}
-use Rattle.ssb_sessions.specs.Served.{Serves}
-use Rattle.ssb_sessions.proofs.PlaceLaws.{none_is, some_is, get_mapped, map_at, row_at, all_at, get_below}
+use Rattle.ssb_serving.specs.Served.{Serves}
+use Rattle.ssb_serving.proofs.PlaceLaws.{none_is, some_is, get_mapped, map_at, row_at, all_at, get_below}
 use Rattle.ssb_sessions.proofs.SessionLaws.{session_at, as_many, client_of_task, client_of_session}
 use Rattle.ssb_sessions.specs.Run.{IsServedWhole, IsRun, Leaves}
-use Rattle.ssb_sessions.specs.Sessions.{TaskRecord, SessionRecord, IsSessionOf, AreSessionsOf, AreStill}
+use Rattle.ssb_serving.specs.Members.{AreStill}
+use Rattle.ssb_sessions.specs.Sessions.{TaskRecord, SessionRecord, IsSessionOf, AreSessionsOf}
 
 abbrev script_of : TaskRecord → Script
 script_of task = task.script

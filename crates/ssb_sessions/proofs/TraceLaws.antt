@@ -51,7 +51,7 @@ use Rattle.ssb_audit.specs.declared.trace.Told.{Told}
 use Rattle.ssb_audit.specs.Traces.{rows_after}
 use Rattle.ssb_audit.specs.Legal.{IsTrueOf, NeverGoBack}
 use Rattle.ssb_server.specs.Clients as client
-use Rattle.ssb_sessions.specs.Served.{IsAnswered, IsServed, AreServed, told_of}
+use Rattle.ssb_serving.specs.Served.{IsAnswered, IsServed, AreServed, told_of}
 use Rattle.ssb_sessions.specs.Traces.{IsTold, AreTold, RunsAreLegal}
 
 -- what is true of the first commits is true of all

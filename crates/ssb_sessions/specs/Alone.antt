@@ -8,7 +8,7 @@ use Rattle.history.specs.Tokens.{TableRecord, TokenRecord, new_token}
 use Rattle.ssb_audit.specs.declared.trace.Told.{Told}
 use Rattle.ssb_report.specs.Report as one_thread
 use Rattle.ssb_script.specs.Requests.{RequestRecord}
-use Rattle.ssb_sessions.specs.Served.{Serves}
+use Rattle.ssb_serving.specs.Served.{Serves}
 
 -- the table has one client, and this is it
 pub record IsAlone (t : TokenRecord) : Type 0 where

@@ -1,5 +1,3 @@
-pub mod Served
-pub mod Steps
 pub mod Traces
 pub mod Alone
 pub mod Sessions

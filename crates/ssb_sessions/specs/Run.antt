@@ -1,5 +1,5 @@
 -- What a run of scripts leaves.
-use Rattle.std.specs.Prelude.{◌≡◌, ◌≢◌, ℕ, ◌+◌, All, List, [], length, map, flat_map, Some, slice_get}
+use Rattle.std.specs.Prelude.{◌≡◌, ℕ, ◌+◌, All, List, [], length, map, flat_map, Some, slice_get}
 use Rattle.history.specs.Closing.{IsLogOf}
 use Rattle.history.specs.Tokens.{TableRecord, TokenRecord, new_token, new_dispatchers}
 use Rattle.history.specs.Words.{Owns}
@@ -11,13 +11,9 @@ use Rattle.ssb_audit.specs.declared.trace.Trace.{Trace}
 use Rattle.ssb_base.specs.Base.{Tables}
 use Rattle.ssb_script.specs.declared.request.Script.{Script}
 use Rattle.ssb_script.specs.Requests.{requests_of}
-use Rattle.ssb_server.specs.Opening.{AreCounts, IsOpenFault}
-use Rattle.ssb_server.specs.declared.opening.OpenFault.{OpenFault}
-use Rattle.ssb_server.specs.declared.opening.OpenFault.TheVariants as opening
-use Rattle.ssb_sessions.specs.Served.{Serves}
-use Rattle.ssb_sessions.specs.Sessions.{SessionRecord, AreStill}
-use Rattle.ssb_sessions.specs.declared.run_fault.RunFault.{RunFault}
-use Rattle.ssb_sessions.specs.declared.run_fault.RunFault.TheVariants.{Open, OutOfMemory}
+use Rattle.ssb_serving.specs.Members.{AreStill}
+use Rattle.ssb_serving.specs.Served.{Serves}
+use Rattle.ssb_sessions.specs.Sessions.{SessionRecord}
 
 -- the new client of this number was served the script whole, and was reported and told what the session says; what it
 -- sees at the end is a beginning of the log, and the commits that it made are those of its number in the log
@@ -62,16 +58,3 @@ pub record Leaves (table : TableRecord) (sessions : List SessionRecord) (ended :
   pub begin : All (λ (session : SessionRecord). IsPrefix session.client.seen trace.commits) sessions
   pub ended_begin : All (λ (token : TokenRecord). IsPrefix token.seen trace.commits) ended
   pub own : All (λ (session : SessionRecord). Owns session.client.who session.client.mine trace.commits) sessions
-
--- how a fault of the opening is told: want of memory is one fault, wherever it is met
-abbrev pub fault_of : OpenFault → RunFault
-fault_of opening.OutOfMemory = OutOfMemory
-fault_of opening.ClientCount = Open opening.ClientCount
-fault_of opening.DispatcherCount = Open opening.DispatcherCount
-fault_of opening.NoReader = Open opening.NoReader
-
--- a count is refused where it is out of its range, that of the clients first; the other faults come where both are
--- right
-abbrev pub IsRunFault : ℕ → ℕ → RunFault → Type 0
-IsRunFault clients dispatchers (Open fault) = (fault ≢ opening.OutOfMemory) × IsOpenFault clients dispatchers fault
-IsRunFault clients dispatchers OutOfMemory = AreCounts clients dispatchers

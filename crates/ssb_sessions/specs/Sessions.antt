@@ -1,12 +1,11 @@
 -- What the threads of a run do.
-use Rattle.std.specs.Prelude.{◌≡◌, ℕ, All, List, [], ◌∷◌, Some, None}
+use Rattle.std.specs.Prelude.{◌≡◌, ℕ, List, [], ◌∷◌, Some, None}
 use Rattle.history.specs.Tokens.{TableRecord, TokenRecord}
 use Rattle.history.specs.World.{number_of}
 use Rattle.ssb_audit.specs.declared.trace.Told.{Told}
 use Rattle.ssb_script.specs.declared.request.Script.{Script}
 use Rattle.ssb_script.specs.Requests.{requests_of}
-use Rattle.ssb_server.specs.Tickets.{IsQuiet, IsOf, AreAllThere}
-use Rattle.ssb_sessions.specs.Served.{Serves}
+use Rattle.ssb_serving.specs.Served.{Serves}
 
 -- a client, and the script that it is to be served
 pub record TaskRecord : Type 0 where
@@ -38,21 +37,3 @@ AreSessionsOf [] [] = Unit {0}
 AreSessionsOf (task ∷ tasks) (session ∷ sessions) = IsSessionOf task session × AreSessionsOf tasks sessions
 AreSessionsOf [] (session ∷ sessions) = ⊥
 AreSessionsOf (task ∷ tasks) [] = ⊥
-
--- the same member of the same table
-pub record IsStill (before after : TokenRecord) : Type 0 where
-  pub table : after.table ≡ before.table
-  pub who : after.who ≡ before.who
-
--- the same members, in order
-abbrev pub AreStill : List TokenRecord → List TokenRecord → Type 0
-AreStill [] [] = Unit {0}
-AreStill (before ∷ befores) (after ∷ afters) = IsStill before after × AreStill befores afters
-AreStill [] (after ∷ afters) = ⊥
-AreStill (before ∷ befores) [] = ⊥
-
--- the server can be closed with these: each client asks nothing, and each client and dispatcher is there once
-pub record IsReady (table : TableRecord) (clients dispatchers : List TokenRecord) : Type 0 where
-  pub quiet : All (IsQuiet table) clients
-  pub left : All (IsOf table) dispatchers
-  pub there : AreAllThere table clients dispatchers

@@ -8,7 +8,7 @@ use Rattle.ssb_script.specs.Requests.{RequestRecord}
 use Rattle.ssb_report.specs.Replies.{Reply}
 use Rattle.ssb_audit.specs.declared.trace.Told.{Told}
 use Rattle.ssb_audit.specs.Legal.{IsLegalTrace}
-use Rattle.ssb_sessions.specs.Served.{AreServed, told_of}
+use Rattle.ssb_serving.specs.Served.{AreServed, told_of}
 
 -- a client of this number had requests served at a server over the base, sees a beginning of the log, and was told this
 pub record IsTold (base : Tables) (log : List CommitRecord) (number : ℕ) (told : List Told) : Type 0 where

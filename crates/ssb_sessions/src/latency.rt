@@ -1,21 +1,9 @@
 //! How long requests took.
 
 use crate::histogram::Histogram;
-use crate::meter::{Meter, RequestKind};
+use ssb_serving::{Meter, RequestKind};
 use std::alloc::{AllocError, Global};
 use std::time::{Clock, Duration, Instant};
-
-/// The time now, where the clock tells it.
-pub(crate) fn moment<C: Clock>(clock: &C) -> Option<Instant> {
-    Instant::now(clock).ok()
-}
-
-/// The time since then.
-pub(crate) fn since<C: Clock>(clock: &C, began: Option<Instant>) -> Option<Duration> {
-    let began = began?;
-    let now = moment(clock)?;
-    Some(now.duration_since(began))
-}
 
 /// How long the requests of one kind took, from the call to the reply and its report. The middle and the 99th
 /// percentile are at most 1/32 too great; all three are zero where there are none. Figures for a reader: no contract

@@ -2,13 +2,12 @@
 ghost use Rattle.std.specs.Prelude.{◌≡◌, IfOk, IfErr, OnOk, map, flat_map, vec_len};
 ghost use Rattle.history.specs.Tokens.{new_clients, new_dispatchers};
 ghost use Rattle.ssb_audit.specs.Legal.{IsLegalTrace};
-ghost use Rattle.ssb_sessions.specs.Run.{IsRun, IsRunFault, Leaves};
-ghost use Rattle.ssb_sessions.specs.Sessions.{IsReady};
+ghost use Rattle.ssb_serving.specs.RunFaults.{IsRunFault};
+ghost use Rattle.ssb_sessions.specs.Run.{IsRun, Leaves};
+ghost use Rattle.ssb_serving.specs.Members.{IsReady};
 ghost use Rattle.ssb_server.specs.Opening.{AreCounts};
 
-use crate::batches::Batches;
 use crate::latency::{Latencies, Times, joined, latencies_of};
-use crate::run_fault::RunFault;
 use crate::session::Session;
 use crate::task::Task;
 use crate::threads::{Ended, run_threads};
@@ -17,6 +16,7 @@ use ssb_base::Base;
 use ssb_schema::Items;
 use ssb_script::Script;
 use ssb_server::{Client, Closed, Dispatcher, Opened, Server, open};
+use ssb_serving::{Batches, RunFault};
 use std::alloc::{AllocError, Global};
 use std::hash::RandomState;
 use std::sync::{Arc, Wait};

@@ -3,10 +3,10 @@ ghost use Rattle.std.specs.Prelude.{◌≡◌, IfOk};
 ghost use Rattle.ssb_sessions.specs.Sessions.{IsSessionOf, IsTaskAt};
 
 use crate::latency::{Timer, Times};
-use crate::requests::serve_requests;
 use crate::task::Task;
 use ssb_audit::Told;
 use ssb_server::{Client, Server};
+use ssb_serving::serve_requests;
 use std::alloc::{AllocError, Global};
 use std::marker::Model;
 use std::sync::Wait;

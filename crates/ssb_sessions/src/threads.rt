@@ -1,14 +1,14 @@
 //! The threads of a run: dispatchers and clients beside one another, from the first start to the last end.
 ghost use Rattle.std.specs.Prelude.{◌≡◌, ◌≤◌, [], All, IfOk, OnOk, map, length, vec_len, vec_capacity};
-ghost use Rattle.ssb_sessions.specs.Sessions.{AreSessionsOf, IsTaskAt, AreStill};
+ghost use Rattle.ssb_serving.specs.Members.{AreStill};
+ghost use Rattle.ssb_sessions.specs.Sessions.{AreSessionsOf, IsTaskAt};
 ghost use Rattle.ssb_server.specs.Tickets.{IsOf};
 
-use crate::batches::Batches;
 use crate::clients::{Serving, join_clients, start_clients};
 use crate::session::Session;
-use crate::staff::Staff;
 use crate::task::Task;
 use ssb_server::{Dispatcher, Server};
+use ssb_serving::{Batches, Staff};
 use std::alloc::{AllocError, Global};
 use std::sync::Wait;
 use std::sync::atomic::AtomicBool;

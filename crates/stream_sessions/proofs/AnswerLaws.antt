@@ -28,9 +28,9 @@ use Rattle.ssb_script.specs.Requests.{RequestRecord}
 use Rattle.ssb_script.specs.Scripts.{SpellsScript, IsScriptFault, most_records}
 use Rattle.ssb_script.specs.declared.error.ScriptError.{ScriptError}
 use Rattle.ssb_report.specs.Replies.{Reply}
-use Rattle.ssb_sessions.specs.Served.{AreServed, Serves, Ends}
-use Rattle.ssb_sessions.specs.declared.serve_error.ServeError.{ServeError}
-use Rattle.ssb_sessions.specs.declared.serve_error.ServeError.TheVariants as stop
+use Rattle.ssb_serving.specs.Served.{AreServed, Serves, Ends}
+use Rattle.ssb_serving.specs.declared.serve_error.ServeError.{ServeError}
+use Rattle.ssb_serving.specs.declared.serve_error.ServeError.TheVariants as stop
 use Rattle.stream_sessions.specs.Answers.{HasFault, is_of_text, BreaksOff}
 use Rattle.stream_sessions.specs.FaultLine.{fault_line}
 use Rattle.stream_sessions.specs.Steps.{AddsAnswer, AddsNothing}

@@ -33,10 +33,10 @@ use Rattle.history_core.specs.declared.event.Who.TheVariants.{Client}
 use Rattle.row_store.specs.History.{CommitRecord, IsPrefix}
 use Rattle.row_store.specs.Legal.{IsLegal}
 use Rattle.ssb_server.specs.Tickets.{IsQuiet}
-use Rattle.ssb_sessions.proofs.PlaceLaws.{some_is, get_mapped, map_at, row_at, all_at, zip_at}
-use Rattle.ssb_sessions.proofs.SessionLaws.{number_in, new_clients_quiet, ready_where}
-use Rattle.ssb_sessions.specs.Sessions.{AreStill, IsReady}
-use Rattle.ssb_sessions.specs.Steps.{AreAlike}
+use Rattle.ssb_serving.proofs.PlaceLaws.{some_is, get_mapped, map_at, row_at, all_at, zip_at}
+use Rattle.ssb_serving.proofs.MemberLaws.{number_in, new_clients_quiet, ready_where}
+use Rattle.ssb_serving.specs.Members.{AreStill, IsReady}
+use Rattle.ssb_serving.specs.Steps.{AreAlike}
 use Rattle.stream_sessions.specs.Streams.{AreSpoken, IsSpoken, IsSpokenTo, IsStreamRun, IsClosedWith}
 
 -- one of each more

@@ -26,7 +26,7 @@ use Rattle.ssb_script.specs.Scripts.{SpellsScript, most_records}
 use Rattle.ssb_script.specs.declared.error.ScriptError.{ScriptError}
 use Rattle.ssb_script.proofs.FaultLaws.{spelled_has_no_fault}
 use Rattle.ssb_script.proofs.OneReadingLaws.{asks_nothing, one_reading}
-use Rattle.ssb_sessions.specs.Served.{AreServed}
+use Rattle.ssb_serving.specs.Served.{AreServed}
 use Rattle.stream_sessions.specs.Answers.{AreAnswered, HasFault, IsAnswered}
 use Rattle.stream_sessions.specs.Session.{all_of}
 use Rattle.stream_sessions.specs.WholeScripts.{HasRepliesOfScript}

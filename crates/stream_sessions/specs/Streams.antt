@@ -8,8 +8,8 @@ use Rattle.history_core.specs.declared.event.Who.TheVariants.{Client}
 use Rattle.row_store.specs.History.{CommitRecord, IsPrefix}
 use Rattle.row_store.specs.Legal.{IsLegal}
 use Rattle.ssb_base.specs.Base.{Tables}
-use Rattle.ssb_sessions.specs.Sessions.{AreStill}
-use Rattle.ssb_sessions.specs.Steps.{AreAlike}
+use Rattle.ssb_serving.specs.Members.{AreStill}
+use Rattle.ssb_serving.specs.Steps.{AreAlike}
 
 -- a speaker kept what it promises of a client before and after, and of what it left; it is the same client, which asks
 -- nothing then

@@ -8,7 +8,7 @@ use Rattle.ssb_report.specs.Replies.{Reply}
 use Rattle.ssb_report.specs.Report.{report_of}
 use Rattle.ssb_script.specs.Requests.{RequestRecord}
 use Rattle.ssb_script.specs.Scripts.{SpellsScript, most_records}
-use Rattle.ssb_sessions.specs.Served.{AreServed}
+use Rattle.ssb_serving.specs.Served.{AreServed}
 use Rattle.stream_sessions.specs.Answers.{AreAnswered}
 use Rattle.stream_sessions.specs.Session.{all_of}
 

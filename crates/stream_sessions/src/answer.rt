@@ -4,7 +4,7 @@ ghost use Rattle.std.specs.Prelude.{◌≡◌, false, List, ℕ, MatchResult};
 ghost use Rattle.std.specs.Option.{is_some};
 ghost use Rattle.history.specs.Tokens.{IsSound, TokenRecord};
 ghost use Rattle.history.specs.World.{number_of};
-ghost use Rattle.ssb_sessions.specs.Steps.{AreAlike};
+ghost use Rattle.ssb_serving.specs.Steps.{AreAlike};
 ghost use Rattle.stream_sessions.specs.Steps.{AddsAnswer, AddsNothing};
 ghost use Rattle.stream_sessions.specs.Answers.{is_of_text};
 ghost use Rattle.ssb_script.specs.Requests.{requests_of};
@@ -13,7 +13,7 @@ ghost use Rattle.ssb_script.specs.Scripts.{IsScriptFault, SpellsScript, most_rec
 use crate::fault_line::write_fault_line;
 use ssb_script::{MOST_RECORDS, Script, ScriptError, read_script};
 use ssb_server::{Client, Server};
-use ssb_sessions::{NoMeter, serve_requests};
+use ssb_serving::{NoMeter, serve_requests};
 use std::alloc::{AllocError, Global};
 use std::sync::Wait;
 

@@ -3,7 +3,7 @@
 ghost use Rattle.std.specs.Prelude.{◌≡◌, false};
 ghost use Rattle.std.specs.Option.{is_some};
 ghost use Rattle.history.specs.Tokens.{TokenRecord};
-ghost use Rattle.ssb_sessions.specs.Steps.{AreAlike};
+ghost use Rattle.ssb_serving.specs.Steps.{AreAlike};
 
 use crate::acknowledges::Acknowledges;
 use ssb_server::{Client, Server};

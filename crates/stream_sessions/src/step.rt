@@ -7,7 +7,7 @@ ghost use Rattle.history.specs.Tokens.{IsSound};
 ghost use Rattle.history.specs.World.{number_of};
 ghost use Rattle.session_requests.specs.Requests.{BeginsWithRequest};
 ghost use Rattle.ssb_report.specs.Written.{AppendsPart};
-ghost use Rattle.ssb_sessions.specs.Steps.{AreAlike};
+ghost use Rattle.ssb_serving.specs.Steps.{AreAlike};
 ghost use Rattle.stream_sessions.specs.FaultLine.{too_long_line};
 ghost use Rattle.stream_sessions.specs.Steps.{Fails, HandsOn, Steps};
 ghost use Rattle.stream_sessions.specs.declared.outcome.SessionFault.TheVariants.{OutOfMemory, Write as FailedWrite};

@@ -4,8 +4,8 @@ ghost use Rattle.std.specs.Prelude.{◌≡◌, All, IfOk, IfErr, OnOk, map, vec_
 ghost use Rattle.history.specs.Tokens.{new_clients, new_dispatchers};
 ghost use Rattle.ssb_server.specs.Opening.{AreCounts};
 ghost use Rattle.ssb_server.specs.Tickets.{IsOf, IsQuiet};
-ghost use Rattle.ssb_sessions.specs.Run.{IsRunFault};
-ghost use Rattle.ssb_sessions.specs.Sessions.{AreStill, IsReady};
+ghost use Rattle.ssb_serving.specs.RunFaults.{IsRunFault};
+ghost use Rattle.ssb_serving.specs.Members.{AreStill, IsReady};
 ghost use Rattle.stream_sessions.specs.Streams.{AreSpoken, IsClosedWith, IsStreamRun};
 
 use crate::acknowledges::{Acknowledges, AtOnce};
@@ -15,7 +15,7 @@ use crate::threads::{Ended, run_threads};
 use row_store::Commit;
 use ssb_base::Base;
 use ssb_server::{Client, Closed, Dispatcher, Opened, Server, open};
-use ssb_sessions::{Batches, RunFault};
+use ssb_serving::{Batches, RunFault};
 use std::alloc::{AllocError, Global};
 use std::hash::RandomState;
 use std::sync::{Arc, Wait};

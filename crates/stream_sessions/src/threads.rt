@@ -3,11 +3,11 @@
 ghost use Rattle.std.specs.Prelude.{◌≡◌, ◌≤◌, [], All, IfOk, vec_len, vec_capacity};
 ghost use Rattle.std.specs.List.{AllZip};
 ghost use Rattle.ssb_server.specs.Tickets.{IsOf, IsQuiet};
-ghost use Rattle.ssb_sessions.specs.Sessions.{AreStill};
+ghost use Rattle.ssb_serving.specs.Members.{AreStill};
 
 use crate::clients::{Leaves, Speaking, TakesSeat, join_clients, start_clients};
 use ssb_server::{Dispatcher, Server};
-use ssb_sessions::{Batches, Staff};
+use ssb_serving::{Batches, Staff};
 use std::alloc::{AllocError, Global};
 use std::sync::Wait;
 use std::sync::atomic::AtomicBool;

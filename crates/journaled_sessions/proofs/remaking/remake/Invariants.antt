@@ -1,5 +1,5 @@
 use Rattle.std.proofs.Common.{◌≡◌, take}
-use Rattle.ssb_sessions.specs.Sessions.{IsStill}
+use Rattle.ssb_serving.specs.Members.{IsStill}
 use Rattle.journaled_sessions.specs.Seated.{AreSeated}
 use Rattle.journaled_sessions.proofs.remaking.remake.Given as goal
 

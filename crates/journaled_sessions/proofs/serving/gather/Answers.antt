@@ -1,5 +1,5 @@
 use Rattle.std.proofs.Common.{rules}
-use Rattle.ssb_sessions.proofs.ListLaws.{push_made}
+use Rattle.ssb_serving.proofs.ListLaws.{push_made}
 use Rattle.journaled_sessions.proofs.serving.gather.Goals as goal
 
 pub loop-one-preserved : goal.loop-one-preserved

@@ -1,5 +1,5 @@
 use Rattle.std.proofs.Common.{rules}
-use Rattle.ssb_sessions.proofs.ListLaws.{push_made, push_read, push_flat}
+use Rattle.ssb_serving.proofs.ListLaws.{push_made, push_read, push_flat}
 use Rattle.ssb_sessions.proofs.run.gather.Goals as goal
 
 pub loop-session-preserved : goal.loop-session-preserved

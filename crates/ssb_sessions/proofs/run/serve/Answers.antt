@@ -2,9 +2,10 @@ use Rattle.std.proofs.Common.{◌≡◌, length, map, ap, sym, subst, ◌∙◌,
 use Rattle.std.specs.Prelude.{All}
 use Rattle.std.proofs.lemmas.List.FromFn.{length-map-range_with_len}
 use Rattle.ssb_server.specs.Tickets.{IsOf}
-use Rattle.ssb_sessions.specs.Sessions.{AreStill}
+use Rattle.ssb_serving.specs.Members.{AreStill}
 use Rattle.ssb_sessions.proofs.RunLaws.{run_where}
-use Rattle.ssb_sessions.proofs.SessionLaws.{new_tasks, new_dispatchers_of, ready}
+use Rattle.ssb_serving.proofs.MemberLaws.{new_dispatchers_of}
+use Rattle.ssb_sessions.proofs.SessionLaws.{new_tasks, ready}
 use Rattle.ssb_sessions.proofs.run.serve.Goals as goal
 
 pub tasks_of-requires : goal.tasks_of-requires

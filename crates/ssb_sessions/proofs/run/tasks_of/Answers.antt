@@ -1,5 +1,5 @@
 use Rattle.std.proofs.Common.{rules, ◌≡◌, length, map, ap, sym, ◌∙◌}
-use Rattle.ssb_sessions.proofs.ListLaws.{none_before, none_left}
+use Rattle.ssb_serving.proofs.ListLaws.{none_before, none_left}
 use Rattle.ssb_sessions.proofs.run.tasks_of.Goals as goal
 
 pub loop-client-init : goal.loop-client-init

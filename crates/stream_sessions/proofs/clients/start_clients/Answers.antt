@@ -4,7 +4,7 @@ use Rattle.std.proofs.lemmas.List.{map-id}
 use Rattle.std.proofs.lemmas.List.Elements.{All-tail}
 use Rattle.std.proofs.lemmas.Iterator.Adapters.{YieldsList-from_vec}
 use Rattle.std.proofs.lemmas.Iterator.Consumers.{YieldsList-end}
-use Rattle.ssb_sessions.proofs.ListLaws.{map_push, to_the_end}
+use Rattle.ssb_serving.proofs.ListLaws.{map_push, to_the_end}
 use Rattle.ssb_server.specs.Tickets.{IsQuiet}
 use Rattle.stream_sessions.proofs.clients.start_clients.Goals as goal
 

@@ -2,8 +2,8 @@ use Rattle.std.proofs.Common.{◌≡◌, length, ap, sym, subst, ◌∙◌, arit
 use Rattle.std.specs.Prelude.{All}
 use Rattle.std.proofs.lemmas.List.FromFn.{length-map-range_with_len}
 use Rattle.ssb_server.specs.Tickets.{IsOf}
-use Rattle.ssb_sessions.proofs.SessionLaws.{new_dispatchers_of}
-use Rattle.ssb_sessions.specs.Sessions.{AreStill}
+use Rattle.ssb_serving.proofs.MemberLaws.{new_dispatchers_of}
+use Rattle.ssb_serving.specs.Members.{AreStill}
 use Rattle.stream_sessions.proofs.StreamLaws.{seats_quiet, seats_ready, stream_where}
 use Rattle.stream_sessions.proofs.streams.serve.Goals as goal
 

@@ -1,0 +1,4 @@
+pub mod RequestLaws
+pub mod ListLaws
+pub mod PlaceLaws
+pub mod MemberLaws

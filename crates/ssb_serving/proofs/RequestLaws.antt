@@ -1,0 +1,257 @@
+-- Serving one request after another.
+use Rattle.std.proofs.Common.{
+  ◌≡◌,
+  ℕ,
+  ◌+◌,
+  ◌<◌,
+  suc,
+  false,
+  List,
+  [],
+  ◌∷◌,
+  ◌++◌,
+  length,
+  take,
+  flat_map,
+  Option,
+  Some,
+  None,
+  Result,
+  Ok,
+  Err,
+  refl,
+  sym,
+  ◌∙◌,
+  ap,
+  subst,
+  append_assoc,
+  append-nil,
+  length-append,
+  arith,
+}
+use Rattle.std.proofs.Math.Seq.{take-append-add, take-append_seam}
+use Rattle.std.proofs.lemmas.List.Concat.{flat_map-append}
+use Rattle.std.specs.Option.{is_some}
+use Rattle.std.specs.Io.KnownBytes.{Appends, Keeps}
+use Rattle.ssb_schema.specs.declared.refresh.Action.{Action}
+use Rattle.row_store.specs.declared.commit.Receipt.{Receipt}
+use Rattle.row_store.specs.declared.refusal.RefreshError.{RefreshError}
+use Rattle.row_store.specs.declared.refusal.RefreshError.TheVariants as refusal
+use Rattle.history.specs.Tokens.{TokenRecord, IsSound}
+use Rattle.history.specs.World.{number_of}
+use Rattle.ssb_script.specs.Requests.{RequestRecord}
+use Rattle.ssb_report.specs.Replies.{Reply, reply_text}
+use Rattle.ssb_report.specs.Report.{report_of}
+use Rattle.ssb_report.proofs.WrittenLaws.{appends_none, appends_both}
+use Rattle.ssb_server.specs.Clients as client
+use Rattle.ssb_questions.specs.declared.query.Query.{Query as Named}
+use Rattle.ssb_questions.specs.declared.value.Value.{Value}
+use Rattle.ssb_answers.specs.declared.answer.Answer.{Answer}
+use Rattle.ssb_serving.specs.Served.{IsAnswered, IsServed, AreServed, Serves, StopsAfter, Ends, told_of}
+use Rattle.ssb_serving.specs.Steps.{ServesOne, ServesInPart, StopsIn, AreAlike, error_after}
+use Rattle.ssb_serving.specs.declared.serve_error.ServeStop.{ServeStop}
+use Rattle.ssb_serving.specs.declared.serve_error.ServeStop.TheVariants.{Write, OutOfMemory}
+use Rattle.ssb_audit.specs.declared.trace.Told.{Told}
+
+-- nothing is asked where no question is outstanding
+pub asks_nothing : {X : Type 0} (asked : Option X) → is_some asked ≡ false → asked ≡ None
+asks_nothing None none = refl
+asks_nothing (Some x) none = absurd cc
+
+-- a refresh leaves the client what it is
+pub refreshed_alike : (before : TokenRecord) (number : ℕ) (actions : List Action) (reply : Result Receipt RefreshError)
+    (after : TokenRecord)
+    → client.Refreshed before number actions reply after → is_some before.asked ≡ false → AreAlike before after
+refreshed_alike before number actions (Ok receipt) after refreshed quiet = record {
+  table = ap (λ (t : TokenRecord). t.table) refreshed.now;
+  who = ap (λ (t : TokenRecord). t.who) refreshed.now;
+  quiet = ap (λ (t : TokenRecord). t.asked) refreshed.now ∙ asks_nothing before.asked quiet;
+}
+refreshed_alike before number actions (Err (refusal.Refused at action cause)) after refreshed quiet = record {
+  table = ap (λ (t : TokenRecord). t.table) refreshed.2.now;
+  who = ap (λ (t : TokenRecord). t.who) refreshed.2.now;
+  quiet = ap (λ (t : TokenRecord). t.asked) refreshed.2.now ∙ asks_nothing before.asked quiet;
+}
+refreshed_alike before number actions (Err refusal.OutOfMemory) after refreshed quiet = record {
+  table = ap (λ (t : TokenRecord). t.table) refreshed.1.now;
+  who = ap (λ (t : TokenRecord). t.who) refreshed.1.now;
+  quiet = ap (λ (t : TokenRecord). t.asked) refreshed.1.now ∙ asks_nothing before.asked quiet;
+}
+
+-- what is as it was
+keeps_same : (a : Option (List ℕ)) → Keeps a a
+keeps_same None = tt
+keeps_same (Some xs) = refl
+
+pub stops_before : (number : ℕ) (old : TokenRecord) (request : RequestRecord) (told : List Told) (a : Option (List ℕ))
+    → StopsIn OutOfMemory number old old request told told a a
+stops_before number old request told a = (refl, refl, keeps_same a)
+
+pub alike_itself : (old : TokenRecord) → is_some old.asked ≡ false → AreAlike old old
+alike_itself old quiet = record { table = refl; who = refl; quiet = asks_nothing old.asked quiet }
+
+-- one client after another call
+pub alike_both : (a b c : TokenRecord) → AreAlike a b → AreAlike b c → AreAlike a c
+alike_both a b c first second = record {
+  table = second.table ∙ first.table;
+  who = second.who ∙ first.who;
+  quiet = second.quiet;
+}
+
+pub asked_nothing : {X : Type 0} (asked : Option X) → asked ≡ None → is_some asked ≡ false
+asked_nothing asked none = ap is_some none
+
+-- a question, and its answer
+pub answered : (before asking after : TokenRecord) (question : Named × List Value) (answer : Answer)
+    → client.Asks before question asking → IsSound asking → client.Polls asking answer after → IsSound after
+    → IsAnswered before question answer after
+answered before asking after question answer asked between polled sound = record {
+  asking = asking;
+  asked = asked;
+  asking_sound = between;
+  polled = polled;
+  sound = sound;
+}
+
+pub answered_alike : (before asking after : TokenRecord) (question : Named × List Value) (answer : Answer)
+    → client.Asks before question asking → client.Polls asking answer after → AreAlike before after
+answered_alike before asking after question answer asked polled = record {
+  table = ap (λ (t : TokenRecord). t.table) polled.now ∙ ap (λ (t : TokenRecord). t.table) asked.now;
+  who = ap (λ (t : TokenRecord). t.who) polled.now ∙ ap (λ (t : TokenRecord). t.who) asked.now;
+  quiet = ap (λ (t : TokenRecord). t.asked) polled.now;
+}
+
+-- as many replies as requests
+same_count : (number : ℕ) (old new : TokenRecord) (requests : List RequestRecord) (replies : List Reply)
+    → AreServed number old requests replies new → length replies ≡ length requests
+same_count number old new [] [] are = refl
+same_count number old new [] (reply ∷ replies) are = absurd are
+same_count number old new (request ∷ requests) [] are = absurd are
+same_count number old new (request ∷ requests) (reply ∷ replies) are =
+    ap suc (same_count number are.0 new requests replies are.2)
+
+-- one request more
+served_more : (number : ℕ) (old mid new : TokenRecord) (requests : List RequestRecord) (replies : List Reply) (request : RequestRecord)
+    (reply : Reply)
+    → AreServed number old requests replies mid → IsServed number mid request reply new
+    → AreServed number old (requests ++ request ∷ []) (replies ++ reply ∷ []) new
+served_more number old mid new [] [] request reply are next =
+    (new, subst (λ t. IsServed number t request reply new) are next, refl)
+served_more number old mid new [] (other ∷ replies) request reply are next = absurd are
+served_more number old mid new (other ∷ requests) [] request reply are next = absurd are
+served_more number old mid new (first ∷ requests) (answer ∷ replies) request reply are next =
+    (are.0, are.1, served_more number are.0 mid new requests replies request reply are.2 next)
+
+-- what is kept of one reply more
+kept_more : (number : ℕ) (replies : List Reply) (reply : Reply) (told_old told_mid told_new : List Told)
+    → told_mid ≡ told_old ++ flat_map (told_of number) replies → told_new ≡ told_mid ++ told_of number reply
+    → told_new ≡ told_old ++ flat_map (told_of number) (replies ++ reply ∷ [])
+kept_more number replies reply told_old told_mid told_new so_far more =
+    more ∙ ap (λ t. t ++ told_of number reply) so_far ∙ append_assoc told_old (flat_map (told_of number) replies)
+    (told_of number reply)
+    ∙ ap (λ t. told_old ++ t) (sym (flat_map-append (told_of number) replies (reply ∷ [])
+    ∙ ap (λ t. flat_map (told_of number) replies ++ t) (append-nil (told_of number reply))))
+
+-- no request
+pub serves_none : (number : ℕ) (old : TokenRecord) (told : List Told) (before : Option (List ℕ))
+    → Serves number old old [] told told before before
+serves_none number old told before = record {
+  replies = [];
+  served = refl;
+  kept = sym (append-nil told);
+  written = appends_none before;
+}
+
+-- one request more
+pub serves_more : (number : ℕ) (old mid new : TokenRecord) (requests : List RequestRecord) (request : RequestRecord)
+    (told_old told_mid told_new : List Told) (a b c : Option (List ℕ))
+    → Serves number old mid requests told_old told_mid a b → ServesOne number mid new request told_mid told_new b c
+    → Serves number old new (requests ++ request ∷ []) told_old told_new a c
+serves_more number old mid new requests request told_old told_mid told_new a b c served next =
+    let replies = served.replies in
+    record {
+      replies = replies ++ next.reply ∷ [];
+      served = served_more number old mid new requests replies request next.reply served.served next.served;
+      kept = kept_more number replies next.reply told_old told_mid told_new served.kept next.kept;
+      written = subst (Appends a c) (sym (flat_map-append reply_text replies (next.reply ∷ [])
+          ∙ ap (λ t. report_of replies ++ t) (append-nil (reply_text next.reply))))
+          (appends_both a b c (report_of replies) (reply_text next.reply) served.written next.written);
+    }
+
+-- the same by the number of the client, who is still the same
+pub serves_more_still : (old mid new : TokenRecord) (requests : List RequestRecord) (request : RequestRecord)
+    (told_old told_mid told_new : List Told) (a b c : Option (List ℕ))
+    → Serves (number_of old.who) old mid requests told_old told_mid a b → mid.who ≡ old.who
+    → ServesOne (number_of mid.who) mid new request told_mid told_new b c
+    → Serves (number_of old.who) old new (requests ++ request ∷ []) told_old told_new a c
+serves_more_still old mid new requests request told_old told_mid told_new a b c served same next =
+    serves_more (number_of old.who) old mid new requests request told_old told_mid told_new a b c served
+    (subst (λ who. ServesOne (number_of who) mid new request told_mid told_new b c) same next)
+
+-- the first requests and one that follows
+take_next : (front rest : List RequestRecord) (request : RequestRecord) → take (length front + 1) (front ++ request ∷ rest) ≡ front
+    ++ request ∷ []
+take_next front rest request = take-append-add front (request ∷ rest) 1
+
+stops_there : (number : ℕ) (old mid new : TokenRecord) (front rest : List RequestRecord) (request : RequestRecord)
+    (told_old told_mid told_new : List Told) (a b c : Option (List ℕ))
+    → Serves number old mid front told_old told_mid a b → ServesInPart number mid new request told_mid told_new b c
+    → StopsAfter (length front) number old new (front ++ request ∷ rest) told_old told_new a c
+stops_there number old mid new front rest request told_old told_mid told_new a b c served next =
+    let replies = served.replies in
+    let first = take_next front rest request in
+    record {
+      replies = replies;
+      last = next.reply;
+      count = same_count number old mid front replies served.served;
+      served = rw first (served_more number old mid new front replies request next.reply served.served next.served);
+      kept = kept_more number replies next.reply told_old told_mid told_new served.kept next.kept;
+      part = next.written.part;
+      rest = next.written.rest;
+      begins = next.written.begins;
+      left = next.written.left;
+      written = appends_both a b c (report_of replies) next.written.part served.written next.written.appends;
+    }
+
+-- serving stops before a request
+stops_short : (number : ℕ) (old mid new : TokenRecord) (front rest : List RequestRecord) (request : RequestRecord)
+    (told_old told_mid told_new : List Told) (a b c : Option (List ℕ))
+    → Serves number old mid front told_old told_mid a b
+    → StopsIn OutOfMemory number mid new request told_mid told_new b c
+    → (length front < length (front ++ request ∷ rest))
+    × Serves number old new (take (length front) (front ++ request ∷ rest)) told_old told_new a c
+stops_short number old mid new front rest request told_old told_mid told_new a b c served stopped = (
+  omega (arith, length-append front (request ∷ rest)),
+  rw (take-append_seam front (request ∷ rest)) (record {
+    replies = served.replies;
+    served = subst (AreServed number old front served.replies) (sym stopped.0) served.served;
+    kept = stopped.1 ∙ served.kept;
+    written = kept_written a b c (report_of served.replies) served.written stopped.2;
+  }),
+)
+  where
+    kept_written : (a b c : Option (List ℕ)) (x : List ℕ) → Appends a b x → Keeps b c → Appends a c x
+    kept_written None b c x first same = tt
+    kept_written (Some xs) None c x first same = absurd first
+    kept_written (Some xs) (Some ys) None x first same = absurd same
+    kept_written (Some xs) (Some ys) (Some zs) x first same = same ∙ first
+
+-- how a run ends at a request
+pub ends_there : (stop : ServeStop) (number : ℕ) (old mid new : TokenRecord) (front rest : List RequestRecord) (request : RequestRecord)
+    (told_old told_mid told_new : List Told) (a b c : Option (List ℕ))
+    → Serves number old mid front told_old told_mid a b → StopsIn stop number mid new request told_mid told_new b c
+    → Ends (error_after stop (length front)) number old new (front ++ request ∷ rest) told_old told_new a c
+ends_there Write number old mid new front rest request told_old told_mid told_new a b c served stopped =
+    stops_there number old mid new front rest request told_old told_mid told_new a b c served stopped
+ends_there OutOfMemory number old mid new front rest request told_old told_mid told_new a b c served stopped =
+    stops_short number old mid new front rest request told_old told_mid told_new a b c served stopped
+
+-- the same by the number of the client, who is still the same
+pub ends_there_still : (stop : ServeStop) (old mid new : TokenRecord) (front rest : List RequestRecord) (request : RequestRecord)
+    (told_old told_mid told_new : List Told) (a b c : Option (List ℕ))
+    → Serves (number_of old.who) old mid front told_old told_mid a b → mid.who ≡ old.who
+    → StopsIn stop (number_of mid.who) mid new request told_mid told_new b c
+    → Ends (error_after stop (length front)) (number_of old.who) old new (front ++ request ∷ rest) told_old told_new a c
+ends_there_still stop old mid new front rest request told_old told_mid told_new a b c served same stopped =
+    ends_there stop (number_of old.who) old mid new front rest request told_old told_mid told_new a b c served
+    (subst (λ who. StopsIn stop (number_of who) mid new request told_mid told_new b c) same stopped)

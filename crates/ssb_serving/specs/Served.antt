@@ -1,0 +1,82 @@
+-- A client's requests, served one after another by a server.
+use Rattle.std.specs.Prelude.{◌≡◌, ℕ, ◌+◌, ◌<◌, List, [], ◌∷◌, ◌++◌, length, take, flat_map, Option}
+use Rattle.std.specs.Io.KnownBytes.{Appends}
+use Rattle.ssb_questions.specs.declared.query.Query.{Query as Named}
+use Rattle.ssb_questions.specs.declared.value.Value.{Value}
+use Rattle.ssb_answers.specs.declared.answer.Answer.{Answer}
+use Rattle.ssb_answers.specs.declared.answer.Answer.TheVariants.{Rows}
+use Rattle.history.specs.Tokens.{TokenRecord, IsSound}
+use Rattle.ssb_script.specs.Requests.{RequestRecord, Refresh, Ask}
+use Rattle.ssb_report.specs.Replies.{Reply, Refreshed, Answered, reply_text}
+use Rattle.ssb_report.specs.Report.{report_of}
+use Rattle.ssb_server.specs.Clients as client
+use Rattle.ssb_server.specs.Clients.{Asks, Polls}
+use Rattle.ssb_audit.specs.declared.trace.Told.{Told}
+use Rattle.ssb_serving.specs.declared.serve_error.ServeError.{ServeError}
+use Rattle.ssb_serving.specs.declared.serve_error.ServeError.TheVariants.{Write, OutOfMemory}
+
+-- the client asked a question, and got this answer
+pub record IsAnswered (before : TokenRecord) (question : Named × List Value) (answer : Answer) (after : TokenRecord) : Type 0 where
+  pub asking : TokenRecord
+  pub asked : Asks before question asking
+  pub asking_sound : IsSound asking
+  pub polled : Polls asking answer after
+  pub sound : IsSound after
+
+-- the reply to a client's request, and what the client sees, made and asks then: as the server's calls say
+abbrev pub IsServed : ℕ → TokenRecord → RequestRecord → Reply → TokenRecord → Type 0
+IsServed number before (Refresh actions) (Refreshed reply) after =
+    client.Refreshed before number actions reply after × IsSound after
+IsServed number before (Ask question) (Answered answer) after = IsAnswered before question answer after
+IsServed number before (Refresh actions) (Answered answer) after = ⊥
+IsServed number before (Ask question) (Refreshed reply) after = ⊥
+
+-- the replies to a client's requests, each of which finds the client as the one before it left it
+abbrev pub AreServed : ℕ → TokenRecord → List RequestRecord → List Reply → TokenRecord → Type 0
+AreServed number before [] [] after = after ≡ before
+AreServed number before (request ∷ requests) (reply ∷ replies) after =
+    (between : TokenRecord) × IsServed number before request reply between × AreServed number between requests replies after
+AreServed number before [] (reply ∷ replies) after = ⊥
+AreServed number before (request ∷ requests) [] after = ⊥
+
+-- the answer with rows that a reply is
+abbrev pub told_of : ℕ → Reply → List Told
+told_of client (Answered (Rows question at rows)) = record {
+  client = client;
+  at = at;
+  question = question;
+  rows = rows;
+} ∷ []
+told_of client reply = []
+
+-- all requests were served: what was written is the report of the replies, and the answers with rows are kept
+pub record Serves (number : ℕ) (old new : TokenRecord) (requests : List RequestRecord) (told_old told_new : List Told)
+    (before after : Option (List ℕ)) : Type 0 where
+  pub replies : List Reply
+  pub served : AreServed number old requests replies new
+  pub kept : told_new ≡ told_old ++ flat_map (told_of number) replies
+  pub written : Appends before after (report_of replies)
+
+-- the first requests and one more were served: what was written is the report of the first ones and a part of that of
+-- the
+-- last reply, of which something is left
+pub record StopsAfter (done number : ℕ) (old new : TokenRecord) (requests : List RequestRecord) (told_old told_new : List Told)
+    (before after : Option (List ℕ)) : Type 0 where
+  pub replies : List Reply
+  pub last : Reply
+  pub count : length replies ≡ done
+  pub served : AreServed number old (take (done + 1) requests) (replies ++ last ∷ []) new
+  pub kept : told_new ≡ told_old ++ flat_map (told_of number) (replies ++ last ∷ [])
+  pub part : List ℕ
+  pub rest : List ℕ
+  pub begins : reply_text last ≡ part ++ rest
+  pub left : 0 < length rest
+  pub written : Appends before after (report_of replies ++ part)
+
+-- how serving ends early: a report failed, or the next question was not asked for want of memory
+abbrev pub Ends : ServeError → ℕ → TokenRecord → TokenRecord → List RequestRecord → List Told → List Told → Option (List ℕ)
+    → Option (List ℕ) → Type 0
+Ends (Write done) number old new requests told_old told_new before after =
+    StopsAfter done number old new requests told_old told_new before after
+Ends (OutOfMemory done) number old new requests told_old told_new before after =
+    (done < length requests) × Serves number old new (take done requests) told_old told_new before after

@@ -1,0 +1,168 @@
+//! The threads of the dispatchers.
+ghost use Rattle.std.specs.Prelude.{◌≡◌, ◌+◌, ◌≤◌, [], ◌++◌, All, IfOk, OnOk, map, length, vec_len, vec_capacity};
+ghost use Rattle.std.specs.Thread.{IsSync};
+ghost use Rattle.history.specs.Tokens.{TokenRecord};
+ghost use Rattle.ssb_serving.specs.Members.{IsStill, AreStill};
+ghost use Rattle.ssb_server.specs.Tickets.{IsOf};
+
+use crate::batches::Batches;
+use ssb_server::{Dispatcher, OpenGate, Server, Turn};
+use std::alloc::AllocError;
+use std::snapshot::Snapshot;
+use std::sync::Wait;
+use std::sync::atomic::{AtomicBool, Ordering};
+use std::thread::{Promise, PromisedHandle, Scope, Threads};
+
+/// What contracts see as a token.
+pub(crate) trait HasToken {
+    ghost token: { Self → TokenRecord };
+}
+
+impl<W: Wait + Drop> HasToken for Dispatcher<W> {
+    ghost token = { λ d. d };
+}
+
+/// What a dispatcher's thread does with its dispatcher. The thread is started for whatever does so: the prover
+/// compares all that a closure's captures are made of, which for a dispatcher is more than it can.
+pub(crate) trait TakesTurns<W: Wait + Drop>: HasToken {
+    fn take_turn<R: Wait + Threads + Sync>(&mut self, rt: &R, server: &Server<W>) -> Turn
+        requires shared { IsSync R.row }
+        requires table { (Self.token self.old).table ≡ server.now }
+        ensures { IsStill (Self.token self.old) (Self.token self.new) };
+
+    fn pause<R: Wait>(&self, rt: &R, server: &Server<W>);
+}
+
+impl<W: Wait + Drop> TakesTurns<W> for Dispatcher<W> {
+    fn take_turn<R: Wait + Threads + Sync>(&mut self, rt: &R, server: &Server<W>) -> Turn {
+        self.turn(rt, server, &OpenGate)
+    }
+
+    fn pause<R: Wait>(&self, rt: &R, server: &Server<W>) {
+        self.rest(rt, server)
+    }
+}
+
+/// A dispatcher that has ended, and the batches that it answered.
+#[derive(Drop)]
+pub(crate) struct Dispatched<D> {
+    pub(crate) dispatcher: D,
+    pub(crate) batches: Batches,
+}
+
+/// What a dispatcher's thread promises: the same dispatcher.
+#[derive(Drop)]
+pub(crate) struct DispatchedBy<D> {
+    dispatcher: Snapshot<D>,
+}
+
+impl<D: HasToken> Promise<Dispatched<D>> for DispatchedBy<D> {
+    ghost kept_by = { λ p ended. IsStill (D.token p.dispatcher.value) (D.token ended.dispatcher) };
+}
+
+/// A dispatcher's thread.
+pub(crate) type Dispatching<W> = PromisedHandle<
+    Dispatched<Dispatcher<W>>,
+    DispatchedBy<Dispatcher<W>>,
+>;
+
+// Takes turns until it is told to stop, and rests where nothing is asked. Who tells it sets the flag, and then rings.
+fn dispatch<W: Wait + Drop, D: TakesTurns<W> + Drop, R: Wait + Threads + Sync>(
+    rt: &R,
+    server: &Server<W>,
+    stop: &AtomicBool,
+    mut dispatcher: D,
+) -> Dispatched<D>
+    requires { IsOf server.now (D.token dispatcher) }
+    ensures { IsStill (D.token dispatcher) (D.token result.dispatcher) }
+{
+    let mut batches = Batches::default();
+    for _ in rt.forever() {
+        match dispatcher.take_turn(rt, server) {
+            Turn::Idle => {
+                if stop.load(Ordering::SeqCst) {
+                    return Dispatched {
+                        dispatcher,
+                        batches,
+                    };
+                }
+                dispatcher.pause(rt, server);
+            }
+            Turn::Answered { at: _, count } => batches.add(count),
+            Turn::Unserved { count: _, cause: _ } => {}
+        }
+    }
+    unreachable!()
+}
+
+// Starts a dispatcher's thread.
+fn start_dispatcher<'s, E, W, D, R>(
+    scope: &Scope<'s, E>,
+    rt: &'s R,
+    server: &'s Server<W>,
+    stop: &'s AtomicBool,
+    dispatcher: D,
+) -> Result<PromisedHandle<Dispatched<D>, DispatchedBy<D>>, AllocError>
+where
+    W: Wait + Drop + Send,
+    D: TakesTurns<W> + Drop + Send + 's,
+    R: Wait + Threads + Sync,
+    requires { IsOf server.now (D.token dispatcher) }
+    ensures { IfOk result (λ thread. thread.promise.dispatcher.value ≡ dispatcher) }
+{
+    let promise = DispatchedBy {
+        dispatcher: Snapshot::of(&dispatcher),
+    };
+    let thread = scope.spawn_with(
+        promise,
+        move || -> Dispatched<D>
+            requires { IsSync R.row × IsOf server.now (D.token dispatcher) }
+            ensures { IsStill (D.token dispatcher) (D.token result.dispatcher) }
+        { dispatch(rt, server, stop, dispatcher) },
+    )?;
+    Ok(thread)
+}
+
+/// Starts a thread for each dispatcher, in order. Where a thread can't be started, no later one is.
+pub(crate) fn start_dispatchers<'s, E, W: Wait + Drop + Send, R: Wait + Threads + Sync>(
+    scope: &Scope<'s, E>,
+    rt: &'s R,
+    server: &'s Server<W>,
+    stop: &'s AtomicBool,
+    dispatchers: Vec<Dispatcher<W>>,
+    dispatching: &mut Vec<Dispatching<W>>,
+) -> Result<(), AllocError>
+    requires dispatchers { All (IsOf server.now) dispatchers.items }
+    requires room { vec_len dispatching.old + vec_len dispatchers ≤ vec_capacity dispatching.old }
+    ensures room { (vec_len dispatching.new ≤ vec_len dispatching.old + vec_len dispatchers)
+        × (vec_capacity dispatching.new ≡ vec_capacity dispatching.old) }
+    ensures started { OnOk result (map (λ h. h.promise.dispatcher.value) dispatching.new.items ≡ map
+        (λ h. h.promise.dispatcher.value) dispatching.old.items ++ dispatchers.items) }
+{
+    for dispatcher in dispatchers {
+        let thread = start_dispatcher(scope, rt, server, stop, dispatcher)?;
+        dispatching.push_reserved(thread);
+    }
+    Ok(())
+}
+
+/// Waits until all these dispatchers have ended, and adds them, in order.
+pub(crate) fn join_dispatchers<W: Wait + Drop, R: Threads>(
+    rt: &R,
+    dispatching: Vec<Dispatching<W>>,
+    dispatchers: &mut Vec<Dispatcher<W>>,
+    batches: &mut Batches,
+)
+    requires empty { dispatchers.old.items ≡ [] }
+    requires room { vec_len dispatching ≤ vec_capacity dispatchers.old }
+    ensures { AreStill (map (λ h. h.promise.dispatcher.value) dispatching.items) dispatchers.new.items }
+{
+    for thread in dispatching {
+        let Dispatched {
+            dispatcher,
+            batches: answered,
+        } = thread.join(rt);
+        dispatchers.push_reserved(dispatcher);
+        batches.merge(answered);
+    }
+}
