@@ -4,7 +4,7 @@ ghost use Rattle.std.specs.Prelude.{◌≡◌};
 ghost use Rattle.serve_command.specs.Status.{not_served_status};
 
 use ssb_files::{Finding, JobFault};
-use ssb_sessions::RunFault;
+use ssb_serving::RunFault;
 use std::fmt;
 
 /// Why clients were not served.

@@ -4,7 +4,7 @@ ghost use Rattle.std.specs.Prelude.{◌≡◌, false, IsTrue};
 ghost use Rattle.std.specs.Option.{is_some};
 ghost use Rattle.history.specs.World.{number_of};
 ghost use Rattle.serve_command.specs.Sessions.{HasEnded};
-ghost use Rattle.ssb_sessions.specs.Steps.{AreAlike};
+ghost use Rattle.ssb_serving.specs.Steps.{AreAlike};
 
 use crate::ends::{EndFault, EndPaths, Ends, open_ends};
 use ssb_server::{Client, Server};

@@ -1,5 +1,5 @@
 use Rattle.serve_command.proofs.SessionLaws.{ended_of, fresh_reader, not_begun}
-use Rattle.ssb_sessions.proofs.RequestLaws.{alike_itself}
+use Rattle.ssb_serving.proofs.RequestLaws.{alike_itself}
 use Rattle.serve_command.proofs.speakers.serve_over.Goals as goal
 
 pub returns-in-Ok-clause-ended : goal.returns-in-Ok-clause-ended

@@ -1,4 +1,4 @@
-use Rattle.ssb_sessions.proofs.RequestLaws.{alike_itself}
+use Rattle.ssb_serving.proofs.RequestLaws.{alike_itself}
 use Rattle.serve_command.proofs.speakers.PathClient.serve_once.Goals as goal
 
 pub returns-in-Err-clause-same : goal.returns-in-Err-clause-same

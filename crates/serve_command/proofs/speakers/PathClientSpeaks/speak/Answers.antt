@@ -1,6 +1,6 @@
 use Rattle.std.proofs.Common.{◌∙◌, ap}
 use Rattle.std.specs.Option.{is_some}
-use Rattle.ssb_sessions.proofs.RequestLaws.{alike_itself, alike_both}
+use Rattle.ssb_serving.proofs.RequestLaws.{alike_itself, alike_both}
 use Rattle.serve_command.proofs.speakers.PathClientSpeaks.speak.Goals as goal
 
 pub loop-init : goal.loop-init

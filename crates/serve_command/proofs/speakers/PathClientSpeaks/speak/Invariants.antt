@@ -1,4 +1,4 @@
-use Rattle.ssb_sessions.specs.Steps.{AreAlike}
+use Rattle.ssb_serving.specs.Steps.{AreAlike}
 use Rattle.serve_command.proofs.speakers.PathClientSpeaks.speak.Given as goal
 
 -- it is the same client
