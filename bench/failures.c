@@ -7,8 +7,8 @@
 //   short    a read, write or pwrite of several bytes moves one
 //   open     open, openat, flock, mkdir, rename: an input or output error
 //
-// The file FAIL_TOLD gets a byte where a call failed. Where FAIL_AT is 0 no call fails, and the file gets their number at the
-// program's end.
+// The file FAIL_TOLD gets a byte where a call failed: o where it was a write to standard output, else !. Where FAIL_AT is 0
+// no call fails, and the file gets their number at the program's end.
 #define _GNU_SOURCE
 #include <dlfcn.h>
 #include <errno.h>
@@ -57,15 +57,17 @@ static void tell(const char *text) {
     }
 }
 
-// Whether this call, of this kind, is the one that fails.
-static int fails(enum kind of) {
+// Whether this call, of this kind, is the one that fails; then the text is told.
+static int fails_as(enum kind of, const char *text) {
     if (atomic_load(&kind) == UNKNOWN)
         atomic_store(&kind, find_kind());
     if (atomic_load(&kind) != of || atomic_fetch_add(&calls, 1) + 1 != wanted)
         return 0;
-    tell("!");
+    tell(text);
     return 1;
 }
+
+static int fails(enum kind of) { return fails_as(of, "!"); }
 
 __attribute__((destructor)) static void tell_calls(void) {
     static atomic_int is_told;
@@ -120,8 +122,10 @@ ssize_t read(int file, void *into, size_t count) {
 }
 
 ssize_t write(int file, const void *from, size_t count) {
-    if (fails_with(WRITE, ENOSPC))
+    if (fails_as(WRITE, file == STDOUT_FILENO ? "o" : "!")) {
+        errno = ENOSPC;
         return -1;
+    }
     return syscall(SYS_write, file, from, count > 1 && fails(SHORT) ? 1 : count);
 }
 

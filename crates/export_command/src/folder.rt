@@ -33,6 +33,10 @@ pub(crate) struct ExportFolder<'a, F: Files> {
     path: &'a str,
 }
 
+fn lacks_memory(error: &io::Error) -> bool {
+    error.kind() == ErrorKind::OutOfMemory
+}
+
 // Whether a folder has no files: it reads as its names, each ended by a NUL, the two of every folder among them.
 fn is_empty<D: Read>(alloc: Global, folder: &mut D) -> io::Result<bool> {
     let mut names = Vec::new(alloc);
@@ -66,6 +70,7 @@ impl<'a, F: Files> ExportFolder<'a, F> {
         match is_free {
             Ok(true) => Ok(folder),
             Ok(false) => Err(ExportFault::Found(ExportRefusal::Folder(NotEmpty))),
+            Err(error) if lacks_memory(&error) => Err(ExportFault::Program(Fault::OutOfMemory)),
             Err(_) => Err(ExportFault::Program(Fault::CannotRead(String::from_str(alloc, path)?))),
         }
     }
@@ -153,12 +158,19 @@ impl<'a, F: Files> ExportFolder<'a, F> {
         ensures rows { OnOk result ((t : AnyTable) → AreTableRows tables.now t) }
         ensures words { IfErr result (λ fault. export_status fault ≡ 4) }
     {
-        if self.make().is_err() {
-            let path = String::from_str(self.alloc, self.path)?;
-            return Err(ExportFault::Found(ExportRefusal::CannotWrite(path)));
+        match self.make() {
+            Ok(()) => {}
+            Err(error) if lacks_memory(&error) => {
+                return Err(ExportFault::Program(Fault::OutOfMemory));
+            }
+            Err(_) => {
+                let path = String::from_str(self.alloc, self.path)?;
+                return Err(ExportFault::Found(ExportRefusal::CannotWrite(path)));
+            }
         }
         match self.keep_all(tables) {
             Ok(()) => Ok(()),
+            Err(error) if lacks_memory(&error) => Err(ExportFault::Program(Fault::OutOfMemory)),
             Err(_) => Err(ExportFault::Program(Fault::WriteFailed)),
         }
     }
