@@ -1,29 +1,5 @@
 -- A refresh inside the hold of the rows.
-use Rattle.std.proofs.Common.{
-  ◌≡◌,
-  ℕ,
-  inl,
-  inr,
-  List,
-  [],
-  ◌∷◌,
-  ◌++◌,
-  length,
-  length-append,
-  append_assoc,
-  Some,
-  None,
-  true,
-  false,
-  Result,
-  Ok,
-  Err,
-  refl,
-  ap,
-  sym,
-  subst,
-  ◌∙◌,
-}
+use Rattle.std.proofs.Common.{◌≡◌, ℕ, inl, inr, List, [], ◌∷◌, ◌++◌, length, length-append, append_assoc, Some, None, false, Result, Ok, Err, ap, sym, subst, ◌∙◌}
 use Rattle.std.specs.Prelude.{◌+◌, OnOk, OnErr}
 use Rattle.ssb_schema.specs.declared.refresh.Action.{Action}
 use Rattle.row_store.specs.History.{CommitRecord, Warehouse, IsPrefix, with_commit}

@@ -6,7 +6,6 @@ use Rattle.history.specs.declared.request.Outcome.{Outcome}
 use Rattle.history.specs.declared.request.Outcome.TheVariants.{Served, GivenUp}
 use Rattle.history.specs.Tokens.{TokenRecord}
 use Rattle.history.specs.Words.{IsFresh}
-use Rattle.history.specs.World.{number_of}
 use Rattle.twin_cell.specs.Twin.{Reading}
 use Rattle.ssb_server.specs.Deeds as deeds
 use Rattle.ssb_server.specs.Turns.{HasFetched, Gave, IsTrueCause, IsFound}
