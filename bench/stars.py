@@ -4,7 +4,7 @@ The SQL is made from the constants of a question alone, by what docs/FORMATS.md 
 SQLite and PostgreSQL, for ClickHouse's five tables, and for its wide table."""
 
 GREATEST = 2**32 - 1
-MOST_GROUPS, MOST_VALUES, MOST_CONSTANTS = 4, 16, 64
+MOST_GROUPS, MOST_VALUES, MOST_CONSTANTS, MOST_BYTES = 4, 16, 64, 64
 ORDER = "ORDER=SUM"
 
 # Values that hardly any row has.
@@ -97,7 +97,9 @@ class Stars:
             ends = [end[:self.random.randint(0, len(end))].rstrip() for end in ends]
         if self.chance(0.85):
             ends.sort(key=int if is_number else str.encode)
-        return "..".join(ends)
+        # Behind a first end of `.` the marks stand one place earlier, and the last end begins with a point.
+        first, _, last = "..".join(ends).partition("..")
+        return f"{first}..{last[:MOST_BYTES]}"
 
     def value(self, column):
         if not self.chance(0.06):
