@@ -1,22 +1,25 @@
 //! The columns: commits that are taken in again after want of memory, places under turnover, and a commit that no
 //! store accepts.
 
-use dimension_index::DimIndex;
+use crate::tests::{reads, same};
+use dimension_index::index_of;
 use fact_columns::Columns;
 use row_store::{Commit, Replica};
-use std::alloc::{AllocError, Global};
+use std::alloc::Global;
 use std::hash::RandomState;
+use std::process::Abort;
 use std::random::RandomSource;
-use std::sync::Arc;
 use std::test::Fail;
 use std::thread::Threads;
 use test_fixtures::{adding, refresh, standard_base};
 
+// What is told of the columns before any commit.
+const LOADED: &str = "1 970, 1 1980, 2 500, 3 760, rows 4 places 4 commits 0";
+
 // The columns over the small data set.
 fn columns<R: Threads + Sync + AllocGlobal + RandomSource>(rt: &R) -> Result<Columns, Fail> {
     let alloc = rt.alloc();
-    let index = DimIndex::new(alloc, standard_base(rt, alloc)?)?;
-    let index = Arc::new(alloc, index).map_err(AllocError::from)?;
+    let index = index_of(alloc, &standard_base(rt, alloc)?)?;
     Ok(Columns::new(rt, alloc, index, RandomState::new(rt)?)?)
 }
 
@@ -32,7 +35,7 @@ fn take(columns: &mut Columns, commit: &Commit) -> Result<(), Fail> {
     Ok(columns.absorb(commit)?)
 }
 
-// The order keys and revenues of the live lines, by place.
+// The order keys and revenues of the live lines, by place, and how many rows, places and commits there are.
 fn told(alloc: Global, columns: &Columns) -> Result<String, Fail> {
     let mut told = String::new(alloc);
     for place in 0..columns.places() {
@@ -41,7 +44,15 @@ fn told(alloc: Global, columns: &Columns) -> Result<String, Fail> {
             write!(told, "{} {}, ", line.order, line.revenue)?;
         }
     }
+    let (rows, places, commits) = (columns.rows(), columns.places(), columns.commits());
+    write!(told, "rows {rows} places {places} commits {commits}")?;
     Ok(told)
+}
+
+// What is told of the columns is this.
+fn show<A: Abort>(rt: &A, alloc: Global, columns: &Columns, wanted: &str) -> Result<(), Fail> {
+    reads(rt, &told(alloc, columns)?, wanted);
+    Ok(())
 }
 
 // A commit of these actions.
@@ -50,23 +61,25 @@ fn commit(alloc: Global, actions: &str) -> Result<Commit, Fail> {
     Ok(Commit { client: 1, refresh })
 }
 
+// Order 1 is withdrawn, and then order 9 is added.
+fn take_nine_for_one(alloc: Global, columns: &mut Columns) -> Result<(), Fail> {
+    take(columns, &commit(alloc, "withdraw|1\n")?)?;
+    let refresh = adding(alloc, 9)?;
+    take(columns, &Commit { client: 1, refresh })
+}
+
+// The same, with what is told before and after.
+fn show_nine_for_one<A: Abort>(rt: &A, alloc: Global, columns: &mut Columns) -> Result<(), Fail> {
+    show(rt, alloc, columns, LOADED)?;
+    take_nine_for_one(alloc, columns)?;
+    let wanted = "9 10, 2 500, 3 760, rows 3 places 4 commits 2";
+    show(rt, alloc, columns, wanted)
+}
+
 #[test]
 fn a_withdrawn_place_is_used_again(rt: HostRuntime) -> Result<(), Fail> {
-    let alloc = rt.alloc();
     let mut columns = columns(&rt)?;
-    assert_eq!(rt;
-        told(alloc, &columns)?.as_str(),
-        "1 970, 1 1980, 2 500, 3 760, "
-    );
-    take(&mut columns, &commit(alloc, "withdraw|1\n")?)?;
-    let refresh = adding(alloc, 9)?;
-    take(&mut columns, &Commit { client: 1, refresh })?;
-    assert_eq!(rt; told(alloc, &columns)?.as_str(), "9 10, 2 500, 3 760, ");
-    assert_eq!(rt;
-        (columns.rows(), columns.places(), columns.commits()),
-        (3, 4, 2)
-    );
-    Ok(())
+    show_nine_for_one(&rt, rt.alloc(), &mut columns)
 }
 
 const SEVEN_AND_NINE: &str = "\
@@ -88,25 +101,49 @@ line|9|2|2|4|3|19940208|o|0|6|200|200|3|194|60|0|19940208|AIR
 line|9|3|3|1|1|19930101|o|0|7|300|300|4|288|70|0|19930101|AIR
 ";
 
+// Both orders are added and withdrawn, and once more with each other's lines.
+const TURNOVER: &[&str] = &[
+    SEVEN_AND_NINE,
+    "withdraw|9\n",
+    "withdraw|7\n",
+    NINE_AND_SEVEN,
+    "withdraw|9\n",
+    "withdraw|7\n",
+];
+
+const TURNED_OVER: &str = "1 970, 1 1980, 2 500, 3 760, rows 4 places 8 commits 6000";
+
+// The commits of the turnover.
+fn turnover(alloc: Global) -> Result<Vec<Commit>, Fail> {
+    let mut commits = Vec::new(alloc);
+    for actions in TURNOVER {
+        commits.push(commit(alloc, actions)?)?;
+    }
+    Ok(commits)
+}
+
+// Takes in the commits, one after another.
+fn take_all(columns: &mut Columns, commits: &[Commit]) -> Result<(), Fail> {
+    for commit in commits {
+        take(columns, commit)?;
+    }
+    Ok(())
+}
+
+// Takes in the turnover a thousand times.
+fn turn_over(alloc: Global, columns: &mut Columns) -> Result<(), Fail> {
+    let commits = turnover(alloc)?;
+    for _ in 0..1000 {
+        take_all(columns, &commits)?;
+    }
+    Ok(())
+}
+
 #[test]
 fn places_do_not_grow_with_turnover(rt: HostRuntime) -> Result<(), Fail> {
-    let alloc = rt.alloc();
     let mut columns = columns(&rt)?;
-    let commits = [
-        commit(alloc, SEVEN_AND_NINE)?,
-        commit(alloc, "withdraw|9\n")?,
-        commit(alloc, "withdraw|7\n")?,
-        commit(alloc, NINE_AND_SEVEN)?,
-        commit(alloc, "withdraw|9\n")?,
-        commit(alloc, "withdraw|7\n")?,
-    ];
-    for _ in 0..1000 {
-        for commit in &commits {
-            take(&mut columns, commit)?;
-        }
-    }
-    assert_eq!(rt; (columns.rows(), columns.places()), (4, 8));
-    Ok(())
+    turn_over(rt.alloc(), &mut columns)?;
+    show(&rt, rt.alloc(), &columns, TURNED_OVER)
 }
 
 // The second line's supplier is not in the base.
@@ -117,15 +154,19 @@ line|9|1|3|4|3|19971215|o|0|1|10|10|0|10|2000|0|19971215|AIR
 line|9|2|3|4|8|19971215|o|0|1|10|10|0|10|2000|0|19971215|AIR
 ";
 
+// Whether the columns refuse a commit of these actions.
+fn refuses(alloc: Global, columns: &mut Columns, actions: &str) -> Result<bool, Fail> {
+    let commit = commit(alloc, actions)?;
+    Ok(columns.absorb(&commit).is_err())
+}
+
 #[test]
 fn an_unknown_key_changes_nothing(rt: HostRuntime) -> Result<(), Fail> {
-    let alloc = rt.alloc();
     let mut columns = columns(&rt)?;
-    assert!(rt; columns.absorb(&commit(alloc, UNKNOWN_SUPPLIER)?).is_err());
-    assert_eq!(rt;
-        told(alloc, &columns)?.as_str(),
-        "1 970, 1 1980, 2 500, 3 760, "
+    same(
+        &rt,
+        &refuses(rt.alloc(), &mut columns, UNKNOWN_SUPPLIER)?,
+        &true,
     );
-    assert_eq!(rt; (columns.rows(), columns.commits()), (4, 0));
-    Ok(())
+    show(&rt, rt.alloc(), &columns, LOADED)
 }

@@ -4,8 +4,10 @@ ghost use Rattle.std.specs.Prelude.{◌≡◌, [], ◌∷◌, ◌++◌, IfOk, On
 ghost use Rattle.row_store.specs.History.{IsPrefix};
 ghost use Rattle.row_store.specs.State.{StandsFor};
 
+use crate::tests::same;
 use row_store::{Commit, Follower, PlainLines, Replica};
 use std::alloc::{AllocError, Global};
+use std::process::Abort;
 use std::sync::Wait;
 use std::sync::atomic::{AtomicBool, Ordering};
 use std::test::Fail;
@@ -115,11 +117,11 @@ fn an_entered_copy_stays_as_it_is(rt: HostRuntime) -> Result<(), Fail> {
     tell(&mut writer, &mut reader)?;
     let guard = reader.enter(&rt);
     let (mut writer, beside) = publish_beside(&rt, writer, adds(alloc, 10)?, &guard)?;
-    assert_eq!(rt; (beside, shown(&guard)), ((1, 5), (1, 5)));
+    same(&rt, &(beside, shown(&guard)), &((1, 5), (1, 5)));
     let mut reader = guard.leave();
     tell(&mut writer, &mut reader)?;
     let guard = reader.enter(&rt);
-    assert_eq!(rt; shown(&guard), (2, 6));
+    same(&rt, &shown(&guard), &(2, 6));
     Ok(())
 }
 
@@ -175,17 +177,17 @@ fn a_refused_publication_changes_nothing(rt: HostRuntime) -> Result<(), Fail> {
     let (mut writer, mut reader) = cell(alloc, &rt, first)?;
     append(&mut writer, adds(alloc, 9)?)?;
     let mut writer = refused(writer)?;
-    assert_eq!(rt; (writer.pending(), writer.told()), (1, 0));
+    same(&rt, &(writer.pending(), writer.told()), &(1, 0));
     tell(&mut writer, &mut reader)?;
     let guard = reader.enter(&rt);
-    assert_eq!(rt; guard.replica().commits(), 0);
+    same(&rt, &guard.replica().commits(), &0);
     let mut reader = guard.leave();
     let (mut writer, published) = writer.publish();
     published?;
-    assert_eq!(rt; (writer.pending(), writer.told()), (0, 1));
+    same(&rt, &(writer.pending(), writer.told()), &(0, 1));
     tell(&mut writer, &mut reader)?;
     let guard = reader.enter(&rt);
-    assert_eq!(rt; guard.replica().commits(), 1);
+    same(&rt, &guard.replica().commits(), &1);
     Ok(())
 }
 
@@ -245,20 +247,29 @@ fn race<R: Threads + Wait + Sync, W: Wait + Drop + Send>(
     Ok((writer, read?))
 }
 
-#[test]
-fn readers_beside_a_writer_see_states_of_the_history(rt: HostRuntime) -> Result<(), Fail> {
-    let alloc = rt.alloc();
-    let first = PlainLines::new(alloc, standard_base(&rt, alloc)?)?;
-    let (writer, readers) = twin(alloc, &rt, first, 3)?;
+// Commits that each add an order of one line.
+fn many(alloc: Global) -> Result<Vec<Commit>, Fail> {
     let mut commits = Vec::new(alloc);
     for number in 0..COMMITS {
         commits.push(adds(alloc, 100 + number)?)?;
     }
+    Ok(commits)
+}
+
+// Each of three readers has seen all commits at last, and nothing wrong.
+fn have_seen_all<A: Abort>(rt: &A, read: &[(u64, u32)]) {
+    let all = [(COMMITS, 0), (COMMITS, 0), (COMMITS, 0)];
+    assert_eq!(rt; read, all.as_slice());
+}
+
+#[test]
+fn readers_beside_a_writer_see_states_of_the_history(rt: HostRuntime) -> Result<(), Fail> {
+    let alloc = rt.alloc();
+    let commits = many(alloc)?;
+    let first = PlainLines::new(alloc, standard_base(&rt, alloc)?)?;
+    let (writer, readers) = twin(alloc, &rt, first, 3)?;
     let (writer, read) = race(&rt, writer, commits, readers)?;
-    assert_eq!(rt; writer.told(), COMMITS);
-    assert_eq!(rt;
-        read.as_slice(),
-        [(COMMITS, 0), (COMMITS, 0), (COMMITS, 0)].as_slice()
-    );
+    same(&rt, &writer.told(), &COMMITS);
+    have_seen_all(&rt, &read);
     Ok(())
 }

@@ -1,10 +1,12 @@
 //! A worked run of the machine without threads, which no program runs. Its replies were written by hand.
 
-use history_core::{Event, Reply, Who, World};
+use crate::tests::same;
+use history_core::{Event, Reply, Stopped, Who, World};
 use ssb_answers::{Query, Question, ResultRow, Unserved, Value};
 use ssb_schema::{Items, Text};
-use std::alloc::Global;
+use std::alloc::{AllocError, Global};
 use std::hash::RandomState;
+use std::process::Abort;
 use std::random::RandomSource;
 use std::test::Fail;
 use std::thread::Threads;
@@ -13,8 +15,6 @@ use test_fixtures::{adding, standard_base};
 const CLIENT: Who = Who::Client(1);
 
 const DISPATCHER: Who = Who::Dispatcher(1);
-
-const UNKNOWN: [u32; 2] = [0, 2];
 
 fn question(alloc: Global, query: Query) -> Result<Question, Fail> {
     Ok(Question::standard(alloc, query)?)
@@ -33,78 +33,110 @@ fn row_of_1997(alloc: Global, sum: i64) -> Result<Items<ResultRow>, Fail> {
 
 // A client asks, a refresh comes in between, a dispatcher fetches and answers; a second question is given up.
 fn worked_events(alloc: Global) -> Result<Vec<Event>, Fail> {
-    let mut events = Vec::new(alloc);
-    events.push(Event::Post(1, question(alloc, Query::Q4_1)?))?;
-    events.push(Event::Grab(1, 1))?;
-    events.push(Event::TakeRows(CLIENT))?;
-    events.push(Event::TakeRows(DISPATCHER))?;
-    events.push(Event::PutRows(CLIENT, Some(adding(alloc, 9)?)))?;
-    events.push(Event::TakeWriter(1))?;
-    events.push(Event::TakeRows(DISPATCHER))?;
-    events.push(Event::PutRows(DISPATCHER, None))?;
-    events.push(Event::PutWriter(1))?;
-    events.push(Event::Answer(1, 1))?;
-    events.push(Event::Collect(1))?;
-    events.push(Event::Collect(1))?;
-    events.push(Event::Look(CLIENT))?;
-    events.push(Event::Post(1, question(alloc, Query::Q1_1)?))?;
-    events.push(Event::Grab(1, 1))?;
-    events.push(Event::Answer(1, 1))?;
-    events.push(Event::GiveUp(1, 1, Unserved::OutOfMemory))?;
-    events.push(Event::Collect(1))?;
-    Ok(events)
+    let first = question(alloc, Query::Q4_1)?;
+    let added = adding(alloc, 9)?;
+    let second = question(alloc, Query::Q1_1)?;
+    Ok(vec![in alloc;
+        Event::Post(1, first),
+        Event::Grab(1, 1),
+        Event::TakeRows(CLIENT),
+        Event::TakeRows(DISPATCHER),
+        Event::PutRows(CLIENT, Some(added)),
+        Event::TakeWriter(1),
+        Event::TakeRows(DISPATCHER),
+        Event::PutRows(DISPATCHER, None),
+        Event::PutWriter(1),
+        Event::Answer(1, 1),
+        Event::Collect(1),
+        Event::Collect(1),
+        Event::Look(CLIENT),
+        Event::Post(1, second),
+        Event::Grab(1, 1),
+        Event::Answer(1, 1),
+        Event::GiveUp(1, 1, Unserved::OutOfMemory),
+        Event::Collect(1),
+    ]?)
 }
 
-fn worked_replies(alloc: Global) -> Result<Vec<Reply>, Fail> {
-    let mut replies = Vec::new(alloc);
-    replies.push(Reply::Done)?;
-    replies.push(Reply::Query(question(alloc, Query::Q4_1)?))?;
-    replies.push(Reply::Done)?;
-    replies.push(Reply::NotEnabled)?;
-    replies.push(Reply::Committed(1))?;
-    replies.push(Reply::Done)?;
-    replies.push(Reply::Done)?;
-    replies.push(Reply::Done)?;
-    replies.push(Reply::Done)?;
-    replies.push(Reply::Done)?;
-    replies.push(Reply::Rows {
+// The reply with the rows of the first question, and that with the second question, which was given up.
+fn told(alloc: Global) -> Result<(Reply, Reply), Fail> {
+    let answered = Reply::Rows {
         query: question(alloc, Query::Q4_1)?,
         at: 1,
         rows: row_of_1997(alloc, -1330)?,
-    })?;
-    replies.push(Reply::NotEnabled)?;
-    replies.push(Reply::Length(1))?;
-    replies.push(Reply::Done)?;
-    replies.push(Reply::Query(question(alloc, Query::Q1_1)?))?;
-    replies.push(Reply::NotEnabled)?;
-    replies.push(Reply::Done)?;
-    replies.push(Reply::Unserved {
+    };
+    let given_up = Reply::Unserved {
         query: question(alloc, Query::Q1_1)?,
         cause: Unserved::OutOfMemory,
-    })?;
-    Ok(replies)
+    };
+    Ok((answered, given_up))
+}
+
+fn worked_replies(alloc: Global) -> Result<Vec<Reply>, Fail> {
+    let first = question(alloc, Query::Q4_1)?;
+    let second = question(alloc, Query::Q1_1)?;
+    let (answered, given_up) = told(alloc)?;
+    Ok(vec![in alloc;
+        Reply::Done,
+        Reply::Query(first),
+        Reply::Done,
+        Reply::NotEnabled,
+        Reply::Committed(1),
+        Reply::Done,
+        Reply::Done,
+        Reply::Done,
+        Reply::Done,
+        Reply::Done,
+        answered,
+        Reply::NotEnabled,
+        Reply::Length(1),
+        Reply::Done,
+        Reply::Query(second),
+        Reply::NotEnabled,
+        Reply::Done,
+        given_up,
+    ]?)
+}
+
+// What one does with the row store.
+fn push_rows_events(alloc: Global, who: Who, events: &mut Vec<Event>) -> Result<(), Fail> {
+    events.push(Event::TakeRows(who))?;
+    events.push(Event::PutRows(who, None))?;
+    events.push(Event::PutRows(who, Some(adding(alloc, 9)?)))?;
+    events.push(Event::Look(who))?;
+    Ok(())
+}
+
+// What a dispatcher does with a client's request.
+fn push_turn_events(
+    dispatcher: u32,
+    client: u32,
+    events: &mut Vec<Event>,
+) -> Result<(), AllocError> {
+    events.push(Event::Grab(dispatcher, client))?;
+    events.push(Event::Answer(dispatcher, client))?;
+    events.push(Event::GiveUp(dispatcher, client, Unserved::OutOfMemory))?;
+    Ok(())
+}
+
+// Each event of this number.
+fn push_unknown(alloc: Global, number: u32, events: &mut Vec<Event>) -> Result<(), Fail> {
+    push_rows_events(alloc, Who::Client(number), events)?;
+    push_rows_events(alloc, Who::Dispatcher(number), events)?;
+    events.push(Event::Post(number, question(alloc, Query::Q1_1)?))?;
+    events.push(Event::TakeWriter(number))?;
+    events.push(Event::PutWriter(number))?;
+    events.push(Event::Collect(number))?;
+    push_turn_events(1, number, events)?;
+    push_turn_events(number, 1, events)?;
+    Ok(push_turn_events(number, number, events)?)
 }
 
 // Each event of an unknown number, where one client and one dispatcher are known.
 fn unknown_events(alloc: Global) -> Result<Vec<Event>, Fail> {
     let mut events = Vec::new(alloc);
-    for number in UNKNOWN {
-        for who in [Who::Client(number), Who::Dispatcher(number)] {
-            events.push(Event::TakeRows(who))?;
-            events.push(Event::PutRows(who, None))?;
-            events.push(Event::PutRows(who, Some(adding(alloc, 9)?)))?;
-            events.push(Event::Look(who))?;
-        }
-        events.push(Event::Post(number, question(alloc, Query::Q1_1)?))?;
-        events.push(Event::TakeWriter(number))?;
-        events.push(Event::PutWriter(number))?;
-        events.push(Event::Collect(number))?;
-        for (dispatcher, client) in [(1, number), (number, 1), (number, number)] {
-            events.push(Event::Grab(dispatcher, client))?;
-            events.push(Event::Answer(dispatcher, client))?;
-            events.push(Event::GiveUp(dispatcher, client, Unserved::OutOfMemory))?;
-        }
-    }
+    push_unknown(alloc, 0, &mut events)?;
+    push_unknown(alloc, 2, &mut events)?;
     Ok(events)
 }
 
@@ -115,39 +147,79 @@ fn opening<R: Threads + Sync + AllocGlobal + RandomSource>(rt: &R) -> Result<Wor
     Ok(World::opening(alloc, base, RandomState::new(rt)?, 1, 1)?)
 }
 
-#[test]
-fn an_unknown_number_is_never_enabled(rt: HostRuntime) -> Result<(), Fail> {
-    let alloc = rt.alloc();
-    let mut world = opening(&rt)?;
+// Whether the reply to an event is this one.
+fn replies(world: &mut World, event: &Event, reply: &Reply) -> Result<bool, Fail> {
+    Ok(world.step(event)? == *reply)
+}
+
+// The events are not enabled, one after another.
+fn none_is_enabled<A: Abort>(rt: &A, world: &mut World, events: &[Event]) -> Result<(), Fail> {
+    for event in events {
+        same(rt, &replies(world, event, &Reply::NotEnabled)?, &true);
+    }
+    Ok(())
+}
+
+// The events have these replies, and before each of them the others are not enabled.
+fn step_among<A: Abort>(
+    rt: &A,
+    world: &mut World,
+    (events, wanted): (&[Event], &[Reply]),
+    others: &[Event],
+) -> Result<(), Fail> {
+    for (event, reply) in events.iter().zip(wanted) {
+        none_is_enabled(rt, world, others)?;
+        same(rt, &replies(world, event, reply)?, &true);
+    }
+    Ok(())
+}
+
+// The worked run, with the events of unknown numbers before each of its own.
+fn step_worked<A: Abort>(rt: &A, alloc: Global, world: &mut World) -> Result<(), Fail> {
     let events = worked_events(alloc)?;
     let wanted = worked_replies(alloc)?;
     let unknown = unknown_events(alloc)?;
-    for (event, reply) in events.iter().zip(&wanted) {
-        for other in &unknown {
-            assert!(rt; world.step(other)? == Reply::NotEnabled);
-        }
-        assert!(rt; world.step(event)? == *reply);
+    step_among(rt, world, (&events, &wanted), &unknown)
+}
+
+#[test]
+fn an_unknown_number_is_never_enabled(rt: HostRuntime) -> Result<(), Fail> {
+    let mut world = opening(&rt)?;
+    step_worked(&rt, rt.alloc(), &mut world)
+}
+
+// Whether a run that was stopped and the rest of it have told what is wanted.
+fn continues(stopped: &Stopped, rest: &[Reply], wanted: &[Reply]) -> bool {
+    let taken = stopped.events;
+    match (wanted.get(..taken), wanted.get(taken..)) {
+        (Some(told), Some(left)) => stopped.replies.as_slice() == told && rest == left,
+        _ => false,
     }
-    Ok(())
+}
+
+// Whether the world tells of the events what is wanted. Where it is stopped, it goes on.
+fn runs(world: &mut World, events: &[Event], wanted: &[Reply]) -> Result<bool, Fail> {
+    match world.run(events) {
+        Ok(found) => Ok(found.as_slice() == wanted),
+        Err(stopped) => {
+            let left = events.get(stopped.events..).ok_or("left")?;
+            let rest = world.run(left).ok().ok_or("stopped again")?;
+            Ok(continues(&stopped, &rest, wanted))
+        }
+    }
+}
+
+// Whether the world tells of the worked events what was worked out.
+fn runs_worked(alloc: Global, world: &mut World) -> Result<bool, Fail> {
+    let events = worked_events(alloc)?;
+    let wanted = worked_replies(alloc)?;
+    runs(world, &events, &wanted)
 }
 
 // With ample memory the run is not stopped; `bench/growths` refuses each growth in turn.
 #[test]
 fn a_request_is_answered_at_the_mark_fetched_after_its_grab(rt: HostRuntime) -> Result<(), Fail> {
-    let alloc = rt.alloc();
     let mut world = opening(&rt)?;
-    let events = worked_events(alloc)?;
-    let wanted = worked_replies(alloc)?;
-    match world.run(&events) {
-        Ok(found) => assert!(rt; found.as_slice() == wanted.as_slice()),
-        Err(stopped) => {
-            let taken = stopped.events;
-            let told = wanted.get(..taken).ok_or("taken")?;
-            assert!(rt; stopped.replies.as_slice() == told);
-            let left = events.get(taken..).ok_or("left")?;
-            let rest = world.run(left).ok().ok_or("stopped again")?;
-            assert!(rt; rest.as_slice() == wanted.get(taken..).ok_or("rest")?);
-        }
-    }
+    same(&rt, &runs_worked(rt.alloc(), &mut world)?, &true);
     Ok(())
 }

@@ -1,6 +1,7 @@
 //! The rows of the primary replica: limits that the program does not have, calls that it does not make, and refreshes
 //! that lack memory. Replies were worked out by hand.
 
+use crate::tests::{reads, same};
 use row_store::{Cause, RefreshError, RowStore};
 use ssb_base::Limits;
 use ssb_report::write_reply;
@@ -8,6 +9,7 @@ use ssb_schema::Refresh;
 use ssb_script::Request;
 use std::alloc::Global;
 use std::hash::RandomState;
+use std::process::Abort;
 use std::random::RandomSource;
 use std::sync::Arc;
 use std::test::Fail;
@@ -25,36 +27,45 @@ fn opened<R: Threads + Sync + AllocGlobal + RandomSource>(
 }
 
 // Refreshes a store. Where memory is wanting, the store is as it was, and the same refresh is tried once more.
-fn reply(store: &mut RowStore, told: &mut Vec<u8>, refresh: Arc<Refresh>) -> Result<(), Fail> {
-    let again = Arc::try_clone(&refresh)?;
+fn reply(store: &mut RowStore, told: &mut Vec<u8>, refresh: &Arc<Refresh>) -> Result<(), Fail> {
     let before = (store.len(), store.line_count());
-    let mut reply = store.refresh(1, refresh);
+    let mut reply = store.refresh(1, Arc::try_clone(refresh)?);
     if let Err(RefreshError::OutOfMemory) = reply {
         if (store.len(), store.line_count()) != before {
             return Err("changed for want of memory")?;
         }
-        reply = store.refresh(1, again);
+        reply = store.refresh(1, Arc::try_clone(refresh)?);
     }
     Ok(write_reply(told, &reply)?)
 }
 
-// The replies of a store of the small data set to the refreshes of a script, and how many lines are live then.
+// The replies of a store to the refreshes of a script.
+fn reply_all(store: &mut RowStore, told: &mut Vec<u8>, script: &[Request]) -> Result<(), Fail> {
+    for request in script {
+        if let Request::Refresh(refresh) = request {
+            reply(store, told, refresh)?;
+        }
+    }
+    Ok(())
+}
+
+// The replies of a store to a script, and how many lines are live then.
+fn told(alloc: Global, store: &mut RowStore, script: &str) -> Result<String, Fail> {
+    let mut told = Vec::new(alloc);
+    told.reserve(1000)?;
+    reply_all(store, &mut told, &requests(alloc, script)?)?;
+    let told = str::from_utf8(told.as_slice())?;
+    Ok(format!(in alloc; "{told}lines {}", store.line_count())?)
+}
+
+// The same of a store of the small data set within these limits.
 fn replies<R: Threads + Sync + AllocGlobal + RandomSource>(
     rt: &R,
     limits: Limits,
     script: &str,
 ) -> Result<String, Fail> {
-    let alloc = rt.alloc();
     let mut store = opened(rt, limits)?;
-    let mut told = Vec::new(alloc);
-    told.reserve(1000)?;
-    for request in requests(alloc, script)? {
-        if let Request::Refresh(refresh) = request {
-            reply(&mut store, &mut told, refresh)?;
-        }
-    }
-    let told = str::from_utf8(told.as_slice())?;
-    Ok(format!(in alloc; "{told}lines {}", store.line_count())?)
+    told(rt.alloc(), &mut store, script)
 }
 
 // Four lines are live. Order 9 has one, order 2 is withdrawn for two, and then for one.
@@ -91,8 +102,9 @@ commit
 #[test]
 fn four_lines_and_one_commit_are_the_limits(rt: HostRuntime) -> Result<(), Fail> {
     let told = replies(&rt, Limits::new(4, 4, 1).ok_or("limits")?, FULL)?;
-    assert_eq!(rt;
-        told.as_str(),
+    reads(
+        &rt,
+        &told,
         "\
 refused at 0 action 1: 46 LinesFull
 refused at 0 action 2: 46 LinesFull
@@ -100,7 +112,7 @@ refused at 0 action 1: 46 LinesFull
 refused at 0 action 1: 45 UnknownDate
 committed 1
 refused at 1 action 0: 40 LogFull
-lines 4"
+lines 4",
     );
     Ok(())
 }
@@ -119,7 +131,7 @@ commit
 #[test]
 fn amended_orders_do_not_count_their_old_lines(rt: HostRuntime) -> Result<(), Fail> {
     let told = replies(&rt, Limits::new(4, 4, 2).ok_or("limits")?, AMENDED)?;
-    assert_eq!(rt; told.as_str(), "committed 1\ncommitted 2\nlines 3");
+    reads(&rt, &told, "committed 1\ncommitted 2\nlines 3");
     Ok(())
 }
 
@@ -136,21 +148,53 @@ fn numbers_of(alloc: Global, store: &RowStore, key: u64) -> Result<String, Fail>
     Ok(told)
 }
 
+// Order 9 is accepted as the first commit.
+fn commit_nine<A: Abort>(rt: &A, alloc: Global, store: &mut RowStore) -> Result<(), Fail> {
+    let nine = adding(alloc, 9)?;
+    same(rt, &store.check(&nine).is_ok(), &true);
+    same(rt, &store.apply(3, nine)?.number, &1);
+    same(
+        rt,
+        &(store.log_from(0).len(), store.log_from(1).len()),
+        &(1, 0),
+    );
+    Ok(())
+}
+
+// A second order 9 is refused, and why.
+fn refuse_nine<A: Abort>(rt: &A, alloc: Global, store: &RowStore) -> Result<(), Fail> {
+    let nine = adding(alloc, 9)?;
+    let refusal = store.check(&nine).err().ok_or("accepted")?;
+    same(rt, &refusal.action, &1);
+    same(rt, &refusal.cause, &Cause::Present(9));
+    Ok(())
+}
+
+// The line numbers of an order's lines are these.
+fn have<A: Abort>(
+    rt: &A,
+    alloc: Global,
+    store: &RowStore,
+    (order, numbers): (u64, &str),
+) -> Result<(), Fail> {
+    reads(rt, &numbers_of(alloc, store, order)?, numbers);
+    Ok(())
+}
+
+// Order 9 has its line once it is committed, and then it is refused.
+fn commit_and_look<A: Abort>(rt: &A, alloc: Global, store: &mut RowStore) -> Result<(), Fail> {
+    have(rt, alloc, store, (9, ""))?;
+    have(rt, alloc, store, (1, "1 2 "))?;
+    commit_nine(rt, alloc, store)?;
+    have(rt, alloc, store, (9, "1 "))?;
+    refuse_nine(rt, alloc, store)
+}
+
 #[test]
 fn a_committed_order_has_its_lines(rt: HostRuntime) -> Result<(), Fail> {
-    let alloc = rt.alloc();
     let mut store = opened(&rt, Limits::standard())?;
-    let absent = numbers_of(alloc, &store, 9)?;
-    assert_eq!(rt; absent.as_str(), "");
-    assert_eq!(rt; numbers_of(alloc, &store, 1)?.as_str(), "1 2 ");
-    let nine = adding(alloc, 9)?;
-    assert!(rt; store.check(&nine).is_ok());
-    assert_eq!(rt; store.apply(3, nine)?.number, 1);
-    assert_eq!(rt; numbers_of(alloc, &store, 9)?.as_str(), "1 ");
-    let refusal = store.check(&*adding(alloc, 9)?).err().ok_or("accepted")?;
-    assert!(rt; refusal.action == 1 && refusal.cause == Cause::Present(9));
-    assert_eq!(rt; (store.log_from(0).len(), store.log_from(1).len()), (1, 0));
+    commit_and_look(&rt, rt.alloc(), &mut store)?;
     let (base, log) = store.into_parts();
-    assert_eq!(rt; (base.lines().len(), log.len()), (4, 1));
+    same(&rt, &(base.lines().len(), log.len()), &(4, 1));
     Ok(())
 }
