@@ -168,7 +168,7 @@ fn held_over<W: Wait + Drop + Send, R: Wait + Threads + Sync>(
         mut clients,
         mut dispatchers,
     } = made;
-    let mut trial = Trial::new(&server, &mut clients, &mut dispatchers)?;
+    let mut trial = Trial::new(&server, &mut clients, &mut dispatchers).ok_or("too few")?;
     let dispatcher = next_dispatcher(&server, &mut dispatchers).ok_or("no other dispatcher")?;
     asks_and_is_held(rt, alloc, &server, dispatcher, &mut trial)
 }

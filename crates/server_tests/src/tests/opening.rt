@@ -2,10 +2,11 @@
 ghost use Rattle.std.specs.Prelude.{All, IfOk, IfSome};
 ghost use Rattle.ssb_server.specs.Tickets.{IsOf, IsQuiet};
 
+use ssb_base::Base;
 use ssb_server::{Client, Dispatcher, OpenFault, Opened, Server, open};
 use std::hash::RandomState;
 use std::random::RandomSource;
-use std::sync::Wait;
+use std::sync::{Arc, Wait};
 use std::test::Fail;
 use std::thread::Threads;
 use test_fixtures::standard_base;
@@ -54,22 +55,35 @@ pub fn next_dispatcher<W: Wait + Drop>(
     dispatchers.pop()
 }
 
+// Why no server is opened, and the base that comes back.
+fn refused<R: Threads + Sync + Wait + AllocGlobal + RandomSource>(
+    rt: &R,
+    base: Arc<Base>,
+    clients: u32,
+    dispatchers: u32,
+) -> Result<(OpenFault, Arc<Base>), Fail> {
+    let hashing = RandomState::new(rt)?;
+    match open(rt.alloc(), rt, hashing, base, clients, dispatchers) {
+        Ok(_) => Err("opened")?,
+        Err(error) => Ok((error.fault, error.back)),
+    }
+}
+
+const OUT_OF_RANGE: &[(u32, u32, OpenFault)] = &[
+    (0, 1, OpenFault::ClientCount),
+    (17, 1, OpenFault::ClientCount),
+    (1, 0, OpenFault::DispatcherCount),
+    (1, 5, OpenFault::DispatcherCount),
+    (0, 0, OpenFault::ClientCount),
+];
+
 #[test]
 fn counts_out_of_range_open_nothing(rt: HostRuntime) -> Result<(), Fail> {
-    let alloc = rt.alloc();
-    let mut base = standard_base(&rt, alloc)?;
-    for (clients, dispatchers, fault) in [
-        (0, 1, OpenFault::ClientCount),
-        (17, 1, OpenFault::ClientCount),
-        (1, 0, OpenFault::DispatcherCount),
-        (1, 5, OpenFault::DispatcherCount),
-        (0, 0, OpenFault::ClientCount),
-    ] {
-        let hashing = RandomState::new(&rt)?;
-        let opened = open(alloc, &rt, hashing, base, clients, dispatchers);
-        let error = opened.err().ok_or("opened")?;
-        assert_eq!(rt; error.fault, fault);
-        base = error.back;
+    let mut base = standard_base(&rt, rt.alloc())?;
+    for (clients, dispatchers, fault) in OUT_OF_RANGE {
+        let (found, back) = refused(&rt, base, *clients, *dispatchers)?;
+        assert_eq!(rt; found, *fault);
+        base = back;
     }
     assert_eq!(rt; base.lines().len(), 4);
     Ok(())

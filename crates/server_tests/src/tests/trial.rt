@@ -73,9 +73,13 @@ fn text(
     written: Result<(), WriteFault>,
     told: Vec<u8>,
 ) -> Result<String, AllocError> {
-    written.map_err(|_| AllocError)?;
-    let told = str::from_utf8(told.as_slice()).map_err(|_| AllocError)?;
-    String::from_str(alloc, told.trim_end())
+    if written.is_err() {
+        return Err(AllocError);
+    }
+    match str::from_utf8(told.as_slice()) {
+        Ok(told) => String::from_str(alloc, told.trim_end()),
+        Err(_) => Err(AllocError),
+    }
 }
 
 // What a turn did.
@@ -113,7 +117,9 @@ fn adds<R: Wait, W: Wait + Drop>(
     ensures { IsOf server.now client.new }
 {
     let mut told = room(alloc)?;
-    let refresh = adding(alloc, order).map_err(|_| AllocError)?;
+    let Ok(refresh) = adding(alloc, order) else {
+        return Err(AllocError);
+    };
     let written = write_reply(&mut told, &refreshed(rt, server, client, refresh));
     text(alloc, written, told)
 }
@@ -132,7 +138,9 @@ fn asks<W: Wait + Drop>(
     if client.is_asking() {
         return String::from_str(alloc, "asking");
     }
-    let question = question(alloc, query).map_err(|_| AllocError)?;
+    let Ok(question) = question(alloc, query) else {
+        return Err(AllocError);
+    };
     client.ask(server, question);
     String::from_str(alloc, "asked")
 }
@@ -213,22 +221,23 @@ fn as_expected(alloc: Global, step: (TrialStep, &str), told: String) -> Result<(
 }
 
 impl<'s, W: Wait + Drop> Trial<'s, W> {
-    /// A trial of the last three of these clients and the last of these dispatchers, which leave.
+    /// A trial of the last three of these clients and the last of these dispatchers, which leave. None where there are
+    /// fewer.
     pub fn new(
         server: &'s Server<W>,
         clients: &mut Vec<Client<W>>,
         dispatchers: &mut Vec<Dispatcher<W>>,
-    ) -> Result<Trial<'s, W>, Fail>
+    ) -> Option<Trial<'s, W>>
         requires clients { All (IsQuiet server.now) clients.old.items }
         requires dispatchers { All (IsOf server.now) dispatchers.old.items }
         ensures dispatchers { All (IsOf server.now) dispatchers.new.items }
     {
-        Ok(Trial {
+        Some(Trial {
             server,
-            first: next_client(server, clients).ok_or("no client")?,
-            second: next_client(server, clients).ok_or("no second client")?,
-            third: next_client(server, clients).ok_or("no third client")?,
-            dispatcher: next_dispatcher(server, dispatchers).ok_or("no dispatcher")?,
+            first: next_client(server, clients)?,
+            second: next_client(server, clients)?,
+            third: next_client(server, clients)?,
+            dispatcher: next_dispatcher(server, dispatchers)?,
         })
     }
 
@@ -279,6 +288,20 @@ impl<'s, W: Wait + Drop> Trial<'s, W> {
         }
         as_expected(alloc, step, told)
     }
+
+    // Takes the steps before such a step, then that one, and then those after it.
+    fn plays_around<R: Wait + Threads + Sync>(
+        &mut self,
+        rt: &R,
+        alloc: Global,
+        step: (TrialStep, &str),
+        lacking: (&str, &[(TrialStep, &str)]),
+        (before, after): (&[(TrialStep, &str)], &[(TrialStep, &str)]),
+    ) -> Result<(), Fail> {
+        self.plays(rt, alloc, before)?;
+        self.plays_at_last(rt, alloc, step, lacking)?;
+        self.plays(rt, alloc, after)
+    }
 }
 
 /// Opens a server over the small data set, and takes the steps.
@@ -291,7 +314,7 @@ pub fn played<R: Wait + Threads + Sync + AllocGlobal + RandomSource>(
         mut clients,
         mut dispatchers,
     } = opened(rt, 3, 1)?;
-    let mut trial = Trial::new(&server, &mut clients, &mut dispatchers)?;
+    let mut trial = Trial::new(&server, &mut clients, &mut dispatchers).ok_or("too few")?;
     trial.plays(rt, rt.alloc(), steps)
 }
 
@@ -309,8 +332,6 @@ pub fn played_at_last<R: Wait + Threads + Sync + AllocGlobal + RandomSource>(
         mut clients,
         mut dispatchers,
     } = opened(rt, 3, 1)?;
-    let mut trial = Trial::new(&server, &mut clients, &mut dispatchers)?;
-    trial.plays(rt, rt.alloc(), before)?;
-    trial.plays_at_last(rt, rt.alloc(), step, lacking)?;
-    trial.plays(rt, rt.alloc(), after)
+    let mut trial = Trial::new(&server, &mut clients, &mut dispatchers).ok_or("too few")?;
+    trial.plays_around(rt, rt.alloc(), step, lacking, (before, after))
 }
