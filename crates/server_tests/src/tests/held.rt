@@ -9,7 +9,7 @@ use crate::tests::parties::{Plays, PlaysTurns};
 use crate::tests::trial::TrialDeed::{Adds, Asks, Polls};
 use crate::tests::trial::TrialStep::{First, Second, Third};
 use crate::tests::trial::{Trial, TrialStep};
-use ssb_server::{Opened, ScanGate, Server, Turn};
+use ssb_server::{Client, Dispatcher, Opened, ScanGate, Server, Turn};
 use std::alloc::Global;
 use std::sync::Wait;
 use std::sync::atomic::{AtomicBool, Ordering};
@@ -154,6 +154,22 @@ fn asks_and_is_held<
     Ok((turn, held))
 }
 
+// The same among the clients and dispatchers of a server, of whom those who take part leave.
+fn held_among<W: Wait + Drop + Send, R: Wait + Threads + Sync>(
+    rt: &R,
+    alloc: Global,
+    server: &Server<W>,
+    clients: &mut Vec<Client<W>>,
+    dispatchers: &mut Vec<Dispatcher<W>>,
+) -> Result<(Turn, bool), Fail>
+    requires clients { All (IsQuiet server.now) clients.old.items }
+    requires dispatchers { All (IsOf server.now) dispatchers.old.items }
+{
+    let mut trial = Trial::new(server, clients, dispatchers).ok_or("too few")?;
+    let dispatcher = next_dispatcher(server, dispatchers).ok_or("no other dispatcher")?;
+    asks_and_is_held(rt, alloc, server, dispatcher, &mut trial)
+}
+
 // The same over a server that was opened for three clients and two dispatchers.
 fn held_over<W: Wait + Drop + Send, R: Wait + Threads + Sync>(
     rt: &R,
@@ -168,9 +184,7 @@ fn held_over<W: Wait + Drop + Send, R: Wait + Threads + Sync>(
         mut clients,
         mut dispatchers,
     } = made;
-    let mut trial = Trial::new(&server, &mut clients, &mut dispatchers).ok_or("too few")?;
-    let dispatcher = next_dispatcher(&server, &mut dispatchers).ok_or("no other dispatcher")?;
-    asks_and_is_held(rt, alloc, &server, dispatcher, &mut trial)
+    held_among(rt, alloc, &server, &mut clients, &mut dispatchers)
 }
 
 #[test]
