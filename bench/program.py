@@ -23,7 +23,7 @@ def end_by(name, call):
     """Ends the process with the status that the call returns; with one line and status 1 where something keeps it."""
     def end(number, _):
         for other in ENDS:
-            signal.signal(other, signal.SIG_IGN)      # what is left to do is not broken off by a second one
+            signal.signal(other, lambda *_: None)     # what is left to do is not broken off by a second one
         sys.exit(128 + number)
 
     for number in ENDS:
@@ -110,14 +110,18 @@ def note_path(program):
     return program.with_name(f"{program.name}.made")
 
 
-def read_note(program):
-    """The note of a program that is just as `bench/build` or `./start` made it, or None."""
+def parse_note(program):
+    """What the note beside a program says, or None where it is not there or no note."""
     try:
-        lines = note_path(program).read_text().splitlines()
-        note = Note(**dict(line.split(" ", 1) for line in lines))
-        return note if note.program == sum_of_file(program) else None
+        return Note(**dict(line.split(" ", 1) for line in note_path(program).read_text().splitlines()))
     except (OSError, ValueError, TypeError):
         return None
+
+
+def read_note(program):
+    """The note of a program that is just as `bench/build` or `./start` made it, or None."""
+    note = parse_note(program)
+    return note if note and program.is_file() and note.program == sum_of_file(program) else None
 
 
 def write_whole(path, content, mode=0o644):
