@@ -19,17 +19,23 @@ class Trouble(Exception):
     """What keeps a command from its end, as one line for the user."""
 
 
+class Ended(BaseException):
+    """A signal has ended the command."""
+
+
 def end_by(name, call):
     """Ends the process with the status that the call returns; with one line and status 1 where something keeps it."""
     def end(number, _):
         for other in ENDS:
             signal.signal(other, lambda *_: None)     # what is left to do is not broken off by a second one
-        sys.exit(128 + number)
+        raise Ended(128 + number)
 
     for number in ENDS:
         signal.signal(number, end)
     try:
         status = call()
+    except Ended as ended:
+        status = ended.args[0]
     except Trouble as trouble:
         status = f"{name}: {trouble}"
     except OSError as error:
