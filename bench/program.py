@@ -39,7 +39,8 @@ def end_by(name, call):
     except Trouble as trouble:
         status = f"{name}: {trouble}"
     except OSError as error:
-        status = f"{name}: {no_room(error.filename) if error.errno in NO_ROOM else error}"
+        why = f"{error.filename}: {error.strerror}" if error.filename else error
+        status = f"{name}: {no_room(error.filename) if error.errno in NO_ROOM else why}"
     sys.exit(status)
 
 
