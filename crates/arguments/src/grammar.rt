@@ -34,7 +34,7 @@ fn quiet_argument<'a>(alloc: Global) -> Arg<'a> {
     flag(
         alloc,
         "quiet",
-        "Shows no progress of a long load; without it a terminal shows it, and a pipe never gets it",
+        "Shows no progress of a long load; without it, progress is shown at a terminal only",
     )
 }
 
@@ -52,7 +52,7 @@ fn dispatchers_argument<'a>(alloc: Global) -> Arg<'a> {
     Arg::new(alloc, "dispatchers")
         .long("dispatchers")
         .value_name("N")
-        .help("How many dispatchers answer the questions, each in a thread of its own: 1 to 4")
+        .help("How many dispatchers answer the questions, each in its own thread: 1 to 4")
         .value_parser(value_parser!(u32).range(1..5))
         .default_value("1")
         .action(ArgAction::Set)
@@ -75,7 +75,7 @@ fn over_tables<'a>(
 fn name_argument<'a>(alloc: Global) -> Result<Arg<'a>, AllocError> {
     Arg::new(alloc, "name")
         .value_name("NAME")
-        .help("The query, as Q4.1, or star")
+        .help("The query, for example Q4.1, or star")
         .action(ArgAction::Set)
         .required_unless_present("all")?
         .conflicts_with("all")
@@ -85,7 +85,7 @@ fn name_argument<'a>(alloc: Global) -> Result<Arg<'a>, AllocError> {
 fn constants_argument<'a>(alloc: Global) -> Arg<'a> {
     Arg::new(alloc, "constants")
         .value_name("CONSTANT")
-        .help("All constants of the query; without them one of the thirteen has the benchmark's")
+        .help("All constants of the query; without them, one of the thirteen has the benchmark's")
         .num_args(0..)
         .action(ArgAction::Append)
 }
@@ -106,7 +106,7 @@ fn query_command<'a>(alloc: Global) -> Result<Command<'a>, AllocError> {
         ))?
         .arg(times_argument(
             alloc,
-            "Tells on standard error how many seconds each step took",
+            "Reports on standard error how many seconds each step took",
         ))?
         .arg(quiet_argument(alloc))?
         .arg(name_argument(alloc)?)?
@@ -137,11 +137,11 @@ fn run_command<'a>(alloc: Global) -> Result<Command<'a>, AllocError> {
             alloc,
             "trace",
             "FILE",
-            "Where the commits and the answers are written; the file is made anew",
+            "Where the commits and the answers are written; what the file had before is deleted",
         ))?
         .arg(times_argument(
             alloc,
-            "Tells on standard error how many seconds loading and serving took, how much was served a second, \
+            "Reports on standard error how many seconds loading and serving took, how much was served in a second, \
              and how long a refresh and an answer took",
         ))?
         .arg(quiet_argument(alloc))?
@@ -153,7 +153,7 @@ fn clients_argument<'a>(alloc: Global) -> Arg<'a> {
     Arg::new(alloc, "clients")
         .long("client")
         .value_names(&["IN", "OUT"])
-        .help("A client, by what it is read from and what it is answered to; 1 to 16 times")
+        .help("A client: IN is read, and replies go to OUT; can be given 1 to 16 times")
         .num_args(2)
         .action(ArgAction::Append)
 }
@@ -178,7 +178,7 @@ fn serve_command<'a>(alloc: Global) -> Result<Command<'a>, AllocError> {
             alloc,
             "journal",
             "FILE",
-            "Where the commits are kept: clients are told nothing before it is on the disk; the next server goes on from it",
+            "Where the commits are kept; replies wait for the disk; the next server goes on from there",
         ))?
         .arg(quiet_argument(alloc))
 }
@@ -205,13 +205,13 @@ fn export_command<'a>(alloc: Global) -> Result<Command<'a>, AllocError> {
         alloc,
         "journal",
         "FILE",
-        "The journal of a server over these tables; it is as it was",
+        "The journal of a server over these tables; it is not changed",
     );
     let folder = path_argument(
         alloc,
         "to",
         "FOLDER",
-        "Where the tables are written: a folder that is not there, or is empty",
+        "Where the tables are written: a folder that does not exist, or is empty",
     );
     let command = over_tables(
         alloc,
@@ -231,7 +231,7 @@ pub fn command<'a>(alloc: Global) -> Result<Command<'a>, AllocError> {
         .version(VERSION)
         .about(
             "A warehouse of the Star Schema Benchmark. Without words: serves the script on standard input \
-             over a small built-in data set, and prints the report",
+             over small built-in tables, and prints the report",
         )
         .subcommand(query_command(alloc)?)?
         .subcommand(run_command(alloc)?)?

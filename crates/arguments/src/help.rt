@@ -3,14 +3,14 @@
 /// What `query --help` shows.
 pub const QUERY_HELP: &str = "\
 Loads the five table files of a folder and prints the report of one question: a line with the query's name, the number
-of commits (0) and the number of rows, and then the rows. With --all it prints those of the thirteen queries with the
-benchmark's constants, in order, answered in one pass over the lines.
+of commits (0) and the number of rows, and then the rows. With --all it prints the reports of the thirteen queries with
+the benchmark's constants, in order, answered in one pass over the lines.
 
 The queries are Q1.1, Q1.2, Q1.3, Q2.1, Q2.2, Q2.3, Q3.1, Q3.2, Q3.3, Q3.4, Q4.1, Q4.2, Q4.3 and star. Without
-constants one of the thirteen has those of the benchmark; else all of its constants are given, in this order:
+constants, one of the thirteen has those of the benchmark. Else give all of its constants, in this order:
 
   Q1.1        year; discount from, to; quantity from, to
-  Q1.2        year and month, as 199401; discount from, to; quantity from, to
+  Q1.2        year and month, like 199401; discount from, to; quantity from, to
   Q1.3        week; year; discount from, to; quantity from, to
   Q2.1        category; supplier region
   Q2.2        brand from, to; supplier region
@@ -18,23 +18,23 @@ constants one of the thirteen has those of the benchmark; else all of its consta
   Q3.1        customer region; supplier region; year from, to
   Q3.2        customer nation; supplier nation; year from, to
   Q3.3        two customer cities; two supplier cities; year from, to
-  Q3.4        two customer cities; two supplier cities; year and month, as Dec1997
+  Q3.4        two customer cities; two supplier cities; year and month, like Dec1997
   Q4.1        customer region; supplier region; two manufacturers
-  Q4.2        as Q4.1; two years
+  Q4.2        those of Q4.1; two years
   Q4.3        customer region; supplier nation; two years; category
 
-A question of one's own is the query star. Its constants, at most 64, are a measure, then group columns, then tests:
+The query star is a question of your own. Its constants, at most 64, are a measure, then group columns, then tests:
 
   LO_REVENUE, LO_REVENUE-LO_SUPPLYCOST, LO_EXTENDEDPRICE*LO_DISCOUNT, LO_QUANTITY or COUNT
-              what is summed over the lines; COUNT is their number
-  COLUMN      a group column, in the order in which they are printed; at most four, each once
+              the measure: what is summed over the lines; COUNT is the number of lines
+  COLUMN      a group column; they are printed in the order given; at most four, each once
   COLUMN=VALUE
-              the column has the value; again for the same column: one of the values, at most 16
+              a test: the column has this value; given again for the column: one of these values, at most 16
   COLUMN=FROM..TO
-              from the first to the last, both included; once a column, and no other test of it
+              a test: from FROM to TO, both included; once for a column, and no other test of it
   LO_QUANTITY=FROM..TO, LO_DISCOUNT=FROM..TO
-              of the line itself; also one number; once each
-  ORDER=SUM   at the end: from the greatest sum down; else rows stand in the order of the group columns
+              a test of the line itself; also with one number; once each
+  ORDER=SUM   at the end: the largest sum first; without it rows are in the order of the group columns
 
 COLUMN is C_CITY, C_NATION, C_REGION, S_CITY, S_NATION, S_REGION, P_MFGR, P_CATEGORY, P_BRAND1, D_YEAR, D_YEARMONTHNUM,
 D_YEARMONTH or D_WEEKNUMINYEAR.
@@ -47,13 +47,13 @@ Examples:
 
 /// What `run --help` shows.
 pub const RUN_HELP: &str = "\
-Serves 1 to 16 scripts at once over the five table files of a folder: each script is a client of the live server, and
-the dispatchers answer the clients' questions in batches. When all have ended it prints for each script,
-in the order given, the line 'client K' and the report of its records, and at the end the line 'commits C'. With --trace
-it then writes the commits and the answers into FILE, which 'ssb_live audit' checks.
+Loads the five table files of a folder and serves 1 to 16 scripts at once. Each script is a client of the live server,
+and the dispatchers answer the clients' questions in batches. When all scripts have ended, it prints for each script, in
+the order given, the line 'client K' and the report of its records, and at the end the line 'commits C'. With --trace it
+then writes the commits and the answers into FILE, which 'ssb_live audit' checks.
 
-A script has one record a line: 'query|NAME' or 'query|NAME|CONSTANT..' asks; 'begin', then 'add' or 'amend' with
-'line|..' records and 'withdraw|KEY', then 'commit' is one refresh, which is taken whole or refused whole.
+A script has one record on a line. 'query|NAME' or 'query|NAME|CONSTANT..' asks. 'begin', then 'add' or 'amend' with
+'line|..' records, and 'withdraw|KEY', then 'commit' is one refresh, which is accepted whole or refused whole.
 
 Examples:
   ssb_live run --data tables morning.txt
@@ -61,10 +61,10 @@ Examples:
 
 /// What `audit --help` shows.
 pub const AUDIT_HELP: &str = "\
-Reads a trace that 'ssb_live run --trace' wrote, and checks it over the five table files of a folder: each commit is
-accepted after those before it, each answer has the rows of its question after its number of commits, and no client is
-taken back. It prints 'ok C A', the numbers of commits and of answers, or tells what speaks against the trace (status
-3).
+Reads a trace that 'ssb_live run --trace' wrote, and checks it with the five table files of a folder: each commit is
+accepted after those before it, each answer has the rows of its question after its number of commits, and no answer is
+after fewer commits than its client's answer before it. It prints 'ok C A', the number of commits and the number of
+answers, or reports the first error found (status 3).
 
 Example:
   ssb_live audit --data tables run.trace";
@@ -72,17 +72,18 @@ Example:
 /// What `serve --help` shows.
 pub const SERVE_HELP: &str = "\
 Loads the five table files of a folder and serves clients as their requests come, until all have ended. Without --client
-there is one, on standard input and output. Each --client, 1 to 16 of them, is read from IN and answered to OUT: named
-pipes (mkfifo) or files, opened in a thread of its own, OUT first. An OUT that is not there is made, a file is emptied.
+there is one client, on standard input and output. Each --client, 1 to 16 of them, is read from IN and answered to OUT.
+IN and OUT are named pipes (mkfifo) or files; a thread opens them, OUT first. If OUT does not exist, it is created as a
+plain file. If OUT is a plain file, its content is deleted.
 
-A client sends the records of a script: a line 'query|NAME' or 'query|NAME|CONSTANT..', or the lines from 'begin' through
-'commit', is a request, and has its reply before the next is waited for: one line, or a line that tells how many rows
-follow. A request with a fault is answered 'fault: ..', and does nothing. The end of the input ends the session. On a
-terminal the word 'help' shows the queries and their constants.
+A client sends the records of a script. A request is a line 'query|NAME' or 'query|NAME|CONSTANT..', or the lines from
+'begin' to 'commit'. Its reply comes before the server waits for the next request: one line, or a line that says how
+many rows follow. A request with a fault is answered 'fault: ..', and does nothing. The end of the input ends the
+session. At a terminal the word 'help' shows the queries and their constants.
 
-With --journal the commits are kept in FILE, which is made where there is none: a receipt is told when its commit is on
-the disk, an answer when every commit that it saw is. The next server with that FILE, over the same tables, goes on from
-there, whatever ended this one.
+With --journal the commits are kept in FILE, which is created if it does not exist. 'committed N' is sent when commit N
+is on the disk; an answer is sent when all commits that it contains are. The next server with this FILE and the same
+tables goes on from there, whatever has ended this one.
 
 Examples:
   ssb_live serve --data tables
@@ -91,13 +92,13 @@ Examples:
 
 /// What `export --help` shows.
 pub const EXPORT_HELP: &str = "\
-Reads the commits that 'ssb_live serve --journal' kept in FILE, over the same five table files of a folder, and writes
-the tables as they are after them into FOLDER, which is made where there is none, and must be empty: the dimensions in
-their order, the loaded lines that still stand, and then those of commits in the order of the commits. Other programs
-can load them, and a new journal can begin over them. FILE is as it was.
+Reads the commits that 'ssb_live serve --journal' kept in FILE, with the same five table files of a folder. It writes
+the tables as they are after these commits into FOLDER, which is created if it does not exist, and must be empty: the
+dimensions in their order, the loaded lines that are still live, and then the live lines of commits, in the order of the
+commits. Other programs can load these tables, and a new journal can begin with them. FILE is not changed.
 
-The tables are written under other names and named once they are on the disk, lineorder.tbl last: a folder that has it
-has all five. What a run that failed has left in FOLDER has to be taken away by hand.
+The tables are written under other names, and renamed when they are on the disk, lineorder.tbl last: a folder that has
+lineorder.tbl has all five. If an export fails, delete by hand what it has left in FOLDER.
 
 Example:
   ssb_live export --data tables --journal orders.journal --to tables-2";
@@ -105,10 +106,10 @@ Example:
 /// What the word `help` shows on the terminal of a live session.
 pub const TERMINAL_HELP: &str = "\
 query|NAME or query|NAME|CONSTANT.. asks. begin, then add or amend with line|.. records, and withdraw|KEY, then commit
-is one refresh. The end of the input (Ctrl-D) ends the session. The queries, and their constants in order:
+is one refresh. The end of the input (Ctrl-D) ends the session. The queries, and their constants in this order:
 
   Q1.1        year; discount from, to; quantity from, to
-  Q1.2        year and month, as 199401; discount from, to; quantity from, to
+  Q1.2        year and month, like 199401; discount from, to; quantity from, to
   Q1.3        week; year; discount from, to; quantity from, to
   Q2.1        category; supplier region
   Q2.2        brand from, to; supplier region
@@ -116,23 +117,23 @@ is one refresh. The end of the input (Ctrl-D) ends the session. The queries, and
   Q3.1        customer region; supplier region; year from, to
   Q3.2        customer nation; supplier nation; year from, to
   Q3.3        two customer cities; two supplier cities; year from, to
-  Q3.4        two customer cities; two supplier cities; year and month, as Dec1997
+  Q3.4        two customer cities; two supplier cities; year and month, like Dec1997
   Q4.1        customer region; supplier region; two manufacturers
-  Q4.2        as Q4.1; two years
+  Q4.2        those of Q4.1; two years
   Q4.3        customer region; supplier nation; two years; category
 
-A question of one's own is the query star. Its constants, at most 64, are a measure, then group columns, then tests:
+The query star is a question of your own. Its constants, at most 64, are a measure, then group columns, then tests:
 
   LO_REVENUE, LO_REVENUE-LO_SUPPLYCOST, LO_EXTENDEDPRICE*LO_DISCOUNT, LO_QUANTITY or COUNT
-              what is summed over the lines; COUNT is their number
-  COLUMN      a group column, in the order in which they are printed; at most four, each once
+              the measure: what is summed over the lines; COUNT is the number of lines
+  COLUMN      a group column; they are printed in the order given; at most four, each once
   COLUMN=VALUE
-              the column has the value; again for the same column: one of the values, at most 16
+              a test: the column has this value; given again for the column: one of these values, at most 16
   COLUMN=FROM..TO
-              from the first to the last, both included; once a column, and no other test of it
+              a test: from FROM to TO, both included; once for a column, and no other test of it
   LO_QUANTITY=FROM..TO, LO_DISCOUNT=FROM..TO
-              of the line itself; also one number; once each
-  ORDER=SUM   at the end: from the greatest sum down; else rows stand in the order of the group columns
+              a test of the line itself; also with one number; once each
+  ORDER=SUM   at the end: the largest sum first; without it rows are in the order of the group columns
 
 COLUMN is C_CITY, C_NATION, C_REGION, S_CITY, S_NATION, S_REGION, P_MFGR, P_CATEGORY, P_BRAND1, D_YEAR, D_YEARMONTHNUM,
 D_YEARMONTH or D_WEEKNUMINYEAR.
