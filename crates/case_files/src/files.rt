@@ -10,6 +10,7 @@ use std::fs::{Metadata, OpenFile, OpenOptions};
 use std::io;
 use std::io::{Cursor, Error, ErrorKind, Read, Seek, SeekFrom, Write};
 use std::os::unix::fs::FileExt;
+use std::path::{Component, Path, PathBuf};
 use std::rt::Files;
 use std::sync::{Arc, Mutex, MutexGuard};
 use std::thread::yield_now;
@@ -210,6 +211,24 @@ impl Alloc for MemoryFiles {
     }
 }
 
+// The path without `.`, `//` and `..`. There are no links.
+fn resolved<B: Allocator>(alloc: B, path: &str) -> io::Result<PathBuf<B>> {
+    let mut whole = PathBuf::new(alloc);
+    for component in Path::new(path).components() {
+        match component {
+            Component::CurDir => {},
+            Component::ParentDir => {
+                whole.pop();
+            }
+            Component::RootDir | Component::Normal(_) => whole.push(component.as_os_str())?,
+        }
+    }
+    if whole.as_str().is_empty() {
+        whole.push(".")?;
+    }
+    Ok(whole)
+}
+
 fn unsupported<T>() -> io::Result<T> {
     Err(Error::from(ErrorKind::Unsupported))
 }
@@ -244,8 +263,18 @@ impl Files for MemoryFiles {
         }))
     }
 
-    fn metadata(&self, _path: &str) -> io::Result<Metadata> {
-        unsupported()
+    fn metadata(&self, path: &str) -> io::Result<Metadata> {
+        let path = resolved(self.alloc, path)?;
+        match self.contents_of(path.as_str())? {
+            Some(contents) => Ok(Metadata::of_file(hold(&contents)?.len() as u64)),
+            None if self.is_folder(path.as_str())? => Ok(Metadata::of_dir()),
+            None => Err(Error::from(ErrorKind::NotFound)),
+        }
+    }
+
+    fn canonicalize<B: Allocator>(&self, alloc: B, path: &str) -> io::Result<PathBuf<B>> {
+        self.metadata(path)?;
+        resolved(alloc, path)
     }
 
     fn symlink_metadata(&self, _path: &str) -> io::Result<Metadata> {

@@ -6,16 +6,16 @@ use arguments::{
 };
 use audit_command::run_audit;
 use export_command::{ExportPlace, run_export};
-use journal_file::JournalFile;
+use journal_file::{JournalFile, torn_path};
 use query_command::{Settings, run_all, run_query};
 use run_command::{RunSettings, demo, run_scripts};
 use serve_command::{
-    EndPaths, JournalPlace, Prompted, ServeSettings, serve_clients, serve_clients_journaled,
-    serve_stream, serve_stream_journaled,
+    EndPaths, JournalPlace, MOST_CLIENTS, Prompted, ServeSettings, report_no_pipes, serve_clients,
+    serve_clients_journaled, serve_stream, serve_stream_journaled,
 };
 use ssb_files::{
-    Fault, InputSource, Screen, TableBytes, count_tables, make_file, open_file, open_files,
-    open_tables, watch, watch_scripts, watch_tables,
+    Fault, InputSource, PathUse, Screen, TableBytes, UsedPath, check_paths, count_tables,
+    find_tables, make_file, open_file, open_files, open_tables, watch, watch_scripts, watch_tables,
 };
 use ssb_text::Tables;
 use std::alloc::Global;
@@ -79,7 +79,21 @@ struct OpenedRun<O: Write + Drop> {
     trace: Option<BufWriter<O>>,
 }
 
-// Opens the files of a run. The trace is made once the others could be opened.
+// Looks whether the trace of a run would be written over a file that the run reads.
+fn check_trace_path<F: Files + AllocGlobal>(
+    files: &F,
+    words: &RunWords<'_>,
+    trace: &str,
+) -> Result<(), Fault> {
+    let mut paths = find_tables(files, words.data)?;
+    for script in &words.scripts {
+        paths.push(UsedPath::find(files, script, PathUse::Read)?)?;
+    }
+    paths.push(UsedPath::find(files, trace, PathUse::Write)?)?;
+    check_paths(paths.as_slice())
+}
+
+// Opens the files of a run. The trace is made once the others could be opened, and where it is none of them.
 fn open_run<R: RandomSource, F: Files + AllocGlobal>(
     rt: &R,
     files: &F,
@@ -88,7 +102,10 @@ fn open_run<R: RandomSource, F: Files + AllocGlobal>(
     let tables = open_tables(files, words.data)?;
     let scripts = open_files(files, words.scripts.as_slice())?;
     let trace = match words.trace {
-        Some(path) => Some(make_file(files, path)?),
+        Some(path) => {
+            check_trace_path(files, words, path)?;
+            Some(make_file(files, path)?)
+        }
         None => None,
     };
     let Ok(hashing) = RandomState::new(rt) else {
@@ -166,7 +183,26 @@ enum Served<I: Drop, O: Drop> {
     Streams(I, O),
 }
 
-// Opens the tables of a live server. Its clients open their own ends.
+// Looks whether a live server would write over a file that it reads or writes, or that a client is answered to.
+fn check_server_paths<F: Files + AllocGlobal>(
+    files: &F,
+    words: &ServeWords<'_>,
+) -> Result<(), Fault> {
+    let mut paths = find_tables(files, words.data)?;
+    for ends in words.clients.chunks_exact(2) {
+        paths.push(UsedPath::find(files, ends[0], PathUse::Input)?)?;
+        paths.push(UsedPath::find(files, ends[1], PathUse::Output)?)?;
+    }
+    if let Some(journal) = words.journal {
+        let torn = torn_path(files.alloc(), journal)?;
+        paths.push(UsedPath::find(files, journal, PathUse::Write)?)?;
+        paths.push(UsedPath::find(files, torn.as_str(), PathUse::Write)?)?;
+    }
+    check_paths(paths.as_slice())
+}
+
+// Opens the tables of a live server. Its clients open their own ends. Where there are too many of them, that is told,
+// and nothing is opened: so their paths are not looked at.
 fn open_server<R: RandomSource, F: Files + AllocGlobal>(
     rt: &R,
     files: &F,
@@ -174,6 +210,9 @@ fn open_server<R: RandomSource, F: Files + AllocGlobal>(
 ) -> Result<OpenedServer<F::File>, Fault> {
     let tables = open_tables(files, words.data)?;
     let clients = clients_of(files.alloc(), words.clients.as_slice())?;
+    if clients.len() <= MOST_CLIENTS {
+        check_server_paths(files, words)?;
+    }
     let journal = match words.journal {
         Some(path) => Some(String::from_str(files.alloc(), path)?),
         None => None,
@@ -309,6 +348,9 @@ where
         Ok(opened) => opened,
         Err(fault) => return fault.tell(&mut io::writer(errors)),
     };
+    if !words.quiet && clients.len() <= MOST_CLIENTS {
+        report_no_pipes(files, clients.as_slice(), &mut io::writer(errors));
+    }
     let terminal = if streams.shows_progress {
         Some(errors)
     } else {

@@ -5,6 +5,7 @@ use journal_file::OpenError;
 use row_store::Cause;
 use session_requests::RequestError;
 use ssb_audit::AuditFault;
+use ssb_files::PathFault;
 use ssb_journal::{JournalFault, ReplayFault};
 use ssb_questions::{ConstantsFault, NoSuchQuery, Query};
 use ssb_schema::{C_CITY, SchemaFault, Table};
@@ -215,6 +216,19 @@ impl ListsFaults for NotEmpty {
     }
 }
 
+impl ListsFaults for PathFault<&'static str> {
+    fn first() -> PathFault<&'static str> {
+        PathFault::SameFile("answers")
+    }
+
+    fn next(&self) -> Option<PathFault<&'static str>> {
+        match self {
+            PathFault::SameFile(_) => Some(PathFault::HasBytes("answers")),
+            PathFault::HasBytes(_) => None,
+        }
+    }
+}
+
 // Adds the line that each fault of a type prints.
 fn push_lines<F: ListsFaults>(alloc: Global, lines: &mut Vec<String>) -> Result<(), AllocError> {
     let mut fault = F::first();
@@ -244,5 +258,6 @@ pub fn all_lines(alloc: Global) -> Result<Vec<String>, AllocError> {
     push_lines::<ReplayFault>(alloc, &mut lines)?;
     push_lines::<OpenError>(alloc, &mut lines)?;
     push_lines::<NotEmpty>(alloc, &mut lines)?;
+    push_lines::<PathFault<&'static str>>(alloc, &mut lines)?;
     Ok(lines)
 }

@@ -26,6 +26,7 @@ fn value_of(word: &str) -> &str {
         "K" => "6",
         "ACTION:" => "4:",
         "CAUSE" => "47 Absent 77",
+        "PATH" => "answers",
         _ => word,
     }
 }

@@ -26,4 +26,4 @@ mod torn;
 mod transcript;
 
 pub use file_disk::{FileDisk, JournalFile, OpenError};
-pub use torn::keep_torn;
+pub use torn::{keep_torn, torn_path};

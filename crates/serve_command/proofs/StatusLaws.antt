@@ -53,6 +53,7 @@ of_script script.OutOfMemory = inr (inr refl)
 
 of_program : (why : Fault) → IsFaultStatus (status_of why)
 of_program (fault.CannotRead path) = inr (inr refl)
+of_program (fault.Paths why) = inl refl
 of_program fault.NoRandomness = inr (inr refl)
 of_program fault.BadWord = inr (inl refl)
 of_program (fault.NoSuchQuery why) = inr (inl refl)

@@ -1,6 +1,7 @@
 //! The two ends of a client: what it is read from, and what it is answered to.
 
-use std::fs::OpenFile;
+use std::fs::{Metadata, OpenFile};
+use std::io::{self, Write};
 use std::os::unix::fs::FileTypeExt;
 use std::rt::Files;
 use std::{fmt, fs};
@@ -58,16 +59,28 @@ pub fn open_ends<'a, F: Files>(
 }
 
 // Whether the system says that this is a named pipe.
-fn is_named_pipe<O: OpenFile>(file: &O) -> bool {
-    match file.metadata() {
+fn is_named_pipe(found: io::Result<Metadata>) -> bool {
+    match found {
         Ok(metadata) => metadata.file_type().is_fifo(),
         Err(_) => false,
+    }
+}
+
+/// Reports each client that would be answered to no named pipe, by its number from 1, if the writer takes it: it is
+/// mostly a slip, and the server then waits for nobody.
+pub fn report_no_pipes<F: Files, E: Write>(files: &F, clients: &[EndPaths], err: &mut E) {
+    let mut number = 0u64;
+    for paths in clients {
+        number = number.saturating_add(1);
+        if !is_named_pipe(fs::metadata(files, paths.output.as_str())) {
+            let _ = writeln!(err, "ssb_live: client {number}: out is no pipe");
+        }
     }
 }
 
 impl<O: OpenFile + Drop> Ends<O> {
     /// Whether both ends are named pipes, so that they can be opened again for another session.
     pub fn are_named_pipes(&self) -> bool {
-        is_named_pipe(&self.input) && is_named_pipe(&self.output)
+        is_named_pipe(self.input.metadata()) && is_named_pipe(self.output.metadata())
     }
 }

@@ -28,7 +28,7 @@ mod prompted;
 mod serving;
 mod speakers;
 
-pub use ends::{EndFault, EndPaths, Ends, open_ends};
+pub use ends::{EndFault, EndPaths, Ends, open_ends, report_no_pipes};
 pub use journal_fault::JournalRefusal;
 pub use journaled::{JournalPlace, serve_clients_journaled, serve_stream_journaled};
 pub use prompted::Prompted;

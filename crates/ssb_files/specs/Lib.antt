@@ -1,3 +1,4 @@
 pub mod Status
 pub mod Loaded
 pub mod Scripts
+pub mod Paths

@@ -20,7 +20,7 @@ script_status script.Read = 4
 script_status script.OutOfMemory = 4
 script_status _ = 1
 
--- 2: the words are wrong; 4: reading, writing or memory failed
+-- 1: the paths are refused, as data is; 2: the words are wrong; 4: reading, writing or memory failed
 abbrev pub status_of : Fault → ℕ
 status_of (fault.NoSuchQuery why) = 2
 status_of (fault.Constants why) = 2
@@ -30,6 +30,7 @@ status_of fault.TooManyScripts = 2
 status_of (fault.Script number why) = script_status why
 status_of (fault.Trace why) = script_status why
 status_of (fault.CannotRead path) = 4
+status_of (fault.Paths why) = 1
 status_of fault.NoRandomness = 4
 status_of fault.WriteFailed = 4
 status_of fault.OutOfMemory = 4

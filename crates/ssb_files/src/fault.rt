@@ -4,6 +4,7 @@ ghost use Rattle.std.specs.Prelude.{◌≡◌};
 ghost use Rattle.ssb_files.specs.Status.{status_of, script_status};
 ghost use Rattle.ssb_files.specs.declared.fault.Fault.TheVariants.{OutOfMemory};
 
+use crate::path_fault::PathFault;
 use ssb_questions::{ConstantsFault, NoSuchQuery};
 use ssb_script::ScriptError;
 use ssb_text::LoadError;
@@ -16,6 +17,8 @@ use std::io::Write;
 pub enum Fault {
     /// The first file, by its path, that could not be opened.
     CannotRead(String),
+    /// The paths may not be used together.
+    Paths(PathFault<String>),
     /// The system gave no random bytes.
     NoRandomness,
     /// A word of the command line is no UTF-8.
@@ -54,7 +57,7 @@ fn script_status(fault: &ScriptError) -> u8
 }
 
 impl Fault {
-    /// The exit status: 1 where data, a script or a trace was refused, 2 for a wrong command line, 4 where reading,
+    /// The exit status: 1 where paths, data, a script or a trace were refused, 2 for a wrong command line, 4 where reading,
     /// writing or memory failed.
     pub fn status(&self) -> u8
         ensures { result ≡ status_of self.now }
@@ -62,6 +65,7 @@ impl Fault {
         match self {
             Fault::NoSuchQuery(_) | Fault::Constants(_) | Fault::BadWord => 2,
             Fault::TooManyScripts => 2,
+            Fault::Paths(_) => 1,
             Fault::Data(LoadError::Read(_)) | Fault::Data(LoadError::OutOfMemory) => 4,
             Fault::Data(_) => 1,
             Fault::Script(_, fault) | Fault::Trace(fault) => script_status(fault),
@@ -83,6 +87,7 @@ impl fmt::Display for Fault {
     fn fmt<W: fmt::Write>(&self, f: &mut fmt::Formatter<W>) -> fmt::Result {
         match self {
             Fault::CannotRead(path) => write!(f, "cannot read {path}"),
+            Fault::Paths(fault) => write!(f, "paths: {fault}"),
             Fault::NoRandomness => f.write_str("cannot read random bytes"),
             Fault::BadWord => f.write_str("a word is no UTF-8"),
             Fault::NoSuchQuery(fault) => write!(f, "query: {fault}"),

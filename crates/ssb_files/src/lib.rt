@@ -25,16 +25,22 @@
 
 mod counting;
 mod fault;
+mod identity;
 mod job;
 mod loading;
 mod opening;
+mod path_fault;
+mod paths;
 mod progress;
 mod reading;
 
 pub use counting::{Counted, TableBytes, count_tables};
 pub use fault::Fault;
+pub use identity::FileIdentity;
 pub use job::{Finding, JobFault};
 pub use loading::{base_of, base_to_serve};
 pub use opening::{make_file, open_file, open_files, open_tables};
+pub use path_fault::PathFault;
+pub use paths::{PathUse, UsedPath, check_paths, find_tables};
 pub use progress::{InputSource, Screen, Watched, watch, watch_scripts, watch_tables};
 pub use reading::read_scripts;

@@ -1,25 +1,46 @@
 //! The files that the words name, opened in the order in which faults are told.
 
 use crate::fault::Fault;
+use ssb_schema::Table;
 use ssb_text::Tables;
+use std::alloc::AllocError;
 use std::fs;
 use std::io::BufWriter;
 use std::rt::Files;
 
+// The path of a table's file.
+fn table_path<R: AllocGlobal>(rt: &R, folder: &str, table: Table) -> Result<String, AllocError> {
+    format!(in rt.alloc(); "{folder}/{table}.tbl")
+}
+
 // The file of a table, or the fault that names its path.
-fn open_table<R: Files + AllocGlobal>(rt: &R, folder: &str, name: &str) -> Result<R::File, Fault> {
-    let path = format!(in rt.alloc(); "{folder}/{name}.tbl")?;
-    open_file(rt, path.as_str())
+fn open_table<R: Files + AllocGlobal>(
+    rt: &R,
+    folder: &str,
+    table: Table,
+) -> Result<R::File, Fault> {
+    open_file(rt, table_path(rt, folder, table)?.as_str())
+}
+
+/// The paths of the five table files of a folder, in the order in which they are loaded.
+pub(crate) fn table_paths<R: AllocGlobal>(rt: &R, folder: &str) -> Result<[String; 5], AllocError> {
+    Ok([
+        table_path(rt, folder, Table::Customer)?,
+        table_path(rt, folder, Table::Supplier)?,
+        table_path(rt, folder, Table::Part)?,
+        table_path(rt, folder, Table::Date)?,
+        table_path(rt, folder, Table::Lineorder)?,
+    ])
 }
 
 /// The five table files of a folder, or the first that cannot be opened, in the order in which they are loaded.
 pub fn open_tables<R: Files + AllocGlobal>(rt: &R, folder: &str) -> Result<Tables<R::File>, Fault> {
     Ok(Tables {
-        customer: open_table(rt, folder, "customer")?,
-        supplier: open_table(rt, folder, "supplier")?,
-        part: open_table(rt, folder, "part")?,
-        date: open_table(rt, folder, "date")?,
-        lineorder: open_table(rt, folder, "lineorder")?,
+        customer: open_table(rt, folder, Table::Customer)?,
+        supplier: open_table(rt, folder, Table::Supplier)?,
+        part: open_table(rt, folder, Table::Part)?,
+        date: open_table(rt, folder, Table::Date)?,
+        lineorder: open_table(rt, folder, Table::Lineorder)?,
     })
 }
 

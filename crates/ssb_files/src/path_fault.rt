@@ -1,0 +1,21 @@
+//! What speaks against the paths of a command.
+
+use std::fmt;
+
+/// What speaks against the paths of a command: a file of the user would be lost.
+#[derive(Debug, Drop)]
+pub enum PathFault<P: Drop> {
+    /// This path names the file of another path of the command, and one of them is written, or both are ends of clients.
+    SameFile(P),
+    /// This path, to which a client would be answered, is a plain file with bytes in it.
+    HasBytes(P),
+}
+
+impl<P: fmt::Display + Drop> fmt::Display for PathFault<P> {
+    fn fmt<W: fmt::Write>(&self, f: &mut fmt::Formatter<W>) -> fmt::Result {
+        match self {
+            PathFault::SameFile(path) => write!(f, "96 SameFile {path}"),
+            PathFault::HasBytes(path) => write!(f, "97 HasBytes {path}"),
+        }
+    }
+}
