@@ -43,7 +43,9 @@ use Rattle.history.specs.declared.view.Role.TheVariants.{Token as Seat}
 use Rattle.history.specs.declared.view.View.{View}
 use Rattle.history.specs.Words.{store}
 use Rattle.history_core.specs.Numbered.{numbered}
-use Rattle.history_core.specs.World.{World, Mailbox, empty}
+use Rattle.history_core.specs.declared.mailbox.Mailbox.{Mailbox}
+use Rattle.history_core.specs.declared.mailbox.Mailbox.TheVariants.{Empty as empty}
+use Rattle.history_core.specs.World.{World}
 use Rattle.history_core.specs.Kept.{WorldKept}
 use Rattle.history_core.specs.Deeds.{Deed}
 use Rattle.history_core.specs.Parts.{mailbox_at}

@@ -52,7 +52,10 @@ use Rattle.history_core.specs.declared.event.Who.TheVariants.{Dispatcher}
 use Rattle.history_core.specs.declared.event.Reply.{Reply}
 use Rattle.history_core.specs.declared.event.Reply.TheVariants.{NotEnabled}
 use Rattle.history_core.specs.Events.{Questions, Event}
-use Rattle.history_core.specs.World.{World, Mailbox, empty, asked, in_hand, answered, unserved}
+use Rattle.history_core.specs.declared.mailbox.Mailbox.{Mailbox}
+use Rattle.history_core.specs.declared.mailbox.Mailbox.TheVariants.{Empty as empty, Asked as asked, InHand as in_hand}
+use Rattle.history_core.specs.declared.mailbox.Mailbox.TheVariants.{Answered as answered, Unserved as unserved}
+use Rattle.history_core.specs.World.{World}
 use Rattle.history_core.specs.Deeds.{Deed, actor_of, done_by, HasDone}
 use Rattle.history_core.specs.Kept.{WorldKept}
 use Rattle.history_core.specs.Parts.{Part, part_of, mailbox_at}

@@ -71,7 +71,10 @@ use Rattle.history_core.specs.declared.event.Who.TheVariants.{Client, Dispatcher
 use Rattle.history_core.specs.declared.event.Reply.{Reply}
 use Rattle.history_core.specs.declared.event.Reply.TheVariants.{NotEnabled, Done, Asked as Told}
 use Rattle.history_core.specs.Events.{Questions, Event, Post, Grab, Answer as Answering, GiveUp, Collect}
-use Rattle.history_core.specs.World.{World, Mailbox, empty, asked, in_hand, answered, unserved, all_rows_after, mailbox_of}
+use Rattle.history_core.specs.declared.mailbox.Mailbox.{Mailbox}
+use Rattle.history_core.specs.declared.mailbox.Mailbox.TheVariants.{Empty as empty, Asked as asked, InHand as in_hand}
+use Rattle.history_core.specs.declared.mailbox.Mailbox.TheVariants.{Answered as answered, Unserved as unserved}
+use Rattle.history_core.specs.World.{World, all_rows_after, mailbox_of}
 use Rattle.history_core.specs.Deeds.{Deed, actor_of}
 use Rattle.history_core.specs.Kept.{WorldKept}
 use Rattle.history_core.specs.Parts.{part_of, mailbox_at}

@@ -9,7 +9,9 @@ use Rattle.history_core.specs.declared.event.Who.{Who}
 use Rattle.history_core.specs.declared.event.Who.TheVariants.{Client, Dispatcher}
 use Rattle.history_core.specs.Numbered.{numbered, is_there}
 use Rattle.history_core.specs.Events.{Questions}
-use Rattle.history_core.specs.World.{World, Mailbox, in_hand}
+use Rattle.history_core.specs.declared.mailbox.Mailbox.{Mailbox}
+use Rattle.history_core.specs.declared.mailbox.Mailbox.TheVariants.{InHand as in_hand}
+use Rattle.history_core.specs.World.{World}
 use Rattle.history_core.specs.Kept.{WorldKept}
 use Rattle.history_core.specs.Parts.{Part, client_part, dispatcher_part, part_of, mailbox_at}
 use Rattle.history_core.proofs.HistoryLaws.{own_push, known_range}

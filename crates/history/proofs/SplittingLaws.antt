@@ -46,7 +46,8 @@ use Rattle.history.specs.declared.view.Role.{Role}
 use Rattle.history.specs.declared.view.Role.TheVariants.{Dealer, Token, Note, Spent}
 use Rattle.history.specs.declared.view.View.{View}
 use Rattle.history.specs.declared.view.SlotValue.TheVariants.{Writer}
-use Rattle.history_core.specs.World.{World, ClientState, empty}
+use Rattle.history_core.specs.declared.mailbox.Mailbox.TheVariants.{Empty as empty}
+use Rattle.history_core.specs.World.{World, ClientState}
 use Rattle.history_core.specs.Numbered.{numbered}
 use Rattle.history_core.specs.Deeds.{Deed}
 use Rattle.history_core.specs.Parts.{part_of}

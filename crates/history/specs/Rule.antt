@@ -11,7 +11,10 @@ use Rattle.history_core.specs.declared.response.Response.TheVariants as response
 use Rattle.row_store.specs.History.{CommitRecord, IsPrefix}
 use Rattle.history_core.specs.declared.event.Who.{Who}
 use Rattle.history_core.specs.declared.event.Who.TheVariants.{Client, Dispatcher}
-use Rattle.history_core.specs.World.{World, Mailbox, empty, asked, in_hand, answered, unserved, opening_world}
+use Rattle.history_core.specs.declared.mailbox.Mailbox.{Mailbox}
+use Rattle.history_core.specs.declared.mailbox.Mailbox.TheVariants.{Empty as empty, Asked as asked, InHand as in_hand}
+use Rattle.history_core.specs.declared.mailbox.Mailbox.TheVariants.{Answered as answered, Unserved as unserved}
+use Rattle.history_core.specs.World.{World, opening_world}
 use Rattle.history_core.specs.Deeds.{Deed, done_by, HasDone}
 use Rattle.history_core.specs.Parts.{part_of, mailbox_at}
 use Rattle.history.specs.declared.view.Terms.{Terms}

@@ -16,7 +16,9 @@ use Rattle.history.specs.declared.view.Role.TheVariants.{Dealer, Token}
 use Rattle.history.specs.declared.view.View.{View}
 use Rattle.history_core.specs.OwnCommits.{IsOfClients}
 use Rattle.history.specs.Words.{IsAccepted, store, Owns, IsRight, IsRightAt, IsFresh, given_to}
-use Rattle.history_core.specs.World.{World, Mailbox, empty, opening_world}
+use Rattle.history_core.specs.declared.mailbox.Mailbox.{Mailbox}
+use Rattle.history_core.specs.declared.mailbox.Mailbox.TheVariants.{Empty as empty}
+use Rattle.history_core.specs.World.{World, opening_world}
 use Rattle.history_core.specs.TrueRun.{IsTrueRun}
 use Rattle.history_core.specs.Deeds.{Deed, events_of, replies_of, done_by, HasDone}
 use Rattle.history_core.specs.Parts.{part_of, mailbox_at}

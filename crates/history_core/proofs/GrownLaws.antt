@@ -12,7 +12,6 @@ use Rattle.history_core.specs.declared.event.Reply.TheVariants.{Committed}
 use Rattle.history_core.specs.declared.world.World.TheInside.{Inside}
 use Rattle.history_core.specs.Numbered.{revised, numbered, renewed}
 use Rattle.history_core.specs.World.{World, commit_by}
-use Rattle.history_core.specs.MailboxView.{mailbox_in}
 use Rattle.history_core.specs.View.{client_in, dispatcher_in, world_in, IsWithin, ClientsFit, DispatchersFit, IsWorld}
 use Rattle.history_core.specs.Applying.{applying, applied}
 use Rattle.history_core.proofs.HistoryLaws.{own_push, others_push}
@@ -88,12 +87,12 @@ module _ (history : List CommitRecord) (commit : CommitRecord) where
       (λ c at. let h = are.own number c at in λ i. record {
         seen = take-append-le c.seen history (commit ∷ []) h.1 i;
         mine = own_push c.number history commit (made ∙ sym h.0) i;
-        mailbox = mailbox_in c.mailbox;
+        mailbox = c.mailbox;
       })
       (λ other c apart at. let h = are.own other c at in λ i. record {
         seen = take-append-le c.seen history (commit ∷ []) h.1 i;
         mine = others_push c.number history commit (λ e. apart (sym h.0 ∙ (sym e ∙ made))) i;
-        mailbox = mailbox_in c.mailbox;
+        mailbox = c.mailbox;
       })
 
 pub grown_kept : (w : Inside) (store : Warehouse) (commit : CommitRecord) → store ≡ with_commit w.store commit

@@ -5,14 +5,11 @@ use Rattle.std.proofs.Math.Seq.{take-append_seam}
 use Rattle.std.specs.Prelude.{map, IfSome}
 use Rattle.std.specs.Option.{option_map}
 use Rattle.row_store.specs.History.{CommitRecord}
-use Rattle.history_core.specs.declared.mailbox.Mailbox.{Mailbox as Held}
-use Rattle.history_core.specs.declared.mailbox.Mailbox.TheVariants as held
 use Rattle.history_core.specs.declared.client.Client.{Client}
 use Rattle.history_core.specs.declared.dispatcher.Dispatcher.{Dispatcher}
 use Rattle.history_core.specs.declared.dispatcher.Given.{Given as Gave}
 use Rattle.history_core.specs.Numbered.{numbered, renewed}
-use Rattle.history_core.specs.World.{gave, mailbox_of}
-use Rattle.history_core.specs.MailboxView.{mailbox_in, left_by}
+use Rattle.history_core.specs.World.{Mailbox, gave, mailbox_of}
 use Rattle.history_core.specs.Mailboxes.{left_in}
 use Rattle.history_core.specs.OwnCommits.{commits_of}
 use Rattle.history_core.specs.View.{client_in, dispatcher_in}
@@ -55,11 +52,11 @@ module _ (history : List CommitRecord) where
       (map (client_in history) clients) number (λ c. record c { seen = history })
   client_saw clients number =
       renewed_map (client_in history) clients number _ _
-      (λ c i. record { seen = take_all history i; mine = commits_of c.number history; mailbox = mailbox_in c.mailbox })
+      (λ c i. record { seen = take_all history i; mine = commits_of c.number history; mailbox = c.mailbox })
 
-  pub client_put : (clients : List Client) (number : ℕ) (mailbox : Held)
+  pub client_put : (clients : List Client) (number : ℕ) (mailbox : Mailbox)
       → map (client_in history) (renewed clients number (λ c. record c { mailbox = mailbox })) ≡ renewed
-      (map (client_in history) clients) number (λ c. record c { mailbox = mailbox_in mailbox })
+      (map (client_in history) clients) number (λ c. record c { mailbox = mailbox })
   client_put clients number mailbox = renewed_map (client_in history) clients number _ _ (λ c. refl)
 
   pub dispatcher_saw : (dispatchers : List Dispatcher) (number : ℕ)
@@ -110,28 +107,20 @@ pub within_some : (o : Option ℕ) (n : ℕ) → IsWithin o n → IfSome o (λ a
 within_some None n h = tt
 within_some (Some at) n h = h
 
-left_shown : (m : Held) → mailbox_in (left_by m) ≡ left_in (mailbox_in m)
-left_shown held.Empty = refl
-left_shown (held.Asked q f) = refl
-left_shown (held.InHand d q f) = refl
-left_shown (held.Answered q a r) = refl
-left_shown (held.Unserved q u) = refl
-
 pub client_left : (history : List CommitRecord) (clients : List Client) (number : ℕ)
-    → map (client_in history) (renewed clients number (λ c. record c { mailbox = left_by c.mailbox })) ≡ renewed
+    → map (client_in history) (renewed clients number (λ c. record c { mailbox = left_in c.mailbox })) ≡ renewed
     (map (client_in history) clients) number (λ c. record c { mailbox = left_in c.mailbox })
 client_left history clients number =
-    renewed_map (client_in history) clients number _ _
-    (λ c i. record { seen = take c.seen history; mine = commits_of c.number history; mailbox = left_shown c.mailbox i })
+    renewed_map (client_in history) clients number _ _ (λ c. refl)
 
 -- the mailbox of a client, shown
 pub mailbox_shown : (history : List CommitRecord) (clients : List Client) (number : ℕ)
-    → option_map (λ (c : Client). mailbox_in c.mailbox) (numbered clients number) ≡ mailbox_of
+    → option_map (λ (c : Client). c.mailbox) (numbered clients number) ≡ mailbox_of
     (numbered (map (client_in history) clients) number)
 mailbox_shown history clients number =
     go (numbered clients number) ∙ ap mailbox_of (sym (numbered_map (client_in history) clients number))
   where
     go : (o : Option Client)
-        → option_map (λ (c : Client). mailbox_in c.mailbox) o ≡ mailbox_of (option_map (client_in history) o)
+        → option_map (λ (c : Client). c.mailbox) o ≡ mailbox_of (option_map (client_in history) o)
     go None = refl
     go (Some c) = refl

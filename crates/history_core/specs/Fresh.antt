@@ -1,6 +1,6 @@
 -- Clients and dispatchers as they begin.
 use Rattle.std.specs.Prelude.{◌≡◌, ℕ, ◌+◌, List, [], length, Some, None, slice_get}
-use Rattle.history_core.specs.declared.mailbox.Mailbox.TheVariants as held
+use Rattle.history_core.specs.declared.mailbox.Mailbox.TheVariants.{Empty}
 use Rattle.history_core.specs.declared.client.Client.{Client}
 use Rattle.history_core.specs.declared.dispatcher.Dispatcher.{Dispatcher}
 
@@ -8,7 +8,7 @@ use Rattle.history_core.specs.declared.dispatcher.Dispatcher.{Dispatcher}
 pub record OpeningClients (count : ℕ) (clients : List Client) : Type 0 where
   pub count_is : length clients ≡ count
   pub each : (place : ℕ) (client : Client) → slice_get clients place ≡ Some client
-      → client ≡ record { number = place + 1; seen = 0; mailbox = held.Empty }
+      → client ≡ record { number = place + 1; seen = 0; mailbox = Empty }
 
 -- so many dispatchers
 pub record OpeningDispatchers (count : ℕ) (dispatchers : List Dispatcher) : Type 0 where

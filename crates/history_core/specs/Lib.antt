@@ -7,7 +7,6 @@ pub mod Responses
 pub mod Runs
 pub mod Deeds
 pub mod Parts
-pub mod MailboxView
 pub mod Fresh
 pub mod Mailboxes
 pub mod Applying

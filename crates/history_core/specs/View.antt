@@ -5,7 +5,6 @@ use Rattle.history_core.specs.declared.client.Client.{Client}
 use Rattle.history_core.specs.declared.dispatcher.Dispatcher.{Dispatcher}
 use Rattle.history_core.specs.declared.world.World.TheInside.{Inside}
 use Rattle.history_core.specs.Numbered.{numbered}
-use Rattle.history_core.specs.MailboxView.{mailbox_in}
 use Rattle.history_core.specs.World.{World, ClientState, DispatcherState}
 use Rattle.history_core.specs.OwnCommits.{commits_of}
 
@@ -14,7 +13,7 @@ abbrev pub client_in : List CommitRecord → Client → ClientState
 client_in history client = record {
   seen = take client.seen history;
   mine = commits_of client.number history;
-  mailbox = mailbox_in client.mailbox;
+  mailbox = client.mailbox;
 }
 
 abbrev pub dispatcher_in : List CommitRecord → Dispatcher → DispatcherState

@@ -18,19 +18,12 @@ use Rattle.history_core.specs.declared.event.Who.TheVariants.{Client, Dispatcher
 use Rattle.history_core.specs.declared.event.Reply.{Reply}
 use Rattle.history_core.specs.declared.event.Reply.TheVariants.{NotEnabled, Done, Committed, Refused}
 use Rattle.history_core.specs.declared.event.Reply.TheVariants.{Length, Asked as Asks, Rows, Unserved}
+pub use Rattle.history_core.specs.declared.mailbox.Mailbox.{Mailbox}
+pub use Rattle.history_core.specs.declared.mailbox.Mailbox.TheVariants.{Empty as empty, Asked as asked, InHand as in_hand}
+pub use Rattle.history_core.specs.declared.mailbox.Mailbox.TheVariants.{Answered as answered, Unserved as unserved}
 use Rattle.history_core.specs.Events.{Question, Questions, Event, TakeRows, PutRows, Look, Post, Grab}
 use Rattle.history_core.specs.Events.{TakeWriter, PutWriter, Answer, GiveUp, Collect}
 use Rattle.history_core.specs.Numbered.{copies, numbered, renewed, is_there}
-
--- a client's mailbox. A request has its questions and its floor, the number of commits that the client had seen
-pub data Mailbox : Type 0 where
-  empty : Mailbox
-  asked : Questions → ℕ → Mailbox
-  -- in the hand of the dispatcher with this number
-  in_hand : ℕ → Questions → ℕ → Mailbox
-  -- the questions, the number of commits that all rows are after, and the rows of each question
-  answered : Questions → ℕ → List (List ResultRow) → Mailbox
-  unserved : Questions → Cause → Mailbox
 
 -- `mine` are the commits that the client made
 pub record ClientState : Type 0 where

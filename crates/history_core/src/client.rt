@@ -2,8 +2,7 @@
 ghost use Rattle.std.specs.Prelude.{◌≡◌, ◌≤◌, IfOk};
 ghost use Rattle.std.specs.Option.{option_copied, option_map};
 ghost use Rattle.history_core.specs.Fresh.{OpeningClients};
-ghost use Rattle.history_core.specs.Mailboxes.{collected_of};
-ghost use Rattle.history_core.specs.MailboxView.{mailbox_in, left_by};
+ghost use Rattle.history_core.specs.Mailboxes.{left_in, collected_of};
 ghost use Rattle.history_core.specs.Numbered.{numbered, renewed};
 
 use crate::event::Reply;
@@ -83,8 +82,8 @@ impl Clients {
 
     /// Hands out what lies in the client's mailbox, if it is an answer.
     pub fn collect(&mut self, number: u32) -> Reply
-        ensures left { self.new ≡ renewed self.old number (λ c. record c { mailbox = left_by c.mailbox }) }
-        ensures reply { result ≡ collected_of (option_map (λ c. mailbox_in c.mailbox) (numbered self.old number)) }
+        ensures left { self.new ≡ renewed self.old number (λ c. record c { mailbox = left_in c.mailbox }) }
+        ensures reply { result ≡ collected_of (option_map (λ c. c.mailbox) (numbered self.old number)) }
     {
         match place_of(number, self.list.len()) {
             Some(place) => self.list[place].mailbox.collect(),

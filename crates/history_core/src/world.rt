@@ -7,7 +7,6 @@ ghost use Rattle.history_core.specs.Applying.{applied};
 ghost use Rattle.history_core.specs.Events.{event_of, TakeRows, PutRows, Look, Post};
 ghost use Rattle.history_core.specs.Events.{Grab, TakeWriter, PutWriter, Answer, GiveUp};
 ghost use Rattle.history_core.specs.Mailboxes.{floor_of, asked_of, held_of, left_in, collected_of};
-ghost use Rattle.history_core.specs.MailboxView.{mailbox_in};
 ghost use Rattle.history_core.specs.Numbered.{numbered};
 ghost use Rattle.history_core.specs.Runs.{HasRun, IsTrueFromOpening};
 ghost use Rattle.history_core.specs.World.{opening_world, rows_after, all_rows_after, is_known, is_same, holds_rows};
@@ -309,7 +308,14 @@ impl World {
             outcome: Outcome::Served(at),
         };
         self.give(number, given)?;
-        self.put(client, Mailbox::Answered { questions, at, rows });
+        self.put(
+            client,
+            Mailbox::Answered {
+                questions,
+                at,
+                rows,
+            },
+        );
         Ok(Reply::Done)
     }
 
@@ -374,7 +380,7 @@ impl World {
 
     // What lies in the client's mailbox from now on.
     fn put(&mut self, number: u32, mailbox: Mailbox)
-        ensures { self.new ≡ into_mailbox self.old number (mailbox_in mailbox) }
+        ensures { self.new ≡ into_mailbox self.old number mailbox }
     {
         self.clients.put(number, mailbox);
     }

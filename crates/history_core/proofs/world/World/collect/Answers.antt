@@ -2,7 +2,6 @@ use Rattle.std.proofs.Common.{ap, sym, subst, ◌∙◌, length}
 use Rattle.std.specs.Prelude.{map}
 use Rattle.history_core.specs.Numbered.{numbered}
 use Rattle.history_core.specs.View.{world_in, client_in, ClientsFit}
-use Rattle.history_core.specs.MailboxView.{left_by}
 use Rattle.history_core.specs.Mailboxes.{left_in, collected_of}
 use Rattle.history_core.specs.World.{World, with_client, mailbox_of}
 use Rattle.history_core.proofs.ViewLaws.{clients_kept, client_left, mailbox_shown}
@@ -14,7 +13,7 @@ invariant_of-self c = record {
   clients =
       subst (ClientsFit (length c.self.inside.store.log)) (sym c.collect.ensures.left)
       (clients_kept _ c.self.inside.clients c.args.client
-      (λ x. record x { mailbox = left_by x.mailbox }) c.self.invariant.clients (λ n x h. h));
+      (λ x. record x { mailbox = left_in x.mailbox }) c.self.invariant.clients (λ n x h. h));
   dispatchers = c.self.invariant.dispatchers;
 }
 

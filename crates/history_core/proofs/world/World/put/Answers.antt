@@ -1,7 +1,6 @@
 use Rattle.std.proofs.Common.{ap, sym, subst, ◌∙◌, length}
 use Rattle.std.specs.Prelude.{map}
 use Rattle.history_core.specs.View.{world_in, client_in, ClientsFit}
-use Rattle.history_core.specs.MailboxView.{mailbox_in}
 use Rattle.history_core.specs.World.{World, into_mailbox}
 use Rattle.history_core.proofs.ViewLaws.{clients_kept, client_put}
 use Rattle.history_core.proofs.world.World.put.Goals as goal
@@ -22,4 +21,4 @@ returns c =
     ap (λ l. record w { clients = l })
     (ap (map (client_in c.self.inside.store.log)) (c.put.ensures)
     ∙ client_put c.self.inside.store.log c.self.inside.clients c.args.number c.args.mailbox)
-    ∙ ap (λ (w : World). into_mailbox w c.args.number (mailbox_in c.args.mailbox)) c.self.view_is
+    ∙ ap (λ (w : World). into_mailbox w c.args.number c.args.mailbox) c.self.view_is
