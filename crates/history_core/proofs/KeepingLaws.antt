@@ -44,13 +44,47 @@ all_one P x is (suc k) d low = absurd (omega arith)
 all_none : {A : Type 0} (P : A → Type 0) → All P []
 all_none P k d low = absurd (omega arith)
 
-module _ (base : Tables) (clients : ℕ) (w : World) (k : WorldKept base clients w) where
-  -- what marks there are after a change, other than the whole length
-  abbrev Later : List DispatcherState → Type 0
+-- what marks there are after a change: those that were, and the whole length
+module _ (w : World) where
+  abbrev pub Later : List DispatcherState → Type 0
   Later after =
       (number mark : ℕ) → Marks after number mark → (Marks w.dispatchers number mark) ⊎ (mark ≡ length w.history)
 
-  mail_same : (after : List DispatcherState) → Later after → (box : Mailbox)
+  pub sees_later : (n : ℕ) → Later (renewed w.dispatchers n (λ d. record d { seen = w.history }))
+  sees_later n =
+      marks_renewed w.dispatchers n (λ d. record d { seen = w.history }) (length w.history) (λ x m has. inl has)
+
+  pub unmarks_later : (n : ℕ) → Later (renewed w.dispatchers n unmarked)
+  unmarks_later n =
+      marks_renewed w.dispatchers n unmarked (length w.history)
+      (λ x m has. ⊎_elim (λ (e : None ≡ Some m). absurd (cc e)) (λ (e : None ≡ Some m). absurd (cc e)) has)
+
+  pub marks_later : (n : ℕ)
+      → Later (renewed w.dispatchers n (λ d. record d { seen = w.history; mark = Some (length w.history) }))
+  marks_later n =
+      marks_renewed w.dispatchers n (λ d. record d { seen = w.history; mark = Some (length w.history) })
+      (length w.history)
+      (λ x m has. ⊎_elim
+      (λ (e : Some (length w.history) ≡ Some m). let same : length w.history ≡ m = cc e in inr (sym same))
+      (λ (e : x.version ≡ Some m). inl (inr e)) has)
+
+  pub versions_later : (n : ℕ) → Later (renewed w.dispatchers n (λ d. record d { version = d.mark }))
+  versions_later n =
+      marks_renewed w.dispatchers n (λ d. record d { version = d.mark }) (length w.history)
+      (λ x m has. ⊎_elim (λ (e : x.mark ≡ Some m). inl (inl e)) (λ (e : x.mark ≡ Some m). inl (inl e)) has)
+
+  pub gives_later : (n client floor : ℕ) (outcome : Outcome)
+      → Later (renewed w.dispatchers n (gave client floor outcome))
+  gives_later n client floor outcome =
+      marks_renewed w.dispatchers n (gave client floor outcome) (length w.history) (λ x m has. inl has)
+
+  pub version_marks : (n at : ℕ) (o : Option DispatcherState) → numbered w.dispatchers n ≡ o → version_of o ≡ Some at
+      → Marks w.dispatchers n at
+  version_marks n at None there e = absurd (cc e)
+  version_marks n at (Some d) there e = (d, there, inr e)
+
+module _ (base : Tables) (clients : ℕ) (w : World) (k : WorldKept base clients w) where
+  mail_same : (after : List DispatcherState) → Later w after → (box : Mailbox)
       → MailKept w.base w.history w.dispatchers box → MailKept w.base w.history after box
   mail_same after later empty t = tt
   mail_same after later (asked q floor) t = t
@@ -63,7 +97,7 @@ module _ (base : Tables) (clients : ℕ) (w : World) (k : WorldKept base clients
   mail_same after later (unserved q cause) t = tt
 
   moved : (rows : Option Who) (writer : Option ℕ) (number : ℕ) (f : ClientState → ClientState) (holder : ℕ)
-      (g : DispatcherState → DispatcherState) → Later (renewed w.dispatchers holder g)
+      (g : DispatcherState → DispatcherState) → Later w (renewed w.dispatchers holder g)
       → ((c : ClientState) → (f c).mine ≡ c.mine)
       → ((c : ClientState) → ((f c).seen ≡ c.seen) ⊎ ((f c).seen ≡ w.history))
       → ((c : ClientState) → numbered w.clients number ≡ Some c → ClientKept w.base w.history w.dispatchers c
@@ -127,7 +161,7 @@ module _ (base : Tables) (clients : ℕ) (w : World) (k : WorldKept base clients
 
   -- a dispatcher's part changes
   of_dispatcher : (rows : Option Who) (writer : Option ℕ) (holder : ℕ) (g : DispatcherState → DispatcherState)
-      → Later (renewed w.dispatchers holder g)
+      → Later w (renewed w.dispatchers holder g)
       → ((d : DispatcherState) → DispatcherKept w.history d → DispatcherKept w.history (g d))
       → WorldKept base clients record {
         base = w.base;
@@ -165,14 +199,9 @@ module _ (base : Tables) (clients : ℕ) (w : World) (k : WorldKept base clients
       }
   dispatcher_sees rows writer number =
       of_dispatcher rows writer number (λ d. record d { seen = w.history })
-      (marks_renewed w.dispatchers number (λ d. record d { seen = w.history }) (length w.history) (λ x m has. inl has))
+      (sees_later w number)
       (λ d was.
       record { seen = begins_with_itself w.history; marks = was.marks; marks_seen = was.marks; given = was.given })
-
-  unmarks_later : (number : ℕ) → Later (renewed w.dispatchers number unmarked)
-  unmarks_later number =
-      marks_renewed w.dispatchers number unmarked (length w.history)
-      (λ x m has. ⊎_elim (λ (e : None ≡ Some m). absurd (cc e)) (λ (e : None ≡ Some m). absurd (cc e)) has)
 
   unmarked_kept : (d : DispatcherState) → DispatcherKept w.history d → DispatcherKept w.history (unmarked d)
   unmarked_kept d was =
@@ -273,11 +302,7 @@ module _ (base : Tables) (clients : ℕ) (w : World) (k : WorldKept base clients
   puts (Client n) (Some actions) false holds is = k
   puts (Dispatcher n) None true true is =
       of_dispatcher None w.writer n (λ d. record d { seen = w.history; mark = Some (length w.history) })
-      (marks_renewed w.dispatchers n (λ d. record d { seen = w.history; mark = Some (length w.history) })
-      (length w.history)
-      (λ x m has. ⊎_elim
-      (λ (e : Some (length w.history) ≡ Some m). let same : length w.history ≡ m = cc e in inr (sym same))
-      (λ (e : x.version ≡ Some m). inl (inr e)) has))
+      (marks_later w n)
       (λ d was. record {
         seen = begins_with_itself w.history;
         marks =
@@ -300,14 +325,13 @@ module _ (base : Tables) (clients : ℕ) (w : World) (k : WorldKept base clients
   looks who false = k
 
   takes_writer : (n : ℕ) (known : Bool) (holder : Option ℕ) → WorldKept base clients (taking_writer w n known holder).0
-  takes_writer n true None = of_dispatcher w.rows (Some n) n unmarked (unmarks_later n) unmarked_kept
+  takes_writer n true None = of_dispatcher w.rows (Some n) n unmarked (unmarks_later w n) unmarked_kept
   takes_writer n true (Some holder) = k
   takes_writer n false holder = k
 
   puts_writer : (n : ℕ) (known holds : Bool) → WorldKept base clients (putting_writer w n known holds).0
   puts_writer n true true = of_dispatcher w.rows None n (λ d. record d { version = d.mark })
-      (marks_renewed w.dispatchers n (λ d. record d { version = d.mark }) (length w.history)
-      (λ x m has. ⊎_elim (λ (e : x.mark ≡ Some m). inl (inl e)) (λ (e : x.mark ≡ Some m). inl (inl e)) has))
+      (versions_later w n)
       (λ d was. record {
         seen = was.seen;
         marks =
@@ -348,7 +372,7 @@ module _ (base : Tables) (clients : ℕ) (w : World) (k : WorldKept base clients
   grabs : (n client : ℕ) (known : Bool) (o : Option Mailbox) → mailbox_of (numbered w.clients client) ≡ o
       → WorldKept base clients (grabbing w n client known o).0
   grabs n client true (Some (asked q floor)) is =
-      moved w.rows w.writer client (λ c. record c { mailbox = in_hand n q floor }) n unmarked (unmarks_later n)
+      moved w.rows w.writer client (λ c. record c { mailbox = in_hand n q floor }) n unmarked (unmarks_later w n)
       (λ c. refl) (λ c. inl refl)
       (λ c at was. record {
         seen = was.seen;
@@ -364,10 +388,6 @@ module _ (base : Tables) (clients : ℕ) (w : World) (k : WorldKept base clients
   grabs n client true None is = k
   grabs n client false o is = k
 
-  gave_later : (n client floor : ℕ) (outcome : Outcome) → Later (renewed w.dispatchers n (gave client floor outcome))
-  gave_later n client floor outcome =
-      marks_renewed w.dispatchers n (gave client floor outcome) (length w.history) (λ x m has. inl has)
-
   gave_kept : (client floor : ℕ) (outcome : Outcome) → OutcomeKept w.history floor outcome → (d : DispatcherState)
       → DispatcherKept w.history d → DispatcherKept w.history (gave client floor outcome d)
   gave_kept client floor outcome is d was =
@@ -381,11 +401,6 @@ module _ (base : Tables) (clients : ℕ) (w : World) (k : WorldKept base clients
             (all_one (GivenKept w.history) _ is);
       }
 
-  version_marks : (n at : ℕ) (o : Option DispatcherState) → numbered w.dispatchers n ≡ o → version_of o ≡ Some at
-      → Marks w.dispatchers n at
-  version_marks n at None there e = absurd (cc e)
-  version_marks n at (Some d) there e = (d, there, inr e)
-
   answers : (n client : ℕ) (version : Option ℕ) (o : Option Mailbox) → version_of (numbered w.dispatchers n) ≡ version
       → mailbox_of (numbered w.clients client) ≡ o → WorldKept base clients (answering w n client version o).0
   answers n client (Some at) (Some (in_hand holder q floor)) marked is = go (holder == n) refl
@@ -394,14 +409,14 @@ module _ (base : Tables) (clients : ℕ) (w : World) (k : WorldKept base clients
           → WorldKept base clients (answering w n client (Some at) (Some (in_hand holder q floor))).0
       go true same = let mine : holder ≡ n = grind (arith, nat_tests) in
           let t = mail_kept client (numbered w.clients client) (in_hand holder q floor) refl is in
-          let has = version_marks n at (numbered w.dispatchers n) refl marked in
+          let has = version_marks w n at (numbered w.dispatchers n) refl marked in
           let low : floor ≤ at =
           t.1 at (subst (λ i. Marks w.dispatchers i at) (sym mine) has) in
           let high : at ≤ length w.history = (k.dispatcher n has.0 has.1).marks at has.2 in
           rw same
           (moved w.rows w.writer client
           (λ c. record c { mailbox = answered q at (all_rows_after w.base q (take at w.history)) }) n
-          (gave client floor (Served at)) (gave_later n client floor (Served at)) (λ c. refl) (λ c. inl refl)
+          (gave client floor (Served at)) (gives_later w n client floor (Served at)) (λ c. refl) (λ c. inl refl)
           (λ c there was. record { seen = was.seen; mail = (high, refl) })
           (gave_kept client floor (Served at) (low, high)))
       go false apart = rw apart k
@@ -421,7 +436,7 @@ module _ (base : Tables) (clients : ℕ) (w : World) (k : WorldKept base clients
       go true same =
           rw same
           (moved w.rows w.writer client (λ c. record c { mailbox = unserved q cause }) n
-          (gave client floor (GivenUp cause)) (gave_later n client floor (GivenUp cause)) (λ c. refl) (λ c. inl refl)
+          (gave client floor (GivenUp cause)) (gives_later w n client floor (GivenUp cause)) (λ c. refl) (λ c. inl refl)
           (λ c there was. record { seen = was.seen; mail = tt }) (gave_kept client floor (GivenUp cause) tt))
       go false apart = rw apart k
   gives_up n client cause true (Some empty) = k

@@ -1,7 +1,7 @@
 -- Each event takes what is known of a run one event further.
-use Rattle.std.proofs.Common.{◌≡◌, ◌≢◌, ◌⊎◌, ℕ, ◌+◌, ◌≤◌, ◌==◌, Bool, true, false}
+use Rattle.std.proofs.Common.{◌≡◌, ◌≢◌, ℕ, ◌+◌, ◌≤◌, ◌==◌, Bool, true, false}
 use Rattle.std.proofs.Common.{List, [], ◌∷◌, ◌++◌, length, take, Option, Some, None, refl, ap, sym}
-use Rattle.std.proofs.Common.{subst, ◌∙◌, inl, inr, ⊎_elim, arith, append_assoc}
+use Rattle.std.proofs.Common.{subst, ◌∙◌, inl, arith, append_assoc}
 use Rattle.std.proofs.lemmas.List.{append-nil}
 use Rattle.std.proofs.Math.Seq.{take-append_seam}
 use Rattle.std.proofs.lemmas.Bool.Decides.{nat_tests}
@@ -13,7 +13,6 @@ use Rattle.row_store.specs.History.{CommitRecord}
 use Rattle.row_store.specs.Refusals.{refusal_of}
 use Rattle.row_store.specs.declared.refusal.Refusal.{Refusal}
 use Rattle.row_store.proofs.HistoryLaws.{accepted_stays_legal}
-use Rattle.history_core.specs.declared.dispatcher.Outcome.{Outcome}
 use Rattle.history_core.specs.declared.dispatcher.Outcome.TheVariants.{Served, GivenUp}
 use Rattle.history_core.specs.declared.event.Who.{Who}
 use Rattle.history_core.specs.declared.event.Who.TheVariants.{Client, Dispatcher}
@@ -31,9 +30,10 @@ use Rattle.history_core.specs.World.{putting_writer, answering, giving_up, colle
 use Rattle.history_core.specs.TrueRun.{is_committed, commits_before, IsOfRequest, IsTrueReply, IsTrueRun}
 use Rattle.history_core.specs.Runs.{EveryRunIsTrue}
 use Rattle.history_core.proofs.HistoryLaws.{some_injective, some_ne_none, at_last}
-use Rattle.history_core.proofs.HistoryLaws.{each_renewed, numbered_copies, marks_renewed, unmarked_none}
+use Rattle.history_core.proofs.HistoryLaws.{each_renewed, numbered_copies, unmarked_none}
 use Rattle.history_core.specs.Kept.{Marks, WorldKept}
-use Rattle.history_core.proofs.KeepingLaws.{mail_kept, step_kept, opening_kept, every_world}
+use Rattle.history_core.proofs.KeepingLaws.{Later, sees_later, unmarks_later, marks_later, versions_later, gives_later}
+use Rattle.history_core.proofs.KeepingLaws.{version_marks, mail_kept, step_kept, opening_kept, every_world}
 use Rattle.history_core.proofs.TraceLaws.{MailTraced, Traced, before_front, outstanding_on}
 use Rattle.history_core.proofs.TraceLaws.{outstanding_grabbed, posted_now, run_on, run_same, mail_on}
 
@@ -52,7 +52,7 @@ module _ (base : Tables) (clients : ℕ) (es : List Event) (rs : List Reply) (w 
       (ds : List DispatcherState)
       → is_committed r ≡ false
       → IsTrueReply w.base es rs w.history (length rs) e r
-      → ((n mark : ℕ) → Marks ds n mark → (Marks w.dispatchers n mark) ⊎ (mark ≡ length w.history))
+      → Later w ds
       → ((c : ℕ) → c ≢ number → IsOfRequest c e r → ⊥)
       → ((c : ClientState) → numbered w.clients number ≡ Some c
       → MailTraced (es ++ e ∷ []) (rs ++ r ∷ []) ds number (f c).mailbox)
@@ -79,7 +79,7 @@ module _ (base : Tables) (clients : ℕ) (es : List Event) (rs : List Reply) (w 
       (f : ClientState → ClientState) (ds : List DispatcherState)
       → is_committed r ≡ false
       → IsTrueReply w.base es rs w.history (length rs) e r
-      → ((n mark : ℕ) → Marks ds n mark → (Marks w.dispatchers n mark) ⊎ (mark ≡ length w.history))
+      → Later w ds
       → ((c : ClientState) → (f c).mailbox ≡ c.mailbox)
       → ((c : ℕ) → IsOfRequest c e r → ⊥)
       → Traced (es ++ e ∷ []) (rs ++ r ∷ []) record {
@@ -113,19 +113,13 @@ module _ (base : Tables) (clients : ℕ) (es : List Event) (rs : List Reply) (w 
       quieted e NotEnabled w.rows w.writer 0 (λ c. c) w.dispatchers refl tt (λ n m h. inl h) (λ c. refl)
       (not_enabled e)
 
-  sees_only : (number : ℕ) (n mark : ℕ)
-      → Marks (renewed w.dispatchers number (λ d. record d { seen = w.history })) n mark
-      → (Marks w.dispatchers n mark) ⊎ (mark ≡ length w.history)
-  sees_only number =
-      marks_renewed w.dispatchers number (λ d. record d { seen = w.history }) (length w.history) (λ x m has. inl has)
-
   takes : (who : Who) (known : Bool) (holder : Option Who) → Next (TakeRows who) (taking_rows w who known holder)
   takes (Client n) true None =
       quieted (TakeRows (Client n)) Done (Some (Client n)) w.writer n
       (λ c. record c { seen = w.history }) w.dispatchers refl tt (λ _ _ h. inl h) (λ c. refl) (λ c h. h)
   takes (Dispatcher n) true None =
       quieted (TakeRows (Dispatcher n)) Done (Some (Dispatcher n)) w.writer 0 (λ c. c)
-      (renewed w.dispatchers n (λ d. record d { seen = w.history })) refl tt (sees_only n) (λ c. refl)
+      (renewed w.dispatchers n (λ d. record d { seen = w.history })) refl tt (sees_later w n) (λ c. refl)
       (λ c h. h)
   takes who true (Some holder) = still (TakeRows who)
   takes who false holder = still (TakeRows who)
@@ -176,11 +170,7 @@ module _ (base : Tables) (clients : ℕ) (es : List Event) (rs : List Reply) (w 
   puts (Dispatcher n) None true true =
       quieted (PutRows (Dispatcher n) None) Done None w.writer 0 (λ c. c)
       (renewed w.dispatchers n (λ d. record d { seen = w.history; mark = Some (length w.history) })) refl tt
-      (marks_renewed w.dispatchers n (λ d. record d { seen = w.history; mark = Some (length w.history) })
-      (length w.history)
-      (λ x m has. ⊎_elim
-      (λ (e : Some (length w.history) ≡ Some m). let same : length w.history ≡ m = cc e in inr (sym same))
-      (λ (e : x.version ≡ Some m). inl (inr e)) has))
+      (marks_later w n)
       (λ c. refl) (λ c h. h)
   puts (Dispatcher n) None true false = still (PutRows (Dispatcher n) None)
   puts (Dispatcher n) None false holds = still (PutRows (Dispatcher n) None)
@@ -193,14 +183,13 @@ module _ (base : Tables) (clients : ℕ) (es : List Event) (rs : List Reply) (w 
       (λ c h. h)
   looks (Dispatcher n) true =
       quieted (Look (Dispatcher n)) (Length (length w.history)) w.rows w.writer 0 (λ c. c)
-      (renewed w.dispatchers n (λ d. record d { seen = w.history })) refl k.run.no_others (sees_only n) (λ c. refl) (λ c h. h)
+      (renewed w.dispatchers n (λ d. record d { seen = w.history })) refl k.run.no_others (sees_later w n) (λ c. refl) (λ c h. h)
   looks who false = still (Look who)
 
   takes_writer : (n : ℕ) (known : Bool) (holder : Option ℕ) → Next (TakeWriter n) (taking_writer w n known holder)
   takes_writer n true None =
       quieted (TakeWriter n) Done w.rows (Some n) 0 (λ c. c) (renewed w.dispatchers n unmarked) refl tt
-      (marks_renewed w.dispatchers n unmarked (length w.history)
-      (λ x m has. ⊎_elim (λ (e : None ≡ Some m). absurd (cc e)) (λ (e : None ≡ Some m). absurd (cc e)) has))
+      (unmarks_later w n)
       (λ c. refl) (λ c h. h)
   takes_writer n true (Some holder) = still (TakeWriter n)
   takes_writer n false holder = still (TakeWriter n)
@@ -209,8 +198,7 @@ module _ (base : Tables) (clients : ℕ) (es : List Event) (rs : List Reply) (w 
   puts_writer n true true =
       quieted (PutWriter n) Done w.rows None 0 (λ c. c)
       (renewed w.dispatchers n (λ d. record d { version = d.mark })) refl tt
-      (marks_renewed w.dispatchers n (λ d. record d { version = d.mark }) (length w.history)
-      (λ x m has. ⊎_elim (λ (e : x.mark ≡ Some m). inl (inl e)) (λ (e : x.mark ≡ Some m). inl (inl e)) has))
+      (versions_later w n)
       (λ c. refl) (λ c h. h)
   puts_writer n true false = still (PutWriter n)
   puts_writer n false holds = still (PutWriter n)
@@ -244,8 +232,7 @@ module _ (base : Tables) (clients : ℕ) (es : List Event) (rs : List Reply) (w 
   grabs n client true (Some (asked questions floor)) is =
       moved (Grab n client) (Asks questions) w.rows w.writer client
       (λ c. record c { mailbox = in_hand n questions floor }) (renewed w.dispatchers n unmarked) refl tt
-      (marks_renewed w.dispatchers n unmarked (length w.history)
-      (λ x m has. ⊎_elim (λ (e : None ≡ Some m). absurd (cc e)) (λ (e : None ≡ Some m). absurd (cc e)) has))
+      (unmarks_later w n)
       (apart_from client)
       (λ c at. (
         outstanding_grabbed es rs even (Grab n client) (Asks questions) client n questions refl refl
@@ -259,17 +246,6 @@ module _ (base : Tables) (clients : ℕ) (es : List Event) (rs : List Reply) (w 
   grabs n client true None is = still (Grab n client)
   grabs n client false o is = still (Grab n client)
 
-  version_marks : (n at : ℕ) (o : Option DispatcherState) → numbered w.dispatchers n ≡ o → version_of o ≡ Some at
-      → Marks w.dispatchers n at
-  version_marks n at None there e = absurd (cc e)
-  version_marks n at (Some d) there e = (d, there, inr e)
-
-  gave_marks : (n client floor : ℕ) (outcome : Outcome) (i mark : ℕ)
-      → Marks (renewed w.dispatchers n (gave client floor outcome)) i mark
-      → (Marks w.dispatchers i mark) ⊎ (mark ≡ length w.history)
-  gave_marks n client floor outcome =
-      marks_renewed w.dispatchers n (gave client floor outcome) (length w.history) (λ x m has. inl has)
-
   answers : (n client : ℕ) (version : Option ℕ) (o : Option Mailbox) → version_of (numbered w.dispatchers n) ≡ version
       → mailbox_of (numbered w.clients client) ≡ o → Next (Answer n client) (answering w n client version o)
   answers n client (Some at) (Some (in_hand holder questions floor)) marked is = go (holder == n) refl
@@ -278,7 +254,7 @@ module _ (base : Tables) (clients : ℕ) (es : List Event) (rs : List Reply) (w 
           → Next (Answer n client) (answering w n client (Some at) (Some (in_hand holder questions floor)))
       go true same = let mine : holder ≡ n = grind (arith, nat_tests) in
           let t = told client (numbered w.clients client) (in_hand holder questions floor) refl is in
-          let has = version_marks n at (numbered w.dispatchers n) refl marked in
+          let has = version_marks w n at (numbered w.dispatchers n) refl marked in
           let low = t.1 at (subst (λ i. Marks w.dispatchers i at) (sym mine) has) in
           let high = high_marks n at has in let early = t.0.grabbed_before in
           let front = before_front es rs even (Answer n client) Done t.0.grabbed (omega arith) in
@@ -286,7 +262,7 @@ module _ (base : Tables) (clients : ℕ) (es : List Event) (rs : List Reply) (w 
           (moved (Answer n client) Done w.rows w.writer client
           (λ c. record c { mailbox = answered questions at (all_rows_after w.base questions (take at w.history)) })
           (renewed w.dispatchers n (gave client floor (Served at))) refl tt
-          (gave_marks n client floor (Served at)) (λ c other h. h)
+          (gives_later w n client floor (Served at)) (λ c other h. h)
           (λ c there. (
             outstanding_on es rs even (Answer n client) Done client questions (λ h. h) t.0,
             omega arith,
@@ -310,7 +286,7 @@ module _ (base : Tables) (clients : ℕ) (es : List Event) (rs : List Reply) (w 
           (moved (GiveUp n client cause) Done w.rows w.writer client
           (λ c. record c { mailbox = unserved questions cause })
           (renewed w.dispatchers n (gave client floor (GivenUp cause))) refl tt
-          (gave_marks n client floor (GivenUp cause)) (λ c other h. h)
+          (gives_later w n client floor (GivenUp cause)) (λ c other h. h)
           (λ c there. outstanding_on es rs even (GiveUp n client cause) Done client questions (λ h. h) t.0))
       go false apart = rw apart (still (GiveUp n client cause))
   gives_up n client cause true (Some empty) is = still (GiveUp n client cause)
