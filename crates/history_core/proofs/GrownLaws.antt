@@ -99,8 +99,8 @@ pub grown_kept : (w : Inside) (store : Warehouse) (commit : CommitRecord) → st
     → IsWorld w → IsWorld record w { store = store }
 grown_kept w store commit is k = subst (λ (s : Warehouse). IsWorld record w { store = s }) (sym is) record {
   base = k.base;
-  clients = clients_more w.store.log commit w.clients k.clients;
-  dispatchers = dispatchers_more w.store.log commit w.dispatchers k.dispatchers;
+  clients = clients_more w.store.log commit w.clients.items k.clients;
+  dispatchers = dispatchers_more w.store.log commit w.dispatchers.items k.dispatchers;
 }
 
 pub applied_grown : (w : Inside) (store : Warehouse) (client : ℕ) (actions : List Action) (number : ℕ) → IsWorld w
@@ -115,8 +115,8 @@ applied_grown w store client actions number k accepted is count =
     ap (applying (world_in w) client actions) accepted
     ∙ (λ i. (
       record shown {
-        clients = sym (clients_grown w.store.log commit w.clients client refl k.clients) i;
-        dispatchers = sym (dispatchers_grown w.store.log commit w.dispatchers k.dispatchers) i;
+        clients = sym (clients_grown w.store.log commit w.clients.items client refl k.clients) i;
+        dispatchers = sym (dispatchers_grown w.store.log commit w.dispatchers.items k.dispatchers) i;
       },
       Committed (counted i),
     ))

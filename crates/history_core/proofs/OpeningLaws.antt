@@ -40,12 +40,12 @@ idle_dispatchers commits count dispatchers idle = record { own = own }
         (sym (idle.each place d at)) (zero-le, tt, tt)
 
 pub opening_kept : (w : Inside) (clients dispatchers : ℕ) → w.base.value ≡ w.store.base
-    → OpeningClients clients w.clients → OpeningDispatchers dispatchers w.dispatchers → IsWorld w
+    → OpeningClients clients w.clients.items → OpeningDispatchers dispatchers w.dispatchers.items → IsWorld w
 opening_kept w clients dispatchers base new idle =
     record {
       base = base;
-      clients = new_clients _ clients w.clients new;
-      dispatchers = idle_dispatchers _ dispatchers w.dispatchers idle;
+      clients = new_clients _ clients w.clients.items new;
+      dispatchers = idle_dispatchers _ dispatchers w.dispatchers.items idle;
     }
 
 abbrev newcomer : ClientState
@@ -55,20 +55,20 @@ abbrev idler : DispatcherState
 idler = record { seen = []; mark = None; version = None; given = [] }
 
 pub opening_shown : (w : Inside) (base : Tables) (clients dispatchers : ℕ) → w.rows ≡ None → w.writer ≡ None
-    → w.store ≡ record { base = base; log = [] } → OpeningClients clients w.clients
-    → OpeningDispatchers dispatchers w.dispatchers → world_in w ≡ opening_world base clients dispatchers
+    → w.store ≡ record { base = base; log = [] } → OpeningClients clients w.clients.items
+    → OpeningDispatchers dispatchers w.dispatchers.items → world_in w ≡ opening_world base clients dispatchers
 opening_shown w base clients dispatchers rows writer is new idle =
-    let cs : map (client_in []) w.clients ≡ copies clients record { seen = []; mine = []; mailbox = empty } =
-    all_same (client_in []) w.clients _ (λ place c at. ap (client_in []) (new.each place c at))
+    let cs : map (client_in []) w.clients.items ≡ copies clients record { seen = []; mine = []; mailbox = empty } =
+    all_same (client_in []) w.clients.items _ (λ place c at. ap (client_in []) (new.each place c at))
     ∙ ap (λ n. copies n newcomer) new.count_is in
     let ds : map
-    (dispatcher_in []) w.dispatchers ≡ copies dispatchers record {
+    (dispatcher_in []) w.dispatchers.items ≡ copies dispatchers record {
       seen = [];
       mark = None;
       version = None;
       given = [];
     } =
-    all_same (dispatcher_in []) w.dispatchers _ (λ place d at. ap (dispatcher_in []) (idle.each place d at))
+    all_same (dispatcher_in []) w.dispatchers.items _ (λ place d at. ap (dispatcher_in []) (idle.each place d at))
     ∙ ap (λ n. copies n idler) idle.count_is in
     ap (λ (s : Warehouse). world_in record w { store = s }) is
     ∙ λ i. record {

@@ -54,18 +54,11 @@ module _ {A : Type 0} where
       go true e = let t : None ≡ Some first = is ∙ rw e refl in absurd (cc t)
       go false e = let long : length l ≤ first = grind (arith, nat_tests) in sym (revised_out l first f long)
 
-  -- the same of a list that is seen as another
-  pub renewed_write : (l shown : List A) (number place count : ℕ) (f : A → A) (x : A) → x ≡ slice_index_or l place x
-      → l ≡ shown → count ≡ length l → Some place ≡ place_within number count
-      → slice_set l place (f x) ≡ renewed shown number f
-  renewed_write l shown number place count f x there view len is =
+  pub renewed_write : (l : List A) (number place count : ℕ) (f : A → A) (x : A) → x ≡ slice_index_or l place x
+      → count ≡ length l → Some place ≡ place_within number count → slice_set l place (f x) ≡ renewed l number f
+  renewed_write l number place count f x there len is =
       ap (λ y. slice_set l place (f y)) there
-      ∙ (renewed_some l number place f x (is ∙ ap (place_within number) len) ∙ ap (λ m. renewed m number f) view)
-
-  pub renewed_nowhere : (l shown : List A) (number count : ℕ) (f : A → A) → l ≡ shown → count ≡ length l
-      → None ≡ place_within number count → shown ≡ renewed shown number f
-  renewed_nowhere l shown number count f view len is =
-      renewed_none shown number f (is ∙ ap (place_within number) (len ∙ ap length view))
+      ∙ renewed_some l number place f x (is ∙ ap (place_within number) len)
 
   pub get_within : (l : List A) (place : ℕ) (x : A) → place < length l
       → slice_get l place ≡ Some (slice_index_or l place x)
@@ -79,28 +72,27 @@ module _ {A : Type 0} where
   get_past (y ∷ ys) (suc place) h = get_past ys place (omega arith)
 
   -- what is read at the place of a number is the element of that number
-  pub numbered_read : (l shown : List A) (number place count : ℕ) (x : A) → x ≡ slice_index_or l place x → l ≡ shown
-      → count ≡ length l → Some place ≡ place_within number count → numbered shown number ≡ Some x
-  numbered_read l shown zero place count x there view len is = absurd (cc is)
-  numbered_read l shown (suc first) place count x there view len is = go (nat_lt first count) refl
+  pub numbered_read : (l : List A) (number place count : ℕ) (x : A) → x ≡ slice_index_or l place x
+      → count ≡ length l → Some place ≡ place_within number count → numbered l number ≡ Some x
+  numbered_read l zero place count x there len is = absurd (cc is)
+  numbered_read l (suc first) place count x there len is = go (nat_lt first count) refl
     where
-      go : (b : Bool) → nat_lt first count ≡ b → slice_get shown first ≡ Some x
+      go : (b : Bool) → nat_lt first count ≡ b → slice_get l first ≡ Some x
       go true e = let same : place ≡ first = let t : Some place ≡ Some first =
           is ∙ rw e refl in cc t in let low : first < length l =
           let h : first < count = grind (arith, nat_tests) in omega arith in
-          ap (λ m. slice_get m first) (sym view)
-          ∙ (get_within l first x low ∙ ap (λ n. Some (slice_index_or l n x)) (sym same) ∙ ap Some (sym there))
+          get_within l first x low ∙ ap (λ n. Some (slice_index_or l n x)) (sym same) ∙ ap Some (sym there)
       go false e = let t : Some place ≡ None = is ∙ rw e refl in absurd (cc t)
 
-  pub numbered_nowhere : (l shown : List A) (number count : ℕ) → l ≡ shown → count ≡ length l
-      → None ≡ place_within number count → numbered shown number ≡ None
-  numbered_nowhere l shown zero count view len is = refl
-  numbered_nowhere l shown (suc first) count view len is = go (nat_lt first count) refl
+  pub numbered_nowhere : (l : List A) (number count : ℕ) → count ≡ length l
+      → None ≡ place_within number count → numbered l number ≡ None
+  numbered_nowhere l zero count len is = refl
+  numbered_nowhere l (suc first) count len is = go (nat_lt first count) refl
     where
-      go : (b : Bool) → nat_lt first count ≡ b → slice_get shown first ≡ None
+      go : (b : Bool) → nat_lt first count ≡ b → slice_get l first ≡ None
       go true e = let t : None ≡ Some first = is ∙ rw e refl in absurd (cc t)
       go false e = let long : length l ≤ first = let h : count ≤ first =
-          grind (arith, nat_tests) in omega arith in ap (λ m. slice_get m first) (sym view) ∙ get_past l first long
+          grind (arith, nat_tests) in omega arith in get_past l first long
 
   -- one element more
   pub each_pushed : (P : ℕ → A → Type 0) (l : List A) (x : A)

@@ -1,25 +1,24 @@
--- The world that the fields show after one part of them changed.
-use Rattle.std.proofs.Common.{◌≡◌, ℕ, ◌≤◌, List, [], ◌∷◌, ◌++◌, length, take, Option, Some, None, refl, ap, sym, ◌∙◌}
-use Rattle.std.proofs.lemmas.List.{append-nil}
+-- The world that the fields show after one client or dispatcher changed.
+use Rattle.std.proofs.Common.{◌≡◌, ℕ, ◌≤◌, List, [], length, take, Option, Some, None, refl, ap, sym, subst, ◌∙◌}
+use Rattle.std.proofs.lemmas.List.{append-nil, length-map}
 use Rattle.std.proofs.Math.Seq.{take-append_seam}
-use Rattle.std.specs.Prelude.{map, IfSome}
+use Rattle.std.specs.Prelude.{map, slice_set, slice_index_or, IfSome}
 use Rattle.std.specs.Option.{option_map}
 use Rattle.row_store.specs.History.{CommitRecord}
 use Rattle.history_core.specs.declared.client.Client.{Client}
 use Rattle.history_core.specs.declared.dispatcher.Dispatcher.{Dispatcher}
-use Rattle.history_core.specs.declared.dispatcher.Given.{Given as Gave}
-use Rattle.history_core.specs.Numbered.{numbered, renewed}
-use Rattle.history_core.specs.World.{Mailbox, gave, mailbox_of}
-use Rattle.history_core.specs.Mailboxes.{left_in}
-use Rattle.history_core.specs.OwnCommits.{commits_of}
-use Rattle.history_core.specs.View.{client_in, dispatcher_in}
-use Rattle.history_core.specs.View.{IsWithin, ClientsFit, DispatchersFit}
+use Rattle.history_core.specs.declared.world.World.TheInside.{Inside}
+use Rattle.history_core.specs.Numbered.{numbered, place_within}
+use Rattle.history_core.specs.World.{World, ClientState, DispatcherState, mailbox_of, with_client, with_dispatcher}
+use Rattle.history_core.specs.View.{client_in, dispatcher_in, world_in, IsWithin, ClientsFit, DispatchersFit, IsWorld}
 use Rattle.history_core.proofs.HistoryLaws.{each_renewed}
-use Rattle.history_core.proofs.RenewalLaws.{renewed_map, numbered_map}
+use Rattle.history_core.proofs.RenewalLaws.{renewed_write, renewed_none, renewed_map, numbered_map}
 
--- all of a history
-pub take_all : (history : List CommitRecord) → take (length history) history ≡ history
-take_all history = ap (take (length history)) (sym (append-nil history)) ∙ take-append_seam history []
+-- the first commits of a history, as many as there are
+pub take_all : (n : ℕ) (history : List CommitRecord) → n ≡ length history → take n history ≡ history
+take_all n history is =
+    ap (λ m. take m history) is
+    ∙ (ap (take (length history)) (sym (append-nil history)) ∙ take-append_seam history [])
 
 abbrev HasClient : ℕ → ℕ → Client → Type 0
 HasClient commits number client = (client.number ≡ number) × (client.seen ≤ commits)
@@ -28,99 +27,93 @@ abbrev HasDispatcher : ℕ → Dispatcher → Type 0
 HasDispatcher commits dispatcher =
     (dispatcher.seen ≤ commits) × IsWithin dispatcher.mark commits × IsWithin dispatcher.version commits
 
-pub clients_kept : (commits : ℕ) (clients : List Client) (number : ℕ) (g : Client → Client)
-    → ClientsFit commits clients → ((n : ℕ) (c : Client) → HasClient commits n c → HasClient commits n (g c))
-    → ClientsFit commits (renewed clients number g)
-clients_kept commits clients number g are here = record {
-  own =
-      each_renewed (HasClient commits) (HasClient commits) clients number g are.own (λ c at h. here number c h)
-      (λ n c apart at h. h);
-}
+-- one client or dispatcher, which has this number among so many and lies at this place, is another now
+module _ (w : Inside) (k : IsWorld w) (number place count : ℕ) (is : Some place ≡ place_within number count) where
+  pub clients_fit : (g : Client → Client) (x : Client) → x ≡ slice_index_or w.clients.items place x
+      → count ≡ length w.clients.items
+      → ((n : ℕ) (c : Client) → HasClient (length w.store.log) n c → HasClient (length w.store.log) n (g c))
+      → ClientsFit (length w.store.log) (slice_set w.clients.items place (g x))
+  clients_fit g x there len here =
+      subst (ClientsFit (length w.store.log)) (sym (renewed_write w.clients.items number place count g x there len is))
+      record {
+        own =
+            each_renewed (HasClient (length w.store.log)) (HasClient (length w.store.log)) w.clients.items number g
+            k.clients.own (λ c at h. here number c h) (λ n c apart at h. h);
+      }
 
-pub dispatchers_kept : (commits : ℕ) (dispatchers : List Dispatcher) (number : ℕ) (g : Dispatcher → Dispatcher)
-    → DispatchersFit commits dispatchers → ((d : Dispatcher) → HasDispatcher commits d → HasDispatcher commits (g d))
-    → DispatchersFit commits (renewed dispatchers number g)
-dispatchers_kept commits dispatchers number g are here = record {
-  own =
-      each_renewed (λ n. HasDispatcher commits) (λ n. HasDispatcher commits) dispatchers number g are.own
-      (λ d at h. here d h) (λ n d apart at h. h);
-}
+  pub dispatchers_fit : (g : Dispatcher → Dispatcher) (x : Dispatcher)
+      → x ≡ slice_index_or w.dispatchers.items place x → count ≡ length w.dispatchers.items
+      → ((d : Dispatcher) → HasDispatcher (length w.store.log) d → HasDispatcher (length w.store.log) (g d))
+      → DispatchersFit (length w.store.log) (slice_set w.dispatchers.items place (g x))
+  dispatchers_fit g x there len here =
+      subst (DispatchersFit (length w.store.log))
+      (sym (renewed_write w.dispatchers.items number place count g x there len is))
+      record {
+        own =
+            each_renewed (λ n. HasDispatcher (length w.store.log)) (λ n. HasDispatcher (length w.store.log))
+            w.dispatchers.items number g k.dispatchers.own (λ d at h. here d h) (λ n d apart at h. h);
+      }
 
-module _ (history : List CommitRecord) where
-  pub client_saw : (clients : List Client) (number : ℕ)
-      → map (client_in history) (renewed clients number (λ c. record c { seen = length history })) ≡ renewed
-      (map (client_in history) clients) number (λ c. record c { seen = history })
-  client_saw clients number =
-      renewed_map (client_in history) clients number _ _
-      (λ c i. record { seen = take_all history i; mine = commits_of c.number history; mailbox = c.mailbox })
+module _ (w : Inside) (now : World) (view : world_in w ≡ now) (number : ℕ) where
+  pub client_renewed : (place count : ℕ) (g : Client → Client) (f : World → ClientState → ClientState)
+      (x : Client)
+      → ((c : Client) → client_in w.store.log (g c) ≡ f (world_in w) (client_in w.store.log c))
+      → x ≡ slice_index_or w.clients.items place x → count ≡ length w.clients.items
+      → Some place ≡ place_within number count
+      → record (world_in w) { clients = map (client_in w.store.log) (slice_set w.clients.items place (g x)) }
+      ≡ with_client now number (f now)
+  client_renewed place count g f x same there len is =
+      ap (λ l. record (world_in w) { clients = l })
+      (ap (map (client_in w.store.log)) (renewed_write w.clients.items number place count g x there len is)
+      ∙ renewed_map (client_in w.store.log) w.clients.items number g (f (world_in w)) same)
+      ∙ ap (λ (v : World). with_client v number (f v)) view
 
-  pub client_put : (clients : List Client) (number : ℕ) (mailbox : Mailbox)
-      → map (client_in history) (renewed clients number (λ c. record c { mailbox = mailbox })) ≡ renewed
-      (map (client_in history) clients) number (λ c. record c { mailbox = mailbox })
-  client_put clients number mailbox = renewed_map (client_in history) clients number _ _ (λ c. refl)
+  pub dispatcher_renewed : (place count : ℕ) (g : Dispatcher → Dispatcher)
+      (f : World → DispatcherState → DispatcherState) (x : Dispatcher)
+      → ((d : Dispatcher) → dispatcher_in w.store.log (g d) ≡ f (world_in w) (dispatcher_in w.store.log d))
+      → x ≡ slice_index_or w.dispatchers.items place x → count ≡ length w.dispatchers.items
+      → Some place ≡ place_within number count
+      → record (world_in w) {
+        dispatchers = map (dispatcher_in w.store.log) (slice_set w.dispatchers.items place (g x));
+      } ≡ with_dispatcher now number (f now)
+  dispatcher_renewed place count g f x same there len is =
+      ap (λ l. record (world_in w) { dispatchers = l })
+      (ap (map (dispatcher_in w.store.log)) (renewed_write w.dispatchers.items number place count g x there len is)
+      ∙ renewed_map (dispatcher_in w.store.log) w.dispatchers.items number g (f (world_in w)) same)
+      ∙ ap (λ (v : World). with_dispatcher v number (f v)) view
 
-  pub dispatcher_saw : (dispatchers : List Dispatcher) (number : ℕ)
-      → map (dispatcher_in history) (renewed dispatchers number (λ d. record d { seen = length history })) ≡ renewed
-      (map (dispatcher_in history) dispatchers) number (λ d. record d { seen = history })
-  dispatcher_saw dispatchers number =
-      renewed_map (dispatcher_in history) dispatchers number _ _
-      (λ d i. record {
-        seen = take_all history i;
-        mark = d.mark;
-        version = d.version;
-        given = (dispatcher_in history d).given;
-      })
+  -- nobody has the number
+  pub no_client : (count : ℕ) (f : ClientState → ClientState) → count ≡ length w.clients.items
+      → None ≡ place_within number count → now ≡ with_client now number f
+  no_client count f len is =
+      sym view
+      ∙ (ap (λ l. record (world_in w) { clients = l })
+      (renewed_none (map (client_in w.store.log) w.clients.items) number f
+      (is ∙ ap (place_within number) (len ∙ sym (length-map w.clients.items (client_in w.store.log)))))
+      ∙ ap (λ (v : World). with_client v number f) view)
 
-  pub dispatcher_marked : (dispatchers : List Dispatcher) (number : ℕ)
-      → map (dispatcher_in history)
-      (renewed dispatchers number
-      (λ d. record d { seen = length history; mark = Some (length history) })) ≡ renewed
-      (map (dispatcher_in history) dispatchers) number
-      (λ d. record d { seen = history; mark = Some (length history) })
-  dispatcher_marked dispatchers number =
-      renewed_map (dispatcher_in history) dispatchers number _ _
-      (λ d i. record {
-        seen = take_all history i;
-        mark = Some (length history);
-        version = d.version;
-        given = (dispatcher_in history d).given;
-      })
+  pub no_dispatcher : (count : ℕ) (f : DispatcherState → DispatcherState) → count ≡ length w.dispatchers.items
+      → None ≡ place_within number count → now ≡ with_dispatcher now number f
+  no_dispatcher count f len is =
+      sym view
+      ∙ (ap (λ l. record (world_in w) { dispatchers = l })
+      (renewed_none (map (dispatcher_in w.store.log) w.dispatchers.items) number f
+      (is ∙ ap (place_within number) (len ∙ sym (length-map w.dispatchers.items (dispatcher_in w.store.log)))))
+      ∙ ap (λ (v : World). with_dispatcher v number f) view)
 
-  pub dispatcher_unmarked : (dispatchers : List Dispatcher) (number : ℕ)
-      → map (dispatcher_in history)
-      (renewed dispatchers number (λ d. record d { mark = None; version = None })) ≡ renewed
-      (map (dispatcher_in history) dispatchers) number (λ d. record d { mark = None; version = None })
-  dispatcher_unmarked dispatchers number = renewed_map (dispatcher_in history) dispatchers number _ _ (λ d. refl)
-
-  pub dispatcher_versioned : (dispatchers : List Dispatcher) (number : ℕ)
-      → map (dispatcher_in history) (renewed dispatchers number (λ d. record d { version = d.mark })) ≡ renewed
-      (map (dispatcher_in history) dispatchers) number (λ d. record d { version = d.mark })
-  dispatcher_versioned dispatchers number = renewed_map (dispatcher_in history) dispatchers number _ _ (λ d. refl)
-
-  pub dispatcher_gave : (dispatchers : List Dispatcher) (number : ℕ) (given : Gave)
-      → map (dispatcher_in history) (renewed dispatchers number (λ d. record d { given = d.given ++ given ∷ [] }))
-      ≡ renewed (map (dispatcher_in history) dispatchers) number
-      (gave given.client given.floor given.outcome)
-  dispatcher_gave dispatchers number given = renewed_map (dispatcher_in history) dispatchers number _ _ (λ d. refl)
+  -- the mailbox of a client, shown
+  pub mailbox_shown : mailbox_of (numbered now.clients number)
+      ≡ option_map (λ (c : Client). c.mailbox) (numbered w.clients.items number)
+  mailbox_shown =
+      ap (λ (v : World). mailbox_of (numbered v.clients number)) (sym view)
+      ∙ (ap mailbox_of (numbered_map (client_in w.store.log) w.clients.items number)
+      ∙ go (numbered w.clients.items number))
+    where
+      go : (o : Option Client)
+          → mailbox_of (option_map (client_in w.store.log) o) ≡ option_map (λ (c : Client). c.mailbox) o
+      go None = refl
+      go (Some c) = refl
 
 pub within_some : (o : Option ℕ) (n : ℕ) → IsWithin o n → IfSome o (λ at. at ≤ n)
 within_some None n h = tt
 within_some (Some at) n h = h
-
-pub client_left : (history : List CommitRecord) (clients : List Client) (number : ℕ)
-    → map (client_in history) (renewed clients number (λ c. record c { mailbox = left_in c.mailbox })) ≡ renewed
-    (map (client_in history) clients) number (λ c. record c { mailbox = left_in c.mailbox })
-client_left history clients number =
-    renewed_map (client_in history) clients number _ _ (λ c. refl)
-
--- the mailbox of a client, shown
-pub mailbox_shown : (history : List CommitRecord) (clients : List Client) (number : ℕ)
-    → option_map (λ (c : Client). c.mailbox) (numbered clients number) ≡ mailbox_of
-    (numbered (map (client_in history) clients) number)
-mailbox_shown history clients number =
-    go (numbered clients number) ∙ ap mailbox_of (sym (numbered_map (client_in history) clients number))
-  where
-    go : (o : Option Client)
-        → option_map (λ (c : Client). c.mailbox) o ≡ mailbox_of (option_map (client_in history) o)
-    go None = refl
-    go (Some c) = refl

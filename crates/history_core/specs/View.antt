@@ -30,8 +30,8 @@ world_in w = record {
   history = w.store.log;
   rows = w.rows;
   writer = w.writer;
-  clients = map (client_in w.store.log) w.clients;
-  dispatchers = map (dispatcher_in w.store.log) w.dispatchers;
+  clients = map (client_in w.store.log) w.clients.items;
+  dispatchers = map (dispatcher_in w.store.log) w.dispatchers.items;
 }
 
 -- a number of commits of which there are at least so many, if it is there
@@ -50,5 +50,5 @@ pub record DispatchersFit (commits : ℕ) (dispatchers : List Dispatcher) : Type
 
 pub record IsWorld (w : Inside) : Type 0 where
   pub base : w.base.value ≡ w.store.base
-  pub clients : ClientsFit (length w.store.log) w.clients
-  pub dispatchers : DispatchersFit (length w.store.log) w.dispatchers
+  pub clients : ClientsFit (length w.store.log) w.clients.items
+  pub dispatchers : DispatchersFit (length w.store.log) w.dispatchers.items

@@ -1,10 +1,7 @@
 //! What the machine keeps of each dispatcher.
-ghost use Rattle.std.specs.Prelude.{◌≡◌, ◌++◌, ◌∷◌, [], None, Some, IfOk, OnOk, OnErr};
-ghost use Rattle.std.specs.Option.{option_copied};
+ghost use Rattle.std.specs.Prelude.{◌≡◌, ◌++◌, ◌∷◌, [], IfOk, OnOk, OnErr};
 ghost use Rattle.history_core.specs.Fresh.{OpeningDispatchers};
-ghost use Rattle.history_core.specs.Numbered.{numbered, renewed};
 
-use crate::numbered::place_of;
 use ssb_answers::Unserved;
 use std::alloc::{AllocError, Global};
 use std::marker::Model;
@@ -70,98 +67,18 @@ pub struct Dispatcher {
     pub given: GivenList,
 }
 
-/// The dispatchers, numbered from 1. Contracts see them as a list.
-#[derive(Drop)]
-pub struct Dispatchers {
-    list: Vec<Dispatcher>,
-}
-
-impl Model for Dispatchers {
-    ghost use Rattle.std.specs.Prelude.{List};
-    ghost use Rattle.history_core.specs.declared.dispatcher.Dispatcher.{Dispatcher as One};
-
-    ghost Value = { List One };
-
-    ghost view = { λ d. d.list.items };
-}
-
-impl Dispatchers {
-    /// So many dispatchers, which have seen nothing and have given no answer.
-    pub fn new(alloc: Global, count: u32) -> Result<Dispatchers, AllocError>
-        ensures { IfOk result (OpeningDispatchers count) }
-    {
-        let mut list = Vec::new(alloc);
-        for _ in 0..count {
-            list.push(Dispatcher {
-                seen: 0,
-                mark: None,
-                version: None,
-                given: GivenList::new(alloc),
-            })?;
-        }
-        Ok(Dispatchers { list })
+/// So many dispatchers, numbered from 1, which have seen nothing and have given no answer.
+pub fn opening_dispatchers(alloc: Global, count: u32) -> Result<Vec<Dispatcher>, AllocError>
+    ensures { IfOk result (λ list. OpeningDispatchers count list.items) }
+{
+    let mut list = Vec::new(alloc);
+    for _ in 0..count {
+        list.push(Dispatcher {
+            seen: 0,
+            mark: None,
+            version: None,
+            given: GivenList::new(alloc),
+        })?;
     }
-
-    /// The dispatcher of a number.
-    pub fn find(&self, number: u32) -> Option<&Dispatcher>
-        ensures { option_copied result ≡ numbered self.now number }
-    {
-        if number == 0 {
-            return None;
-        }
-        self.list.get(number as usize - 1)
-    }
-
-    /// The dispatcher has seen so many commits.
-    pub fn see(&mut self, number: u32, length: usize)
-        ensures { self.new ≡ renewed self.old number (λ d. record d { seen = length }) }
-    {
-        if let Some(place) = place_of(number, self.list.len()) {
-            self.list[place].seen = length;
-        }
-    }
-
-    /// The dispatcher has seen so many commits, and that is its mark.
-    pub fn mark(&mut self, number: u32, length: usize)
-        ensures { self.new ≡ renewed self.old number (λ d. record d { seen = length; mark = Some length }) }
-    {
-        if let Some(place) = place_of(number, self.list.len()) {
-            let dispatcher = &mut self.list[place];
-            dispatcher.seen = length;
-            dispatcher.mark = Some(length as u64);
-        }
-    }
-
-    /// The dispatcher has neither a mark nor a version.
-    pub fn unmark(&mut self, number: u32)
-        ensures { self.new ≡ renewed self.old number (λ d. record d { mark = None; version = None }) }
-    {
-        if let Some(place) = place_of(number, self.list.len()) {
-            let dispatcher = &mut self.list[place];
-            dispatcher.mark = None;
-            dispatcher.version = None;
-        }
-    }
-
-    /// The dispatcher's mark is its version.
-    pub fn set_version(&mut self, number: u32)
-        ensures { self.new ≡ renewed self.old number (λ d. record d { version = d.mark }) }
-    {
-        if let Some(place) = place_of(number, self.list.len()) {
-            let dispatcher = &mut self.list[place];
-            dispatcher.version = dispatcher.mark;
-        }
-    }
-
-    /// The dispatcher gave one answer more. After an error all is as it was.
-    pub fn give(&mut self, number: u32, given: Given) -> Result<(), AllocError>
-        ensures gave { OnOk result
-            (self.new ≡ renewed self.old number (λ d. record d { given = d.given ++ given ∷ [] })) }
-        ensures unchanged { OnErr result (self.new ≡ self.old) }
-    {
-        if let Some(place) = place_of(number, self.list.len()) {
-            self.list[place].given.push(given)?;
-        }
-        Ok(())
-    }
+    Ok(list)
 }

@@ -13,10 +13,11 @@ ghost use Rattle.history_core.specs.World.{opening_world, rows_after, all_rows_a
 ghost use Rattle.history_core.specs.World.{holds_writer, mailbox_of, version_of, with_client};
 ghost use Rattle.history_core.specs.World.{with_dispatcher, seen_by, into_mailbox, unmarked, gave, step_of};
 
-use crate::client::Clients;
-use crate::dispatcher::{Dispatchers, Given, Outcome};
+use crate::client::{self, opening_clients};
+use crate::dispatcher::{self, Given, Outcome, opening_dispatchers};
 use crate::event::{Event, Reply, Who};
 use crate::mailbox::Mailbox;
+use crate::numbered::{find, place_of};
 use crate::questions::share;
 use row_store::{ApplyError, PlainLines, Replica, RowStore};
 use ssb_answers::{Question, ResultRow, Unserved, evaluate};
@@ -25,6 +26,7 @@ use ssb_schema::{Items, Refresh};
 use std::alloc::{AllocError, Global};
 use std::hash::RandomState;
 use std::marker::Model;
+use std::mem;
 use std::sync::Arc;
 
 /// A base and the history of commits over it, who holds the row store and the writer, and what each client and each
@@ -36,8 +38,8 @@ pub struct World {
     store: RowStore,
     rows: Option<Who>,
     writer: Option<u32>,
-    clients: Clients,
-    dispatchers: Dispatchers,
+    clients: Vec<client::Client>,
+    dispatchers: Vec<dispatcher::Dispatcher>,
 }
 
 impl Model for World {
@@ -84,8 +86,8 @@ impl World {
         ensures { IfOk result (λ world. world ≡ opening_world base.value clients dispatchers) }
     {
         let store = RowStore::new(alloc, Arc::try_clone(&base)?, hashing)?;
-        let clients = Clients::new(alloc, clients)?;
-        let dispatchers = Dispatchers::new(alloc, dispatchers)?;
+        let clients = opening_clients(alloc, clients)?;
+        let dispatchers = opening_dispatchers(alloc, dispatchers)?;
         Ok(World {
             alloc,
             base,
@@ -97,7 +99,8 @@ impl World {
         })
     }
 
-    /// Takes an event and replies to it. An event that is not enabled changes nothing, and neither does want of memory.
+    /// Takes an event and replies to it. An event that is not enabled changes nothing, and neither does running
+    /// out of memory.
     pub fn step(&mut self, event: &Event) -> Result<Reply, AllocError>
         ensures stepped { IfOk result (λ reply. step_of self.old (event_of event.now) ≡ (self.new, reply)) }
         ensures unchanged { OnErr result (self.new ≡ self.old) }
@@ -348,8 +351,8 @@ impl World {
         ensures { result ≡ is_known self.now who }
     {
         match who {
-            Who::Client(number) => self.clients.find(number).is_some(),
-            Who::Dispatcher(number) => self.dispatchers.find(number).is_some(),
+            Who::Client(number) => find(&self.clients, number).is_some(),
+            Who::Dispatcher(number) => find(&self.dispatchers, number).is_some(),
         }
     }
 
@@ -359,8 +362,16 @@ impl World {
     {
         let length = self.store.len();
         match who {
-            Who::Client(number) => self.clients.see(number, length),
-            Who::Dispatcher(number) => self.dispatchers.see(number, length),
+            Who::Client(number) => {
+                if let Some(place) = place_of(number, self.clients.len()) {
+                    self.clients[place].seen = length;
+                }
+            }
+            Who::Dispatcher(number) => {
+                if let Some(place) = place_of(number, self.dispatchers.len()) {
+                    self.dispatchers[place].seen = length;
+                }
+            }
         }
     }
 
@@ -382,14 +393,20 @@ impl World {
     fn put(&mut self, number: u32, mailbox: Mailbox)
         ensures { self.new ≡ into_mailbox self.old number mailbox }
     {
-        self.clients.put(number, mailbox);
+        if let Some(place) = place_of(number, self.clients.len()) {
+            drop(mem::replace(&mut self.clients[place].mailbox, mailbox));
+        }
     }
 
     // The dispatcher has neither a mark nor a version.
     fn unmark(&mut self, number: u32)
         ensures { self.new ≡ with_dispatcher self.old number unmarked }
     {
-        self.dispatchers.unmark(number);
+        if let Some(place) = place_of(number, self.dispatchers.len()) {
+            let dispatcher = &mut self.dispatchers[place];
+            dispatcher.mark = None;
+            dispatcher.version = None;
+        }
     }
 
     // So much of the history has the dispatcher seen when it gives the row store back.
@@ -398,14 +415,21 @@ impl World {
             (λ d. record d { seen = self.old.history; mark = Some (length self.old.history) }) }
     {
         let length = self.store.len();
-        self.dispatchers.mark(number, length);
+        if let Some(place) = place_of(number, self.dispatchers.len()) {
+            let dispatcher = &mut self.dispatchers[place];
+            dispatcher.seen = length;
+            dispatcher.mark = Some(length as u64);
+        }
     }
 
     // The dispatcher's mark is its version.
     fn set_version(&mut self, number: u32)
         ensures { self.new ≡ with_dispatcher self.old number (λ d. record d { version = d.mark }) }
     {
-        self.dispatchers.set_version(number);
+        if let Some(place) = place_of(number, self.dispatchers.len()) {
+            let dispatcher = &mut self.dispatchers[place];
+            dispatcher.version = dispatcher.mark;
+        }
     }
 
     // The dispatcher gave one answer more.
@@ -414,7 +438,9 @@ impl World {
             (gave given.client given.floor given.outcome)) }
         ensures unchanged { OnErr result (self.new ≡ self.old) }
     {
-        self.dispatchers.give(number, given)?;
+        if let Some(place) = place_of(number, self.dispatchers.len()) {
+            self.dispatchers[place].given.push(given)?;
+        }
         Ok(())
     }
 
@@ -422,7 +448,7 @@ impl World {
     fn floor(&self, client: u32) -> Option<u64>
         ensures { result ≡ floor_of (numbered self.now.clients client) }
     {
-        let client = self.clients.find(client)?;
+        let client = find(&self.clients, client)?;
         client.mailbox.floor(client.seen as u64)
     }
 
@@ -430,7 +456,7 @@ impl World {
     fn asked(&self, client: u32) -> Result<Option<(Items<Question>, u64)>, AllocError>
         ensures { IfOk result (λ request. request ≡ asked_of (mailbox_of (numbered self.now.clients client))) }
     {
-        match self.clients.find(client) {
+        match find(&self.clients, client) {
             Some(client) => client.mailbox.asked(self.alloc),
             None => Ok(None),
         }
@@ -440,7 +466,7 @@ impl World {
     fn held(&self, number: u32, client: u32) -> Result<Option<(Items<Question>, u64)>, AllocError>
         ensures { IfOk result (λ request. request ≡ held_of number (mailbox_of (numbered self.now.clients client))) }
     {
-        match self.clients.find(client) {
+        match find(&self.clients, client) {
             Some(client) => client.mailbox.held(self.alloc, number),
             None => Ok(None),
         }
@@ -451,7 +477,7 @@ impl World {
         ensures version { result ≡ version_of (numbered self.now.dispatchers number) }
         ensures within { IfSome result (λ at. at ≤ length self.now.history) }
     {
-        self.dispatchers.find(number)?.version
+        find(&self.dispatchers, number)?.version
     }
 
     // Whether it is this one who holds the row store.
@@ -479,7 +505,10 @@ impl World {
         ensures left { self.new ≡ with_client self.old client (λ c. record c { mailbox = left_in c.mailbox }) }
         ensures reply { result ≡ collected_of (mailbox_of (numbered self.old.clients client)) }
     {
-        self.clients.collect(client)
+        match place_of(client, self.clients.len()) {
+            Some(place) => self.clients[place].mailbox.collect(),
+            None => Reply::NotEnabled,
+        }
     }
 
     // The live lines after the first `at` commits, from the loaded ones on.

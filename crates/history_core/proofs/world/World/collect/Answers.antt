@@ -1,33 +1,48 @@
-use Rattle.std.proofs.Common.{ap, sym, subst, ◌∙◌, length}
-use Rattle.std.specs.Prelude.{map}
-use Rattle.history_core.specs.Numbered.{numbered}
-use Rattle.history_core.specs.View.{world_in, client_in, ClientsFit}
+use Rattle.std.proofs.Common.{rules, ap, sym, ◌∙◌, refl}
+use Rattle.std.specs.Option.{option_map}
+use Rattle.history_core.specs.declared.client.Client.{Client}
 use Rattle.history_core.specs.Mailboxes.{left_in, collected_of}
-use Rattle.history_core.specs.World.{World, with_client, mailbox_of}
-use Rattle.history_core.proofs.ViewLaws.{clients_kept, client_left, mailbox_shown}
+use Rattle.history_core.proofs.RenewalLaws.{numbered_read, numbered_nowhere}
+use Rattle.history_core.proofs.ViewLaws.{clients_fit, client_renewed, no_client, mailbox_shown}
 use Rattle.history_core.proofs.world.World.collect.Goals as goal
 
 pub invariant_of-self : goal.invariant_of-self
 invariant_of-self c = record {
   base = c.self.invariant.base;
   clients =
-      subst (ClientsFit (length c.self.inside.store.log)) (sym c.collect.ensures.left)
-      (clients_kept _ c.self.inside.clients c.args.client
-      (λ x. record x { mailbox = left_in x.mailbox }) c.self.invariant.clients (λ n x h. h));
+      clients_fit c.self.inside c.self.invariant c.args.client c.in-Some.place c.len.result c.in-Some.ensures.place
+      (λ x. record x { mailbox = c.collect.new.self }) c.index_mut.result.now c.index_mut.ensures.value (search rules)
+      (λ n x h. h);
   dispatchers = c.self.invariant.dispatchers;
 }
 
-pub returns-clause-left : goal.returns-clause-left
-returns-clause-left c =
-    let w : World = world_in c.self.inside in
-    ap (λ l. record w { clients = l })
-    (ap (map (client_in c.self.inside.store.log)) c.collect.ensures.left
-    ∙ client_left c.self.inside.store.log c.self.inside.clients c.args.client)
-    ∙ ap (λ (w : World). with_client w c.args.client (λ x. record x { mailbox = left_in x.mailbox })) c.self.view_is
+pub returns-in-Some-clause-left : goal.returns-in-Some-clause-left
+returns-in-Some-clause-left c =
+    rw c.collect.ensures.left
+    (client_renewed c.self.inside c.args.self.now c.self.view_is c.args.client c.in-Some.place c.len.result
+    (λ x. record x { mailbox = left_in x.mailbox }) (λ _ x. record x { mailbox = left_in x.mailbox })
+    c.index_mut.result.now (λ x. refl) c.index_mut.ensures.value (search rules) c.in-Some.ensures.place)
 
-pub returns-clause-reply : goal.returns-clause-reply
-returns-clause-reply c =
+pub returns-in-Some-clause-reply : goal.returns-in-Some-clause-reply
+returns-in-Some-clause-reply c =
     c.collect.ensures.reply
     ∙ ap collected_of
-    (mailbox_shown c.self.inside.store.log c.self.inside.clients c.args.client
-    ∙ ap (λ (w : World). mailbox_of (numbered w.clients c.args.client)) c.self.view_is)
+    (sym
+    (mailbox_shown c.self.inside c.args.self.now c.self.view_is c.args.client
+    ∙ ap (option_map (λ (x : Client). x.mailbox))
+    (numbered_read c.self.inside.clients.items c.args.client c.in-Some.place c.len.result c.index_mut.result.now
+    c.index_mut.ensures.value (search rules) c.in-Some.ensures.place)))
+
+pub returns-in-None-clause-left : goal.returns-in-None-clause-left
+returns-in-None-clause-left c =
+    no_client c.self.inside c.args.self.now c.self.view_is c.args.client c.len.result
+    (λ x. record x { mailbox = left_in x.mailbox }) (search rules) c.in-None.ensures.place
+
+pub returns-in-None-clause-reply : goal.returns-in-None-clause-reply
+returns-in-None-clause-reply c =
+    ap collected_of
+    (sym
+    (mailbox_shown c.self.inside c.args.self.now c.self.view_is c.args.client
+    ∙ ap (option_map (λ (x : Client). x.mailbox))
+    (numbered_nowhere c.self.inside.clients.items c.args.client c.len.result (search rules)
+    c.in-None.ensures.place)))

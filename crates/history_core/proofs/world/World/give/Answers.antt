@@ -1,26 +1,27 @@
-use Rattle.std.proofs.Common.{◌++◌, ◌∷◌, [], ap, sym, subst, ◌∙◌, length}
-use Rattle.std.specs.Prelude.{map}
-use Rattle.history_core.specs.View.{world_in, dispatcher_in, DispatchersFit}
-use Rattle.history_core.specs.World.{World, with_dispatcher, gave}
-use Rattle.history_core.proofs.ViewLaws.{dispatchers_kept, dispatcher_gave}
+use Rattle.std.proofs.Common.{rules, ◌++◌, ◌∷◌, [], refl}
+use Rattle.history_core.specs.World.{gave}
+use Rattle.history_core.proofs.ViewLaws.{dispatchers_fit, dispatcher_renewed, no_dispatcher}
 use Rattle.history_core.proofs.world.World.give.Goals as goal
 
-pub invariant_of-self-2 : goal.invariant_of-self-2
-invariant_of-self-2 c = record {
+pub invariant_of-self : goal.invariant_of-self
+invariant_of-self c = record {
   base = c.self.invariant.base;
   clients = c.self.invariant.clients;
   dispatchers =
-      subst (DispatchersFit (length c.self.inside.store.log)) (sym c.in_ok-give.ensures.gave)
-      (dispatchers_kept _ c.self.inside.dispatchers c.args.number
-      (λ d. record d { given = d.given ++ c.args.given ∷ [] }) c.self.invariant.dispatchers (λ x h. h));
+      dispatchers_fit c.self.inside c.self.invariant c.args.number c.in-Some.place c.len.result c.in-Some.ensures.place
+      (λ x. record x { given = c.push.new.self }) c.index_mut.result.now c.index_mut.ensures.value (search rules)
+      (λ x h. h);
 }
 
-pub returns-clause-gave : goal.returns-clause-gave
-returns-clause-gave c =
-    let w : World = world_in c.self.inside in
-    ap (λ l. record w { dispatchers = l })
-    (ap (map (dispatcher_in c.self.inside.store.log)) c.in_ok-give.ensures.gave
-    ∙ dispatcher_gave c.self.inside.store.log c.self.inside.dispatchers c.args.number c.args.given)
-    ∙ ap
-    (λ (w : World). with_dispatcher w c.args.number
-    (gave c.args.given.client c.args.given.floor c.args.given.outcome)) c.self.view_is
+pub returns-in_ok-push-clause-gave : goal.returns-in_ok-push-clause-gave
+returns-in_ok-push-clause-gave c =
+    rw c.in_ok-push.ensures.pushed
+    (dispatcher_renewed c.self.inside c.args.self.now c.self.view_is c.args.number c.in-Some.place c.len.result
+    (λ x. record x { given = x.given ++ c.args.given ∷ [] })
+    (λ _. gave c.args.given.client c.args.given.floor c.args.given.outcome) c.index_mut.result.now (λ x. refl)
+    c.index_mut.ensures.value (search rules) c.in-Some.ensures.place)
+
+pub returns-in_default-clause-gave : goal.returns-in_default-clause-gave
+returns-in_default-clause-gave c =
+    no_dispatcher c.self.inside c.args.self.now c.self.view_is c.args.number c.len.result
+    (gave c.args.given.client c.args.given.floor c.args.given.outcome) (search rules) c.in_default.ensures.place

@@ -1,37 +1,32 @@
-use Rattle.std.proofs.Common.{rules, Some, ap, sym, subst, ◌∙◌, length}
-use Rattle.std.specs.Prelude.{map}
-use Rattle.history_core.specs.Numbered.{renewed}
-use Rattle.history_core.specs.View.{world_in, dispatcher_in, DispatchersFit}
-use Rattle.history_core.specs.World.{World, with_dispatcher}
-use Rattle.history_core.proofs.ViewLaws.{dispatchers_kept, dispatcher_marked}
+use Rattle.std.proofs.Common.{rules, ◌≡◌, Some, length}
+use Rattle.history_core.specs.World.{World}
+use Rattle.history_core.proofs.ViewLaws.{take_all, dispatchers_fit, dispatcher_renewed, no_dispatcher}
 use Rattle.history_core.proofs.world.World.mark.Goals as goal
 
 pub invariant_of-self : goal.invariant_of-self
-invariant_of-self c =
-    let now = c.mark.ensures
-    ∙ ap
-    (λ n. renewed c.self.inside.dispatchers c.args.number
-    (λ x. record x { seen = n; mark = Some n })) c.len-length.ensures.count in record {
-      base = c.self.invariant.base;
-      dispatchers =
-          subst (DispatchersFit (length c.self.inside.store.log)) (sym now)
-          (dispatchers_kept _ c.self.inside.dispatchers c.args.number
-          (λ x. record x {
-            seen = length c.self.inside.store.log;
-            mark = Some (length c.self.inside.store.log);
-          }) c.self.invariant.dispatchers (λ x h. (search rules, search rules, h.2)));
-      clients = c.self.invariant.clients;
-    }
+invariant_of-self c = let count : c.len-length.result ≡ length c.self.inside.store.log = search rules in record {
+  base = c.self.invariant.base;
+  clients = c.self.invariant.clients;
+  dispatchers =
+      dispatchers_fit c.self.inside c.self.invariant c.args.number c.in-Some.place c.len.result c.in-Some.ensures.place
+      (λ x. record x { seen = c.len-length.result; mark = Some c.len-length.result }) c.index_mut-dispatcher.result.now
+      c.index_mut-dispatcher.ensures.value (search rules) (λ x h. (search rules, search rules, h.2));
+}
 
-pub returns : goal.returns
-returns c =
-    let now = c.mark.ensures
-    ∙ ap
-    (λ n. renewed c.self.inside.dispatchers c.args.number
-    (λ x. record x { seen = n; mark = Some n })) c.len-length.ensures.count in let w : World = world_in c.self.inside in
-    ap (λ l. record w { dispatchers = l })
-    (ap (map (dispatcher_in c.self.inside.store.log)) now
-    ∙ dispatcher_marked c.self.inside.store.log c.self.inside.dispatchers c.args.number)
-    ∙ ap
-    (λ (w : World). with_dispatcher w c.args.number
-    (λ d. record d { seen = w.history; mark = Some (length w.history) })) c.self.view_is
+pub returns-in-Some : goal.returns-in-Some
+returns-in-Some c = let count : c.len-length.result ≡ length c.self.inside.store.log = search rules in
+    dispatcher_renewed c.self.inside c.args.self.now c.self.view_is c.args.number c.in-Some.place c.len.result
+    (λ x. record x { seen = c.len-length.result; mark = Some c.len-length.result })
+    (λ (w : World) x. record x { seen = w.history; mark = Some (length w.history) }) c.index_mut-dispatcher.result.now
+    (λ x i. record {
+      seen = take_all c.len-length.result c.self.inside.store.log count i;
+      mark = Some (count i);
+      version = x.version;
+      given = x.given;
+    }) c.index_mut-dispatcher.ensures.value (search rules) c.in-Some.ensures.place
+
+pub returns-in_default : goal.returns-in_default
+returns-in_default c =
+    no_dispatcher c.self.inside c.args.self.now c.self.view_is c.args.number c.len.result
+    (λ x. record x { seen = c.args.self.now.history; mark = Some (length c.args.self.now.history) }) (search rules)
+    c.in_default.ensures.place

@@ -1,24 +1,26 @@
-use Rattle.std.proofs.Common.{ap, sym, subst, ◌∙◌, length}
-use Rattle.std.specs.Prelude.{map}
-use Rattle.history_core.specs.View.{world_in, client_in, ClientsFit}
-use Rattle.history_core.specs.World.{World, into_mailbox}
-use Rattle.history_core.proofs.ViewLaws.{clients_kept, client_put}
+use Rattle.std.proofs.Common.{rules, ◌≡◌, refl}
+use Rattle.history_core.proofs.ViewLaws.{clients_fit, client_renewed, no_client}
 use Rattle.history_core.proofs.world.World.put.Goals as goal
 
 pub invariant_of-self : goal.invariant_of-self
-invariant_of-self c = record {
-  base = c.self.invariant.base;
-  clients =
-      subst (ClientsFit (length c.self.inside.store.log)) (sym c.put.ensures)
-      (clients_kept _ c.self.inside.clients _ (λ x. record x { mailbox = c.args.mailbox }) c.self.invariant.clients
-      (λ n x h. h));
-  dispatchers = c.self.invariant.dispatchers;
-}
+invariant_of-self c = let placed : c.replace.new.dest ≡ c.args.mailbox = search rules in
+    record {
+      base = c.self.invariant.base;
+      clients =
+          clients_fit c.self.inside c.self.invariant c.args.number c.in-Some.place c.len.result c.in-Some.ensures.place
+          (λ x. record x { mailbox = c.replace.new.dest }) c.index_mut.result.now c.index_mut.ensures.value (search rules)
+          (λ n x h. h);
+      dispatchers = c.self.invariant.dispatchers;
+    }
 
-pub returns : goal.returns
-returns c =
-    let w : World = world_in c.self.inside in
-    ap (λ l. record w { clients = l })
-    (ap (map (client_in c.self.inside.store.log)) (c.put.ensures)
-    ∙ client_put c.self.inside.store.log c.self.inside.clients c.args.number c.args.mailbox)
-    ∙ ap (λ (w : World). into_mailbox w c.args.number c.args.mailbox) c.self.view_is
+pub returns-in-Some : goal.returns-in-Some
+returns-in-Some c = let placed : c.replace.new.dest ≡ c.args.mailbox = search rules in
+    rw placed
+    (client_renewed c.self.inside c.args.self.now c.self.view_is c.args.number c.in-Some.place c.len.result
+    (λ x. record x { mailbox = c.args.mailbox }) (λ _ x. record x { mailbox = c.args.mailbox }) c.index_mut.result.now
+    (λ x. refl) c.index_mut.ensures.value (search rules) c.in-Some.ensures.place)
+
+pub returns-in_default : goal.returns-in_default
+returns-in_default c =
+    no_client c.self.inside c.args.self.now c.self.view_is c.args.number c.len.result
+    (λ x. record x { mailbox = c.args.mailbox }) (search rules) c.in_default.ensures.place

@@ -1,8 +1,5 @@
-use Rattle.std.proofs.Common.{ap, sym, subst, ◌∙◌, length}
-use Rattle.std.specs.Prelude.{map}
-use Rattle.history_core.specs.View.{world_in, dispatcher_in, DispatchersFit}
-use Rattle.history_core.specs.World.{World, with_dispatcher}
-use Rattle.history_core.proofs.ViewLaws.{dispatchers_kept, dispatcher_versioned}
+use Rattle.std.proofs.Common.{rules, refl}
+use Rattle.history_core.proofs.ViewLaws.{dispatchers_fit, dispatcher_renewed, no_dispatcher}
 use Rattle.history_core.proofs.world.World.set_version.Goals as goal
 
 pub invariant_of-self : goal.invariant_of-self
@@ -10,15 +7,18 @@ invariant_of-self c = record {
   base = c.self.invariant.base;
   clients = c.self.invariant.clients;
   dispatchers =
-      subst (DispatchersFit (length c.self.inside.store.log)) (sym c.set_version.ensures)
-      (dispatchers_kept _ c.self.inside.dispatchers _ (λ x. record x { version = x.mark }) c.self.invariant.dispatchers
-      (λ x h. (h.0, h.1, h.1)));
+      dispatchers_fit c.self.inside c.self.invariant c.args.number c.in-Some.place c.len.result c.in-Some.ensures.place
+      (λ x. record x { version = x.mark }) c.index_mut-dispatcher.result.now c.index_mut-dispatcher.ensures.value
+      (search rules) (λ x h. (h.0, h.1, h.1));
 }
 
-pub returns : goal.returns
-returns c =
-    let w : World = world_in c.self.inside in
-    ap (λ l. record w { dispatchers = l })
-    (ap (map (dispatcher_in c.self.inside.store.log)) (c.set_version.ensures)
-    ∙ dispatcher_versioned c.self.inside.store.log c.self.inside.dispatchers c.args.number)
-    ∙ ap (λ (w : World). with_dispatcher w c.args.number (λ d. record d { version = d.mark })) c.self.view_is
+pub returns-in-Some : goal.returns-in-Some
+returns-in-Some c =
+    dispatcher_renewed c.self.inside c.args.self.now c.self.view_is c.args.number c.in-Some.place c.len.result
+    (λ x. record x { version = x.mark }) (λ _ x. record x { version = x.mark }) c.index_mut-dispatcher.result.now
+    (λ x. refl) c.index_mut-dispatcher.ensures.value (search rules) c.in-Some.ensures.place
+
+pub returns-in_default : goal.returns-in_default
+returns-in_default c =
+    no_dispatcher c.self.inside c.args.self.now c.self.view_is c.args.number c.len.result
+    (λ x. record x { version = x.mark }) (search rules) c.in_default.ensures.place

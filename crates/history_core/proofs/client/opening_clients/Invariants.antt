@@ -1,5 +1,5 @@
 use Rattle.history_core.specs.Fresh.{OpeningClients}
-use Rattle.history_core.proofs.client.Clients.new.Given as goal
+use Rattle.history_core.proofs.client.opening_clients.Given as goal
 
 abbrev pub invariant-loop-place : goal.invariant-loop-place
 invariant-loop-place l = OpeningClients l.place l.list.items
