@@ -31,7 +31,7 @@ use Rattle.std.proofs.Common.{
 }
 use Rattle.std.specs.Prelude.{slice_index, slice_index_or, All}
 use Rattle.std.proofs.lemmas.List.Elements.{All-nil, All-cons}
-use mathlib.Core.Option.{none, some, some-injective, some-ne-none}
+use mathlib.Core.Option.{some}
 use mathlib.Core.Option as maybe
 use lib.ListN.{get_elem?}
 use Rattle.atomic_table.specs.Table.{State}

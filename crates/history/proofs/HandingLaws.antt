@@ -1,4 +1,4 @@
--- Passes that are handed in one by one, the last first.
+-- Tokens that are handed in one by one, the last first.
 use Rattle.std.proofs.Common.{
   ◌≡◌,
   ℕ,

@@ -92,7 +92,7 @@ use Rattle.history.specs.declared.view.Role.{Role}
 use Rattle.history.specs.declared.view.Role.TheVariants.{Token}
 use Rattle.history.specs.declared.view.View.{View}
 use Rattle.history.specs.declared.view.SlotValue.TheVariants.{Asked, Answered}
-use Rattle.history.specs.Words.{request, given_to, IsFresh, IsRight, IsRightAt, IsCause}
+use Rattle.history.specs.Words.{request, given_to, IsFresh, IsRight, IsRightAt}
 use Rattle.history.specs.Members.{number_of, told_by, part}
 use Rattle.history.specs.Members as member
 use Rattle.history.specs.Rule.{Slot, Homes, stage, LiesIn, MailShown, Asks, TokenKnows, KnowsAs, Shows, ShowsWorld, IsElsewhere, AreApart, first_world}

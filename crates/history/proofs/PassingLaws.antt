@@ -1,4 +1,4 @@
--- What a token keeps over each call, and what its token then is.
+-- What a token keeps over each call, and what its record then is.
 use Rattle.std.proofs.Common.{
   ◌≡◌,
   ◌≢◌,
@@ -78,10 +78,7 @@ use Rattle.history.specs.Tokens.{
   Took,
   MayPut,
   Put,
-  request_of,
-  without,
   Grabs,
-  Answers,
   Collected,
 }
 use Rattle.history.specs.Tokens as public

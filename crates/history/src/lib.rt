@@ -9,11 +9,11 @@
 //! slot 1 + n         client n's mailbox   0 empty, 1 asked, 2 in a dispatcher's hand, 3 answered
 //! ```
 //!
-//! **The contract.** Whatever the threads do, the table shows a world of the pure protocol (`history_core`) that events
-//! led to, each of them enabled (`specs/Rule`, `ShowsWorld`). A token is a client's or dispatcher's token; its record
-//! tells what it has seen, made, asked, given and done (`specs/Tokens`, one equation for each call). At the end `close`
-//! gives the row store, whose log is that of a true run in which each token did, and was told, what its record says
-//! (`specs/Closing`).
+//! **The contract.** Whatever the threads do, the table shows a `World` of `history_core` that its events led to, each
+//! of them enabled (`specs/Rule`, `ShowsWorld`): there is one machine, and the table is how threads share it. A token is
+//! a client's or dispatcher's part in the table; its record has what it has seen, made, asked, given and done
+//! (`specs/Tokens`, one equation for each call). At the end `close` gives the row store, whose log is that of a true run
+//! in which each token did, and was told, what its record says (`specs/Closing`).
 //!
 //! | step of the table | event |
 //! |---|---|
@@ -28,7 +28,7 @@
 //!
 //! ```text
 //! let mut rows = shared.take_rows(rt, &mut token);    // waits until the row store is home
-//! let answer = rows.apply(number, refresh);          // one commit more, or a refusal and no change
+//! let receipt = rows.refresh(number, refresh);       // one commit more, or a refusal and no change
 //! shared.put_rows(&mut token, rows);                  // all see it from here on
 //! ```
 #![tactic(auto)]

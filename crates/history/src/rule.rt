@@ -1,5 +1,5 @@
 //! The rule of the table, and what each step tells.
-ghost use Rattle.history.specs.Rule.{ShowsWorld, dealer, terms_of, nobody, view_of};
+ghost use Rattle.history.specs.Rule.{ShowsWorld, dealer, terms_of};
 ghost use Rattle.history.specs.Plays.{TriesRows, PutsRows, Looks, dealt, token_of, note_of, hears, leaves, gathers};
 ghost use Rattle.history.specs.Plays.{OpensBox, Posts, Grabs, Answers, Collects, TriesWriter, PutsWriter};
 

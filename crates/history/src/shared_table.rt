@@ -1,5 +1,5 @@
 //! The table that threads share: its calls, each with the token of the client or dispatcher that makes it.
-ghost use Rattle.std.specs.Prelude.{◌≡◌, ℕ, ◌+◌, ◌-◌, ◌<◌, ◌≤◌, ◌^◌, All, true, false, [], length, Some, None, IfOk};
+ghost use Rattle.std.specs.Prelude.{◌≡◌, ◌+◌, ◌-◌, ◌<◌, ◌≤◌, ◌^◌, All, true, false, [], length, Some, None, IfOk};
 ghost use Rattle.std.specs.Prelude.{MatchOption};
 ghost use Rattle.row_store.specs.History.{IsPrefix};
 ghost use Rattle.row_store.specs.Legal.{IsLegal};

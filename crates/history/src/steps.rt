@@ -1,10 +1,10 @@
 //! What a token's seat does at the table.
-ghost use Rattle.std.specs.Prelude.{◌≡◌, ℕ, ◌+◌, ◌<◌, ◌≤◌, true, false, [], ◌∷◌, length, None, MatchOption};
+ghost use Rattle.std.specs.Prelude.{◌≡◌, ◌+◌, ◌<◌, true, false, ◌∷◌, length, None, MatchOption};
 ghost use Rattle.atomic_table.specs.Table.{rest};
 ghost use Rattle.history.specs.Words.{store};
 ghost use Rattle.history.specs.Rule.{terms_of, IsElsewhere};
 ghost use Rattle.history.specs.Plays.{gathers, gave_back, hears, note_of, opened, posted, grabbed, without_writer};
-ghost use Rattle.history.specs.Seats.{Has, Carries, IsToken, IsTokenAt, IsClientAt, IsDispatcherAt, IsFree, AreAll};
+ghost use Rattle.history.specs.Seats.{Has, Carries, IsToken, IsClientAt, IsDispatcherAt, IsFree, AreAll};
 ghost use Rattle.history.specs.Seats.{members_of, IsClosed, Takes, LooksAt, Adds, Becomes, turns, MayServe, Serves};
 ghost use Rattle.history.specs.Seats.{Collects, TakesWriter, MayPutWriter};
 

@@ -1,5 +1,5 @@
 //! The tokens by which clients and dispatchers act at the table.
-ghost use Rattle.std.specs.Prelude.{◌≡◌, ℕ, ◌+◌, ◌<◌, ◌^◌, Some, Contains, length, slice_get};
+ghost use Rattle.std.specs.Prelude.{◌≡◌, ◌+◌, ◌<◌, Some, Contains, length, slice_get};
 ghost use Rattle.history.specs.TokenParts.{IsSeatOf};
 
 use crate::rule::TableSeat;

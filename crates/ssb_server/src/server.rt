@@ -92,7 +92,7 @@ pub struct Server<W: EndsCopies + Drop> {
     pub(crate) bells: Bells,
     pub(crate) pace: Pace,
     pub(crate) alloc: Global,
-    // For `close`. Passes may not be shared between threads, and behind a lock they are not; nobody takes it.
+    // For `close`. Tokens may not be shared between threads, and behind a lock they are not; nobody takes it.
     pub(crate) room: Mutex<ClosingRoom<W>>,
 }
 
