@@ -52,8 +52,9 @@ and the dispatchers answer the clients' questions in batches. When all scripts h
 the order given, the line 'client K' and the report of its records, and at the end the line 'commits C'. With --trace it
 then writes the commits and the answers into FILE, which 'ssb_live audit' checks.
 
-A script has one record on a line. 'query|NAME' or 'query|NAME|CONSTANT..' asks. 'begin', then 'add' or 'amend' with
-'line|..' records, and 'withdraw|KEY', then 'commit' is one refresh, which is accepted whole or refused whole.
+A script has one record on a line. 'query|NAME' or 'query|NAME|CONSTANT..' asks. 'ask', then 1 to 16 of these, then
+'answer' asks them together: all are answered after the same commits. 'begin', then 'add' or 'amend' with 'line|..'
+records, and 'withdraw|KEY', then 'commit' is one refresh, which is accepted whole or refused whole.
 
 Examples:
   ssb_live run --data tables morning.txt
@@ -77,8 +78,9 @@ IN and OUT are named pipes (mkfifo) or files; a thread opens them, OUT first. If
 plain file. An OUT that has bytes in it is refused, and so are two ends that are one file: nothing is changed then.
 
 A client sends the records of a script. A request is a line 'query|NAME' or 'query|NAME|CONSTANT..', or the lines from
-'begin' to 'commit'. Its reply comes before the server waits for the next request: one line, or a line that says how
-many rows follow. A request with a fault is answered 'fault: ..', and does nothing. The end of the input ends the
+'ask' to 'answer' or from 'begin' to 'commit'. Its reply comes before the server waits for the next request: one line,
+or for each question a line that says how many rows follow. The 1 to 16 questions from 'ask' to 'answer' are all answered
+after the same commits. A request with a fault is answered 'fault: ..', and does nothing. The end of the input ends the
 session. At a terminal the word 'help' shows the queries and their constants.
 
 With --journal the commits are kept in FILE, which is created if it does not exist. 'committed N' is sent when commit N
@@ -105,8 +107,9 @@ Example:
 
 /// What the word `help` shows on the terminal of a live session.
 pub const TERMINAL_HELP: &str = "\
-query|NAME or query|NAME|CONSTANT.. asks. begin, then add or amend with line|.. records, and withdraw|KEY, then commit
-is one refresh. The end of the input (Ctrl-D) ends the session. The queries, and their constants in this order:
+query|NAME or query|NAME|CONSTANT.. asks. ask, then 1 to 16 of these, then answer asks them together: all are answered
+after the same commits. begin, then add or amend with line|.. records, and withdraw|KEY, then commit is one refresh. The
+end of the input (Ctrl-D) ends the session. The queries, and their constants in this order:
 
   Q1.1        year; discount from, to; quantity from, to
   Q1.2        year and month, like 199401; discount from, to; quantity from, to
