@@ -67,8 +67,10 @@ no_trace number most text error.Read fault = inl refl
 no_trace number most text error.OutOfMemory fault = inl refl
 no_trace number most text (error.BadLine n) fault = inr (refl, tells number most text (error.BadLine n) (λ is. cc) (λ is. cc) fault)
 no_trace number most text error.NoCommit fault = inr (refl, tells number most text error.NoCommit (λ is. cc) (λ is. cc) fault)
+no_trace number most text error.NoAnswer fault = inr (refl, tells number most text error.NoAnswer (λ is. cc) (λ is. cc) fault)
 no_trace number most text (error.EmptyBlock n) fault = inr (refl, tells number most text (error.EmptyBlock n) (λ is. cc) (λ is. cc) fault)
 no_trace number most text (error.Row n f) fault = inr (refl, tells number most text (error.Row n f) (λ is. cc) (λ is. cc) fault)
+no_trace number most text (error.TooManyQuestions n) fault = inr (refl, tells number most text (error.TooManyQuestions n) (λ is. cc) (λ is. cc) fault)
 no_trace number most text error.TooLong fault = inr (refl, tells number most text error.TooLong (λ is. cc) (λ is. cc) fault)
 
 -- the commits that a file keeps, with a group more
