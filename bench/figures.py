@@ -41,7 +41,7 @@ def check_figures(checker, page):
         others = [one for name in owners for one in figures_of("\n".join(checker.pages[name].lines))]
         for figure in figures_of(part.text):
             if figure[2] and not stands_in(figure, others):
-                checker.find(page, part.line_at(figure[3]), f"{figure[0]:g} {figure[2]} does not stand in {', '.join(owners)}")
+                checker.find(page, part.line_at(figure[3]), f"{figure[0]:,.10g} {figure[2]} does not stand in {', '.join(owners)}")
 
 
 def check_sections(checker, page):
@@ -57,7 +57,7 @@ def check_sections(checker, page):
             for part in parts:
                 for figure in figures_of(part.text):
                     if figure[0] >= 10 * figure[1] and not stands_in(figure, others):
-                        checker.find(page, part.line_at(figure[3]), f"{figure[0]:,g} does not stand in docs/BENCHMARKS.md")
+                        checker.find(page, part.line_at(figure[3]), f"{figure[0]:,.10g} does not stand in docs/BENCHMARKS.md")
 
 
 def memory_facts(page):

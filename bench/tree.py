@@ -4,6 +4,7 @@ Read by patterns, not by a parser. Words are those of src/ and specs/ outside of
 comment alone is gone.
 """
 import collections
+import os
 import pathlib
 import re
 
@@ -20,7 +21,9 @@ TYPE = re.compile(r"^\s*(?:pub(?:\([^)]*\))?\s+)?(?:struct|enum|trait|type)\s+(\
 CONSTANT = re.compile(r"^\s*(pub(?:\([^)]*\))?\s+)?const\s+([A-Z][A-Z0-9_]*)\s*:[^=]*=\s*([^;]*);", re.M)
 DEFINITION = re.compile(r"^(?:(?:abbrev|unfoldable|pub|core|record|data)\s+)*([^\W\d][\w'-]*)", re.M)
 ERROR = re.compile(r'#\[error\("(\d+) ([A-Z]\w+)')
+FAULT_ROW = re.compile(r"^\| `(\d+) ([A-Z]\w+)", re.M)
 WORD = re.compile(r"[A-Za-z][A-Za-z0-9_]*")
+WRITTEN = ("", ".rt", ".antt", ".edit", ".case", ".md", ".txt", ".py", ".c", ".cpp", ".sql")
 
 
 def without_comments(text, mark):
@@ -88,8 +91,11 @@ class Tree:
         self.faults = {}
         self.words = set(self.crates) | self.kit
         self.text_of = {}               # path to text without comments, of src/ and specs/
+        self.sources = self._sources()
         for crate in self.crates:
             self._read_crate(crate)
+        page = self.sources.get("crates/fault_pages/data/FAULTS.md", "")       # the gate holds it to the code
+        self.faults.update((int(value), name) for value, name in FAULT_ROW.findall(page))
         self._read_bench()
         self.commands, self.flags = self._words_of_the_program()
 
@@ -101,19 +107,29 @@ class Tree:
                 libraries[head.split()[0]] = uses.split()
         return libraries
 
-    def _read_crate(self, crate):
-        folder = self.top / "crates" / crate
-        for path in sorted(folder.rglob("*")):
-            if path.is_dir() or "out" in path.relative_to(folder).parts:
-                continue
-            self.words.update(WORD.findall(str(path.relative_to(folder))))
-            if path.suffix == ".rt" and "src" in path.parts:
-                self._read_source(crate, path)
-            elif path.suffix == ".antt" and "specs" in path.parts:
-                self._read_spec(crate, folder, path)
+    def _sources(self):
+        """The text of each file of the tree that people write, by its name from the top; what is built is left out."""
+        sources = {}
+        for folder, below, names in os.walk(self.top):
+            below[:] = sorted(name for name in below if name != "out" and not name.startswith("."))
+            for name in sorted(names):
+                path = os.path.join(folder, name)
+                if os.path.splitext(name)[1] in WRITTEN:
+                    with open(path, encoding="utf-8", errors="replace") as file:
+                        sources[os.path.relpath(path, self.top)] = file.read()
+        return sources
 
-    def _read_source(self, crate, path):
-        text = without_comments(path.read_text(), "//")
+    def _read_crate(self, crate):
+        for name in [one for one in self.sources if one.startswith(f"crates/{crate}/")]:
+            path, text = self.top / name, self.sources[name]
+            self.words.update(WORD.findall(name))
+            if path.suffix == ".rt" and "src" in path.parts:
+                self._read_source(crate, path, text)
+            elif path.suffix == ".antt" and "specs" in path.parts:
+                self._read_spec(crate, path, text)
+
+    def _read_source(self, crate, path, text):
+        text = without_comments(text, "//")
         self.text_of[path] = text
         self.words.update(WORD.findall(text))
         for name in TYPE.findall(text):
@@ -140,20 +156,17 @@ class Tree:
             self.functions[one.group(1)].append(
                 Function(crate, owner, one.group(1), path, line, clauses, count_parameters(text, one.end())))
 
-    def _read_spec(self, crate, folder, path):
-        text = without_comments(path.read_text(), "--")
+    def _read_spec(self, crate, path, text):
+        text = without_comments(text, "--")
         self.text_of[path] = text
         self.words.update(WORD.findall(text))
-        stem = str(path.relative_to(folder / "specs").with_suffix(""))
+        stem = str(path.relative_to(self.top / "crates" / crate / "specs").with_suffix(""))
         names = set(DEFINITION.findall(text)) | set(re.findall(r"^\s+(?:abbrev )?(?:pub )?([\w'-]+)", text, re.M))
         self.definitions[crate, stem] = names
 
     def _read_bench(self):
-        self.scripts = {}
-        for path in sorted((self.top / "bench").iterdir()):
-            if path.is_file() and path.suffix not in (".txt", ".sha256"):
-                self.scripts[path.name] = path.read_text()
-        others = [text for name, text in self.scripts.items() if name not in ("check_docs", "README.md")]
+        self.scripts = {name[6:]: text for name, text in self.sources.items() if name.startswith("bench/")}
+        others = [text for name, text in self.scripts.items() if name not in ("check_docs", "README.md", "expected-0.01.txt")]
         self.words.update(word for text in others for word in WORD.findall(text))
 
     def _words_of_the_program(self):
