@@ -1,4 +1,4 @@
-use Rattle.std.proofs.Common.{◌≡◌, Err, inr, rules}
+use Rattle.std.proofs.Common.{◌≡◌, Err, inl, inr, rules}
 use Rattle.ssb_files.proofs.ResultLaws.{if_ok_from}
 use Rattle.ssb_script.specs.Requests.{requests_of}
 use Rattle.run_command.specs.Demo.{IsOfScript}
@@ -21,3 +21,10 @@ returns-in-Ok-clause-report g c =
       asked = c.in-Ok.ensures.script;
       is_report = is;
     })
+
+pub returns-in-Err-clause-script : goal.returns-in-Err-clause-script
+returns-in-Err-clause-script g c status = inl (λ text is. record {
+  fault = c.in-Err.fault;
+  first = c.in-Err.ensures.fault text is;
+  of_script = status;
+})
