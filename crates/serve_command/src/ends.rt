@@ -66,8 +66,8 @@ fn is_named_pipe(found: io::Result<Metadata>) -> bool {
     }
 }
 
-/// Reports each client that would be answered to no named pipe, by its number from 1, if the writer takes it: it is
-/// mostly a slip, and the server then waits for nobody.
+/// Reports each client that is answered to no named pipe, by its number from 1, if the writer takes it. It is mostly a
+/// slip, and the client then waits for its answers at a pipe that nobody writes.
 pub fn report_no_pipes<F: Files, E: Write>(files: &F, clients: &[EndPaths], err: &mut E) {
     let mut number = 0u64;
     for paths in clients {

@@ -15,8 +15,8 @@ abbrev pub are_one_node : Option (ℕ × ℕ) → Option (ℕ × ℕ) → Bool
 are_one_node (Some one) (Some other) = nat_eq one.0 other.0 && nat_eq one.1 other.1
 are_one_node _ _ = false
 
--- two files are one: the same path once it is resolved, or the same device and inode; of two that are not there yet these
--- are of their folders, and their names are the same
+-- two files are one: the same path once it is resolved, or the same device and inode; of two that are not there yet
+-- these are of their folders, and their names are the same
 abbrev pub are_one : FileIdentity → FileIdentity → Bool
 are_one one other = bytes_eq (string_bytes one.name) (string_bytes other.name)
     && (bytes_eq (string_bytes one.path) (string_bytes other.path) || are_one_node one.node other.node)
@@ -71,6 +71,6 @@ pub record AreReady (paths : List UsedPath) : Type 0 where
 abbrev pub IsPathFault : List UsedPath → Fault → Type 0
 IsPathFault paths (fault.Paths (path.SameFile name)) = (one : UsedPath) × IsFirstClash paths one
     × (string_bytes name ≡ string_bytes one.path)
-IsPathFault paths (fault.Paths (path.HasBytes name)) = AreApart paths × ((one : UsedPath) × (find is_full paths ≡ Some one)
-    × (string_bytes name ≡ string_bytes one.path))
+IsPathFault paths (fault.Paths (path.HasBytes name)) = AreApart paths × ((one : UsedPath)
+    × (find is_full paths ≡ Some one) × (string_bytes name ≡ string_bytes one.path))
 IsPathFault paths why = why ≡ fault.OutOfMemory

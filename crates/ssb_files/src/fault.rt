@@ -57,8 +57,8 @@ fn script_status(fault: &ScriptError) -> u8
 }
 
 impl Fault {
-    /// The exit status: 1 where paths, data, a script or a trace were refused, 2 for a wrong command line, 4 where reading,
-    /// writing or memory failed.
+    /// The exit status: 1 where paths, data, a script or a trace were refused, 2 for a wrong command line, 4 where
+    /// reading, writing or memory failed.
     pub fn status(&self) -> u8
         ensures { result ≡ status_of self.now }
     {

@@ -20,8 +20,8 @@ const HERE: &str = ".";
 /// The file of a path, or the file that would be made there.
 #[derive(Drop)]
 pub struct FileIdentity {
-    // The device and the inode; of a file that is not there those of its folder. None where the system says 0 of both, or
-    // nothing.
+    // The device and the inode; of a file that is not there those of its folder. None where the system says 0 of both,
+    // or nothing.
     node: Option<(u64, u64)>,
     // The path without `.`, `//`, `..` and links; of a file that is not there that of its folder.
     path: String,

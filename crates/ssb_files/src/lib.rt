@@ -1,20 +1,22 @@
-//! What the program reads, and why it stops: files that are opened in the order in which faults are told, the base that
-//! five tables spell, the scripts that sources spell, the line on a terminal that shows how far a long load is; and the
-//! fault line and status that it ends with.
+//! What the program reads, and why it stops: files that are opened in the order in which faults are told, the paths
+//! that may not be one file, the base that five tables spell, the scripts that sources spell, the line on a terminal
+//! that shows how far a long load is; and the fault line and status that it ends with.
 //!
 //! ```text
+//! paths ── find_tables, UsedPath::find ─▶ files that they name ── check_paths ─▶ none is another that is written
 //! paths ── open_tables, open_files ─▶ readers ── watch_tables ─▶ readers that show progress
 //!     readers ── base_of ─▶ base          readers ── read_scripts ─▶ scripts
 //!
-//! refused data, script, trace ─▶ 1      wrong words ─▶ 2      something speaks against a trace ─▶ 3
+//! refused paths, data, script, trace ─▶ 1      wrong words ─▶ 2      something speaks against a trace ─▶ 3
 //! failed read, failed write, want of memory ─▶ 4              each with one line: ssb_live: WHAT
 //! ```
 //!
 //! The contracts: [`base_of`] and [`base_to_serve`] give the base that the texts spell, or a fault that they have
-//! (`specs/Loaded.antt`); [`read_scripts`] the scripts, or the first fault (`specs/Scripts.antt`); a reader that is
+//! (`specs/Loaded.antt`); [`check_paths`] tells the first of the paths that may not be used beside those before it
+//! (`specs/Paths.antt`); [`read_scripts`] the scripts, or the first fault (`specs/Scripts.antt`); a reader that is
 //! watched gives the bytes of the reader in it; [`Fault::status`] is that of the fault (`specs/Status.antt`). What only
-//! one job finds, as what speaks against a trace, is its [`Finding`] in a [`JobFault`]. That a file is opened, and what a
-//! terminal shows, is only tested.
+//! one job finds, as what speaks against a trace, is its [`Finding`] in a [`JobFault`]. That a file is opened, what the
+//! system says of a path, and what a terminal shows, is only tested.
 //!
 //! ```text
 //! let tables = open_tables(rt, "tables")?;

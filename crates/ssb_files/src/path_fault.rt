@@ -5,7 +5,7 @@ use std::fmt;
 /// What speaks against the paths of a command: a file of the user would be lost.
 #[derive(Debug, Drop)]
 pub enum PathFault<P: Drop> {
-    /// This path names the file of another path of the command, and one of them is written, or both are ends of clients.
+    /// This path is the file of another path of the command, and one of them is written, or both are ends of clients.
     SameFile(P),
     /// This path, to which a client would be answered, is a plain file with bytes in it.
     HasBytes(P),
