@@ -7,7 +7,7 @@ use std::io::{Read, Write};
 
 // What stands before the first prompt.
 const GREETING: &str = "\
-query|NAME asks; ask .. answer asks several at once; begin .. commit refreshes
+query|NAME asks; ask .. answer asks several at once; begin .. commit refreshes; abort drops
 help lists the queries; Ctrl-D ends
 ";
 
