@@ -45,7 +45,9 @@ of_data load.OutOfMemory = inr (inr refl)
 of_script : (why : ScriptError) → IsFaultStatus (script_status why)
 of_script (script.BadLine number) = inl refl
 of_script script.NoCommit = inl refl
+of_script script.NoAnswer = inl refl
 of_script (script.EmptyBlock number) = inl refl
+of_script (script.TooManyQuestions number) = inl refl
 of_script (script.Row number why) = inl refl
 of_script script.TooLong = inl refl
 of_script script.Read = inr (inr refl)
