@@ -3,8 +3,9 @@ use Rattle.std.proofs.Common.{
   ◌≡◌,
   ◌≢◌,
   ℕ,
+  zero,
+  suc,
   ◌+◌,
-  ◌-◌,
   ◌<◌,
   ◌≤◌,
   Bool,
@@ -18,6 +19,7 @@ use Rattle.std.proofs.Common.{
   refl,
   ap,
   sym,
+  subst,
   ◌∙◌,
   ⊎_elim,
   arith,
@@ -26,8 +28,6 @@ use Rattle.std.proofs.Common.{
   get_or-set_same,
   get_or-set_other,
 }
-use Rattle.std.proofs.lemmas.Bool.Decides.{nat_tests}
-use Rattle.std.specs.Prelude.{nat_lt}
 use mathlib.Core.Option.{some}
 use mathlib.Core.Logic.{dite}
 use native.Mathlib.Decide.{ℕ_discrete}
@@ -35,46 +35,38 @@ use lib.ListN.{get_elem?}
 use Rattle.atomic_table.specs.Table.{State, Final, Seen}
 use Rattle.ssb_base.specs.Base.{Tables}
 use Rattle.row_store.specs.History.{CommitRecord}
-use Rattle.history_core.specs.declared.event.Who.TheVariants.{Client, Dispatcher}
+use Rattle.row_store.specs.Legal.{IsLegal}
+use Rattle.history_core.specs.declared.event.Who.TheVariants.{Dispatcher}
 use Rattle.history.specs.declared.view.Terms.{Terms}
 use Rattle.history.specs.declared.view.Member.{Member}
 use Rattle.history.specs.declared.view.Role.TheVariants.{Token as Seat}
 use Rattle.history.specs.declared.view.View.{View}
 use Rattle.history.specs.Words.{store}
-use Rattle.history.specs.World.{World, Mailbox, empty, who_at, Kept}
-use Rattle.history.specs.Rule.{Slot, Homes, rows, request_of, TokenKnows, Shows, ShowsWorld}
+use Rattle.history_core.specs.Numbered.{numbered}
+use Rattle.history_core.specs.World.{World, Mailbox, empty}
+use Rattle.history_core.specs.Kept.{WorldKept}
+use Rattle.history_core.specs.Deeds.{Deed}
+use Rattle.history_core.specs.Parts.{mailbox_at}
+use Rattle.history_core.proofs.HistoryLaws.{in_range}
+use Rattle.history_core.proofs.DoneLaws.{done_true}
+use Rattle.history_core.proofs.PartLaws.{found_box}
+use Rattle.history.specs.Members.{who_at, part}
+use Rattle.history.specs.Rule.{Slot, Homes, rows, Asks, IsTold, TokenKnows, Shows, ShowsWorld}
 use Rattle.history.specs.Seats.{members_of, AreAll, IsClosed}
-use Rattle.history.proofs.HistoryLaws.{at_end, in_range}
-use Rattle.history.proofs.WorldLaws.{kept_after}
-use Rattle.history.proofs.DeedLaws.{did_all}
-use Rattle.history.proofs.FrameLaws.{token_knows}
-use Rattle.history.proofs.MailStepLaws.{only_empty}
-
--- two places of one name are one
-pub who_same : (clients a b : ℕ) → who_at clients a ≡ who_at clients b → a ≡ b
-who_same clients a b e = go (nat_lt a clients) (nat_lt b clients) refl refl
-  where
-    go : (x y : Bool) → nat_lt a clients ≡ x → nat_lt b clients ≡ y → a ≡ b
-    go true true low low' = let same : Client (a + 1) ≡ Client (b + 1) = sym (rw low refl) ∙ (e ∙ rw low' refl) in
-        let k : a + 1 ≡ b + 1 = cc same in omega arith
-    go true false low high = let same : Client (a + 1) ≡ Dispatcher ((b - clients) + 1) =
-        sym (rw low refl) ∙ (e ∙ rw high refl) in absurd (cc same)
-    go false true high low = let same : Dispatcher ((a - clients) + 1) ≡ Client (b + 1) =
-        sym (rw high refl) ∙ (e ∙ rw low refl) in absurd (cc same)
-    go false false high high' = let same : Dispatcher ((a - clients) + 1) ≡ Dispatcher ((b - clients) + 1) =
-        sym (rw high refl) ∙ (e ∙ rw high' refl) in let k : (a - clients) + 1 ≡ (b - clients) + 1 = cc same in
-        let far : clients ≤ a = grind (arith, nat_tests) in let far' : clients ≤ b = grind (arith, nat_tests) in
-        omega arith
+use Rattle.history.proofs.HistoryLaws.{at_end}
+use Rattle.history.proofs.MemberLaws.{who_same, PartKept, part_kept}
+use Rattle.history.proofs.FrameLaws.{token_knows, kept_after, only_empty}
 
 -- what is known of each member that is among those of the closing seat
-record Among (w : World) (m : Member) : Type 0 where
+record Among (key : Terms) (deeds : List Deed) (w : World) (m : Member) : Type 0 where
   place : ℕ
-  member : get_elem? w.members place ≡ some m
-  free : w.rows ≢ Some place
-  idle : w.writer ≢ Some place
-  quiet : (box : Mailbox) → get_elem? w.mailboxes place ≡ some box → request_of box ≡ None
+  who : m.who ≡ who_at key.clients place
+  told : IsTold deeds w m
+  free : w.rows ≢ Some m.who
+  idle : (number : ℕ) → m.who ≡ Dispatcher number → w.writer ≢ Some number
+  quiet : (box : Mailbox) → mailbox_at w (place + 1) ≡ Some box → Asks None box
 
-out_of_hands : (o : Option ℕ) → ((p : ℕ) → o ≢ Some p) → o ≡ None
+out_of_hands : {A : Type 0} (o : Option A) → ((a : A) → o ≢ Some a) → o ≡ None
 out_of_hands None n = refl
 out_of_hands (Some p) n = absurd (n p refl)
 
@@ -83,19 +75,20 @@ abbrev pub HoldsNothing : View → Type 0
 HoldsNothing v = (v.holds_rows ≡ false) × (v.holds_writer ≡ false) × (v.asked ≡ None)
 
 module _ {W : Type 0} (base_of : W → Tables) (taken : W → List CommitRecord) (key : Terms) where
-  among : (homes : Homes W) (w : World) (owner : ℕ → ℕ) (id place : ℕ) (v : View)
-      → TokenKnows key homes w owner id v place → HoldsNothing v → (k : ℕ) (m : Member)
-      → get_elem? (members_of v) k ≡ some m → Among w m
-  among homes w owner id place v known nothing k m at = ⊎_elim
+  among : (homes : Homes W) (deeds : List Deed) (w : World) (owner : ℕ → ℕ) (id place : ℕ) (v : View)
+      → TokenKnows key homes deeds w owner id v place → HoldsNothing v → (k : ℕ) (m : Member)
+      → get_elem? (members_of v) k ≡ some m → Among key deeds w m
+  among homes deeds w owner id place v known nothing k m at = ⊎_elim
       (λ (t : (k < length v.gathered) × (get_elem? v.gathered k ≡ some m)). let h = known.gathered k m t.1 in
-      record { place = h.place; member = h.member; free = h.free; idle = h.idle; quiet = h.quiet })
-      (λ (t : (k ≡ length v.gathered) × (v.member ≡ m)).
+      record { place = h.place; who = h.who; told = h.told; free = h.free; idle = h.idle; quiet = h.quiet })
+      (λ (t : (k ≡ length v.gathered) × (v.member ≡ m)). subst (Among key deeds w) t.1
       record {
         place = place;
-        member = known.member ∙ ap some t.1;
+        who = known.who;
+        told = known.told;
         free = known.free nothing.0;
         idle = known.idle nothing.1;
-        quiet = λ box there. sym (known.asked box there) ∙ nothing.2;
+        quiet = λ box there. subst (λ o. Asks o box) nothing.2 (known.asked box there);
       })
       (at_end v.gathered v.member m k at)
 
@@ -109,26 +102,21 @@ module _ {W : Type 0} (base_of : W → Tables) (taken : W → List CommitRecord)
     last.4 0 (rows key.base w.history) (sh.rows.home home),
     record {
       base = refl;
-      legal = kept.legal;
-      named = kept.named;
-      seen = λ k m at. let a = among s.homes w sh.owner id place v known nothing k m at in
-          (kept.members a.place m a.member).begins;
-      owns = λ k m at. let a = among s.homes w sh.owner id place v known nothing k m at in
-          (kept.members a.place m a.member).owns;
+      legal = subst (λ b. IsLegal b w.history) kept.based kept.legal;
+      named = kept.own.named;
+      seen = λ k m at. (member k m at).begins;
+      owns = λ k m at. (member k m at).owns;
       has_run = record {
-        events = last.1.0.0;
+        deeds = deeds;
         world = w;
-        run = last.1.0.2;
+        done = last.1.0.2;
         ends = refl;
         rows = home;
         writer = writer_home;
         mail = all_empty;
-        did = λ k m at. let a = among s.homes w sh.owner id place v known nothing k m at in (
-          a.place,
-          (kept.members a.place m a.member).is,
-          a.member,
-          did_all key last.1.0.0 w last.1.0.2 a.place m a.member,
-        );
+        true_run = done_true key.base key.clients key.dispatchers deeds w last.1.0.2;
+        did = λ k m at. (one k m at).told.did;
+        tells = λ k m at. (one k m at).told.part_is;
       };
     },
   )
@@ -136,35 +124,48 @@ module _ {W : Type 0} (base_of : W → Tables) (taken : W → List CommitRecord)
       s : State (Slot W) View
       s = last.0
 
+      deeds : List Deed
+      deeds = last.1.0.0
+
       w : World
       w = last.1.0.1
 
-      sh : Shows base_of taken key s w
+      sh : Shows base_of taken key s deeds w
       sh = last.1.0.3
 
-      kept : Kept key w
-      kept = kept_after key last.1.0.0 w last.1.0.2
+      kept : WorldKept key.base key.clients w
+      kept = kept_after base_of taken key deeds w last.1.0.2
 
-      known : TokenKnows key s.homes w sh.owner id v place
-      known = token_knows base_of taken key s w sh id place v last.1.1 is
+      known : TokenKnows key s.homes deeds w sh.owner id v place
+      known = token_knows base_of taken key s deeds w sh id place v last.1.1 is
+
+      one : (k : ℕ) (m : Member) → get_elem? (members_of v) k ≡ some m → Among key deeds w m
+      one k m at = among s.homes deeds w sh.owner id place v known nothing k m at
+
+      member : (k : ℕ) (m : Member) → get_elem? (members_of v) k ≡ some m → PartKept w.history m.who (part m)
+      member k m at = part_kept key.base key.clients w kept m.who (part m) (one k m at).told.part_is
 
       -- each place is that of a member that was handed in
-      found : (p : ℕ) → p < key.clients + key.dispatchers → (m : Member) × (a : Among w m) × (a.place ≡ p)
-      found p within = let there = all p within in let a =
-          among s.homes w sh.owner id place v known nothing there.0 there.1 there.2 in
-          (there.1, a, who_same key.clients a.place p (sym (kept.members a.place there.1 a.member).is ∙ there.3))
+      found : (p : ℕ) → p < key.clients + key.dispatchers → (m : Member) × (a : Among key deeds w m)
+          × (m.who ≡ who_at key.clients p)
+      found p within = let there = all p within in (there.1, one there.0 there.1 there.2, there.3)
 
       home : w.rows ≡ None
-      home = out_of_hands w.rows (λ p e. let f = found p (kept.held p e) in f.1.free (e ∙ ap (λ n. Some n) (sym f.2)))
+      home = out_of_hands w.rows (λ who e. let h = sh.rows.held who e in let f = found h.0 h.1 in
+          f.1.free (e ∙ ap (λ a. Some a) (h.2 ∙ sym f.2)))
 
       writer_home : w.writer ≡ None
-      writer_home = out_of_hands w.writer (λ p e. let f = found p (kept.writer_held p e) in
-          f.1.idle (e ∙ ap (λ n. Some n) (sym f.2)))
+      writer_home = out_of_hands w.writer (λ n e. let h = sh.writer.held n e in let f = found h.0 h.1 in
+          f.1.idle n (f.2 ∙ sym h.2) e)
 
-      all_empty : (client : ℕ) (box : Mailbox) → get_elem? w.mailboxes client ≡ some box → box ≡ empty
-      all_empty client box at = let within = in_range w.mailboxes client box at in let count = sh.box_count in let f =
-          found client (omega (arith, within, count)) in
-          only_empty box (f.1.quiet box (ap (get_elem? w.mailboxes) f.2 ∙ at))
+      all_empty : (number : ℕ) (box : Mailbox) → mailbox_at w number ≡ Some box → box ≡ empty
+      all_empty zero box at = absurd (cc at)
+      all_empty (suc p) box at = let count = kept.own.count in let c = found_box (numbered w.clients (suc p)) box at in
+          let within : p < length w.clients = in_range w.clients p c.0 c.1 in
+          let f = found p (omega (arith, within, count)) in
+          let same : f.1.place ≡ p = who_same key.clients f.1.place p (sym f.1.who ∙ f.2) in
+          let one : suc p ≡ f.1.place + 1 = omega (arith, same) in
+          only_empty box (f.1.quiet box (ap (mailbox_at w) (sym one) ∙ at))
 
 -- a row of slots is empty below a place and full from it on
 module _ (filled : List Bool) (i n : ℕ) (within : i < length filled)

@@ -37,7 +37,7 @@ use Rattle.history_core.specs.declared.event.Who.TheVariants.{Client, Dispatcher
 use Rattle.history.specs.declared.view.Member.{Member}
 use Rattle.history.specs.declared.view.View.{View}
 use Rattle.history.specs.Words.{Owns}
-use Rattle.history.specs.World.{who_at, number_of}
+use Rattle.history.specs.Members.{who_at, number_of}
 use Rattle.history.specs.Plays.{gathers}
 use Rattle.history.specs.Seats.{members_of, AreAll, IsClosed}
 use Rattle.history.specs.Tokens.{TableRecord, TokenRecord}
@@ -52,8 +52,7 @@ use Rattle.history.specs.Closing.{
   IsLogOf,
 }
 use Rattle.history.proofs.HistoryLaws.{all_of, each_of}
-use Rattle.history.proofs.WorldLaws.{who_client}
-use Rattle.history.proofs.LinkLaws.{has_true_run}
+use Rattle.history.proofs.MemberLaws.{who_client}
 
 module _ {A : Type 0} where
   pub at_front : (xs ys : List A) (k : ℕ) (x : A) → get_elem? xs k ≡ some x → get_elem? (xs ++ ys) k ≡ some x
@@ -178,4 +177,4 @@ module _ (table : TableRecord) (clients dispatchers : List TokenRecord) (rows : 
       (at_map member_of clients k t at)))
 
   pub log_is_true : IsLogOf table clients dispatchers rows.log
-  log_is_true = has_true_run (terms_in table) (members_in clients ++ members_in dispatchers) rows.log closed.has_run
+  log_is_true = closed.has_run

@@ -1,14 +1,12 @@
 pub mod HistoryLaws
 pub mod HandLaws
-pub mod WorldLaws
+pub mod MemberLaws
 pub mod FrameLaws
 pub mod RowStepLaws
 pub mod WriterStepLaws
 pub mod MailStepLaws
 pub mod SplittingLaws
-pub mod DeedLaws
 pub mod ClosingLaws
 pub mod HandingLaws
 pub mod PassingLaws
 pub mod AnsweringLaws
-pub mod LinkLaws

@@ -19,8 +19,10 @@ use Rattle.std.proofs.Common.{
   List,
   [],
   ◌∷◌,
+  ◌++◌,
   length,
   set,
+  Option,
   Some,
   None,
   refl,
@@ -37,10 +39,10 @@ use Rattle.std.proofs.Common.{
   get_or-set_other,
 }
 use Rattle.std.proofs.lemmas.List.{take-append-le}
-use Rattle.std.specs.Prelude.{slice_index}
+use Rattle.std.specs.Prelude.{slice_index, All}
 use lib.Seq.{set-get_or}
 use prog.Atomic.{either}
-use mathlib.Core.Option.{none, some, some-injective, some-ne-none}
+use mathlib.Core.Option.{none, some, some-injective}
 use mathlib.Core.Option as maybe
 use mathlib.Core.Logic.{dite}
 use native.Mathlib.Decide.{ℕ_discrete}
@@ -64,6 +66,21 @@ use Rattle.ssb_base.specs.Base.{Tables}
 use Rattle.ssb_answers.specs.declared.answer.Answer.{Answer}
 use Rattle.ssb_answers.specs.declared.answer.Answer.TheVariants.{Rows, Unserved}
 use Rattle.row_store.specs.History.{CommitRecord, IsPrefix}
+use Rattle.history_core.specs.declared.event.Who.{Who}
+use Rattle.history_core.specs.declared.event.Who.TheVariants.{Client, Dispatcher}
+use Rattle.history_core.specs.declared.event.Reply.{Reply}
+use Rattle.history_core.specs.declared.event.Reply.TheVariants.{NotEnabled, Done, Query as Told}
+use Rattle.history_core.specs.Events.{Question, Event, Post, Grab, Answer as Answering, GiveUp, Collect}
+use Rattle.history_core.specs.World.{World, Mailbox, empty, asked, in_hand, answered, unserved, rows_after, mailbox_of}
+use Rattle.history_core.specs.Deeds.{Deed, actor_of}
+use Rattle.history_core.specs.Kept.{WorldKept}
+use Rattle.history_core.specs.Parts.{part_of, mailbox_at}
+use Rattle.history_core.proofs.HistoryLaws.{some_injective}
+use Rattle.history_core.specs.Numbered.{numbered}
+use Rattle.history_core.proofs.KeepingLaws.{mail_kept}
+use Rattle.history_core.proofs.DoneLaws.{did_same, done_next}
+use Rattle.history_core.proofs.PartLaws.{numbered_there, BoxStepped}
+use Rattle.history_core.proofs.PartLaws as core
 use Rattle.history.specs.declared.view.Terms.{Terms}
 use Rattle.history.specs.declared.view.Member.{Member}
 use Rattle.history.specs.declared.request.PostedQuestion.{PostedQuestion}
@@ -72,43 +89,10 @@ use Rattle.history.specs.declared.view.Role.{Role}
 use Rattle.history.specs.declared.view.Role.TheVariants.{Token}
 use Rattle.history.specs.declared.view.View.{View}
 use Rattle.history.specs.declared.view.SlotValue.TheVariants.{Asked, Answered}
-use Rattle.history_core.specs.World.{rows_after}
-use Rattle.history.specs.Words.{given_to, IsFresh, IsRight, IsRightAt}
-use Rattle.history.specs.World.{
-  World,
-  Mailbox,
-  empty,
-  asked,
-  in_hand,
-  answered,
-  Event,
-  post,
-  grab,
-  answer,
-  collect,
-  revised,
-  grabs,
-  answers,
-  collects,
-  effect,
-  IsAbove,
-  Kept,
-}
-use Rattle.history.specs.World as world
-use Rattle.history.specs.Rule.{
-  Slot,
-  Homes,
-  stage,
-  LiesIn,
-  MailShown,
-  request_of,
-  TokenKnows,
-  KnowsAs,
-  Knows,
-  Shows,
-  ShowsWorld,
-  IsElsewhere,
-}
+use Rattle.history.specs.Words.{request, given_to, IsFresh, IsRight, IsRightAt, IsCause}
+use Rattle.history.specs.Members.{number_of, told_by, part}
+use Rattle.history.specs.Members as member
+use Rattle.history.specs.Rule.{Slot, Homes, stage, LiesIn, MailShown, Asks, TokenKnows, KnowsAs, Shows, ShowsWorld, IsElsewhere, AreApart, first_world}
 use Rattle.history.specs.Plays.{
   opened,
   OpensBox,
@@ -124,50 +108,47 @@ use Rattle.history.specs.Plays.{
   collected,
   Collects,
 }
-use Rattle.history.proofs.HistoryLaws.{
-  prefix_self,
-  at_revised,
-  each_revised,
-  revised_here,
-  revised_else,
-  there,
-  length-revised,
-  all_of,
-  each_of,
-}
+use Rattle.history.proofs.HistoryLaws.{prefix_self, all_of, each_of}
 use Rattle.history.proofs.HandLaws.{request_there, was_there, others_elsewhere, apart_without}
-use Rattle.history.proofs.WorldLaws.{kept_after}
+use Rattle.history.proofs.MemberLaws.{client_here, dispatcher_here, part_kept, floor_kept}
 use Rattle.history.proofs.FrameLaws.{
   mail_stays,
+  only_empty,
   Grows,
   handed_grows,
+  told_more,
   more_beside,
   rows_beside,
   writer_beside,
   writer_stays,
   token_step,
   token_knows,
+  kept_after,
 }
 use Rattle.history.proofs.RowStepLaws.{unmoved}
 
-pub only_empty : (box : Mailbox) → request_of box ≡ None → box ≡ empty
-only_empty empty e = refl
-only_empty (asked r) e = absurd (cc e)
-only_empty (in_hand p r) e = absurd (cc e)
-only_empty (answered r x) e = absurd (cc e)
-
-only_asked : (box : Mailbox) → stage box ≡ 1 → (request : PostedQuestion) × (box ≡ asked request)
+only_asked : (box : Mailbox) → stage box ≡ 1 → (question : Question) × (floor : ℕ) × (box ≡ asked question floor)
 only_asked empty e = absurd (omega arith)
-only_asked (asked r) e = (r, refl)
-only_asked (in_hand p r) e = absurd (omega arith)
-only_asked (answered r x) e = absurd (omega arith)
+only_asked (asked q f) e = (q, f, refl)
+only_asked (in_hand d q f) e = absurd (omega arith)
+only_asked (answered q n x) e = absurd (omega arith)
+only_asked (unserved q c) e = absurd (omega arith)
 
-only_answered : (box : Mailbox) → stage box ≡ 3 → (request : PostedQuestion) × (reply : Answer)
-    × (box ≡ answered request reply)
+-- the mailbox with an answer
+abbrev boxed : Answer → Mailbox
+boxed (Rows question number found) = answered question number found
+boxed (Unserved question cause) = unserved question cause
+
+only_answered : (box : Mailbox) → stage box ≡ 3 → (reply : Answer) × (box ≡ boxed reply)
 only_answered empty e = absurd (omega arith)
-only_answered (asked r) e = absurd (omega arith)
-only_answered (in_hand p r) e = absurd (omega arith)
-only_answered (answered r x) e = (r, x, refl)
+only_answered (asked q f) e = absurd (omega arith)
+only_answered (in_hand d q f) e = absurd (omega arith)
+only_answered (answered q n x) e = (Rows q n x, refl)
+only_answered (unserved q c) e = (Unserved q c, refl)
+
+not_empty : (reply : Answer) (d : ℕ) (q : Question) (f : ℕ) → boxed reply ≢ in_hand d q f
+not_empty (Rows q' n x) d q f e = cc e
+not_empty (Unserved q' c) d q f e = cc e
 
 place_of : Role → ℕ
 place_of (Token p) = p
@@ -182,92 +163,142 @@ module _ {W : Type 0} where
   slot_in [] = None
   slot_in (x ∷ xs) = x.1
 
+  lies_answer : (homes : Homes W) (client : ℕ) (reply : Answer) → LiesIn homes client (boxed reply)
+      → get_elem? homes (2 + client) ≡ some (some (Some (Answered reply)))
+  lies_answer homes client (Rows question number found) lies = lies
+  lies_answer homes client (Unserved question cause) lies = lies.0
+
   -- a mailbox that the stepping member may change: its own, or one that is not empty and keeps its request; and no
   -- other has it in hand
-  box_grows : (w w' : World) (homes : Homes W) (y : maybe.Option (Slot W)) (place client : ℕ) (f : Member → Member)
-      (box box' : Mailbox) → get_elem? w.mailboxes client ≡ some box → w'.history ≡ w.history → w'.rows ≡ w.rows
-      → w'.writer ≡ w.writer
-      → w'.members ≡ revised w.members place f → w'.mailboxes ≡ revised w.mailboxes client (λ _. box')
-      → (client ≡ place) ⊎ ((request_of box ≡ request_of box') × (box ≢ empty))
-      → ((p : ℕ) (request : PostedQuestion) → p ≢ place → box ≢ in_hand p request)
-      → Grows place w w' homes (set homes (2 + client) y)
-  box_grows w w' homes y place client f box box' at same rows writer line boxes own apart = record {
-    members = λ p other. ap (λ ms. get_elem? ms p) line ∙ revised_else w.members place p f other;
-    history = subst (IsPrefix w.history) (sym same) (prefix_self w.history);
-    rows = λ p other e. rows ∙ e;
-    free = λ p other e. sym rows ∙ e;
-    writer = λ p other e. writer ∙ e;
-    idle = λ p other e. sym writer ∙ e;
-    requests = λ p b other there'. ⊎_elim
-        (λ (t : (p ≡ client) × ((a : Mailbox) × (get_elem? w.mailboxes client ≡ some a) × (box' ≡ b))). (
-          box,
-          ap (get_elem? w.mailboxes) t.0 ∙ at,
-          ⊎_elim (λ (e : client ≡ place). absurd (other (t.0 ∙ e)))
-              (λ h. h.0 ∙ ap request_of t.1.2) own,
+  box_grows : (deeds : List Deed) (w : World) (event : Event) (reply : Reply) (me : Who) (m' : Member) (client : ℕ)
+      (old box : Mailbox) (did : BoxStepped w event reply me (part m') (client + 1) box) (homes : Homes W)
+      (y : maybe.Option (Slot W)) (place : ℕ) → actor_of event ≡ me → mailbox_at w (client + 1) ≡ Some old
+      → (client ≡ place) ⊎ (((o : Option PostedQuestion) → Asks o old → Asks o box) × (old ≢ empty))
+      → ((d : ℕ) (q : Question) (f : ℕ) → Dispatcher d ≢ me → old ≢ in_hand d q f)
+      → Grows place me deeds (deeds ++ record { event = event; reply = reply } ∷ []) w did.step.after homes
+      (set homes (2 + client) y)
+  box_grows deeds w event reply me m' client old box did homes y place acts at own apart = record {
+    did = λ who other. did_same who deeds (record { event = event; reply = reply }) (λ e. other (sym e ∙ acts));
+    parts = did.step.others;
+    history = subst (IsPrefix w.history) (sym did.step.history) (prefix_self w.history);
+    rows = λ who other e. (did.step.rows ∙ e, did.step.history);
+    free = λ who other e. sym did.step.rows ∙ e;
+    writer = λ n other e. did.step.writer ∙ e;
+    idle = λ n other e. sym did.step.writer ∙ e;
+    requests = λ p b other there. dite (ℕ_discrete p client)
+        (λ e. (
+          old,
+          (let one : p + 1 ≡ client + 1 = omega arith in ap (mailbox_at w) one ∙ at),
+          ⊎_elim (λ (f : client ≡ place). absurd (other (e ∙ f)))
+              (λ (h : ((o : Option PostedQuestion) → Asks o old → Asks o box) × (old ≢ empty)).
+              let one : client + 1 ≡ p + 1 = omega arith in
+              subst (λ c. (o : Option PostedQuestion) → Asks o old → Asks o c)
+              (some_injective box b (sym did.box_is ∙ (ap (mailbox_at did.step.after) one ∙ there))) h.0) own,
         ))
-        (λ t. (b, t.1, refl))
-        (at_revised w.mailboxes client p (λ _. box') b (ap (λ bs. get_elem? bs p) (sym boxes) ∙ there'));
-    hands = λ p c request other h. ap (λ bs. get_elem? bs c) boxes ∙ dite (ℕ_discrete c client)
-        (λ e. absurd (apart p request other (some-injective box (in_hand p request)
-        (sym at ∙ (ap (get_elem? w.mailboxes) (sym e) ∙ h)))))
-        (λ n. revised_else w.mailboxes client c (λ _. box') n ∙ h);
+        (λ n. (b, sym (did.mail (p + 1) (λ e. n (omega arith))) ∙ there, λ o asks. asks));
+    hands = λ d n q f other h. dite (ℕ_discrete n (client + 1))
+        (λ e. absurd (apart d q f other (some_injective old (in_hand d q f)
+        (sym at ∙ (ap (mailbox_at w) (sym e) ∙ h)))))
+        (λ far. did.mail n far ∙ h);
     vacant = λ p other v. dite (ℕ_discrete p client)
         (λ e. absurd (⊎_elim (λ (f : client ≡ place). other (e ∙ f))
-        (λ h. h.1 (some-injective box empty (sym at ∙ (ap (get_elem? w.mailboxes) (sym e) ∙ v.0)))) own))
+        (λ (h : ((o : Option PostedQuestion) → Asks o old → Asks o box) × (old ≢ empty)).
+        let one : client + 1 ≡ p + 1 = omega arith in
+        h.1 (some_injective old empty (sym at ∙ (ap (mailbox_at w) one ∙ v.0)))) own))
         (λ n. (
-          ap (λ bs. get_elem? bs p) boxes ∙ (revised_else w.mailboxes client p (λ _. box') n ∙ v.0),
+          did.mail (p + 1) (λ e. n (omega arith)) ∙ v.0,
           set_else homes (2 + client) (2 + p) y (λ e. n (omega arith)) ∙ v.1,
         ));
   }
-
-  -- one mailbox changed, with its word and its slot
-  box_mail : (words : List ℕ) (homes : Homes W) (boxes : List Mailbox) (client x : ℕ) (y : maybe.Option (Slot W))
-      (box : Mailbox) → ((c : ℕ) (b : Mailbox) → get_elem? boxes c ≡ some b → MailShown words homes c b)
-      → MailShown (set words (2 + client) x) (set homes (2 + client) y) client box
-      → (c : ℕ) (b : Mailbox) → get_elem? (revised boxes client (λ _. box)) c ≡ some b
-      → MailShown (set words (2 + client) x) (set homes (2 + client) y) c b
-  box_mail words homes boxes client x y box all here =
-      each_revised (λ c b. MailShown words homes c b) (λ c b. MailShown (set words (2 + client) x)
-      (set homes (2 + client) y) c b) boxes client (λ _. box) all (λ a at was. here)
-      (λ c b other at was. mail_stays words (set words (2 + client) x) homes (set homes (2 + client) y) c b
-      (get_or-set_other words (2 + client) (2 + c) x 0 (λ e. other (omega arith)))
-      (set_else homes (2 + client) (2 + c) y (λ e. other (omega arith))) was)
 
 module _ {W : Type 0} (base_of : W → Tables) (taken : W → List CommitRecord) (key : Terms) where
   abbrev Rule : State (Slot W) View → Type 0
   Rule = ShowsWorld base_of taken key
 
   -- the mailbox of a client
-  box_of : (s : State (Slot W) View) (w : World) → Shows base_of taken key s w → (client : ℕ) → client < key.clients
-      → (box : Mailbox) × (get_elem? w.mailboxes client ≡ some box)
-  box_of s w sh client h = let n = sh.box_count in there w.mailboxes client (omega arith)
+  box_of : (deeds : List Deed) (w : World) → WorldKept key.base key.clients w → (client : ℕ) → client < key.clients
+      → (box : Mailbox) × (mailbox_at w (client + 1) ≡ Some box)
+  box_of deeds w kept client h = let count = kept.own.count in
+      let c = numbered_there w.clients (client + 1) (omega arith) (omega arith) in
+      (c.0.mailbox, ap mailbox_of c.1)
 
-  -- the table after a step on a client's mailbox
-  box_step : (s : State (Slot W) View) (w w' : World) (sh : Shows base_of taken key s w) (id place client x : ℕ)
-      (y : maybe.Option (Slot W)) (box' : Mailbox) (me' : View) → sh.owner place ≡ id
-      → Grows place w w' s.homes (set s.homes (2 + client) y)
-      → w'.history ≡ w.history → w'.rows ≡ w.rows → w'.writer ≡ w.writer
-      → w'.mailboxes ≡ revised w.mailboxes client (λ _. box') → client < key.clients → x ≡ stage box'
-      → LiesIn (set s.homes (2 + client) y) client box'
-      → Knows key (set s.homes (2 + client) y) w' sh.owner id me'
-      → Shows base_of taken key record {
+  -- the rule after an event that changes a client's mailbox, where the stepping member changed to this one
+  box_rule : (s : State (Slot W) View) (r : Rule s) (id place : ℕ) (v : View) → get_elem? s.views id ≡ some v
+      → v.role ≡ Token place → (event : Event) (reply : Reply) (m' : Member) (client : ℕ) (old box : Mailbox)
+      (did : BoxStepped r.1 event reply v.member.who (part m') (client + 1) box) (x : ℕ) (y : maybe.Option (Slot W))
+      (posted' : Option PostedQuestion) (grabbed' : List Held) (beside' : List (List CommitRecord))
+      → reply ≢ NotEnabled → actor_of event ≡ v.member.who → client < key.clients
+      → mailbox_at r.1 (client + 1) ≡ Some old
+      → (client ≡ place) ⊎ (((o : Option PostedQuestion) → Asks o old → Asks o box) × (old ≢ empty))
+      → ((d : ℕ) (q : Question) (f : ℕ) → Dispatcher d ≢ v.member.who → old ≢ in_hand d q f)
+      → m'.who ≡ v.member.who → m'.seen ≡ v.member.seen
+      → m'.did ≡ v.member.did ++ record { event = event; reply = reply } ∷ []
+      → x ≡ stage box → LiesIn (set s.homes (2 + client) y) client box
+      → All (λ list. IsPrefix list r.1.history) beside'
+      → ((b : Mailbox) → mailbox_at did.step.after (place + 1) ≡ Some b → Asks posted' b)
+      → ((i : ℕ) (h : Held) → get_elem? grabbed' i ≡ some h → (n : ℕ) → v.member.who ≡ Dispatcher n
+      → mailbox_at did.step.after (h.place + 1) ≡ Some (in_hand n h.request.query h.request.floor))
+      → AreApart grabbed' → (v.has_box ≡ false → place < key.clients → ⊥)
+      → Rule record {
         words = set s.words (2 + client) x;
         homes = set s.homes (2 + client) y;
-        views = set s.views id me';
-      } w'
-  box_step s w w' sh id place client x y box' me' mine g same rows writer boxes near says lies known = let wide =
-      sh.word_count in
-      token_step base_of taken key s w w' sh id place (set s.words (2 + client) x) (set s.homes (2 + client) y) me' mine
-      g (length-set s.words (2 + client) x) (length-set s.homes (2 + client) y)
-      (ap length boxes ∙ length-revised w.mailboxes client (λ _. box'))
-      (rows_beside key s.words s.homes w w' (2 + client) x (2 + client) y (omega arith) (omega arith) same rows
-      sh.rows)
-      (writer_beside base_of taken key s.words s.homes w w' (2 + client) x (2 + client) y (λ e. omega arith)
-      (λ e. omega arith) writer g.history sh.writer)
-      (λ c b at. box_mail s.words s.homes w.mailboxes client x y box' sh.mail
-      record { word = get_or-set_same s.words (2 + client) x 0 (omega arith) ∙ says; slot = lies } c b
-      (ap (λ bs. get_elem? bs c) (sym boxes) ∙ at))
-      known
+        views = set s.views id record v { member = m'; asked = posted'; grabbed = grabbed'; beside = beside' };
+      }
+  box_rule s r id place v at is event reply m' client old box did x y posted' grabbed' beside' enabled acts near was own
+      apart same saw said says lies begins asks hand apart' opened' = let w : World = r.1 in let w' : World =
+      did.step.after in let sh : Shows base_of taken key s r.0 w = r.3 in
+      let deeds' : List Deed = r.0 ++ record { event = event; reply = reply } ∷ [] in
+      let k = token_knows base_of taken key s r.0 w sh id place v at is in let wide = sh.word_count in
+      let homes' : Homes W = set s.homes (2 + client) y in let words' : List ℕ = set s.words (2 + client) x in
+      let me' : View = record v { member = m'; asked = posted'; grabbed = grabbed'; beside = beside' } in
+      let g : Grows place v.member.who r.0 deeds' w w' s.homes homes' =
+      box_grows r.0 w event reply v.member.who m' client old box did s.homes y place acts was own apart in
+      let known : TokenKnows key homes' deeds' w' sh.owner id me' place = record {
+        common = record {
+          terms = k.common.terms;
+          beside = subst (λ h. All (λ list. IsPrefix list h) beside') (sym did.step.history) begins;
+        };
+        plays = k.plays;
+        within = k.within;
+        who = same ∙ k.who;
+        told = told_more r.0 w w' v.member m' event reply k.told same acts did.step.here said;
+        rows = λ h. let t = k.rows h in (
+          did.step.rows ∙ (t.0 ∙ ap (λ a. Some a) (sym same)),
+          saw ∙ (t.1 ∙ sym did.step.history),
+        );
+        free = λ h e. k.free h (sym did.step.rows ∙ (e ∙ ap (λ a. Some a) same));
+        writer = λ h n named. did.step.writer ∙ k.writer h n (sym same ∙ named);
+        idle = λ h n named e. k.idle h n (sym same ∙ named) (sym did.step.writer ∙ e);
+        asked = asks;
+        grabbed = λ i h there n named. hand i h there n (sym same ∙ named);
+        apart = apart';
+        vacant = λ h within. absurd (opened' h within);
+        gathered = λ i m there. let h = k.gathered i m there in
+            handed_grows key r.0 deeds' w w' s.homes homes' sh.owner place id place v.member.who m k.who g h h.apart;
+      } in (
+        deeds',
+        w',
+        done_next (first_world key) r.0 w event reply w' r.2 did.step.is enabled,
+        token_step base_of taken key s r.0 deeds' w w' sh id place v.member.who words' homes' me' k.who k.plays g
+            (length-set s.words (2 + client) x) (length-set s.homes (2 + client) y)
+            (rows_beside key s.words s.homes w w' (2 + client) x (2 + client) y (omega arith) (omega arith)
+            did.step.history did.step.rows sh.rows)
+            (writer_beside base_of taken key s.words s.homes w w' (2 + client) x (2 + client) y (λ e. omega arith)
+            (λ e. omega arith) did.step.writer g.history sh.writer)
+            (λ c b there. dite (ℕ_discrete c client)
+            (λ e. let one : client + 1 ≡ c + 1 = omega arith in
+            subst (λ (z : ℕ × Mailbox). MailShown words' homes' z.0 z.1)
+            (λ i. (
+              sym e i,
+              some_injective box b (sym did.box_is ∙ (ap (mailbox_at w') one ∙ there)) i,
+            ))
+            record { word = get_or-set_same s.words (2 + client) x 0 (omega arith) ∙ says; slot = lies })
+            (λ n. mail_stays s.words words' s.homes homes' c b
+            (get_or-set_other s.words (2 + client) (2 + c) x 0 (λ e. n (omega arith)))
+            (set_else s.homes (2 + client) (2 + c) y (λ e. n (omega arith)))
+            (sh.mail c b (sym (did.mail (c + 1) (λ e. n (omega arith))) ∙ there))))
+            (subst (KnowsAs key homes' deeds' w' sh.owner id me') (sym is) known),
+      )
 
   pub posts : (slots id : ℕ) (me : Me (Slot W) View) (place : ℕ) (request : PostedQuestion) (others : List (ℕ × Slot W))
       → me.0.role ≡ Token place → (place < me.0.terms.clients) × (me.0.has_box ≡ true) × (me.0.asked ≡ None)
@@ -276,45 +307,34 @@ module _ {W : Type 0} (base_of : W → Tables) (taken : W → List CommitRecord)
       (λ _. Posts (step slots (2 + place) 1 0 none) me 1)
   unfolding slot_in
   posts slots id me place request others is can carried floor s r deep at fits = let w : World = r.1 in let sh :
-      Shows base_of taken key s w = r.3 in let k = token_knows base_of taken key s w sh id place me.0 at is in
-      let within : place < key.clients = subst (λ (t : Terms). place < t.clients) k.common.terms can.0 in let here =
-      box_of s w sh place within in
-      let vacant : here.0 ≡ empty = only_empty here.0 (sym (k.asked here.0 here.1) ∙ can.2) in let is_empty :
-      get_elem? w.mailboxes place ≡ some empty = here.1 ∙ ap some vacant in
-      let w' : World = effect (post place request) w in let slot : maybe.Option (Slot W) =
-      some (Some (Asked request)) in let me' : View = posted me.0 request in let narrow = sh.slot_count in
-      let homes' : Homes W = set s.homes (2 + place) slot in
-      let g : Grows place w w' s.homes homes' = box_grows w w' s.homes slot place place (world.posts request) empty
-      (asked request) is_empty refl refl refl refl refl (inl refl) (λ p q other. λ e. cc e) in
-      let known : TokenKnows key homes' w' sh.owner id me' place = record {
-        common = record { terms = k.common.terms; beside = k.common.beside };
-        plays = k.plays;
-        member = revised_here w.members place (world.posts request) me.0.member k.member;
-        rows = k.rows;
-        free = k.free;
-        writer = k.writer;
-        idle = k.idle;
-        asked = λ box there'. ap request_of (some-injective (asked request) box
-            (sym (revised_here w.mailboxes place (λ _. asked request) empty is_empty) ∙ there'));
-        grabbed = λ i g h. revised_else w.mailboxes place g.place (λ _. asked request)
-            (λ e. absurd (cc (some-injective empty (in_hand place g.request)
-            (sym is_empty ∙ (ap (get_elem? w.mailboxes) (sym e) ∙ k.grabbed i g h))))) ∙ k.grabbed i g h;
-        apart = k.apart;
-        vacant = λ h inside. absurd (cc (sym can.1 ∙ h));
-        gathered = λ i m there'. let h = k.gathered i m there' in
-            handed_grows w w' s.homes homes' sh.owner place id place m g h h.apart;
-      } in (
+      Shows base_of taken key s r.0 w = r.3 in let k = token_knows base_of taken key s r.0 w sh id place me.0 at is in
+      let kept = kept_after base_of taken key r.0 w r.2 in let narrow = sh.slot_count in
+      let within : place < key.clients = subst (λ (t : Terms). place < t.clients) k.common.terms can.0 in
+      let here = box_of r.0 w kept place within in
+      let vacant : here.0 ≡ empty = only_empty here.0 (subst (λ o. Asks o here.0) can.2 (k.asked here.0 here.1)) in
+      let is_empty : mailbox_at w (place + 1) ≡ Some empty = here.1 ∙ ap (λ b. Some b) vacant in
+      let who : Who = me.0.member.who in
+      let named : who ≡ Client (place + 1) = client_here key.clients place who within k.who in
+      let number : number_of who ≡ place + 1 = ap number_of named in
+      let box : Mailbox = asked request.query request.floor in
+      let slot : maybe.Option (Slot W) = some (Some (Asked request)) in let me' : View = posted me.0 request in
+      let did : BoxStepped w (Post (place + 1) request.query) Done who (part (member.posts request me.0.member))
+      (place + 1) box =
+      subst (λ (z : Who × ℕ). BoxStepped w (Post (place + 1) request.query) Done z.0
+      (part (member.posts request me.0.member)) (place + 1) (asked request.query z.1)) (λ i. (sym named i, sym floor i))
+      (core.posts w (place + 1) request.query (part me.0.member) (ap (part_of w) (sym named) ∙ k.told.part_is) is_empty)
+      in (
         me',
         gives,
         tt,
-        subst (λ cs. Rule (stepped s (2 + place) 1 id cs me' gives)) (sym carried) (
-          post place request ∷ r.0,
-          w',
-          (w, r.2, (me.0.member, k.member, (is_empty, floor)), refl),
-          box_step s w w' sh id place place 1 slot (asked request) me' k.plays g refl refl refl refl within refl
-              (set_here s.homes (2 + place) slot (omega arith))
-              (subst (KnowsAs key homes' w' sh.owner id me') (sym is) known),
-        ),
+        subst (λ cs. Rule (stepped s (2 + place) 1 id cs me' gives)) (sym carried)
+            (box_rule s r id place me.0 at is (Post (place + 1) request.query) Done (member.posts request me.0.member)
+            place empty box did 1 slot (Some request) me.0.grabbed me.0.beside (λ h. cc h) (sym named) within is_empty
+            (inl refl) (λ d q f other. λ e. cc e) refl refl
+            (ap (λ n. me.0.member.did ++ record { event = Post n request.query; reply = Done } ∷ []) number) refl
+            (set_here s.homes (2 + place) slot (omega arith)) k.common.beside
+            (λ b there. subst (Asks (Some request)) (some_injective box b (sym did.box_is ∙ there)) refl)
+            (λ i h there n is_n. absurd (cc (sym named ∙ is_n))) k.apart (λ h inside. cc (sym can.1 ∙ h))),
         λ p q e. let same : Some (Asked request) ≡ Some (Asked q) = ap slot_in (sym carried ∙ e) in let one :
             request ≡ q = cc same in (λ i. (posted me.0 (one i), rest me.1)),
       )
@@ -339,14 +359,14 @@ module _ {W : Type 0} (base_of : W → Tables) (taken : W → List CommitRecord)
       w : World
       w = r.1
 
-      sh : Shows base_of taken key s w
+      sh : Shows base_of taken key s r.0 w
       sh = r.3
 
       n : ℕ
       n = slice_index s.words (2 + client)
 
-      k : TokenKnows key s.homes w sh.owner id me.0 place
-      k = token_knows base_of taken key s w sh id place me.0 at is
+      k : TokenKnows key s.homes r.0 w sh.owner id me.0 place
+      k = token_knows base_of taken key s r.0 w sh id place me.0 at is
 
       within : client < key.clients
       within = subst (λ (t : Terms). client < t.clients) k.common.terms can.0
@@ -354,80 +374,79 @@ module _ {W : Type 0} (base_of : W → Tables) (taken : W → List CommitRecord)
       outside : key.clients ≤ place
       outside = subst (λ (t : Terms). t.clients ≤ place) k.common.terms can.1
 
+      who : Who
+      who = me.0.member.who
+
+      number : ℕ
+      number = number_of who
+
+      named : who ≡ Dispatcher number
+      named = dispatcher_here key.clients place who outside k.who
+
       Goal : Type 0
       Goal = (v : View) × (a : Act (Slot W)) × Valid s.homes me.1 a
           × Rule (stepped s (2 + client) (either (eqb n 1) 2 n) id me.1 v a)
           × Grabs (step slots (2 + client) 1 2 none) me n (v, carried_after me.1 a)
 
       hits : n ≡ 1 → Goal
-      hits hit = let near = within in let far = outside in let here = box_of s w sh client within in let shown =
-          sh.mail client here.0 here.1 in let a = only_asked here.0 (sym shown.word ∙ hit) in let request : PostedQuestion =
-          a.0 in
-          let is_asked : get_elem? w.mailboxes client ≡ some (asked request) = here.1 ∙ ap some a.1 in let lies :
-          LiesIn s.homes client (asked request) = subst (LiesIn s.homes client) a.1 shown.slot in
-          let w' : World = effect (grab place client request) w in let me' : View = grabbed me.0 client request in
-          let homes' : Homes W = set s.homes (2 + client) none in
-          let g : Grows place w w' s.homes homes' = box_grows w w' s.homes none place client (grabs client request)
-          (asked request) (in_hand place request) is_asked refl refl refl refl refl (inr (refl, λ e. cc e))
-          (λ p q other. λ e. cc e) in
-          let known : TokenKnows key homes' w' sh.owner id me' place = record {
-            common = record { terms = k.common.terms; beside = k.common.beside };
-            plays = k.plays;
-            member = revised_here w.members place (grabs client request) me.0.member k.member;
-            rows = k.rows;
-            free = k.free;
-            writer = k.writer;
-            idle = k.idle;
-            asked = λ box there'. k.asked box (sym (revised_else w.mailboxes client place (λ _. in_hand place request)
-                (λ e. omega arith)) ∙ there');
-            grabbed = in_hands request is_asked;
-            apart = (all_elsewhere request is_asked, k.apart);
-            vacant = λ h inside. absurd (omega arith);
-            gathered = λ i m there'. let h = k.gathered i m there' in
-                handed_grows w w' s.homes homes' sh.owner place id place m g h h.apart;
-          } in (
+      hits hit = let near = within in let far = outside in
+          let here = box_of r.0 w (kept_after base_of taken key r.0 w r.2) client within in let shown =
+          sh.mail client here.0 here.1 in let a = only_asked here.0 (sym shown.word ∙ hit) in
+          let question : Question = a.0 in let floor : ℕ = a.1 in let asking : PostedQuestion = request question floor in
+          let is_asked : mailbox_at w (client + 1) ≡ Some (asked question floor) = here.1 ∙ ap (λ b. Some b) a.2 in
+          let lies : LiesIn s.homes client (asked question floor) = subst (LiesIn s.homes client) a.2 shown.slot in
+          let me' : View = grabbed me.0 client asking in
+          let did : BoxStepped w (Grab number (client + 1)) (Told question) who
+          (part (member.grabs client asking me.0.member)) (client + 1) (in_hand number question floor) =
+          subst (λ z. BoxStepped w (Grab number (client + 1)) (Told question) z
+          (part (member.grabs client asking me.0.member)) (client + 1) (in_hand number question floor)) (sym named)
+          (core.grabs w number (client + 1) question floor (part me.0.member)
+          (ap (part_of w) (sym named) ∙ k.told.part_is) is_asked) in (
             me',
-            takes (2 + client) (Some (Asked request)),
+            takes (2 + client) (Some (Asked asking)),
             lies,
             subst (λ b. Rule (stepped s (2 + client) (either b 2 n) id me.1 me'
-                (takes (2 + client) (Some (Asked request))))) (sym (eq-eqb n 1 hit)) (
-                  grab place client request ∷ r.0,
-                  w',
-                  (w, r.2, (me.0.member, k.member, (far, is_asked)), refl),
-                  box_step s w w' sh id place client 2 none (in_hand place request) me' k.plays g refl refl refl refl
-                      within
-                      refl tt (subst (KnowsAs key homes' w' sh.owner id me') (sym is) known),
-                ),
+                (takes (2 + client) (Some (Asked asking))))) (sym (eq-eqb n 1 hit))
+                (box_rule s r id place me.0 at is (Grab number (client + 1)) (Told question)
+                (member.grabs client asking me.0.member) client (asked question floor)
+                (in_hand number question floor) did 2 none me.0.asked (held client asking ∷ me.0.grabbed) me.0.beside
+                (λ h. cc h) (sym named) near is_asked (inr ((λ o asks. asks), λ e. cc e)) (λ d q f other. λ e. cc e) refl
+                refl refl refl tt k.common.beside
+                (λ b there. k.asked b (sym (did.mail (place + 1) (λ e. omega arith)) ∙ there))
+                (in_hands question floor is_asked did) (all_elsewhere question floor is_asked, k.apart)
+                (λ h inside. omega arith)),
             (
               (λ h c e. let same : client ≡ c = omega arith in (
-                request,
-                (λ i. (grabbed me.0 (same i) request, (2 + same i, Some (Asked request)) ∷ me.1)),
-                subst (λ p. IsElsewhere p me.0.grabbed) same (all_elsewhere request is_asked),
+                asking,
+                (λ i. (grabbed me.0 (same i) asking, (2 + same i, Some (Asked asking)) ∷ me.1)),
+                subst (λ p. IsElsewhere p me.0.grabbed) same (all_elsewhere question floor is_asked),
               )),
               λ h. absurd (h hit),
             ),
           )
         where
-          elsewhere : (request : PostedQuestion) → get_elem? w.mailboxes client ≡ some (asked request) → (i : ℕ) (g : Held)
-              → get_elem? me.0.grabbed i ≡ some g → g.place ≢ client
-          elsewhere request is_asked i g h e = cc (some-injective (asked request) (in_hand place g.request)
-              (sym is_asked ∙ (ap (get_elem? w.mailboxes) (sym e) ∙ k.grabbed i g h)))
+          elsewhere : (question : Question) (floor : ℕ) → mailbox_at w (client + 1) ≡ Some (asked question floor)
+              → (i : ℕ) (g : Held) → get_elem? me.0.grabbed i ≡ some g → g.place ≢ client
+          elsewhere question floor is_asked i g h e = let one : client + 1 ≡ g.place + 1 = omega arith in
+              cc (some_injective (asked question floor) (in_hand number g.request.query g.request.floor)
+              (sym is_asked ∙ (ap (mailbox_at w) one ∙ k.grabbed i g h number named)))
 
-          all_elsewhere : (request : PostedQuestion) → get_elem? w.mailboxes client ≡ some (asked request)
+          all_elsewhere : (question : Question) (floor : ℕ) → mailbox_at w (client + 1) ≡ Some (asked question floor)
               → IsElsewhere client me.0.grabbed
-          all_elsewhere request is_asked = all_of (λ (h : Held). h.place ≢ client) me.0.grabbed
-              (elsewhere request is_asked)
+          all_elsewhere question floor is_asked = all_of (λ (h : Held). h.place ≢ client) me.0.grabbed
+              (elsewhere question floor is_asked)
 
-          in_hands : (request : PostedQuestion) → get_elem? w.mailboxes client ≡ some (asked request) → (i : ℕ) (g : Held)
-              → get_elem? (held client request ∷ me.0.grabbed) i ≡ some g
-              → get_elem? (revised w.mailboxes client (λ _. in_hand place request)) g.place ≡ some
-              (in_hand place g.request)
-          in_hands request is_asked zero g h = subst (λ (x : Held). get_elem?
-              (revised w.mailboxes client (λ _. in_hand place request)) x.place ≡ some (in_hand place x.request))
-              (some-injective (held client request) g h)
-              (revised_here w.mailboxes client (λ _. in_hand place request) (asked request) is_asked)
-          in_hands request is_asked (suc i) g h = revised_else w.mailboxes client g.place (λ _. in_hand place request)
-              (elsewhere request is_asked i g h) ∙ k.grabbed i g h
+          in_hands : (question : Question) (floor : ℕ) → mailbox_at w (client + 1) ≡ Some (asked question floor)
+              → (did : BoxStepped w (Grab number (client + 1)) (Told question) who
+              (part (member.grabs client (request question floor) me.0.member)) (client + 1)
+              (in_hand number question floor)) → (i : ℕ) (g : Held)
+              → get_elem? (held client (request question floor) ∷ me.0.grabbed) i ≡ some g → (j : ℕ) → who ≡ Dispatcher j
+              → mailbox_at did.step.after (g.place + 1) ≡ Some (in_hand j g.request.query g.request.floor)
+          in_hands question floor is_asked did zero g h j is_j = subst (λ (z : Held × ℕ).
+              mailbox_at did.step.after (z.0.place + 1) ≡ Some (in_hand z.1 z.0.request.query z.0.request.floor))
+              (λ i. (some-injective (held client (request question floor)) g h i, ap number_of is_j i)) did.box_is
+          in_hands question floor is_asked did (suc i) g h j is_j = let far = elsewhere question floor is_asked i g h in
+              did.mail (g.place + 1) (λ e. far (omega arith)) ∙ k.grabbed i g h j is_j
 
   pub serves : (slots id : ℕ) (me : Me (Slot W) View) (place client : ℕ) (request : PostedQuestion) (reply : Answer)
       (others : List (ℕ × Slot W)) → me.0.role ≡ Token place → (client < me.0.terms.clients)
@@ -436,91 +455,131 @@ module _ {W : Type 0} (base_of : W → Tables) (taken : W → List CommitRecord)
       → IsRightAt me.0.terms.base me.0.member.seen me.0.member.version request reply
       → Allows Rule slots id me (2 + client) (λ _. 3) (λ _. Answers (step slots (2 + client) 3 0 none) me 3)
   unfolding slot_in
-  serves slots id me place client request reply others is can has carried right s r deep at fits = let w : World =
-      r.1 in let sh : Shows base_of taken key s w = r.3 in let k =
-      token_knows base_of taken key s w sh id place me.0 at is in let kept = kept_after key r.0 w r.2 in
-      let near : client < key.clients = subst (λ (t : Terms). client < t.clients) k.common.terms can.0 in let far :
-      key.clients ≤ place = subst (λ (t : Terms). t.clients ≤ place) k.common.terms can.1 in
-      let there' = request_there client me.0.grabbed request has in
-      let hand : get_elem? w.mailboxes client ≡ some (in_hand place request) =
-      k.grabbed there'.0 (held client request) there'.1 in
-      let own = kept.members place me.0.member k.member in
-      let can' : IsRightAt key.base w.history me.0.member.version request reply =
-      subst (λ (t : Terms). IsRightAt t.base w.history me.0.member.version request reply) k.common.terms
-      (right_in_all w.history request reply own.begins own.versioned right) in
-      let above : IsAbove request.floor me.0.member = (kept.mail client (in_hand place request) hand).1 me.0.member
-      k.member in
-      let w' : World = effect (answer place client request reply) w in let slot : maybe.Option (Slot W) =
-      some (Some (Answered reply)) in
-      let me' : View = served_as me.0 client (Some request) reply in let narrow = sh.slot_count in let homes' :
-      Homes W = set s.homes (2 + client) slot in
-      let gr : Grows place w w' s.homes homes' = box_grows w w' s.homes slot place client (answers client request reply)
-      (in_hand place request) (answered request reply) hand refl refl refl refl refl (inr (refl, λ e. cc e))
-      (λ p q other e. other (sym (cc e))) in
-      let known : TokenKnows key homes' w' sh.owner id me' place = record {
-        common = record { terms = k.common.terms; beside = k.common.beside };
-        plays = k.plays;
-        member = revised_here w.members place (answers client request reply) me.0.member k.member;
-        rows = k.rows;
-        free = k.free;
-        writer = k.writer;
-        idle = k.idle;
-        asked = λ box there''. k.asked box (sym (revised_else w.mailboxes client place (λ _. answered request reply)
-            (λ e. omega arith)) ∙ there'');
-        grabbed = λ i h a. let was = was_there client me.0.grabbed i h a in
-            revised_else w.mailboxes client h.place (λ _. answered request reply)
-            (each_of (λ (x : Held). x.place ≢ client) (without_at client me.0.grabbed)
-            (others_elsewhere client me.0.grabbed k.apart) i h a) ∙ k.grabbed was.0 h was.1;
-        apart = apart_without client me.0.grabbed k.apart;
-        vacant = λ h inside. absurd (omega arith);
-        gathered = λ i m there''. let h = k.gathered i m there'' in
-            handed_grows w w' s.homes homes' sh.owner place id place m gr h h.apart;
-      } in (
-        me',
-        gives,
-        tt,
-        subst (λ cs. Rule (stepped s (2 + client) 3 id cs me' gives)) (sym carried) (
-          answer place client request reply ∷ r.0,
-          w',
-          (w, r.2, (me.0.member, k.member, (far, hand, can')), refl),
-          box_step s w w' sh id place client 3 slot (answered request reply) me' k.plays gr refl refl refl refl near
-              refl (set_here s.homes (2 + client) slot (omega arith))
-              (subst (KnowsAs key homes' w' sh.owner id me') (sym is) known),
+  serves slots id me place client request reply others is can has carried right s r deep at fits = (
+    served_as me.0 client (Some request) reply,
+    gives,
+    tt,
+    subst (λ cs. Rule (stepped s (2 + client) 3 id cs (served_as me.0 client (Some request) reply) gives)) (sym carried)
+        (ruled reply right),
+    λ c x word e. let same : Some (Answered reply) ≡ Some (Answered x) = ap slot_in (sym carried ∙ e) in let one :
+        reply ≡ x = cc same in let here : client ≡ c = omega arith in (
+          (λ i. (served_as me.0 (here i) ((has_later c here) i) (one i), rest me.1)),
+          λ q e'. let asks : Some request ≡ Some q = sym has ∙ (ap (λ n. request_at n me.0.grabbed) here ∙ e') in
+              let ask : request ≡ q = cc asks in
+              subst (λ (z : ℕ × PostedQuestion × Answer). IsFresh (given_to (z.0 + 1) z.1 z.2))
+              (λ i. (here i, ask i, one i)) (fresh (client + 1) reply right),
         ),
-        λ c x word e. let same : Some (Answered reply) ≡ Some (Answered x) = ap slot_in (sym carried ∙ e) in let one :
-            reply ≡ x = cc same in let here : client ≡ c = omega arith in (
-              (λ i. (served_as me.0 (here i) ((has_later c here) i) (one i), rest me.1)),
-              λ q e'. let asks : Some request ≡ Some q = sym has ∙ (ap (λ n. request_at n me.0.grabbed) here ∙ e') in
-                  let ask : request ≡ q = cc asks in
-                  subst (λ (z : ℕ × PostedQuestion × Answer). IsFresh (given_to (z.0 + 1) z.1 z.2))
-                  (λ i. (here i, ask i, one i))
-                  (fresh (client + 1) w.history request reply can' above),
-            ),
-      )
+  )
     where
+      w : World
+      w = r.1
+
+      sh : Shows base_of taken key s r.0 w
+      sh = r.3
+
+      k : TokenKnows key s.homes r.0 w sh.owner id me.0 place
+      k = token_knows base_of taken key s r.0 w sh id place me.0 at is
+
+      kept : WorldKept key.base key.clients w
+      kept = kept_after base_of taken key r.0 w r.2
+
+      near : client < key.clients
+      near = subst (λ (t : Terms). client < t.clients) k.common.terms can.0
+
+      far : key.clients ≤ place
+      far = subst (λ (t : Terms). t.clients ≤ place) k.common.terms can.1
+
+      who : Who
+      who = me.0.member.who
+
+      number : ℕ
+      number = number_of who
+
+      named : who ≡ Dispatcher number
+      named = dispatcher_here key.clients place who far k.who
+
+      part_is : part_of w (Dispatcher number) ≡ Some (part me.0.member)
+      part_is = ap (part_of w) (sym named) ∙ k.told.part_is
+
+      hand : mailbox_at w (client + 1) ≡ Some (in_hand number request.query request.floor)
+      hand = let t = request_there client me.0.grabbed request has in
+          k.grabbed t.0 (held client request) t.1 number named
+
       -- the request that is found is in hand
       has_later : (c : ℕ) (here : client ≡ c) → Some request ≡ request_at c me.0.grabbed
       has_later c here = sym has ∙ ap (λ n. request_at n me.0.grabbed) here
 
-      right_in_all : (history : List CommitRecord) (request : PostedQuestion) (x : Answer) → IsPrefix me.0.member.seen history
-          → ((version : ℕ) → me.0.member.version ≡ Some version → version ≤ length me.0.member.seen)
-          → IsRightAt me.0.terms.base me.0.member.seen me.0.member.version request x
-          → IsRightAt me.0.terms.base history me.0.member.version request x
-      right_in_all history request (Rows question at found) begins versioned (same, version, rows) = let low =
-          versioned at version in (
-            same,
-            version,
-            rows ∙ ap (rows_after me.0.terms.base question)
-                (sym (take-append-le at me.0.member.seen begins.rest low) ∙ ap (take at) (sym begins.whole)),
-          )
-      right_in_all history request (Unserved question cause) begins versioned right = right
-
-      fresh : (n : ℕ) (history : List CommitRecord) (request : PostedQuestion) (x : Answer)
-          → IsRightAt key.base history me.0.member.version request x → IsAbove request.floor me.0.member
+      fresh : (n : ℕ) (x : Answer) → IsRightAt me.0.terms.base me.0.member.seen me.0.member.version request x
           → IsFresh (given_to n request x)
-      fresh n history request (Rows question at found) (same, version, rows) above later e = let is_at : at ≡ later =
-          cc e in subst (λ v. request.floor ≤ v) is_at (above.1 at version)
-      fresh n history request (Unserved question cause) right above later e = absurd (cc e)
+      fresh n (Rows question made found) (same, version, rows) later e = let is_made : made ≡ later = cc e in
+          subst (λ v. request.floor ≤ v) is_made
+          (floor_kept key.base key.clients w kept number (client + 1) request.query request.floor made
+          (part me.0.member) hand part_is version)
+      fresh n (Unserved question cause) right later e = absurd (cc e)
+
+      -- what does not depend on the answer
+      answering : (event : Event) (x : Answer) (box : Mailbox)
+          → (did : BoxStepped w event Done who (part (member.answers client request x me.0.member)) (client + 1) box)
+          → event ≡ member.answer_named number (client + 1) x → actor_of event ≡ who → 3 ≡ stage box
+          → ((o : Option PostedQuestion) → Asks o (in_hand number request.query request.floor) → Asks o box)
+          → LiesIn (set s.homes (2 + client) (some (Some (Answered x)))) client box
+          → Rule (stepped s (2 + client) 3 id ((2 + client, Some (Answered x)) ∷ others)
+          (served_as me.0 client (Some request) x) gives)
+      answering event x box did is_named acts says asks lies =
+          box_rule s r id place me.0 at is event Done (member.answers client request x me.0.member) client
+          (in_hand number request.query request.floor) box did 3 (some (Some (Answered x))) me.0.asked
+          (without_at client me.0.grabbed) me.0.beside (λ h. cc h) acts near hand (inr (asks, λ e. cc e))
+          (λ d q f other e. let same : number ≡ d = cc e in
+          other (ap (λ j. Dispatcher j) (sym same) ∙ sym named)) refl refl
+          (ap (λ e. me.0.member.did ++ record { event = e; reply = Done } ∷ []) (sym is_named)) says lies k.common.beside
+          (λ b there. k.asked b (sym (did.mail (place + 1) (λ e. omega (arith, near, far, e))) ∙ there))
+          (λ i h there j is_j. let was = was_there client me.0.grabbed i h there in
+          let apart : h.place ≢ client = each_of (λ (z : Held). z.place ≢ client) (without_at client me.0.grabbed)
+          (others_elsewhere client me.0.grabbed k.apart) i h there in
+          did.mail (h.place + 1) (λ e. apart (omega (arith, e))) ∙ k.grabbed was.0 h was.1 j is_j)
+          (apart_without client me.0.grabbed k.apart) (λ h inside. omega (arith, inside, far))
+
+      ruled : (x : Answer) → IsRightAt me.0.terms.base me.0.member.seen me.0.member.version request x
+          → Rule (stepped s (2 + client) 3 id ((2 + client, Some (Answered x)) ∷ others)
+          (served_as me.0 client (Some request) x) gives)
+      ruled (Rows question made found) (same, version, rows) = let own =
+          part_kept key.base key.clients w kept who (part me.0.member) k.told.part_is in
+          let low = own.versioned made version in let narrow = sh.slot_count in
+          let all : found ≡ rows_after w.base question (take made w.history) =
+          rows ∙ (λ i. rows_after ((ap (λ (t : Terms). t.base) k.common.terms ∙ sym kept.based) i) question
+          ((sym (take-append-le made me.0.member.seen own.begins.rest low) ∙ ap (take made) (sym own.begins.whole)) i)) in
+          let did : BoxStepped w (Answering number (client + 1)) Done who
+          (part (member.answers client request (Rows question made found) me.0.member)) (client + 1)
+          (answered question made found) =
+          subst (λ (z : Who × Mailbox). BoxStepped w (Answering number (client + 1)) Done z.0
+          (part (member.answers client request (Rows question made found) me.0.member)) (client + 1) z.1)
+          (λ i. (
+            sym named i,
+            (ap (λ q. answered q made (rows_after w.base q (take made w.history))) (sym same)
+                ∙ ap (answered question made) (sym all)) i,
+          ))
+          (core.answers w number (client + 1) request.query request.floor made (part me.0.member) part_is version hand) in
+          answering (Answering number (client + 1)) (Rows question made found) (answered question made found) did refl
+          (sym named) refl
+          (λ o asks. (
+            request.floor,
+            asks ∙ ap (λ q. Some (Rattle.history.specs.Words.request q request.floor)) (sym same),
+            floor_kept key.base key.clients w kept number (client + 1) request.query request.floor made
+                (part me.0.member) hand part_is version,
+          ))
+          (set_here s.homes (2 + client) (some (Some (Answered (Rows question made found)))) (omega (arith, near, narrow)))
+      ruled (Unserved question cause) (same, fits) = let narrow = sh.slot_count in
+          let did : BoxStepped w (GiveUp number (client + 1) cause) Done who
+          (part (member.answers client request (Unserved question cause) me.0.member)) (client + 1)
+          (unserved question cause) =
+          subst (λ (z : Who × Mailbox). BoxStepped w (GiveUp number (client + 1) cause) Done z.0
+          (part (member.answers client request (Unserved question cause) me.0.member)) (client + 1) z.1)
+          (λ i. (sym named i, ap (λ q. unserved q cause) (sym same) i))
+          (core.gives_up w number (client + 1) request.query request.floor cause (part me.0.member) part_is hand) in
+          answering (GiveUp number (client + 1) cause) (Unserved question cause) (unserved question cause) did refl
+          (sym named) refl
+          (λ o asks. (request.floor, asks ∙ ap (λ q. Some (Rattle.history.specs.Words.request q request.floor)) (sym same)))
+          (set_here s.homes (2 + client) (some (Some (Answered (Unserved question cause)))) (omega (arith, near, narrow)), fits)
 
   pub collects_one : (slots id : ℕ) (me : Me (Slot W) View) (place : ℕ) → me.0.role ≡ Token place
       → (place < me.0.terms.clients) × (me.0.has_box ≡ true)
@@ -542,76 +601,97 @@ module _ {W : Type 0} (base_of : W → Tables) (taken : W → List CommitRecord)
       w : World
       w = r.1
 
-      sh : Shows base_of taken key s w
+      sh : Shows base_of taken key s r.0 w
       sh = r.3
 
       n : ℕ
       n = slice_index s.words (2 + place)
 
-      k : TokenKnows key s.homes w sh.owner id me.0 place
-      k = token_knows base_of taken key s w sh id place me.0 at is
+      k : TokenKnows key s.homes r.0 w sh.owner id me.0 place
+      k = token_knows base_of taken key s r.0 w sh id place me.0 at is
+
+      kept : WorldKept key.base key.clients w
+      kept = kept_after base_of taken key r.0 w r.2
 
       within : place < key.clients
       within = subst (λ (t : Terms). place < t.clients) k.common.terms can.0
+
+      who : Who
+      who = me.0.member.who
+
+      named : who ≡ Client (place + 1)
+      named = client_here key.clients place who within k.who
 
       Goal : Type 0
       Goal = (v : View) × (a : Act (Slot W)) × Valid s.homes me.1 a
           × Rule (stepped s (2 + place) (either (eqb n 3) 0 n) id me.1 v a)
           × Collects (step slots (2 + place) 3 0 none) me n (v, carried_after me.1 a)
 
+      -- the event of this answer
+      collecting : (reply : Answer) → mailbox_at w (place + 1) ≡ Some (boxed reply)
+          → BoxStepped w (Collect (place + 1)) (told_by reply) who (part (member.collects reply me.0.member)) (place + 1)
+          empty
+      collecting (Rows question made found) lies = subst (λ z. BoxStepped w (Collect (place + 1))
+          (told_by (Rows question made found)) z (part (member.collects (Rows question made found) me.0.member)) (place + 1)
+          empty) (sym named) (core.collects w (place + 1) question made found (part me.0.member)
+          (ap (part_of w) (sym named) ∙ k.told.part_is) lies)
+      collecting (Unserved question cause) lies = subst (λ z. BoxStepped w (Collect (place + 1))
+          (told_by (Unserved question cause)) z (part (member.collects (Unserved question cause) me.0.member)) (place + 1)
+          empty) (sym named) (core.collects_none w (place + 1) question cause (part me.0.member)
+          (ap (part_of w) (sym named) ∙ k.told.part_is) lies)
+
+      enabled : (reply : Answer) → told_by reply ≢ NotEnabled
+      enabled (Rows question made found) e = cc e
+      enabled (Unserved question cause) e = cc e
+
+      -- it is right, and to what the client asked
+      right : (reply : Answer) → mailbox_at w (place + 1) ≡ Some (boxed reply) → LiesIn s.homes place (boxed reply)
+          → (asking : PostedQuestion) × (me.0.asked ≡ Some asking) × IsRight me.0.terms.base w.history asking reply
+      right (Rows question made found) lies slot = let asks = k.asked (answered question made found) lies in let true_rows =
+          mail_kept key.base key.clients w kept (place + 1) (numbered w.clients (place + 1))
+          (answered question made found) refl lies in (
+            request question asks.0,
+            asks.1,
+            (
+              refl,
+              asks.2,
+              true_rows.0,
+              true_rows.1 ∙ ap (λ b. rows_after b question (take made w.history))
+                  (kept.based ∙ ap (λ (t : Terms). t.base) (sym k.common.terms)),
+            ),
+          )
+      right (Unserved question cause) lies slot = let asks = k.asked (unserved question cause) lies in
+          (request question asks.0, asks.1, (refl, slot.1))
+
       hits : n ≡ 3 → Goal
-      hits hit = let near = within in let here = box_of s w sh place within in let shown =
-          sh.mail place here.0 here.1 in let a = only_answered here.0 (sym shown.word ∙ hit) in let request : PostedQuestion =
-          a.0 in let reply : Answer = a.1 in
-          let is_answered : get_elem? w.mailboxes place ≡ some (answered request reply) = here.1 ∙ ap some a.2 in
-          let lies : LiesIn s.homes place (answered request reply) = subst (LiesIn s.homes place) a.2 shown.slot in
-          let right : IsRight key.base w.history request reply =
-          (kept_after key r.0 w r.2).mail place (answered request reply) is_answered in
-          let w' : World = effect (collect place request reply) w in let me' : View = collected me.0 w.history reply in
-          let homes' : Homes W = set s.homes (2 + place) none in
-          let g : Grows place w w' s.homes homes' = box_grows w w' s.homes none place place (collects reply)
-          (answered request reply) empty is_answered refl refl refl refl refl (inl refl) (λ p q other. λ e. cc e) in
-          let known : TokenKnows key homes' w' sh.owner id me' place = record {
-            common = record {
-              terms = k.common.terms;
-              beside = more_beside w.history me.0.beside w.history
-                  (prefix_self w.history) k.common.beside;
-            };
-            plays = k.plays;
-            member = revised_here w.members place (collects reply) me.0.member k.member;
-            rows = k.rows;
-            free = k.free;
-            writer = k.writer;
-            idle = k.idle;
-            asked = λ box there'. ap request_of (some-injective empty box
-                (sym (revised_here w.mailboxes place (λ _. empty) (answered request reply) is_answered) ∙ there'));
-            grabbed = λ i g h. revised_else w.mailboxes place g.place (λ _. empty)
-                (λ e. cc (some-injective (answered request reply) (in_hand place g.request)
-                (sym is_answered ∙ (ap (get_elem? w.mailboxes) (sym e) ∙ k.grabbed i g h)))) ∙ k.grabbed i g h;
-            apart = k.apart;
-            vacant = λ h inside. absurd (cc (sym can.1 ∙ h));
-            gathered = λ i m there'. let h = k.gathered i m there' in
-                handed_grows w w' s.homes homes' sh.owner place id place m g h h.apart;
-          } in (
+      hits hit = let near = within in let here = box_of r.0 w kept place within in let shown =
+          sh.mail place here.0 here.1 in let a = only_answered here.0 (sym shown.word ∙ hit) in let reply : Answer = a.0 in
+          let is_answered : mailbox_at w (place + 1) ≡ Some (boxed reply) = here.1 ∙ ap (λ b. Some b) a.1 in
+          let lies : LiesIn s.homes place (boxed reply) = subst (LiesIn s.homes place) a.1 shown.slot in
+          let t = right reply is_answered lies in let did = collecting reply is_answered in
+          let me' : View = collected me.0 w.history reply in
+          let number : number_of who ≡ place + 1 = ap number_of named in (
             me',
             takes (2 + place) (Some (Answered reply)),
-            lies,
+            lies_answer s.homes place reply lies,
             subst (λ b. Rule (stepped s (2 + place) (either b 0 n) id me.1 me'
-                (takes (2 + place) (Some (Answered reply))))) (sym (eq-eqb n 3 hit)) (
-                  collect place request reply ∷ r.0,
-                  w',
-                  (w, r.2, (me.0.member, k.member, is_answered), refl),
-                  box_step s w w' sh id place place 0 none empty me' k.plays g refl refl refl refl within refl tt
-                      (subst (KnowsAs key homes' w' sh.owner id me') (sym is) known),
-                ),
+                (takes (2 + place) (Some (Answered reply))))) (sym (eq-eqb n 3 hit))
+                (box_rule s r id place me.0 at is (Collect (place + 1)) (told_by reply)
+                (member.collects reply me.0.member) place (boxed reply) empty did 0 none None me.0.grabbed
+                (w.history ∷ me.0.beside) (enabled reply) (sym named) within is_answered (inl refl)
+                (λ d q f other. not_empty reply d q f) refl refl
+                (ap (λ j. me.0.member.did ++ record { event = Collect j; reply = told_by reply } ∷ []) number) refl tt
+                (more_beside w.history me.0.beside w.history (prefix_self w.history) k.common.beside)
+                (λ b there. subst (Asks None) (some_injective empty b (sym did.box_is ∙ there)) refl)
+                (λ i h there j is_j. absurd (cc (sym named ∙ is_j))) k.apart (λ h inside. cc (sym can.1 ∙ h))),
             (
               (λ h p e. let same : place ≡ p = same_place place p me.0.role is e in (
                 w.history,
-                request,
+                t.0,
                 reply,
                 (λ i. (me', (2 + same i, Some (Answered reply)) ∷ me.1)),
-                k.asked (answered request reply) is_answered,
-                subst (λ (t : Terms). IsRight t.base w.history request reply) (sym k.common.terms) right,
+                t.1,
+                t.2,
               )),
               λ h. absurd (h hit),
             ),
@@ -621,36 +701,39 @@ module _ {W : Type 0} (base_of : W → Tables) (taken : W → List CommitRecord)
   pub opens_box : (slots id : ℕ) (me : Me (Slot W) View) (place i : ℕ) → me.0.role ≡ Token place
       → (place < me.0.terms.clients) × (me.0.has_box ≡ false)
       → Allows Rule slots id me i (λ n. n) (OpensBox (step slots i 0 0 none) me)
-  opens_box slots id me place i is can s r deep at fits = let w : World = r.1 in let sh : Shows base_of taken key s w =
-      r.3 in let k = token_knows base_of taken key s w sh id place me.0 at is in
+  opens_box slots id me place i is can s r deep at fits = let w : World = r.1 in let sh :
+      Shows base_of taken key s r.0 w = r.3 in let k = token_knows base_of taken key s r.0 w sh id place me.0 at is in
       let within : place < key.clients = subst (λ (t : Terms). place < t.clients) k.common.terms can.0 in let free =
       k.vacant can.1 within in let me' : View = opened me.0 in let homes' : Homes W =
       set s.homes (2 + place) none in
-      let mail : (c : ℕ) (b : Mailbox) → get_elem? w.mailboxes c ≡ some b → MailShown s.words homes' c b =
-      λ c b there'. dite (ℕ_discrete c place)
-      (λ e. let is_empty : empty ≡ b = some-injective empty b
-      (sym free.0 ∙ (ap (get_elem? w.mailboxes) (sym e) ∙ there')) in
+      let mail : (c : ℕ) (b : Mailbox) → mailbox_at w (c + 1) ≡ Some b → MailShown s.words homes' c b =
+      λ c b there. dite (ℕ_discrete c place)
+      (λ e. let one : place + 1 ≡ c + 1 = omega arith in let is_empty : empty ≡ b = some_injective empty b
+      (sym free.0 ∙ (ap (mailbox_at w) one ∙ there)) in
       subst (MailShown s.words homes' c) is_empty record {
-        word = (sh.mail c empty (there' ∙ ap some (sym is_empty))).word;
+        word = (sh.mail c empty (there ∙ ap (λ x. Some x) (sym is_empty))).word;
         slot = tt;
       })
       (λ n. mail_stays s.words s.words s.homes homes' c b refl
-      (set_else s.homes (2 + place) (2 + c) none (λ e. n (omega arith))) (sh.mail c b there')) in
-      let g : Grows place w w s.homes homes' = record {
-        members = λ p other. refl;
+      (set_else s.homes (2 + place) (2 + c) none (λ e. n (omega arith))) (sh.mail c b there)) in
+      let g : Grows place me.0.member.who r.0 r.0 w w s.homes homes' = record {
+        did = λ who other. refl;
+        parts = λ who other. refl;
         history = prefix_self w.history;
-        rows = λ p other e. e;
-        free = λ p other e. e;
-        writer = λ p other e. e;
-        idle = λ p other e. e;
-        requests = λ p b other there'. (b, there', refl);
-        hands = λ p c q other h. h;
+        rows = λ who other e. (e, refl);
+        free = λ who other e. e;
+        writer = λ j other e. e;
+        idle = λ j other e. e;
+        requests = λ p b other there. (b, there, λ o asks. asks);
+        hands = λ d c q f other h. h;
         vacant = λ p other v. (v.0, set_else s.homes (2 + place) (2 + p) none (λ e. other (omega arith)) ∙ v.1);
       } in
-      let known : TokenKnows key homes' w sh.owner id me' place = record {
+      let known : TokenKnows key homes' r.0 w sh.owner id me' place = record {
         common = record { terms = k.common.terms; beside = k.common.beside };
         plays = k.plays;
-        member = k.member;
+        within = k.within;
+        who = k.who;
+        told = k.told;
         rows = k.rows;
         free = k.free;
         writer = k.writer;
@@ -659,7 +742,8 @@ module _ {W : Type 0} (base_of : W → Tables) (taken : W → List CommitRecord)
         grabbed = k.grabbed;
         apart = k.apart;
         vacant = λ h inside. absurd (cc h);
-        gathered = k.gathered;
+        gathered = λ j m there. let h = k.gathered j m there in
+            handed_grows key r.0 r.0 w w s.homes homes' sh.owner place id place me.0.member.who m k.who g h h.apart;
       } in (
         me',
         takes (2 + place) None,
@@ -669,16 +753,17 @@ module _ {W : Type 0} (base_of : W → Tables) (taken : W → List CommitRecord)
               r.0,
               w,
               r.2,
-              token_step base_of taken key s w w sh id place s.words homes' me' k.plays g refl
-                  (length-set s.homes (2 + place) none) refl
+              token_step base_of taken key s r.0 r.0 w w sh id place me.0.member.who s.words homes' me' k.who k.plays g
+                  refl (length-set s.homes (2 + place) none)
                   record {
                     word = sh.rows.word;
                     home = λ h. set_else s.homes (2 + place) 0 none (λ e. omega arith)
                         ∙ sh.rows.home h;
+                    held = sh.rows.held;
                   }
                   (writer_stays base_of taken key s.words s.words s.homes homes' w w refl
                   (set_else s.homes (2 + place) 1 none (λ e. omega arith)) refl (prefix_self w.history) sh.writer) mail
-                  (subst (KnowsAs key homes' w sh.owner id me') (sym is) known),
+                  (subst (KnowsAs key homes' r.0 w sh.owner id me') (sym is) known),
             ),
         λ p e. let same : place ≡ p = same_place place p me.0.role is e in (λ j. (me', (2 + same j, None) ∷ me.1)),
       )

@@ -48,7 +48,7 @@ use Rattle.history.specs.declared.view.Held.{Held}
 use Rattle.history.specs.declared.view.View.{View}
 use Rattle.history.specs.declared.token.Token.TheInside.{Inside as Token}
 use Rattle.history.specs.Words.{store, IsAccepted, request, IsRight}
-use Rattle.history.specs.World.{marks, commits}
+use Rattle.history.specs.Members.{marks, commits}
 use Rattle.history.specs.Rule.{Slot, IsElsewhere}
 use Rattle.history.specs.Plays.{
   Learns,
@@ -86,7 +86,7 @@ use Rattle.history.specs.Tokens.{
 }
 use Rattle.history.specs.Tokens as public
 use Rattle.history.specs.TokenParts.{shown_token, token_of_view, hands, own_box, grabbed_boxes, boxes, IsSeated}
-use Rattle.history.proofs.WorldLaws.{who_back, who_behind, owns_more}
+use Rattle.history.proofs.MemberLaws.{who_back, who_behind, owns_more}
 use Rattle.history.proofs.HandLaws.{apart_without, all_without}
 
 module _ {W : Type 0} where

@@ -6,7 +6,9 @@ use Rattle.std.proofs.Common.{
   zero,
   suc,
   ◌+◌,
+  ◌-◌,
   ◌<◌,
+  ◌≤◌,
   ◌==◌,
   true,
   false,
@@ -44,28 +46,19 @@ use Rattle.history.specs.declared.view.Role.{Role}
 use Rattle.history.specs.declared.view.Role.TheVariants.{Dealer, Token, Note, Spent}
 use Rattle.history.specs.declared.view.View.{View}
 use Rattle.history.specs.declared.view.SlotValue.TheVariants.{Writer}
-use Rattle.history.specs.World.{World, empty, newcomer, opening_world}
-use Rattle.history.specs.Rule.{
-  Slot,
-  Homes,
-  rows,
-  MailShown,
-  IsVacant,
-  request_of,
-  Handed,
-  TokenKnows,
-  DealerKnows,
-  KnowsAs,
-  Knows,
-  Shows,
-  ShowsWorld,
-  dealer,
-  spent,
-}
+use Rattle.history_core.specs.World.{World, ClientState, empty}
+use Rattle.history_core.specs.Numbered.{numbered}
+use Rattle.history_core.specs.Deeds.{Deed}
+use Rattle.history_core.specs.Parts.{part_of}
+use Rattle.history_core.proofs.HistoryLaws.{some_injective, numbered_copies}
+use Rattle.history_core.proofs.DoneLaws.{done_none}
+use Rattle.history_core.proofs.PartLaws.{newly, found_box, client_opens, dispatcher_opens, box_opens}
+use Rattle.history.specs.Members.{who_at, part}
+use Rattle.history.specs.Rule.{Slot, Homes, rows, MailShown, IsVacant, Asks, Handed, TokenKnows, DealerKnows, KnowsAs, Knows, Shows, ShowsWorld, dealer, spent, first_world}
 use Rattle.history.specs.Plays.{further, dealt, token_at, token_by, token_of, note_of, hears, leaves, gathers}
-use Rattle.history.proofs.HistoryLaws.{prefix_nil, at_end, in_range}
-use Rattle.history.proofs.WorldLaws.{kept_after, newcomer_there, empty_there, at_empties, length-empties}
-use Rattle.history.proofs.FrameLaws.{none_beside, more_beside, token_knows}
+use Rattle.history.proofs.HistoryLaws.{prefix_nil, at_end}
+use Rattle.history.proofs.MemberLaws.{who_client, who_dispatcher, low_or_behind, part_kept, box_within}
+use Rattle.history.proofs.FrameLaws.{none_beside, more_beside, token_knows, kept_after}
 
 -- the function with another value at one place
 abbrev placed : (ℕ → ℕ) → ℕ → ℕ → ℕ → ℕ
@@ -77,27 +70,28 @@ placed_here f p x = let same : (p == p) ≡ true = grind (arith, nat_tests) in r
 placed_else : (f : ℕ → ℕ) (p x q : ℕ) → q ≢ p → placed f p x q ≡ f q
 placed_else f p x q n = let apart : (q == p) ≡ false = grind (arith, nat_tests) in rw apart refl
 
-handed_placed : (w : World) (owner : ℕ → ℕ) (next new seat j own : ℕ) (m : Member) → owner next ≡ seat → j ≢ seat
-    → (h : Handed w owner j own m) → Handed w (placed owner next new) j own m
-handed_placed w owner next new seat j own m mine apart h =
+handed_placed : (key : Terms) (deeds : List Deed) (w : World) (owner : ℕ → ℕ) (next new seat j own : ℕ) (m : Member)
+    → owner next ≡ seat → j ≢ seat → (h : Handed key deeds w owner j own m)
+    → Handed key deeds w (placed owner next new) j own m
+handed_placed key deeds w owner next new seat j own m mine apart h =
     record {
       place = h.place;
       plays = placed_else owner next new h.place
           (λ e. apart (sym h.plays ∙ (ap owner e ∙ mine))) ∙ h.plays;
       apart = h.apart;
-      member = h.member;
-      free =
-          h.free;
+      who = h.who;
+      told = h.told;
+      free = h.free;
       idle = h.idle;
       quiet = h.quiet;
     }
 
 module _ {W : Type 0} where
   -- the other seats keep their places where one of this seat's places goes to another seat
-  others_keep : (key : Terms) (homes : Homes W) (w : World) (owner : ℕ → ℕ) (next new seat j : ℕ) (v : View)
-      → owner next ≡ seat → j ≢ seat → (r : Role) → KnowsAs key homes w owner j v r
-      → KnowsAs key homes w (placed owner next new) j v r
-  others_keep key homes w owner next new seat j v mine apart (Dealer first) k = record {
+  others_keep : (key : Terms) (homes : Homes W) (deeds : List Deed) (w : World) (owner : ℕ → ℕ) (next new seat j : ℕ) (v : View)
+      → owner next ≡ seat → j ≢ seat → (r : Role) → KnowsAs key homes deeds w owner j v r
+      → KnowsAs key homes deeds w (placed owner next new) j v r
+  others_keep key homes deeds w owner next new seat j v mine apart (Dealer first) k = record {
     common = k.common;
     plays = λ p le. placed_else owner next new p (λ e. apart (sym (k.plays p le) ∙ (ap owner e ∙ mine))) ∙ k.plays p le;
     members = k.members;
@@ -105,10 +99,12 @@ module _ {W : Type 0} where
     idle = k.idle;
     vacant = k.vacant;
   }
-  others_keep key homes w owner next new seat j v mine apart (Token p) k = record {
+  others_keep key homes deeds w owner next new seat j v mine apart (Token p) k = record {
     common = k.common;
     plays = placed_else owner next new p (λ e. apart (sym k.plays ∙ (ap owner e ∙ mine))) ∙ k.plays;
-    member = k.member;
+    within = k.within;
+    who = k.who;
+    told = k.told;
     rows = k.rows;
     free = k.free;
     writer = k.writer;
@@ -117,63 +113,63 @@ module _ {W : Type 0} where
     grabbed = k.grabbed;
     apart = k.apart;
     vacant = k.vacant;
-    gathered = λ i m at. handed_placed w owner next new seat j p m mine apart (k.gathered i m at);
+    gathered = λ i m at. handed_placed key deeds w owner next new seat j p m mine apart (k.gathered i m at);
   }
-  others_keep key homes w owner next new seat j v mine apart Note k = k
-  others_keep key homes w owner next new seat j v mine apart Spent k = k
+  others_keep key homes deeds w owner next new seat j v mine apart Note k = k
+  others_keep key homes deeds w owner next new seat j v mine apart Spent k = k
 
 module _ {W : Type 0} (base_of : W → Tables) (taken : W → List CommitRecord) (key : Terms) where
   abbrev Rule : State (Slot W) View → Type 0
   Rule = ShowsWorld base_of taken key
 
   -- one seat more, which nobody knew of
-  one_more : (s : State (Slot W) View) (w : World) (sh : Shows base_of taken key s w) (id : ℕ) (me new : View)
+  one_more : (s : State (Slot W) View) (deeds : List Deed) (w : World) (sh : Shows base_of taken key s deeds w) (id : ℕ)
+      (me new : View)
       (owner : ℕ → ℕ)
-      → ((j : ℕ) (u : View) → j ≢ id → get_elem? s.views j ≡ some u → Knows key s.homes w owner j u)
-      → Knows key s.homes w owner id me → Knows key s.homes w owner (length s.views) new
-      → Shows base_of taken key record { words = s.words; homes = s.homes; views = set s.views id me ++ new ∷ [] } w
-  one_more s w sh id me new owner others mine known = record {
+      → ((j : ℕ) (u : View) → j ≢ id → get_elem? s.views j ≡ some u → Knows key s.homes deeds w owner j u)
+      → Knows key s.homes deeds w owner id me → Knows key s.homes deeds w owner (length s.views) new
+      → Shows base_of taken key record { words = s.words; homes = s.homes; views = set s.views id me ++ new ∷ [] } deeds w
+  one_more s deeds w sh id me new owner others mine known = record {
     owner = owner;
     word_count = sh.word_count;
     slot_count = sh.slot_count;
-    box_count = sh.box_count;
-    rows = record { word = sh.rows.word; home = sh.rows.home };
-    writer = record { word = sh.writer.word; home = sh.writer.home };
+    rows = record { word = sh.rows.word; home = sh.rows.home; held = sh.rows.held };
+    writer = record { word = sh.writer.word; home = sh.writer.home; held = sh.writer.held };
     mail = sh.mail;
     seats = λ j u there. ⊎_elim
         (λ (t : (j < length (set s.views id me)) × (get_elem? (set s.views id me) j ≡ some u)). ⊎_elim
-        (λ (y : (j ≡ id) × (me ≡ u)). subst (λ (x : ℕ × View). Knows key s.homes w owner x.0 x.1)
+        (λ (y : (j ≡ id) × (me ≡ u)). subst (λ (x : ℕ × View). Knows key s.homes deeds w owner x.0 x.1)
         (λ i. (sym y.0 i, y.1 i)) mine)
         (λ (y : (j ≢ id) × (get_elem? s.views j ≡ some u)). others j u y.0 y.1)
         (at_set s.views id j me u t.1))
         (λ (t : (j ≡ length (set s.views id me)) × (new ≡ u)). subst
-        (λ (x : ℕ × View). Knows key s.homes w owner x.0 x.1) (λ i. (sym (t.0 ∙ length-set s.views id me) i, t.1 i))
+        (λ (x : ℕ × View). Knows key s.homes deeds w owner x.0 x.1) (λ i. (sym (t.0 ∙ length-set s.views id me) i, t.1 i))
         known)
         (at_end (set s.views id me) new u j there);
   }
 
   -- one seat took another in
-  joined : (s : State (Slot W) View) (w : World) (sh : Shows base_of taken key s w) (id other : ℕ) (both : View)
+  joined : (s : State (Slot W) View) (deeds : List Deed) (w : World) (sh : Shows base_of taken key s deeds w)
+      (id other : ℕ) (both : View)
       (owner : ℕ → ℕ)
-      → ((j : ℕ) (u : View) → j ≢ id → j ≢ other → get_elem? s.views j ≡ some u → Knows key s.homes w owner j u)
-      → Knows key s.homes w owner id both
+      → ((j : ℕ) (u : View) → j ≢ id → j ≢ other → get_elem? s.views j ≡ some u → Knows key s.homes deeds w owner j u)
+      → Knows key s.homes deeds w owner id both
       → Shows base_of taken key record {
         words = s.words;
         homes = s.homes;
         views = set (set s.views id both) other spent;
-      } w
-  joined s w sh id other both owner others mine = record {
+      } deeds w
+  joined s deeds w sh id other both owner others mine = record {
     owner = owner;
     word_count = sh.word_count;
     slot_count = sh.slot_count;
-    box_count = sh.box_count;
-    rows = record { word = sh.rows.word; home = sh.rows.home };
-    writer = record { word = sh.writer.word; home = sh.writer.home };
+    rows = record { word = sh.rows.word; home = sh.rows.home; held = sh.rows.held };
+    writer = record { word = sh.writer.word; home = sh.writer.home; held = sh.writer.held };
     mail = sh.mail;
     seats = λ j u here. ⊎_elim
-        (λ (t : (j ≡ other) × (spent ≡ u)). subst (λ x. Knows key s.homes w owner j x) t.1 tt)
+        (λ (t : (j ≡ other) × (spent ≡ u)). subst (λ x. Knows key s.homes deeds w owner j x) t.1 tt)
         (λ (t : (j ≢ other) × (get_elem? (set s.views id both) j ≡ some u)). ⊎_elim
-        (λ (y : (j ≡ id) × (both ≡ u)). subst (λ (x : ℕ × View). Knows key s.homes w owner x.0 x.1)
+        (λ (y : (j ≡ id) × (both ≡ u)). subst (λ (x : ℕ × View). Knows key s.homes deeds w owner x.0 x.1)
         (λ i. (sym y.0 i, y.1 i)) mine)
         (λ (y : (j ≢ id) × (get_elem? s.views j ≡ some u)). others j u y.0 t.0 y.1)
         (at_set s.views id j both u t.1))
@@ -181,32 +177,34 @@ module _ {W : Type 0} (base_of : W → Tables) (taken : W → List CommitRecord)
   }
 
   pub tells : (id : ℕ) (v : View) (place : ℕ) → v.role ≡ Token place → Splits Rule id v v (note_of v)
-  tells id v place is s r at = let w : World = r.1 in let sh : Shows base_of taken key s w = r.3 in let k =
-      token_knows base_of taken key s w sh id place v at is in let kept = kept_after key r.0 w r.2 in (
+  tells id v place is s r at = let w : World = r.1 in let sh : Shows base_of taken key s r.0 w = r.3 in let k =
+      token_knows base_of taken key s r.0 w sh id place v at is in let kept = kept_after base_of taken key r.0 w r.2 in (
         r.0,
         w,
         r.2,
-        one_more s w sh id v (note_of v) sh.owner (λ j u other there. sh.seats j u there) (sh.seats id v at) (
+        one_more s r.0 w sh id v (note_of v) sh.owner (λ j u other there. sh.seats j u there) (sh.seats id v at) (
           record { terms = k.common.terms; beside = none_beside w.history },
-          (kept.members place v.member k.member).begins,
+          (part_kept key.base key.clients w kept v.member.who (part v.member) k.told.part_is).begins,
         ),
       )
 
   pub hears_note : (id : ℕ) (v : View) (other : ℕ) (o : View) (place : ℕ) → v.role ≡ Token place → o.role ≡ Note
       → Joins Rule id v other o (hears v o) spent
   hears_note id v other o place is note s r at apart there = let w : World = r.1 in let sh :
-      Shows base_of taken key s w = r.3 in let k = token_knows base_of taken key s w sh id place v at is in let both :
+      Shows base_of taken key s r.0 w = r.3 in let k = token_knows base_of taken key s r.0 w sh id place v at is in let both :
       View = hears v o in
-      let told = subst (KnowsAs key s.homes w sh.owner other o) note
+      let told = subst (KnowsAs key s.homes r.0 w sh.owner other o) note
       (sh.seats other o (sym (set_else s.views id other both apart) ∙ there)) in
-      let known : TokenKnows key s.homes w sh.owner id both place = record {
+      let known : TokenKnows key s.homes r.0 w sh.owner id both place = record {
         common = record {
           terms = k.common.terms;
           beside = more_beside o.member.seen v.beside w.history told.1
               k.common.beside;
         };
         plays = k.plays;
-        member = k.member;
+        within = k.within;
+        who = k.who;
+        told = k.told;
         rows = k.rows;
         free = k.free;
         writer = k.writer;
@@ -220,19 +218,21 @@ module _ {W : Type 0} (base_of : W → Tables) (taken : W → List CommitRecord)
         r.0,
         w,
         r.2,
-        joined s w sh id other both sh.owner (λ j u far far' here. sh.seats j u here)
-            (subst (KnowsAs key s.homes w sh.owner id both) (sym is) known),
+        joined s r.0 w sh id other both sh.owner (λ j u far far' here. sh.seats j u here)
+            (subst (KnowsAs key s.homes r.0 w sh.owner id both) (sym is) known),
       )
 
   -- a token's part goes to a new seat
   pub yields : (id : ℕ) (v : View) (place : ℕ) → v.role ≡ Token place → v.gathered ≡ [] → Splits Rule id v (leaves v) v
-  yields id v place is bare s r at = let w : World = r.1 in let sh : Shows base_of taken key s w = r.3 in let k =
-      token_knows base_of taken key s w sh id place v at is in
+  yields id v place is bare s r at = let w : World = r.1 in let sh : Shows base_of taken key s r.0 w = r.3 in let k =
+      token_knows base_of taken key s r.0 w sh id place v at is in
       let new : ℕ = length s.views in let owner' : ℕ → ℕ = placed sh.owner place new in
-      let known : TokenKnows key s.homes w owner' new v place = record {
+      let known : TokenKnows key s.homes r.0 w owner' new v place = record {
         common = k.common;
         plays = placed_here sh.owner place new;
-        member = k.member;
+        within = k.within;
+        who = k.who;
+        told = k.told;
         rows = k.rows;
         free = k.free;
         writer = k.writer;
@@ -246,9 +246,9 @@ module _ {W : Type 0} (base_of : W → Tables) (taken : W → List CommitRecord)
         r.0,
         w,
         r.2,
-        one_more s w sh id (leaves v) v owner'
-            (λ j u other here. others_keep key s.homes w sh.owner place new id j u k.plays other u.role
-            (sh.seats j u here)) tt (subst (KnowsAs key s.homes w owner' new v) (sym is) known),
+        one_more s r.0 w sh id (leaves v) v owner'
+            (λ j u other here. others_keep key s.homes r.0 w sh.owner place new id j u k.plays other u.role
+            (sh.seats j u here)) tt (subst (KnowsAs key s.homes r.0 w owner' new v) (sym is) known),
       )
 
   -- a token takes in another's, which holds neither part and has asked nothing
@@ -256,15 +256,17 @@ module _ {W : Type 0} (base_of : W → Tables) (taken : W → List CommitRecord)
       → (o.holds_rows ≡ false) × (o.holds_writer ≡ false) × (o.asked ≡ None)
       → Joins Rule id v other o (gathers v o) spent
   gathers_token id v other o place p is is' free s r at apart there = let w : World = r.1 in let sh :
-      Shows base_of taken key s w = r.3 in let both : View = gathers v o in
-      let k = token_knows base_of taken key s w sh id place v at is in let told =
-      token_knows base_of taken key s w sh other p o (sym (set_else s.views id other both apart) ∙ there) is' in
+      Shows base_of taken key s r.0 w = r.3 in let both : View = gathers v o in
+      let k = token_knows base_of taken key s r.0 w sh id place v at is in let told =
+      token_knows base_of taken key s r.0 w sh other p o (sym (set_else s.views id other both apart) ∙ there) is' in
       let owner' : ℕ → ℕ = placed sh.owner p id in let far : place ≢ p =
       λ e. apart (sym told.plays ∙ (ap sh.owner (sym e) ∙ k.plays)) in
-      let known : TokenKnows key s.homes w owner' id both place = record {
+      let known : TokenKnows key s.homes r.0 w owner' id both place = record {
         common = record { terms = k.common.terms; beside = k.common.beside };
         plays = placed_else sh.owner p id place far ∙ k.plays;
-        member = k.member;
+        within = k.within;
+        who = k.who;
+        told = k.told;
         rows = k.rows;
         free = k.free;
         writer = k.writer;
@@ -273,73 +275,78 @@ module _ {W : Type 0} (base_of : W → Tables) (taken : W → List CommitRecord)
         grabbed = k.grabbed;
         apart = k.apart;
         vacant = k.vacant;
-        gathered = all_gathered w sh.owner apart k told (λ e. far (sym e));
+        gathered = all_gathered r.0 w sh.owner apart k told (λ e. far (sym e));
       } in (
         r.0,
         w,
         r.2,
-        joined s w sh id other both owner'
-            (λ j u far far' here. others_keep key s.homes w sh.owner p id other j u told.plays far' u.role
-            (sh.seats j u here)) (subst (KnowsAs key s.homes w owner' id both) (sym is) known),
+        joined s r.0 w sh id other both owner'
+            (λ j u far far' here. others_keep key s.homes r.0 w sh.owner p id other j u told.plays far' u.role
+            (sh.seats j u here)) (subst (KnowsAs key s.homes r.0 w owner' id both) (sym is) known),
       )
     where
-      all_gathered : (w : World) (owner : ℕ → ℕ) → ¬ (other ≡ id) → TokenKnows key s.homes w owner id v place
-          → TokenKnows key s.homes w owner other o p → p ≢ place
+      all_gathered : (deeds : List Deed) (w : World) (owner : ℕ → ℕ) → ¬ (other ≡ id)
+          → TokenKnows key s.homes deeds w owner id v place → TokenKnows key s.homes deeds w owner other o p → p ≢ place
           → (i : ℕ) (m : Member) → get_elem? (o.member ∷ v.gathered) i ≡ some m
-          → Handed w (placed owner p id) id place m
-      all_gathered w owner apart k told far zero m e =
-          subst (Handed w (placed owner p id) id place) (some-injective _ m e)
+          → Handed key deeds w (placed owner p id) id place m
+      all_gathered deeds w owner apart k told far zero m e =
+          subst (Handed key deeds w (placed owner p id) id place) (some-injective _ m e)
           record {
             place = p;
             plays = placed_here owner p id;
             apart = far;
-            member = told.member;
+            who = told.who;
+            told = told.told;
             free = told.free free.0;
             idle = told.idle free.1;
-            quiet = λ box at. sym (told.asked box at) ∙ free.2;
+            quiet = λ box at. subst (λ a. Asks a box) free.2 (told.asked box at);
           }
-      all_gathered w owner apart k told far (suc i) m e =
-          handed_placed w owner p id other id place m told.plays (λ h. apart (sym h)) (k.gathered i m e)
+      all_gathered deeds w owner apart k told far (suc i) m e =
+          handed_placed key deeds w owner p id other id place m told.plays (λ h. apart (sym h)) (k.gathered i m e)
 
   pub deals : (id : ℕ) (v : View) (next : ℕ) → v.role ≡ Dealer next → next < key.clients + key.dispatchers
       → Splits Rule id v (dealt v) (token_of v)
-  deals id v next is room s r at = let w : World = r.1 in let sh : Shows base_of taken key s w = r.3 in let k :
-      DealerKnows key s.homes w sh.owner id v next = subst (KnowsAs key s.homes w sh.owner id v) is (sh.seats id v at)
+  deals id v next is room s r at = let w : World = r.1 in let sh : Shows base_of taken key s r.0 w = r.3 in let k :
+      DealerKnows key s.homes r.0 w sh.owner id v next = subst (KnowsAs key s.homes r.0 w sh.owner id v) is (sh.seats id v at)
       in
       let new : ℕ = length s.views in let owner' : ℕ → ℕ = placed sh.owner next new in let mine : sh.owner next ≡ id =
       k.plays next (omega arith) in
-      let left : KnowsAs key s.homes w owner' id (dealt v) (Dealer (next + 1)) = record {
+      let left : KnowsAs key s.homes r.0 w owner' id (dealt v) (Dealer (next + 1)) = record {
         common = record { terms = k.common.terms; beside = k.common.beside };
         plays = λ p le. placed_else sh.owner next new p (λ e. omega arith) ∙ k.plays p (omega arith);
         members = λ p le within. k.members p (omega arith) within;
         free = λ p le. k.free p (omega arith);
-        idle = λ p le. k.idle p (omega arith);
+        idle = λ p n le. k.idle p n (omega arith);
         vacant = λ p le within. k.vacant p (omega arith) within;
       } in
-      let right : Knows key s.homes w owner' new (token_at v.terms next) = record {
-        common = record { terms = k.common.terms; beside = none_beside w.history };
+      let fresh : TokenKnows key s.homes r.0 w owner' new (token_at key next) next = record {
+        common = record { terms = refl; beside = none_beside w.history };
         plays = placed_here sh.owner next new;
-        member = k.members next (omega arith) room ∙ ap (λ (t : Terms). some (newcomer t.clients next))
-            (sym k.common.terms);
+        within = room;
+        who = refl;
+        told = k.members next (omega arith) room;
         rows = λ h. absurd (cc h);
         free = λ h. k.free next (omega arith);
         writer = λ h. absurd (cc h);
-        idle = λ h. k.idle next (omega arith);
-        asked = λ box there'. let n = sh.box_count in let low = in_range w.mailboxes next box there' in
-            ap request_of (some-injective empty box (sym (k.vacant next (omega arith) (omega arith)).0 ∙ there'));
+        idle = λ h n. k.idle next n (omega arith);
+        asked = λ box there. let low =
+            box_within key.base key.clients w (kept_after base_of taken key r.0 w r.2) next box there in
+            subst (Asks None) (some_injective empty box (sym (k.vacant next (omega arith) low).0 ∙ there)) refl;
         grabbed = λ i g h. absurd (some-ne-none g (sym h));
         apart = tt;
         vacant = λ h within. k.vacant next (omega arith) within;
         gathered = λ i m h. absurd (some-ne-none m (sym h));
-      } in (
+      } in
+      let right : Knows key s.homes r.0 w owner' new (token_at v.terms next) =
+      subst (λ t. Knows key s.homes r.0 w owner' new (token_at t next)) (sym k.common.terms) fresh in (
         r.0,
         w,
         r.2,
-        one_more s w sh id (dealt v) (token_of v) owner'
-            (λ j u other there. others_keep key s.homes w sh.owner next new id j u mine other u.role
+        one_more s r.0 w sh id (dealt v) (token_of v) owner'
+            (λ j u other there. others_keep key s.homes r.0 w sh.owner next new id j u mine other u.role
             (sh.seats j u there))
-            (subst (KnowsAs key s.homes w owner' id (dealt v)) (sym (ap further is)) left)
-            (subst (Knows key s.homes w owner' new) (sym (ap (token_by v) is)) right),
+            (subst (KnowsAs key s.homes r.0 w owner' id (dealt v)) (sym (ap further is)) left)
+            (subst (Knows key s.homes r.0 w owner' new) (sym (ap (token_by v) is)) right),
       )
 
   pub starts : (writer : W) (boxes : List ℕ) (slots : List (Slot W)) → (base_of writer ≡ key.base) × (taken writer ≡ [])
@@ -348,14 +355,13 @@ module _ {W : Type 0} (base_of : W → Tables) (taken : W → List CommitRecord)
       → Rule (opening (0 ∷ 0 ∷ boxes) (rows key.base [] ∷ Some (Writer writer) ∷ slots) (dealer key))
   starts writer boxes slots ours wide blank deep bare = (
     [],
-    opening_world key,
-    refl,
+    first_world key,
+    done_none (first_world key),
     record {
       owner = λ _. 0;
       word_count = let e = wide in omega arith;
       slot_count = let e = length-map slots (λ (x : Slot W). some x) in omega arith;
-      box_count = length-empties key.clients;
-      rows = record { word = refl; home = λ _. refl };
+      rows = record { word = refl; home = λ _. refl; held = λ who e. absurd (cc e) };
       writer = record {
         word = refl;
         home = λ _. (
@@ -363,9 +369,12 @@ module _ {W : Type 0} (base_of : W → Tables) (taken : W → List CommitRecord)
           refl,
           (ours.0, subst (λ l. IsPrefix l []) (sym ours.1) (prefix_nil [])),
         );
+        held = λ n e. absurd (cc e);
       };
-      mail = λ c b e. subst (MailShown (0 ∷ 0 ∷ boxes) (map some (rows key.base [] ∷ Some (Writer writer) ∷ slots)) c)
-          (at_empties key.clients c b e) record { word = get_two c boxes ∙ blank c; slot = tt };
+      mail = λ c b e. let box = found_box (numbered (first_world key).clients (c + 1)) b e in
+          subst (MailShown (0 ∷ 0 ∷ boxes) (map some (rows key.base [] ∷ Some (Writer writer) ∷ slots)) c)
+          (ap (λ (x : ClientState). x.mailbox) (numbered_copies key.clients (c + 1) _ box.0 box.1) ∙ box.2)
+          record { word = get_two c boxes ∙ blank c; slot = tt };
       seats = seated;
     },
   )
@@ -377,17 +386,29 @@ module _ {W : Type 0} (base_of : W → Tables) (taken : W → List CommitRecord)
       vacant_two c h = let e : 2 + c ≡ suc (suc c) = omega arith in
           ap (get_elem? (map some (rows key.base [] ∷ Some (Writer writer) ∷ slots))) e ∙ bare c h
 
+      -- the part of the member at a place
+      opens : (p : ℕ) → p < key.clients + key.dispatchers
+          → part_of (first_world key) (who_at key.clients p) ≡ Some newly
+      opens p within = ⊎_elim
+          (λ (low : p < key.clients). ap (part_of (first_world key)) (who_client key.clients p low)
+          ∙ client_opens key.base key.clients key.dispatchers (p + 1) (omega arith) (omega arith))
+          (λ (far : key.clients ≤ p). ap (part_of (first_world key)) (who_dispatcher key.clients p far)
+          ∙ dispatcher_opens key.base key.clients key.dispatchers ((p - key.clients) + 1) (omega arith) (omega arith))
+          (low_or_behind p key.clients)
+
       seated : (j : ℕ) (v : View) → get_elem? (dealer key ∷ []) j ≡ some v
-          → Knows key (map some (rows key.base [] ∷ Some (Writer writer) ∷ slots)) (opening_world key) (λ _. 0) j v
-      seated zero v e = subst (Knows key (map some (rows key.base [] ∷ Some (Writer writer) ∷ slots))
-          (opening_world key) (λ _. 0) 0) (some-injective _ _ e) record {
+          → Knows key (map some (rows key.base [] ∷ Some (Writer writer) ∷ slots)) [] (first_world key) (λ _. 0) j v
+      seated zero v e = subst (Knows key (map some (rows key.base [] ∷ Some (Writer writer) ∷ slots)) []
+          (first_world key) (λ _. 0) 0) (some-injective _ _ e) record {
             common = record { terms = refl; beside = none_beside [] };
             plays = λ p le. refl;
-            members = λ p le within. newcomer_there key.clients 0 (key.clients + key.dispatchers) p within
-                ∙ (let z : 0 + p ≡ p = omega arith in ap (λ n. some (newcomer key.clients n)) z);
+            members = λ p le within. record { part_is = opens p within; did = refl };
             free = λ p le e'. cc e';
-            idle = λ p le e'. cc e';
-            vacant = λ p le within. (empty_there key.clients p within, vacant_two p within);
+            idle = λ p n le named e'. cc e';
+            vacant = λ p le within. (
+              box_opens key.base key.clients key.dispatchers (p + 1) (omega arith) (omega arith),
+              vacant_two p within,
+            );
           }
       seated (suc j) v e = absurd (some-ne-none v (sym e))
 

@@ -3,8 +3,8 @@ use Rattle.std.specs.Prelude.{◌≡◌, ℕ, ◌+◌, ◌<◌, ◌==◌, false,
 use Rattle.row_store.specs.History.{CommitRecord}
 use Rattle.history.specs.declared.view.Terms.{Terms}
 use Rattle.history.specs.declared.view.Member.{Member}
-use Rattle.history.specs.World.{number_of}
-use Rattle.history.specs.Link.{HasTrueRun}
+use Rattle.history.specs.Members.{number_of}
+use Rattle.history.specs.Seats.{HasTrueRun}
 use Rattle.history.specs.Tokens.{TableRecord, TokenRecord, IsClient, IsDispatcher, IsFree}
 
 -- so many tokens, and each number from 1 to their count once

@@ -1,9 +1,8 @@
 pub mod Words
-pub mod World
+pub mod Members
 pub mod Rule
 pub mod Plays
 pub mod Seats
-pub mod Link
 pub mod Tokens
 pub mod Closing
 pub mod TokenParts

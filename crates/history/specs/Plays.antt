@@ -16,8 +16,8 @@ use Rattle.history.specs.declared.view.View.{View}
 use Rattle.history.specs.declared.view.SlotValue.TheVariants.{Rows, Writer, Asked, Answered}
 use Rattle.history_core.specs.OwnCommits.{IsOfClients}
 use Rattle.history.specs.Words.{Owns, IsRight, IsFresh, given_to}
-use Rattle.history.specs.World.{newcomer, takes_rows, marks, commits, sees, posts, grabs, takes_writer, puts_writer}
-use Rattle.history.specs.World.{answers, collects}
+use Rattle.history.specs.Members.{newcomer, takes_rows, marks, commits, sees, posts, grabs, takes_writer, puts_writer}
+use Rattle.history.specs.Members.{answers, collects}
 use Rattle.history.specs.Rule.{Slot, rows, nobody, view_of, IsElsewhere}
 
 -- what a member learns of the history: it is legal, begins with all that the member saw or had beside that, and has

@@ -1,4 +1,4 @@
--- The rule: the table shows a world that events lead to.
+-- The rule: the table shows a world of the protocol that deeds led to.
 use Rattle.std.specs.Prelude.{◌≡◌, ◌≢◌, ℕ, ◌+◌, ◌*◌, ◌<◌, ◌≤◌, true, false, All, List, [], ◌∷◌, length, slice_index}
 use Rattle.std.specs.Prelude.{Option, Some, None}
 use mathlib.Core.Option.{some}
@@ -7,8 +7,13 @@ use lib.ListN.{get_elem?}
 use Rattle.std.proofs.Math.Dec.{lit≤}
 use Rattle.atomic_table.specs.Table.{State}
 use Rattle.ssb_base.specs.Base.{Tables}
+use Rattle.ssb_answers.specs.declared.answer.Answer.TheVariants as answer
 use Rattle.row_store.specs.History.{CommitRecord, IsPrefix}
-use Rattle.history_core.specs.declared.event.Who.TheVariants.{Client}
+use Rattle.history_core.specs.declared.event.Who.{Who}
+use Rattle.history_core.specs.declared.event.Who.TheVariants.{Client, Dispatcher}
+use Rattle.history_core.specs.World.{World, Mailbox, empty, asked, in_hand, answered, unserved, opening_world}
+use Rattle.history_core.specs.Deeds.{Deed, done_by, HasDone}
+use Rattle.history_core.specs.Parts.{part_of, mailbox_at}
 use Rattle.history.specs.declared.view.Terms.{Terms}
 use Rattle.history.specs.declared.view.Opening.{Opening}
 use Rattle.history.specs.declared.view.Member.{Member}
@@ -19,27 +24,29 @@ use Rattle.history.specs.declared.view.Role.TheVariants.{Dealer, Token, Note, Sp
 use Rattle.history.specs.declared.view.View.{View}
 use Rattle.history.specs.declared.view.SlotValue.{SlotValue}
 use Rattle.history.specs.declared.view.SlotValue.TheVariants.{Rows, Writer, Asked, Answered}
-use Rattle.history.specs.Words.{store}
-use Rattle.history.specs.World.{World, Mailbox, empty, asked, in_hand, answered, Event, IsAfter, newcomer}
+use Rattle.history.specs.Words.{store, request, IsCause}
+use Rattle.history.specs.Members.{newcomer, part, who_at}
 
 -- 1 while a part is out
-abbrev pub out : Option ℕ → ℕ
+abbrev pub out : {A : Type 0} → Option A → ℕ
 out None = 0
-out (Some place) = 1
+out (Some holder) = 1
 
 -- what a mailbox's word says
 abbrev pub stage : Mailbox → ℕ
 stage empty = 0
-stage (asked request) = 1
-stage (in_hand place request) = 2
-stage (answered request reply) = 3
+stage (asked question floor) = 1
+stage (in_hand dispatcher question floor) = 2
+stage (answered question at found) = 3
+stage (unserved question cause) = 3
 
--- what the client that asked has not collected yet
-abbrev pub request_of : Mailbox → Option PostedQuestion
-request_of empty = None
-request_of (asked request) = Some request
-request_of (in_hand place request) = Some request
-request_of (answered request reply) = Some request
+-- what the client of a mailbox has posted and not collected; an answer is over no fewer commits than its floor
+abbrev pub Asks : Option PostedQuestion → Mailbox → Type 0
+Asks posted empty = posted ≡ None
+Asks posted (asked question floor) = posted ≡ Some (request question floor)
+Asks posted (in_hand dispatcher question floor) = posted ≡ Some (request question floor)
+Asks posted (answered question at found) = (floor : ℕ) × (posted ≡ Some (request question floor)) × (floor ≤ at)
+Asks posted (unserved question cause) = (floor : ℕ) × (posted ≡ Some (request question floor))
 
 abbrev pub nobody : Member
 nobody = record { who = Client 0; seen = []; mine = []; mark = None; version = None; given = []; did = [] }
@@ -77,15 +84,26 @@ abbrev pub AreApart : List Held → Type 0
 AreApart [] = Unit {0}
 AreApart (h ∷ held) = IsElsewhere h.place held × AreApart held
 
+-- the world and the deeds tell of a member what it says itself
+pub record IsTold (deeds : List Deed) (w : World) (m : Member) : Type 0 where
+  pub part_is : part_of w m.who ≡ Some (part m)
+  pub did : m.did ≡ done_by m.who deeds
+
 -- a member whose token was handed in: it does nothing more, holds neither part and has nothing in its mailbox
-pub record Handed (w : World) (owner : ℕ → ℕ) (seat own : ℕ) (m : Member) : Type 0 where
-  pub place : ℕ
-  pub plays : owner place ≡ seat
-  pub apart : place ≢ own
-  pub member : get_elem? w.members place ≡ some m
-  pub free : w.rows ≢ Some place
-  pub idle : w.writer ≢ Some place
-  pub quiet : (box : Mailbox) → get_elem? w.mailboxes place ≡ some box → request_of box ≡ None
+pub record Handed (key : Terms) (deeds : List Deed) (w : World) (owner : ℕ → ℕ) (seat own : ℕ) (m : Member) : Type 0
+  where
+    pub place : ℕ
+    pub plays : owner place ≡ seat
+    pub apart : place ≢ own
+    pub who : m.who ≡ who_at key.clients place
+    pub told : IsTold deeds w m
+    pub free : w.rows ≢ Some m.who
+    pub idle : (number : ℕ) → m.who ≡ Dispatcher number → w.writer ≢ Some number
+    pub quiet : (box : Mailbox) → mailbox_at w (place + 1) ≡ Some box → Asks None box
+
+-- it is one of the table's clients or dispatchers
+abbrev pub IsMember : Terms → Who → Type 0
+IsMember key who = (place : ℕ) × (place < key.clients + key.dispatchers) × (who ≡ who_at key.clients place)
 
 -- what a slot has: a value, or nothing while its value is in somebody's hands
 abbrev pub Slot : Type 0 → Type 0
@@ -106,11 +124,16 @@ module _ {W : Type 0} where
   pub record RowsShown (key : Terms) (words : List ℕ) (homes : Homes W) (w : World) : Type 0 where
     pub word : slice_index words 0 ≡ 2 * length w.history + out w.rows
     pub home : w.rows ≡ None → get_elem? homes 0 ≡ some (some (rows key.base w.history))
+    pub held : (who : Who) → w.rows ≡ Some who → IsMember key who
 
   -- a request or an answer lies in the client's slot, while nobody has it in hand
   abbrev pub LiesIn : Homes W → ℕ → Mailbox → Type 0
-  LiesIn homes client (asked request) = get_elem? homes (2 + client) ≡ some (some (Some (Asked request)))
-  LiesIn homes client (answered request reply) = get_elem? homes (2 + client) ≡ some (some (Some (Answered reply)))
+  LiesIn homes client (asked question floor) =
+      get_elem? homes (2 + client) ≡ some (some (Some (Asked (request question floor))))
+  LiesIn homes client (answered question at found) =
+      get_elem? homes (2 + client) ≡ some (some (Some (Answered (answer.Rows question at found))))
+  LiesIn homes client (unserved question cause) =
+      (get_elem? homes (2 + client) ≡ some (some (Some (Answered (answer.Unserved question cause))))) × IsCause cause
   LiesIn homes client box = Unit {0}
 
   -- each client has a word and a slot, from 2 on
@@ -122,44 +145,54 @@ module _ {W : Type 0} where
   abbrev pub IsVacant : Homes W → ℕ → Type 0
   IsVacant homes client = get_elem? homes (2 + client) ≡ some (some None)
 
+  -- the client's mailbox is empty, and its slot not taken
+  abbrev pub IsUnopened : Homes W → World → ℕ → Type 0
+  IsUnopened homes w client = (mailbox_at w (client + 1) ≡ Some empty) × IsVacant homes client
+
   -- the seat owner p plays for the member at p
-  pub record TokenKnows (key : Terms) (homes : Homes W) (w : World) (owner : ℕ → ℕ)
+  pub record TokenKnows (key : Terms) (homes : Homes W) (deeds : List Deed) (w : World) (owner : ℕ → ℕ)
       (seat : ℕ) (v : View) (place : ℕ) : Type 0 where
     pub common : Common key w v
     pub plays : owner place ≡ seat
-    pub member : get_elem? w.members place ≡ some v.member
-    pub rows : v.holds_rows ≡ true → w.rows ≡ Some place
-    pub free : v.holds_rows ≡ false → w.rows ≢ Some place
-    pub writer : v.holds_writer ≡ true → w.writer ≡ Some place
-    pub idle : v.holds_writer ≡ false → w.writer ≢ Some place
-    pub asked : (box : Mailbox) → get_elem? w.mailboxes place ≡ some box → v.asked ≡ request_of box
+    pub within : place < key.clients + key.dispatchers
+    pub who : v.member.who ≡ who_at key.clients place
+    pub told : IsTold deeds w v.member
+    pub rows : v.holds_rows ≡ true → (w.rows ≡ Some v.member.who) × (v.member.seen ≡ w.history)
+    pub free : v.holds_rows ≡ false → w.rows ≢ Some v.member.who
+    pub writer : v.holds_writer ≡ true → (number : ℕ) → v.member.who ≡ Dispatcher number → w.writer ≡ Some number
+    pub idle : v.holds_writer ≡ false → (number : ℕ) → v.member.who ≡ Dispatcher number → w.writer ≢ Some number
+    pub asked : (box : Mailbox) → mailbox_at w (place + 1) ≡ Some box → Asks v.asked box
     pub grabbed : (k : ℕ) (g : Held) → get_elem? v.grabbed k ≡ some g
-        → get_elem? w.mailboxes g.place ≡ some (in_hand place g.request)
+        → (number : ℕ) → v.member.who ≡ Dispatcher number
+        → mailbox_at w (g.place + 1) ≡ Some (in_hand number g.request.query g.request.floor)
     pub apart : AreApart v.grabbed
-    pub vacant : v.has_box ≡ false → place < key.clients → (get_elem? w.mailboxes place ≡ some empty)
-        × IsVacant homes place
-    pub gathered : (k : ℕ) (m : Member) → get_elem? v.gathered k ≡ some m → Handed w owner seat place m
+    pub vacant : v.has_box ≡ false → place < key.clients → IsUnopened homes w place
+    pub gathered : (k : ℕ) (m : Member) → get_elem? v.gathered k ≡ some m → Handed key deeds w owner seat place m
 
-  pub record DealerKnows (key : Terms) (homes : Homes W) (w : World) (owner : ℕ → ℕ)
+  pub record DealerKnows (key : Terms) (homes : Homes W) (deeds : List Deed) (w : World) (owner : ℕ → ℕ)
       (seat : ℕ) (v : View) (next : ℕ) : Type 0 where
     pub common : Common key w v
     pub plays : (place : ℕ) → next ≤ place → owner place ≡ seat
     pub members : (place : ℕ) → next ≤ place → place < key.clients + key.dispatchers
-        → get_elem? w.members place ≡ some (newcomer key.clients place)
-    pub free : (place : ℕ) → next ≤ place → w.rows ≢ Some place
-    pub idle : (place : ℕ) → next ≤ place → w.writer ≢ Some place
-    pub vacant : (place : ℕ) → next ≤ place → place < key.clients → (get_elem? w.mailboxes place ≡ some empty)
-        × IsVacant homes place
+        → IsTold deeds w (newcomer key.clients place)
+    pub free : (place : ℕ) → next ≤ place → w.rows ≢ Some (who_at key.clients place)
+    pub idle : (place number : ℕ) → next ≤ place → who_at key.clients place ≡ Dispatcher number
+        → w.writer ≢ Some number
+    pub vacant : (place : ℕ) → next ≤ place → place < key.clients → IsUnopened homes w place
 
   -- what the world says of a seat, by what the seat is for
-  abbrev pub KnowsAs : Terms → Homes W → World → (ℕ → ℕ) → ℕ → View → Role → Type 0
-  KnowsAs key homes w owner seat v (Dealer next) = DealerKnows key homes w owner seat v next
-  KnowsAs key homes w owner seat v (Token place) = TokenKnows key homes w owner seat v place
-  KnowsAs key homes w owner seat v Note = Common key w v × IsPrefix v.member.seen w.history
-  KnowsAs key homes w owner seat v Spent = Unit {0}
+  abbrev pub KnowsAs : Terms → Homes W → List Deed → World → (ℕ → ℕ) → ℕ → View → Role → Type 0
+  KnowsAs key homes deeds w owner seat v (Dealer next) = DealerKnows key homes deeds w owner seat v next
+  KnowsAs key homes deeds w owner seat v (Token place) = TokenKnows key homes deeds w owner seat v place
+  KnowsAs key homes deeds w owner seat v Note = Common key w v × IsPrefix v.member.seen w.history
+  KnowsAs key homes deeds w owner seat v Spent = Unit {0}
 
-  abbrev pub Knows : Terms → Homes W → World → (ℕ → ℕ) → ℕ → View → Type 0
-  Knows key homes w owner seat v = KnowsAs key homes w owner seat v v.role
+  abbrev pub Knows : Terms → Homes W → List Deed → World → (ℕ → ℕ) → ℕ → View → Type 0
+  Knows key homes deeds w owner seat v = KnowsAs key homes deeds w owner seat v v.role
+
+-- the protocol's world when the table is made
+abbrev pub first_world : Terms → World
+first_world key = opening_world key.base key.clients key.dispatchers
 
 module _ {W : Type 0} (base_of : W → Tables) (taken : W → List CommitRecord) where
   -- the writer is over the table's base, and stands for a beginning of the history
@@ -171,21 +204,21 @@ module _ {W : Type 0} (base_of : W → Tables) (taken : W → List CommitRecord)
     pub word : slice_index words 1 ≡ out w.writer
     pub home : w.writer ≡ None → (writer : W) × (get_elem? homes 1 ≡ some (some (Some (Writer writer))))
         × IsOurs key w.history writer
+    pub held : (number : ℕ) → w.writer ≡ Some number → IsMember key (Dispatcher number)
 
-  pub record Shows (key : Terms) (s : State (Slot W) View) (w : World) : Type 0 where
+  pub record Shows (key : Terms) (s : State (Slot W) View) (deeds : List Deed) (w : World) : Type 0 where
     pub owner : ℕ → ℕ
     pub word_count : length s.words ≡ 2 + key.clients
     pub slot_count : length s.homes ≡ 2 + key.clients
-    pub box_count : length w.mailboxes ≡ key.clients
     pub rows : RowsShown key s.words s.homes w
     pub writer : WriterShown key s.words s.homes w
-    pub mail : (client : ℕ) (box : Mailbox) → get_elem? w.mailboxes client ≡ some box
+    pub mail : (client : ℕ) (box : Mailbox) → mailbox_at w (client + 1) ≡ Some box
         → MailShown s.words s.homes client box
-    pub seats : (seat : ℕ) (v : View) → get_elem? s.views seat ≡ some v → Knows key s.homes w owner seat v
+    pub seats : (seat : ℕ) (v : View) → get_elem? s.views seat ≡ some v → Knows key s.homes deeds w owner seat v
 
-  -- the rule
+  -- the rule: deeds of clients and dispatchers, each of them enabled, led to the world that the table shows
   abbrev pub ShowsWorld : Terms → State (Slot W) View → Type 0
-  ShowsWorld key s = (events : List Event) × (w : World) × IsAfter key events w × Shows key s w
+  ShowsWorld key s = (deeds : List Deed) × (w : World) × HasDone (first_world key) deeds w × Shows key s deeds w
 
 -- what a seat is left with that another took in
 abbrev pub spent : View

@@ -16,7 +16,11 @@ use Rattle.history.specs.declared.view.Role.TheVariants.{Dealer, Token}
 use Rattle.history.specs.declared.view.View.{View}
 use Rattle.history_core.specs.OwnCommits.{IsOfClients}
 use Rattle.history.specs.Words.{IsAccepted, store, Owns, IsRight, IsRightAt, IsFresh, given_to}
-use Rattle.history.specs.World.{World, Event, Mailbox, empty, IsAfter, deeds, who_at}
+use Rattle.history_core.specs.World.{World, Mailbox, empty, opening_world}
+use Rattle.history_core.specs.TrueRun.{IsTrueRun}
+use Rattle.history_core.specs.Deeds.{Deed, events_of, replies_of, done_by, HasDone}
+use Rattle.history_core.specs.Parts.{part_of, mailbox_at}
+use Rattle.history.specs.Members.{who_at, part}
 use Rattle.history.specs.Rule.{Slot}
 use Rattle.history.specs.Plays.{Learns, with_rows, looked, request_at, served, collected, with_writer}
 
@@ -119,19 +123,20 @@ abbrev pub AreAll : Terms → List Member → Type 0
 AreAll terms members = (place : ℕ) → place < terms.clients + terms.dispatchers → (k : ℕ) × (m : Member)
     × (get_elem? members k ≡ some m) × (m.who ≡ who_at terms.clients place)
 
--- there is a run of events, each of them enabled, that has this log, and in which each of these members did what it
--- says that it did, and is as it says at the end: then nobody has a part, and every mailbox is empty
-pub record HasRun (terms : Terms) (members : List Member) (history : List CommitRecord) : Type 0 where
-  pub events : List Event
+-- there is a run of the protocol in which each event is enabled, a true run of this history, in which each of these
+-- members did, and was told, what it says, and is as it says at the end: then nobody has a part, and every mailbox is
+-- empty
+pub record HasTrueRun (terms : Terms) (members : List Member) (history : List CommitRecord) : Type 0 where
+  pub deeds : List Deed
   pub world : World
-  pub run : IsAfter terms events world
+  pub done : HasDone (opening_world terms.base terms.clients terms.dispatchers) deeds world
   pub ends : world.history ≡ history
   pub rows : world.rows ≡ None
   pub writer : world.writer ≡ None
-  pub mail : (client : ℕ) (box : Mailbox) → get_elem? world.mailboxes client ≡ some box → box ≡ empty
-  pub did : (k : ℕ) (m : Member) → get_elem? members k ≡ some m → (place : ℕ)
-      × (m.who ≡ who_at terms.clients place) × (get_elem? world.members place ≡ some m)
-      × (m.did ≡ deeds terms place events)
+  pub mail : (number : ℕ) (box : Mailbox) → mailbox_at world number ≡ Some box → box ≡ empty
+  pub true_run : IsTrueRun terms.base (events_of deeds) (replies_of deeds) history
+  pub did : (k : ℕ) (m : Member) → get_elem? members k ≡ some m → m.did ≡ done_by m.who deeds
+  pub tells : (k : ℕ) (m : Member) → get_elem? members k ≡ some m → part_of world m.who ≡ Some (part m)
 
 -- the log is legal and has the commits of these members, each of whom has seen a beginning of it
 pub record IsClosed (terms : Terms) (members : List Member) (rows : Warehouse) : Type 0 where
@@ -140,4 +145,4 @@ pub record IsClosed (terms : Terms) (members : List Member) (rows : Warehouse) :
   pub named : IsOfClients terms.clients rows.log
   pub seen : (k : ℕ) (m : Member) → get_elem? members k ≡ some m → IsPrefix m.seen rows.log
   pub owns : (k : ℕ) (m : Member) → get_elem? members k ≡ some m → Owns m.who m.mine rows.log
-  pub has_run : HasRun terms members rows.log
+  pub has_run : HasTrueRun terms members rows.log

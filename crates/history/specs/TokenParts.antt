@@ -10,7 +10,7 @@ use Rattle.history.specs.declared.request.PostedQuestion.{PostedQuestion}
 use Rattle.history.specs.declared.request.Grabbed.{Grabbed}
 use Rattle.history.specs.declared.token.Token.TheInside.{Inside as Token}
 use Rattle.history.specs.declared.shared_table.SharedTable.TheInside.{Inside as SharedTable}
-use Rattle.history.specs.World.{who_at}
+use Rattle.history.specs.Members.{who_at}
 use Rattle.history.specs.Rule.{Slot, terms_of, AreApart}
 use Rattle.history.specs.Seats.{Place, IsToken}
 use Rattle.history.specs.Tokens.{TableRecord, TokenRecord, IsSound, IsClient, IsDispatcher}

@@ -15,14 +15,15 @@ use Rattle.history_core.specs.declared.event.Reply.{Reply}
 use Rattle.history_core.specs.declared.event.Reply.TheVariants.{Done, Committed, Length, Query as Asks}
 use Rattle.history_core.specs.Events.{Question}
 use Rattle.history_core.specs.OwnCommits.{IsOfClients}
-use Rattle.history.specs.declared.event.Event.{Event}
-use Rattle.history.specs.declared.event.Event.TheVariants as event
-use Rattle.history.specs.declared.event.Deed.{Deed}
+use Rattle.history_core.specs.Events.{Event}
+use Rattle.history_core.specs.Events as event
+use Rattle.history_core.specs.Deeds.{Deed}
 use Rattle.history.specs.declared.request.PostedQuestion.{PostedQuestion}
 use Rattle.history.specs.declared.request.Grabbed.{Grabbed}
-use Rattle.history.specs.declared.request.Given.{Given}
+use Rattle.history_core.specs.declared.dispatcher.Given.{Given}
 use Rattle.history.specs.Words.{Owns, request, IsRight, IsRightAt, IsFresh, given_to}
-use Rattle.history.specs.World.{number_of, mark_after, answer_named, told_by}
+use Rattle.history_core.specs.Parts.{mark_after}
+use Rattle.history.specs.Members.{number_of, answer_named, told_by}
 
 -- a table, by its name and what it was opened with
 pub record TableRecord : Type 0 where

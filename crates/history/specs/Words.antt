@@ -13,9 +13,9 @@ use Rattle.history_core.specs.Events.{Question}
 use Rattle.history_core.specs.OwnCommits.{commits_of}
 use Rattle.history_core.specs.World.{rows_after}
 use Rattle.history.specs.declared.request.PostedQuestion.{PostedQuestion}
-use Rattle.history.specs.declared.request.Outcome.{Outcome}
-use Rattle.history.specs.declared.request.Outcome.TheVariants.{Served, GivenUp}
-use Rattle.history.specs.declared.request.Given.{Given}
+use Rattle.history_core.specs.declared.dispatcher.Outcome.{Outcome}
+use Rattle.history_core.specs.declared.dispatcher.Outcome.TheVariants.{Served, GivenUp}
+use Rattle.history_core.specs.declared.dispatcher.Given.{Given}
 
 -- the row store over these rows after this log
 abbrev pub store : Tables → List CommitRecord → Warehouse

@@ -34,7 +34,6 @@
 #![tactic(auto)]
 
 pub mod event;
-pub mod laws;
 pub mod request;
 pub mod rule;
 mod shared_table;
@@ -42,7 +41,8 @@ mod steps;
 mod token;
 pub mod view;
 
-pub use event::{Deed, Event};
-pub use request::{Given, Grabbed, Outcome, PostedQuestion};
+pub use event::Deed;
+pub use history_core::{Given, Outcome};
+pub use request::{Grabbed, PostedQuestion};
 pub use shared_table::{OpenedTable, SharedTable};
 pub use token::Token;

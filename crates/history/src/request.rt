@@ -1,6 +1,6 @@
 //! Requests, and what became of them.
 
-use ssb_answers::{Question, Unserved};
+use ssb_answers::Question;
 
 /// A question, and its floor: how many commits the client had seen when it asked. The answer is over no fewer.
 #[derive(Drop)]
@@ -13,21 +13,4 @@ pub struct PostedQuestion {
 pub struct Grabbed {
     pub client: u32,
     pub request: PostedQuestion,
-}
-
-/// What became of a request: rows after so many commits, or none, for a cause.
-#[derive(Clone, Copy, Debug, PartialEq, Eq)]
-pub enum Outcome {
-    /// Rows after so many commits.
-    Served(u64),
-    /// No rows, for this cause.
-    GivenUp(Unserved),
-}
-
-/// An answer that a dispatcher gave, to a client's request with this floor.
-#[derive(Clone, Copy, Debug, PartialEq, Eq)]
-pub struct Given {
-    pub client: u32,
-    pub floor: u64,
-    pub outcome: Outcome,
 }

@@ -7,7 +7,7 @@ ghost use Rattle.history_core.specs.OwnCommits.{IsOfClients};
 ghost use Rattle.history.specs.Words.{store, Owns};
 ghost use Rattle.history.specs.Rule.{dealer, terms_of};
 ghost use Rattle.history.specs.Seats.{IsDealer};
-ghost use Rattle.history.specs.World.{who_at};
+ghost use Rattle.history.specs.Members.{who_at};
 ghost use Rattle.history.specs.TokenParts.{table_of};
 ghost use Rattle.history.specs.Tokens.{new_token, new_clients, new_dispatchers, IsSound, IsClient, IsDispatcher, Saw};
 ghost use Rattle.history.specs.Tokens.{Took, MayPut, Put, posted, Grabs, MayAnswer, Answers, Collected, with_writer};

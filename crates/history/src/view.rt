@@ -1,8 +1,8 @@
 //! What a seat at the table knows. Of these types only `Opening` and `SlotValue` have values.
 
 use crate::event::Deed;
-use crate::request::{Given, PostedQuestion};
-use history_core::Who;
+use crate::request::PostedQuestion;
+use history_core::{Given, Who};
 use row_store::{Commit, RowStore};
 use ssb_answers::Answer;
 use ssb_base::Base;

@@ -1,12 +1,14 @@
 -- Lists that grow, lists with one element changed, and legal histories.
-use Rattle.std.proofs.Common.{◌≡◌, ◌≢◌, ◌⊎◌, ℕ, zero, suc, ◌<◌, ◌≤◌, ◌==◌, Bool, true, false, List, [], ◌∷◌, ◌++◌}
+use Rattle.std.proofs.Common.{◌≡◌, ◌≢◌, ◌⊎◌, ℕ, zero, suc, ◌<◌, ◌≤◌, Option, ◌==◌, Bool, true, false, List, [], ◌∷◌, ◌++◌}
 use Rattle.std.proofs.Common.{length, take, Some, None, refl, ap, sym, subst, ◌∙◌, inl, inr, ⊎_elim, arith, zero-le}
 use Rattle.std.proofs.lemmas.List.{append-nil}
 use Rattle.std.proofs.lemmas.List.Elements.{filter-append}
 use Rattle.std.proofs.lemmas.Bool.Decides.{nat_tests}
 use Rattle.std.specs.Prelude.{filter, slice_get}
 use Rattle.row_store.specs.History.{CommitRecord}
-use Rattle.history_core.specs.Numbered.{copies, revised, numbered, renewed}
+use Rattle.history_core.specs.Numbered.{copies, revised, numbered, renewed, is_there}
+use Rattle.history_core.specs.World.{DispatcherState, unmarked}
+use Rattle.history_core.specs.Kept.{HasMark, Marks}
 use Rattle.history_core.specs.OwnCommits.{IsOfClients, commits_of}
 
 pub some_injective : {A : Type 0} (a b : A) → Some a ≡ Some b → a ≡ b
@@ -133,3 +135,31 @@ others_push client log commit n = let apart : (commit.client == client) ≡ fals
     let none_kept : commits_of client (commit ∷ []) ≡ [] = rw apart refl in
     filter-append (λ (c : CommitRecord). c.client == client) log (commit ∷ [])
     ∙ (ap (λ l. commits_of client log ++ l) none_kept ∙ append-nil (commits_of client log))
+
+-- the marks of dispatchers of which one changed
+pub marks_renewed : (ds : List DispatcherState) (number : ℕ) (g : DispatcherState → DispatcherState) (top : ℕ)
+    → ((x : DispatcherState) (mark : ℕ) → HasMark (g x) mark → (HasMark x mark) ⊎ (mark ≡ top))
+    → (n mark : ℕ) → Marks (renewed ds number g) n mark → (Marks ds n mark) ⊎ (mark ≡ top)
+marks_renewed ds number g top gives n mark has =
+    each_renewed (λ n x. numbered ds n ≡ Some x)
+    (λ n x. (m : ℕ) → HasMark x m → (Marks ds n m) ⊎ (m ≡ top)) ds number g (λ j a at. at)
+    (λ a at _ m marked. ⊎_elim (λ (was : HasMark a m). inl (a, at, was)) (λ (new : m ≡ top). inr new)
+    (gives a m marked))
+    (λ j a apart at _ m marked. inl (a, at, marked))
+    n has.0 has.1 mark has.2
+
+pub unmarked_none : (ds : List DispatcherState) (number mark : ℕ) → Marks (renewed ds number unmarked) number mark → ⊥
+unmarked_none ds number mark has =
+    each_renewed (λ n x. Unit {0}) (λ n x. n ≡ number → HasMark x mark → ⊥) ds number unmarked (λ j a at. tt)
+    (λ a at _ _ marked. ⊎_elim (λ (e : None ≡ Some mark). cc e) (λ (e : None ≡ Some mark). cc e) marked)
+    (λ j a apart at _ same marked. apart same)
+    number has.0 has.1 refl has.2
+
+pub known_range : {A : Type 0} (l : List A) (number : ℕ) → is_there (numbered l number) ≡ true → (1 ≤ number)
+    × (number ≤ length l)
+known_range {A = A} l zero e = absurd (cc e)
+known_range {A = A} l (suc place) e = go (slice_get l place) refl e
+  where
+    go : (o : Option A) → slice_get l place ≡ o → is_there o ≡ true → (1 ≤ suc place) × (suc place ≤ length l)
+    go None at e' = absurd (cc e')
+    go (Some x) at e' = let h = in_range l place x at in (omega arith, omega arith)

@@ -14,13 +14,16 @@ use Rattle.row_store.specs.Refusals.{refusal_of}
 use Rattle.row_store.specs.declared.refusal.Refusal.{Refusal}
 use Rattle.row_store.proofs.HistoryLaws.{accepted_stays_legal}
 use Rattle.row_store.proofs.PrefixLaws.{begins_with_itself, prefix_longer}
+use Rattle.history_core.specs.declared.dispatcher.Given.{Given}
+use Rattle.history_core.specs.declared.dispatcher.Outcome.{Outcome}
+use Rattle.history_core.specs.declared.dispatcher.Outcome.TheVariants.{Served, GivenUp}
 use Rattle.history_core.specs.declared.event.Who.{Who}
 use Rattle.history_core.specs.declared.event.Who.TheVariants.{Client, Dispatcher}
 use Rattle.history_core.specs.Events.{Question, Event, TakeRows, PutRows, Look, Post, Grab}
 use Rattle.history_core.specs.Events.{TakeWriter, PutWriter, Answer, GiveUp, Collect}
 use Rattle.history_core.specs.Numbered.{numbered, renewed, is_there}
 use Rattle.history_core.specs.World.{World, ClientState, DispatcherState, Mailbox, empty, asked, in_hand, answered}
-use Rattle.history_core.specs.World.{unserved, Outcome, served, failed, Given, commit_by, rows_after, is_known}
+use Rattle.history_core.specs.World.{unserved, commit_by, rows_after, is_known}
 use Rattle.history_core.specs.World.{holds_rows, holds_writer, mailbox_of, version_of, unmarked, gave, taking_rows}
 use Rattle.history_core.specs.World.{committing, putting_rows, looking, posting, grabbing, taking_writer}
 use Rattle.history_core.specs.World.{putting_writer, answering, giving_up, collecting, step_of, run_of, opening_world}
@@ -29,7 +32,7 @@ use Rattle.history_core.specs.Kept.{Marks, MailKept, OutcomeKept, GivenKept, Cli
 use Rattle.history_core.specs.Kept.{DispatcherKept, WorldKept, EachEventKeeps, EveryWorldKeeps}
 use Rattle.history_core.proofs.HistoryLaws.{some_injective, some_ne_none, each_renewed, length-renewed}
 use Rattle.history_core.proofs.HistoryLaws.{named_push, own_push, others_push, length-copies, numbered_copies}
-use Rattle.history_core.proofs.MoveLaws.{marks_renewed, unmarked_none, known_range}
+use Rattle.history_core.proofs.HistoryLaws.{marks_renewed, unmarked_none, known_range}
 
 all_kept : {A : Type 0} (P Q : A → Type 0) → ((a : A) → P a → Q a) → (l : List A) → All P l → All Q l
 all_kept P Q so l all k d low = so _ (all k d low)
@@ -244,9 +247,9 @@ module _ (base : Tables) (clients : ℕ) (w : World) (k : WorldKept base clients
 
       one_more : (commit : CommitRecord) (floor : ℕ) (o : Outcome) → OutcomeKept w.history floor o
           → OutcomeKept (w.history ++ commit ∷ []) floor o
-      one_more commit floor (served at) t = let long = length-append w.history (commit ∷ []) in
+      one_more commit floor (Served at) t = let long = length-append w.history (commit ∷ []) in
           let low = t.1 in (t.0, omega arith)
-      one_more commit floor (failed cause) t = tt
+      one_more commit floor (GivenUp cause) t = tt
 
       given_more : (commit : CommitRecord) (l : List Given) → All (GivenKept w.history) l
           → All (GivenKept (w.history ++ commit ∷ [])) l
@@ -319,10 +322,10 @@ module _ (base : Tables) (clients : ℕ) (w : World) (k : WorldKept base clients
   puts_writer n false holds = k
 
   -- what is kept of a client's mailbox
-  told : (client : ℕ) (o : Option ClientState) (box : Mailbox) → numbered w.clients client ≡ o
+  pub mail_kept : (client : ℕ) (o : Option ClientState) (box : Mailbox) → numbered w.clients client ≡ o
       → mailbox_of o ≡ Some box → MailKept w.base w.history w.dispatchers box
-  told client None box at e = absurd (some_ne_none box (sym e))
-  told client (Some c) box at e =
+  mail_kept client None box at e = absurd (some_ne_none box (sym e))
+  mail_kept client (Some c) box at e =
       subst (MailKept w.base w.history w.dispatchers) (some_injective c.mailbox box e) (k.client client c at).mail
 
   posts : (client : ℕ) (question : Question) (o : Option Mailbox)
@@ -350,7 +353,7 @@ module _ (base : Tables) (clients : ℕ) (w : World) (k : WorldKept base clients
       (λ c at was. record {
         seen = was.seen;
         mail = (
-          told client (numbered w.clients client) (asked q floor) refl is,
+          mail_kept client (numbered w.clients client) (asked q floor) refl is,
           λ mark has. absurd (unmarked_none w.dispatchers n mark has),
         );
       }) unmarked_kept
@@ -390,7 +393,7 @@ module _ (base : Tables) (clients : ℕ) (w : World) (k : WorldKept base clients
       go : (b : Bool) → (holder == n) ≡ b
           → WorldKept base clients (answering w n client (Some at) (Some (in_hand holder q floor))).0
       go true same = let mine : holder ≡ n = grind (arith, nat_tests) in
-          let t = told client (numbered w.clients client) (in_hand holder q floor) refl is in
+          let t = mail_kept client (numbered w.clients client) (in_hand holder q floor) refl is in
           let has = version_marks n at (numbered w.dispatchers n) refl marked in
           let low : floor ≤ at =
           t.1 at (subst (λ i. Marks w.dispatchers i at) (sym mine) has) in
@@ -398,9 +401,9 @@ module _ (base : Tables) (clients : ℕ) (w : World) (k : WorldKept base clients
           rw same
           (moved w.rows w.writer client
           (λ c. record c { mailbox = answered q at (rows_after w.base q (take at w.history)) }) n
-          (gave client floor (served at)) (gave_later n client floor (served at)) (λ c. refl) (λ c. inl refl)
+          (gave client floor (Served at)) (gave_later n client floor (Served at)) (λ c. refl) (λ c. inl refl)
           (λ c there was. record { seen = was.seen; mail = (high, refl) })
-          (gave_kept client floor (served at) (low, high)))
+          (gave_kept client floor (Served at) (low, high)))
       go false apart = rw apart k
   answers n client (Some at) (Some empty) marked is = k
   answers n client (Some at) (Some (asked q floor)) marked is = k
@@ -418,8 +421,8 @@ module _ (base : Tables) (clients : ℕ) (w : World) (k : WorldKept base clients
       go true same =
           rw same
           (moved w.rows w.writer client (λ c. record c { mailbox = unserved q cause }) n
-          (gave client floor (failed cause)) (gave_later n client floor (failed cause)) (λ c. refl) (λ c. inl refl)
-          (λ c there was. record { seen = was.seen; mail = tt }) (gave_kept client floor (failed cause) tt))
+          (gave client floor (GivenUp cause)) (gave_later n client floor (GivenUp cause)) (λ c. refl) (λ c. inl refl)
+          (λ c there was. record { seen = was.seen; mail = tt }) (gave_kept client floor (GivenUp cause) tt))
       go false apart = rw apart k
   gives_up n client cause true (Some empty) = k
   gives_up n client cause true (Some (asked q floor)) = k
@@ -462,7 +465,7 @@ pub run_kept : (base : Tables) (clients : ℕ) (events : List Event) (w : World)
 run_kept base clients [] w k = k
 run_kept base clients (e ∷ events) w k = run_kept base clients events (step_of w e).0 (step_kept base clients w k e)
 
-opening_kept : (base : Tables) (clients dispatchers : ℕ)
+pub opening_kept : (base : Tables) (clients dispatchers : ℕ)
     → WorldKept base clients (opening_world base clients dispatchers)
 opening_kept base clients dispatchers = record {
   based = refl;

@@ -1,7 +1,7 @@
 -- Each event takes what is known of a run one event further.
-use Rattle.std.proofs.Common.{◌≡◌, ◌≢◌, ◌⊎◌, ℕ, zero, suc, ◌+◌, ◌≤◌, ◌==◌, Bool, true, false}
+use Rattle.std.proofs.Common.{◌≡◌, ◌≢◌, ◌⊎◌, ℕ, ◌+◌, ◌≤◌, ◌==◌, Bool, true, false}
 use Rattle.std.proofs.Common.{List, [], ◌∷◌, ◌++◌, length, take, Option, Some, None, refl, ap, sym}
-use Rattle.std.proofs.Common.{subst, ◌∙◌, inl, inr, ⊎_elim, arith, append_assoc, length-append}
+use Rattle.std.proofs.Common.{subst, ◌∙◌, inl, inr, ⊎_elim, arith, append_assoc}
 use Rattle.std.proofs.lemmas.List.{append-nil}
 use Rattle.std.proofs.Math.Seq.{take-append_seam}
 use Rattle.std.proofs.lemmas.Bool.Decides.{nat_tests}
@@ -13,6 +13,8 @@ use Rattle.row_store.specs.History.{CommitRecord}
 use Rattle.row_store.specs.Refusals.{refusal_of}
 use Rattle.row_store.specs.declared.refusal.Refusal.{Refusal}
 use Rattle.row_store.proofs.HistoryLaws.{accepted_stays_legal}
+use Rattle.history_core.specs.declared.dispatcher.Outcome.{Outcome}
+use Rattle.history_core.specs.declared.dispatcher.Outcome.TheVariants.{Served, GivenUp}
 use Rattle.history_core.specs.declared.event.Who.{Who}
 use Rattle.history_core.specs.declared.event.Who.TheVariants.{Client, Dispatcher}
 use Rattle.history_core.specs.declared.event.Reply.{Reply}
@@ -20,77 +22,41 @@ use Rattle.history_core.specs.declared.event.Reply.TheVariants.{NotEnabled, Done
 use Rattle.history_core.specs.declared.event.Reply.TheVariants.{Length, Query as Asks, Rows, Unserved}
 use Rattle.history_core.specs.Events.{Question, Event, TakeRows, PutRows, Look, Post, Grab}
 use Rattle.history_core.specs.Events.{TakeWriter, PutWriter, Answer, GiveUp, Collect}
-use Rattle.history_core.specs.Numbered.{numbered, renewed, is_there}
+use Rattle.history_core.specs.Numbered.{numbered, renewed}
 use Rattle.history_core.specs.World.{World, ClientState, DispatcherState, Mailbox, empty, asked, in_hand, answered}
-use Rattle.history_core.specs.World.{unserved, Outcome, served, failed, commit_by, rows_after, is_known}
+use Rattle.history_core.specs.World.{unserved, commit_by, rows_after, is_known}
 use Rattle.history_core.specs.World.{holds_rows, holds_writer, mailbox_of, version_of, unmarked, gave, taking_rows}
 use Rattle.history_core.specs.World.{committing, putting_rows, looking, posting, grabbing, taking_writer}
 use Rattle.history_core.specs.World.{putting_writer, answering, giving_up, collecting, step_of, run_of, opening_world}
-use Rattle.history_core.specs.OwnCommits.{commits_of}
 use Rattle.history_core.specs.TrueRun.{is_committed, commits_before, IsOfRequest, IsTrueReply, IsTrueRun}
 use Rattle.history_core.specs.Runs.{EveryRunIsTrue}
-use Rattle.history_core.proofs.HistoryLaws.{some_injective, some_ne_none, at_last, in_range}
-use Rattle.history_core.proofs.HistoryLaws.{each_renewed, length-renewed}
-use Rattle.history_core.proofs.HistoryLaws.{named_push, own_push, others_push, length-copies, numbered_copies}
-use Rattle.history_core.proofs.TraceLaws.{HasMark, Marks, MailTraced, Traced, before_front, outstanding_on}
+use Rattle.history_core.proofs.HistoryLaws.{some_injective, some_ne_none, at_last}
+use Rattle.history_core.proofs.HistoryLaws.{each_renewed, numbered_copies, marks_renewed, unmarked_none}
+use Rattle.history_core.specs.Kept.{Marks, WorldKept}
+use Rattle.history_core.proofs.KeepingLaws.{mail_kept, step_kept, opening_kept, every_world}
+use Rattle.history_core.proofs.TraceLaws.{MailTraced, Traced, before_front, outstanding_on}
 use Rattle.history_core.proofs.TraceLaws.{outstanding_grabbed, posted_now, run_on, run_same, mail_on}
 
--- the marks of dispatchers of which one changed
-pub marks_renewed : (ds : List DispatcherState) (number : ℕ) (g : DispatcherState → DispatcherState) (top : ℕ)
-    → ((x : DispatcherState) (mark : ℕ) → HasMark (g x) mark → (HasMark x mark) ⊎ (mark ≡ top))
-    → (n mark : ℕ) → Marks (renewed ds number g) n mark → (Marks ds n mark) ⊎ (mark ≡ top)
-marks_renewed ds number g top gives n mark has =
-    each_renewed (λ n x. numbered ds n ≡ Some x)
-    (λ n x. (m : ℕ) → HasMark x m → (Marks ds n m) ⊎ (m ≡ top)) ds number g (λ j a at. at)
-    (λ a at _ m marked. ⊎_elim (λ (was : HasMark a m). inl (a, at, was)) (λ (new : m ≡ top). inr new)
-    (gives a m marked))
-    (λ j a apart at _ m marked. inl (a, at, marked))
-    n has.0 has.1 mark has.2
-
-pub unmarked_none : (ds : List DispatcherState) (number mark : ℕ) → Marks (renewed ds number unmarked) number mark → ⊥
-unmarked_none ds number mark has =
-    each_renewed (λ n x. Unit {0}) (λ n x. n ≡ number → HasMark x mark → ⊥) ds number unmarked (λ j a at. tt)
-    (λ a at _ _ marked. ⊎_elim (λ (e : None ≡ Some mark). cc e) (λ (e : None ≡ Some mark). cc e) marked)
-    (λ j a apart at _ same marked. apart same)
-    number has.0 has.1 refl has.2
-
-pub known_range : {A : Type 0} (l : List A) (number : ℕ) → is_there (numbered l number) ≡ true → (1 ≤ number)
-    × (number ≤ length l)
-known_range {A = A} l zero e = absurd (cc e)
-known_range {A = A} l (suc place) e = go (slice_get l place) refl e
-  where
-    go : (o : Option A) → slice_get l place ≡ o → is_there o ≡ true → (1 ≤ suc place) × (suc place ≤ length l)
-    go None at e' = absurd (cc e')
-    go (Some x) at e' = let h = in_range l place x at in (omega arith, omega arith)
-
-module _ (base : Tables) (clients : ℕ) (es : List Event) (rs : List Reply) (w : World)
-    (k : Traced base clients es rs w) where
+module _ (base : Tables) (clients : ℕ) (es : List Event) (rs : List Reply) (w : World) (kept : WorldKept base clients w)
+    (k : Traced es rs w) where
   abbrev pub Next : Event → World × Reply → Type 0
-  Next e next = Traced base clients (es ++ e ∷ []) (rs ++ next.1 ∷ []) next.0
+  Next e next = Traced (es ++ e ∷ []) (rs ++ next.1 ∷ []) next.0
 
   even : length rs ≡ length es
   even = k.run.replied
 
-  mail_same : (e : Event) (r : Reply) (ds : List DispatcherState)
-      → ((n mark : ℕ) → Marks ds n mark → (Marks w.dispatchers n mark) ⊎ (mark ≡ length w.history))
-      → (client : ℕ) (box : Mailbox) → (IsOfRequest client e r → ⊥)
-      → MailTraced w.base es rs w.history w.dispatchers client box
-      → MailTraced w.base (es ++ e ∷ []) (rs ++ r ∷ []) w.history ds client box
-  mail_same e r ds later client box apart t =
-      subst (λ h. MailTraced w.base (es ++ e ∷ []) (rs ++ r ∷ []) h ds client box) (append-nil w.history)
-      (mail_on w.base es rs even e r w.history [] k.run.no_others w.dispatchers ds later client box apart t)
+  high_marks : (number mark : ℕ) → Marks w.dispatchers number mark → mark ≤ length w.history
+  high_marks number mark has = (kept.dispatcher number has.0 has.1).marks mark has.2
 
   moved : (e : Event) (r : Reply) (rows : Option Who) (writer : Option ℕ) (number : ℕ) (f : ClientState → ClientState)
       (ds : List DispatcherState)
       → is_committed r ≡ false
       → IsTrueReply w.base es rs w.history (length rs) e r
       → ((n mark : ℕ) → Marks ds n mark → (Marks w.dispatchers n mark) ⊎ (mark ≡ length w.history))
-      → ((c : ClientState) → (f c).mine ≡ c.mine)
       → ((c : ℕ) → c ≢ number → IsOfRequest c e r → ⊥)
       → ((c : ClientState) → numbered w.clients number ≡ Some c
-      → MailTraced w.base (es ++ e ∷ []) (rs ++ r ∷ []) w.history ds number (f c).mailbox)
-      → Traced base clients (es ++ e ∷ [])
-      (rs ++ r ∷ []) record {
+      → MailTraced (es ++ e ∷ []) (rs ++ r ∷ []) ds number (f c).mailbox)
+      → Traced (es ++ e ∷ []) (rs ++ r ∷ []) record {
         base = w.base;
         history = w.history;
         rows = rows;
@@ -98,25 +64,14 @@ module _ (base : Tables) (clients : ℕ) (es : List Event) (rs : List Reply) (w 
         clients = renewed w.clients number f;
         dispatchers = ds;
       }
-  moved e r rows writer number f ds quiet new later mine apart here = record {
-    based = k.based;
+  moved e r rows writer number f ds quiet new later apart here = record {
     run = run_same w.base es rs w.history e r k.run quiet new;
-    keeps = record {
-      own =
-          each_renewed (λ n (c : ClientState). c.mine ≡ commits_of n w.history)
-          (λ n (c : ClientState). c.mine ≡ commits_of n w.history) w.clients number f k.keeps.own
-          (λ c at was. mine c ∙ was) (λ j c other at was. was);
-      named = k.keeps.named;
-      count = length-renewed w.clients number f ∙ k.keeps.count;
-    };
     mail =
-        each_renewed (λ n (c : ClientState). MailTraced w.base es rs w.history w.dispatchers n c.mailbox)
-        (λ n (c : ClientState). MailTraced w.base (es ++ e ∷ [])
-        (rs ++ r ∷ []) w.history ds n c.mailbox) w.clients number f k.mail
-        (λ c at was. here c at) (λ j c other at was. mail_same e r ds later j c.mailbox (apart j other) was);
-    marks =
-        λ n mark has. ⊎_elim (λ (was : Marks w.dispatchers n mark). k.marks n mark was)
-        (λ (same : mark ≡ length w.history). omega arith) (later n mark has);
+        each_renewed (λ n (c : ClientState). MailTraced es rs w.dispatchers n c.mailbox)
+        (λ n (c : ClientState). MailTraced (es ++ e ∷ [])
+        (rs ++ r ∷ []) ds n c.mailbox) w.clients number f k.mail
+        (λ c at was. here c at) (λ j c other at was. mail_on es rs even e r w.history k.run.no_others w.dispatchers ds later j c.mailbox
+        (apart j other) was);
   }
 
   -- nothing is done to a request
@@ -125,11 +80,9 @@ module _ (base : Tables) (clients : ℕ) (es : List Event) (rs : List Reply) (w 
       → is_committed r ≡ false
       → IsTrueReply w.base es rs w.history (length rs) e r
       → ((n mark : ℕ) → Marks ds n mark → (Marks w.dispatchers n mark) ⊎ (mark ≡ length w.history))
-      → ((c : ClientState) → (f c).mine ≡ c.mine)
       → ((c : ClientState) → (f c).mailbox ≡ c.mailbox)
       → ((c : ℕ) → IsOfRequest c e r → ⊥)
-      → Traced base clients (es ++ e ∷ [])
-      (rs ++ r ∷ []) record {
+      → Traced (es ++ e ∷ []) (rs ++ r ∷ []) record {
         base = w.base;
         history = w.history;
         rows = rows;
@@ -137,10 +90,11 @@ module _ (base : Tables) (clients : ℕ) (es : List Event) (rs : List Reply) (w 
         clients = renewed w.clients number f;
         dispatchers = ds;
       }
-  quieted e r rows writer number f ds quiet new later mine same apart =
-      moved e r rows writer number f ds quiet new later mine (λ c other. apart c)
-      (λ c at. subst (MailTraced w.base (es ++ e ∷ []) (rs ++ r ∷ []) w.history ds number) (sym (same c))
-      (mail_same e r ds later number c.mailbox (apart number) (k.mail number c at)))
+  quieted e r rows writer number f ds quiet new later same apart =
+      moved e r rows writer number f ds quiet new later (λ c other. apart c)
+      (λ c at. subst (MailTraced (es ++ e ∷ []) (rs ++ r ∷ []) ds number) (sym (same c))
+      (mail_on es rs even e r w.history k.run.no_others w.dispatchers ds later number c.mailbox (apart number)
+      (k.mail number c at)))
 
   not_enabled : (e : Event) (c : ℕ) → IsOfRequest c e NotEnabled → ⊥
   not_enabled (TakeRows who) c h = h
@@ -156,7 +110,7 @@ module _ (base : Tables) (clients : ℕ) (es : List Event) (rs : List Reply) (w 
 
   still : (e : Event) → Next e (w, NotEnabled)
   still e =
-      quieted e NotEnabled w.rows w.writer 0 (λ c. c) w.dispatchers refl tt (λ n m h. inl h) (λ c. refl) (λ c. refl)
+      quieted e NotEnabled w.rows w.writer 0 (λ c. c) w.dispatchers refl tt (λ n m h. inl h) (λ c. refl)
       (not_enabled e)
 
   sees_only : (number : ℕ) (n mark : ℕ)
@@ -168,75 +122,58 @@ module _ (base : Tables) (clients : ℕ) (es : List Event) (rs : List Reply) (w 
   takes : (who : Who) (known : Bool) (holder : Option Who) → Next (TakeRows who) (taking_rows w who known holder)
   takes (Client n) true None =
       quieted (TakeRows (Client n)) Done (Some (Client n)) w.writer n
-      (λ c. record c { seen = w.history }) w.dispatchers refl tt (λ _ _ h. inl h) (λ c. refl) (λ c. refl) (λ c h. h)
+      (λ c. record c { seen = w.history }) w.dispatchers refl tt (λ _ _ h. inl h) (λ c. refl) (λ c h. h)
   takes (Dispatcher n) true None =
       quieted (TakeRows (Dispatcher n)) Done (Some (Dispatcher n)) w.writer 0 (λ c. c)
-      (renewed w.dispatchers n (λ d. record d { seen = w.history })) refl tt (sees_only n) (λ c. refl) (λ c. refl)
+      (renewed w.dispatchers n (λ d. record d { seen = w.history })) refl tt (sees_only n) (λ c. refl)
       (λ c h. h)
   takes who true (Some holder) = still (TakeRows who)
   takes who false holder = still (TakeRows who)
 
-  committed : (number : ℕ) (actions : List Action) → is_there (numbered w.clients number) ≡ true
-      → refusal_of w.base w.history actions ≡ None
+  committed : (number : ℕ) (actions : List Action) → refusal_of w.base w.history actions ≡ None
       → Next (PutRows (Client number) (Some actions)) (committing w number actions None)
-  committed number actions known accepted = let commit : CommitRecord = commit_by number actions in
+  committed number actions accepted = let commit : CommitRecord = commit_by number actions in
       let e : Event = PutRows (Client number) (Some actions) in let r : Reply = Committed (length w.history + 1) in
       let now : List CommitRecord = w.history ++ commit ∷ [] in
       let f : ClientState → ClientState = λ c. record c { seen = now; mine = c.mine ++ commit ∷ [] } in
       let here : commits_before (rs ++ r ∷ []) (length rs) ≡ length w.history =
       before_front es rs even e r (length rs) (omega arith) ∙ sym k.run.no_others in
-      let range = known_range w.clients number known in let count = k.keeps.count in let low = range.0 in
-      let high = range.1 in record {
-        based = k.based;
+      record {
         run =
             run_on w.base es rs w.history e r (commit ∷ []) k.run
             (accepted_stays_legal w.base w.history commit k.run.legal accepted) refl
             (ap (λ n. n + 1) (sym here), (number, actions, refl, ap (slice_get now) here ∙ at_last w.history commit));
-        keeps = record {
-          own =
-              each_renewed (λ n (c : ClientState). c.mine ≡ commits_of n w.history)
-              (λ n (c : ClientState). c.mine ≡ commits_of n now) w.clients number f k.keeps.own
-              (λ c at was. ap (λ l. l ++ commit ∷ []) was ∙ sym (own_push number w.history commit refl))
-              (λ j c other at was. was ∙ sym (others_push j w.history commit (λ h. other (sym h))));
-          named = named_push clients w.history commit k.keeps.named (omega arith, omega arith);
-          count = length-renewed w.clients number f ∙ k.keeps.count;
-        };
         mail =
-            each_renewed (λ n (c : ClientState). MailTraced w.base es rs w.history w.dispatchers n c.mailbox)
-            (λ n (c : ClientState). MailTraced w.base (es ++ e ∷ [])
-            (rs ++ r ∷ []) now w.dispatchers n c.mailbox) w.clients number f k.mail
-            (λ c at was. mail_on w.base es rs even e r w.history
-            (commit ∷ []) k.run.no_others w.dispatchers w.dispatchers (λ _ _ h. inl h) number c.mailbox
+            each_renewed (λ n (c : ClientState). MailTraced es rs w.dispatchers n c.mailbox)
+            (λ n (c : ClientState). MailTraced (es ++ e ∷ [])
+            (rs ++ r ∷ []) w.dispatchers n c.mailbox) w.clients number f k.mail
+            (λ c at was. mail_on es rs even e r w.history k.run.no_others w.dispatchers w.dispatchers (λ _ _ h. inl h) number c.mailbox
             (λ h. h) was)
-            (λ j c other at was. mail_on w.base es rs even e r w.history
-            (commit ∷ []) k.run.no_others w.dispatchers w.dispatchers (λ _ _ h. inl h) j c.mailbox (λ h. h) was);
-        marks = λ n mark has. let h = k.marks n mark has in
-            let long = length-append w.history (commit ∷ []) in omega arith;
+            (λ j c other at was. mail_on es rs even e r w.history k.run.no_others w.dispatchers w.dispatchers (λ _ _ h. inl h) j c.mailbox (λ h. h) was);
       }
 
-  commits : (number : ℕ) (actions : List Action) → is_there (numbered w.clients number) ≡ true
-      → (found : Option Refusal) → refusal_of w.base w.history actions ≡ found
+  commits : (number : ℕ) (actions : List Action) → (found : Option Refusal) → refusal_of w.base w.history actions ≡ found
       → Next (PutRows (Client number) (Some actions)) (committing w number actions found)
-  commits number actions known None e = committed number actions known e
-  commits number actions known (Some refusal) e = let whole : take (length w.history) w.history ≡ w.history =
+  commits number actions None e = committed number actions e
+  commits number actions (Some refusal) e = let whole : take (length w.history) w.history ≡ w.history =
       ap (take (length w.history)) (sym (append-nil w.history)) ∙ take-append_seam w.history [] in
       quieted (PutRows (Client number) (Some actions))
       (Refused (length w.history) refusal.action refusal.cause) None w.writer number
       (λ c. record c { seen = w.history }) w.dispatchers refl
       (k.run.no_others, (number, actions, refl, ap (λ l. refusal_of w.base l actions) whole ∙ e)) (λ _ _ h. inl h)
-      (λ c. refl) (λ c. refl) (λ c h. h)
+      (λ c. refl) (λ c h. h)
 
-  puts : (who : Who) (refresh : Option (List Action)) (known holds : Bool) → is_known w who ≡ known
+  puts : (who : Who) (refresh : Option (List Action)) (known holds : Bool)
       → Next (PutRows who refresh) (putting_rows w who refresh known holds)
-  puts (Client n) None true true is =
+  puts (Client n) None true true =
       quieted (PutRows (Client n) None) Done None w.writer n (λ c. record c { seen = w.history }) w.dispatchers refl tt
-      (λ _ _ h. inl h) (λ c. refl) (λ c. refl) (λ c h. h)
-  puts (Client n) None true false is = still (PutRows (Client n) None)
-  puts (Client n) None false holds is = still (PutRows (Client n) None)
-  puts (Client n) (Some actions) true true is = commits n actions is (refusal_of w.base w.history actions) refl
-  puts (Client n) (Some actions) true false is = still (PutRows (Client n) (Some actions))
-  puts (Client n) (Some actions) false holds is = still (PutRows (Client n) (Some actions))
-  puts (Dispatcher n) None true true is =
+      (λ _ _ h. inl h) (λ c. refl) (λ c h. h)
+  puts (Client n) None true false = still (PutRows (Client n) None)
+  puts (Client n) None false holds = still (PutRows (Client n) None)
+  puts (Client n) (Some actions) true true = commits n actions (refusal_of w.base w.history actions) refl
+  puts (Client n) (Some actions) true false = still (PutRows (Client n) (Some actions))
+  puts (Client n) (Some actions) false holds = still (PutRows (Client n) (Some actions))
+  puts (Dispatcher n) None true true =
       quieted (PutRows (Dispatcher n) None) Done None w.writer 0 (λ c. c)
       (renewed w.dispatchers n (λ d. record d { seen = w.history; mark = Some (length w.history) })) refl tt
       (marks_renewed w.dispatchers n (λ d. record d { seen = w.history; mark = Some (length w.history) })
@@ -244,20 +181,19 @@ module _ (base : Tables) (clients : ℕ) (es : List Event) (rs : List Reply) (w 
       (λ x m has. ⊎_elim
       (λ (e : Some (length w.history) ≡ Some m). let same : length w.history ≡ m = cc e in inr (sym same))
       (λ (e : x.version ≡ Some m). inl (inr e)) has))
-      (λ c. refl) (λ c. refl) (λ c h. h)
-  puts (Dispatcher n) None true false is = still (PutRows (Dispatcher n) None)
-  puts (Dispatcher n) None false holds is = still (PutRows (Dispatcher n) None)
-  puts (Dispatcher n) (Some actions) known holds is = still (PutRows (Dispatcher n) (Some actions))
+      (λ c. refl) (λ c h. h)
+  puts (Dispatcher n) None true false = still (PutRows (Dispatcher n) None)
+  puts (Dispatcher n) None false holds = still (PutRows (Dispatcher n) None)
+  puts (Dispatcher n) (Some actions) known holds = still (PutRows (Dispatcher n) (Some actions))
 
   looks : (who : Who) (known : Bool) → Next (Look who) (looking w who known)
   looks (Client n) true =
       quieted (Look (Client n)) (Length (length w.history)) w.rows w.writer n
-      (λ c. record c { seen = w.history }) w.dispatchers refl k.run.no_others (λ _ _ h. inl h) (λ c. refl) (λ c. refl)
+      (λ c. record c { seen = w.history }) w.dispatchers refl k.run.no_others (λ _ _ h. inl h) (λ c. refl)
       (λ c h. h)
   looks (Dispatcher n) true =
       quieted (Look (Dispatcher n)) (Length (length w.history)) w.rows w.writer 0 (λ c. c)
-      (renewed w.dispatchers n (λ d. record d { seen = w.history })) refl k.run.no_others (sees_only n) (λ c. refl)
-      (λ c. refl) (λ c h. h)
+      (renewed w.dispatchers n (λ d. record d { seen = w.history })) refl k.run.no_others (sees_only n) (λ c. refl) (λ c h. h)
   looks who false = still (Look who)
 
   takes_writer : (n : ℕ) (known : Bool) (holder : Option ℕ) → Next (TakeWriter n) (taking_writer w n known holder)
@@ -265,7 +201,7 @@ module _ (base : Tables) (clients : ℕ) (es : List Event) (rs : List Reply) (w 
       quieted (TakeWriter n) Done w.rows (Some n) 0 (λ c. c) (renewed w.dispatchers n unmarked) refl tt
       (marks_renewed w.dispatchers n unmarked (length w.history)
       (λ x m has. ⊎_elim (λ (e : None ≡ Some m). absurd (cc e)) (λ (e : None ≡ Some m). absurd (cc e)) has))
-      (λ c. refl) (λ c. refl) (λ c h. h)
+      (λ c. refl) (λ c h. h)
   takes_writer n true (Some holder) = still (TakeWriter n)
   takes_writer n false holder = still (TakeWriter n)
 
@@ -275,16 +211,16 @@ module _ (base : Tables) (clients : ℕ) (es : List Event) (rs : List Reply) (w 
       (renewed w.dispatchers n (λ d. record d { version = d.mark })) refl tt
       (marks_renewed w.dispatchers n (λ d. record d { version = d.mark }) (length w.history)
       (λ x m has. ⊎_elim (λ (e : x.mark ≡ Some m). inl (inl e)) (λ (e : x.mark ≡ Some m). inl (inl e)) has))
-      (λ c. refl) (λ c. refl) (λ c h. h)
+      (λ c. refl) (λ c h. h)
   puts_writer n true false = still (PutWriter n)
   puts_writer n false holds = still (PutWriter n)
 
   -- what the client's mailbox tells
   told : (client : ℕ) (o : Option ClientState) (box : Mailbox) → numbered w.clients client ≡ o
-      → mailbox_of o ≡ Some box → MailTraced w.base es rs w.history w.dispatchers client box
+      → mailbox_of o ≡ Some box → MailTraced es rs w.dispatchers client box
   told client None box at e = absurd (some_ne_none box (sym e))
   told client (Some c) box at e =
-      subst (MailTraced w.base es rs w.history w.dispatchers client) (some_injective c.mailbox box e)
+      subst (MailTraced es rs w.dispatchers client) (some_injective c.mailbox box e)
       (k.mail client c at)
 
   apart_from : (client c : ℕ) → c ≢ client → client ≡ c → ⊥
@@ -294,7 +230,7 @@ module _ (base : Tables) (clients : ℕ) (es : List Event) (rs : List Reply) (w 
       → Next (Post client question) (posting w client question o)
   posts client question (Some empty) is =
       moved (Post client question) Done w.rows w.writer client
-      (λ c. record c { mailbox = asked question (length c.seen) }) w.dispatchers refl tt (λ _ _ h. inl h) (λ c. refl)
+      (λ c. record c { mailbox = asked question (length c.seen) }) w.dispatchers refl tt (λ _ _ h. inl h)
       (apart_from client)
       (λ c at. posted_now es rs even (Post client question) Done client question refl refl)
   posts client question (Some (asked q floor)) is = still (Post client question)
@@ -310,7 +246,7 @@ module _ (base : Tables) (clients : ℕ) (es : List Event) (rs : List Reply) (w 
       (λ c. record c { mailbox = in_hand n question floor }) (renewed w.dispatchers n unmarked) refl tt
       (marks_renewed w.dispatchers n unmarked (length w.history)
       (λ x m has. ⊎_elim (λ (e : None ≡ Some m). absurd (cc e)) (λ (e : None ≡ Some m). absurd (cc e)) has))
-      (λ c. refl) (apart_from client)
+      (apart_from client)
       (λ c at. (
         outstanding_grabbed es rs even (Grab n client) (Asks question) client n question refl refl
             (told client (numbered w.clients client) (asked question floor) refl is),
@@ -344,18 +280,16 @@ module _ (base : Tables) (clients : ℕ) (es : List Event) (rs : List Reply) (w 
           let t = told client (numbered w.clients client) (in_hand holder question floor) refl is in
           let has = version_marks n at (numbered w.dispatchers n) refl marked in
           let low = t.1 at (subst (λ i. Marks w.dispatchers i at) (sym mine) has) in
-          let high = k.marks n at has in let early = t.0.grabbed_before in
+          let high = high_marks n at has in let early = t.0.grabbed_before in
           let front = before_front es rs even (Answer n client) Done t.0.grabbed (omega arith) in
           rw same
           (moved (Answer n client) Done w.rows w.writer client
           (λ c. record c { mailbox = answered question at (rows_after w.base question (take at w.history)) })
-          (renewed w.dispatchers n (gave client floor (served at))) refl tt
-          (gave_marks n client floor (served at)) (λ c. refl) (λ c other h. h)
+          (renewed w.dispatchers n (gave client floor (Served at))) refl tt
+          (gave_marks n client floor (Served at)) (λ c other h. h)
           (λ c there. (
             outstanding_on es rs even (Answer n client) Done client question (λ h. h) t.0,
             omega arith,
-            omega arith,
-            refl,
           )))
       go false apart = rw apart (still (Answer n client))
   answers n client (Some at) (Some empty) marked is = still (Answer n client)
@@ -375,8 +309,8 @@ module _ (base : Tables) (clients : ℕ) (es : List Event) (rs : List Reply) (w 
           rw same
           (moved (GiveUp n client cause) Done w.rows w.writer client
           (λ c. record c { mailbox = unserved question cause })
-          (renewed w.dispatchers n (gave client floor (failed cause))) refl tt
-          (gave_marks n client floor (failed cause)) (λ c. refl) (λ c other h. h)
+          (renewed w.dispatchers n (gave client floor (GivenUp cause))) refl tt
+          (gave_marks n client floor (GivenUp cause)) (λ c other h. h)
           (λ c there. outstanding_on es rs even (GiveUp n client cause) Done client question (λ h. h) t.0))
       go false apart = rw apart (still (GiveUp n client cause))
   gives_up n client cause true (Some empty) is = still (GiveUp n client cause)
@@ -390,14 +324,15 @@ module _ (base : Tables) (clients : ℕ) (es : List Event) (rs : List Reply) (w 
       → Next (Collect client) (collecting w client o)
   collects client (Some (answered question at rows)) is =
       let t = told client (numbered w.clients client) (answered question at rows) refl is in
-      let counted = k.run.no_others in let high = t.2 in
+      let right = mail_kept base clients w kept client (numbered w.clients client) (answered question at rows) refl is in
+      let counted = k.run.no_others in let high = right.0 in
       moved (Collect client) (Rows question at rows) w.rows w.writer client
-      (λ c. record c { mailbox = empty }) w.dispatchers refl (client, refl, t.0, t.1, omega arith, t.3)
-      (λ _ _ h. inl h) (λ c. refl) (apart_from client) (λ c there. tt)
+      (λ c. record c { mailbox = empty }) w.dispatchers refl (client, refl, t.0, t.1, omega arith, right.1)
+      (λ _ _ h. inl h) (apart_from client) (λ c there. tt)
   collects client (Some (unserved question cause)) is =
       let t = told client (numbered w.clients client) (unserved question cause) refl is in
       moved (Collect client) (Unserved question cause) w.rows w.writer client
-      (λ c. record c { mailbox = empty }) w.dispatchers refl (client, refl, t) (λ _ _ h. inl h) (λ c. refl)
+      (λ c. record c { mailbox = empty }) w.dispatchers refl (client, refl, t) (λ _ _ h. inl h)
       (apart_from client) (λ c there. tt)
   collects client (Some empty) is = still (Collect client)
   collects client (Some (asked q floor)) is = still (Collect client)
@@ -406,7 +341,7 @@ module _ (base : Tables) (clients : ℕ) (es : List Event) (rs : List Reply) (w 
 
   pub step_traced : (e : Event) → Next e (step_of w e)
   step_traced (TakeRows who) = takes who (is_known w who) w.rows
-  step_traced (PutRows who refresh) = puts who refresh (is_known w who) (holds_rows w.rows who) refl
+  step_traced (PutRows who refresh) = puts who refresh (is_known w who) (holds_rows w.rows who)
   step_traced (Look who) = looks who (is_known w who)
   step_traced (Post client question) = posts client question (mailbox_of (numbered w.clients client)) refl
   step_traced (Grab n client) = grabs n client (is_known w (Dispatcher n)) (mailbox_of (numbered w.clients client)) refl
@@ -420,45 +355,36 @@ module _ (base : Tables) (clients : ℕ) (es : List Event) (rs : List Reply) (w 
 
 -- and so does any list of events
 pub run_traced : (base : Tables) (clients : ℕ) (events : List Event) (es : List Event) (rs : List Reply) (w : World)
-    → Traced base clients es rs w → Traced base clients (es ++ events) (rs ++ (run_of w events).0) (run_of w events).1
-run_traced base clients [] es rs w k =
-    subst (λ (l : List Event × List Reply). Traced base clients l.0 l.1 w)
+    → WorldKept base clients w → Traced es rs w → Traced (es ++ events) (rs ++ (run_of w events).0) (run_of w events).1
+run_traced base clients [] es rs w kept k =
+    subst (λ (l : List Event × List Reply). Traced l.0 l.1 w)
     (λ i. (sym (append-nil es) i, sym (append-nil rs) i)) k
-run_traced base clients (e ∷ events) es rs w k = let next = step_of w e in
-    subst (λ (l : List Event × List Reply). Traced base clients l.0 l.1 (run_of w (e ∷ events)).1)
+run_traced base clients (e ∷ events) es rs w kept k = let next = step_of w e in
+    subst (λ (l : List Event × List Reply). Traced l.0 l.1 (run_of w (e ∷ events)).1)
     (λ i. (append_assoc es (e ∷ []) events i, append_assoc rs (next.1 ∷ []) (run_of next.0 events).0 i))
-    (run_traced base clients events (es ++ e ∷ []) (rs ++ next.1 ∷ []) next.0 (step_traced base clients es rs w k e))
+    (run_traced base clients events (es ++ e ∷ []) (rs ++ next.1 ∷ []) next.0 (step_kept base clients w kept e)
+    (step_traced base clients es rs w kept k e))
 
-opening_traced : (base : Tables) (clients dispatchers : ℕ)
-    → Traced base clients [] [] (opening_world base clients dispatchers)
+opening_traced : (base : Tables) (clients dispatchers : ℕ) → Traced [] [] (opening_world base clients dispatchers)
 opening_traced base clients dispatchers = record {
-  based = refl;
   run = record {
     replied = refl;
     legal = record { accepted = λ number commit at. absurd (some_ne_none commit (sym at)) };
     no_others = refl;
     true_replies = λ place e r happens. absurd (some_ne_none r (sym happens.1));
   };
-  keeps = record {
-    own = λ number c at. subst (λ (x : ClientState). x.mine ≡ []) (numbered_copies clients number _ c at) refl;
-    named = record { named = λ number commit at. absurd (some_ne_none commit (sym at)) };
-    count = length-copies clients _;
-  };
   mail =
       λ client c at. subst
-      (λ (x : ClientState). MailTraced base [] [] []
+      (λ (x : ClientState). MailTraced [] []
       (opening_world base clients dispatchers).dispatchers client x.mailbox) (numbered_copies clients client _ c at) tt;
-  marks =
-      λ number mark has. absurd
-      (subst (λ (x : DispatcherState). HasMark x mark → ⊥) (numbered_copies dispatchers number _ has.0 has.1)
-      (λ h. ⊎_elim (λ (e : None ≡ Some mark). cc e) (λ (e : None ≡ Some mark). cc e) h) has.2);
 }
 
 pub every_run : EveryRunIsTrue
 every_run base clients dispatchers events =
     let last : World = (run_of (opening_world base clients dispatchers) events).1 in
     let replies : List Reply = (run_of (opening_world base clients dispatchers) events).0 in
-    let k : Traced base clients events replies last =
+    let kept : WorldKept base clients last = every_world base clients dispatchers events in
+    let k : Traced events replies last =
     run_traced base clients events [] [] (opening_world base clients dispatchers)
-    (opening_traced base clients dispatchers) in
-    (subst (λ b. IsTrueRun b events replies last.history) k.based k.run, k.keeps)
+    (opening_kept base clients dispatchers) (opening_traced base clients dispatchers) in
+    (subst (λ b. IsTrueRun b events replies last.history) kept.based k.run, kept.own)

@@ -16,17 +16,10 @@ use Rattle.history_core.specs.Events.{Question, Event, Post, Grab}
 use Rattle.history_core.specs.Numbered.{numbered}
 use Rattle.history_core.specs.World.{World, ClientState, DispatcherState, Mailbox, empty}
 use Rattle.history_core.specs.World.{asked, in_hand, answered, unserved, rows_after}
-use Rattle.history_core.specs.OwnCommits.{OwnCommits}
+use Rattle.history_core.specs.Kept.{Marks}
 use Rattle.history_core.specs.TrueRun.{Happens, is_committed, commits_before}
 use Rattle.history_core.specs.TrueRun.{IsOfRequest, Outstanding, IsTrueReply, IsTrueRun}
 use Rattle.history_core.proofs.HistoryLaws.{at_front, at_last, at_end, in_range, filter_take}
-
--- a dispatcher has this mark or version
-abbrev pub HasMark : DispatcherState → ℕ → Type 0
-HasMark d mark = (d.mark ≡ Some mark) ⊎ (d.version ≡ Some mark)
-
-abbrev pub Marks : List DispatcherState → ℕ → ℕ → Type 0
-Marks dispatchers number mark = (d : DispatcherState) × (numbered dispatchers number ≡ Some d) × HasMark d mark
 
 -- the client posted this question, and nothing was done to a request of it since
 abbrev pub Posted : List Event → List Reply → ℕ → Question → Type 0
@@ -36,25 +29,21 @@ Posted es rs client question =
     → IsOfRequest client event reply → ⊥)
 
 -- what a mailbox tells of the run so far
-abbrev pub MailTraced : Tables → List Event → List Reply → List CommitRecord → List DispatcherState → ℕ → Mailbox
-    → Type 0
-MailTraced base es rs history ds client empty = Unit {0}
-MailTraced base es rs history ds client (asked question floor) = Posted es rs client question
-MailTraced base es rs history ds client (in_hand holder question floor) =
+abbrev pub MailTraced : List Event → List Reply → List DispatcherState → ℕ → Mailbox → Type 0
+MailTraced es rs ds client empty = Unit {0}
+MailTraced es rs ds client (asked question floor) = Posted es rs client question
+MailTraced es rs ds client (in_hand holder question floor) =
     (request : Outstanding es rs client question (length rs))
     × ((mark : ℕ) → Marks ds holder mark → commits_before rs request.grabbed ≤ mark)
-MailTraced base es rs history ds client (answered question at rows) =
+MailTraced es rs ds client (answered question at rows) =
     (request : Outstanding es rs client question (length rs)) × (commits_before rs request.grabbed ≤ at)
-    × (at ≤ length history) × (rows ≡ rows_after base question (take at history))
-MailTraced base es rs history ds client (unserved question cause) = Outstanding es rs client question (length rs)
+MailTraced es rs ds client (unserved question cause) = Outstanding es rs client question (length rs)
 
-pub record Traced (base : Tables) (clients : ℕ) (es : List Event) (rs : List Reply) (w : World) : Type 0 where
-  pub based : w.base ≡ base
+-- a run so far, and what the mailboxes tell of it
+pub record Traced (es : List Event) (rs : List Reply) (w : World) : Type 0 where
   pub run : IsTrueRun w.base es rs w.history
-  pub keeps : OwnCommits clients w
   pub mail : (client : ℕ) (c : ClientState) → numbered w.clients client ≡ Some c
-      → MailTraced w.base es rs w.history w.dispatchers client c.mailbox
-  pub marks : (number mark : ℕ) → Marks w.dispatchers number mark → mark ≤ length w.history
+      → MailTraced es rs w.dispatchers client c.mailbox
 
 -- a run with one event more
 module _ (es : List Event) (rs : List Reply) (even : length rs ≡ length es) (e : Event) (r : Reply) where
@@ -266,31 +255,24 @@ run_same base es rs history e r k quiet new =
 
 -- a mailbox tells the same after an event that does nothing to its request, where marks are as before or as high as the
 -- history was long
-pub mail_on : (base : Tables) (es : List Event) (rs : List Reply) (even : length rs ≡ length es) (e : Event)
-    (r : Reply) (history more : List CommitRecord) → length history ≡ commits_before rs (length rs)
+pub mail_on : (es : List Event) (rs : List Reply) (even : length rs ≡ length es) (e : Event)
+    (r : Reply) (history : List CommitRecord) → length history ≡ commits_before rs (length rs)
     → (ds after : List DispatcherState)
     → ((number mark : ℕ) → Marks after number mark → (Marks ds number mark) ⊎ (mark ≡ length history))
-    → (client : ℕ) (box : Mailbox) → (IsOfRequest client e r → ⊥)
-    → MailTraced base es rs history ds client box
-    → MailTraced base (es ++ e ∷ []) (rs ++ r ∷ []) (history ++ more) after client box
-mail_on base es rs even e r history more counted ds after marks client empty apart t = tt
-mail_on base es rs even e r history more counted ds after marks client (asked question floor) apart t =
+    → (client : ℕ) (box : Mailbox) → (IsOfRequest client e r → ⊥) → MailTraced es rs ds client box
+    → MailTraced (es ++ e ∷ []) (rs ++ r ∷ []) after client box
+mail_on es rs even e r history counted ds after marks client empty apart t = tt
+mail_on es rs even e r history counted ds after marks client (asked question floor) apart t =
     posted_on es rs even e r client question apart t
-mail_on base es rs even e r history more counted ds after marks client (in_hand holder question floor) apart t =
+mail_on es rs even e r history counted ds after marks client (in_hand holder question floor) apart t =
     let early = t.0.grabbed_before in let same = before_front es rs even e r t.0.grabbed (omega arith) in
     let most = before_most rs t.0.grabbed in (
       outstanding_on es rs even e r client question apart t.0,
       λ mark has. ⊎_elim (λ (was : Marks ds holder mark). let h = t.1 mark was in omega arith)
           (λ (new : mark ≡ length history). omega arith) (marks holder mark has),
     )
-mail_on base es rs even e r history more counted ds after marks client (answered question at rows) apart t =
+mail_on es rs even e r history counted ds after marks client (answered question at rows) apart t =
     let early = t.0.grabbed_before in let same = before_front es rs even e r t.0.grabbed (omega arith) in
-    let floor = t.1 in let high = t.2 in let both = length-append history more in (
-      outstanding_on es rs even e r client question apart t.0,
-      omega arith,
-      omega arith,
-      t.3
-          ∙ ap (rows_after base question) (sym (front_taken history more at high)),
-    )
-mail_on base es rs even e r history more counted ds after marks client (unserved question cause) apart t =
+    let floor = t.1 in (outstanding_on es rs even e r client question apart t.0, omega arith)
+mail_on es rs even e r history counted ds after marks client (unserved question cause) apart t =
     outstanding_on es rs even e r client question apart t

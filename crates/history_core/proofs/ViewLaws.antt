@@ -1,6 +1,6 @@
 -- The world that the fields show after one part of them changed.
 use Rattle.std.proofs.Common.{◌≡◌, ℕ, ◌≤◌, List, [], ◌∷◌, ◌++◌, length, take, Option, Some, None, refl, ap, sym, ◌∙◌}
-use Rattle.std.proofs.lemmas.List.{append-nil, map-append}
+use Rattle.std.proofs.lemmas.List.{append-nil}
 use Rattle.std.proofs.Math.Seq.{take-append_seam}
 use Rattle.std.specs.Prelude.{map, IfSome}
 use Rattle.std.specs.Option.{option_map}
@@ -15,7 +15,7 @@ use Rattle.history_core.specs.World.{gave, mailbox_of}
 use Rattle.history_core.specs.MailboxView.{mailbox_in, left_by}
 use Rattle.history_core.specs.Mailboxes.{left_in}
 use Rattle.history_core.specs.OwnCommits.{commits_of}
-use Rattle.history_core.specs.View.{outcome_of, given_of, client_in, dispatcher_in}
+use Rattle.history_core.specs.View.{client_in, dispatcher_in}
 use Rattle.history_core.specs.View.{IsWithin, ClientsFit, DispatchersFit}
 use Rattle.history_core.proofs.HistoryLaws.{each_renewed}
 use Rattle.history_core.proofs.RenewalLaws.{renewed_map, numbered_map}
@@ -103,14 +103,8 @@ module _ (history : List CommitRecord) where
   pub dispatcher_gave : (dispatchers : List Dispatcher) (number : ℕ) (given : Gave)
       → map (dispatcher_in history) (renewed dispatchers number (λ d. record d { given = d.given ++ given ∷ [] }))
       ≡ renewed (map (dispatcher_in history) dispatchers) number
-      (gave given.client given.floor (outcome_of given.outcome))
-  dispatcher_gave dispatchers number given = renewed_map (dispatcher_in history) dispatchers number _ _
-      (λ d i. record {
-        seen = take d.seen history;
-        mark = d.mark;
-        version = d.version;
-        given = map-append given_of d.given (given ∷ []) i;
-      })
+      (gave given.client given.floor given.outcome)
+  dispatcher_gave dispatchers number given = renewed_map (dispatcher_in history) dispatchers number _ _ (λ d. refl)
 
 pub within_some : (o : Option ℕ) (n : ℕ) → IsWithin o n → IfSome o (λ at. at ≤ n)
 within_some None n h = tt

@@ -3,10 +3,13 @@ use Rattle.std.specs.Prelude.{◌≡◌, ◌⊎◌, ℕ, ◌≤◌, All, List, l
 use Rattle.ssb_base.specs.Base.{Tables}
 use Rattle.row_store.specs.History.{CommitRecord, IsPrefix}
 use Rattle.row_store.specs.Legal.{IsLegal}
+use Rattle.history_core.specs.declared.dispatcher.Given.{Given}
+use Rattle.history_core.specs.declared.dispatcher.Outcome.{Outcome}
+use Rattle.history_core.specs.declared.dispatcher.Outcome.TheVariants.{Served, GivenUp}
 use Rattle.history_core.specs.Events.{Event}
 use Rattle.history_core.specs.Numbered.{numbered}
 use Rattle.history_core.specs.World.{World, ClientState, DispatcherState, Mailbox, empty, asked, in_hand, answered}
-use Rattle.history_core.specs.World.{unserved, Outcome, served, failed, Given, rows_after, opening_world, step_of}
+use Rattle.history_core.specs.World.{unserved, rows_after, opening_world, step_of}
 use Rattle.history_core.specs.World.{run_of}
 use Rattle.history_core.specs.OwnCommits.{OwnCommits, commits_of}
 
@@ -29,8 +32,8 @@ MailKept base history dispatchers (answered question at rows) =
 MailKept base history dispatchers (unserved question cause) = Unit {0}
 
 abbrev pub OutcomeKept : List CommitRecord → ℕ → Outcome → Type 0
-OutcomeKept history floor (served at) = (floor ≤ at) × (at ≤ length history)
-OutcomeKept history floor (failed cause) = Unit {0}
+OutcomeKept history floor (Served at) = (floor ≤ at) × (at ≤ length history)
+OutcomeKept history floor (GivenUp cause) = Unit {0}
 
 abbrev pub GivenKept : List CommitRecord → Given → Type 0
 GivenKept history given = OutcomeKept history given.floor given.outcome

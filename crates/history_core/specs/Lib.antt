@@ -4,6 +4,8 @@ pub mod World
 pub mod OwnCommits
 pub mod TrueRun
 pub mod Runs
+pub mod Deeds
+pub mod Parts
 pub mod MailboxView
 pub mod Fresh
 pub mod Mailboxes

@@ -2,22 +2,12 @@
 use Rattle.std.specs.Prelude.{◌≡◌, ℕ, ◌≤◌, List, length, take, map, Option, Some, None}
 use Rattle.row_store.specs.History.{CommitRecord}
 use Rattle.history_core.specs.declared.client.Client.{Client}
-use Rattle.history_core.specs.declared.dispatcher.Outcome.{Outcome as Became}
-use Rattle.history_core.specs.declared.dispatcher.Outcome.TheVariants as became
-use Rattle.history_core.specs.declared.dispatcher.Given.{Given as Gave}
 use Rattle.history_core.specs.declared.dispatcher.Dispatcher.{Dispatcher}
 use Rattle.history_core.specs.declared.world.World.TheInside.{Inside}
 use Rattle.history_core.specs.Numbered.{numbered}
 use Rattle.history_core.specs.MailboxView.{mailbox_in}
-use Rattle.history_core.specs.World.{World, ClientState, DispatcherState, Outcome, served, failed, Given}
+use Rattle.history_core.specs.World.{World, ClientState, DispatcherState}
 use Rattle.history_core.specs.OwnCommits.{commits_of}
-
-abbrev pub outcome_of : Became → Outcome
-outcome_of (became.Served at) = served at
-outcome_of (became.Failed cause) = failed cause
-
-abbrev pub given_of : Gave → Given
-given_of given = record { client = given.client; floor = given.floor; outcome = outcome_of given.outcome }
 
 -- what a client has seen are the first commits, what it made are those with its number
 abbrev pub client_in : List CommitRecord → Client → ClientState
@@ -32,7 +22,7 @@ dispatcher_in history dispatcher = record {
   seen = take dispatcher.seen history;
   mark = dispatcher.mark;
   version = dispatcher.version;
-  given = map given_of dispatcher.given;
+  given = dispatcher.given;
 }
 
 abbrev pub world_in : Inside → World

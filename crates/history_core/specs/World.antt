@@ -10,6 +10,9 @@ use Rattle.ssb_answers.specs.Answer.{answer_of}
 use Rattle.row_store.specs.History.{CommitRecord, lines_after}
 use Rattle.row_store.specs.Refusals.{refusal_of}
 use Rattle.row_store.specs.declared.refusal.Refusal.{Refusal}
+use Rattle.history_core.specs.declared.dispatcher.Given.{Given}
+use Rattle.history_core.specs.declared.dispatcher.Outcome.{Outcome}
+use Rattle.history_core.specs.declared.dispatcher.Outcome.TheVariants.{Served, GivenUp}
 use Rattle.history_core.specs.declared.event.Who.{Who}
 use Rattle.history_core.specs.declared.event.Who.TheVariants.{Client, Dispatcher}
 use Rattle.history_core.specs.declared.event.Reply.{Reply}
@@ -28,17 +31,6 @@ pub data Mailbox : Type 0 where
   -- the question, the number of commits that the rows are after, and the rows
   answered : Question → ℕ → List ResultRow → Mailbox
   unserved : Question → Cause → Mailbox
-
--- what became of a request: rows after so many commits, or none for a cause
-pub data Outcome : Type 0 where
-  served : ℕ → Outcome
-  failed : Cause → Outcome
-
--- an answer that a dispatcher gave
-pub record Given : Type 0 where
-  pub client : ℕ
-  pub floor : ℕ
-  pub outcome : Outcome
 
 -- `mine` are the commits that the client made
 pub record ClientState : Type 0 where
@@ -181,7 +173,7 @@ abbrev pub answering : World → ℕ → ℕ → Option ℕ → Option Mailbox �
 answering w number client (Some at) (Some (in_hand holder question floor)) =
     let box = answered question at (rows_after w.base question (take at w.history)) in
     if holder == number then
-    (with_dispatcher (into_mailbox w client box) number (gave client floor (served at)), Done)
+    (with_dispatcher (into_mailbox w client box) number (gave client floor (Served at)), Done)
     else (w, NotEnabled)
 answering w number client version other = (w, NotEnabled)
 
@@ -189,7 +181,7 @@ abbrev pub giving_up : World → ℕ → ℕ → Cause → Bool → Option Mailb
 giving_up w number client cause true (Some (in_hand holder question floor)) =
     let box = unserved question cause in
     if holder == number then
-    (with_dispatcher (into_mailbox w client box) number (gave client floor (failed cause)), Done)
+    (with_dispatcher (into_mailbox w client box) number (gave client floor (GivenUp cause)), Done)
     else (w, NotEnabled)
 giving_up w number client cause known other = (w, NotEnabled)
 

@@ -10,16 +10,16 @@ use std::alloc::{AllocError, Global};
 use std::marker::Model;
 
 /// What became of a request.
-#[derive(Clone, Copy)]
+#[derive(Clone, Copy, Debug, PartialEq, Eq)]
 pub enum Outcome {
     /// Rows after so many commits.
     Served(u64),
     /// No rows, for this cause.
-    Failed(Unserved),
+    GivenUp(Unserved),
 }
 
-/// An answer that a dispatcher gave, with the floor of the request.
-#[derive(Clone, Copy)]
+/// An answer that a dispatcher gave, to a client's request with this floor.
+#[derive(Clone, Copy, Debug, PartialEq, Eq)]
 pub struct Given {
     pub client: u32,
     pub floor: u64,

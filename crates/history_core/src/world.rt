@@ -10,7 +10,6 @@ ghost use Rattle.history_core.specs.Mailboxes.{floor_of, asked_of, held_of, left
 ghost use Rattle.history_core.specs.MailboxView.{mailbox_in};
 ghost use Rattle.history_core.specs.Numbered.{numbered};
 ghost use Rattle.history_core.specs.Runs.{HasRun, IsTrueFromOpening};
-ghost use Rattle.history_core.specs.View.{outcome_of};
 ghost use Rattle.history_core.specs.World.{opening_world, rows_after, is_known, is_same, holds_rows};
 ghost use Rattle.history_core.specs.World.{holds_writer, mailbox_of, version_of, with_client};
 ghost use Rattle.history_core.specs.World.{with_dispatcher, seen_by, into_mailbox, unmarked, gave, step_of};
@@ -327,7 +326,7 @@ impl World {
         let given = Given {
             client,
             floor,
-            outcome: Outcome::Failed(cause),
+            outcome: Outcome::GivenUp(cause),
         };
         self.give(number, given)?;
         self.put(client, Mailbox::Unserved { question, cause });
@@ -405,7 +404,7 @@ impl World {
     // The dispatcher gave one answer more.
     fn give(&mut self, number: u32, given: Given) -> Result<(), AllocError>
         ensures gave { OnOk result (self.new ≡ with_dispatcher self.old number
-            (gave given.client given.floor (outcome_of given.outcome))) }
+            (gave given.client given.floor given.outcome)) }
         ensures unchanged { OnErr result (self.new ≡ self.old) }
     {
         self.dispatchers.give(number, given)?;

@@ -2,7 +2,7 @@
 use Rattle.std.proofs.Common.{◌≡◌, ℕ, List, [], ◌∷◌, Option, None, Some, Result, Ok, Err, refl, subst, sym}
 use Rattle.std.specs.Prelude.{IfSome, false, is_none, is_some, true}
 use Rattle.history.specs.Tokens.{TokenRecord}
-use Rattle.history.specs.World.{number_of}
+use Rattle.history.specs.Members.{number_of}
 use Rattle.history_core.specs.OwnCommits.{commits_of}
 use Rattle.history_core.specs.declared.event.Who.{Who}
 use Rattle.history_core.specs.declared.event.Who.TheVariants.{Client}

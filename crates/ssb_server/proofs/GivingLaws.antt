@@ -35,13 +35,13 @@ use Rattle.ssb_answers.specs.declared.answer.Answer.TheVariants as answer
 use Rattle.ssb_answers.specs.declared.answer.Unserved.{Unserved}
 use Rattle.history_core.specs.World.{rows_after}
 use Rattle.history_core.specs.declared.event.Reply.TheVariants.{Done}
-use Rattle.history.specs.declared.event.Event.TheVariants as event
-use Rattle.history.specs.declared.event.Deed.{Deed}
+use Rattle.history_core.specs.Events as event
+use Rattle.history_core.specs.Deeds.{Deed}
 use Rattle.history.specs.declared.request.PostedQuestion.{PostedQuestion}
 use Rattle.history.specs.declared.request.Grabbed.{Grabbed}
-use Rattle.history.specs.World.{number_of, answer_named}
-use Rattle.history.specs.declared.request.Given.{Given}
-use Rattle.history.specs.declared.request.Outcome.{Outcome}
+use Rattle.history.specs.Members.{number_of, answer_named}
+use Rattle.history_core.specs.declared.dispatcher.Given.{Given}
+use Rattle.history_core.specs.declared.dispatcher.Outcome.{Outcome}
 use Rattle.history.specs.Tokens.{TokenRecord, MayAnswer, Answers, request_of, without}
 use Rattle.history.specs.Words.{IsCause, IsFresh, given_to, outcome_of}
 use Rattle.ssb_server.specs.Hand.{Hand, no_hand, clients_of, questions_of, Keeps}

@@ -4,10 +4,10 @@ use Rattle.std.proofs.lemmas.List.{append-nil, length_push}
 use Rattle.ssb_questions.specs.declared.query.Query.{Query}
 use Rattle.ssb_questions.specs.declared.value.Value.{Value}
 use Rattle.history_core.specs.declared.event.Reply.TheVariants.{Query as Asks}
-use Rattle.history.specs.declared.event.Event.TheVariants as event
-use Rattle.history.specs.declared.event.Deed.{Deed}
+use Rattle.history_core.specs.Events as event
+use Rattle.history_core.specs.Deeds.{Deed}
 use Rattle.history.specs.declared.request.Grabbed.{Grabbed}
-use Rattle.history.specs.World.{number_of}
+use Rattle.history.specs.Members.{number_of}
 use Rattle.history.specs.Tokens.{TokenRecord, Grabs}
 use Rattle.history.specs.Words.{request}
 use Rattle.ssb_server.specs.Hand.{Hand, no_hand, clients_of, questions_of, Keeps}

@@ -14,8 +14,8 @@ use Rattle.history_core.specs.Events.{Question}
 use Rattle.history_core.specs.declared.event.Reply.TheVariants.{Done}
 use Rattle.history.specs.Tokens.{TokenRecord, IsSound, Collected, Saw, posted}
 use Rattle.history.specs.Words.{IsRight, request}
-use Rattle.history.specs.declared.event.Event.TheVariants as event
-use Rattle.history.specs.World.{number_of, told_by}
+use Rattle.history_core.specs.Events as event
+use Rattle.history.specs.Members.{number_of, told_by}
 use Rattle.ssb_server.specs.Clients.{Asks, Polls}
 use Rattle.ssb_server.specs.Deeds.{deed, looked, asked}
 use Rattle.row_store.proofs.PrefixLaws.{beginnings_are_shorter}

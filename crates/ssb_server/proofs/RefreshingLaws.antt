@@ -11,8 +11,8 @@ use Rattle.row_store.specs.declared.refusal.RefreshError.{RefreshError}
 use Rattle.row_store.specs.declared.refusal.RefreshError.TheVariants as refresh
 use Rattle.history_core.specs.declared.event.Who.TheVariants.{Client}
 use Rattle.history.specs.Tokens.{TokenRecord, Took, MayPut, Put, gave_back, committed}
-use Rattle.history.specs.World.{mark_after}
-use Rattle.history.specs.declared.event.Event.TheVariants as event
+use Rattle.history_core.specs.Parts.{mark_after}
+use Rattle.history_core.specs.Events as event
 use Rattle.history_core.specs.declared.event.Reply.TheVariants.{Done, Committed}
 use Rattle.ssb_server.specs.Clients.{Refreshed, HandsBack}
 use Rattle.ssb_server.specs.Deeds.{deed, handed_back}

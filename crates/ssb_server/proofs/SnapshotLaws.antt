@@ -41,8 +41,9 @@ use Rattle.ssb_base.specs.Base.{Tables}
 use Rattle.ssb_answers.specs.declared.answer.Unserved.TheVariants.{Twin}
 use Rattle.history_core.specs.declared.event.Who.TheVariants.{Dispatcher}
 use Rattle.history_core.specs.declared.event.Reply.TheVariants.{Done}
-use Rattle.history.specs.declared.event.Event.TheVariants as event
-use Rattle.history.specs.World.{number_of, mark_after}
+use Rattle.history_core.specs.Events as event
+use Rattle.history.specs.Members.{number_of}
+use Rattle.history_core.specs.Parts.{mark_after}
 use Rattle.history.specs.Tokens.{TableRecord, TokenRecord, Took, IsSound, gave_back, with_writer, without_writer}
 use Rattle.twin_cell.specs.Twin.{Writing, Reading, Entered}
 use Rattle.ssb_server.proofs.DeedLaws.{added_three}

@@ -5,13 +5,13 @@ use Rattle.row_store.specs.State.{State, StandsFor}
 use Rattle.ssb_base.specs.Base.{Tables}
 use Rattle.twin_cell.specs.Twin.{Reading, Entered}
 use Rattle.fact_columns.specs.Stored.{Stored, columns_state}
-use Rattle.history.specs.declared.request.Outcome.{Outcome}
-use Rattle.history.specs.declared.request.Outcome.TheVariants.{Served, GivenUp}
+use Rattle.history_core.specs.declared.dispatcher.Outcome.{Outcome}
+use Rattle.history_core.specs.declared.dispatcher.Outcome.TheVariants.{Served, GivenUp}
 use Rattle.history.specs.Tokens.{TableRecord, TokenRecord, IsSound, IsFree}
 use Rattle.shared_scan.specs.Answers.{AreSnapshot}
 use Rattle.ssb_server.specs.Hand.{Hand, no_hand, Keeps}
 use Rattle.history.specs.Words.{IsCause}
-use Rattle.history.specs.World.{number_of}
+use Rattle.history.specs.Members.{number_of}
 use Rattle.ssb_answers.specs.declared.answer.Unserved.{Unserved as Cause}
 use Rattle.ssb_answers.specs.declared.answer.Unserved.TheVariants.{OutOfMemory, Twin}
 use Rattle.ssb_server.specs.Deeds as deeds

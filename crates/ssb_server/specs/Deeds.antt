@@ -6,14 +6,14 @@ use Rattle.history_core.specs.Events.{Question}
 use Rattle.history_core.specs.declared.event.Who.{Who}
 use Rattle.history_core.specs.declared.event.Reply.{Reply}
 use Rattle.history_core.specs.declared.event.Reply.TheVariants.{Done, Committed, Length, Query}
-use Rattle.history.specs.declared.event.Event.{Event}
-use Rattle.history.specs.declared.event.Event.TheVariants as event
-use Rattle.history.specs.declared.event.Deed.{Deed}
+use Rattle.history_core.specs.Events.{Event}
+use Rattle.history_core.specs.Events as event
+use Rattle.history_core.specs.Deeds.{Deed}
 use Rattle.history.specs.declared.request.Grabbed.{Grabbed}
-use Rattle.history.specs.declared.request.Given.{Given}
-use Rattle.history.specs.declared.request.Outcome.{Outcome}
-use Rattle.history.specs.declared.request.Outcome.TheVariants.{Served, GivenUp}
-use Rattle.history.specs.World.{number_of, told_by}
+use Rattle.history_core.specs.declared.dispatcher.Given.{Given}
+use Rattle.history_core.specs.declared.dispatcher.Outcome.{Outcome}
+use Rattle.history_core.specs.declared.dispatcher.Outcome.TheVariants.{Served, GivenUp}
+use Rattle.history.specs.Members.{number_of, told_by}
 
 abbrev pub deed : Event → Reply → Deed
 deed event reply = record { event = event; reply = reply }

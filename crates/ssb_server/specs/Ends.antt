@@ -2,8 +2,8 @@
 use Rattle.std.specs.Prelude.{◌≡◌, ℕ, ◌≤◌, All, List, [], ◌++◌, length, Some}
 use Rattle.row_store.specs.History.{IsPrefix}
 use Rattle.history.specs.declared.request.Grabbed.{Grabbed}
-use Rattle.history.specs.declared.request.Outcome.{Outcome}
-use Rattle.history.specs.declared.request.Outcome.TheVariants.{Served, GivenUp}
+use Rattle.history_core.specs.declared.dispatcher.Outcome.{Outcome}
+use Rattle.history_core.specs.declared.dispatcher.Outcome.TheVariants.{Served, GivenUp}
 use Rattle.history.specs.Tokens.{TokenRecord}
 use Rattle.history.specs.Words.{IsFresh}
 use Rattle.twin_cell.specs.Twin.{Reading}

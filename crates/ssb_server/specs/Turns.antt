@@ -5,10 +5,10 @@ use Rattle.row_store.specs.History.{CommitRecord, IsPrefix}
 use Rattle.row_store.specs.State.{StandsFor}
 use Rattle.ssb_base.specs.Base.{Tables}
 use Rattle.history_core.specs.declared.event.Who.TheVariants.{Dispatcher}
-use Rattle.history.specs.declared.request.Outcome.{Outcome}
+use Rattle.history_core.specs.declared.dispatcher.Outcome.{Outcome}
 use Rattle.history.specs.Tokens.{TableRecord, TokenRecord}
 use Rattle.history.specs.Words.{IsFresh}
-use Rattle.history.specs.World.{number_of}
+use Rattle.history.specs.Members.{number_of}
 use Rattle.twin_cell.specs.Twin.{Writing, Reading, Entered}
 use Rattle.ssb_answers.specs.declared.answer.Unserved.{Unserved}
 use Rattle.ssb_answers.specs.declared.answer.Unserved.TheVariants.{OutOfMemory, Twin}

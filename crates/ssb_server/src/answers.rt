@@ -1,6 +1,6 @@
 //! The end of a turn: each request in hand is answered.
 ghost use Rattle.std.specs.Prelude.{◌≡◌, length, Some};
-ghost use Rattle.history.specs.declared.request.Outcome.TheVariants.{Served, GivenUp};
+ghost use Rattle.history_core.specs.declared.dispatcher.Outcome.TheVariants.{Served, GivenUp};
 ghost use Rattle.history.specs.Words.{IsCause};
 ghost use Rattle.ssb_server.specs.Hand.{Keeps, no_hand};
 ghost use Rattle.ssb_server.specs.Turns.{answers_after, IsDispatcher, HoldsNothing, HasInHand, Answered};

@@ -5,7 +5,7 @@ ghost use Rattle.row_store.specs.History.{IsPrefix};
 ghost use Rattle.history_core.specs.declared.event.Who.TheVariants.{Client as IsNumbered};
 ghost use Rattle.history.specs.Tokens.{IsSound};
 ghost use Rattle.ssb_server.specs.Tickets.{IsNewClient, IsResting};
-ghost use Rattle.history.specs.World.{number_of};
+ghost use Rattle.history.specs.Members.{number_of};
 ghost use Rattle.ssb_server.specs.Clients.{IsClient, Refreshed, Looks, Asks, Polls};
 
 use crate::server::{Server, SharedTable, Token, look, meet, put_rows};

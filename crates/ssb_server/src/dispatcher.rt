@@ -2,7 +2,7 @@
 ghost use Rattle.std.specs.Prelude.{◌≡◌, []};
 ghost use Rattle.history_core.specs.declared.event.Who.TheVariants.{Dispatcher as IsNumbered};
 ghost use Rattle.history.specs.Tokens.{IsSound, IsFree};
-ghost use Rattle.history.specs.World.{number_of};
+ghost use Rattle.history.specs.Members.{number_of};
 ghost use Rattle.ssb_server.specs.Ends.{Turned};
 ghost use Rattle.ssb_server.specs.Hand.{no_hand};
 ghost use Rattle.ssb_server.specs.Opening.{IsNewDispatcher};

@@ -3,7 +3,7 @@ ghost use Rattle.std.specs.Prelude.{◌≡◌, ℕ, ◌≤◌, false, length, dr
 ghost use Rattle.row_store.specs.History.{IsPrefix};
 ghost use Rattle.history_core.specs.declared.event.Who.TheVariants.{Dispatcher as IsNumbered};
 ghost use Rattle.history.specs.Tokens.{IsSound, IsFree};
-ghost use Rattle.history.specs.World.{number_of};
+ghost use Rattle.history.specs.Members.{number_of};
 ghost use Rattle.ssb_server.specs.Clients.{Looks};
 ghost use Rattle.ssb_server.specs.Ready.{IsIdle};
 ghost use Rattle.ssb_server.specs.Tickets.{IsLeft};

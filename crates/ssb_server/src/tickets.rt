@@ -3,7 +3,7 @@ ghost use Rattle.std.specs.Prelude.{◌≡◌, ◌+◌, ◌≤◌, [], ◌∷◌
 ghost use Rattle.std.specs.Prelude.{length, vec_len, vec_capacity};
 ghost use Rattle.history.specs.Tokens.{TokenRecord};
 ghost use Rattle.ssb_server.specs.Tickets.{IsNewClient, IsResting, IsLeft, with_reader};
-ghost use Rattle.history.specs.World.{number_of};
+ghost use Rattle.history.specs.Members.{number_of};
 ghost use Rattle.history.specs.Closing.{AreNumbered};
 
 use crate::client::{Client, new_client};

@@ -23,7 +23,7 @@ use Rattle.std.proofs.Common.{
 use Rattle.std.specs.Prelude.{All, OnOk, slice_get}
 use Rattle.std.proofs.lemmas.List.Elements.{All-nil, All-cons, All-head, All-tail}
 use Rattle.history.specs.Tokens.{TableRecord, TokenRecord, new_clients, new_dispatchers}
-use Rattle.history.specs.World.{number_of}
+use Rattle.history.specs.Members.{number_of}
 use Rattle.ssb_server.specs.Tickets.{IsQuiet}
 use Rattle.ssb_serving.proofs.MemberLaws.{number_in, new_clients_quiet, ready_where}
 use Rattle.ssb_serving.proofs.PlaceLaws.{none_is, some_is}

@@ -1,7 +1,7 @@
 -- What the threads of a run do.
 use Rattle.std.specs.Prelude.{◌≡◌, ℕ, List, [], ◌∷◌, Some, None}
 use Rattle.history.specs.Tokens.{TableRecord, TokenRecord}
-use Rattle.history.specs.World.{number_of}
+use Rattle.history.specs.Members.{number_of}
 use Rattle.ssb_audit.specs.declared.trace.Told.{Told}
 use Rattle.ssb_script.specs.declared.request.Script.{Script}
 use Rattle.ssb_script.specs.Requests.{requests_of}

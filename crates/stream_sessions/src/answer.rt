@@ -3,7 +3,7 @@
 ghost use Rattle.std.specs.Prelude.{◌≡◌, false, List, ℕ, MatchResult};
 ghost use Rattle.std.specs.Option.{is_some};
 ghost use Rattle.history.specs.Tokens.{IsSound, TokenRecord};
-ghost use Rattle.history.specs.World.{number_of};
+ghost use Rattle.history.specs.Members.{number_of};
 ghost use Rattle.ssb_serving.specs.Steps.{AreAlike};
 ghost use Rattle.stream_sessions.specs.Steps.{AddsAnswer, AddsNothing};
 ghost use Rattle.stream_sessions.specs.Answers.{is_of_text};

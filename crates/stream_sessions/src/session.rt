@@ -4,7 +4,7 @@ ghost use Rattle.std.specs.Prelude.{◌≡◌, ◌≢◌, ℕ, List, [], length,
 ghost use Rattle.std.specs.Option.{is_some};
 ghost use Rattle.std.specs.Io.Buffered.{reader_remaining};
 ghost use Rattle.history.specs.Tokens.{IsSound, TokenRecord};
-ghost use Rattle.history.specs.World.{number_of};
+ghost use Rattle.history.specs.Members.{number_of};
 ghost use Rattle.ssb_serving.specs.Steps.{AreAlike};
 ghost use Rattle.stream_sessions.specs.Session.{Breaks, IsServed, Serves};
 ghost use Rattle.stream_sessions.specs.Steps.{EndsHeld, IsHeld};

@@ -4,7 +4,7 @@ ghost use Rattle.std.specs.Prelude.{◌≡◌, ◌⊎◌, [], ◌++◌, false, O
 ghost use Rattle.std.specs.Option.{is_some};
 ghost use Rattle.std.specs.Io.Buffered.{reader_buffer, reader_remaining};
 ghost use Rattle.history.specs.Tokens.{IsSound};
-ghost use Rattle.history.specs.World.{number_of};
+ghost use Rattle.history.specs.Members.{number_of};
 ghost use Rattle.session_requests.specs.Requests.{BeginsWithRequest};
 ghost use Rattle.ssb_report.specs.Written.{AppendsPart};
 ghost use Rattle.ssb_serving.specs.Steps.{AreAlike};

@@ -1,6 +1,6 @@
 use Rattle.std.proofs.Common.{arith, ◌≡◌, ◌+◌, length, subst, ap, ◌∙◌}
 use Rattle.std.proofs.lemmas.List.{length_push}
-use Rattle.history.specs.declared.request.Outcome.TheVariants.{GivenUp}
+use Rattle.history_core.specs.declared.dispatcher.Outcome.TheVariants.{GivenUp}
 use Rattle.ssb_server.specs.Hand.{Hand, Keeps}
 use Rattle.ssb_server.proofs.GivingLaws.{popped, gave_none, gave_more, left_keeps}
 use Rattle.ssb_server.proofs.answers.give_up_all.Goals as goal

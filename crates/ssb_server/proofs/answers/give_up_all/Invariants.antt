@@ -1,5 +1,5 @@
 use Rattle.std.proofs.Common.{◌≡◌, ◌+◌, ℕ, length}
-use Rattle.history.specs.declared.request.Outcome.TheVariants.{GivenUp}
+use Rattle.history_core.specs.declared.dispatcher.Outcome.TheVariants.{GivenUp}
 use Rattle.ssb_server.specs.Hand.{Keeps}
 use Rattle.ssb_server.specs.Turns.{Gave}
 use Rattle.ssb_server.proofs.answers.give_up_all.Given as goal

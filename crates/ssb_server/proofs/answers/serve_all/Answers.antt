@@ -1,7 +1,7 @@
 use Rattle.std.proofs.Common.{arith, ◌≡◌, ◌+◌, length, subst, sym, ap, ◌∙◌}
 use Rattle.std.proofs.lemmas.List.{length_push}
 use Rattle.history.specs.Tokens.{TokenRecord}
-use Rattle.history.specs.declared.request.Outcome.TheVariants.{Served}
+use Rattle.history_core.specs.declared.dispatcher.Outcome.TheVariants.{Served}
 use Rattle.ssb_server.specs.Hand.{Hand, Keeps}
 use Rattle.ssb_server.specs.Turns.{answers_after, Answered}
 use Rattle.ssb_server.proofs.GivingLaws.{popped, gave_none, gave_more, left_keeps, rows_popped, in_hand_of}

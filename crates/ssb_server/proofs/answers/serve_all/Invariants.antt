@@ -1,5 +1,5 @@
 use Rattle.std.proofs.Common.{◌≡◌, ◌+◌, ℕ, length}
-use Rattle.history.specs.declared.request.Outcome.TheVariants.{Served}
+use Rattle.history_core.specs.declared.dispatcher.Outcome.TheVariants.{Served}
 use Rattle.ssb_server.specs.Hand.{Keeps}
 use Rattle.ssb_server.specs.Turns.{answers_after, Gave}
 use Rattle.ssb_server.proofs.answers.serve_all.Given as goal

@@ -3,7 +3,7 @@ use Rattle.std.specs.Prelude.{◌==◌, count_by}
 use Rattle.std.proofs.lemmas.List.{length_push}
 use borrow.Author.Count.{below_more}
 use Rattle.history.specs.Tokens.{TokenRecord}
-use Rattle.history.specs.World.{number_of}
+use Rattle.history.specs.Members.{number_of}
 use Rattle.history.specs.Closing.{AreNumbered}
 use Rattle.ssb_server.proofs.tickets.are_all_numbered.Goals as goal
 

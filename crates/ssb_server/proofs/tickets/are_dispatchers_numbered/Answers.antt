@@ -2,7 +2,7 @@ use Rattle.std.proofs.Common.{◌≡◌, refl, IsTrue, ℕ, ◌+◌, true, false
 use Rattle.std.specs.Prelude.{◌==◌, count_by}
 use borrow.Author.Count.{below_more}
 use Rattle.history.specs.Tokens.{TokenRecord}
-use Rattle.history.specs.World.{number_of}
+use Rattle.history.specs.Members.{number_of}
 use Rattle.history.specs.Closing.{AreNumbered}
 use Rattle.ssb_server.proofs.tickets.are_dispatchers_numbered.Goals as goal
 

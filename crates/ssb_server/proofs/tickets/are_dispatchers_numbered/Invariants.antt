@@ -1,7 +1,7 @@
 use Rattle.std.proofs.Common.{◌≡◌, ℕ, ◌+◌, ◌<◌}
 use Rattle.std.specs.Prelude.{◌==◌, count_by}
 use Rattle.history.specs.Tokens.{TokenRecord}
-use Rattle.history.specs.World.{number_of}
+use Rattle.history.specs.Members.{number_of}
 use Rattle.ssb_server.proofs.tickets.are_dispatchers_numbered.Given as goal
 
 abbrev pub invariant-loop-before : goal.invariant-loop-before

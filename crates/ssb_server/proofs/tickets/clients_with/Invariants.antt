@@ -1,7 +1,7 @@
 use Rattle.std.proofs.Common.{◌≡◌, take}
 use Rattle.std.specs.Prelude.{◌==◌, count_by}
 use Rattle.history.specs.Tokens.{TokenRecord}
-use Rattle.history.specs.World.{number_of}
+use Rattle.history.specs.Members.{number_of}
 use Rattle.ssb_server.proofs.tickets.clients_with.Given as goal
 
 abbrev pub invariant-loop-client : goal.invariant-loop-client

@@ -4,7 +4,7 @@ use Rattle.ssb_script.specs.Requests.{RequestRecord, request_of, requests_of}
 use Rattle.ssb_serving.specs.Served.{Serves}
 use Rattle.ssb_serving.specs.Steps.{AreAlike}
 use Rattle.history.specs.Tokens.{IsSound}
-use Rattle.history.specs.World.{number_of}
+use Rattle.history.specs.Members.{number_of}
 use Rattle.ssb_serving.proofs.requests.serve_requests.Given as goal
 
 -- the first requests were served, and the others are left

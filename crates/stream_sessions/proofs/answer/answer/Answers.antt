@@ -1,5 +1,5 @@
 use Rattle.std.proofs.Common.{refl}
-use Rattle.history.specs.World.{number_of}
+use Rattle.history.specs.Members.{number_of}
 use Rattle.stream_sessions.proofs.answer.answer.Goals as goal
 
 pub returns-in-Ok-clause-answered : goal.returns-in-Ok-clause-answered

@@ -1,5 +1,5 @@
 use Rattle.std.proofs.Common.{◌≡◌, length, take, ap, ◌∙◌, arith}
-use Rattle.history.specs.World.{number_of}
+use Rattle.history.specs.Members.{number_of}
 use Rattle.ssb_script.specs.Requests.{requests_of}
 use Rattle.stream_sessions.proofs.AnswerLaws.{adds_report, adds_nothing}
 use Rattle.stream_sessions.proofs.answer.report.Goals as goal

@@ -1,5 +1,5 @@
 use Rattle.std.proofs.Common.{◌≡◌, ap, subst, arith}
-use Rattle.history.specs.World.{number_of}
+use Rattle.history.specs.Members.{number_of}
 use Rattle.ssb_serving.proofs.RequestLaws.{alike_itself, alike_both}
 use Rattle.stream_sessions.specs.declared.step.Step.TheVariants as step
 use Rattle.stream_sessions.proofs.SessionLaws.{IsThrough, through_none, through_next}

@@ -1,6 +1,6 @@
 use Rattle.std.specs.Io.Buffered.{reader_remaining}
 use Rattle.history.specs.Tokens.{IsSound}
-use Rattle.history.specs.World.{number_of}
+use Rattle.history.specs.Members.{number_of}
 use Rattle.ssb_serving.specs.Steps.{AreAlike}
 use Rattle.stream_sessions.proofs.SessionLaws.{IsThrough}
 use Rattle.stream_sessions.proofs.session.answer_all.Given as goal

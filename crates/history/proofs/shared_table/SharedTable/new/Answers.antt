@@ -3,10 +3,10 @@ use Rattle.std.proofs.lemmas.List.FromFn.{map-range_with_len_more}
 use Rattle.std.specs.List.{range_with_len}
 use Rattle.history_core.specs.declared.event.Who.TheVariants.{Client, Dispatcher}
 use Rattle.history.specs.Rule.{terms_of}
-use Rattle.history.specs.World.{who_at}
+use Rattle.history.specs.Members.{who_at}
 use Rattle.history.specs.Tokens.{new_token}
 use Rattle.history.specs.TokenParts.{table_of}
-use Rattle.history.proofs.WorldLaws.{who_client, who_dispatcher}
+use Rattle.history.proofs.MemberLaws.{who_client, who_dispatcher}
 use Rattle.history.proofs.shared_table.SharedTable.new.Goals as goal
 
 pub loop-place-preserved : goal.loop-place-preserved

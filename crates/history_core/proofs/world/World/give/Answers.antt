@@ -1,6 +1,6 @@
 use Rattle.std.proofs.Common.{◌++◌, ◌∷◌, [], ap, sym, subst, ◌∙◌, length}
 use Rattle.std.specs.Prelude.{map}
-use Rattle.history_core.specs.View.{world_in, outcome_of, dispatcher_in, DispatchersFit}
+use Rattle.history_core.specs.View.{world_in, dispatcher_in, DispatchersFit}
 use Rattle.history_core.specs.World.{World, with_dispatcher, gave}
 use Rattle.history_core.proofs.ViewLaws.{dispatchers_kept, dispatcher_gave}
 use Rattle.history_core.proofs.world.World.give.Goals as goal
@@ -23,4 +23,4 @@ returns-clause-gave c =
     ∙ dispatcher_gave c.self.inside.store.log c.self.inside.dispatchers c.args.number c.args.given)
     ∙ ap
     (λ (w : World). with_dispatcher w c.args.number
-    (gave c.args.given.client c.args.given.floor (outcome_of c.args.given.outcome))) c.self.view_is
+    (gave c.args.given.client c.args.given.floor c.args.given.outcome)) c.self.view_is
