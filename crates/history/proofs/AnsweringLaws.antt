@@ -37,8 +37,8 @@ use mathlib.Core.Option.{some, some-injective, some-ne-none}
 use lib.ListN.{get_elem?}
 use Rattle.atomic_table.specs.Table.{rest}
 use Rattle.arrayvec.specs.ArrayVec.{ArrayVec}
-use Rattle.ssb_answers.specs.declared.answer.Answer.{Answer}
-use Rattle.history.specs.declared.request.PostedQuestion.{PostedQuestion}
+use Rattle.history_core.specs.declared.response.Response.{Response}
+use Rattle.history.specs.declared.request.PostedRequest.{PostedRequest}
 use Rattle.history.specs.declared.view.Held.{Held}
 use Rattle.history.specs.declared.view.View.{View}
 use Rattle.history.specs.declared.token.Token.TheInside.{Inside as Token}
@@ -84,7 +84,7 @@ length-places [] = refl
 length-places (h ∷ hs) = ap suc (length-places hs)
 
 -- the place is among those in hand
-pub contains_place : (place : ℕ) (hs : List Held) (k : ℕ) (asked : PostedQuestion) → get_elem? hs k ≡ some (held place asked)
+pub contains_place : (place : ℕ) (hs : List Held) (k : ℕ) (asked : PostedRequest) → get_elem? hs k ≡ some (held place asked)
     → Contains (places hs) place
 contains_place place [] k asked e = absurd (some-ne-none _ (sym e))
 contains_place place (h ∷ hs) zero asked e = (
@@ -137,8 +137,8 @@ module _ (place k : ℕ) (hs : List Held) (f : Found place k hs) where
       ∙ (sym (map-append (λ (h : Held). h.place) f.front f.back) ∙ ap places (sym f.left)))))
 
 module _ {W : Type 0} where
-  pub answered_token : (p : Token W) (hand : ArrayVec ℕ) (after : Place W) (place client : ℕ) (asked : PostedQuestion)
-      (reply : Answer) (carried : List (ℕ × Slot W)) → place + 1 ≡ client
+  pub answered_token : (p : Token W) (hand : ArrayVec ℕ) (after : Place W) (place client : ℕ) (asked : PostedRequest)
+      (reply : Response) (carried : List (ℕ × Slot W)) → place + 1 ≡ client
       → request_at place p.seat.me.0.grabbed ≡ Some asked → IsFresh (given_to (place + 1) asked reply)
       → after.table_id ≡ p.seat.table_id → after.me ≡ (served p.seat.me.0 place reply, carried)
       → Answers (shown_token p) client reply (shown_token (passed p hand after p.seen_len))
@@ -155,7 +155,7 @@ module _ {W : Type 0} where
       })
 
   -- there is room for one request more of a client that has none in hand
-  pub has_room : (p : Token W) (place : ℕ) (asked : PostedQuestion) → IsSeated p → place < p.seat.me.0.terms.clients
+  pub has_room : (p : Token W) (place : ℕ) (asked : PostedRequest) → IsSeated p → place < p.seat.me.0.terms.clients
       → IsElsewhere place p.seat.me.0.grabbed → length p.hand.items < 16
   has_room p place asked is near elsewhere = let hs = p.seat.me.0.grabbed in let few = is.few in
       let long = few_apart p.seat.me.0.terms.clients (held place asked ∷ hs) (elsewhere, is.apart)
@@ -163,14 +163,14 @@ module _ {W : Type 0} where
       let same = ap length is.hand ∙ length-places hs in omega (arith, few, long, same)
 
   -- a request in hand, by its client's number
-  pub record InHand (p : Token W) (client : ℕ) (asked : PostedQuestion) : Type 0 where
+  pub record InHand (p : Token W) (client : ℕ) (asked : PostedRequest) : Type 0 where
     pub one : 1 ≤ client
     pub number : (client - 1) + 1 ≡ client
     pub has : request_at (client - 1) p.seat.me.0.grabbed ≡ Some asked
     pub near : client - 1 < p.seat.me.0.terms.clients
     pub contains : Contains p.hand.items (client - 1)
 
-  pub in_hand : (p : Token W) (t : TokenRecord) (client : ℕ) (asked : PostedQuestion) → shown_token p ≡ t → IsSeated p
+  pub in_hand : (p : Token W) (t : TokenRecord) (client : ℕ) (asked : PostedRequest) → shown_token p ≡ t → IsSeated p
       → request_of client t.grabbed ≡ Some asked → InHand p client asked
   in_hand p t client asked view is found = go client (ap (λ (x : TokenRecord). request_of client x.grabbed) view ∙ found)
     where

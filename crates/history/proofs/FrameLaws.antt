@@ -41,7 +41,7 @@ use Rattle.row_store.specs.History.{CommitRecord, IsPrefix}
 use Rattle.row_store.specs.Legal.{IsLegal}
 use Rattle.history.specs.declared.view.Terms.{Terms}
 use Rattle.history.specs.declared.view.Member.{Member}
-use Rattle.history.specs.declared.request.PostedQuestion.{PostedQuestion}
+use Rattle.history.specs.declared.request.PostedRequest.{PostedRequest}
 use Rattle.history.specs.declared.view.Role.{Role}
 use Rattle.history.specs.declared.view.Role.TheVariants.{Dealer, Token, Note, Spent}
 use Rattle.history.specs.declared.view.View.{View}
@@ -51,7 +51,7 @@ use Rattle.history_core.specs.declared.event.Who.{Who}
 use Rattle.history_core.specs.declared.event.Who.TheVariants.{Dispatcher}
 use Rattle.history_core.specs.declared.event.Reply.{Reply}
 use Rattle.history_core.specs.declared.event.Reply.TheVariants.{NotEnabled}
-use Rattle.history_core.specs.Events.{Question, Event}
+use Rattle.history_core.specs.Events.{Questions, Event}
 use Rattle.history_core.specs.World.{World, Mailbox, empty, asked, in_hand, answered, unserved}
 use Rattle.history_core.specs.Deeds.{Deed, actor_of, done_by, HasDone}
 use Rattle.history_core.specs.Kept.{WorldKept}
@@ -108,10 +108,10 @@ more_beside first beside history here others = All-cons (λ list. IsPrefix list 
 
 pub only_empty : (box : Mailbox) → Asks None box → box ≡ empty
 only_empty empty e = refl
-only_empty (asked question floor) e = absurd (cc e)
-only_empty (in_hand dispatcher question floor) e = absurd (cc e)
-only_empty (answered question at found) e = absurd (cc e.1)
-only_empty (unserved question cause) e = absurd (cc e.1)
+only_empty (asked questions floor) e = absurd (cc e)
+only_empty (in_hand dispatcher questions floor) e = absurd (cc e)
+only_empty (answered questions at found) e = absurd (cc e.1)
+only_empty (unserved questions cause) e = absurd (cc e.1)
 
 -- names of two places are apart
 apart_from : (key : Terms) (place p : ℕ) (me who : Who) → me ≡ who_at key.clients place → who ≡ who_at key.clients p
@@ -137,13 +137,13 @@ module _ {W : Type 0} where
       → get_elem? homes' (2 + client) ≡ get_elem? homes (2 + client)
       → MailShown words homes client box → MailShown words' homes' client box
   mail_stays words words' homes homes' client empty e f m = record { word = e ∙ m.word; slot = tt }
-  mail_stays words words' homes homes' client (asked question floor) e f m =
+  mail_stays words words' homes homes' client (asked questions floor) e f m =
       record { word = e ∙ m.word; slot = f ∙ m.slot }
-  mail_stays words words' homes homes' client (in_hand dispatcher question floor) e f m =
+  mail_stays words words' homes homes' client (in_hand dispatcher questions floor) e f m =
       record { word = e ∙ m.word; slot = tt }
-  mail_stays words words' homes homes' client (answered question at found) e f m =
+  mail_stays words words' homes homes' client (answered questions at found) e f m =
       record { word = e ∙ m.word; slot = f ∙ m.slot }
-  mail_stays words words' homes homes' client (unserved question cause) e f m =
+  mail_stays words words' homes homes' client (unserved questions cause) e f m =
       record { word = e ∙ m.word; slot = (f ∙ m.slot.0, m.slot.1) }
 
   -- what differs is what this member, which stands at this place, did
@@ -157,9 +157,9 @@ module _ {W : Type 0} where
       pub writer : (n : ℕ) → Dispatcher n ≢ me → w.writer ≡ Some n → w'.writer ≡ Some n
       pub idle : (n : ℕ) → Dispatcher n ≢ me → w'.writer ≡ Some n → w.writer ≡ Some n
       pub requests : (p : ℕ) (box' : Mailbox) → p ≢ place → mailbox_at w' (p + 1) ≡ Some box' → (box : Mailbox)
-          × (mailbox_at w (p + 1) ≡ Some box) × ((posted : Option PostedQuestion) → Asks posted box → Asks posted box')
-      pub hands : (d n : ℕ) (question : Question) (floor : ℕ) → Dispatcher d ≢ me
-          → mailbox_at w n ≡ Some (in_hand d question floor) → mailbox_at w' n ≡ Some (in_hand d question floor)
+          × (mailbox_at w (p + 1) ≡ Some box) × ((posted : Option PostedRequest) → Asks posted box → Asks posted box')
+      pub hands : (d n : ℕ) (questions : Questions) (floor : ℕ) → Dispatcher d ≢ me
+          → mailbox_at w n ≡ Some (in_hand d questions floor) → mailbox_at w' n ≡ Some (in_hand d questions floor)
       pub vacant : (p : ℕ) → p ≢ place → IsUnopened homes w p → IsUnopened homes' w' p
 
   -- an event that changes no mailbox, with a change of the slot of a part
@@ -182,7 +182,7 @@ module _ {W : Type 0} where
     writer = λ n other e. s.step.writer ∙ takes n other e;
     idle = λ n other e. untakes n other (sym s.step.writer ∙ e);
     requests = λ q box other at. (box, sym (s.mail (q + 1)) ∙ at, λ posted asks. asks);
-    hands = λ d n question floor other at. s.mail n ∙ at;
+    hands = λ d n questions floor other at. s.mail n ∙ at;
     vacant = λ q other v. (s.mail (q + 1) ∙ v.0, set_else homes k (2 + q) y (λ e. omega arith) ∙ v.1);
   }
 
@@ -237,7 +237,7 @@ module _ {W : Type 0} where
         writer = λ h n named. g.writer n (λ same. far (named ∙ same)) (k.writer h n named);
         idle = λ h n named e. k.idle h n named (g.idle n (λ same. far (named ∙ same)) e);
         asked = λ box at. let was = g.requests p box other at in was.2 v.asked (k.asked was.0 was.1);
-        grabbed = λ i h at n named. g.hands n (h.place + 1) h.request.query h.request.floor (λ same. far (named ∙ same))
+        grabbed = λ i h at n named. g.hands n (h.place + 1) h.request.questions h.request.floor (λ same. far (named ∙ same))
             (k.grabbed i h at n named);
         apart = k.apart;
         vacant = λ h within. g.vacant p other (k.vacant h within);

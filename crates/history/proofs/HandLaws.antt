@@ -33,7 +33,7 @@ use Rattle.std.specs.Prelude.{All}
 use mathlib.Core.Option.{some, some-injective, some-ne-none}
 use lib.ListN.{get_elem?}
 use Rattle.atomic_table.specs.Table.{turned}
-use Rattle.history.specs.declared.request.PostedQuestion.{PostedQuestion}
+use Rattle.history.specs.declared.request.PostedRequest.{PostedRequest}
 use Rattle.history.specs.declared.view.Held.{Held}
 use Rattle.history.specs.Rule.{IsElsewhere, AreApart}
 use Rattle.history.specs.Plays.{held, request_at, without_at}
@@ -66,7 +66,7 @@ module _ (place : ℕ) (h : Held) (hs : List Held) where
   without_later e = rw e refl
 
 -- a request in hand stands somewhere in the list
-pub request_there : (place : ℕ) (hs : List Held) (asked : PostedQuestion) → request_at place hs ≡ Some asked → (k : ℕ)
+pub request_there : (place : ℕ) (hs : List Held) (asked : PostedRequest) → request_at place hs ≡ Some asked → (k : ℕ)
     × (get_elem? hs k ≡ some (held place asked))
 request_there place [] asked e = absurd (cc e)
 request_there place (h ∷ hs) asked e = go (request_there place hs asked) (h.place == place) refl
@@ -159,7 +159,7 @@ few_apart (suc count) hs apart low = let more = length-without count hs in
 
 -- a request in hand, and those before and behind it
 pub record Found (place k : ℕ) (hs : List Held) : Type 0 where
-  pub asked : PostedQuestion
+  pub asked : PostedRequest
   pub front : List Held
   pub back : List Held
   pub whole : hs ≡ front ++ held place asked ∷ back

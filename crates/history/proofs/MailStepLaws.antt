@@ -63,15 +63,15 @@ use Rattle.atomic_table.specs.Table.{
 }
 use Rattle.atomic_table.proofs.Lists.{set_here, set_else}
 use Rattle.ssb_base.specs.Base.{Tables}
-use Rattle.ssb_answers.specs.declared.answer.Answer.{Answer}
-use Rattle.ssb_answers.specs.declared.answer.Answer.TheVariants.{Rows, Unserved}
+use Rattle.history_core.specs.declared.response.Response.{Response}
+use Rattle.history_core.specs.declared.response.Response.TheVariants.{Rows, Unserved}
 use Rattle.row_store.specs.History.{CommitRecord, IsPrefix}
 use Rattle.history_core.specs.declared.event.Who.{Who}
 use Rattle.history_core.specs.declared.event.Who.TheVariants.{Client, Dispatcher}
 use Rattle.history_core.specs.declared.event.Reply.{Reply}
-use Rattle.history_core.specs.declared.event.Reply.TheVariants.{NotEnabled, Done, Query as Told}
-use Rattle.history_core.specs.Events.{Question, Event, Post, Grab, Answer as Answering, GiveUp, Collect}
-use Rattle.history_core.specs.World.{World, Mailbox, empty, asked, in_hand, answered, unserved, rows_after, mailbox_of}
+use Rattle.history_core.specs.declared.event.Reply.TheVariants.{NotEnabled, Done, Asked as Told}
+use Rattle.history_core.specs.Events.{Questions, Event, Post, Grab, Answer as Answering, GiveUp, Collect}
+use Rattle.history_core.specs.World.{World, Mailbox, empty, asked, in_hand, answered, unserved, all_rows_after, mailbox_of}
 use Rattle.history_core.specs.Deeds.{Deed, actor_of}
 use Rattle.history_core.specs.Kept.{WorldKept}
 use Rattle.history_core.specs.Parts.{part_of, mailbox_at}
@@ -83,7 +83,7 @@ use Rattle.history_core.proofs.PartLaws.{numbered_there, BoxStepped}
 use Rattle.history_core.proofs.PartLaws as core
 use Rattle.history.specs.declared.view.Terms.{Terms}
 use Rattle.history.specs.declared.view.Member.{Member}
-use Rattle.history.specs.declared.request.PostedQuestion.{PostedQuestion}
+use Rattle.history.specs.declared.request.PostedRequest.{PostedRequest}
 use Rattle.history.specs.declared.view.Held.{Held}
 use Rattle.history.specs.declared.view.Role.{Role}
 use Rattle.history.specs.declared.view.Role.TheVariants.{Token}
@@ -127,7 +127,7 @@ use Rattle.history.proofs.FrameLaws.{
 }
 use Rattle.history.proofs.RowStepLaws.{unmoved}
 
-only_asked : (box : Mailbox) → stage box ≡ 1 → (question : Question) × (floor : ℕ) × (box ≡ asked question floor)
+only_asked : (box : Mailbox) → stage box ≡ 1 → (questions : Questions) × (floor : ℕ) × (box ≡ asked questions floor)
 only_asked empty e = absurd (omega arith)
 only_asked (asked q f) e = (q, f, refl)
 only_asked (in_hand d q f) e = absurd (omega arith)
@@ -135,18 +135,18 @@ only_asked (answered q n x) e = absurd (omega arith)
 only_asked (unserved q c) e = absurd (omega arith)
 
 -- the mailbox with an answer
-abbrev boxed : Answer → Mailbox
-boxed (Rows question number found) = answered question number found
-boxed (Unserved question cause) = unserved question cause
+abbrev boxed : Response → Mailbox
+boxed (Rows questions number found) = answered questions number found
+boxed (Unserved questions cause) = unserved questions cause
 
-only_answered : (box : Mailbox) → stage box ≡ 3 → (reply : Answer) × (box ≡ boxed reply)
+only_answered : (box : Mailbox) → stage box ≡ 3 → (reply : Response) × (box ≡ boxed reply)
 only_answered empty e = absurd (omega arith)
 only_answered (asked q f) e = absurd (omega arith)
 only_answered (in_hand d q f) e = absurd (omega arith)
 only_answered (answered q n x) e = (Rows q n x, refl)
 only_answered (unserved q c) e = (Unserved q c, refl)
 
-not_empty : (reply : Answer) (d : ℕ) (q : Question) (f : ℕ) → boxed reply ≢ in_hand d q f
+not_empty : (reply : Response) (d : ℕ) (q : Questions) (f : ℕ) → boxed reply ≢ in_hand d q f
 not_empty (Rows q' n x) d q f e = cc e
 not_empty (Unserved q' c) d q f e = cc e
 
@@ -163,18 +163,18 @@ module _ {W : Type 0} where
   slot_in [] = None
   slot_in (x ∷ xs) = x.1
 
-  lies_answer : (homes : Homes W) (client : ℕ) (reply : Answer) → LiesIn homes client (boxed reply)
+  lies_answer : (homes : Homes W) (client : ℕ) (reply : Response) → LiesIn homes client (boxed reply)
       → get_elem? homes (2 + client) ≡ some (some (Some (Answered reply)))
-  lies_answer homes client (Rows question number found) lies = lies
-  lies_answer homes client (Unserved question cause) lies = lies.0
+  lies_answer homes client (Rows questions number found) lies = lies
+  lies_answer homes client (Unserved questions cause) lies = lies.0
 
   -- a mailbox that the stepping member may change: its own, or one that is not empty and keeps its request; and no
   -- other has it in hand
   box_grows : (deeds : List Deed) (w : World) (event : Event) (reply : Reply) (me : Who) (m' : Member) (client : ℕ)
       (old box : Mailbox) (did : BoxStepped w event reply me (part m') (client + 1) box) (homes : Homes W)
       (y : maybe.Option (Slot W)) (place : ℕ) → actor_of event ≡ me → mailbox_at w (client + 1) ≡ Some old
-      → (client ≡ place) ⊎ (((o : Option PostedQuestion) → Asks o old → Asks o box) × (old ≢ empty))
-      → ((d : ℕ) (q : Question) (f : ℕ) → Dispatcher d ≢ me → old ≢ in_hand d q f)
+      → (client ≡ place) ⊎ (((o : Option PostedRequest) → Asks o old → Asks o box) × (old ≢ empty))
+      → ((d : ℕ) (q : Questions) (f : ℕ) → Dispatcher d ≢ me → old ≢ in_hand d q f)
       → Grows place me deeds (deeds ++ record { event = event; reply = reply } ∷ []) w did.step.after homes
       (set homes (2 + client) y)
   box_grows deeds w event reply me m' client old box did homes y place acts at own apart = record {
@@ -190,9 +190,9 @@ module _ {W : Type 0} where
           old,
           (let one : p + 1 ≡ client + 1 = omega arith in ap (mailbox_at w) one ∙ at),
           ⊎_elim (λ (f : client ≡ place). absurd (other (e ∙ f)))
-              (λ (h : ((o : Option PostedQuestion) → Asks o old → Asks o box) × (old ≢ empty)).
+              (λ (h : ((o : Option PostedRequest) → Asks o old → Asks o box) × (old ≢ empty)).
               let one : client + 1 ≡ p + 1 = omega arith in
-              subst (λ c. (o : Option PostedQuestion) → Asks o old → Asks o c)
+              subst (λ c. (o : Option PostedRequest) → Asks o old → Asks o c)
               (some_injective box b (sym did.box_is ∙ (ap (mailbox_at did.step.after) one ∙ there))) h.0) own,
         ))
         (λ n. (b, sym (did.mail (p + 1) (λ e. n (omega arith))) ∙ there, λ o asks. asks));
@@ -202,7 +202,7 @@ module _ {W : Type 0} where
         (λ far. did.mail n far ∙ h);
     vacant = λ p other v. dite (ℕ_discrete p client)
         (λ e. absurd (⊎_elim (λ (f : client ≡ place). other (e ∙ f))
-        (λ (h : ((o : Option PostedQuestion) → Asks o old → Asks o box) × (old ≢ empty)).
+        (λ (h : ((o : Option PostedRequest) → Asks o old → Asks o box) × (old ≢ empty)).
         let one : client + 1 ≡ p + 1 = omega arith in
         h.1 (some_injective old empty (sym at ∙ (ap (mailbox_at w) one ∙ v.0)))) own))
         (λ n. (
@@ -226,18 +226,18 @@ module _ {W : Type 0} (base_of : W → Tables) (taken : W → List CommitRecord)
   box_rule : (s : State (Slot W) View) (r : Rule s) (id place : ℕ) (v : View) → get_elem? s.views id ≡ some v
       → v.role ≡ Token place → (event : Event) (reply : Reply) (m' : Member) (client : ℕ) (old box : Mailbox)
       (did : BoxStepped r.1 event reply v.member.who (part m') (client + 1) box) (x : ℕ) (y : maybe.Option (Slot W))
-      (posted' : Option PostedQuestion) (grabbed' : List Held) (beside' : List (List CommitRecord))
+      (posted' : Option PostedRequest) (grabbed' : List Held) (beside' : List (List CommitRecord))
       → reply ≢ NotEnabled → actor_of event ≡ v.member.who → client < key.clients
       → mailbox_at r.1 (client + 1) ≡ Some old
-      → (client ≡ place) ⊎ (((o : Option PostedQuestion) → Asks o old → Asks o box) × (old ≢ empty))
-      → ((d : ℕ) (q : Question) (f : ℕ) → Dispatcher d ≢ v.member.who → old ≢ in_hand d q f)
+      → (client ≡ place) ⊎ (((o : Option PostedRequest) → Asks o old → Asks o box) × (old ≢ empty))
+      → ((d : ℕ) (q : Questions) (f : ℕ) → Dispatcher d ≢ v.member.who → old ≢ in_hand d q f)
       → m'.who ≡ v.member.who → m'.seen ≡ v.member.seen
       → m'.did ≡ v.member.did ++ record { event = event; reply = reply } ∷ []
       → x ≡ stage box → LiesIn (set s.homes (2 + client) y) client box
       → All (λ list. IsPrefix list r.1.history) beside'
       → ((b : Mailbox) → mailbox_at did.step.after (place + 1) ≡ Some b → Asks posted' b)
       → ((i : ℕ) (h : Held) → get_elem? grabbed' i ≡ some h → (n : ℕ) → v.member.who ≡ Dispatcher n
-      → mailbox_at did.step.after (h.place + 1) ≡ Some (in_hand n h.request.query h.request.floor))
+      → mailbox_at did.step.after (h.place + 1) ≡ Some (in_hand n h.request.questions h.request.floor))
       → AreApart grabbed' → (v.has_box ≡ false → place < key.clients → ⊥)
       → Rule record {
         words = set s.words (2 + client) x;
@@ -300,7 +300,7 @@ module _ {W : Type 0} (base_of : W → Tables) (taken : W → List CommitRecord)
             (subst (KnowsAs key homes' deeds' w' sh.owner id me') (sym is) known),
       )
 
-  pub posts : (slots id : ℕ) (me : Me (Slot W) View) (place : ℕ) (request : PostedQuestion) (others : List (ℕ × Slot W))
+  pub posts : (slots id : ℕ) (me : Me (Slot W) View) (place : ℕ) (request : PostedRequest) (others : List (ℕ × Slot W))
       → me.0.role ≡ Token place → (place < me.0.terms.clients) × (me.0.has_box ≡ true) × (me.0.asked ≡ None)
       → me.1 ≡ (2 + place, Some (Asked request)) ∷ others
       → request.floor ≡ length me.0.member.seen → Allows Rule slots id me (2 + place) (λ _. 1)
@@ -316,22 +316,22 @@ module _ {W : Type 0} (base_of : W → Tables) (taken : W → List CommitRecord)
       let who : Who = me.0.member.who in
       let named : who ≡ Client (place + 1) = client_here key.clients place who within k.who in
       let number : number_of who ≡ place + 1 = ap number_of named in
-      let box : Mailbox = asked request.query request.floor in
+      let box : Mailbox = asked request.questions request.floor in
       let slot : maybe.Option (Slot W) = some (Some (Asked request)) in let me' : View = posted me.0 request in
-      let did : BoxStepped w (Post (place + 1) request.query) Done who (part (member.posts request me.0.member))
+      let did : BoxStepped w (Post (place + 1) request.questions) Done who (part (member.posts request me.0.member))
       (place + 1) box =
-      subst (λ (z : Who × ℕ). BoxStepped w (Post (place + 1) request.query) Done z.0
-      (part (member.posts request me.0.member)) (place + 1) (asked request.query z.1)) (λ i. (sym named i, sym floor i))
-      (core.posts w (place + 1) request.query (part me.0.member) (ap (part_of w) (sym named) ∙ k.told.part_is) is_empty)
+      subst (λ (z : Who × ℕ). BoxStepped w (Post (place + 1) request.questions) Done z.0
+      (part (member.posts request me.0.member)) (place + 1) (asked request.questions z.1)) (λ i. (sym named i, sym floor i))
+      (core.posts w (place + 1) request.questions (part me.0.member) (ap (part_of w) (sym named) ∙ k.told.part_is) is_empty)
       in (
         me',
         gives,
         tt,
         subst (λ cs. Rule (stepped s (2 + place) 1 id cs me' gives)) (sym carried)
-            (box_rule s r id place me.0 at is (Post (place + 1) request.query) Done (member.posts request me.0.member)
+            (box_rule s r id place me.0 at is (Post (place + 1) request.questions) Done (member.posts request me.0.member)
             place empty box did 1 slot (Some request) me.0.grabbed me.0.beside (λ h. cc h) (sym named) within is_empty
             (inl refl) (λ d q f other. λ e. cc e) refl refl
-            (ap (λ n. me.0.member.did ++ record { event = Post n request.query; reply = Done } ∷ []) number) refl
+            (ap (λ n. me.0.member.did ++ record { event = Post n request.questions; reply = Done } ∷ []) number) refl
             (set_here s.homes (2 + place) slot (omega arith)) k.common.beside
             (λ b there. subst (Asks (Some request)) (some_injective box b (sym did.box_is ∙ there)) refl)
             (λ i h there n is_n. absurd (cc (sym named ∙ is_n))) k.apart (λ h inside. cc (sym can.1 ∙ h))),
@@ -392,63 +392,63 @@ module _ {W : Type 0} (base_of : W → Tables) (taken : W → List CommitRecord)
       hits hit = let near = within in let far = outside in
           let here = box_of r.0 w (kept_after base_of taken key r.0 w r.2) client within in let shown =
           sh.mail client here.0 here.1 in let a = only_asked here.0 (sym shown.word ∙ hit) in
-          let question : Question = a.0 in let floor : ℕ = a.1 in let asking : PostedQuestion = request question floor in
-          let is_asked : mailbox_at w (client + 1) ≡ Some (asked question floor) = here.1 ∙ ap (λ b. Some b) a.2 in
-          let lies : LiesIn s.homes client (asked question floor) = subst (LiesIn s.homes client) a.2 shown.slot in
+          let questions : Questions = a.0 in let floor : ℕ = a.1 in let asking : PostedRequest = request questions floor in
+          let is_asked : mailbox_at w (client + 1) ≡ Some (asked questions floor) = here.1 ∙ ap (λ b. Some b) a.2 in
+          let lies : LiesIn s.homes client (asked questions floor) = subst (LiesIn s.homes client) a.2 shown.slot in
           let me' : View = grabbed me.0 client asking in
-          let did : BoxStepped w (Grab number (client + 1)) (Told question) who
-          (part (member.grabs client asking me.0.member)) (client + 1) (in_hand number question floor) =
-          subst (λ z. BoxStepped w (Grab number (client + 1)) (Told question) z
-          (part (member.grabs client asking me.0.member)) (client + 1) (in_hand number question floor)) (sym named)
-          (core.grabs w number (client + 1) question floor (part me.0.member)
+          let did : BoxStepped w (Grab number (client + 1)) (Told questions) who
+          (part (member.grabs client asking me.0.member)) (client + 1) (in_hand number questions floor) =
+          subst (λ z. BoxStepped w (Grab number (client + 1)) (Told questions) z
+          (part (member.grabs client asking me.0.member)) (client + 1) (in_hand number questions floor)) (sym named)
+          (core.grabs w number (client + 1) questions floor (part me.0.member)
           (ap (part_of w) (sym named) ∙ k.told.part_is) is_asked) in (
             me',
             takes (2 + client) (Some (Asked asking)),
             lies,
             subst (λ b. Rule (stepped s (2 + client) (either b 2 n) id me.1 me'
                 (takes (2 + client) (Some (Asked asking))))) (sym (eq-eqb n 1 hit))
-                (box_rule s r id place me.0 at is (Grab number (client + 1)) (Told question)
-                (member.grabs client asking me.0.member) client (asked question floor)
-                (in_hand number question floor) did 2 none me.0.asked (held client asking ∷ me.0.grabbed) me.0.beside
+                (box_rule s r id place me.0 at is (Grab number (client + 1)) (Told questions)
+                (member.grabs client asking me.0.member) client (asked questions floor)
+                (in_hand number questions floor) did 2 none me.0.asked (held client asking ∷ me.0.grabbed) me.0.beside
                 (λ h. cc h) (sym named) near is_asked (inr ((λ o asks. asks), λ e. cc e)) (λ d q f other. λ e. cc e) refl
                 refl refl refl tt k.common.beside
                 (λ b there. k.asked b (sym (did.mail (place + 1) (λ e. omega arith)) ∙ there))
-                (in_hands question floor is_asked did) (all_elsewhere question floor is_asked, k.apart)
+                (in_hands questions floor is_asked did) (all_elsewhere questions floor is_asked, k.apart)
                 (λ h inside. omega arith)),
             (
               (λ h c e. let same : client ≡ c = omega arith in (
                 asking,
                 (λ i. (grabbed me.0 (same i) asking, (2 + same i, Some (Asked asking)) ∷ me.1)),
-                subst (λ p. IsElsewhere p me.0.grabbed) same (all_elsewhere question floor is_asked),
+                subst (λ p. IsElsewhere p me.0.grabbed) same (all_elsewhere questions floor is_asked),
               )),
               λ h. absurd (h hit),
             ),
           )
         where
-          elsewhere : (question : Question) (floor : ℕ) → mailbox_at w (client + 1) ≡ Some (asked question floor)
+          elsewhere : (questions : Questions) (floor : ℕ) → mailbox_at w (client + 1) ≡ Some (asked questions floor)
               → (i : ℕ) (g : Held) → get_elem? me.0.grabbed i ≡ some g → g.place ≢ client
-          elsewhere question floor is_asked i g h e = let one : client + 1 ≡ g.place + 1 = omega arith in
-              cc (some_injective (asked question floor) (in_hand number g.request.query g.request.floor)
+          elsewhere questions floor is_asked i g h e = let one : client + 1 ≡ g.place + 1 = omega arith in
+              cc (some_injective (asked questions floor) (in_hand number g.request.questions g.request.floor)
               (sym is_asked ∙ (ap (mailbox_at w) one ∙ k.grabbed i g h number named)))
 
-          all_elsewhere : (question : Question) (floor : ℕ) → mailbox_at w (client + 1) ≡ Some (asked question floor)
+          all_elsewhere : (questions : Questions) (floor : ℕ) → mailbox_at w (client + 1) ≡ Some (asked questions floor)
               → IsElsewhere client me.0.grabbed
-          all_elsewhere question floor is_asked = all_of (λ (h : Held). h.place ≢ client) me.0.grabbed
-              (elsewhere question floor is_asked)
+          all_elsewhere questions floor is_asked = all_of (λ (h : Held). h.place ≢ client) me.0.grabbed
+              (elsewhere questions floor is_asked)
 
-          in_hands : (question : Question) (floor : ℕ) → mailbox_at w (client + 1) ≡ Some (asked question floor)
-              → (did : BoxStepped w (Grab number (client + 1)) (Told question) who
-              (part (member.grabs client (request question floor) me.0.member)) (client + 1)
-              (in_hand number question floor)) → (i : ℕ) (g : Held)
-              → get_elem? (held client (request question floor) ∷ me.0.grabbed) i ≡ some g → (j : ℕ) → who ≡ Dispatcher j
-              → mailbox_at did.step.after (g.place + 1) ≡ Some (in_hand j g.request.query g.request.floor)
-          in_hands question floor is_asked did zero g h j is_j = subst (λ (z : Held × ℕ).
-              mailbox_at did.step.after (z.0.place + 1) ≡ Some (in_hand z.1 z.0.request.query z.0.request.floor))
-              (λ i. (some-injective (held client (request question floor)) g h i, ap number_of is_j i)) did.box_is
-          in_hands question floor is_asked did (suc i) g h j is_j = let far = elsewhere question floor is_asked i g h in
+          in_hands : (questions : Questions) (floor : ℕ) → mailbox_at w (client + 1) ≡ Some (asked questions floor)
+              → (did : BoxStepped w (Grab number (client + 1)) (Told questions) who
+              (part (member.grabs client (request questions floor) me.0.member)) (client + 1)
+              (in_hand number questions floor)) → (i : ℕ) (g : Held)
+              → get_elem? (held client (request questions floor) ∷ me.0.grabbed) i ≡ some g → (j : ℕ) → who ≡ Dispatcher j
+              → mailbox_at did.step.after (g.place + 1) ≡ Some (in_hand j g.request.questions g.request.floor)
+          in_hands questions floor is_asked did zero g h j is_j = subst (λ (z : Held × ℕ).
+              mailbox_at did.step.after (z.0.place + 1) ≡ Some (in_hand z.1 z.0.request.questions z.0.request.floor))
+              (λ i. (some-injective (held client (request questions floor)) g h i, ap number_of is_j i)) did.box_is
+          in_hands questions floor is_asked did (suc i) g h j is_j = let far = elsewhere questions floor is_asked i g h in
               did.mail (g.place + 1) (λ e. far (omega arith)) ∙ k.grabbed i g h j is_j
 
-  pub serves : (slots id : ℕ) (me : Me (Slot W) View) (place client : ℕ) (request : PostedQuestion) (reply : Answer)
+  pub serves : (slots id : ℕ) (me : Me (Slot W) View) (place client : ℕ) (request : PostedRequest) (reply : Response)
       (others : List (ℕ × Slot W)) → me.0.role ≡ Token place → (client < me.0.terms.clients)
       × (me.0.terms.clients ≤ place)
       → request_at client me.0.grabbed ≡ Some request → me.1 ≡ (2 + client, Some (Answered reply)) ∷ others
@@ -466,7 +466,7 @@ module _ {W : Type 0} (base_of : W → Tables) (taken : W → List CommitRecord)
           (λ i. (served_as me.0 (here i) ((has_later c here) i) (one i), rest me.1)),
           λ q e'. let asks : Some request ≡ Some q = sym has ∙ (ap (λ n. request_at n me.0.grabbed) here ∙ e') in
               let ask : request ≡ q = cc asks in
-              subst (λ (z : ℕ × PostedQuestion × Answer). IsFresh (given_to (z.0 + 1) z.1 z.2))
+              subst (λ (z : ℕ × PostedRequest × Response). IsFresh (given_to (z.0 + 1) z.1 z.2))
               (λ i. (here i, ask i, one i)) (fresh (client + 1) reply right),
         ),
   )
@@ -501,7 +501,7 @@ module _ {W : Type 0} (base_of : W → Tables) (taken : W → List CommitRecord)
       part_is : part_of w (Dispatcher number) ≡ Some (part me.0.member)
       part_is = ap (part_of w) (sym named) ∙ k.told.part_is
 
-      hand : mailbox_at w (client + 1) ≡ Some (in_hand number request.query request.floor)
+      hand : mailbox_at w (client + 1) ≡ Some (in_hand number request.questions request.floor)
       hand = let t = request_there client me.0.grabbed request has in
           k.grabbed t.0 (held client request) t.1 number named
 
@@ -509,25 +509,25 @@ module _ {W : Type 0} (base_of : W → Tables) (taken : W → List CommitRecord)
       has_later : (c : ℕ) (here : client ≡ c) → Some request ≡ request_at c me.0.grabbed
       has_later c here = sym has ∙ ap (λ n. request_at n me.0.grabbed) here
 
-      fresh : (n : ℕ) (x : Answer) → IsRightAt me.0.terms.base me.0.member.seen me.0.member.version request x
+      fresh : (n : ℕ) (x : Response) → IsRightAt me.0.terms.base me.0.member.seen me.0.member.version request x
           → IsFresh (given_to n request x)
-      fresh n (Rows question made found) (same, version, rows) later e = let is_made : made ≡ later = cc e in
+      fresh n (Rows questions made found) (same, version, rows) later e = let is_made : made ≡ later = cc e in
           subst (λ v. request.floor ≤ v) is_made
-          (floor_kept key.base key.clients w kept number (client + 1) request.query request.floor made
+          (floor_kept key.base key.clients w kept number (client + 1) request.questions request.floor made
           (part me.0.member) hand part_is version)
-      fresh n (Unserved question cause) right later e = absurd (cc e)
+      fresh n (Unserved questions cause) right later e = absurd (cc e)
 
       -- what does not depend on the answer
-      answering : (event : Event) (x : Answer) (box : Mailbox)
+      answering : (event : Event) (x : Response) (box : Mailbox)
           → (did : BoxStepped w event Done who (part (member.answers client request x me.0.member)) (client + 1) box)
           → event ≡ member.answer_named number (client + 1) x → actor_of event ≡ who → 3 ≡ stage box
-          → ((o : Option PostedQuestion) → Asks o (in_hand number request.query request.floor) → Asks o box)
+          → ((o : Option PostedRequest) → Asks o (in_hand number request.questions request.floor) → Asks o box)
           → LiesIn (set s.homes (2 + client) (some (Some (Answered x)))) client box
           → Rule (stepped s (2 + client) 3 id ((2 + client, Some (Answered x)) ∷ others)
           (served_as me.0 client (Some request) x) gives)
       answering event x box did is_named acts says asks lies =
           box_rule s r id place me.0 at is event Done (member.answers client request x me.0.member) client
-          (in_hand number request.query request.floor) box did 3 (some (Some (Answered x))) me.0.asked
+          (in_hand number request.questions request.floor) box did 3 (some (Some (Answered x))) me.0.asked
           (without_at client me.0.grabbed) me.0.beside (λ h. cc h) acts near hand (inr (asks, λ e. cc e))
           (λ d q f other e. let same : number ≡ d = cc e in
           other (ap (λ j. Dispatcher j) (sym same) ∙ sym named)) refl refl
@@ -539,47 +539,47 @@ module _ {W : Type 0} (base_of : W → Tables) (taken : W → List CommitRecord)
           did.mail (h.place + 1) (λ e. apart (omega (arith, e))) ∙ k.grabbed was.0 h was.1 j is_j)
           (apart_without client me.0.grabbed k.apart) (λ h inside. omega (arith, inside, far))
 
-      ruled : (x : Answer) → IsRightAt me.0.terms.base me.0.member.seen me.0.member.version request x
+      ruled : (x : Response) → IsRightAt me.0.terms.base me.0.member.seen me.0.member.version request x
           → Rule (stepped s (2 + client) 3 id ((2 + client, Some (Answered x)) ∷ others)
           (served_as me.0 client (Some request) x) gives)
-      ruled (Rows question made found) (same, version, rows) = let own =
+      ruled (Rows questions made found) (same, version, rows) = let own =
           part_kept key.base key.clients w kept who (part me.0.member) k.told.part_is in
           let low = own.versioned made version in let narrow = sh.slot_count in
-          let all : found ≡ rows_after w.base question (take made w.history) =
-          rows ∙ (λ i. rows_after ((ap (λ (t : Terms). t.base) k.common.terms ∙ sym kept.based) i) question
+          let all : found ≡ all_rows_after w.base questions (take made w.history) =
+          rows ∙ (λ i. all_rows_after ((ap (λ (t : Terms). t.base) k.common.terms ∙ sym kept.based) i) questions
           ((sym (take-append-le made me.0.member.seen own.begins.rest low) ∙ ap (take made) (sym own.begins.whole)) i)) in
           let did : BoxStepped w (Answering number (client + 1)) Done who
-          (part (member.answers client request (Rows question made found) me.0.member)) (client + 1)
-          (answered question made found) =
+          (part (member.answers client request (Rows questions made found) me.0.member)) (client + 1)
+          (answered questions made found) =
           subst (λ (z : Who × Mailbox). BoxStepped w (Answering number (client + 1)) Done z.0
-          (part (member.answers client request (Rows question made found) me.0.member)) (client + 1) z.1)
+          (part (member.answers client request (Rows questions made found) me.0.member)) (client + 1) z.1)
           (λ i. (
             sym named i,
-            (ap (λ q. answered q made (rows_after w.base q (take made w.history))) (sym same)
-                ∙ ap (answered question made) (sym all)) i,
+            (ap (λ q. answered q made (all_rows_after w.base q (take made w.history))) (sym same)
+                ∙ ap (answered questions made) (sym all)) i,
           ))
-          (core.answers w number (client + 1) request.query request.floor made (part me.0.member) part_is version hand) in
-          answering (Answering number (client + 1)) (Rows question made found) (answered question made found) did refl
+          (core.answers w number (client + 1) request.questions request.floor made (part me.0.member) part_is version hand) in
+          answering (Answering number (client + 1)) (Rows questions made found) (answered questions made found) did refl
           (sym named) refl
           (λ o asks. (
             request.floor,
             asks ∙ ap (λ q. Some (Rattle.history.specs.Words.request q request.floor)) (sym same),
-            floor_kept key.base key.clients w kept number (client + 1) request.query request.floor made
+            floor_kept key.base key.clients w kept number (client + 1) request.questions request.floor made
                 (part me.0.member) hand part_is version,
           ))
-          (set_here s.homes (2 + client) (some (Some (Answered (Rows question made found)))) (omega (arith, near, narrow)))
-      ruled (Unserved question cause) (same, fits) = let narrow = sh.slot_count in
+          (set_here s.homes (2 + client) (some (Some (Answered (Rows questions made found)))) (omega (arith, near, narrow)))
+      ruled (Unserved questions cause) (same, fits) = let narrow = sh.slot_count in
           let did : BoxStepped w (GiveUp number (client + 1) cause) Done who
-          (part (member.answers client request (Unserved question cause) me.0.member)) (client + 1)
-          (unserved question cause) =
+          (part (member.answers client request (Unserved questions cause) me.0.member)) (client + 1)
+          (unserved questions cause) =
           subst (λ (z : Who × Mailbox). BoxStepped w (GiveUp number (client + 1) cause) Done z.0
-          (part (member.answers client request (Unserved question cause) me.0.member)) (client + 1) z.1)
+          (part (member.answers client request (Unserved questions cause) me.0.member)) (client + 1) z.1)
           (λ i. (sym named i, ap (λ q. unserved q cause) (sym same) i))
-          (core.gives_up w number (client + 1) request.query request.floor cause (part me.0.member) part_is hand) in
-          answering (GiveUp number (client + 1) cause) (Unserved question cause) (unserved question cause) did refl
+          (core.gives_up w number (client + 1) request.questions request.floor cause (part me.0.member) part_is hand) in
+          answering (GiveUp number (client + 1) cause) (Unserved questions cause) (unserved questions cause) did refl
           (sym named) refl
           (λ o asks. (request.floor, asks ∙ ap (λ q. Some (Rattle.history.specs.Words.request q request.floor)) (sym same)))
-          (set_here s.homes (2 + client) (some (Some (Answered (Unserved question cause)))) (omega (arith, near, narrow)), fits)
+          (set_here s.homes (2 + client) (some (Some (Answered (Unserved questions cause)))) (omega (arith, near, narrow)), fits)
 
   pub collects_one : (slots id : ℕ) (me : Me (Slot W) View) (place : ℕ) → me.0.role ≡ Token place
       → (place < me.0.terms.clients) × (me.0.has_box ≡ true)
@@ -628,44 +628,44 @@ module _ {W : Type 0} (base_of : W → Tables) (taken : W → List CommitRecord)
           × Collects (step slots (2 + place) 3 0 none) me n (v, carried_after me.1 a)
 
       -- the event of this answer
-      collecting : (reply : Answer) → mailbox_at w (place + 1) ≡ Some (boxed reply)
+      collecting : (reply : Response) → mailbox_at w (place + 1) ≡ Some (boxed reply)
           → BoxStepped w (Collect (place + 1)) (told_by reply) who (part (member.collects reply me.0.member)) (place + 1)
           empty
-      collecting (Rows question made found) lies = subst (λ z. BoxStepped w (Collect (place + 1))
-          (told_by (Rows question made found)) z (part (member.collects (Rows question made found) me.0.member)) (place + 1)
-          empty) (sym named) (core.collects w (place + 1) question made found (part me.0.member)
+      collecting (Rows questions made found) lies = subst (λ z. BoxStepped w (Collect (place + 1))
+          (told_by (Rows questions made found)) z (part (member.collects (Rows questions made found) me.0.member)) (place + 1)
+          empty) (sym named) (core.collects w (place + 1) questions made found (part me.0.member)
           (ap (part_of w) (sym named) ∙ k.told.part_is) lies)
-      collecting (Unserved question cause) lies = subst (λ z. BoxStepped w (Collect (place + 1))
-          (told_by (Unserved question cause)) z (part (member.collects (Unserved question cause) me.0.member)) (place + 1)
-          empty) (sym named) (core.collects_none w (place + 1) question cause (part me.0.member)
+      collecting (Unserved questions cause) lies = subst (λ z. BoxStepped w (Collect (place + 1))
+          (told_by (Unserved questions cause)) z (part (member.collects (Unserved questions cause) me.0.member)) (place + 1)
+          empty) (sym named) (core.collects_none w (place + 1) questions cause (part me.0.member)
           (ap (part_of w) (sym named) ∙ k.told.part_is) lies)
 
-      enabled : (reply : Answer) → told_by reply ≢ NotEnabled
-      enabled (Rows question made found) e = cc e
-      enabled (Unserved question cause) e = cc e
+      enabled : (reply : Response) → told_by reply ≢ NotEnabled
+      enabled (Rows questions made found) e = cc e
+      enabled (Unserved questions cause) e = cc e
 
       -- it is right, and to what the client asked
-      right : (reply : Answer) → mailbox_at w (place + 1) ≡ Some (boxed reply) → LiesIn s.homes place (boxed reply)
-          → (asking : PostedQuestion) × (me.0.asked ≡ Some asking) × IsRight me.0.terms.base w.history asking reply
-      right (Rows question made found) lies slot = let asks = k.asked (answered question made found) lies in let true_rows =
+      right : (reply : Response) → mailbox_at w (place + 1) ≡ Some (boxed reply) → LiesIn s.homes place (boxed reply)
+          → (asking : PostedRequest) × (me.0.asked ≡ Some asking) × IsRight me.0.terms.base w.history asking reply
+      right (Rows questions made found) lies slot = let asks = k.asked (answered questions made found) lies in let true_rows =
           mail_kept key.base key.clients w kept (place + 1) (numbered w.clients (place + 1))
-          (answered question made found) refl lies in (
-            request question asks.0,
+          (answered questions made found) refl lies in (
+            request questions asks.0,
             asks.1,
             (
               refl,
               asks.2,
               true_rows.0,
-              true_rows.1 ∙ ap (λ b. rows_after b question (take made w.history))
+              true_rows.1 ∙ ap (λ b. all_rows_after b questions (take made w.history))
                   (kept.based ∙ ap (λ (t : Terms). t.base) (sym k.common.terms)),
             ),
           )
-      right (Unserved question cause) lies slot = let asks = k.asked (unserved question cause) lies in
-          (request question asks.0, asks.1, (refl, slot.1))
+      right (Unserved questions cause) lies slot = let asks = k.asked (unserved questions cause) lies in
+          (request questions asks.0, asks.1, (refl, slot.1))
 
       hits : n ≡ 3 → Goal
       hits hit = let near = within in let here = box_of r.0 w kept place within in let shown =
-          sh.mail place here.0 here.1 in let a = only_answered here.0 (sym shown.word ∙ hit) in let reply : Answer = a.0 in
+          sh.mail place here.0 here.1 in let a = only_answered here.0 (sym shown.word ∙ hit) in let reply : Response = a.0 in
           let is_answered : mailbox_at w (place + 1) ≡ Some (boxed reply) = here.1 ∙ ap (λ b. Some b) a.1 in
           let lies : LiesIn s.homes place (boxed reply) = subst (LiesIn s.homes place) a.1 shown.slot in
           let t = right reply is_answered lies in let did = collecting reply is_answered in

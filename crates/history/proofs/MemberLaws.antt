@@ -8,7 +8,7 @@ use Rattle.row_store.specs.History.{CommitRecord, IsPrefix}
 use Rattle.history_core.specs.declared.event.Who.{Who}
 use Rattle.history_core.specs.declared.event.Who.TheVariants.{Client, Dispatcher}
 use Rattle.history_core.specs.Numbered.{numbered, is_there}
-use Rattle.history_core.specs.Events.{Question}
+use Rattle.history_core.specs.Events.{Questions}
 use Rattle.history_core.specs.World.{World, Mailbox, in_hand}
 use Rattle.history_core.specs.Kept.{WorldKept}
 use Rattle.history_core.specs.Parts.{Part, client_part, dispatcher_part, part_of, mailbox_at}
@@ -108,11 +108,11 @@ part_kept base clients w k (Dispatcher n) p at = let d = found dispatcher_part (
 
 -- a version is no less than the floor of a request in hand
 pub floor_kept : (base : Tables) (clients : ℕ) (w : World) → WorldKept base clients w → (number n : ℕ)
-    (question : Question) (floor version : ℕ) (p : Part) → mailbox_at w n ≡ Some (in_hand number question floor)
+    (questions : Questions) (floor version : ℕ) (p : Part) → mailbox_at w n ≡ Some (in_hand number questions floor)
     → part_of w (Dispatcher number) ≡ Some p → p.version ≡ Some version → floor ≤ version
-floor_kept base clients w k number n question floor version p hand at is = let d =
+floor_kept base clients w k number n questions floor version p hand at is = let d =
     found dispatcher_part (numbered w.dispatchers number) p at in
-    (mail_kept base clients w k n (numbered w.clients n) (in_hand number question floor) refl hand).1 version
+    (mail_kept base clients w k n (numbered w.clients n) (in_hand number questions floor) refl hand).1 version
     (d.0, d.1, inr (ap (λ (q : Part). q.version) d.2 ∙ is))
 
 pub box_within : (base : Tables) (clients : ℕ) (w : World) → WorldKept base clients w → (place : ℕ) (box : Mailbox)

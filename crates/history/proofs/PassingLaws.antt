@@ -37,13 +37,13 @@ use Rattle.atomic_table.specs.Seated.{TableId}
 use Rattle.atomic_table.specs.Table.{rest, turned}
 use Rattle.arrayvec.specs.ArrayVec.{ArrayVec}
 use Rattle.row_store.specs.History.{CommitRecord, Warehouse, IsPrefix}
-use Rattle.ssb_answers.specs.declared.answer.Answer.{Answer}
+use Rattle.history_core.specs.declared.response.Response.{Response}
 use Rattle.history_core.specs.declared.event.Who.TheVariants.{Client}
-use Rattle.history_core.specs.Events.{Question}
+use Rattle.history_core.specs.Events.{Questions}
 use Rattle.row_store.proofs.HistoryLaws.{accepted_stays_legal}
 use Rattle.history_core.proofs.HistoryLaws.{named_push}
 use Rattle.history.specs.declared.view.Member.{Member}
-use Rattle.history.specs.declared.request.PostedQuestion.{PostedQuestion}
+use Rattle.history.specs.declared.request.PostedRequest.{PostedRequest}
 use Rattle.history.specs.declared.view.Held.{Held}
 use Rattle.history.specs.declared.view.View.{View}
 use Rattle.history.specs.declared.token.Token.TheInside.{Inside as Token}
@@ -97,7 +97,7 @@ module _ {W : Type 0} where
   boxes_behind v place far = let high : nat_lt place v.terms.clients ≡ false = grind (arith, nat_tests) in rw high refl
 
   -- the slots of a client that has asked something, and of one that has not
-  pub asking_carries : (p : Token W) (asked : PostedQuestion) → IsSeated p → p.place < p.seat.me.0.terms.clients
+  pub asking_carries : (p : Token W) (asked : PostedRequest) → IsSeated p → p.place < p.seat.me.0.terms.clients
       → p.seat.me.0.asked ≡ Some asked → p.seat.me.1 ≡ hands 0 p.seat.me.0.holds_rows []
   asking_carries p asked is near has = let v : View = p.seat.me.0 in
       is.carried ∙ ((λ i. hands 0 v.holds_rows (hands 1 ((is.in_hand.0 near).2 i) (boxes v p.place)))
@@ -237,7 +237,7 @@ module _ {W : Type 0} where
       subst (Saw (shown_token p)) (sym (token_is p p.hand after n (looked (record p.seat.me.0 { beside = beside }) history)
       p.seat.me.1 table now)) record { begins = begins; beside = known; now = refl }
 
-  pub posted_seated : (p : Token W) (after : Place W) (asked : PostedQuestion) → IsSeated p
+  pub posted_seated : (p : Token W) (after : Place W) (asked : PostedRequest) → IsSeated p
       → p.place < p.seat.me.0.terms.clients → after.me ≡ (posted p.seat.me.0 asked, hands 0 p.seat.me.0.holds_rows [])
       → IsSeated (passed p p.hand after p.seen_len)
   posted_seated p after asked is near now = let v : View = p.seat.me.0 in
@@ -257,14 +257,14 @@ module _ {W : Type 0} where
         sound = record { legal = is.sound.legal; named = is.sound.named; owns = is.sound.owns };
       }
 
-  pub posted_token : (p : Token W) (after : Place W) (question : Question) (carried : List (ℕ × Slot W)) → IsSeated p
-      → after.table_id ≡ p.seat.table_id → after.me ≡ (posted p.seat.me.0 (request question p.seen_len), carried)
-      → shown_token (passed p p.hand after p.seen_len) ≡ public.posted (shown_token p) question
-  posted_token p after question carried is table now =
-      token_is p p.hand after p.seen_len (posted p.seat.me.0 (request question p.seen_len)) carried table now
-      ∙ ap (λ n. token_of_view p.seat.table_id (posted p.seat.me.0 (request question n))) is.seen_len
+  pub posted_token : (p : Token W) (after : Place W) (questions : Questions) (carried : List (ℕ × Slot W)) → IsSeated p
+      → after.table_id ≡ p.seat.table_id → after.me ≡ (posted p.seat.me.0 (request questions p.seen_len), carried)
+      → shown_token (passed p p.hand after p.seen_len) ≡ public.posted (shown_token p) questions
+  posted_token p after questions carried is table now =
+      token_is p p.hand after p.seen_len (posted p.seat.me.0 (request questions p.seen_len)) carried table now
+      ∙ ap (λ n. token_of_view p.seat.table_id (posted p.seat.me.0 (request questions n))) is.seen_len
 
-  pub grabbed_seated : (p : Token W) (hand : ArrayVec ℕ) (after : Place W) (client : ℕ) (asked : PostedQuestion) → IsSeated p
+  pub grabbed_seated : (p : Token W) (hand : ArrayVec ℕ) (after : Place W) (client : ℕ) (asked : PostedRequest) → IsSeated p
       → p.seat.me.0.terms.clients ≤ p.place → p.seat.me.0.holds_rows ≡ false → p.seat.me.0.holds_writer ≡ false
       → client < p.seat.me.0.terms.clients
       → hand.items ≡ client ∷ p.hand.items → IsElsewhere client p.seat.me.0.grabbed
@@ -288,18 +288,18 @@ module _ {W : Type 0} where
         sound = record { legal = is.sound.legal; named = is.sound.named; owns = is.sound.owns };
       }
 
-  pub grabbed_token : (p : Token W) (hand : ArrayVec ℕ) (after : Place W) (place client : ℕ) (asked : PostedQuestion)
+  pub grabbed_token : (p : Token W) (hand : ArrayVec ℕ) (after : Place W) (place client : ℕ) (asked : PostedRequest)
       (carried : List (ℕ × Slot W)) → place + 1 ≡ client → after.table_id ≡ p.seat.table_id
       → after.me ≡ (grabbed p.seat.me.0 place asked, carried)
-      → Grabs (shown_token p) client asked.query (shown_token (passed p hand after p.seen_len))
+      → Grabs (shown_token p) client asked.questions (shown_token (passed p hand after p.seen_len))
   grabbed_token p hand after place client asked carried number table now =
-      subst (λ n. Grabs (shown_token p) n asked.query (shown_token (passed p hand after p.seen_len))) number
-      (subst (Grabs (shown_token p) (place + 1) asked.query)
+      subst (λ n. Grabs (shown_token p) n asked.questions (shown_token (passed p hand after p.seen_len))) number
+      (subst (Grabs (shown_token p) (place + 1) asked.questions)
       (sym (token_is p hand after p.seen_len (grabbed p.seat.me.0 place asked) carried table now))
       record { floor = asked.floor; now = refl })
 
-  pub answered_seated : (p : Token W) (hand : ArrayVec ℕ) (after : Place W) (client : ℕ) (asked : PostedQuestion)
-      (reply : Answer) → IsSeated p → p.seat.me.0.terms.clients ≤ p.place → p.seat.me.0.holds_rows ≡ false
+  pub answered_seated : (p : Token W) (hand : ArrayVec ℕ) (after : Place W) (client : ℕ) (asked : PostedRequest)
+      (reply : Response) → IsSeated p → p.seat.me.0.terms.clients ≤ p.place → p.seat.me.0.holds_rows ≡ false
       → p.seat.me.0.holds_writer ≡ false
       → request_at client p.seat.me.0.grabbed ≡ Some asked
       → hand.items ≡ map (λ (h : Held). h.place) (without_at client p.seat.me.0.grabbed)
@@ -323,7 +323,7 @@ module _ {W : Type 0} where
         sound = record { legal = is.sound.legal; named = is.sound.named; owns = is.sound.owns };
       }
 
-  pub collected_seated : (p : Token W) (after : Place W) (history : List CommitRecord) (reply : Answer) (asked : PostedQuestion)
+  pub collected_seated : (p : Token W) (after : Place W) (history : List CommitRecord) (reply : Response) (asked : PostedRequest)
       → IsSeated p → p.place < p.seat.me.0.terms.clients → p.seat.me.0.asked ≡ Some asked
       → after.me ≡ (collected p.seat.me.0 history reply, turned ((2 + p.place, None) ∷ p.seat.me.1))
       → IsSeated (passed p p.hand after p.seen_len)
@@ -348,7 +348,7 @@ module _ {W : Type 0} where
         sound = record { legal = is.sound.legal; named = is.sound.named; owns = is.sound.owns };
       }
 
-  pub collected_token : (p : Token W) (after : Place W) (history : List CommitRecord) (reply : Answer) (asked : PostedQuestion)
+  pub collected_token : (p : Token W) (after : Place W) (history : List CommitRecord) (reply : Response) (asked : PostedRequest)
       (carried : List (ℕ × Slot W)) → p.seat.me.0.asked ≡ Some asked
       → IsRight p.seat.me.0.terms.base history asked reply → after.table_id ≡ p.seat.table_id
       → after.me ≡ (collected p.seat.me.0 history reply, carried)

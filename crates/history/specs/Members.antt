@@ -1,7 +1,7 @@
 -- The members of a table, first its clients and then its dispatchers, and what each event changes of the one that acts.
 use Rattle.std.specs.Prelude.{ℕ, ◌+◌, ◌-◌, nat_lt, if◌then◌else◌, List, [], ◌∷◌, ◌++◌, length, Some, None}
-use Rattle.ssb_answers.specs.declared.answer.Answer.{Answer}
-use Rattle.ssb_answers.specs.declared.answer.Answer.TheVariants.{Rows, Unserved}
+use Rattle.history_core.specs.declared.response.Response.{Response}
+use Rattle.history_core.specs.declared.response.Response.TheVariants.{Rows, Unserved}
 use Rattle.row_store.specs.History.{CommitRecord}
 use Rattle.history_core.specs.declared.event.Who.{Who}
 use Rattle.history_core.specs.declared.event.Who.TheVariants.{Client, Dispatcher}
@@ -10,7 +10,7 @@ use Rattle.history_core.specs.declared.event.Reply.TheVariants as told
 use Rattle.history_core.specs.Events.{Event}
 use Rattle.history_core.specs.Events as event
 use Rattle.history_core.specs.Parts.{Part, mark_after}
-use Rattle.history.specs.declared.request.PostedQuestion.{PostedQuestion}
+use Rattle.history.specs.declared.request.PostedRequest.{PostedRequest}
 use Rattle.history.specs.declared.view.Member.{Member}
 use Rattle.history.specs.Words.{given_to}
 
@@ -47,12 +47,12 @@ commits history commit m =
 abbrev pub sees : List CommitRecord → Member → Member
 sees history m = with_deed (event.Look m.who) (told.Length (length history)) record m { seen = history }
 
-abbrev pub posts : PostedQuestion → Member → Member
-posts request m = with_deed (event.Post (number_of m.who) request.query) told.Done m
+abbrev pub posts : PostedRequest → Member → Member
+posts request m = with_deed (event.Post (number_of m.who) request.questions) told.Done m
 
-abbrev pub grabs : ℕ → PostedQuestion → Member → Member
+abbrev pub grabs : ℕ → PostedRequest → Member → Member
 grabs client request m =
-    with_deed (event.Grab (number_of m.who) (client + 1)) (told.Query request.query)
+    with_deed (event.Grab (number_of m.who) (client + 1)) (told.Asked request.questions)
     record m { mark = None; version = None }
 
 abbrev pub takes_writer : Member → Member
@@ -61,21 +61,21 @@ takes_writer m = with_deed (event.TakeWriter (number_of m.who)) told.Done record
 abbrev pub puts_writer : Member → Member
 puts_writer m = with_deed (event.PutWriter (number_of m.who)) told.Done record m { version = m.mark }
 
-abbrev pub answer_named : ℕ → ℕ → Answer → Event
-answer_named dispatcher client (Rows question at found) = event.Answer dispatcher client
-answer_named dispatcher client (Unserved question cause) = event.GiveUp dispatcher client cause
+abbrev pub answer_named : ℕ → ℕ → Response → Event
+answer_named dispatcher client (Rows questions at found) = event.Answer dispatcher client
+answer_named dispatcher client (Unserved questions cause) = event.GiveUp dispatcher client cause
 
-abbrev pub answers : ℕ → PostedQuestion → Answer → Member → Member
+abbrev pub answers : ℕ → PostedRequest → Response → Member → Member
 answers client request reply m =
     with_deed (answer_named (number_of m.who) (client + 1) reply) told.Done
     record m { given = m.given ++ given_to (client + 1) request reply ∷ [] }
 
 -- what a client is told that collects this answer
-abbrev pub told_by : Answer → Reply
-told_by (Rows question at found) = told.Rows question at found
-told_by (Unserved question cause) = told.Unserved question cause
+abbrev pub told_by : Response → Reply
+told_by (Rows questions at found) = told.Rows questions at found
+told_by (Unserved questions cause) = told.Unserved questions cause
 
-abbrev pub collects : Answer → Member → Member
+abbrev pub collects : Response → Member → Member
 collects reply m = with_deed (event.Collect (number_of m.who)) (told_by reply) m
 
 -- what the world has of a member

@@ -3,12 +3,12 @@ use Rattle.std.specs.Prelude.{◌≡◌, ◌≢◌, ℕ, ◌+◌, ◌/◌, ◌%�
 use Rattle.std.specs.Prelude.{length, drop, Option, Some, None}
 use Rattle.atomic_table.specs.Table.{Me, Step, rest}
 use Rattle.ssb_base.specs.Base.{Tables}
-use Rattle.ssb_answers.specs.declared.answer.Answer.{Answer}
+use Rattle.history_core.specs.declared.response.Response.{Response}
 use Rattle.row_store.specs.History.{CommitRecord, IsPrefix}
 use Rattle.row_store.specs.Legal.{IsLegal}
 use Rattle.history.specs.declared.view.Terms.{Terms}
 use Rattle.history.specs.declared.view.Member.{Member}
-use Rattle.history.specs.declared.request.PostedQuestion.{PostedQuestion}
+use Rattle.history.specs.declared.request.PostedRequest.{PostedRequest}
 use Rattle.history.specs.declared.view.Held.{Held}
 use Rattle.history.specs.declared.view.Role.{Role}
 use Rattle.history.specs.declared.view.Role.TheVariants.{Dealer, Token, Note, Spent}
@@ -48,14 +48,14 @@ abbrev pub gave_back : View → List CommitRecord → View
 gave_back v log = record v { member = put_by v.member log; holds_rows = false }
 
 -- a client's request lies in its slot
-abbrev pub posted : View → PostedQuestion → View
+abbrev pub posted : View → PostedRequest → View
 posted v request = record v { member = posts request v.member; asked = Some request }
 
-abbrev pub held : ℕ → PostedQuestion → Held
+abbrev pub held : ℕ → PostedRequest → Held
 held place asked = record { place = place; request = asked }
 
 -- the request in hand of the client at a place, and those in hand without it
-abbrev pub request_at : ℕ → List Held → Option PostedQuestion
+abbrev pub request_at : ℕ → List Held → Option PostedRequest
 request_at place [] = None
 request_at place (h ∷ hs) = if h.place == place then Some h.request else request_at place hs
 
@@ -64,20 +64,20 @@ without_at place [] = []
 without_at place (h ∷ hs) = if h.place == place then hs else h ∷ without_at place hs
 
 -- a dispatcher has a request more in hand, before the others, and no mark
-abbrev pub grabbed : View → ℕ → PostedQuestion → View
+abbrev pub grabbed : View → ℕ → PostedRequest → View
 grabbed v client asked = record v { member = grabs client asked v.member; grabbed = held client asked ∷ v.grabbed }
 
 -- a client's request, which was in hand, is answered
-abbrev pub served_as : View → ℕ → Option PostedQuestion → Answer → View
+abbrev pub served_as : View → ℕ → Option PostedRequest → Response → View
 served_as v client None reply = v
 served_as v client (Some asked) reply =
     record v { member = answers client asked reply v.member; grabbed = without_at client v.grabbed }
 
-abbrev pub served : View → ℕ → Answer → View
+abbrev pub served : View → ℕ → Response → View
 served v client reply = served_as v client (request_at client v.grabbed) reply
 
 -- a client has its answer, and the history that it is right in beside what it has seen
-abbrev pub collected : View → List CommitRecord → Answer → View
+abbrev pub collected : View → List CommitRecord → Response → View
 collected v history reply = record v { member = collects reply v.member; asked = None; beside = history ∷ v.beside }
 
 -- a dispatcher has the writer, and what that stands for beside what it has seen
@@ -152,27 +152,27 @@ module _ {W : Type 0} where
   OpensBox st me found after = (place : ℕ) → me.0.role ≡ Token place → after ≡ (opened me.0, (2 + place, None) ∷ me.1)
 
   abbrev pub Posts : Step (Slot W) → Me (Slot W) View → ℕ → Me (Slot W) View → Type 0
-  Posts st me found after = (place : ℕ) (request : PostedQuestion) → me.1 ≡ (2 + place, Some (Asked request)) ∷ rest me.1
+  Posts st me found after = (place : ℕ) (request : PostedRequest) → me.1 ≡ (2 + place, Some (Asked request)) ∷ rest me.1
       → after ≡ (posted me.0 request, rest me.1)
 
   abbrev pub Grabs : Step (Slot W) → Me (Slot W) View → ℕ → Me (Slot W) View → Type 0
   Grabs st me found after =
-      (found ≡ 1 → (client : ℕ) → st.word ≡ 2 + client → (request : PostedQuestion)
+      (found ≡ 1 → (client : ℕ) → st.word ≡ 2 + client → (request : PostedRequest)
       × (after ≡ (grabbed me.0 client request, (2 + client, Some (Asked request)) ∷ me.1))
       × IsElsewhere client me.0.grabbed)
       × (found ≢ 1 → after ≡ me)
 
   abbrev pub Answers : Step (Slot W) → Me (Slot W) View → ℕ → Me (Slot W) View → Type 0
   Answers st me found after =
-      (client : ℕ) (reply : Answer) → st.word ≡ 2 + client → me.1 ≡ (2 + client, Some (Answered reply)) ∷ rest me.1
+      (client : ℕ) (reply : Response) → st.word ≡ 2 + client → me.1 ≡ (2 + client, Some (Answered reply)) ∷ rest me.1
       → (after ≡ (served me.0 client reply, rest me.1))
-      × ((asked : PostedQuestion) → request_at client me.0.grabbed ≡ Some asked
+      × ((asked : PostedRequest) → request_at client me.0.grabbed ≡ Some asked
       → IsFresh (given_to (client + 1) asked reply))
 
   abbrev pub Collects : Step (Slot W) → Me (Slot W) View → ℕ → Me (Slot W) View → Type 0
   Collects st me found after =
-      (found ≡ 3 → (place : ℕ) → me.0.role ≡ Token place → (history : List CommitRecord) × (request : PostedQuestion)
-      × (reply : Answer)
+      (found ≡ 3 → (place : ℕ) → me.0.role ≡ Token place → (history : List CommitRecord) × (request : PostedRequest)
+      × (reply : Response)
       × (after ≡ (collected me.0 history reply, (2 + place, Some (Answered reply)) ∷ me.1))
       × (me.0.asked ≡ Some request) × IsRight me.0.terms.base history request reply)
       × (found ≢ 3 → after ≡ me)

@@ -7,7 +7,7 @@ use lib.ListN.{get_elem?}
 use Rattle.std.proofs.Math.Dec.{lit≤}
 use Rattle.atomic_table.specs.Table.{State}
 use Rattle.ssb_base.specs.Base.{Tables}
-use Rattle.ssb_answers.specs.declared.answer.Answer.TheVariants as answer
+use Rattle.history_core.specs.declared.response.Response.TheVariants as response
 use Rattle.row_store.specs.History.{CommitRecord, IsPrefix}
 use Rattle.history_core.specs.declared.event.Who.{Who}
 use Rattle.history_core.specs.declared.event.Who.TheVariants.{Client, Dispatcher}
@@ -17,7 +17,7 @@ use Rattle.history_core.specs.Parts.{part_of, mailbox_at}
 use Rattle.history.specs.declared.view.Terms.{Terms}
 use Rattle.history.specs.declared.view.Opening.{Opening}
 use Rattle.history.specs.declared.view.Member.{Member}
-use Rattle.history.specs.declared.request.PostedQuestion.{PostedQuestion}
+use Rattle.history.specs.declared.request.PostedRequest.{PostedRequest}
 use Rattle.history.specs.declared.view.Held.{Held}
 use Rattle.history.specs.declared.view.Role.{Role}
 use Rattle.history.specs.declared.view.Role.TheVariants.{Dealer, Token, Note, Spent}
@@ -35,18 +35,18 @@ out (Some holder) = 1
 -- what a mailbox's word says
 abbrev pub stage : Mailbox → ℕ
 stage empty = 0
-stage (asked question floor) = 1
-stage (in_hand dispatcher question floor) = 2
-stage (answered question at found) = 3
-stage (unserved question cause) = 3
+stage (asked questions floor) = 1
+stage (in_hand dispatcher questions floor) = 2
+stage (answered questions at found) = 3
+stage (unserved questions cause) = 3
 
 -- what the client of a mailbox has posted and not collected; an answer is over no fewer commits than its floor
-abbrev pub Asks : Option PostedQuestion → Mailbox → Type 0
+abbrev pub Asks : Option PostedRequest → Mailbox → Type 0
 Asks posted empty = posted ≡ None
-Asks posted (asked question floor) = posted ≡ Some (request question floor)
-Asks posted (in_hand dispatcher question floor) = posted ≡ Some (request question floor)
-Asks posted (answered question at found) = (floor : ℕ) × (posted ≡ Some (request question floor)) × (floor ≤ at)
-Asks posted (unserved question cause) = (floor : ℕ) × (posted ≡ Some (request question floor))
+Asks posted (asked questions floor) = posted ≡ Some (request questions floor)
+Asks posted (in_hand dispatcher questions floor) = posted ≡ Some (request questions floor)
+Asks posted (answered questions at found) = (floor : ℕ) × (posted ≡ Some (request questions floor)) × (floor ≤ at)
+Asks posted (unserved questions cause) = (floor : ℕ) × (posted ≡ Some (request questions floor))
 
 abbrev pub nobody : Member
 nobody = record { who = Client 0; seen = []; mine = []; mark = None; version = None; given = []; did = [] }
@@ -128,12 +128,12 @@ module _ {W : Type 0} where
 
   -- a request or an answer lies in the client's slot, while nobody has it in hand
   abbrev pub LiesIn : Homes W → ℕ → Mailbox → Type 0
-  LiesIn homes client (asked question floor) =
-      get_elem? homes (2 + client) ≡ some (some (Some (Asked (request question floor))))
-  LiesIn homes client (answered question at found) =
-      get_elem? homes (2 + client) ≡ some (some (Some (Answered (answer.Rows question at found))))
-  LiesIn homes client (unserved question cause) =
-      (get_elem? homes (2 + client) ≡ some (some (Some (Answered (answer.Unserved question cause))))) × IsCause cause
+  LiesIn homes client (asked questions floor) =
+      get_elem? homes (2 + client) ≡ some (some (Some (Asked (request questions floor))))
+  LiesIn homes client (answered questions at found) =
+      get_elem? homes (2 + client) ≡ some (some (Some (Answered (response.Rows questions at found))))
+  LiesIn homes client (unserved questions cause) =
+      (get_elem? homes (2 + client) ≡ some (some (Some (Answered (response.Unserved questions cause))))) × IsCause cause
   LiesIn homes client box = Unit {0}
 
   -- each client has a word and a slot, from 2 on
@@ -164,7 +164,7 @@ module _ {W : Type 0} where
     pub asked : (box : Mailbox) → mailbox_at w (place + 1) ≡ Some box → Asks v.asked box
     pub grabbed : (k : ℕ) (g : Held) → get_elem? v.grabbed k ≡ some g
         → (number : ℕ) → v.member.who ≡ Dispatcher number
-        → mailbox_at w (g.place + 1) ≡ Some (in_hand number g.request.query g.request.floor)
+        → mailbox_at w (g.place + 1) ≡ Some (in_hand number g.request.questions g.request.floor)
     pub apart : AreApart v.grabbed
     pub vacant : v.has_box ≡ false → place < key.clients → IsUnopened homes w place
     pub gathered : (k : ℕ) (m : Member) → get_elem? v.gathered k ≡ some m → Handed key deeds w owner seat place m

@@ -6,12 +6,12 @@ use Rattle.atomic_table.specs.Table.{rest, turned}
 use Rattle.atomic_table.specs.Seated.{TableId}
 use Rattle.atomic_table.specs.declared.shared.Seat.{Seat}
 use Rattle.ssb_base.specs.Base.{Tables}
-use Rattle.ssb_answers.specs.declared.answer.Answer.{Answer}
+use Rattle.history_core.specs.declared.response.Response.{Response}
 use Rattle.row_store.specs.History.{CommitRecord, Warehouse, IsPrefix}
 use Rattle.row_store.specs.Legal.{IsLegal}
 use Rattle.history.specs.declared.view.Member.{Member}
 use Rattle.history.specs.declared.view.Terms.{Terms}
-use Rattle.history.specs.declared.request.PostedQuestion.{PostedQuestion}
+use Rattle.history.specs.declared.request.PostedRequest.{PostedRequest}
 use Rattle.history.specs.declared.view.Role.TheVariants.{Dealer, Token}
 use Rattle.history.specs.declared.view.View.{View}
 use Rattle.history_core.specs.OwnCommits.{IsOfClients}
@@ -75,19 +75,19 @@ module _ {W : Type 0} where
       × IsAccepted seat.me.0.terms.base seat.me.0.member.seen commit × (log ≡ seat.me.0.member.seen ++ commit ∷ [])
 
   -- the answer is to a request in hand, whose slot is the seat's first; its rows are right at the version
-  abbrev pub MayServe : Place W → ℕ → Answer → Type 0
-  MayServe seat client reply = (asked : PostedQuestion) × (request_at client seat.me.0.grabbed ≡ Some asked)
+  abbrev pub MayServe : Place W → ℕ → Response → Type 0
+  MayServe seat client reply = (asked : PostedRequest) × (request_at client seat.me.0.grabbed ≡ Some asked)
       × (seat.me.1 ≡ (2 + client, None) ∷ rest seat.me.1)
       × IsRightAt seat.me.0.terms.base seat.me.0.member.seen seat.me.0.member.version asked reply
 
-  abbrev pub Serves : Place W → ℕ → Answer → Place W → Type 0
+  abbrev pub Serves : Place W → ℕ → Response → Place W → Type 0
   Serves before client reply after = Becomes before (served before.me.0 client reply) (rest before.me.1) after
-      × ((asked : PostedQuestion) → request_at client before.me.0.grabbed ≡ Some asked
+      × ((asked : PostedRequest) → request_at client before.me.0.grabbed ≡ Some asked
       → IsFresh (given_to (client + 1) asked reply))
 
   -- the answer is to what the client asked, and right in a history that then lies beside what it has seen
-  abbrev pub Collects : Place W → ℕ → Answer → Place W → Type 0
-  Collects before place reply after = (history : List CommitRecord) × (request : PostedQuestion)
+  abbrev pub Collects : Place W → ℕ → Response → Place W → Type 0
+  Collects before place reply after = (history : List CommitRecord) × (request : PostedRequest)
       × (before.me.0.asked ≡ Some request) × IsRight before.me.0.terms.base history request reply
       × Becomes before (collected before.me.0 history reply) ((2 + place, None) ∷ before.me.1) after
 

@@ -6,7 +6,7 @@ use Rattle.history.specs.declared.view.Terms.{Terms}
 use Rattle.history.specs.declared.view.Held.{Held}
 use Rattle.history.specs.declared.view.View.{View}
 use Rattle.history.specs.declared.view.Role.TheVariants.{Token as Seat}
-use Rattle.history.specs.declared.request.PostedQuestion.{PostedQuestion}
+use Rattle.history.specs.declared.request.PostedRequest.{PostedRequest}
 use Rattle.history.specs.declared.request.Grabbed.{Grabbed}
 use Rattle.history.specs.declared.token.Token.TheInside.{Inside as Token}
 use Rattle.history.specs.declared.shared_table.SharedTable.TheInside.{Inside as SharedTable}
@@ -26,7 +26,7 @@ hands slot true others = (slot, None) ∷ others
 hands slot false others = others
 
 -- a client has its mailbox's slot while it asks nothing
-abbrev pub own_box : {W : Type 0} → ℕ → Option PostedQuestion → List (ℕ × Slot W)
+abbrev pub own_box : {W : Type 0} → ℕ → Option PostedRequest → List (ℕ × Slot W)
 own_box place None = (2 + place, None) ∷ []
 own_box place (Some request) = []
 

@@ -5,20 +5,20 @@ use Rattle.std.specs.Prelude.{map, Option, Some, None}
 use Rattle.std.specs.List.{range_with_len}
 use Rattle.atomic_table.specs.Seated.{TableId}
 use Rattle.ssb_base.specs.Base.{Tables}
-use Rattle.ssb_answers.specs.declared.answer.Answer.{Answer}
+use Rattle.history_core.specs.declared.response.Response.{Response}
 use Rattle.row_store.specs.History.{CommitRecord, Warehouse, IsPrefix}
 use Rattle.row_store.specs.Refusals.{refusal_of}
 use Rattle.row_store.specs.Legal.{IsLegal}
 use Rattle.history_core.specs.declared.event.Who.{Who}
 use Rattle.history_core.specs.declared.event.Who.TheVariants.{Client, Dispatcher}
 use Rattle.history_core.specs.declared.event.Reply.{Reply}
-use Rattle.history_core.specs.declared.event.Reply.TheVariants.{Done, Committed, Length, Query as Asks}
-use Rattle.history_core.specs.Events.{Question}
+use Rattle.history_core.specs.declared.event.Reply.TheVariants.{Done, Committed, Length, Asked as Asks}
+use Rattle.history_core.specs.Events.{Questions}
 use Rattle.history_core.specs.OwnCommits.{IsOfClients}
 use Rattle.history_core.specs.Events.{Event}
 use Rattle.history_core.specs.Events as event
 use Rattle.history_core.specs.Deeds.{Deed}
-use Rattle.history.specs.declared.request.PostedQuestion.{PostedQuestion}
+use Rattle.history.specs.declared.request.PostedRequest.{PostedRequest}
 use Rattle.history.specs.declared.request.Grabbed.{Grabbed}
 use Rattle.history_core.specs.declared.dispatcher.Given.{Given}
 use Rattle.history.specs.Words.{Owns, request, IsRight, IsRightAt, IsFresh, given_to}
@@ -44,7 +44,7 @@ pub record TokenRecord : Type 0 where
   pub has_rows : Bool
   pub has_writer : Bool
   -- what a client asked and has not collected
-  pub asked : Option PostedQuestion
+  pub asked : Option PostedRequest
   -- the length of the history at a dispatcher's last return of the rows, and the mark at its last return of the
   -- writer; a grab and taking the writer clear both
   pub mark : Option ℕ
@@ -147,16 +147,16 @@ abbrev pub Put : TokenRecord → Warehouse → TokenRecord → Type 0
 Put before rows after = ((rows.log ≡ before.seen) → after ≡ gave_back before)
     × ((commit : CommitRecord) → rows.log ≡ before.seen ++ commit ∷ [] → after ≡ committed before commit)
 
--- the client asked a question, with the length of what it has seen as the floor
-abbrev pub posted : TokenRecord → Question → TokenRecord
-posted t question =
+-- the client asked these questions in one request, with the length of what it has seen as the floor
+abbrev pub posted : TokenRecord → Questions → TokenRecord
+posted t questions =
     record t {
-      asked = Some (request question (length t.seen));
-      did = did_more t (event.Post (number_of t.who) question) Done;
+      asked = Some (request questions (length t.seen));
+      did = did_more t (event.Post (number_of t.who) questions) Done;
     }
 
 -- the request of this client among those in hand
-abbrev pub request_of : ℕ → List Grabbed → Option PostedQuestion
+abbrev pub request_of : ℕ → List Grabbed → Option PostedRequest
 request_of client [] = None
 request_of client (first ∷ others) = if first.client == client then Some first.request else request_of client others
 
@@ -166,29 +166,29 @@ without client [] = []
 without client (first ∷ others) = if first.client == client then others else first ∷ without client others
 
 -- a dispatcher has one request more in hand, and neither mark nor version
-pub record Grabs (before : TokenRecord) (client : ℕ) (question : Question) (after : TokenRecord) : Type 0 where
+pub record Grabs (before : TokenRecord) (client : ℕ) (questions : Questions) (after : TokenRecord) : Type 0 where
   pub floor : ℕ
   pub now : after ≡ record before {
     mark = None;
     version = None;
-    grabbed = record { client = client; request = request question floor } ∷ before.grabbed;
+    grabbed = record { client = client; request = request questions floor } ∷ before.grabbed;
     did =
-        did_more before (event.Grab (number_of before.who) client) (Asks question);
+        did_more before (event.Grab (number_of before.who) client) (Asks questions);
   }
 
 -- the answer is to this request, and right at the token's version
-abbrev pub Serves : TokenRecord → PostedQuestion → Answer → Type 0
+abbrev pub Serves : TokenRecord → PostedRequest → Response → Type 0
 Serves t asked reply = IsRightAt t.table.base t.seen t.version asked reply
 
 -- the client's request is in hand, and this answer serves it
-pub record MayAnswer (t : TokenRecord) (client : ℕ) (reply : Answer) : Type 0 where
-  pub asked : PostedQuestion
+pub record MayAnswer (t : TokenRecord) (client : ℕ) (reply : Response) : Type 0 where
+  pub asked : PostedRequest
   pub held : request_of client t.grabbed ≡ Some asked
   pub serves : Serves t asked reply
 
 -- the client's request has left the hand, and its answer was given
-pub record Answers (before : TokenRecord) (client : ℕ) (reply : Answer) (after : TokenRecord) : Type 0 where
-  pub asked : PostedQuestion
+pub record Answers (before : TokenRecord) (client : ℕ) (reply : Response) (after : TokenRecord) : Type 0 where
+  pub asked : PostedRequest
   pub held : request_of client before.grabbed ≡ Some asked
   pub fresh : IsFresh (given_to client asked reply)
   pub now : after ≡ record before {
@@ -200,8 +200,8 @@ pub record Answers (before : TokenRecord) (client : ℕ) (reply : Answer) (after
 
 -- a client has collected the answer to what it asked, which is right in a history that the next look shows to be a
 -- beginning
-pub record Collected (before : TokenRecord) (reply : Answer) (after : TokenRecord) : Type 0 where
-  pub asked : PostedQuestion
+pub record Collected (before : TokenRecord) (reply : Response) (after : TokenRecord) : Type 0 where
+  pub asked : PostedRequest
   pub was : before.asked ≡ Some asked
   pub history : List CommitRecord
   pub right : IsRight before.table.base history asked reply

@@ -42,7 +42,7 @@ mod token;
 pub mod view;
 
 pub use event::Deed;
-pub use history_core::{Given, Outcome};
-pub use request::{Grabbed, PostedQuestion};
+pub use history_core::{Given, Outcome, Response};
+pub use request::{Grabbed, PostedRequest};
 pub use shared_table::{OpenedTable, SharedTable};
 pub use token::Token;

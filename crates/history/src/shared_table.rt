@@ -14,16 +14,17 @@ ghost use Rattle.history.specs.Tokens.{Took, MayPut, Put, posted, Grabs, MayAnsw
 ghost use Rattle.history.specs.Tokens.{without_writer};
 ghost use Rattle.history.specs.Closing.{AreClients, AreDispatchers, IsLogOf};
 
-use crate::request::PostedQuestion;
+use crate::request::PostedRequest;
 use crate::rule::{Deal, RuledTable, TableSeat};
 use crate::steps;
 use crate::token::{Token, position};
 use crate::view::{Opening, SlotValue};
 use arrayvec::ArrayVec;
 use atomic_table::Table;
-use history_core::Who;
+use history_core::{Response, Who};
 use row_store::{Follower, RowStore};
-use ssb_answers::{Answer, Question};
+use ssb_answers::Question;
+use ssb_schema::Items;
 use std::alloc::{AllocError, Global};
 use std::marker::Model;
 use std::snapshot::Snapshot;
@@ -212,38 +213,39 @@ impl<W: Follower + Drop> SharedTable<W> {
         token.seen_len
     }
 
-    /// Asks a question. Its floor is the number of commits that the client has seen.
-    pub fn post(&self, token: &mut Token<W>, question: Question)
+    /// Asks questions in one request. Its floor is the number of commits that the client has seen.
+    pub fn post(&self, token: &mut Token<W>, questions: Items<Question>)
         requires table { token.old.table ≡ self.now }
         requires client { IsClient token.old }
         requires mailbox { token.old.asked ≡ None }
-        ensures posted { token.new ≡ posted token.old question }
+        ensures posted { token.new ≡ posted token.old questions }
     {
         token.seat.turn();
-        let request = PostedQuestion {
-            query: question,
+        let request = PostedRequest {
+            questions,
             floor: token.seen_len,
         };
         steps::post(&self.ruled, &mut token.seat, token.place as usize, request);
     }
 
-    /// One try at a client's mailbox, by the client's number: its question, where there is one.
-    pub fn grab(&self, token: &mut Token<W>, client: u32) -> Option<Question>
+    /// One try at a client's mailbox, by the client's number: the questions of its request, where there is one.
+    pub fn grab(&self, token: &mut Token<W>, client: u32) -> Option<Items<Question>>
         requires table { token.old.table ≡ self.now }
         requires dispatcher { IsDispatcher token.old }
         requires client { (1 ≤ client) × (client ≤ self.now.clients) }
         requires free { (token.old.has_rows ≡ false) × (token.old.has_writer ≡ false) }
-        ensures grabs { MatchOption result (token.new ≡ token.old) (λ question. Grabs token.old client question token.new) }
+        ensures grabs { MatchOption result (token.new ≡ token.old)
+            (λ questions. Grabs token.old client questions token.new) }
     {
         let place = client - 1;
         let own = token.place as usize;
         let request = steps::grab(&self.ruled, &mut token.seat, own, place as usize)?;
         token.hand.insert(0, place);
-        Some(request.query)
+        Some(request.questions)
     }
 
     /// Answers a request in hand, by its client's number.
-    pub fn answer(&self, token: &mut Token<W>, client: u32, answer: Answer)
+    pub fn answer(&self, token: &mut Token<W>, client: u32, answer: Response)
         requires table { token.old.table ≡ self.now }
         requires dispatcher { IsDispatcher token.old }
         requires free { (token.old.has_rows ≡ false) × (token.old.has_writer ≡ false) }
@@ -260,7 +262,7 @@ impl<W: Follower + Drop> SharedTable<W> {
     }
 
     /// The answer to what the client asked, if there is one yet.
-    pub fn collect(&self, token: &mut Token<W>) -> Option<Answer>
+    pub fn collect(&self, token: &mut Token<W>) -> Option<Response>
         requires table { token.old.table ≡ self.now }
         requires client { IsClient token.old }
         ensures collected { MatchOption result (token.new ≡ token.old) (λ answer. Collected token.old answer token.new) }

@@ -8,14 +8,14 @@ ghost use Rattle.history.specs.Seats.{Has, Carries, IsToken, IsTokenAt, IsClient
 ghost use Rattle.history.specs.Seats.{members_of, IsClosed, Takes, LooksAt, Adds, Becomes, turns, MayServe, Serves};
 ghost use Rattle.history.specs.Seats.{Collects, TakesWriter, MayPutWriter};
 
-use crate::request::PostedQuestion;
+use crate::request::PostedRequest;
 use crate::rule::{
     Collect, Gather, Grab, Hear, Look, OpenBox, Post, PutRows, PutWriter, RuledTable, Serve,
     TableSeat, Tell, TryRows, TryWriter, Yield,
 };
 use crate::view::SlotValue;
+use history_core::Response;
 use row_store::{Follower, RowStore};
-use ssb_answers::Answer;
 use std::sync::Wait;
 use std::time::Duration;
 
@@ -144,7 +144,7 @@ pub(crate) fn post<W: Follower + Drop>(
     ruled: &RuledTable<W>,
     seat: &mut TableSeat<W>,
     place: usize,
-    request: PostedQuestion,
+    request: PostedRequest,
 )
     requires table { (place < 16) × Has ruled.now.shared.table_id (2 + place)
         × (seat.old.table_id ≡ ruled.now.shared.table_id) }
@@ -165,7 +165,7 @@ pub(crate) fn grab<W: Follower + Drop>(
     seat: &mut TableSeat<W>,
     place: usize,
     client: usize,
-) -> Option<PostedQuestion>
+) -> Option<PostedRequest>
     requires table { (client < 16) × Has ruled.now.shared.table_id (2 + client)
         × (seat.old.table_id ≡ ruled.now.shared.table_id) }
     requires token { IsDispatcherAt seat.old place × (client < seat.old.me.0.terms.clients) }
@@ -194,7 +194,7 @@ pub(crate) fn serve<W: Follower + Drop>(
     seat: &mut TableSeat<W>,
     place: usize,
     client: usize,
-    answer: Answer,
+    answer: Response,
 )
     requires table { (client < 16) × Has ruled.now.shared.table_id (2 + client)
         × (seat.old.table_id ≡ ruled.now.shared.table_id) }
@@ -214,7 +214,7 @@ pub(crate) fn collect<W: Follower + Drop>(
     ruled: &RuledTable<W>,
     seat: &mut TableSeat<W>,
     place: usize,
-) -> Option<Answer>
+) -> Option<Response>
     requires table { (place < 16) × Has ruled.now.shared.table_id (2 + place)
         × (seat.old.table_id ≡ ruled.now.shared.table_id) }
     requires token { IsClientAt seat.old place × (seat.old.me.0.has_box ≡ true) }

@@ -1,10 +1,9 @@
 //! What a seat at the table knows. Of these types only `Opening` and `SlotValue` have values.
 
 use crate::event::Deed;
-use crate::request::PostedQuestion;
-use history_core::{Given, Who};
+use crate::request::PostedRequest;
+use history_core::{Given, Response, Who};
 use row_store::{Commit, RowStore};
-use ssb_answers::Answer;
 use ssb_base::Base;
 use std::collections::LinkedList;
 use std::snapshot::Snapshot;
@@ -32,7 +31,7 @@ pub struct Member {
 /// A request in a dispatcher's hand. The place of a client is its number less one.
 pub struct Held {
     pub place: u32,
-    pub request: PostedQuestion,
+    pub request: PostedRequest,
 }
 
 /// What a seat is for.
@@ -61,7 +60,7 @@ pub struct View {
     /// A client has its mailbox's slot.
     pub has_box: bool,
     /// What a client asked and has not collected.
-    pub asked: Option<PostedQuestion>,
+    pub asked: Option<PostedRequest>,
     /// What a dispatcher has grabbed and not answered, the newest first.
     pub grabbed: LinkedList<Held>,
 }
@@ -82,7 +81,7 @@ pub enum SlotValue<W> {
     /// The writer of the secondary replica, at home.
     Writer(W),
     /// A request that no dispatcher has in hand.
-    Asked(PostedQuestion),
+    Asked(PostedRequest),
     /// An answer that its client has not collected.
-    Answered(Answer),
+    Answered(Response),
 }

@@ -6,7 +6,7 @@ use Rattle.row_store.specs.declared.refusal.Refusal.{Refusal}
 use Rattle.history_core.specs.declared.event.Who.{Who}
 use Rattle.history_core.specs.declared.event.Who.TheVariants.{Client, Dispatcher}
 use Rattle.history_core.specs.declared.event.Reply.TheVariants.{NotEnabled, Done, Committed, Rows, Unserved}
-use Rattle.history_core.specs.Events.{Question}
+use Rattle.history_core.specs.Events.{Questions}
 use Rattle.history_core.specs.Numbered.{numbered}
 use Rattle.history_core.specs.World.{World, ClientState, Mailbox, empty, asked, in_hand, answered}
 use Rattle.history_core.specs.World.{unserved, mailbox_of, into_mailbox, with_client, with_dispatcher}
@@ -16,35 +16,35 @@ use Rattle.history_core.specs.Applying.{applying}
 use Rattle.history_core.proofs.RenewalLaws.{renewed_agree, renewed_missing, renewed_same, renewed_twice}
 
 module _ (w : World) where
-  pub posts : (client : ℕ) (question : Question) (floor : ℕ) → Some floor ≡ floor_of (numbered w.clients client)
-      → posting w client question (mailbox_of (numbered w.clients client)) ≡
-      (into_mailbox w client (asked question floor), Done)
-  posts client question floor is = go (numbered w.clients client) refl is
+  pub posts : (client : ℕ) (questions : Questions) (floor : ℕ) → Some floor ≡ floor_of (numbered w.clients client)
+      → posting w client questions (mailbox_of (numbered w.clients client)) ≡
+      (into_mailbox w client (asked questions floor), Done)
+  posts client questions floor is = go (numbered w.clients client) refl is
     where
       box : (c : ClientState) → numbered w.clients client ≡ Some c → (m : Mailbox)
           → Some floor ≡ floor_at (length c.seen) m
-          → posting w client question (Some m) ≡ (into_mailbox w client (asked question floor), Done)
+          → posting w client questions (Some m) ≡ (into_mailbox w client (asked questions floor), Done)
       box c at empty e = let same : length c.seen ≡ floor = cc e in
           ap (λ l. (record w { clients = l }, Done))
-          (renewed_agree w.clients client (λ x. record x { mailbox = asked question (length x.seen) })
-          (λ x. record x { mailbox = asked question floor }) c at
-          (ap (λ n. record c { mailbox = asked question n }) same))
+          (renewed_agree w.clients client (λ x. record x { mailbox = asked questions (length x.seen) })
+          (λ x. record x { mailbox = asked questions floor }) c at
+          (ap (λ n. record c { mailbox = asked questions n }) same))
       box c at (asked q f) e = absurd (cc e)
       box c at (in_hand d q f) e = absurd (cc e)
       box c at (answered q a r) e = absurd (cc e)
       box c at (unserved q u) e = absurd (cc e)
 
       go : (o : Option ClientState) → numbered w.clients client ≡ o → Some floor ≡ floor_of o
-          → posting w client question (mailbox_of o) ≡ (into_mailbox w client (asked question floor), Done)
+          → posting w client questions (mailbox_of o) ≡ (into_mailbox w client (asked questions floor), Done)
       go None at e = absurd (cc e)
       go (Some c) at e = box c at c.mailbox e
 
-  pub posts_not : (client : ℕ) (question : Question) (o : Option ClientState) → None ≡ floor_of o
-      → posting w client question (mailbox_of o) ≡ (w, NotEnabled)
-  posts_not client question None e = refl
-  posts_not client question (Some c) e = box c.mailbox e
+  pub posts_not : (client : ℕ) (questions : Questions) (o : Option ClientState) → None ≡ floor_of o
+      → posting w client questions (mailbox_of o) ≡ (w, NotEnabled)
+  posts_not client questions None e = refl
+  posts_not client questions (Some c) e = box c.mailbox e
     where
-      box : (m : Mailbox) → None ≡ floor_at (length c.seen) m → posting w client question (Some m) ≡ (w, NotEnabled)
+      box : (m : Mailbox) → None ≡ floor_at (length c.seen) m → posting w client questions (Some m) ≡ (w, NotEnabled)
       box empty e = absurd (cc e)
       box (asked q f) e = refl
       box (in_hand d q f) e = refl

@@ -19,11 +19,11 @@ use Rattle.history_core.specs.declared.dispatcher.Outcome.{Outcome}
 use Rattle.history_core.specs.declared.dispatcher.Outcome.TheVariants.{Served, GivenUp}
 use Rattle.history_core.specs.declared.event.Who.{Who}
 use Rattle.history_core.specs.declared.event.Who.TheVariants.{Client, Dispatcher}
-use Rattle.history_core.specs.Events.{Question, Event, TakeRows, PutRows, Look, Post, Grab}
+use Rattle.history_core.specs.Events.{Questions, Event, TakeRows, PutRows, Look, Post, Grab}
 use Rattle.history_core.specs.Events.{TakeWriter, PutWriter, Answer, GiveUp, Collect}
 use Rattle.history_core.specs.Numbered.{numbered, renewed, is_there}
 use Rattle.history_core.specs.World.{World, ClientState, DispatcherState, Mailbox, empty, asked, in_hand, answered}
-use Rattle.history_core.specs.World.{unserved, commit_by, rows_after, is_known}
+use Rattle.history_core.specs.World.{unserved, commit_by, all_rows_after, is_known}
 use Rattle.history_core.specs.World.{holds_rows, holds_writer, mailbox_of, version_of, unmarked, gave, taking_rows}
 use Rattle.history_core.specs.World.{committing, putting_rows, looking, posting, grabbing, taking_writer}
 use Rattle.history_core.specs.World.{putting_writer, answering, giving_up, collecting, step_of, run_of, opening_world}
@@ -242,7 +242,7 @@ module _ (base : Tables) (clients : ℕ) (w : World) (k : WorldKept base clients
       mail_more commit (in_hand holder q floor) t = let long = length-append w.history (commit ∷ []) in
           let low = t.0 in (omega arith, t.1)
       mail_more commit (answered q at rows) t = let long = length-append w.history (commit ∷ []) in let low =
-          t.0 in (omega arith, t.1 ∙ ap (rows_after w.base q) (sym (take-append-le at w.history (commit ∷ []) t.0)))
+          t.0 in (omega arith, t.1 ∙ ap (all_rows_after w.base q) (sym (take-append-le at w.history (commit ∷ []) t.0)))
       mail_more commit (unserved q cause) t = tt
 
       one_more : (commit : CommitRecord) (floor : ℕ) (o : Outcome) → OutcomeKept w.history floor o
@@ -328,10 +328,10 @@ module _ (base : Tables) (clients : ℕ) (w : World) (k : WorldKept base clients
   mail_kept client (Some c) box at e =
       subst (MailKept w.base w.history w.dispatchers) (some_injective c.mailbox box e) (k.client client c at).mail
 
-  posts : (client : ℕ) (question : Question) (o : Option Mailbox)
-      → WorldKept base clients (posting w client question o).0
-  posts client question (Some empty) =
-      of_client w.rows w.writer client (λ c. record c { mailbox = asked question (length c.seen) }) (λ c. refl)
+  posts : (client : ℕ) (questions : Questions) (o : Option Mailbox)
+      → WorldKept base clients (posting w client questions o).0
+  posts client questions (Some empty) =
+      of_client w.rows w.writer client (λ c. record c { mailbox = asked questions (length c.seen) }) (λ c. refl)
       (λ c. inl refl)
       (λ c at was. record {
         seen = was.seen;
@@ -339,11 +339,11 @@ module _ (base : Tables) (clients : ℕ) (w : World) (k : WorldKept base clients
             length-append c.seen was.seen.rest in
             let whole : length w.history ≡ length (c.seen ++ was.seen.rest) = ap length was.seen.whole in omega arith;
       })
-  posts client question (Some (asked q floor)) = k
-  posts client question (Some (in_hand d q floor)) = k
-  posts client question (Some (answered q at rows)) = k
-  posts client question (Some (unserved q cause)) = k
-  posts client question None = k
+  posts client questions (Some (asked q floor)) = k
+  posts client questions (Some (in_hand d q floor)) = k
+  posts client questions (Some (answered q at rows)) = k
+  posts client questions (Some (unserved q cause)) = k
+  posts client questions None = k
 
   grabs : (n client : ℕ) (known : Bool) (o : Option Mailbox) → mailbox_of (numbered w.clients client) ≡ o
       → WorldKept base clients (grabbing w n client known o).0
@@ -400,7 +400,7 @@ module _ (base : Tables) (clients : ℕ) (w : World) (k : WorldKept base clients
           let high : at ≤ length w.history = (k.dispatcher n has.0 has.1).marks at has.2 in
           rw same
           (moved w.rows w.writer client
-          (λ c. record c { mailbox = answered q at (rows_after w.base q (take at w.history)) }) n
+          (λ c. record c { mailbox = answered q at (all_rows_after w.base q (take at w.history)) }) n
           (gave client floor (Served at)) (gave_later n client floor (Served at)) (λ c. refl) (λ c. inl refl)
           (λ c there was. record { seen = was.seen; mail = (high, refl) })
           (gave_kept client floor (Served at) (low, high)))
@@ -447,7 +447,7 @@ module _ (base : Tables) (clients : ℕ) (w : World) (k : WorldKept base clients
   step_kept (TakeRows who) = takes who (is_known w who) w.rows
   step_kept (PutRows who refresh) = puts who refresh (is_known w who) (holds_rows w.rows who) refl
   step_kept (Look who) = looks who (is_known w who)
-  step_kept (Post client question) = posts client question (mailbox_of (numbered w.clients client))
+  step_kept (Post client questions) = posts client questions (mailbox_of (numbered w.clients client))
   step_kept (Grab n client) = grabs n client (is_known w (Dispatcher n)) (mailbox_of (numbered w.clients client)) refl
   step_kept (TakeWriter n) = takes_writer n (is_known w (Dispatcher n)) w.writer
   step_kept (PutWriter n) = puts_writer n (is_known w (Dispatcher n)) (holds_writer w.writer n)

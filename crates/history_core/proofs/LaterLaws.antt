@@ -8,7 +8,7 @@ use Rattle.ssb_answers.specs.declared.answer.ResultRow.{ResultRow}
 use Rattle.row_store.specs.History.{CommitRecord}
 use Rattle.history_core.specs.declared.event.Reply.{Reply}
 use Rattle.history_core.specs.declared.event.Reply.TheVariants.{Rows}
-use Rattle.history_core.specs.Events.{Question, Event, Grab, Collect}
+use Rattle.history_core.specs.Events.{Questions, Event, Grab, Collect}
 use Rattle.history_core.specs.TrueRun.{Happens, is_committed, Outstanding, IsTrueRun}
 use Rattle.history_core.proofs.HistoryLaws.{some_injective}
 
@@ -25,10 +25,10 @@ takes_more {A = A} test (suc n) (suc m) (x ∷ xs) h = go (takes_more test n m x
     go k false e = rw e k
 
 -- the earlier of two collects of one client stands before the Post of the later
-before_post : (es : List Event) (rs : List Reply) (client : ℕ) (question q : Question) (rows : List ResultRow) (at : ℕ)
-    (first second : ℕ) (o : Outstanding es rs client question second)
+before_post : (es : List Event) (rs : List Reply) (client : ℕ) (questions q : Questions) (rows : List (List ResultRow)) (at : ℕ)
+    (first second : ℕ) (o : Outstanding es rs client questions second)
     → Happens es rs first (Collect client) (Rows q at rows) → first < second → first < o.grabbed
-before_post es rs client question q rows at first second o h less = go (nat_lt o.posted first) refl
+before_post es rs client questions q rows at first second o h less = go (nat_lt o.posted first) refl
   where
     go : (b : Bool) → nat_lt o.posted first ≡ b → first < o.grabbed
     go true e = let after : o.posted < first = grind (arith, nat_tests) in
@@ -38,7 +38,7 @@ before_post es rs client question q rows at first second o h less = go (nat_lt o
     go false e = let low : first ≤ o.posted = grind (arith, nat_tests) in let early = o.posted_first in omega arith
 
 pub never_back : (base : Tables) (es : List Event) (rs : List Reply) (history : List CommitRecord)
-    → IsTrueRun base es rs history → (client first second : ℕ) (p q : Question) (early late : ℕ) (f g : List ResultRow)
+    → IsTrueRun base es rs history → (client first second : ℕ) (p q : Questions) (early late : ℕ) (f g : List (List ResultRow))
     → first < second
     → Happens es rs first (Collect client) (Rows p early f) → Happens es rs second (Collect client) (Rows q late g)
     → early ≤ late

@@ -19,12 +19,12 @@ use Rattle.history_core.specs.declared.event.Who.{Who}
 use Rattle.history_core.specs.declared.event.Who.TheVariants.{Client, Dispatcher}
 use Rattle.history_core.specs.declared.event.Reply.{Reply}
 use Rattle.history_core.specs.declared.event.Reply.TheVariants.{NotEnabled, Done, Committed, Refused}
-use Rattle.history_core.specs.declared.event.Reply.TheVariants.{Length, Query as Asks, Rows, Unserved}
-use Rattle.history_core.specs.Events.{Question, Event, TakeRows, PutRows, Look, Post, Grab}
+use Rattle.history_core.specs.declared.event.Reply.TheVariants.{Length, Asked as Asks, Rows, Unserved}
+use Rattle.history_core.specs.Events.{Questions, Event, TakeRows, PutRows, Look, Post, Grab}
 use Rattle.history_core.specs.Events.{TakeWriter, PutWriter, Answer, GiveUp, Collect}
 use Rattle.history_core.specs.Numbered.{numbered, renewed}
 use Rattle.history_core.specs.World.{World, ClientState, DispatcherState, Mailbox, empty, asked, in_hand, answered}
-use Rattle.history_core.specs.World.{unserved, commit_by, rows_after, is_known}
+use Rattle.history_core.specs.World.{unserved, commit_by, all_rows_after, is_known}
 use Rattle.history_core.specs.World.{holds_rows, holds_writer, mailbox_of, version_of, unmarked, gave, taking_rows}
 use Rattle.history_core.specs.World.{committing, putting_rows, looking, posting, grabbing, taking_writer}
 use Rattle.history_core.specs.World.{putting_writer, answering, giving_up, collecting, step_of, run_of, opening_world}
@@ -100,7 +100,7 @@ module _ (base : Tables) (clients : ℕ) (es : List Event) (rs : List Reply) (w 
   not_enabled (TakeRows who) c h = h
   not_enabled (PutRows who refresh) c h = h
   not_enabled (Look who) c h = h
-  not_enabled (Post client question) c h = h
+  not_enabled (Post client questions) c h = h
   not_enabled (Grab number client) c h = h
   not_enabled (TakeWriter number) c h = h
   not_enabled (PutWriter number) c h = h
@@ -226,30 +226,30 @@ module _ (base : Tables) (clients : ℕ) (es : List Event) (rs : List Reply) (w 
   apart_from : (client c : ℕ) → c ≢ client → client ≡ c → ⊥
   apart_from client c other same = other (sym same)
 
-  posts : (client : ℕ) (question : Question) (o : Option Mailbox) → mailbox_of (numbered w.clients client) ≡ o
-      → Next (Post client question) (posting w client question o)
-  posts client question (Some empty) is =
-      moved (Post client question) Done w.rows w.writer client
-      (λ c. record c { mailbox = asked question (length c.seen) }) w.dispatchers refl tt (λ _ _ h. inl h)
+  posts : (client : ℕ) (questions : Questions) (o : Option Mailbox) → mailbox_of (numbered w.clients client) ≡ o
+      → Next (Post client questions) (posting w client questions o)
+  posts client questions (Some empty) is =
+      moved (Post client questions) Done w.rows w.writer client
+      (λ c. record c { mailbox = asked questions (length c.seen) }) w.dispatchers refl tt (λ _ _ h. inl h)
       (apart_from client)
-      (λ c at. posted_now es rs even (Post client question) Done client question refl refl)
-  posts client question (Some (asked q floor)) is = still (Post client question)
-  posts client question (Some (in_hand d q floor)) is = still (Post client question)
-  posts client question (Some (answered q at rows)) is = still (Post client question)
-  posts client question (Some (unserved q cause)) is = still (Post client question)
-  posts client question None is = still (Post client question)
+      (λ c at. posted_now es rs even (Post client questions) Done client questions refl refl)
+  posts client questions (Some (asked q floor)) is = still (Post client questions)
+  posts client questions (Some (in_hand d q floor)) is = still (Post client questions)
+  posts client questions (Some (answered q at rows)) is = still (Post client questions)
+  posts client questions (Some (unserved q cause)) is = still (Post client questions)
+  posts client questions None is = still (Post client questions)
 
   grabs : (n client : ℕ) (known : Bool) (o : Option Mailbox) → mailbox_of (numbered w.clients client) ≡ o
       → Next (Grab n client) (grabbing w n client known o)
-  grabs n client true (Some (asked question floor)) is =
-      moved (Grab n client) (Asks question) w.rows w.writer client
-      (λ c. record c { mailbox = in_hand n question floor }) (renewed w.dispatchers n unmarked) refl tt
+  grabs n client true (Some (asked questions floor)) is =
+      moved (Grab n client) (Asks questions) w.rows w.writer client
+      (λ c. record c { mailbox = in_hand n questions floor }) (renewed w.dispatchers n unmarked) refl tt
       (marks_renewed w.dispatchers n unmarked (length w.history)
       (λ x m has. ⊎_elim (λ (e : None ≡ Some m). absurd (cc e)) (λ (e : None ≡ Some m). absurd (cc e)) has))
       (apart_from client)
       (λ c at. (
-        outstanding_grabbed es rs even (Grab n client) (Asks question) client n question refl refl
-            (told client (numbered w.clients client) (asked question floor) refl is),
+        outstanding_grabbed es rs even (Grab n client) (Asks questions) client n questions refl refl
+            (told client (numbered w.clients client) (asked questions floor) refl is),
         λ mark has. absurd (unmarked_none w.dispatchers n mark has),
       ))
   grabs n client true (Some empty) is = still (Grab n client)
@@ -272,23 +272,23 @@ module _ (base : Tables) (clients : ℕ) (es : List Event) (rs : List Reply) (w 
 
   answers : (n client : ℕ) (version : Option ℕ) (o : Option Mailbox) → version_of (numbered w.dispatchers n) ≡ version
       → mailbox_of (numbered w.clients client) ≡ o → Next (Answer n client) (answering w n client version o)
-  answers n client (Some at) (Some (in_hand holder question floor)) marked is = go (holder == n) refl
+  answers n client (Some at) (Some (in_hand holder questions floor)) marked is = go (holder == n) refl
     where
       go : (b : Bool) → (holder == n) ≡ b
-          → Next (Answer n client) (answering w n client (Some at) (Some (in_hand holder question floor)))
+          → Next (Answer n client) (answering w n client (Some at) (Some (in_hand holder questions floor)))
       go true same = let mine : holder ≡ n = grind (arith, nat_tests) in
-          let t = told client (numbered w.clients client) (in_hand holder question floor) refl is in
+          let t = told client (numbered w.clients client) (in_hand holder questions floor) refl is in
           let has = version_marks n at (numbered w.dispatchers n) refl marked in
           let low = t.1 at (subst (λ i. Marks w.dispatchers i at) (sym mine) has) in
           let high = high_marks n at has in let early = t.0.grabbed_before in
           let front = before_front es rs even (Answer n client) Done t.0.grabbed (omega arith) in
           rw same
           (moved (Answer n client) Done w.rows w.writer client
-          (λ c. record c { mailbox = answered question at (rows_after w.base question (take at w.history)) })
+          (λ c. record c { mailbox = answered questions at (all_rows_after w.base questions (take at w.history)) })
           (renewed w.dispatchers n (gave client floor (Served at))) refl tt
           (gave_marks n client floor (Served at)) (λ c other h. h)
           (λ c there. (
-            outstanding_on es rs even (Answer n client) Done client question (λ h. h) t.0,
+            outstanding_on es rs even (Answer n client) Done client questions (λ h. h) t.0,
             omega arith,
           )))
       go false apart = rw apart (still (Answer n client))
@@ -301,17 +301,17 @@ module _ (base : Tables) (clients : ℕ) (es : List Event) (rs : List Reply) (w 
 
   gives_up : (n client : ℕ) (cause : Cause) (known : Bool) (o : Option Mailbox)
       → mailbox_of (numbered w.clients client) ≡ o → Next (GiveUp n client cause) (giving_up w n client cause known o)
-  gives_up n client cause true (Some (in_hand holder question floor)) is = go (holder == n) refl
+  gives_up n client cause true (Some (in_hand holder questions floor)) is = go (holder == n) refl
     where
       go : (b : Bool) → (holder == n) ≡ b
-          → Next (GiveUp n client cause) (giving_up w n client cause true (Some (in_hand holder question floor)))
-      go true same = let t = told client (numbered w.clients client) (in_hand holder question floor) refl is in
+          → Next (GiveUp n client cause) (giving_up w n client cause true (Some (in_hand holder questions floor)))
+      go true same = let t = told client (numbered w.clients client) (in_hand holder questions floor) refl is in
           rw same
           (moved (GiveUp n client cause) Done w.rows w.writer client
-          (λ c. record c { mailbox = unserved question cause })
+          (λ c. record c { mailbox = unserved questions cause })
           (renewed w.dispatchers n (gave client floor (GivenUp cause))) refl tt
           (gave_marks n client floor (GivenUp cause)) (λ c other h. h)
-          (λ c there. outstanding_on es rs even (GiveUp n client cause) Done client question (λ h. h) t.0))
+          (λ c there. outstanding_on es rs even (GiveUp n client cause) Done client questions (λ h. h) t.0))
       go false apart = rw apart (still (GiveUp n client cause))
   gives_up n client cause true (Some empty) is = still (GiveUp n client cause)
   gives_up n client cause true (Some (asked q floor)) is = still (GiveUp n client cause)
@@ -322,16 +322,16 @@ module _ (base : Tables) (clients : ℕ) (es : List Event) (rs : List Reply) (w 
 
   collects : (client : ℕ) (o : Option Mailbox) → mailbox_of (numbered w.clients client) ≡ o
       → Next (Collect client) (collecting w client o)
-  collects client (Some (answered question at rows)) is =
-      let t = told client (numbered w.clients client) (answered question at rows) refl is in
-      let right = mail_kept base clients w kept client (numbered w.clients client) (answered question at rows) refl is in
+  collects client (Some (answered questions at rows)) is =
+      let t = told client (numbered w.clients client) (answered questions at rows) refl is in
+      let right = mail_kept base clients w kept client (numbered w.clients client) (answered questions at rows) refl is in
       let counted = k.run.no_others in let high = right.0 in
-      moved (Collect client) (Rows question at rows) w.rows w.writer client
+      moved (Collect client) (Rows questions at rows) w.rows w.writer client
       (λ c. record c { mailbox = empty }) w.dispatchers refl (client, refl, t.0, t.1, omega arith, right.1)
       (λ _ _ h. inl h) (apart_from client) (λ c there. tt)
-  collects client (Some (unserved question cause)) is =
-      let t = told client (numbered w.clients client) (unserved question cause) refl is in
-      moved (Collect client) (Unserved question cause) w.rows w.writer client
+  collects client (Some (unserved questions cause)) is =
+      let t = told client (numbered w.clients client) (unserved questions cause) refl is in
+      moved (Collect client) (Unserved questions cause) w.rows w.writer client
       (λ c. record c { mailbox = empty }) w.dispatchers refl (client, refl, t) (λ _ _ h. inl h)
       (apart_from client) (λ c there. tt)
   collects client (Some empty) is = still (Collect client)
@@ -343,7 +343,7 @@ module _ (base : Tables) (clients : ℕ) (es : List Event) (rs : List Reply) (w 
   step_traced (TakeRows who) = takes who (is_known w who) w.rows
   step_traced (PutRows who refresh) = puts who refresh (is_known w who) (holds_rows w.rows who)
   step_traced (Look who) = looks who (is_known w who)
-  step_traced (Post client question) = posts client question (mailbox_of (numbered w.clients client)) refl
+  step_traced (Post client questions) = posts client questions (mailbox_of (numbered w.clients client)) refl
   step_traced (Grab n client) = grabs n client (is_known w (Dispatcher n)) (mailbox_of (numbered w.clients client)) refl
   step_traced (TakeWriter n) = takes_writer n (is_known w (Dispatcher n)) w.writer
   step_traced (PutWriter n) = puts_writer n (is_known w (Dispatcher n)) (holds_writer w.writer n)

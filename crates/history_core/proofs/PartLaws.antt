@@ -17,14 +17,14 @@ use Rattle.history_core.specs.declared.event.Who.{Who}
 use Rattle.history_core.specs.declared.event.Who.TheVariants.{Client, Dispatcher}
 use Rattle.history_core.specs.declared.event.Reply.{Reply}
 use Rattle.history_core.specs.declared.event.Reply.TheVariants.{NotEnabled, Done, Committed, Length}
-use Rattle.history_core.specs.declared.event.Reply.TheVariants.{Query as Asks, Rows, Unserved}
-use Rattle.history_core.specs.Events.{Question, Event, TakeRows, PutRows, Look, Post, Grab}
+use Rattle.history_core.specs.declared.event.Reply.TheVariants.{Asked as Asks, Rows, Unserved}
+use Rattle.history_core.specs.Events.{Questions, Event, TakeRows, PutRows, Look, Post, Grab}
 use Rattle.history_core.specs.Events.{TakeWriter, PutWriter, Answer, GiveUp, Collect}
 use Rattle.history_core.specs.Numbered.{copies, revised, numbered, renewed, is_there}
 use Rattle.history_core.specs.World.{World, ClientState, DispatcherState, Mailbox, empty, asked, in_hand, answered}
 use Rattle.history_core.specs.World.{unserved, opening_world, is_known, holds_rows, holds_writer, mailbox_of, version_of}
 use Rattle.history_core.specs.World.{with_client, with_dispatcher, into_mailbox, unmarked, gave, commit_by}
-use Rattle.history_core.specs.World.{rows_after, taking_rows, committing, putting_rows, looking, posting, grabbing}
+use Rattle.history_core.specs.World.{all_rows_after, taking_rows, committing, putting_rows, looking, posting, grabbing}
 use Rattle.history_core.specs.World.{taking_writer, putting_writer, answering, giving_up, collecting, step_of}
 use Rattle.history_core.specs.Parts.{Part, client_part, dispatcher_part, part_in, part_of, mailbox_at, mark_after}
 use Rattle.history_core.proofs.HistoryLaws.{some_injective, some_ne_none}
@@ -280,27 +280,27 @@ module _ (w : World) where
     mail = λ j apart. ap mailbox_of (numbered_else w.clients n j f apart);
   }
 
-  pub posts : (n : ℕ) (question : Question) (p : Part) → part_of w (Client n) ≡ Some p → mailbox_at w n ≡ Some empty
-      → BoxStepped w (Post n question) Done (Client n) p n (asked question (length p.seen))
-  posts n question p at vacant = let c = found client_part (numbered w.clients n) p at in
-      client_box n p (Post n question) Done (λ c. record c { mailbox = asked question (length c.seen) }) empty
-      (asked question (length p.seen)) (λ i. posting w n question (vacant i)) (λ c. refl)
+  pub posts : (n : ℕ) (questions : Questions) (p : Part) → part_of w (Client n) ≡ Some p → mailbox_at w n ≡ Some empty
+      → BoxStepped w (Post n questions) Done (Client n) p n (asked questions (length p.seen))
+  posts n questions p at vacant = let c = found client_part (numbered w.clients n) p at in
+      client_box n p (Post n questions) Done (λ c. record c { mailbox = asked questions (length c.seen) }) empty
+      (asked questions (length p.seen)) (λ i. posting w n questions (vacant i)) (λ c. refl)
       (λ d there. let same : c.0 ≡ d = some_injective c.0 d (sym c.1 ∙ there) in
-      ap (λ s. asked question (length s)) (ap (λ (x : ClientState). x.seen) (sym same)
+      ap (λ s. asked questions (length s)) (ap (λ (x : ClientState). x.seen) (sym same)
       ∙ ap (λ (q : Part). q.seen) c.2)) vacant at
 
-  pub collects : (n : ℕ) (question : Question) (number : ℕ) (rows : List ResultRow) (p : Part)
-      → part_of w (Client n) ≡ Some p → mailbox_at w n ≡ Some (answered question number rows)
-      → BoxStepped w (Collect n) (Rows question number rows) (Client n) p n empty
-  collects n question number rows p at hand = client_box n p (Collect n) (Rows question number rows)
-      (λ c. record c { mailbox = empty }) (answered question number rows) empty (λ i. collecting w n (hand i)) (λ c. refl)
+  pub collects : (n : ℕ) (questions : Questions) (number : ℕ) (rows : List (List ResultRow)) (p : Part)
+      → part_of w (Client n) ≡ Some p → mailbox_at w n ≡ Some (answered questions number rows)
+      → BoxStepped w (Collect n) (Rows questions number rows) (Client n) p n empty
+  collects n questions number rows p at hand = client_box n p (Collect n) (Rows questions number rows)
+      (λ c. record c { mailbox = empty }) (answered questions number rows) empty (λ i. collecting w n (hand i)) (λ c. refl)
       (λ c there. refl) hand at
 
-  pub collects_none : (n : ℕ) (question : Question) (cause : Cause) (p : Part)
-      → part_of w (Client n) ≡ Some p → mailbox_at w n ≡ Some (unserved question cause)
-      → BoxStepped w (Collect n) (Unserved question cause) (Client n) p n empty
-  collects_none n question cause p at hand = client_box n p (Collect n) (Unserved question cause)
-      (λ c. record c { mailbox = empty }) (unserved question cause) empty (λ i. collecting w n (hand i)) (λ c. refl)
+  pub collects_none : (n : ℕ) (questions : Questions) (cause : Cause) (p : Part)
+      → part_of w (Client n) ≡ Some p → mailbox_at w n ≡ Some (unserved questions cause)
+      → BoxStepped w (Collect n) (Unserved questions cause) (Client n) p n empty
+  collects_none n questions cause p at hand = client_box n p (Collect n) (Unserved questions cause)
+      (λ c. record c { mailbox = empty }) (unserved questions cause) empty (λ i. collecting w n (hand i)) (λ c. refl)
       (λ c there. refl) hand at
 
   -- a dispatcher's part changes, and a client's mailbox
@@ -326,21 +326,21 @@ module _ (w : World) where
         mail = λ j apart. ap mailbox_of (numbered_else w.clients client j h apart);
       }
 
-  pub grabs : (n client : ℕ) (question : Question) (floor : ℕ) (p : Part) → part_of w (Dispatcher n) ≡ Some p
-      → mailbox_at w client ≡ Some (asked question floor)
-      → BoxStepped w (Grab n client) (Asks question) (Dispatcher n) record p { mark = None; version = None } client
-      (in_hand n question floor)
-  grabs n client question floor p at is_asked = dispatcher_box n client p (Grab n client) (Asks question) unmarked
-      (λ q. record q { mark = None; version = None }) (asked question floor) (in_hand n question floor)
+  pub grabs : (n client : ℕ) (questions : Questions) (floor : ℕ) (p : Part) → part_of w (Dispatcher n) ≡ Some p
+      → mailbox_at w client ≡ Some (asked questions floor)
+      → BoxStepped w (Grab n client) (Asks questions) (Dispatcher n) record p { mark = None; version = None } client
+      (in_hand n questions floor)
+  grabs n client questions floor p at is_asked = dispatcher_box n client p (Grab n client) (Asks questions) unmarked
+      (λ q. record q { mark = None; version = None }) (asked questions floor) (in_hand n questions floor)
       (λ i. grabbing w n client (known (Dispatcher n) p at i) (is_asked i)) (λ d. refl) is_asked at
 
-  pub answers : (n client : ℕ) (question : Question) (floor number : ℕ) (p : Part) → part_of w (Dispatcher n) ≡ Some p
-      → p.version ≡ Some number → mailbox_at w client ≡ Some (in_hand n question floor)
+  pub answers : (n client : ℕ) (questions : Questions) (floor number : ℕ) (p : Part) → part_of w (Dispatcher n) ≡ Some p
+      → p.version ≡ Some number → mailbox_at w client ≡ Some (in_hand n questions floor)
       → BoxStepped w (Answer n client) Done (Dispatcher n)
       record p { given = p.given ++ record { client = client; floor = floor; outcome = Served number } ∷ [] } client
-      (answered question number (rows_after w.base question (take number w.history)))
-  answers n client question floor number p at version hand = let self : (n == n) ≡ true = grind (arith, nat_tests) in
-      let box : Mailbox = answered question number (rows_after w.base question (take number w.history)) in
+      (answered questions number (all_rows_after w.base questions (take number w.history)))
+  answers n client questions floor number p at version hand = let self : (n == n) ≡ true = grind (arith, nat_tests) in
+      let box : Mailbox = answered questions number (all_rows_after w.base questions (take number w.history)) in
       let next : World × Reply =
       (with_dispatcher (into_mailbox w client box) n (gave client floor (Served number)), Done) in
       let d = found dispatcher_part (numbered w.dispatchers n) p at in
@@ -348,21 +348,21 @@ module _ (w : World) where
       ap version_of d.1 ∙ (ap (λ (q : Part). q.version) d.2 ∙ version) in
       dispatcher_box n client p (Answer n client) Done (gave client floor (Served number))
       (λ q. record q { given = q.given ++ record { client = client; floor = floor; outcome = Served number } ∷ [] })
-      (in_hand n question floor) box
+      (in_hand n questions floor) box
       ((λ i. answering w n client (versions i) (hand i)) ∙ ap (λ (b : Bool). if b then next else (w, NotEnabled)) self)
       (λ d. refl) hand at
 
-  pub gives_up : (n client : ℕ) (question : Question) (floor : ℕ) (cause : Cause) (p : Part)
-      → part_of w (Dispatcher n) ≡ Some p → mailbox_at w client ≡ Some (in_hand n question floor)
+  pub gives_up : (n client : ℕ) (questions : Questions) (floor : ℕ) (cause : Cause) (p : Part)
+      → part_of w (Dispatcher n) ≡ Some p → mailbox_at w client ≡ Some (in_hand n questions floor)
       → BoxStepped w (GiveUp n client cause) Done (Dispatcher n)
       record p { given = p.given ++ record { client = client; floor = floor; outcome = GivenUp cause } ∷ [] } client
-      (unserved question cause)
-  gives_up n client question floor cause p at hand = let self : (n == n) ≡ true = grind (arith, nat_tests) in
-      let box : Mailbox = unserved question cause in let next : World × Reply =
+      (unserved questions cause)
+  gives_up n client questions floor cause p at hand = let self : (n == n) ≡ true = grind (arith, nat_tests) in
+      let box : Mailbox = unserved questions cause in let next : World × Reply =
       (with_dispatcher (into_mailbox w client box) n (gave client floor (GivenUp cause)), Done) in
       dispatcher_box n client p (GiveUp n client cause) Done (gave client floor (GivenUp cause))
       (λ q. record q { given = q.given ++ record { client = client; floor = floor; outcome = GivenUp cause } ∷ [] })
-      (in_hand n question floor) box
+      (in_hand n questions floor) box
       ((λ i. giving_up w n client cause (known (Dispatcher n) p at i) (hand i))
       ∙ ap (λ (b : Bool). if b then next else (w, NotEnabled)) self) (λ d. refl) hand at
 

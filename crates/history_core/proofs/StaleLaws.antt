@@ -5,21 +5,21 @@ use Rattle.ssb_base.specs.Base.{Tables}
 use Rattle.ssb_answers.specs.declared.answer.ResultRow.{ResultRow}
 use Rattle.history_core.specs.declared.event.Who.TheVariants.{Client}
 use Rattle.history_core.specs.declared.event.Reply.{Reply}
-use Rattle.history_core.specs.declared.event.Reply.TheVariants.{Done, Committed, Query as Asks, Rows}
-use Rattle.history_core.specs.Events.{Question, Event, TakeRows, PutRows, Post, Grab, Answer, Collect}
+use Rattle.history_core.specs.declared.event.Reply.TheVariants.{Done, Committed, Asked as Asks, Rows}
+use Rattle.history_core.specs.Events.{Questions, Event, TakeRows, PutRows, Post, Grab, Answer, Collect}
 use Rattle.history_core.specs.World.{commit_by}
 use Rattle.history_core.specs.TrueRun.{Happens, commits_before, Outstanding, IsTrueRun}
 use Rattle.history_core.proofs.HistoryLaws.{some_injective, some_ne_none}
 
-module _ (base : Tables) (actions : List Action) (question : Question) (rows : List ResultRow) where
+module _ (base : Tables) (actions : List Action) (questions : Questions) (rows : List (List ResultRow)) where
   abbrev events : List Event
   events =
-      TakeRows (Client 1) ∷ PutRows (Client 1) (Some actions) ∷ Post 1 question ∷ Grab 1 1 ∷ Answer 1 1 ∷ Collect 1 ∷ []
+      TakeRows (Client 1) ∷ PutRows (Client 1) (Some actions) ∷ Post 1 questions ∷ Grab 1 1 ∷ Answer 1 1 ∷ Collect 1 ∷ []
 
   abbrev replies : List Reply
-  replies = Done ∷ Committed 1 ∷ Done ∷ Asks question ∷ Done ∷ Rows question 0 rows ∷ []
+  replies = Done ∷ Committed 1 ∷ Done ∷ Asks questions ∷ Done ∷ Rows questions 0 rows ∷ []
 
-  no_grab : (place dispatcher : ℕ) → Happens events replies place (Grab dispatcher 1) (Asks question)
+  no_grab : (place dispatcher : ℕ) → Happens events replies place (Grab dispatcher 1) (Asks questions)
       → commits_before replies place ≤ 0 → ⊥
   no_grab zero d h low = cc (some_injective _ _ h.0)
   no_grab (suc zero) d h low = cc (some_injective _ _ h.0)
@@ -31,13 +31,13 @@ module _ (base : Tables) (actions : List Action) (question : Question) (rows : L
 
   pub stale : IsTrueRun base events replies (commit_by 1 actions ∷ []) → ⊥
   stale true_run =
-      let t = true_run.true_replies 5 (Collect 1) (Rows question 0 rows) (refl, refl) in go (t.0, t.1, t.2, t.3)
+      let t = true_run.true_replies 5 (Collect 1) (Rows questions 0 rows) (refl, refl) in go (t.0, t.1, t.2, t.3)
     where
       go :
-          ((client : ℕ) × (Collect 1 ≡ Collect client) × (request : Outstanding events replies client question 5)
+          ((client : ℕ) × (Collect 1 ≡ Collect client) × (request : Outstanding events replies client questions 5)
           × (commits_before replies request.grabbed ≤ 0)) → ⊥
       go t =
           let same : 1 ≡ t.0 = cc t.1 in
           no_grab t.2.grabbed t.2.dispatcher
-          (subst (λ n. Happens events replies t.2.grabbed (Grab t.2.dispatcher n) (Asks question))
+          (subst (λ n. Happens events replies t.2.grabbed (Grab t.2.dispatcher n) (Asks questions))
           (sym same) t.2.was_grabbed) t.3

@@ -11,33 +11,33 @@ use Rattle.row_store.specs.Refusals.{refusal_of}
 use Rattle.row_store.specs.Legal.{IsLegal}
 use Rattle.history_core.specs.declared.event.Reply.{Reply}
 use Rattle.history_core.specs.declared.event.Reply.TheVariants.{NotEnabled, Done, Committed, Refused}
-use Rattle.history_core.specs.declared.event.Reply.TheVariants.{Length, Query as Asks, Rows, Unserved}
-use Rattle.history_core.specs.Events.{Question, Event, Post, Grab}
+use Rattle.history_core.specs.declared.event.Reply.TheVariants.{Length, Asked as Asks, Rows, Unserved}
+use Rattle.history_core.specs.Events.{Questions, Event, Post, Grab}
 use Rattle.history_core.specs.Numbered.{numbered}
 use Rattle.history_core.specs.World.{World, ClientState, DispatcherState, Mailbox, empty}
-use Rattle.history_core.specs.World.{asked, in_hand, answered, unserved, rows_after}
+use Rattle.history_core.specs.World.{asked, in_hand, answered, unserved, all_rows_after}
 use Rattle.history_core.specs.Kept.{Marks}
 use Rattle.history_core.specs.TrueRun.{Happens, is_committed, commits_before}
 use Rattle.history_core.specs.TrueRun.{IsOfRequest, Outstanding, IsTrueReply, IsTrueRun}
 use Rattle.history_core.proofs.HistoryLaws.{at_front, at_last, at_end, in_range, filter_take}
 
--- the client posted this question, and nothing was done to a request of it since
-abbrev pub Posted : List Event → List Reply → ℕ → Question → Type 0
-Posted es rs client question =
-    (posted : ℕ) × Happens es rs posted (Post client question) Done
+-- the client posted these questions, and nothing was done to a request of it since
+abbrev pub Posted : List Event → List Reply → ℕ → Questions → Type 0
+Posted es rs client questions =
+    (posted : ℕ) × Happens es rs posted (Post client questions) Done
     × ((other : ℕ) (event : Event) (reply : Reply) → posted < other → Happens es rs other event reply
     → IsOfRequest client event reply → ⊥)
 
 -- what a mailbox tells of the run so far
 abbrev pub MailTraced : List Event → List Reply → List DispatcherState → ℕ → Mailbox → Type 0
 MailTraced es rs ds client empty = Unit {0}
-MailTraced es rs ds client (asked question floor) = Posted es rs client question
-MailTraced es rs ds client (in_hand holder question floor) =
-    (request : Outstanding es rs client question (length rs))
+MailTraced es rs ds client (asked questions floor) = Posted es rs client questions
+MailTraced es rs ds client (in_hand holder questions floor) =
+    (request : Outstanding es rs client questions (length rs))
     × ((mark : ℕ) → Marks ds holder mark → commits_before rs request.grabbed ≤ mark)
-MailTraced es rs ds client (answered question at rows) =
-    (request : Outstanding es rs client question (length rs)) × (commits_before rs request.grabbed ≤ at)
-MailTraced es rs ds client (unserved question cause) = Outstanding es rs client question (length rs)
+MailTraced es rs ds client (answered questions at rows) =
+    (request : Outstanding es rs client questions (length rs)) × (commits_before rs request.grabbed ≤ at)
+MailTraced es rs ds client (unserved questions cause) = Outstanding es rs client questions (length rs)
 
 -- a run so far, and what the mailboxes tell of it
 pub record Traced (es : List Event) (rs : List Reply) (w : World) : Type 0 where
@@ -75,14 +75,14 @@ module _ (es : List Event) (rs : List Reply) (even : length rs ≡ length es) (e
   longer = length-append rs (r ∷ [])
 
   -- a request stays outstanding at a place that the run had come to
-  abbrev pub outstanding_front : (client : ℕ) (question : Question) (place : ℕ) → place ≤ length rs
-      → Outstanding es rs client question place → Outstanding (es ++ e ∷ []) (rs ++ r ∷ []) client question place
-  outstanding_front client question place h o = record {
+  abbrev pub outstanding_front : (client : ℕ) (questions : Questions) (place : ℕ) → place ≤ length rs
+      → Outstanding es rs client questions place → Outstanding (es ++ e ∷ []) (rs ++ r ∷ []) client questions place
+  outstanding_front client questions place h o = record {
     posted = o.posted;
     grabbed = o.grabbed;
     dispatcher = o.dispatcher;
-    was_posted = happens_front o.posted (Post client question) Done o.was_posted;
-    was_grabbed = happens_front o.grabbed (Grab o.dispatcher client) (Asks question) o.was_grabbed;
+    was_posted = happens_front o.posted (Post client questions) Done o.was_posted;
+    was_grabbed = happens_front o.grabbed (Grab o.dispatcher client) (Asks questions) o.was_grabbed;
     posted_first = o.posted_first;
     grabbed_before = o.grabbed_before;
     alone = λ other a b after before happens of_request. ⊎_elim
@@ -92,15 +92,15 @@ module _ (es : List Event) (rs : List Reply) (even : length rs ≡ length es) (e
   }
 
   -- and where the new event does nothing to it
-  abbrev pub outstanding_on : (client : ℕ) (question : Question) → (IsOfRequest client e r → ⊥)
-      → Outstanding es rs client question (length rs)
-      → Outstanding (es ++ e ∷ []) (rs ++ r ∷ []) client question (length (rs ++ r ∷ []))
-  outstanding_on client question apart o = record {
+  abbrev pub outstanding_on : (client : ℕ) (questions : Questions) → (IsOfRequest client e r → ⊥)
+      → Outstanding es rs client questions (length rs)
+      → Outstanding (es ++ e ∷ []) (rs ++ r ∷ []) client questions (length (rs ++ r ∷ []))
+  outstanding_on client questions apart o = record {
     posted = o.posted;
     grabbed = o.grabbed;
     dispatcher = o.dispatcher;
-    was_posted = happens_front o.posted (Post client question) Done o.was_posted;
-    was_grabbed = happens_front o.grabbed (Grab o.dispatcher client) (Asks question) o.was_grabbed;
+    was_posted = happens_front o.posted (Post client questions) Done o.was_posted;
+    was_grabbed = happens_front o.grabbed (Grab o.dispatcher client) (Asks questions) o.was_grabbed;
     posted_first = o.posted_first;
     grabbed_before = let early = o.grabbed_before in let long = longer in omega arith;
     alone = λ other a b after before happens of_request. ⊎_elim
@@ -112,14 +112,14 @@ module _ (es : List Event) (rs : List Reply) (even : length rs ≡ length es) (e
   }
 
   -- the request that this event grabbed
-  abbrev pub outstanding_grabbed : (client number : ℕ) (question : Question) → e ≡ Grab number client
-      → r ≡ Asks question → Posted es rs client question
-      → Outstanding (es ++ e ∷ []) (rs ++ r ∷ []) client question (length (rs ++ r ∷ []))
-  outstanding_grabbed client number question is replies p = record {
+  abbrev pub outstanding_grabbed : (client number : ℕ) (questions : Questions) → e ≡ Grab number client
+      → r ≡ Asks questions → Posted es rs client questions
+      → Outstanding (es ++ e ∷ []) (rs ++ r ∷ []) client questions (length (rs ++ r ∷ []))
+  outstanding_grabbed client number questions is replies p = record {
     posted = p.0;
     grabbed = length rs;
     dispatcher = number;
-    was_posted = happens_front p.0 (Post client question) Done p.1;
+    was_posted = happens_front p.0 (Post client questions) Done p.1;
     was_grabbed =
         subst (λ (x : Event × Reply). Happens (es ++ e ∷ []) (rs ++ r ∷ []) (length rs) x.0 x.1)
         (λ i. (is i, replies i)) happens_last;
@@ -131,11 +131,11 @@ module _ (es : List Event) (rs : List Reply) (even : length rs ≡ length es) (e
         (happens_end other a b happens);
   }
 
-  pub posted_on : (client : ℕ) (question : Question) → (IsOfRequest client e r → ⊥) → Posted es rs client question
-      → Posted (es ++ e ∷ []) (rs ++ r ∷ []) client question
-  posted_on client question apart p = (
+  pub posted_on : (client : ℕ) (questions : Questions) → (IsOfRequest client e r → ⊥) → Posted es rs client questions
+      → Posted (es ++ e ∷ []) (rs ++ r ∷ []) client questions
+  posted_on client questions apart p = (
     p.0,
-    happens_front p.0 (Post client question) Done p.1,
+    happens_front p.0 (Post client questions) Done p.1,
     λ other a b after happens of_request. ⊎_elim
         (λ (t : (other < length rs) × Happens es rs other a b). p.2 other a b after t.1 of_request)
         (λ (t : (other ≡ length rs) × (e ≡ a) × (r ≡ b)). apart
@@ -143,9 +143,9 @@ module _ (es : List Event) (rs : List Reply) (even : length rs ≡ length es) (e
         (happens_end other a b happens),
   )
 
-  pub posted_now : (client : ℕ) (question : Question) → e ≡ Post client question → r ≡ Done
-      → Posted (es ++ e ∷ []) (rs ++ r ∷ []) client question
-  posted_now client question is replies = (
+  pub posted_now : (client : ℕ) (questions : Questions) → e ≡ Post client questions → r ≡ Done
+      → Posted (es ++ e ∷ []) (rs ++ r ∷ []) client questions
+  posted_now client questions is replies = (
     length rs,
     subst (λ (x : Event × Reply). Happens (es ++ e ∷ []) (rs ++ r ∷ []) (length rs) x.0 x.1)
         (λ i. (is i, replies i)) happens_last,
@@ -188,7 +188,7 @@ pub reply_later : (base : Tables) (es : List Event) (rs : List Reply) (history :
     → IsTrueReply base (es ++ e ∷ []) (rs ++ r ∷ []) (history ++ more) place a b
 reply_later base es rs history even e r more counted place a NotEnabled low t = tt
 reply_later base es rs history even e r more counted place a Done low t = tt
-reply_later base es rs history even e r more counted place a (Asks question) low t = tt
+reply_later base es rs history even e r more counted place a (Asks questions) low t = tt
 reply_later base es rs history even e r more counted place a (Length number) low t =
     t ∙ sym (before_front es rs even e r place low)
 reply_later base es rs history even e r more counted place a (Committed number) low t =
@@ -207,20 +207,20 @@ reply_later base es rs history even e r more counted place a (Refused at action 
       t.0 ∙ sym same,
       (t.1.0, t.1.1, t.1.2, ap (λ l. refusal_of base l t.1.1) (front_taken history more at (omega arith)) ∙ t.1.3),
     )
-reply_later base es rs history even e r more counted place a (Rows question at rows) low t =
+reply_later base es rs history even e r more counted place a (Rows questions at rows) low t =
     let same = before_front es rs even e r place low in let most = before_most rs place in let high = t.4 in
     let early = t.2.grabbed_before in
     let same_grab = before_front es rs even e r t.2.grabbed (omega arith) in let floor = t.3 in (
       t.0,
       t.1,
-      outstanding_front es rs even e r t.0 question place low t.2,
+      outstanding_front es rs even e r t.0 questions place low t.2,
       omega arith,
       omega arith,
       t.5
-          ∙ ap (rows_after base question) (sym (front_taken history more at (omega arith))),
+          ∙ ap (all_rows_after base questions) (sym (front_taken history more at (omega arith))),
     )
-reply_later base es rs history even e r more counted place a (Unserved question cause) low t =
-    (t.0, t.1, outstanding_front es rs even e r t.0 question place low t.2)
+reply_later base es rs history even e r more counted place a (Unserved questions cause) low t =
+    (t.0, t.1, outstanding_front es rs even e r t.0 questions place low t.2)
 
 -- one event more, with a true reply
 pub run_on : (base : Tables) (es : List Event) (rs : List Reply) (history : List CommitRecord) (e : Event) (r : Reply)
@@ -262,17 +262,17 @@ pub mail_on : (es : List Event) (rs : List Reply) (even : length rs ≡ length e
     → (client : ℕ) (box : Mailbox) → (IsOfRequest client e r → ⊥) → MailTraced es rs ds client box
     → MailTraced (es ++ e ∷ []) (rs ++ r ∷ []) after client box
 mail_on es rs even e r history counted ds after marks client empty apart t = tt
-mail_on es rs even e r history counted ds after marks client (asked question floor) apart t =
-    posted_on es rs even e r client question apart t
-mail_on es rs even e r history counted ds after marks client (in_hand holder question floor) apart t =
+mail_on es rs even e r history counted ds after marks client (asked questions floor) apart t =
+    posted_on es rs even e r client questions apart t
+mail_on es rs even e r history counted ds after marks client (in_hand holder questions floor) apart t =
     let early = t.0.grabbed_before in let same = before_front es rs even e r t.0.grabbed (omega arith) in
     let most = before_most rs t.0.grabbed in (
-      outstanding_on es rs even e r client question apart t.0,
+      outstanding_on es rs even e r client questions apart t.0,
       λ mark has. ⊎_elim (λ (was : Marks ds holder mark). let h = t.1 mark was in omega arith)
           (λ (new : mark ≡ length history). omega arith) (marks holder mark has),
     )
-mail_on es rs even e r history counted ds after marks client (answered question at rows) apart t =
+mail_on es rs even e r history counted ds after marks client (answered questions at rows) apart t =
     let early = t.0.grabbed_before in let same = before_front es rs even e r t.0.grabbed (omega arith) in
-    let floor = t.1 in (outstanding_on es rs even e r client question apart t.0, omega arith)
-mail_on es rs even e r history counted ds after marks client (unserved question cause) apart t =
-    outstanding_on es rs even e r client question apart t
+    let floor = t.1 in (outstanding_on es rs even e r client questions apart t.0, omega arith)
+mail_on es rs even e r history counted ds after marks client (unserved questions cause) apart t =
+    outstanding_on es rs even e r client questions apart t

@@ -1,6 +1,6 @@
 -- A run of one client and one dispatcher over a small data set: the definitions give its replies by computation.
 use Rattle.std.proofs.Common.{◌≡◌, ℕ, List, [], ◌∷◌, Some, None, refl, arith}
-use Rattle.std.specs.Prelude.{negsuc, codes}
+use Rattle.std.specs.Prelude.{pos, negsuc, codes}
 use Rattle.ssb_schema.specs.declared.customer.CustomerFields.{CustomerFields}
 use Rattle.ssb_schema.specs.declared.supplier.SupplierFields.{SupplierFields}
 use Rattle.ssb_schema.specs.declared.part.PartFields.{PartFields}
@@ -18,8 +18,8 @@ use Rattle.ssb_answers.specs.declared.answer.Unserved.TheVariants.{OutOfMemory}
 use Rattle.row_store.specs.declared.refusal.Cause.TheVariants.{Absent}
 use Rattle.history_core.specs.declared.event.Who.TheVariants.{Client, Dispatcher}
 use Rattle.history_core.specs.declared.event.Reply.TheVariants.{NotEnabled, Done, Committed, Refused}
-use Rattle.history_core.specs.declared.event.Reply.TheVariants.{Length, Query as Asks, Rows, Unserved}
-use Rattle.history_core.specs.Events.{Question, TakeRows, PutRows, Look, Post, Grab}
+use Rattle.history_core.specs.declared.event.Reply.TheVariants.{Length, Asked as Asks, Rows, Unserved}
+use Rattle.history_core.specs.Events.{Question, Questions, TakeRows, PutRows, Look, Post, Grab}
 use Rattle.history_core.specs.Events.{TakeWriter, PutWriter, Answer, GiveUp, Collect}
 use Rattle.history_core.specs.World.{opening_world, run_of}
 
@@ -137,21 +137,25 @@ q4_1 = (Q4_1, standard_constants Q4_1)
 abbrev q1_1 : Question
 q1_1 = (Q1_1, standard_constants Q1_1)
 
+-- asked in one request
+abbrev both : Questions
+both = q4_1 ∷ q1_1 ∷ []
+
 worked_run : (run_of (opening_world base 1 1)
-    (Post 1 q4_1
+    (Post 1 both
     ∷ PutRows (Dispatcher 1) (Some order_nine) ∷ Grab 1 2 ∷ Look (Client 2)
     ∷ Grab 1 1 ∷ TakeRows (Client 1) ∷ TakeRows (Dispatcher 1) ∷ PutRows (Client 1) (Some order_nine)
     ∷ TakeWriter 1 ∷ TakeRows (Dispatcher 1) ∷ PutRows
     (Dispatcher 1) None ∷ PutWriter 1 ∷ Answer 1 1 ∷ Collect 1 ∷ Collect 1 ∷ Look (Client 1)
-    ∷ Post 1 q1_1 ∷ Grab 1 1 ∷ Answer 1 1 ∷ GiveUp 1 1 OutOfMemory ∷ Collect 1
+    ∷ Post 1 (q1_1 ∷ []) ∷ Grab 1 1 ∷ Answer 1 1 ∷ GiveUp 1 1 OutOfMemory ∷ Collect 1
     ∷ TakeRows (Client 1) ∷ PutRows (Client 1) (Some (Withdraw 77 ∷ [])) ∷ [])).0
     ≡ Done ∷ NotEnabled ∷ NotEnabled ∷ NotEnabled
-    ∷ Asks q4_1 ∷ Done ∷ NotEnabled ∷ Committed 1
-    ∷ Done ∷ Done ∷ Done ∷ Done ∷ Done ∷ Rows q4_1 1
-    (record {
+    ∷ Asks both ∷ Done ∷ NotEnabled ∷ Committed 1
+    ∷ Done ∷ Done ∷ Done ∷ Done ∷ Done ∷ Rows both 1
+    ((record {
       groups = Number 1997 ∷ Text (codes "UNITED STATES") ∷ [];
       sum = Some (negsuc 1329);
-    } ∷ []) ∷ NotEnabled ∷ Length 1
-    ∷ Done ∷ Asks q1_1 ∷ NotEnabled ∷ Done ∷ Unserved q1_1 OutOfMemory
+    } ∷ []) ∷ (record { groups = []; sum = Some (pos 3000) } ∷ []) ∷ []) ∷ NotEnabled ∷ Length 1
+    ∷ Done ∷ Asks (q1_1 ∷ []) ∷ NotEnabled ∷ Done ∷ Unserved (q1_1 ∷ []) OutOfMemory
     ∷ Done ∷ Refused 1 1 (Absent 77) ∷ []
 worked_run = refl

@@ -25,7 +25,7 @@ abbrev pub actor_of : Event → Who
 actor_of (TakeRows who) = who
 actor_of (PutRows who refresh) = who
 actor_of (Look who) = who
-actor_of (Post client question) = Client client
+actor_of (Post client questions) = Client client
 actor_of (Grab dispatcher client) = Dispatcher dispatcher
 actor_of (TakeWriter dispatcher) = Dispatcher dispatcher
 actor_of (PutWriter dispatcher) = Dispatcher dispatcher

@@ -1,4 +1,5 @@
--- The events as contracts see them: a refresh is the list of its actions, a question a query with its constants.
+-- The events as contracts see them: a refresh is the list of its actions, a request the list of its questions, each a
+-- query with its constants.
 use Rattle.std.specs.Prelude.{ℕ, List, Option, Some, None}
 use Rattle.ssb_schema.specs.declared.refresh.Action.{Action}
 use Rattle.ssb_questions.specs.declared.query.Query.{Query}
@@ -12,13 +13,17 @@ use Rattle.history_core.specs.declared.event.Event.TheVariants as actual
 abbrev pub Question : Type 0
 Question = Query × List Value
 
+-- what a client asks at once, in order
+abbrev pub Questions : Type 0
+Questions = List Question
+
 -- where two numbers stand, the first is a dispatcher's and the second a client's
 pub data Event : Type 0 where
   TakeRows : Who → Event
   -- the row store comes back, with a refresh to apply or as it is
   PutRows : Who → Option (List Action) → Event
   Look : Who → Event
-  Post : ℕ → Question → Event
+  Post : ℕ → Questions → Event
   Grab : ℕ → ℕ → Event
   TakeWriter : ℕ → Event
   PutWriter : ℕ → Event
@@ -32,7 +37,7 @@ event_of (actual.TakeRows who) = TakeRows who
 event_of (actual.PutRows who None) = PutRows who None
 event_of (actual.PutRows who (Some refresh)) = PutRows who (Some refresh.value)
 event_of (actual.Look who) = Look who
-event_of (actual.Post client question) = Post client question
+event_of (actual.Post client questions) = Post client questions
 event_of (actual.Grab dispatcher client) = Grab dispatcher client
 event_of (actual.TakeWriter dispatcher) = TakeWriter dispatcher
 event_of (actual.PutWriter dispatcher) = PutWriter dispatcher

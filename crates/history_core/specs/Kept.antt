@@ -9,7 +9,7 @@ use Rattle.history_core.specs.declared.dispatcher.Outcome.TheVariants.{Served, G
 use Rattle.history_core.specs.Events.{Event}
 use Rattle.history_core.specs.Numbered.{numbered}
 use Rattle.history_core.specs.World.{World, ClientState, DispatcherState, Mailbox, empty, asked, in_hand, answered}
-use Rattle.history_core.specs.World.{unserved, rows_after, opening_world, step_of}
+use Rattle.history_core.specs.World.{unserved, all_rows_after, opening_world, step_of}
 use Rattle.history_core.specs.World.{run_of}
 use Rattle.history_core.specs.OwnCommits.{OwnCommits, commits_of}
 
@@ -24,12 +24,12 @@ Marks dispatchers number mark = (d : DispatcherState) × (numbered dispatchers n
 -- answer is right
 abbrev pub MailKept : Tables → List CommitRecord → List DispatcherState → Mailbox → Type 0
 MailKept base history dispatchers empty = Unit {0}
-MailKept base history dispatchers (asked question floor) = floor ≤ length history
-MailKept base history dispatchers (in_hand holder question floor) =
+MailKept base history dispatchers (asked questions floor) = floor ≤ length history
+MailKept base history dispatchers (in_hand holder questions floor) =
     (floor ≤ length history) × ((mark : ℕ) → Marks dispatchers holder mark → floor ≤ mark)
-MailKept base history dispatchers (answered question at rows) =
-    (at ≤ length history) × (rows ≡ rows_after base question (take at history))
-MailKept base history dispatchers (unserved question cause) = Unit {0}
+MailKept base history dispatchers (answered questions at rows) =
+    (at ≤ length history) × (rows ≡ all_rows_after base questions (take at history))
+MailKept base history dispatchers (unserved questions cause) = Unit {0}
 
 abbrev pub OutcomeKept : List CommitRecord → ℕ → Outcome → Type 0
 OutcomeKept history floor (Served at) = (floor ≤ at) × (at ≤ length history)

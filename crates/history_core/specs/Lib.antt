@@ -3,6 +3,7 @@ pub mod Numbered
 pub mod World
 pub mod OwnCommits
 pub mod TrueRun
+pub mod Responses
 pub mod Runs
 pub mod Deeds
 pub mod Parts

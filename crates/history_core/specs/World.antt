@@ -1,6 +1,6 @@
 -- The protocol as a pure machine: what there is, and what each event does.
 use Rattle.std.specs.Prelude.{ℕ, ◌+◌, ◌==◌, Bool, true, false, if◌then◌else◌, List}
-use Rattle.std.specs.Prelude.{[], ◌∷◌, ◌++◌, length, take, Option, Some, None}
+use Rattle.std.specs.Prelude.{[], ◌∷◌, ◌++◌, length, take, map, Option, Some, None}
 use Rattle.ssb_schema.specs.declared.refresh.Action.{Action}
 use Rattle.ssb_base.specs.Base.{Tables}
 use Rattle.ssb_schema.specs.Facts.{facts_of}
@@ -17,20 +17,20 @@ use Rattle.history_core.specs.declared.event.Who.{Who}
 use Rattle.history_core.specs.declared.event.Who.TheVariants.{Client, Dispatcher}
 use Rattle.history_core.specs.declared.event.Reply.{Reply}
 use Rattle.history_core.specs.declared.event.Reply.TheVariants.{NotEnabled, Done, Committed, Refused}
-use Rattle.history_core.specs.declared.event.Reply.TheVariants.{Length, Query as Asks, Rows, Unserved}
-use Rattle.history_core.specs.Events.{Question, Event, TakeRows, PutRows, Look, Post, Grab}
+use Rattle.history_core.specs.declared.event.Reply.TheVariants.{Length, Asked as Asks, Rows, Unserved}
+use Rattle.history_core.specs.Events.{Question, Questions, Event, TakeRows, PutRows, Look, Post, Grab}
 use Rattle.history_core.specs.Events.{TakeWriter, PutWriter, Answer, GiveUp, Collect}
 use Rattle.history_core.specs.Numbered.{copies, numbered, renewed, is_there}
 
--- a client's mailbox. A request has its question and its floor, the number of commits that the client had seen
+-- a client's mailbox. A request has its questions and its floor, the number of commits that the client had seen
 pub data Mailbox : Type 0 where
   empty : Mailbox
-  asked : Question → ℕ → Mailbox
+  asked : Questions → ℕ → Mailbox
   -- in the hand of the dispatcher with this number
-  in_hand : ℕ → Question → ℕ → Mailbox
-  -- the question, the number of commits that the rows are after, and the rows
-  answered : Question → ℕ → List ResultRow → Mailbox
-  unserved : Question → Cause → Mailbox
+  in_hand : ℕ → Questions → ℕ → Mailbox
+  -- the questions, the number of commits that all rows are after, and the rows of each question
+  answered : Questions → ℕ → List (List ResultRow) → Mailbox
+  unserved : Questions → Cause → Mailbox
 
 -- `mine` are the commits that the client made
 pub record ClientState : Type 0 where
@@ -120,6 +120,10 @@ commit_by client actions = record { client = client; actions = actions }
 abbrev pub rows_after : Tables → Question → List CommitRecord → List ResultRow
 rows_after base question history = answer_of question base.dimensions (facts_of (lines_after base history))
 
+-- the rows that answer each of these questions, all of them after one history
+abbrev pub all_rows_after : Tables → Questions → List CommitRecord → List (List ResultRow)
+all_rows_after base questions history = map (λ question. rows_after base question history) questions
+
 -- each event: what is known, who holds, or what lies in the mailbox decides whether it is enabled
 
 abbrev pub taking_rows : World → Who → Bool → Option Who → World × Reply
@@ -150,14 +154,14 @@ abbrev pub looking : World → Who → Bool → World × Reply
 looking w who true = (seen_by w who, Length (length w.history))
 looking w who false = (w, NotEnabled)
 
-abbrev pub posting : World → ℕ → Question → Option Mailbox → World × Reply
-posting w client question (Some empty) =
-    (with_client w client (λ c. record c { mailbox = asked question (length c.seen) }), Done)
-posting w client question other = (w, NotEnabled)
+abbrev pub posting : World → ℕ → Questions → Option Mailbox → World × Reply
+posting w client questions (Some empty) =
+    (with_client w client (λ c. record c { mailbox = asked questions (length c.seen) }), Done)
+posting w client questions other = (w, NotEnabled)
 
 abbrev pub grabbing : World → ℕ → ℕ → Bool → Option Mailbox → World × Reply
-grabbing w number client true (Some (asked question floor)) =
-    (with_dispatcher (into_mailbox w client (in_hand number question floor)) number unmarked, Asks question)
+grabbing w number client true (Some (asked questions floor)) =
+    (with_dispatcher (into_mailbox w client (in_hand number questions floor)) number unmarked, Asks questions)
 grabbing w number client known other = (w, NotEnabled)
 
 abbrev pub taking_writer : World → ℕ → Bool → Option ℕ → World × Reply
@@ -170,24 +174,24 @@ putting_writer w number true true =
 putting_writer w number known holds = (w, NotEnabled)
 
 abbrev pub answering : World → ℕ → ℕ → Option ℕ → Option Mailbox → World × Reply
-answering w number client (Some at) (Some (in_hand holder question floor)) =
-    let box = answered question at (rows_after w.base question (take at w.history)) in
+answering w number client (Some at) (Some (in_hand holder questions floor)) =
+    let box = answered questions at (all_rows_after w.base questions (take at w.history)) in
     if holder == number then
     (with_dispatcher (into_mailbox w client box) number (gave client floor (Served at)), Done)
     else (w, NotEnabled)
 answering w number client version other = (w, NotEnabled)
 
 abbrev pub giving_up : World → ℕ → ℕ → Cause → Bool → Option Mailbox → World × Reply
-giving_up w number client cause true (Some (in_hand holder question floor)) =
-    let box = unserved question cause in
+giving_up w number client cause true (Some (in_hand holder questions floor)) =
+    let box = unserved questions cause in
     if holder == number then
     (with_dispatcher (into_mailbox w client box) number (gave client floor (GivenUp cause)), Done)
     else (w, NotEnabled)
 giving_up w number client cause known other = (w, NotEnabled)
 
 abbrev pub collecting : World → ℕ → Option Mailbox → World × Reply
-collecting w client (Some (answered question at rows)) = (into_mailbox w client empty, Rows question at rows)
-collecting w client (Some (unserved question cause)) = (into_mailbox w client empty, Unserved question cause)
+collecting w client (Some (answered questions at rows)) = (into_mailbox w client empty, Rows questions at rows)
+collecting w client (Some (unserved questions cause)) = (into_mailbox w client empty, Unserved questions cause)
 collecting w client other = (w, NotEnabled)
 
 -- what an event leaves of a world, and the reply to it. An unknown number is never enabled
@@ -195,7 +199,7 @@ abbrev pub step_of : World → Event → World × Reply
 step_of w (TakeRows who) = taking_rows w who (is_known w who) w.rows
 step_of w (PutRows who refresh) = putting_rows w who refresh (is_known w who) (holds_rows w.rows who)
 step_of w (Look who) = looking w who (is_known w who)
-step_of w (Post client question) = posting w client question (mailbox_of (numbered w.clients client))
+step_of w (Post client questions) = posting w client questions (mailbox_of (numbered w.clients client))
 step_of w (Grab number client) =
     grabbing w number client (is_known w (Dispatcher number)) (mailbox_of (numbered w.clients client))
 step_of w (TakeWriter number) = taking_writer w number (is_known w (Dispatcher number)) w.writer

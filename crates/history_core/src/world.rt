@@ -10,7 +10,7 @@ ghost use Rattle.history_core.specs.Mailboxes.{floor_of, asked_of, held_of, left
 ghost use Rattle.history_core.specs.MailboxView.{mailbox_in};
 ghost use Rattle.history_core.specs.Numbered.{numbered};
 ghost use Rattle.history_core.specs.Runs.{HasRun, IsTrueFromOpening};
-ghost use Rattle.history_core.specs.World.{opening_world, rows_after, is_known, is_same, holds_rows};
+ghost use Rattle.history_core.specs.World.{opening_world, rows_after, all_rows_after, is_known, is_same, holds_rows};
 ghost use Rattle.history_core.specs.World.{holds_writer, mailbox_of, version_of, with_client};
 ghost use Rattle.history_core.specs.World.{with_dispatcher, seen_by, into_mailbox, unmarked, gave, step_of};
 
@@ -18,6 +18,7 @@ use crate::client::Clients;
 use crate::dispatcher::{Dispatchers, Given, Outcome};
 use crate::event::{Event, Reply, Who};
 use crate::mailbox::Mailbox;
+use crate::questions::share;
 use row_store::{ApplyError, PlainLines, Replica, RowStore};
 use ssb_answers::{Question, ResultRow, Unserved, evaluate};
 use ssb_base::Base;
@@ -110,7 +111,7 @@ impl World {
             }
             Event::PutRows(Who::Dispatcher(_), Some(_)) => Ok(Reply::NotEnabled),
             Event::Look(who) => Ok(self.look(*who)),
-            Event::Post(client, question) => self.post(*client, question),
+            Event::Post(client, questions) => self.post(*client, questions),
             Event::Grab(dispatcher, client) => self.grab(*dispatcher, *client),
             Event::TakeWriter(dispatcher) => Ok(self.take_writer(*dispatcher)),
             Event::PutWriter(dispatcher) => Ok(self.put_writer(*dispatcher)),
@@ -225,16 +226,16 @@ impl World {
         Reply::Length(length as u64)
     }
 
-    // A question goes into the client's empty mailbox, with what the client has seen as its floor.
-    fn post(&mut self, client: u32, question: &Question) -> Result<Reply, AllocError>
-        ensures stepped { IfOk result (λ reply. step_of self.old (Post client question.now) ≡ (self.new, reply)) }
+    // Questions go into the client's empty mailbox, with what the client has seen as their floor.
+    fn post(&mut self, client: u32, questions: &Items<Question>) -> Result<Reply, AllocError>
+        ensures stepped { IfOk result (λ reply. step_of self.old (Post client questions.now) ≡ (self.new, reply)) }
         ensures unchanged { OnErr result (self.new ≡ self.old) }
     {
         let Some(floor) = self.floor(client) else {
             return Ok(Reply::NotEnabled);
         };
-        let question = question.share()?;
-        self.put(client, Mailbox::Asked { question, floor });
+        let questions = share(self.alloc, questions)?;
+        self.put(client, Mailbox::Asked { questions, floor });
         Ok(Reply::Done)
     }
 
@@ -246,18 +247,18 @@ impl World {
         if !self.knows(Who::Dispatcher(number)) {
             return Ok(Reply::NotEnabled);
         }
-        let Some((question, floor)) = self.asked(client)? else {
+        let Some((questions, floor)) = self.asked(client)? else {
             return Ok(Reply::NotEnabled);
         };
-        let shared = question.share()?;
+        let shared = share(self.alloc, &questions)?;
         let mailbox = Mailbox::InHand {
             dispatcher: number,
-            question,
+            questions,
             floor,
         };
         self.put(client, mailbox);
         self.unmark(number);
-        Ok(Reply::Query(shared))
+        Ok(Reply::Asked(shared))
     }
 
     // The writer is given out, while it is home. The mark and the version of its holder are void.
@@ -298,17 +299,17 @@ impl World {
         let Some(at) = self.version(number) else {
             return Ok(Reply::NotEnabled);
         };
-        let Some((question, floor)) = self.held(number, client)? else {
+        let Some((questions, floor)) = self.held(number, client)? else {
             return Ok(Reply::NotEnabled);
         };
-        let rows = self.rows_after(&question, at)?;
+        let rows = self.all_rows_after(&questions, at)?;
         let given = Given {
             client,
             floor,
             outcome: Outcome::Served(at),
         };
         self.give(number, given)?;
-        self.put(client, Mailbox::Answered { question, at, rows });
+        self.put(client, Mailbox::Answered { questions, at, rows });
         Ok(Reply::Done)
     }
 
@@ -320,7 +321,7 @@ impl World {
         if !self.knows(Who::Dispatcher(number)) {
             return Ok(Reply::NotEnabled);
         }
-        let Some((question, floor)) = self.held(number, client)? else {
+        let Some((questions, floor)) = self.held(number, client)? else {
             return Ok(Reply::NotEnabled);
         };
         let given = Given {
@@ -329,7 +330,7 @@ impl World {
             outcome: Outcome::GivenUp(cause),
         };
         self.give(number, given)?;
-        self.put(client, Mailbox::Unserved { question, cause });
+        self.put(client, Mailbox::Unserved { questions, cause });
         Ok(Reply::Done)
     }
 }
@@ -420,21 +421,21 @@ impl World {
     }
 
     // The request of a client that nobody has grabbed.
-    fn asked(&self, client: u32) -> Result<Option<(Question, u64)>, AllocError>
+    fn asked(&self, client: u32) -> Result<Option<(Items<Question>, u64)>, AllocError>
         ensures { IfOk result (λ request. request ≡ asked_of (mailbox_of (numbered self.now.clients client))) }
     {
         match self.clients.find(client) {
-            Some(client) => client.mailbox.asked(),
+            Some(client) => client.mailbox.asked(self.alloc),
             None => Ok(None),
         }
     }
 
     // The request of a client that the dispatcher has in hand.
-    fn held(&self, number: u32, client: u32) -> Result<Option<(Question, u64)>, AllocError>
+    fn held(&self, number: u32, client: u32) -> Result<Option<(Items<Question>, u64)>, AllocError>
         ensures { IfOk result (λ request. request ≡ held_of number (mailbox_of (numbered self.now.clients client))) }
     {
         match self.clients.find(client) {
-            Some(client) => client.mailbox.held(number),
+            Some(client) => client.mailbox.held(self.alloc, number),
             None => Ok(None),
         }
     }
@@ -498,6 +499,23 @@ impl World {
         let lines = self.lines_after(at)?;
         let rows = evaluate(self.alloc, &self.base, lines.lines(), question)?;
         Ok(rows.list)
+    }
+
+    // The rows that answer each of these questions, all of them after the first `at` commits.
+    fn all_rows_after(
+        &self,
+        questions: &Items<Question>,
+        at: u64,
+    ) -> Result<Items<Items<ResultRow>>, AllocError>
+        requires { at ≤ length self.now.history }
+        ensures { IfOk result (λ rows. rows ≡ all_rows_after self.now.base questions.now (take at self.now.history)) }
+    {
+        let list = questions.as_slice();
+        let mut all = Vec::new(self.alloc);
+        for question in list {
+            all.push(self.rows_after(question, at)?)?;
+        }
+        Ok(Items::from_vec(all))
     }
 
     // Applies a client's refresh, which is accepted or refused.

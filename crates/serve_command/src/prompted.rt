@@ -1,23 +1,24 @@
 //! What a person at a terminal sees beside the replies: a prompt before each wait, and help where it is asked for.
 
-use session_requests::ends_request;
+use session_requests::{Block, begun_behind, ends_request};
 use std::alloc::Global;
 use std::io;
 use std::io::{Read, Write};
 
 // What stands before the first prompt.
 const GREETING: &str =
-    "query|NAME asks; begin .. commit refreshes; help lists the queries; Ctrl-D ends\n";
+    "query|NAME asks, ask .. answer asks at once; begin .. commit refreshes; help lists the queries; Ctrl-D ends\n";
 
 const PROMPT: &str = "> ";
 
-// Where a refresh is open.
-const OPEN_PROMPT: &str = "refresh> ";
+// Where a refresh is open, and where questions are.
+const REFRESH_PROMPT: &str = "refresh> ";
+const ASK_PROMPT: &str = "ask> ";
 
 // The line that asks for help. It has no reply, as a line of no bytes has none.
 const HELP: &[u8] = b"help\n";
 
-/// A terminal that is read. Before it waits it writes a prompt to the screen, which shows whether a refresh is open,
+/// A terminal that is read. Before it waits it writes a prompt to the screen, which shows which block is open,
 /// and before the first of them a line of help. The line `help` writes the whole help there, and comes through as a
 /// line of no bytes.
 #[derive(Drop)]
@@ -25,9 +26,9 @@ pub struct Prompted<'a, I: Read + Drop, E: Write + Drop> {
     terminal: I,
     screen: E,
     help: &'a str,
-    // The line that is being read, and whether a refresh was begun before it.
+    // The line that is being read, and the block that was begun before it.
     line: Vec<u8>,
-    is_open: bool,
+    begun: Option<Block>,
     is_greeted: bool,
 }
 
@@ -39,7 +40,7 @@ impl<'a, I: Read + Drop, E: Write + Drop> Prompted<'a, I, E> {
             screen,
             help,
             line: Vec::new(alloc),
-            is_open: false,
+            begun: None,
             is_greeted: false,
         }
     }
@@ -51,7 +52,11 @@ impl<'a, I: Read + Drop, E: Write + Drop> Prompted<'a, I, E> {
             let _ = self.screen.write_all(GREETING.as_bytes());
         }
         if self.line.is_empty() {
-            let prompt = if self.is_open { OPEN_PROMPT } else { PROMPT };
+            let prompt = match self.begun {
+                Some(Block::Refreshing) => REFRESH_PROMPT,
+                Some(Block::Asking) => ASK_PROMPT,
+                None => PROMPT,
+            };
             let _ = self.screen.write_all(prompt.as_bytes());
         }
     }
@@ -63,7 +68,12 @@ impl<'a, I: Read + Drop, E: Write + Drop> Prompted<'a, I, E> {
                 self.line.clear();
             }
             if *byte == b'\n' {
-                self.is_open = !ends_request(self.is_open, self.line.as_slice());
+                let line = self.line.as_slice();
+                self.begun = if ends_request(self.begun, line) {
+                    None
+                } else {
+                    begun_behind(self.begun, line)
+                };
                 self.line.clear();
             }
         }

@@ -1,11 +1,12 @@
 -- Laws of the cutting of a text into requests.
-use Rattle.std.proofs.Common.{◌≡◌, ◌≢◌, ℕ, Bool, true, false, List, [], ◌∷◌, ◌++◌, refl, sym, ap, ◌∙◌, append_assoc, inl, inr, ◌⊎◌}
+use Rattle.std.proofs.Common.{◌≡◌, ◌≢◌, ℕ, Bool, true, false, List, [], ◌∷◌, ◌++◌, refl, sym, ap, ◌∙◌, append_assoc, Option, None, inl, inr, ◌⊎◌}
 use Rattle.std.proofs.lemmas.Bool.Decides.{eqb_tells}
 use Rattle.std.specs.List.{AllByRecursion, concat}
 use Rattle.session_requests.specs.Lines.{HasNoLineEnd, IsLine, AreLines}
 use Rattle.session_requests.specs.Requests.{IsRequest, IsUnfinished, IsCutInto}
 use Rattle.session_requests.specs.Laws.{HasItsLines, HasCutting, HasOneCutting, IsCutAsItComes}
-use Rattle.session_requests.specs.Taking.{IsOpen, ends_request}
+use Rattle.session_requests.specs.Taking.{IsOpen, begun_behind, ends_request}
+use Rattle.session_requests.specs.declared.lines.Block.{Block}
 use Rattle.session_requests.proofs.LineLaws.{same_front, no_line_before_end}
 use Rattle.session_requests.proofs.RequestLaws.{same_request, open_is_unfinished, line_ends, line_goes_on, nothing_open}
 
@@ -98,7 +99,7 @@ lines_of (b ∷ text) =
     ]
 
 -- the lines behind what is begun, cut
-cut_lines : (lines : List (List ℕ)) (begun : Bool) (bytes last : List ℕ) → AllByRecursion IsLine lines
+cut_lines : (lines : List (List ℕ)) (begun : Option Block) (bytes last : List ℕ) → AllByRecursion IsLine lines
     → HasNoLineEnd last → IsOpen begun bytes
     → (requests : List (List ℕ)) × (rest : List ℕ) × IsCutInto (bytes ++ (concat lines ++ last)) requests rest
 cut_lines [] begun bytes last each none opened =
@@ -108,7 +109,7 @@ cut_lines (line ∷ lines) begun bytes last each none opened =
     ap (λ t. bytes ++ t) (append_assoc line (concat lines) last)
     ∙ sym (append_assoc bytes line (concat lines ++ last)) in
     elim (true_or_false (ends_request begun line)) [
-      | inl ends ↦ let rest = cut_lines lines false [] last each.1 none nothing_open in (
+      | inl ends ↦ let rest = cut_lines lines None [] last each.1 none nothing_open in (
         (bytes ++ line) ∷ rest.0,
         rest.1,
         record {
@@ -119,7 +120,7 @@ cut_lines (line ∷ lines) begun bytes last each none opened =
         },
       )
       | inr goes ↦ let more = line_goes_on begun bytes line opened each.0 goes in
-          let rest = cut_lines lines true (bytes ++ line) last each.1 none more in (
+          let rest = cut_lines lines (begun_behind begun line) (bytes ++ line) last each.1 none more in (
             rest.0,
             rest.1,
             record {
@@ -133,7 +134,7 @@ cut_lines (line ∷ lines) begun bytes last each none opened =
 pub text_has_cutting : (text : List ℕ) → HasCutting text
 text_has_cutting text =
     let lines = lines_of text in
-    let cut = cut_lines lines.0 false [] lines.1 lines.2.each lines.2.behind nothing_open in (
+    let cut = cut_lines lines.0 None [] lines.1 lines.2.each lines.2.behind nothing_open in (
       cut.0,
       cut.1,
       record {

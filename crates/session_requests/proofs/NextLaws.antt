@@ -1,5 +1,5 @@
 -- What the next request of a text is among all of its requests.
-use Rattle.std.proofs.Common.{◌≡◌, ◌<◌, ◌≤◌, ℕ, false, List, [], ◌∷◌, ◌++◌, length, Option, Some, None, refl, sym, ap, ◌∙◌, append_assoc, append-nil, arith, inl, inr, Result, Ok, Err}
+use Rattle.std.proofs.Common.{◌≡◌, ◌<◌, ◌≤◌, ℕ, List, [], ◌∷◌, ◌++◌, length, Option, Some, None, refl, sym, ap, ◌∙◌, append_assoc, append-nil, arith, inl, inr, Result, Ok, Err}
 use Rattle.std.specs.Option.{IfSome}
 use Rattle.std.specs.List.{concat}
 use Rattle.std.specs.Io.KnownBytes.{Consumes}
@@ -15,7 +15,7 @@ use Rattle.session_requests.proofs.CuttingLaws.{goes_on}
 use Rattle.session_requests.proofs.RequestLaws.{open_is_unfinished, nothing_open}
 
 nothing_unfinished : IsUnfinished []
-nothing_unfinished = open_is_unfinished false [] [] nothing_open tt
+nothing_unfinished = open_is_unfinished None [] [] nothing_open tt
 
 pub found_next : (what : Found) (a b : Option (List ℕ)) (bytes : List ℕ) → Consumes a b bytes → IsFound what a bytes
     → CutsNext what a b bytes

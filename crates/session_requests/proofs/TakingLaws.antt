@@ -9,7 +9,8 @@ use Rattle.std.proofs.Transfers.{starts_with_length, drop-appended}
 use Rattle.session_requests.specs.Lines.{HasNoLineEnd, IsLine}
 use Rattle.session_requests.specs.Requests.{IsRequest, IsUnfinished}
 use Rattle.session_requests.specs.Next.{IsAllOf, IsLessThan, IsRequestFault}
-use Rattle.session_requests.specs.Taking.{Took, IsPiece, TellsLine, IsLineFault, IsOpen, ends_request}
+use Rattle.session_requests.specs.Taking.{Took, IsPiece, TellsLine, IsLineFault, IsOpen, begun_behind, ends_request}
+use Rattle.session_requests.specs.declared.lines.Block.{Block}
 use Rattle.session_requests.specs.declared.pieces.Piece.TheVariants as piece
 use Rattle.session_requests.specs.declared.error.RequestError.{RequestError}
 use Rattle.session_requests.specs.declared.error.RequestError.TheVariants as error
@@ -98,26 +99,27 @@ line_behind buffer x z bytes start same at appended =
     ∙ ap (drop start) same ∙ ap (λ n. drop n z) at ∙ drop-appended x z bytes appended
 
 -- what a read of a line says of the request that was begun before it
-pub request_ends : (begun : Bool) (b c : Option (List ℕ)) (x z line : List ℕ) → IsOpen begun x
+pub request_ends : (begun : Option Block) (b c : Option (List ℕ)) (x z line : List ℕ) → IsOpen begun x
     → (q : Took b c x z IsLine) → line ≡ q.bytes → ends_request begun line ≡ true → IsRequest z
 request_ends begun b c x z line opened q same ends =
     subst IsRequest (sym q.appended) (line_ends begun x q.bytes opened q.is
     (ap (ends_request begun) (sym same) ∙ ends))
 
-pub request_goes_on : (begun : Bool) (b c : Option (List ℕ)) (x z line : List ℕ) → IsOpen begun x
-    → (q : Took b c x z IsLine) → line ≡ q.bytes → ends_request begun line ≡ false → IsOpen true z
+pub request_goes_on : (begun : Option Block) (b c : Option (List ℕ)) (x z line : List ℕ) → IsOpen begun x
+    → (q : Took b c x z IsLine) → line ≡ q.bytes → ends_request begun line ≡ false → IsOpen (begun_behind begun line) z
 request_goes_on begun b c x z line opened q same ends =
-    subst (IsOpen true) (sym q.appended) (line_goes_on begun x q.bytes opened q.is
-    (ap (ends_request begun) (sym same) ∙ ends))
+    let goes = line_goes_on begun x q.bytes opened q.is (ap (ends_request begun) (sym same) ∙ ends) in
+    subst (IsOpen (begun_behind begun line)) (sym q.appended)
+    (subst (λ l. IsOpen (begun_behind begun l) (x ++ q.bytes)) (sym same) goes)
 
-pub request_left : (begun : Bool) (a b c : Option (List ℕ)) (x z : List ℕ) (limit count : ℕ) → IsOpen begun x
+pub request_left : (begun : Option Block) (a b c : Option (List ℕ)) (x z : List ℕ) (limit count : ℕ) → IsOpen begun x
     → Consumes a b x → Took b c x z (TellsLine (Ok false) limit count b) → IsUnfinished z × IsAllOf a z
 request_left begun a b c x z limit count opened taken q =
     let P : List ℕ → Type 0 = λ bytes. IsUnfinished bytes × IsAllOf a bytes in
     subst P (sym q.appended)
     (open_is_unfinished begun x q.bytes opened q.is.0, all_behind a b x q.bytes taken q.is.1)
 
-pub request_fault : (why : RequestError) (begun : Bool) (a b c : Option (List ℕ)) (x z : List ℕ) (limit : ℕ)
+pub request_fault : (why : RequestError) (begun : Option Block) (a b c : Option (List ℕ)) (x z : List ℕ) (limit : ℕ)
     → IsOpen begun x → Consumes a b x → Took b c x z (IsLineFault why limit (length z) b)
     → IsRequestFault why limit a z
 request_fault error.TooLong begun a b c x z limit opened taken q = (

@@ -1,5 +1,5 @@
 -- What the record of a line says, and the word that the line has alone.
-use Rattle.std.proofs.Common.{◌≡◌, ◌<◌, ◌+◌, ◌-◌, ℕ, suc, Bool, true, false, nat_eq, nat_lt, List, [], ◌∷◌, ◌++◌, length, take, get_or, Option, Some, None, Result, Ok, Err, refl, sym, ap, subst, ◌∙◌, append_assoc, append-nil, length-append, arith, inl, inr, ◌⊎◌, if◌then◌else◌, cond, codes, option_map}
+use Rattle.std.proofs.Common.{◌≡◌, ◌≢◌, ◌<◌, ◌+◌, ◌-◌, ℕ, suc, Bool, true, false, nat_eq, nat_lt, List, [], ◌∷◌, ◌++◌, length, take, get_or, Option, Some, None, Result, Ok, Err, refl, sym, ap, subst, ◌∙◌, append_assoc, append-nil, length-append, arith, inl, inr, ◌⊎◌, if◌then◌else◌, cond, codes, option_map}
 use Rattle.std.specs.Prelude.{◌==◌, ◌&&◌, ◌||◌}
 use Rattle.std.specs.List.{AllByRecursion, list_all}
 use Rattle.std.specs.Cmp.Lexicographic.{pointwise, same_text}
@@ -12,39 +12,19 @@ use Rattle.ssb_text.specs.declared.error.LineFault.TheVariants as row
 use Rattle.ssb_schema.specs.Columns as columns
 use Rattle.ssb_text.specs.Records.{has_columns}
 use Rattle.ssb_text.specs.Spelling.{field, without_spaces}
-use Rattle.ssb_script.specs.Lines.{ScriptLine, RecordFault, line_of, word_of, line_or_bad, line_or_refusal, alone}
+use Rattle.ssb_script.specs.Lines.{ScriptLine, RecordFault, line_of, word_of, line_or_bad, line_or_refusal}
 use Rattle.ssb_script.specs.Lines as script
 use Rattle.ssb_script.specs.declared.control.Opening.TheVariants.{Add, Amend}
 use Rattle.csv.specs.Reading.{strip_bom}
-use Rattle.session_requests.specs.Lines.{is_begin, is_commit, word_alone}
+use Rattle.session_requests.specs.Lines.{is_begin, is_ask, is_commit, is_answer, closes, opens, word_alone}
+use Rattle.session_requests.specs.declared.lines.Block.{Block}
+use Rattle.session_requests.specs.declared.lines.Block.TheVariants.{Refreshing, Asking}
 use Rattle.session_requests.specs.ScriptLaws.{HasNoMark}
 use Rattle.session_requests.proofs.MachineLaws.{ArePlain, Ended, fields_from, records_in}
 
 tells : (b : Bool) → (b ≡ true) ⊎ (b ≡ false)
 tells true = inl refl
 tells false = inr refl
-
-no_query : (o : Option (Named × List Value)) (l : ScriptLine) → line_or_bad (option_map script.Query o) ≡ Ok l
-    → (l ≡ script.Begin) ⊎ (l ≡ script.Commit) → ⊥
-no_query None l h is = cc
-no_query (Some q) l h (inl is) = cc
-no_query (Some q) l h (inr is) = cc
-
-no_withdraw : (o : Option ℕ) (l : ScriptLine) → line_or_bad (option_map script.Withdraw o) ≡ Ok l
-    → (l ≡ script.Begin) ⊎ (l ≡ script.Commit) → ⊥
-no_withdraw None l h is = cc
-no_withdraw (Some q) l h (inl is) = cc
-no_withdraw (Some q) l h (inr is) = cc
-
-no_line : (r : Result (List columns.Value) LineFault) (l : ScriptLine) → line_or_refusal r ≡ Ok l
-    → (l ≡ script.Begin) ⊎ (l ≡ script.Commit) → ⊥
-no_line (Ok values) l h (inl is) = cc
-no_line (Ok values) l h (inr is) = cc
-no_line (Err (row.Refused why)) l h is = cc
-no_line (Err row.FieldCount) l h is = cc
-no_line (Err (row.NotUtf8 column)) l h is = cc
-no_line (Err (row.NotANumber column)) l h is = cc
-no_line (Err row.OutOfMemory) l h is = cc
 
 -- a record that has its word alone says this
 alone_says : (b : Bool) (said l : ScriptLine) → line_or_bad (if b then Some said else None) ≡ Ok l
@@ -55,57 +35,89 @@ alone_says false said l h = absurd cc
 abbrev is_word : List ℕ → List (List ℕ) → Bool
 is_word spelling fields = pointwise nat_eq spelling (field fields 0)
 
--- a record that says `begin` has that word alone
-pub says_begin : (f : List (List ℕ)) → line_of f ≡ Ok script.Begin
-    → (is_word (codes "begin") f ≡ true) × (has_columns 1 f ≡ true)
-unfolding line_of word_of
-says_begin f h = elim (tells (is_word (codes "query") f)) [
-  | inl q ↦ absurd (no_query _ script.Begin (rw q at h) (inl refl))
-  | inr nq ↦ elim (tells (is_word (codes "begin") f)) [
-    | inl b ↦ (b, (alone_says _ script.Begin script.Begin (rw (nq, b) at h)).0)
-    | inr nb ↦ elim (tells (is_word (codes "add") f)) [
-      | inl a ↦ absurd (let s = alone_says (has_columns 1 f) (script.Open Add) script.Begin (rw (nq, nb, a) at h) in
-          let e = s.1 in cc)
-      | inr na ↦ elim (tells (is_word (codes "amend") f)) [
-        | inl m ↦ absurd (let s = alone_says (has_columns 1 f) (script.Open Amend) script.Begin
-            (rw (nq, nb, na, m) at h) in let e = s.1 in cc)
-        | inr nm ↦ elim (tells (is_word (codes "line") f)) [
-          | inl l ↦ absurd (no_line _ script.Begin (rw (nq, nb, na, nm, l) at h) (inl refl))
-          | inr nl ↦ elim (tells (is_word (codes "withdraw") f)) [
-            | inl w ↦ absurd (no_withdraw _ script.Begin (rw (nq, nb, na, nm, nl, w) at h) (inl refl))
-            | inr nw ↦ elim (tells (is_word (codes "commit") f)) [
-              | inl c ↦ absurd (let s = alone_says (has_columns 1 f) script.Commit script.Begin
-                  (rw (nq, nb, na, nm, nl, nw, c) at h) in let e = s.1 in cc)
-              | inr nc ↦ absurd (let e = rw (nq, nb, na, nm, nl, nw, nc) at h in cc)
-            ]
-          ]
-        ]
-      ]
-    ]
-  ]
-]
+-- the word that spells a line, and whether it stands alone in the record
+abbrev spelling_for : ScriptLine → List ℕ
+spelling_for (script.Query question) = codes "query"
+spelling_for script.Begin = codes "begin"
+spelling_for (script.Open Add) = codes "add"
+spelling_for (script.Open Amend) = codes "amend"
+spelling_for (script.Line fields) = codes "line"
+spelling_for (script.Withdraw key) = codes "withdraw"
+spelling_for script.Commit = codes "commit"
+spelling_for script.Ask = codes "ask"
+spelling_for script.Answer = codes "answer"
 
-pub says_commit : (f : List (List ℕ)) → line_of f ≡ Ok script.Commit
-    → (is_word (codes "commit") f ≡ true) × (has_columns 1 f ≡ true)
+abbrev IsAlone : ScriptLine → List (List ℕ) → Type 0
+IsAlone (script.Query question) f = Unit {0}
+IsAlone script.Begin f = has_columns 1 f ≡ true
+IsAlone (script.Open opening) f = has_columns 1 f ≡ true
+IsAlone (script.Line fields) f = Unit {0}
+IsAlone (script.Withdraw key) f = Unit {0}
+IsAlone script.Commit f = has_columns 1 f ≡ true
+IsAlone script.Ask f = has_columns 1 f ≡ true
+IsAlone script.Answer f = has_columns 1 f ≡ true
+
+abbrev IsSaid : ScriptLine → List (List ℕ) → Type 0
+IsSaid l f = (is_word (spelling_for l) f ≡ true) × IsAlone l f
+
+same_said : (a l : ScriptLine) (f : List (List ℕ)) → a ≡ l → IsSaid a f → IsSaid l f
+same_said a l f same is = subst (λ (x : ScriptLine). IsSaid x f) same is
+
+query_said : (o : Option (Named × List Value)) (l : ScriptLine) (f : List (List ℕ)) → is_word (codes "query") f ≡ true
+    → line_or_bad (option_map script.Query o) ≡ Ok l → IsSaid l f
+query_said None l f is h = absurd cc
+query_said (Some q) l f is h =
+    let e : script.Query q ≡ l = cc in
+    same_said (script.Query q) l f e (is, tt)
+
+withdraw_said : (o : Option ℕ) (l : ScriptLine) (f : List (List ℕ)) → is_word (codes "withdraw") f ≡ true
+    → line_or_bad (option_map script.Withdraw o) ≡ Ok l → IsSaid l f
+withdraw_said None l f is h = absurd cc
+withdraw_said (Some key) l f is h =
+    let e : script.Withdraw key ≡ l = cc in
+    same_said (script.Withdraw key) l f e (is, tt)
+
+line_said : (r : Result (List columns.Value) LineFault) (l : ScriptLine) (f : List (List ℕ))
+    → is_word (codes "line") f ≡ true → line_or_refusal r ≡ Ok l → IsSaid l f
+line_said (Ok values) l f is h =
+    let e : script.Line (script.line_with values) ≡ l = cc in
+    same_said (script.Line (script.line_with values)) l f e (is, tt)
+line_said (Err (row.Refused why)) l f is h = absurd cc
+line_said (Err row.FieldCount) l f is h = absurd cc
+line_said (Err (row.NotUtf8 column)) l f is h = absurd cc
+line_said (Err (row.NotANumber column)) l f is h = absurd cc
+line_said (Err row.OutOfMemory) l f is h = absurd cc
+
+alone_said : (a l : ScriptLine) (f : List (List ℕ)) → is_word (spelling_for a) f ≡ true
+    → (has_columns 1 f ≡ true → IsAlone a f) → line_or_bad (if has_columns 1 f then Some a else None) ≡ Ok l → IsSaid l f
+alone_said a l f is alone h =
+    let s = alone_says (has_columns 1 f) a l h in
+    same_said a l f s.1 (is, alone s.0)
+
+-- what a record says begins with its word
+said : (l : ScriptLine) (f : List (List ℕ)) → line_of f ≡ Ok l → IsSaid l f
 unfolding line_of word_of
-says_commit f h = elim (tells (is_word (codes "query") f)) [
-  | inl q ↦ absurd (no_query _ script.Commit (rw q at h) (inr refl))
+said l f h = elim (tells (is_word (codes "query") f)) [
+  | inl is ↦ query_said _ l f is (rw is at h)
   | inr nq ↦ elim (tells (is_word (codes "begin") f)) [
-    | inl b ↦ absurd (let s = alone_says (has_columns 1 f) script.Begin script.Commit (rw (nq, b) at h) in
-        let e = s.1 in cc)
+    | inl is ↦ alone_said script.Begin l f is (λ c. c) (rw (nq, is) at h)
     | inr nb ↦ elim (tells (is_word (codes "add") f)) [
-      | inl a ↦ absurd (let s = alone_says (has_columns 1 f) (script.Open Add) script.Commit (rw (nq, nb, a) at h) in
-          let e = s.1 in cc)
+      | inl is ↦ alone_said (script.Open Add) l f is (λ c. c) (rw (nq, nb, is) at h)
       | inr na ↦ elim (tells (is_word (codes "amend") f)) [
-        | inl m ↦ absurd (let s = alone_says (has_columns 1 f) (script.Open Amend) script.Commit
-            (rw (nq, nb, na, m) at h) in let e = s.1 in cc)
+        | inl is ↦ alone_said (script.Open Amend) l f is (λ c. c) (rw (nq, nb, na, is) at h)
         | inr nm ↦ elim (tells (is_word (codes "line") f)) [
-          | inl l ↦ absurd (no_line _ script.Commit (rw (nq, nb, na, nm, l) at h) (inr refl))
+          | inl is ↦ line_said _ l f is (rw (nq, nb, na, nm, is) at h)
           | inr nl ↦ elim (tells (is_word (codes "withdraw") f)) [
-            | inl w ↦ absurd (no_withdraw _ script.Commit (rw (nq, nb, na, nm, nl, w) at h) (inr refl))
+            | inl is ↦ withdraw_said _ l f is (rw (nq, nb, na, nm, nl, is) at h)
             | inr nw ↦ elim (tells (is_word (codes "commit") f)) [
-              | inl c ↦ (c, (alone_says _ script.Commit script.Commit (rw (nq, nb, na, nm, nl, nw, c) at h)).0)
-              | inr nc ↦ absurd (let e = rw (nq, nb, na, nm, nl, nw, nc) at h in cc)
+              | inl is ↦ alone_said script.Commit l f is (λ c. c) (rw (nq, nb, na, nm, nl, nw, is) at h)
+              | inr nc ↦ elim (tells (is_word (codes "ask") f)) [
+                | inl is ↦ alone_said script.Ask l f is (λ c. c) (rw (nq, nb, na, nm, nl, nw, nc, is) at h)
+                | inr nk ↦ elim (tells (is_word (codes "answer") f)) [
+                  | inl is ↦ alone_said script.Answer l f is (λ c. c) (rw (nq, nb, na, nm, nl, nw, nc, nk, is) at h)
+                  | inr nr ↦ absurd (let e = rw (nq, nb, na, nm, nl, nw, nc, nk, nr) at h in cc)
+                ]
+              ]
             ]
           ]
         ]
@@ -124,6 +136,15 @@ pub commit_is_said : (f : List (List ℕ)) → field f 0 ≡ codes "commit" → 
     → line_of f ≡ Ok script.Commit
 unfolding line_of word_of
 commit_is_said f spelled columns = rw (spelled, columns) refl
+
+pub ask_is_said : (f : List (List ℕ)) → field f 0 ≡ codes "ask" → has_columns 1 f ≡ true → line_of f ≡ Ok script.Ask
+unfolding line_of word_of
+ask_is_said f spelled columns = rw (spelled, columns) refl
+
+pub answer_is_said : (f : List (List ℕ)) → field f 0 ≡ codes "answer" → has_columns 1 f ≡ true
+    → line_of f ≡ Ok script.Answer
+unfolding line_of word_of
+answer_is_said f spelled columns = rw (spelled, columns) refl
 
 -- strip_last, from the front
 strip-one : (e b : ℕ) → (b == e) ≡ false → strip_last e (b ∷ []) ≡ b ∷ []
@@ -285,26 +306,44 @@ content_alone content spelling none is =
     let alone = alone_behind [] content bars in
     (ap without_spaces alone.1 ∙ is, alone.0)
 
-begin_in : (content : List ℕ) → word_in content ≡ codes "begin" → line_of (fields_from [] content) ≡ Ok script.Begin
-begin_in content is =
-    let alone = content_alone content (codes "begin") (refl, (refl, (refl, (refl, (refl, tt))))) is in
-    begin_is_said (fields_from [] content) alone.0 alone.1
+-- a word that says this where it stands alone
+record Tells (spelling : List ℕ) (l : ScriptLine) : Type 0 where
+  some : spelling ≢ []
+  plain : AllByRecursion no_bar spelling
+  said : (f : List (List ℕ)) → field f 0 ≡ spelling → has_columns 1 f ≡ true → line_of f ≡ Ok l
+  says : (f : List (List ℕ)) → line_of f ≡ Ok l → (is_word spelling f ≡ true) × (has_columns 1 f ≡ true)
 
-commit_in : (content : List ℕ) → word_in content ≡ codes "commit" → line_of (fields_from [] content) ≡ Ok script.Commit
-commit_in content is =
-    let alone = content_alone content (codes "commit") (refl, (refl, (refl, (refl, (refl, (refl, tt)))))) is in
-    commit_is_said (fields_from [] content) alone.0 alone.1
+begin_tells : Tells (codes "begin") script.Begin
+begin_tells = record {
+  some = λ e. cc;
+  plain = (refl, (refl, (refl, (refl, (refl, tt)))));
+  said = begin_is_said;
+  says = said script.Begin;
+}
 
-in_begin : (content : List ℕ) → line_of (fields_from [] content) ≡ Ok script.Begin → word_in content ≡ codes "begin"
-in_begin content said =
-    let says = says_begin (fields_from [] content) said in
-    sym (field_alone content says.1) ∙ sym (same_text (codes "begin") (field (fields_from [] content) 0) (sym says.0))
+commit_tells : Tells (codes "commit") script.Commit
+commit_tells = record {
+  some = λ e. cc;
+  plain = (refl, (refl, (refl, (refl, (refl, (refl, tt))))));
+  said = commit_is_said;
+  says = said script.Commit;
+}
 
-in_commit : (content : List ℕ) → line_of (fields_from [] content) ≡ Ok script.Commit
-    → word_in content ≡ codes "commit"
-in_commit content said =
-    let says = says_commit (fields_from [] content) said in
-    sym (field_alone content says.1) ∙ sym (same_text (codes "commit") (field (fields_from [] content) 0) (sym says.0))
+ask_tells : Tells (codes "ask") script.Ask
+ask_tells = record {
+  some = λ e. cc;
+  plain = (refl, (refl, (refl, tt)));
+  said = ask_is_said;
+  says = said script.Ask;
+}
+
+answer_tells : Tells (codes "answer") script.Answer
+answer_tells = record {
+  some = λ e. cc;
+  plain = (refl, (refl, (refl, (refl, (refl, (refl, tt))))));
+  said = answer_is_said;
+  says = said script.Answer;
+}
 
 no_word : word_in [] ≡ []
 unfolding without_spaces
@@ -313,51 +352,117 @@ no_word = refl
 word_of_line : (line content : List ℕ) → Ended line content → word_alone line ≡ word_in content
 word_of_line line content is = ap word_in (content_of_line line content is)
 
--- a `begin` line has one record, which says so
-pub line_begins : (line content : List ℕ) → Ended line content → HasNoMark line → is_begin line ≡ true
+-- a line that has the word alone has one record, which says so
+line_tells : (spelling : List ℕ) (l : ScriptLine) (line content : List ℕ) → Tells spelling l → Ended line content
+    → pointwise nat_eq (word_alone line) spelling ≡ true
+    → (f : List (List ℕ)) × (records_in content ≡ f ∷ []) × (line_of f ≡ Ok l)
+line_tells spelling l line [] t is has =
+    let spelled = same_text (word_alone line) spelling (sym has) in
+    absurd (t.some (sym spelled ∙ word_of_line line [] is ∙ no_word))
+line_tells spelling l line (b ∷ content) t is has =
+    let spelled = same_text (word_alone line) spelling (sym has) in
+    let alone = content_alone (b ∷ content) spelling t.plain (sym (word_of_line line (b ∷ content) is) ∙ spelled) in
+    (fields_from [] (b ∷ content), refl, t.said (fields_from [] (b ∷ content)) alone.0 alone.1)
+
+same_is_word : (a b : List ℕ) → a ≡ b → pointwise nat_eq b b ≡ true → pointwise nat_eq a b ≡ true
+same_is_word a b same itself = ap (λ x. pointwise nat_eq x b) same ∙ itself
+
+-- and one that has it not says something else
+line_tells_not : (spelling : List ℕ) (l : ScriptLine) (line content : List ℕ) (f : List (List ℕ)) → Tells spelling l
+    → pointwise nat_eq spelling spelling ≡ true → Ended line content → pointwise nat_eq (word_alone line) spelling ≡ false
+    → records_in content ≡ f ∷ [] → line_of f ≡ Ok l → ⊥
+line_tells_not spelling l line [] f t itself is other e said = cc
+line_tells_not spelling l line (b ∷ content) f t itself is other e said =
+    let same : fields_from [] (b ∷ content) ≡ f = cc in
+    let says = t.says (fields_from [] (b ∷ content)) (ap line_of same ∙ said) in
+    let first = same_text spelling (field (fields_from [] (b ∷ content)) 0) (sym says.0) in
+    let spelled = word_of_line line (b ∷ content) is ∙ sym (field_alone (b ∷ content) says.1) ∙ sym first in
+    true≢false (sym (same_is_word (word_alone line) spelling spelled itself) ∙ other)
+
+-- the lines that begin and end a block
+abbrev pub opening_of : Block → ScriptLine
+opening_of Refreshing = script.Begin
+opening_of Asking = script.Ask
+
+abbrev pub closing_of : Block → ScriptLine
+closing_of Refreshing = script.Commit
+closing_of Asking = script.Answer
+
+-- which of two words a line has
+word_opens : (begin ask : Bool) (block : Block) → (if begin then Some Refreshing else if ask then Some Asking else None) ≡ Some block
+    → ((begin ≡ true) × (block ≡ Refreshing)) ⊎ ((ask ≡ true) × (block ≡ Asking))
+word_opens true ask block e = inl (refl, cc)
+word_opens false true block e = inr (refl, cc)
+word_opens false false block e = absurd cc
+
+no_word_opens : (begin ask : Bool) → (if begin then Some Refreshing else if ask then Some Asking else None) ≡ None
+    → (begin ≡ false) × (ask ≡ false)
+no_word_opens true ask e = absurd cc
+no_word_opens false true e = absurd cc
+no_word_opens false false e = (refl, refl)
+
+unmarked_word : (line spelling : List ℕ) → HasNoMark line
+    → pointwise nat_eq (word_alone (strip_bom line)) spelling ≡ pointwise nat_eq (word_alone line) spelling
+unmarked_word line spelling none = ap (λ l. pointwise nat_eq (word_alone l) spelling) none
+
+line_begins : (line content : List ℕ) → Ended line content → HasNoMark line → is_begin line ≡ true
     → (f : List (List ℕ)) × (records_in content ≡ f ∷ []) × (line_of f ≡ Ok script.Begin)
 unfolding is_begin
-line_begins line [] is none begins =
-    let spelled = same_text (word_alone line) (codes "begin") (sym begins ∙ ap (λ l. pointwise nat_eq (word_alone l) (codes "begin")) none) in
-    let empty = sym no_word ∙ sym (word_of_line line [] is) ∙ spelled in
-    absurd cc
-line_begins line (b ∷ content) is none begins =
-    let spelled = same_text (word_alone line) (codes "begin") (sym begins ∙ ap (λ l. pointwise nat_eq (word_alone l) (codes "begin")) none) in (
-      fields_from [] (b ∷ content),
-      refl,
-      begin_in (b ∷ content) (sym (word_of_line line (b ∷ content) is) ∙ spelled),
-    )
+line_begins line content is none begins =
+    line_tells (codes "begin") script.Begin line content begin_tells is
+    (sym (unmarked_word line (codes "begin") none) ∙ begins)
 
-pub line_begins_not : (line content : List ℕ) (f : List (List ℕ)) → Ended line content → HasNoMark line
+line_asks : (line content : List ℕ) → Ended line content → HasNoMark line → is_ask line ≡ true
+    → (f : List (List ℕ)) × (records_in content ≡ f ∷ []) × (line_of f ≡ Ok script.Ask)
+unfolding is_ask
+line_asks line content is none asks =
+    line_tells (codes "ask") script.Ask line content ask_tells is (sym (unmarked_word line (codes "ask") none) ∙ asks)
+
+line_begins_not : (line content : List ℕ) (f : List (List ℕ)) → Ended line content → HasNoMark line
     → is_begin line ≡ false → records_in content ≡ f ∷ [] → line_of f ≡ Ok script.Begin → ⊥
 unfolding is_begin
-line_begins_not line [] f is none other e said = cc
-line_begins_not line (b ∷ content) f is none other e said =
-    let same : fields_from [] (b ∷ content) ≡ f = cc in
-    let spelled = word_of_line line (b ∷ content) is ∙ in_begin (b ∷ content) (ap line_of same ∙ said) in
-    let holds : pointwise nat_eq (word_alone (strip_bom line)) (codes "begin") ≡ true = rw (none, spelled) refl in
-    true≢false (sym holds ∙ other)
+line_begins_not line content f is none other e said =
+    line_tells_not (codes "begin") script.Begin line content f begin_tells refl is
+    (sym (unmarked_word line (codes "begin") none) ∙ other) e said
 
-pub line_commits : (line content : List ℕ) → Ended line content → is_commit line ≡ true
-    → (f : List (List ℕ)) × (records_in content ≡ f ∷ []) × (line_of f ≡ Ok script.Commit)
-unfolding is_commit
-line_commits line [] is commits =
-    let spelled = same_text (word_alone line) (codes "commit") (sym commits) in
-    let empty = sym no_word ∙ sym (word_of_line line [] is) ∙ spelled in
-    absurd cc
-line_commits line (b ∷ content) is commits =
-    let spelled = same_text (word_alone line) (codes "commit") (sym commits) in (
-      fields_from [] (b ∷ content),
-      refl,
-      commit_in (b ∷ content) (sym (word_of_line line (b ∷ content) is) ∙ spelled),
-    )
+line_asks_not : (line content : List ℕ) (f : List (List ℕ)) → Ended line content → HasNoMark line
+    → is_ask line ≡ false → records_in content ≡ f ∷ [] → line_of f ≡ Ok script.Ask → ⊥
+unfolding is_ask
+line_asks_not line content f is none other e said =
+    line_tells_not (codes "ask") script.Ask line content f ask_tells refl is
+    (sym (unmarked_word line (codes "ask") none) ∙ other) e said
 
-pub line_commits_not : (line content : List ℕ) (f : List (List ℕ)) → Ended line content
-    → is_commit line ≡ false → records_in content ≡ f ∷ [] → line_of f ≡ Ok script.Commit → ⊥
-unfolding is_commit
-line_commits_not line [] f is other e said = cc
-line_commits_not line (b ∷ content) f is other e said =
-    let same : fields_from [] (b ∷ content) ≡ f = cc in
-    let spelled = word_of_line line (b ∷ content) is ∙ in_commit (b ∷ content) (ap line_of same ∙ said) in
-    let holds : pointwise nat_eq (word_alone line) (codes "commit") ≡ true = rw spelled refl in
-    true≢false (sym holds ∙ other)
+-- a line that begins a block has one record, which says so
+pub line_opens : (line content : List ℕ) (block : Block) → Ended line content → HasNoMark line → opens line ≡ Some block
+    → (f : List (List ℕ)) × (records_in content ≡ f ∷ []) × (line_of f ≡ Ok (opening_of block))
+line_opens line content block is none begins = elim (word_opens (is_begin line) (is_ask line) block begins) [
+  | inl one ↦ let found = line_begins line content is none one.0 in
+      (found.0, found.1, found.2 ∙ ap (λ b. Ok (opening_of b)) (sym one.1))
+  | inr one ↦ let found = line_asks line content is none one.0 in
+      (found.0, found.1, found.2 ∙ ap (λ b. Ok (opening_of b)) (sym one.1))
+]
+
+-- one that begins none says neither
+pub line_opens_not : (line content : List ℕ) (f : List (List ℕ)) (block : Block) → Ended line content → HasNoMark line
+    → opens line ≡ None → records_in content ≡ f ∷ [] → line_of f ≡ Ok (opening_of block) → ⊥
+line_opens_not line content f Refreshing is none other e said =
+    line_begins_not line content f is none (no_word_opens (is_begin line) (is_ask line) other).0 e said
+line_opens_not line content f Asking is none other e said =
+    line_asks_not line content f is none (no_word_opens (is_begin line) (is_ask line) other).1 e said
+
+-- the same of a line that ends a block
+pub line_closes : (line content : List ℕ) (block : Block) → Ended line content → closes block line ≡ true
+    → (f : List (List ℕ)) × (records_in content ≡ f ∷ []) × (line_of f ≡ Ok (closing_of block))
+unfolding is_commit is_answer
+line_closes line content Refreshing is ends =
+    line_tells (codes "commit") script.Commit line content commit_tells is ends
+line_closes line content Asking is ends =
+    line_tells (codes "answer") script.Answer line content answer_tells is ends
+
+pub line_closes_not : (line content : List ℕ) (f : List (List ℕ)) (block : Block) → Ended line content
+    → closes block line ≡ false → records_in content ≡ f ∷ [] → line_of f ≡ Ok (closing_of block) → ⊥
+unfolding is_commit is_answer
+line_closes_not line content f Refreshing is other e said =
+    line_tells_not (codes "commit") script.Commit line content f commit_tells refl is other e said
+line_closes_not line content f Asking is other e said =
+    line_tells_not (codes "answer") script.Answer line content f answer_tells refl is other e said

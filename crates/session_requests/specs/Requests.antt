@@ -1,19 +1,20 @@
 -- The requests of a text: what a client asks at once.
-use Rattle.std.specs.Prelude.{◌≡◌, ℕ, true, false, List, [], ◌∷◌, ◌++◌}
+use Rattle.std.specs.Prelude.{◌≡◌, ℕ, true, false, List, [], ◌∷◌, ◌++◌, Some, None}
 use Rattle.std.specs.List.{AllByRecursion, concat}
-use Rattle.session_requests.specs.Lines.{IsLine, is_begin, is_commit}
+use Rattle.session_requests.specs.Lines.{IsLine, opens, closes}
+use Rattle.session_requests.specs.declared.lines.Block.{Block}
 
--- the last of these lines, and no other, is a `commit`
-abbrev pub EndsAtCommit : List (List ℕ) → Type 0
-EndsAtCommit [] = ⊥
-EndsAtCommit (line ∷ []) = is_commit line ≡ true
-EndsAtCommit (line ∷ next ∷ lines) = (is_commit line ≡ false) × EndsAtCommit (next ∷ lines)
+-- the last of these lines, and no other, ends the block
+abbrev pub EndAt : Block → List (List ℕ) → Type 0
+EndAt block [] = ⊥
+EndAt block (line ∷ []) = closes block line ≡ true
+EndAt block (line ∷ next ∷ lines) = (closes block line ≡ false) × EndAt block (next ∷ lines)
 
--- these lines are one request: a line that is no `begin`, or a `begin` and the lines through the first `commit`
+-- these lines are one request: a line that begins no block, or one that does and the lines through the first that ends it
 abbrev pub MakeRequest : List (List ℕ) → Type 0
 MakeRequest [] = ⊥
-MakeRequest (line ∷ []) = is_begin line ≡ false
-MakeRequest (line ∷ next ∷ lines) = (is_begin line ≡ true) × EndsAtCommit (next ∷ lines)
+MakeRequest (line ∷ []) = opens line ≡ None
+MakeRequest (line ∷ next ∷ lines) = (block : Block) × (opens line ≡ Some block) × EndAt block (next ∷ lines)
 
 -- these bytes are one request
 pub record IsRequest (bytes : List ℕ) : Type 0 where

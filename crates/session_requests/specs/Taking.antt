@@ -1,8 +1,9 @@
 -- What the reads of one line and of its pieces take from a reader, and what they tell.
-use Rattle.std.specs.Prelude.{◌≡◌, ℕ, Bool, true, false, not, List, [], ◌∷◌, ◌++◌, Option, Result, Ok, Err}
+use Rattle.std.specs.Prelude.{◌≡◌, ℕ, Bool, true, false, List, [], ◌∷◌, ◌++◌, Option, Some, None, is_none, Result, Ok, Err}
 use Rattle.std.specs.List.{AllByRecursion, concat}
 use Rattle.std.specs.Io.KnownBytes.{Consumes}
-use Rattle.session_requests.specs.Lines.{HasNoLineEnd, IsLine, is_begin, is_commit}
+use Rattle.session_requests.specs.Lines.{HasNoLineEnd, IsLine, opens, closes}
+use Rattle.session_requests.specs.declared.lines.Block.{Block}
 use Rattle.session_requests.specs.Next.{IsAllOf, IsLessThan}
 use Rattle.session_requests.specs.declared.pieces.Piece.{Piece}
 use Rattle.session_requests.specs.declared.pieces.Piece.TheVariants as piece
@@ -38,19 +39,24 @@ TellsLine (Ok true) limit count text bytes = IsLine bytes
 TellsLine (Ok false) limit count text bytes = HasNoLineEnd bytes × IsAllOf text bytes
 TellsLine (Err error) limit count text bytes = IsLineFault error limit count text bytes
 
--- whether a line ends the request that was begun, or, where none was, is one
-abbrev pub ends_request : Bool → List ℕ → Bool
-ends_request true line = is_commit line
-ends_request false line = not (is_begin line)
+-- whether a line ends the block that was begun, or, where none was, is a request
+abbrev pub ends_request : Option Block → List ℕ → Bool
+ends_request (Some block) line = closes block line
+ends_request None line = is_none (opens line)
 
--- these lines begin a request that has not ended, or there are none
-abbrev pub AreOpen : Bool → List (List ℕ) → Type 0
-AreOpen false lines = lines ≡ []
-AreOpen true [] = ⊥
-AreOpen true (line ∷ lines) = (is_begin line ≡ true) × AllByRecursion (λ next. is_commit next ≡ false) lines
+-- the block that is begun behind a line which ends no request
+abbrev pub begun_behind : Option Block → List ℕ → Option Block
+begun_behind (Some block) line = Some block
+begun_behind None line = opens line
+
+-- these lines begin a block that has not ended, or there are none
+abbrev pub AreOpen : Option Block → List (List ℕ) → Type 0
+AreOpen None lines = lines ≡ []
+AreOpen (Some block) [] = ⊥
+AreOpen (Some block) (line ∷ lines) = (opens line ≡ Some block) × AllByRecursion (λ next. closes block next ≡ false) lines
 
 -- these bytes are such lines
-pub record IsOpen (begun : Bool) (bytes : List ℕ) : Type 0 where
+pub record IsOpen (begun : Option Block) (bytes : List ℕ) : Type 0 where
   pub lines : List (List ℕ)
   pub joined : bytes ≡ concat lines
   pub each : AllByRecursion IsLine lines

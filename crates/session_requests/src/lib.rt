@@ -1,5 +1,6 @@
 //! The cutting of the text that a session writes into requests, each of which a live server answers at once: a line; or
-//! the lines from a `begin` through the first `commit` behind it. Each is read as a script of its own.
+//! a block, which are the lines from a `begin` through the first `commit` behind it, or from an `ask` through the first
+//! `answer`. Each is read as a script of its own.
 //!
 //! ```text
 //! query|Q1.1          the first request
@@ -13,7 +14,7 @@
 //! request, or what a text that has ended still had, or, behind an error, the front of a request that has no end yet.
 //! [`has_request`] says whether a whole request stands at the front of bytes.
 //!
-//! The definitions stand in `specs/`: `Lines` (a line, and which are `begin` and `commit`), `Requests` (a request, and the
+//! The definitions stand in `specs/`: `Lines` (a line, and which begin and end a block), `Requests` (a request, and the
 //! requests of a text), `Next` (what a read gives and tells), `Taking` (the same of its parts), `Laws` (a text has one
 //! cutting, and whatever follows it leaves its requests as they are) and `ScriptLaws`: serving the requests of a legal
 //! script as they come serves the script.
@@ -28,5 +29,5 @@ mod requests;
 
 pub use at_hand::has_request;
 pub use error::RequestError;
-pub use lines::ends_request;
+pub use lines::{Block, begun_behind, ends_request};
 pub use requests::{Found, MOST_BYTES, next_request};

@@ -63,12 +63,29 @@ fn word_alone(line: &[u8]) -> &[u8]
     trimmed(without_last(without_last(without_last(line, b'\n'), b'\r'), b'|'))
 }
 
+/// A request of several lines.
+#[derive(Clone, Copy, Debug, PartialEq, Eq)]
+pub enum Block {
+    /// A refresh, from a `begin` through the first `commit`.
+    Refreshing,
+    /// Questions, from an `ask` through the first `answer`.
+    Asking,
+}
+
 /// Whether a line is a `begin`.
 #[tactic(auto, unfolding(crate::specs::Lines::is_begin))]
 pub(crate) fn is_begin(line: &[u8]) -> bool
     ensures { result ≡ spec.is_begin line.now }
 {
     word_alone(without_mark(line)) == b"begin".as_slice()
+}
+
+/// Whether a line is an `ask`.
+#[tactic(auto, unfolding(crate::specs::Lines::is_ask))]
+pub(crate) fn is_ask(line: &[u8]) -> bool
+    ensures { result ≡ spec.is_ask line.now }
+{
+    word_alone(without_mark(line)) == b"ask".as_slice()
 }
 
 /// Whether a line is a `commit`.
@@ -79,13 +96,53 @@ pub(crate) fn is_commit(line: &[u8]) -> bool
     word_alone(line) == b"commit".as_slice()
 }
 
-/// Whether a line ends the request that was begun, or, where none was, is one.
-pub fn ends_request(begun: bool, line: &[u8]) -> bool
+/// Whether a line is an `answer`.
+#[tactic(auto, unfolding(crate::specs::Lines::is_answer))]
+pub(crate) fn is_answer(line: &[u8]) -> bool
+    ensures { result ≡ spec.is_answer line.now }
+{
+    word_alone(line) == b"answer".as_slice()
+}
+
+// The block that a line begins.
+fn opens(line: &[u8]) -> Option<Block>
+    ensures { result ≡ spec.opens line.now }
+{
+    if is_begin(line) {
+        Some(Block::Refreshing)
+    } else if is_ask(line) {
+        Some(Block::Asking)
+    } else {
+        None
+    }
+}
+
+// Whether a line ends a block.
+fn closes(block: Block, line: &[u8]) -> bool
+    ensures { result ≡ spec.closes block line.now }
+{
+    match block {
+        Block::Refreshing => is_commit(line),
+        Block::Asking => is_answer(line),
+    }
+}
+
+/// Whether a line ends the block that was begun, or, where none was, is a request.
+pub fn ends_request(begun: Option<Block>, line: &[u8]) -> bool
     ensures { result ≡ taking.ends_request begun line.now }
 {
-    if begun {
-        is_commit(line)
-    } else {
-        !is_begin(line)
+    match begun {
+        Some(block) => closes(block, line),
+        None => opens(line).is_none(),
+    }
+}
+
+/// The block that is begun behind a line which ends no request.
+pub fn begun_behind(begun: Option<Block>, line: &[u8]) -> Option<Block>
+    ensures { result ≡ taking.begun_behind begun line.now }
+{
+    match begun {
+        Some(block) => Some(block),
+        None => opens(line),
     }
 }

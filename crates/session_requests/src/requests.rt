@@ -5,7 +5,7 @@ ghost use Rattle.std.specs.Io.KnownBytes.{Consumes};
 ghost use Rattle.session_requests.specs.Next.{BeginsBeyond, CutsNext, IsFound, IsRequestFault};
 
 use crate::error::RequestError;
-use crate::lines::{ends_request, next_line};
+use crate::lines::{begun_behind, ends_request, next_line};
 use std::io::BufRead;
 
 /// The most bytes that a request has where nothing else is said: 1 MiB.
@@ -34,7 +34,7 @@ fn take_request<R: BufRead>(
     ensures fault { IfErr result (λ error. IsRequestFault error limit (R.remaining reader.old) request.new.items) }
 {
     request.clear();
-    let mut begun = false;
+    let mut begun = None;
     loop {
         let start = request.len();
         if !next_line(reader, request, limit)? {
@@ -45,10 +45,11 @@ fn take_request<R: BufRead>(
             };
             return Ok(found);
         }
-        if ends_request(begun, &request[start..]) {
+        let line = &request[start..];
+        if ends_request(begun, line) {
             return Ok(Found::Request);
         }
-        begun = true;
+        begun = begun_behind(begun, line);
     }
 }
 

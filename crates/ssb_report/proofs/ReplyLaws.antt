@@ -1,15 +1,19 @@
 -- The replies of the one-thread warehouse, and others.
-use Rattle.std.proofs.Common.{◌≡◌, ◌⊎◌, Bool, true, false, List, [], ◌∷◌, Result, refl, sym, ◌∙◌, ap, inl, inr}
+use Rattle.std.proofs.Common.{◌≡◌, ◌⊎◌, Bool, true, false, List, [], ◌∷◌, Result, map, refl, sym, ◌∙◌, ap, inl, inr}
 use Rattle.ssb_schema.specs.declared.refresh.Action.{Action}
-use Rattle.ssb_answers.specs.declared.answer.Answer.TheVariants.{Rows, Unserved}
+use Rattle.ssb_questions.specs.declared.query.Query.{Query as Named}
+use Rattle.ssb_questions.specs.declared.value.Value.{Value}
+use Rattle.ssb_answers.specs.declared.answer.Answer.{Answer}
+use Rattle.ssb_answers.specs.declared.answer.Answer.TheVariants.{Unserved}
 use Rattle.ssb_answers.specs.declared.answer.Unserved.{Unserved as Cause}
 use Rattle.row_store.specs.History.{Warehouse}
 use Rattle.row_store.specs.Legal.{IsRefreshReply}
 use Rattle.row_store.specs.declared.commit.Receipt.{Receipt}
 use Rattle.row_store.specs.declared.refusal.RefreshError.{RefreshError}
-use Rattle.ssb_script.specs.Requests.{RequestRecord, Refresh, Ask}
-use Rattle.ssb_report.specs.Replies.{Reply, Refreshed, Answered, true_reply, IsReply, committed_by, with_commits}
-use Rattle.ssb_report.specs.Laws.{true_replies, gives_up, TrueRepliesAnswer, OthersGiveUp}
+use Rattle.ssb_script.specs.Requests.{RequestRecord, Refresh, Ask, questions_in}
+use Rattle.ssb_report.specs.Replies.{Reply, Refreshed, Answered, true_reply, warehouse_answer, AreAnswers, IsReply}
+use Rattle.ssb_report.specs.Replies.{committed_by, with_commits}
+use Rattle.ssb_report.specs.Laws.{true_replies, any_unserved, gives_up, TrueRepliesAnswer, OthersGiveUp}
 
 -- a reply is that of the one-thread warehouse, or gives up
 abbrev TrueOrGivenUp : Warehouse → RequestRecord → Reply → Type 0
@@ -23,18 +27,36 @@ refreshed_so warehouse actions reply is = elim is [
   | inr full ↦ inr (ap (λ r. gives_up (Refreshed r)) full.0)
 ]
 
+-- answers without rows give up, where something is asked
+left_or_none : (warehouse : Warehouse) (questions : List (Named × List Value)) (answers : List Answer) (cause : Cause)
+    → answers ≡ map (λ question. Unserved question cause) questions
+    → (answers ≡ map (warehouse_answer warehouse) questions) ⊎ (any_unserved answers ≡ true)
+left_or_none warehouse [] answers cause is = inl is
+left_or_none warehouse (question ∷ questions) answers cause is = inr (ap any_unserved is)
+
+answered_so : (causes : Cause → Bool) (warehouse : Warehouse) (questions : List (Named × List Value))
+    (answers : List Answer) → AreAnswers causes warehouse questions answers
+    → (answers ≡ map (warehouse_answer warehouse) questions) ⊎ (any_unserved answers ≡ true)
+answered_so causes warehouse questions answers is = elim is [
+  | inl same ↦ inl same
+  | inr left ↦ left_or_none warehouse questions answers left.0 left.2
+]
+
 true_or_given_up : (causes : Cause → Bool) (warehouse : Warehouse) (request : RequestRecord) (reply : Reply)
     → IsReply causes warehouse request reply → TrueOrGivenUp warehouse request reply
 true_or_given_up causes warehouse (Refresh actions) (Refreshed reply) is = refreshed_so warehouse actions reply is
-true_or_given_up causes warehouse (Refresh actions) (Answered answer) is = absurd is
-true_or_given_up causes warehouse (Ask question) (Refreshed result) is = absurd is
-true_or_given_up causes warehouse (Ask question) (Answered (Rows query at rows)) is = inl (ap Answered is)
-true_or_given_up causes warehouse (Ask question) (Answered (Unserved query cause)) is = inr refl
+true_or_given_up causes warehouse (Refresh actions) (Answered answers) is = absurd is
+true_or_given_up causes warehouse (Ask asking) (Refreshed result) is = absurd is
+true_or_given_up causes warehouse (Ask asking) (Answered answers) is =
+    elim (answered_so causes warehouse (questions_in asking) answers is) [
+      | inl same ↦ inl (ap Answered same)
+      | inr left ↦ inr left
+    ]
 
 true_reply_may : (causes : Cause → Bool) (warehouse : Warehouse) (request : RequestRecord)
     → IsReply causes warehouse request (true_reply warehouse request)
 true_reply_may causes warehouse (Refresh actions) = inl refl
-true_reply_may causes warehouse (Ask question) = refl
+true_reply_may causes warehouse (Ask asking) = inl refl
 
 pub true_replies_answer : TrueRepliesAnswer
 true_replies_answer causes client warehouse [] = tt

@@ -1,6 +1,7 @@
 -- What the subject says of a report, as laws over its definition.
 use Rattle.std.specs.Prelude.{◌≡◌, ℕ, Bool, true, false, List, [], ◌∷◌, Ok, Err}
 use Rattle.std.specs.List.{AllByRecursion}
+use Rattle.ssb_answers.specs.declared.answer.Answer.{Answer}
 use Rattle.ssb_answers.specs.declared.answer.Answer.TheVariants.{Rows, Unserved}
 use Rattle.ssb_answers.specs.declared.answer.Unserved.{Unserved as Cause}
 use Rattle.row_store.specs.History.{Warehouse}
@@ -16,13 +17,18 @@ true_replies client warehouse (request ∷ requests) =
     true_reply warehouse request ∷ true_replies client
     (with_commits warehouse (committed_by client request (true_reply warehouse request))) requests
 
+-- whether one of the answers has no rows
+abbrev pub any_unserved : List Answer → Bool
+any_unserved [] = false
+any_unserved (Rows query at rows ∷ answers) = any_unserved answers
+any_unserved (Unserved query cause ∷ answers) = true
+
 -- whether a reply tells that its request was given up
 abbrev pub gives_up : Reply → Bool
 gives_up (Refreshed (Ok receipt)) = false
 gives_up (Refreshed (Err (Refused at action cause))) = false
 gives_up (Refreshed (Err OutOfMemory)) = true
-gives_up (Answered (Rows query at rows)) = false
-gives_up (Answered (Unserved query cause)) = true
+gives_up (Answered answers) = any_unserved answers
 
 -- they answer every list of requests
 abbrev pub TrueRepliesAnswer : Type 0

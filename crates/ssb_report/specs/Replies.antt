@@ -1,5 +1,5 @@
 -- The replies to requests: those of the one-thread warehouse, and those that may stand in their place.
-use Rattle.std.specs.Prelude.{◌≡◌, ℕ, Bool, true, List, [], ◌∷◌, ◌++◌, length, Result, Ok, Err}
+use Rattle.std.specs.Prelude.{◌≡◌, ◌⊎◌, ℕ, Bool, true, List, [], ◌∷◌, ◌++◌, length, map, flat_map, Result, Ok, Err}
 use Rattle.ssb_questions.specs.declared.query.Query.{Query as Named}
 use Rattle.ssb_questions.specs.declared.value.Value.{Value}
 use Rattle.ssb_schema.specs.Facts.{facts_of}
@@ -12,20 +12,21 @@ use Rattle.row_store.specs.Legal.{warehouse_reply, IsRefreshReply}
 use Rattle.row_store.specs.declared.commit.Receipt.{Receipt}
 use Rattle.row_store.specs.declared.refusal.RefreshError.{RefreshError}
 use Rattle.ssb_script.specs.Requests.{RequestRecord}
-use Rattle.ssb_script.specs.Requests.{Refresh, Ask}
+use Rattle.ssb_script.specs.Requests.{Refresh, Ask, questions_in}
 use Rattle.ssb_report.specs.RefreshText.{receipt_text, refusal_text}
 use Rattle.ssb_report.specs.AnswerText.{answer_text}
 
 -- what a request is answered
 pub data Reply : Type 0 where
   Refreshed : Result Receipt RefreshError → Reply
-  Answered : Answer → Reply
+  -- an answer to each question that was asked, in order
+  Answered : List Answer → Reply
 
 -- the report of a reply
 abbrev pub reply_text : Reply → List ℕ
 reply_text (Refreshed (Ok receipt)) = receipt_text receipt
 reply_text (Refreshed (Err error)) = refusal_text error
-reply_text (Answered answer) = answer_text answer
+reply_text (Answered answers) = flat_map answer_text answers
 
 -- the rows that answer a question over the live lines, after all commits so far
 abbrev pub warehouse_answer : Warehouse → Named × List Value → Answer
@@ -36,20 +37,21 @@ warehouse_answer warehouse question =
 -- the reply of the one-thread warehouse
 abbrev pub true_reply : Warehouse → RequestRecord → Reply
 true_reply warehouse (Refresh actions) = Refreshed (warehouse_reply warehouse.base warehouse.log actions)
-true_reply warehouse (Ask question) = Answered (warehouse_answer warehouse question)
+true_reply warehouse (Ask asking) = Answered (map (warehouse_answer warehouse) (questions_in asking))
 
--- a question has the answer of the one-thread warehouse, or is left unanswered for one of the causes that may stand
-abbrev pub IsAnswer : (Cause → Bool) → Warehouse → Named × List Value → Answer → Type 0
-IsAnswer causes warehouse question (Rows query at rows) = Rows query at rows ≡ warehouse_answer warehouse question
-IsAnswer causes warehouse question (Unserved query cause) = (query ≡ question) × (causes cause ≡ true)
+-- the questions that are asked together have the answers of the one-thread warehouse, or are all left unanswered for one
+-- of the causes that may stand
+abbrev pub AreAnswers : (Cause → Bool) → Warehouse → List (Named × List Value) → List Answer → Type 0
+AreAnswers causes warehouse questions answers = (answers ≡ map (warehouse_answer warehouse) questions)
+    ⊎ ((cause : Cause) × (causes cause ≡ true) × (answers ≡ map (λ question. Unserved question cause) questions))
 
 -- a reply that may be given: to a refresh that of the one-thread warehouse, or that memory ran out where that is a
 -- receipt
 abbrev pub IsReply : (Cause → Bool) → Warehouse → RequestRecord → Reply → Type 0
 IsReply causes warehouse (Refresh actions) (Refreshed reply) = IsRefreshReply warehouse.base warehouse.log actions reply
-IsReply causes warehouse (Ask question) (Answered answer) = IsAnswer causes warehouse question answer
-IsReply causes warehouse (Refresh actions) (Answered answer) = ⊥
-IsReply causes warehouse (Ask question) (Refreshed reply) = ⊥
+IsReply causes warehouse (Ask asking) (Answered answers) = AreAnswers causes warehouse (questions_in asking) answers
+IsReply causes warehouse (Refresh actions) (Answered answers) = ⊥
+IsReply causes warehouse (Ask asking) (Refreshed reply) = ⊥
 
 -- the commit that a client's request becomes where the reply is a receipt
 abbrev pub committed_by : ℕ → RequestRecord → Reply → List CommitRecord

@@ -140,3 +140,13 @@ pub fn write_answer<W: Write>(writer: &mut W, answer: &Answer) -> Result<(), Wri
         Answer::Unserved { query, cause } => write_unserved(writer, query.query(), *cause),
     }
 }
+
+/// Writes the reports of answers, one after another.
+pub fn write_answers<W: Write>(writer: &mut W, answers: &[Answer]) -> Result<(), WriteFault>
+    ensures { Writes (W.contents writer.old) (W.contents writer.new) result (flat_map answer_text answers.now) }
+{
+    for answer in answers {
+        write_answer(writer, answer)?;
+    }
+    Ok(())
+}

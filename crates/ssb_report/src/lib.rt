@@ -18,7 +18,7 @@ pub mod laws;
 mod piece;
 mod refresh;
 
-pub use answer::{write_answer, write_barred, write_row};
+pub use answer::{write_answer, write_answers, write_barred, write_row};
 pub use fault::WriteFault;
 pub use piece::{Piece, write_bytes, write_pieces};
 pub use refresh::{write_receipt, write_refusal, write_reply};

@@ -21,9 +21,6 @@ use Rattle.std.proofs.Common.{
   Ok,
   Err,
   if◌then◌else◌,
-  ◌⊎◌,
-  inl,
-  inr,
   nat_eq,
   nat_lt,
   subst,
@@ -84,17 +81,18 @@ use Rattle.ssb_script.specs.Requests.{
   lines_of_action,
   lines_of_request,
   lines_of_requests,
+  most_questions,
 }
 use Rattle.ssb_script.specs.Scripts.{
-  EndsInRefresh,
+  EndsOpen,
   IsFirstFault,
+  IsOpenEnd,
   IsSettled,
   SpellsScript,
   checks_in,
   ends_in_order,
   fault_of,
   first_of,
-  is_outside,
   lines_of_begun,
   order_refused,
   refusal_at_end,
@@ -102,66 +100,99 @@ use Rattle.ssb_script.specs.Scripts.{
 use Rattle.ssb_script.specs.declared.control.Opening.{Opening}
 use Rattle.ssb_script.specs.declared.control.Opening.TheVariants.{Add, Amend}
 use Rattle.ssb_script.specs.declared.error.ScriptError.{ScriptError}
+use Rattle.ssb_script.specs.declared.request.Asking.TheVariants.{Alone, Together}
+use Rattle.ssb_questions.specs.declared.query.Query.{Query as Named}
+use Rattle.ssb_questions.specs.declared.value.Value.{Value}
 use Rattle.ssb_script.specs.declared.word.Word.{Word}
 use Rattle.ssb_script.specs.declared.word.Word.TheVariants as word
 use Rattle.ssb_script.proofs.OneReadingLaws.{all_given, given, one_list}
 
--- what is begun where a line stands: nothing, a refresh, or an order in a refresh
+abbrev Question : Type 0
+Question = Named × List Value
+
+-- what is begun where a line stands: nothing, a refresh, an order in a refresh, or a block
 data Stand : Type 0 where
   Outside : Stand
   Inside : List Action → Stand
   Within : List Action → Opening → List LineFields → Stand
+  Block : List Question → Stand
 
 abbrev stand_of : Begun → Stand
 stand_of begun.Nothing = Outside
 stand_of (begun.Refresh actions) = Inside actions
 stand_of (begun.Order order) = Within order.actions order.opening order.lines
+stand_of (begun.Asked questions) = Block questions
 
 -- the actions of the refresh, with that of the order that is being read
 abbrev actions_of : Stand → List Action
 actions_of Outside = []
 actions_of (Inside actions) = actions
 actions_of (Within actions opening lines) = actions ++ action_of opening lines ∷ []
+actions_of (Block questions) = []
 
 -- what is begun behind a line, and behind lines
 abbrev next : Stand → ScriptLine → Stand
-next s (line.Query question) = Outside
 next s line.Begin = Inside []
 next s (line.Open opening) = Within (actions_of s) opening []
+next Outside (line.Query question) = Outside
+next (Inside actions) (line.Query question) = Outside
+next (Within actions opening lines) (line.Query question) = Outside
+next (Block questions) (line.Query question) = Block (questions ++ question ∷ [])
 next Outside (line.Line row) = Outside
 next (Inside actions) (line.Line row) = Inside actions
 next (Within actions opening lines) (line.Line row) = Within actions opening (lines ++ row ∷ [])
+next (Block questions) (line.Line row) = Block questions
 next s (line.Withdraw key) = Inside (actions_of s ++ action.Withdraw key ∷ [])
 next s line.Commit = Outside
+next s line.Ask = Block []
+next s line.Answer = Outside
 
 abbrev behind : Stand → List ScriptLine → Stand
 behind s [] = s
 behind s (l ∷ lines) = behind (next s l) lines
 
--- no refresh is begun; one is, in which no order is refused that ends there; an order is, that takes one line more
+-- nothing is begun; a refresh is, in which no order is refused that ends there; an order is, that takes one line more
 abbrev IsOutside : Stand → Type 0
 IsOutside Outside = Unit {0}
 IsOutside (Inside actions) = ⊥
 IsOutside (Within actions opening lines) = ⊥
+IsOutside (Block questions) = ⊥
 
 abbrev MayEnd : Stand → Type 0
 MayEnd Outside = ⊥
 MayEnd (Inside actions) = Unit {0}
 MayEnd (Within actions opening lines) = order_fault lines ≡ None
+MayEnd (Block questions) = ⊥
 
 abbrev TakesLine : Stand → Type 0
 TakesLine Outside = ⊥
 TakesLine (Inside actions) = ⊥
 TakesLine (Within actions opening lines) = length lines < most_order_lines
+TakesLine (Block questions) = ⊥
+
+-- a question may stand there, and the end of a block
+abbrev MayAsk : Stand → Type 0
+MayAsk Outside = Unit {0}
+MayAsk (Inside actions) = ⊥
+MayAsk (Within actions opening lines) = ⊥
+MayAsk (Block questions) = length questions < most_questions
+
+abbrev MayAnswer : Stand → Type 0
+MayAnswer Outside = ⊥
+MayAnswer (Inside actions) = ⊥
+MayAnswer (Within actions opening lines) = ⊥
+MayAnswer (Block questions) = 0 < length questions
 
 -- a line may stand there, and lines may, one after another
 abbrev Fits : Stand → ScriptLine → Type 0
-Fits s (line.Query question) = IsOutside s
+Fits s (line.Query question) = MayAsk s
 Fits s line.Begin = IsOutside s
 Fits s (line.Open opening) = MayEnd s × (length (actions_of s) < most_actions)
 Fits s (line.Line row) = TakesLine s
 Fits s (line.Withdraw key) = MayEnd s × (length (actions_of s) < most_actions)
 Fits s line.Commit = MayEnd s × (0 < length (actions_of s))
+Fits s line.Ask = IsOutside s
+Fits s line.Answer = MayAnswer s
 
 abbrev AllFit : Stand → List ScriptLine → Type 0
 AllFit s [] = Unit {0}
@@ -181,6 +212,12 @@ behind_rows : (actions : List Action) (opening : Opening) (lines order : List Li
 behind_rows actions opening lines [] = ap (Within actions opening) (sym (append-nil lines))
 behind_rows actions opening lines (row ∷ order) = behind_rows actions opening (lines ++ row ∷ []) order
     ∙ ap (Within actions opening) (append_assoc lines (row ∷ []) order)
+
+behind_questions : (questions more : List Question)
+    → behind (Block questions) (map line.Query more) ≡ Block (questions ++ more)
+behind_questions questions [] = ap Block (sym (append-nil questions))
+behind_questions questions (question ∷ more) = behind_questions (questions ++ question ∷ []) more
+    ∙ ap Block (append_assoc questions (question ∷ []) more)
 
 behind_action : (s : Stand) (a : Action) → actions_of (behind s (lines_of_action a)) ≡ actions_of s ++ a ∷ []
 behind_action s (action.Add order) = ap actions_of (behind_rows (actions_of s) Add [] order)
@@ -211,7 +248,13 @@ behind_settled a (b ∷ actions) s e =
 
 behind_requests : (requests : List RequestRecord) → behind Outside (lines_of_requests requests) ≡ Outside
 behind_requests [] = refl
-behind_requests (Ask question ∷ requests) = behind_requests requests
+behind_requests (Ask (Alone question) ∷ requests) = behind_requests requests
+behind_requests (Ask (Together questions) ∷ requests) =
+    let asked = map line.Query questions in
+    let ended : behind Outside (lines_of_request (Ask (Together questions))) ≡ Outside =
+    behind-append (Block []) asked (line.Answer ∷ []) in
+    behind-append Outside (lines_of_request (Ask (Together questions))) (lines_of_requests requests)
+    ∙ (ap (λ s. behind s (lines_of_requests requests)) ended ∙ behind_requests requests)
 behind_requests (Refresh actions ∷ requests) =
     let acts = flat_map lines_of_action actions in
     let ended : behind Outside (lines_of_request (Refresh actions)) ≡ Outside =
@@ -221,6 +264,7 @@ behind_requests (Refresh actions ∷ requests) =
 
 behind_begun : (b : Begun) → IsSettled b → behind Outside (lines_of_begun b) ≡ stand_of b
 behind_begun begun.Nothing settled = refl
+behind_begun (begun.Asked questions) settled = behind_questions [] questions
 behind_begun (begun.Refresh []) settled = refl
 behind_begun (begun.Refresh (a ∷ actions)) settled = behind_settled a actions (Inside []) settled
 behind_begun (begun.Order order) settled =
@@ -246,6 +290,16 @@ fit_rows actions opening lines (row ∷ order) rest room fit = (
   omega (arith, room),
   fit_rows actions opening (lines ++ row ∷ []) order rest (omega (arith, room, length_push lines row))
       (subst (λ xs. AllFit (Within actions opening xs) rest) (sym (append_assoc lines (row ∷ []) order)) fit),
+)
+
+fit_questions : (questions more : List Question) (rest : List ScriptLine)
+    → length questions + length more ≤ most_questions → AllFit (Block (questions ++ more)) rest
+    → AllFit (Block questions) (map line.Query more ++ rest)
+fit_questions questions [] rest room fit = subst (λ xs. AllFit (Block xs) rest) (append-nil questions) fit
+fit_questions questions (question ∷ more) rest room fit = (
+  omega (arith, room),
+  fit_questions (questions ++ question ∷ []) more rest (omega (arith, room, length_push questions question))
+      (subst (λ xs. AllFit (Block xs) rest) (sym (append_assoc questions (question ∷ []) more)) fit),
 )
 
 fit_action : (a : Action) (s : Stand) (rest : List ScriptLine) → MayEnd s → length (actions_of s) < most_actions
@@ -290,7 +344,12 @@ has_few actions none = few_of (length actions) none
 
 fit_request : (one : RequestRecord) (rest : List ScriptLine) → IsWholeRequest one → AllFit Outside rest
     → AllFit Outside (lines_of_request one ++ rest)
-fit_request (Ask question) rest whole fit = (tt, fit)
+fit_request (Ask (Alone question)) rest whole fit = (tt, fit)
+fit_request (Ask (Together questions)) rest whole fit = (
+  tt,
+  subst (AllFit (Block [])) (sym (append_assoc (map line.Query questions) (line.Answer ∷ []) rest))
+      (fit_questions [] questions (line.Answer ∷ rest) (omega (arith, whole.1)) (omega (arith, whole.0), fit)),
+)
 fit_request (Refresh actions) rest whole fit = (
   tt,
   subst (AllFit (Inside [])) (sym (append_assoc (flat_map lines_of_action actions) (line.Commit ∷ []) rest))
@@ -313,20 +372,55 @@ is_row line.Begin = false
 is_row (line.Open opening) = false
 is_row (line.Withdraw key) = false
 is_row line.Commit = false
+is_row line.Ask = false
+is_row line.Answer = false
 
-ends_unless_row : (s : Stand) (l : ScriptLine) → Fits s l → is_row l ≡ false → IsOutside s ⊎ MayEnd s
-ends_unless_row s (line.Query question) fits e = inl fits
-ends_unless_row s line.Begin fits e = inl fits
-ends_unless_row s (line.Open opening) fits e = inr fits.0
+-- no order is being read that is refused where it ends
+abbrev EndsWell : Stand → Type 0
+EndsWell Outside = Unit {0}
+EndsWell (Inside actions) = Unit {0}
+EndsWell (Within actions opening lines) = order_fault lines ≡ None
+EndsWell (Block questions) = Unit {0}
+
+well_outside : (s : Stand) → IsOutside s → EndsWell s
+well_outside Outside outside = tt
+well_outside (Inside actions) outside = absurd outside
+well_outside (Within actions opening lines) outside = absurd outside
+well_outside (Block questions) outside = absurd outside
+
+well_ended : (s : Stand) → MayEnd s → EndsWell s
+well_ended Outside ends = absurd ends
+well_ended (Inside actions) ends = tt
+well_ended (Within actions opening lines) ends = ends
+well_ended (Block questions) ends = absurd ends
+
+well_asked : (s : Stand) → MayAsk s → EndsWell s
+well_asked Outside asks = tt
+well_asked (Inside actions) asks = absurd asks
+well_asked (Within actions opening lines) asks = absurd asks
+well_asked (Block questions) asks = tt
+
+well_answered : (s : Stand) → MayAnswer s → EndsWell s
+well_answered Outside answers = absurd answers
+well_answered (Inside actions) answers = absurd answers
+well_answered (Within actions opening lines) answers = absurd answers
+well_answered (Block questions) answers = tt
+
+ends_unless_row : (s : Stand) (l : ScriptLine) → Fits s l → is_row l ≡ false → EndsWell s
+ends_unless_row s (line.Query question) fits e = well_asked s fits
+ends_unless_row s line.Begin fits e = well_outside s fits
+ends_unless_row s (line.Open opening) fits e = well_ended s fits.0
 ends_unless_row s (line.Line row) fits e = absurd cc
-ends_unless_row s (line.Withdraw key) fits e = inr fits.0
-ends_unless_row s line.Commit fits e = inr fits.0
+ends_unless_row s (line.Withdraw key) fits e = well_ended s fits.0
+ends_unless_row s line.Commit fits e = well_ended s fits.0
+ends_unless_row s line.Ask fits e = well_outside s fits
+ends_unless_row s line.Answer fits e = well_answered s fits
 
-end_not_refused : (b : Begun) → IsOutside (stand_of b) ⊎ MayEnd (stand_of b) → refusal_at_end b ≡ None
+end_not_refused : (b : Begun) → EndsWell (stand_of b) → refusal_at_end b ≡ None
 end_not_refused begun.Nothing ends = refl
 end_not_refused (begun.Refresh actions) ends = refl
-end_not_refused (begun.Order order) (inl outside) = absurd outside
-end_not_refused (begun.Order order) (inr whole) = rw whole refl
+end_not_refused (begun.Order order) whole = rw whole refl
+end_not_refused (begun.Asked questions) ends = refl
 
 not_refused : (b : Begun) (l : ScriptLine) (w : Option Word) → Fits (stand_of b) l → is_line w ≡ is_row l
     → order_refused b w ≡ None
@@ -347,12 +441,16 @@ checks_none number begun.Nothing (line.Open opening) fits = absurd fits.0
 checks_none number begun.Nothing (line.Line row) fits = absurd fits
 checks_none number begun.Nothing (line.Withdraw key) fits = absurd fits.0
 checks_none number begun.Nothing line.Commit fits = absurd fits.0
+checks_none number begun.Nothing line.Ask fits = refl
+checks_none number begun.Nothing line.Answer fits = absurd fits
 checks_none number (begun.Refresh actions) (line.Query question) fits = absurd fits
 checks_none number (begun.Refresh actions) line.Begin fits = absurd fits
 checks_none number (begun.Refresh actions) (line.Open opening) fits = rw (lt-ltb (length actions) 64 fits.1) refl
 checks_none number (begun.Refresh actions) (line.Line row) fits = absurd fits
 checks_none number (begun.Refresh actions) (line.Withdraw key) fits = rw (lt-ltb (length actions) 64 fits.1) refl
 checks_none number (begun.Refresh actions) line.Commit fits = rw (not_zero (length actions) fits.1) refl
+checks_none number (begun.Refresh actions) line.Ask fits = absurd fits
+checks_none number (begun.Refresh actions) line.Answer fits = absurd fits
 checks_none number (begun.Order order) (line.Query question) fits = absurd fits
 checks_none number (begun.Order order) line.Begin fits = absurd fits
 checks_none number (begun.Order order) (line.Open opening) fits =
@@ -367,6 +465,16 @@ checks_none number (begun.Order order) (line.Withdraw key) fits =
 checks_none number (begun.Order order) line.Commit fits =
     let some : 0 < length order.actions + 1 = omega arith in
     rw (not_zero (length order.actions + 1) some) refl
+checks_none number (begun.Order order) line.Ask fits = absurd fits
+checks_none number (begun.Order order) line.Answer fits = absurd fits
+checks_none number (begun.Asked questions) (line.Query question) fits = rw (lt-ltb (length questions) 16 fits) refl
+checks_none number (begun.Asked questions) line.Begin fits = absurd fits
+checks_none number (begun.Asked questions) (line.Open opening) fits = absurd fits.0
+checks_none number (begun.Asked questions) (line.Line row) fits = absurd fits
+checks_none number (begun.Asked questions) (line.Withdraw key) fits = absurd fits.0
+checks_none number (begun.Asked questions) line.Commit fits = absurd fits.0
+checks_none number (begun.Asked questions) line.Ask fits = absurd fits
+checks_none number (begun.Asked questions) line.Answer fits = rw (not_zero (length questions) fits) refl
 
 -- parts of what is the same are the same, and the other way round
 same_ok : (r : Result ScriptLine RecordFault) (x y : ScriptLine) → r ≡ Ok x → r ≡ Ok y → x ≡ y
@@ -406,6 +514,8 @@ by_word (Some word.Amend) fields l e = by_alone _ (line.Open Amend) l refl e
 by_word (Some word.Line) fields l e = by_row _ l e
 by_word (Some word.Withdraw) fields l e = by_option line.Withdraw _ l (λ x. refl) e
 by_word (Some word.Commit) fields l e = by_alone _ line.Commit l refl e
+by_word (Some word.Ask) fields l e = by_alone _ line.Ask l refl e
+by_word (Some word.Answer) fields l e = by_alone _ line.Answer l refl e
 
 word_tells : (fields : List (List ℕ)) (l : ScriptLine) → line_of fields ≡ Ok l → is_line (word_of fields) ≡ is_row l
 unfolding line_of
@@ -467,15 +577,16 @@ no_first_fault most text wanted e a b =
     omega (arith, a.few, ap length split, length-append before (b.fields ∷ all.0)) in
     none-some e (sym (record_passes most (length before + 1) b.begun b.fields one.0 few one.2 here.0) ∙ b.is)
 
--- outside of a refresh none is begun
-outside_is : (b : Begun) → stand_of b ≡ Outside → is_outside b ≡ true
-outside_is begun.Nothing e = refl
-outside_is (begun.Refresh actions) e = absurd cc
-outside_is (begun.Order order) e = absurd cc
+-- where nothing is begun, nothing is lacking
+nothing_lacks : (b : Begun) (e : ScriptError) → stand_of b ≡ Outside → IsOpenEnd b e → ⊥
+nothing_lacks begun.Nothing e outside lacks = lacks
+nothing_lacks (begun.Refresh actions) e outside lacks = cc outside
+nothing_lacks (begun.Order order) e outside lacks = cc outside
+nothing_lacks (begun.Asked questions) e outside lacks = cc outside
 
-no_open_end : (most : ℕ) (text : List ℕ) (wanted : List RequestRecord) → SpellsScript most text wanted
-    → EndsInRefresh most text → ⊥
-no_open_end most text wanted a b =
+no_open_end : (most : ℕ) (text : List ℕ) (wanted : List RequestRecord) (e : ScriptError)
+    → SpellsScript most text wanted → EndsOpen most text e → ⊥
+no_open_end most text wanted e a b =
     let records : a.records ≡ b.records =
     one_list record_config st.StartRecord a.all.0 b.all.0 (strip_bom text) a.all.1 b.all.1 a.records b.records
     a.all.2 a.all.3 b.all.2 b.all.3 in
@@ -487,10 +598,8 @@ no_open_end most text wanted a b =
     let stands : stand_of b.begun ≡ Outside =
     sym (behind_all b.requests b.begun b.spells.settled)
     ∙ (ap (behind Outside) (sym lines) ∙ behind_requests wanted) in
-    let outside = outside_is b.begun stands in
-    let inside = b.inside in
-    absurd cc
+    nothing_lacks b.begun e stands b.is
 
 pub spelled_has_no_fault : (text : List ℕ) → HasNoFaultIfSpelled text
 spelled_has_no_fault text most wanted a =
-    (λ e b. no_first_fault most text wanted e a b, λ b. no_open_end most text wanted a b)
+    (λ e b. no_first_fault most text wanted e a b, λ e b. no_open_end most text wanted e a b)

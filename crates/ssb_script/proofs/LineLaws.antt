@@ -18,6 +18,8 @@ line_word (Some word.Amend) is_one = absurd cc
 line_word (Some word.Line) is_one = refl
 line_word (Some word.Withdraw) is_one = absurd cc
 line_word (Some word.Commit) is_one = absurd cc
+line_word (Some word.Ask) is_one = absurd cc
+line_word (Some word.Answer) is_one = absurd cc
 
 -- a record whose word is `line` spells what its row does
 pub line_of-row : (fields : List (List ℕ)) (w : Option Word) (found : OrderLine) → w ≡ word_of fields → is_line w ≡ true

@@ -7,6 +7,8 @@ use Rattle.std.proofs.Common.{
   ◌∷◌,
   ◌++◌,
   map,
+  Option,
+  Some,
   None,
   Ok,
   Err,
@@ -31,6 +33,8 @@ use Rattle.ssb_text.specs.Records.{record_config}
 use Rattle.ssb_schema.specs.declared.line.LineFields.{LineFields}
 use Rattle.ssb_schema.specs.declared.refresh.Action.{Action}
 use Rattle.ssb_schema.specs.declared.refresh.Action.TheVariants as action
+use Rattle.ssb_questions.specs.declared.query.Query.{Query as Named}
+use Rattle.ssb_questions.specs.declared.value.Value.{Value}
 use Rattle.ssb_script.specs.Laws.{HasOneReading}
 use Rattle.ssb_script.specs.Lines.{ScriptLine, RecordFault, line_of}
 use Rattle.ssb_script.specs.Lines as line
@@ -46,38 +50,67 @@ use Rattle.ssb_script.specs.Requests.{
 }
 use Rattle.ssb_script.specs.Scripts.{SpellsScript}
 use Rattle.ssb_script.specs.declared.control.Opening.TheVariants.{Add, Amend}
+use Rattle.ssb_script.specs.declared.request.Asking.TheVariants.{Alone, Together}
 
--- what the lines from one on hold: lines of an order that began before it, actions of a refresh that did, and requests
+abbrev Question : Type 0
+Question = Named × List Value
+
+-- what the lines from one on hold: lines of an order that began before it, actions of a refresh that did, questions of a
+-- block that did, and requests
 record Tail : Type 0 where
   lines : List LineFields
   actions : List Action
+  block : Option (List Question)
   requests : List RequestRecord
 
+-- a question of the block, where its end follows; else one alone
+abbrev before_query : Question → Tail → Option (List Question) → Tail
+before_query question tail None = record {
+  lines = [];
+  actions = [];
+  block = None;
+  requests = Ask (Alone question) ∷ tail.requests;
+}
+before_query question tail (Some questions) =
+    record { lines = []; actions = []; block = Some (question ∷ questions); requests = tail.requests }
+
+abbrev asked_in : Option (List Question) → List Question
+asked_in None = []
+asked_in (Some questions) = questions
+
 abbrev before : ScriptLine → Tail → Tail
-before (line.Query question) tail = record { lines = []; actions = []; requests = Ask question ∷ tail.requests }
-before line.Begin tail = record { lines = []; actions = []; requests = Refresh tail.actions ∷ tail.requests }
+before (line.Query question) tail = before_query question tail tail.block
+before line.Begin tail =
+    record { lines = []; actions = []; block = None; requests = Refresh tail.actions ∷ tail.requests }
 before (line.Open opening) tail = record {
   lines = [];
   actions = action_of opening tail.lines ∷ tail.actions;
+  block = tail.block;
   requests = tail.requests;
 }
-before (line.Line row) tail = record { lines = row ∷ tail.lines; actions = tail.actions; requests = tail.requests }
+before (line.Line row) tail =
+    record { lines = row ∷ tail.lines; actions = tail.actions; block = tail.block; requests = tail.requests }
 before (line.Withdraw key) tail = record {
   lines = [];
   actions = action.Withdraw key ∷ tail.actions;
+  block = tail.block;
   requests = tail.requests;
 }
-before line.Commit tail = record { lines = []; actions = []; requests = tail.requests }
+before line.Commit tail = record { lines = []; actions = []; block = None; requests = tail.requests }
+before line.Ask tail =
+    record { lines = []; actions = []; block = None; requests = Ask (Together (asked_in tail.block)) ∷ tail.requests }
+before line.Answer tail = record { lines = []; actions = []; block = Some []; requests = tail.requests }
 
 abbrev tail_of : List ScriptLine → Tail
-tail_of [] = record { lines = []; actions = []; requests = [] }
+tail_of [] = record { lines = []; actions = []; block = None; requests = [] }
 tail_of (l ∷ lines) = before l (tail_of lines)
 
--- of the lines of an order, of an action, of actions, of a request
+-- of the lines of an order, of an action, of actions, of a block, of a request
 of_order : (order : List LineFields) (rest : List ScriptLine) → (tail_of rest).lines ≡ []
     → tail_of (map line.Line order ++ rest) ≡ record {
       lines = order;
       actions = (tail_of rest).actions;
+      block = (tail_of rest).block;
       requests = (tail_of rest).requests;
     }
 of_order [] rest none = rw (← none) refl
@@ -87,6 +120,7 @@ of_action : (a : Action) (rest : List ScriptLine) → (tail_of rest).lines ≡ [
     → tail_of (lines_of_action a ++ rest) ≡ record {
       lines = [];
       actions = a ∷ (tail_of rest).actions;
+      block = (tail_of rest).block;
       requests = (tail_of rest).requests;
     }
 of_action (action.Add order) rest none = ap (before (line.Open Add)) (of_order order rest none)
@@ -97,6 +131,7 @@ of_actions : (actions : List Action) (rest : List ScriptLine)
     → tail_of (flat_map lines_of_action actions ++ line.Commit ∷ rest) ≡ record {
       lines = [];
       actions = actions;
+      block = None;
       requests = (tail_of rest).requests;
     }
 of_actions [] rest = refl
@@ -104,19 +139,44 @@ of_actions (a ∷ actions) rest =
     let later = of_actions actions rest in
     ap tail_of (append_assoc (lines_of_action a) (flat_map lines_of_action actions) (line.Commit ∷ rest))
     ∙ (of_action a (flat_map lines_of_action actions ++ line.Commit ∷ rest) (ap (λ t. t.lines) later)
-    ∙ ap (λ t. record { lines = []; actions = a ∷ t.actions; requests = t.requests }) later)
+    ∙ ap (λ t. record { lines = []; actions = a ∷ t.actions; block = t.block; requests = t.requests }) later)
 
-of_request : (one : RequestRecord) (rest : List ScriptLine) → (tail_of (lines_of_request one ++ rest)).requests ≡ one ∷
-    (tail_of rest).requests
-of_request (Refresh actions) rest =
+of_block : (questions : List Question) (rest : List ScriptLine)
+    → tail_of (map line.Query questions ++ line.Answer ∷ rest) ≡ record {
+      lines = [];
+      actions = [];
+      block = Some questions;
+      requests = (tail_of rest).requests;
+    }
+of_block [] rest = refl
+of_block (question ∷ questions) rest = ap (before (line.Query question)) (of_block questions rest)
+
+of_request : (one : RequestRecord) (rest : List ScriptLine) → (tail_of rest).block ≡ None
+    → (tail_of (lines_of_request one ++ rest)).requests ≡ one ∷ (tail_of rest).requests
+of_request (Refresh actions) rest none =
     ap (λ lines. (tail_of (line.Begin ∷ lines)).requests)
     (append_assoc (flat_map lines_of_action actions) (line.Commit ∷ []) rest)
     ∙ ap (λ t. (before line.Begin t).requests) (of_actions actions rest)
-of_request (Ask question) rest = refl
+of_request (Ask (Alone question)) rest none = ap (λ o. (before_query question (tail_of rest) o).requests) none
+of_request (Ask (Together questions)) rest none =
+    ap (λ lines. (tail_of (line.Ask ∷ lines)).requests)
+    (append_assoc (map line.Query questions) (line.Answer ∷ []) rest)
+    ∙ ap (λ t. (before line.Ask t).requests) (of_block questions rest)
+
+-- a request begins with no line that a block goes on with
+no_block : (one : RequestRecord) (rest : List ScriptLine) → (tail_of rest).block ≡ None
+    → (tail_of (lines_of_request one ++ rest)).block ≡ None
+no_block (Refresh actions) rest none = refl
+no_block (Ask (Alone question)) rest none = ap (λ o. (before_query question (tail_of rest) o).block) none
+no_block (Ask (Together questions)) rest none = refl
+
+no_blocks : (requests : List RequestRecord) → (tail_of (lines_of_requests requests)).block ≡ None
+no_blocks [] = refl
+no_blocks (one ∷ requests) = no_block one (lines_of_requests requests) (no_blocks requests)
 
 of_requests : (requests : List RequestRecord) → (tail_of (lines_of_requests requests)).requests ≡ requests
 of_requests [] = refl
-of_requests (one ∷ requests) = of_request one (lines_of_requests requests)
+of_requests (one ∷ requests) = of_request one (lines_of_requests requests) (no_blocks requests)
     ∙ ap (λ rest. one ∷ rest) (of_requests requests)
 
 -- the records of a text are one list

@@ -44,11 +44,11 @@ use Rattle.ssb_script.specs.Scripts.{
   SpellsScript,
   IsFirstFault,
   IsScriptFault,
-  EndsInRefresh,
+  EndsOpen,
+  IsOpenEnd,
   checks_in,
   fault_of,
   first_of,
-  is_outside,
   lines_of_begun,
   order_refused,
 }
@@ -133,19 +133,19 @@ read_all remaining most text old new count requests fields so_far next few = rec
   whole = so_far.spells.whole;
 }
 
--- there was no more record, and a refresh is begun
-pub ends_inside : {R : Type 0} (remaining : R → Option (List ℕ)) (most : ℕ) (text : List ℕ) (old new : Reader R)
-    (count : ℕ) (requests : List RequestRecord) (begun : Begun) (fields : List (List ℕ))
+-- there was no more record, and a refresh or a block is begun
+pub ends_open : {R : Type 0} (remaining : R → Option (List ℕ)) (most : ℕ) (text : List ℕ) (old new : Reader R)
+    (count : ℕ) (requests : List RequestRecord) (begun : Begun) (fields : List (List ℕ)) (e : ScriptError)
     → HasRead remaining text old count requests begun → GivesNext remaining old new false fields → count ≤ most
-    → is_outside begun ≡ false → EndsInRefresh most text
-ends_inside remaining most text old new count requests begun fields so_far next few inside = record {
+    → IsOpenEnd begun e → EndsOpen most text e
+ends_open remaining most text old new count requests begun fields e so_far next few is = record {
   records = so_far.records;
   all = next text so_far.records so_far.given;
   few = rw so_far.many few;
   requests = requests;
   begun = begun;
   spells = so_far.spells;
-  inside = inside;
+  is = is;
 }
 
 -- one more record was read, and it has a fault
@@ -209,12 +209,8 @@ pub read_script_ends : {R : Type 0} (remaining : R → Option (List ℕ)) (most 
     (old new : Reader R) (count : ℕ) (requests : List RequestRecord) (begun : Begun) (fields : List (List ℕ))
     (result : Result Script ScriptError)
     → HasReadKnown remaining known old count requests begun → GivesNext remaining old new false fields → count ≤ most
-    → IfErr result (λ e. (e ≡ error.NoCommit) × (is_outside begun ≡ false))
+    → IfErr result (IsOpenEnd begun)
     → IfErr result (λ e. (text : List ℕ) → known ≡ Some text → IsScriptFault most text e)
 read_script_ends remaining most known old new count requests begun fields (Ok script) so_far next few told = tt
 read_script_ends remaining most known old new count requests begun fields (Err e) so_far next few told = λ text is.
-    inr (inr (inr (
-      told.0,
-      ends_inside remaining most text old new count requests begun fields (so_far text is) next few
-          told.1,
-    )))
+    inr (inr (inr (ends_open remaining most text old new count requests begun fields e (so_far text is) next few told)))

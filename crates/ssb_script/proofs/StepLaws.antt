@@ -48,7 +48,8 @@ use Rattle.ssb_script.specs.Scripts.{
   order_refused,
   refusal_at_end,
 }
-use Rattle.ssb_script.specs.Steps.{Follows, IsFoundBy, actions_at_end, begun_of, line_of_control}
+use Rattle.ssb_script.specs.Steps.{Follows, IsFoundBy, ended_of, begun_of, line_of_control}
+use Rattle.ssb_script.specs.declared.begun.Ended.{Ended}
 use Rattle.ssb_script.specs.declared.begun.Step.{Step}
 use Rattle.ssb_script.specs.declared.control.Control.{Control}
 use Rattle.ssb_script.specs.declared.control.Control.TheVariants as control
@@ -65,9 +66,10 @@ lines_of_action-action_of Add order = refl
 lines_of_action-action_of Amend order = refl
 
 -- the end of an order adds no line
-lines-ended : (b : Begun) → lines_of_begun (begun_of (actions_at_end b)) ≡ lines_of_begun b
+lines-ended : (b : Begun) → lines_of_begun (begun_of (ended_of b)) ≡ lines_of_begun b
 lines-ended begun.Nothing = refl
 lines-ended (begun.Refresh actions) = refl
+lines-ended (begun.Asked questions) = refl
 lines-ended (begun.Order order) =
     let last : List ScriptLine = lines_of_action (action_of order.opening order.lines) in
     ap (λ rest. Begin ∷ rest) (flat_map-append lines_of_action order.actions (action_of order.opening order.lines ∷ [])
@@ -86,9 +88,10 @@ whole-action_of Amend order whole = whole
 
 -- an order that is not refused has its place in the refresh
 pub room-ended : (count after : ℕ) (b : Begun) → HasRoom count b → refusal_at_end b ≡ None
-    → HasRoom after (begun_of (actions_at_end b))
+    → HasRoom after (begun_of (ended_of b))
 room-ended count after begun.Nothing room whole = tt
 room-ended count after (begun.Refresh actions) room whole = room
+room-ended count after (begun.Asked questions) room whole = room
 room-ended count after (begun.Order order) room whole =
     let last : Action = action_of order.opening order.lines in (
       rw (length_push order.actions last) (omega (arith, room.0)),
@@ -99,7 +102,7 @@ room-ended count after (begun.Order order) room whole =
 
 -- what follows once the order has ended follows
 pub follows-ended : (number : ℕ) (b : Begun) (line : ScriptLine) (step : Step)
-    → Follows number (begun_of (actions_at_end b)) line step → Follows number b line step
+    → Follows number (begun_of (ended_of b)) line step → Follows number b line step
 follows-ended number b line step follows = record {
   lines = ap (λ lines. lines ++ line ∷ []) (sym (lines-ended b)) ∙ follows.lines;
   whole = follows.whole;
@@ -110,12 +113,15 @@ follows-ended number b line step follows = record {
 -- the checks of a record that is no `line` are those where the order has ended
 pub checks-ended : (number : ℕ) (b : Begun) (found : Option Control)
     → first_of (checks_in number b (line_or_bad (option_map line_of_control found))) ≡ first_of
-    (checks_in number (begun_of (actions_at_end b)) (line_or_bad (option_map line_of_control found)))
+    (checks_in number (begun_of (ended_of b)) (line_or_bad (option_map line_of_control found)))
 checks-ended number begun.Nothing found = refl
 checks-ended number (begun.Refresh actions) found = refl
+checks-ended number (begun.Asked questions) found = refl
 checks-ended number (begun.Order order) None = refl
 checks-ended number (begun.Order order) (Some (control.Query question)) = refl
 checks-ended number (begun.Order order) (Some control.Begin) = refl
+checks-ended number (begun.Order order) (Some control.Ask) = refl
+checks-ended number (begun.Order order) (Some control.Answer) = refl
 checks-ended number (begun.Order order) (Some (control.Open opening)) =
     rw (length_push order.actions (action_of order.opening order.lines)) refl
 checks-ended number (begun.Order order) (Some (control.Withdraw key)) =
@@ -144,8 +150,8 @@ line_not_refused b word is_one = rw is_one refl
 
 -- what comes of a record that is no `line`, once the order has ended
 pub step_after : (result : Result Step ScriptError) (number : ℕ) (b : Begun) (spelled : Result ScriptLine RecordFault)
-    (found : Control) (ended : Option (List Action))
-    → actions_at_end b ≡ ended → spelled ≡ Ok (line_of_control found)
+    (found : Control) (ended : Ended)
+    → ended_of b ≡ ended → spelled ≡ Ok (line_of_control found)
     → IfOk result (λ step. Follows number (begun_of ended) (line_of_control found) step)
     → IfOk result (λ step. (line : ScriptLine) × (spelled ≡ Ok line) × Follows number b line step)
 step_after (Ok step) number b spelled found ended at is follows =
@@ -153,8 +159,8 @@ step_after (Ok step) number b spelled found ended at is follows =
 step_after (Err e) number b spelled found ended at is follows = tt
 
 pub fault_after : (result : Result Step ScriptError) (number : ℕ) (b : Begun) (word : Option Word)
-    (spelled : Result ScriptLine RecordFault) (found : Control) (ended : Option (List Action))
-    → actions_at_end b ≡ ended → refusal_at_end b ≡ None → spelled ≡ Ok (line_of_control found)
+    (spelled : Result ScriptLine RecordFault) (found : Control) (ended : Ended)
+    → ended_of b ≡ ended → refusal_at_end b ≡ None → spelled ≡ Ok (line_of_control found)
     → IfErr result (IsFoundBy (checks_in number (begun_of ended) (Ok (line_of_control found))))
     → IfErr result (IsFoundBy (order_refused b word ∷ checks_in number b spelled))
 fault_after (Ok step) number b word spelled found ended at none is faults = tt

@@ -62,6 +62,8 @@ pub data ScriptLine : Type 0 where
   Line : LineFields → ScriptLine
   Withdraw : ℕ → ScriptLine
   Commit : ScriptLine
+  Ask : ScriptLine
+  Answer : ScriptLine
 
 -- why a record says nothing: it is none of a script's, or the schema refuses its line
 pub data RecordFault : Type 0 where
@@ -77,9 +79,12 @@ spelling_of word.Amend = codes "amend"
 spelling_of word.Line = codes "line"
 spelling_of word.Withdraw = codes "withdraw"
 spelling_of word.Commit = codes "commit"
+spelling_of word.Ask = codes "ask"
+spelling_of word.Answer = codes "answer"
 
 abbrev pub words : List Word
-words = word.Query ∷ word.Begin ∷ word.Add ∷ word.Amend ∷ word.Line ∷ word.Withdraw ∷ word.Commit ∷ []
+words = word.Query ∷ word.Begin ∷ word.Add ∷ word.Amend ∷ word.Line ∷ word.Withdraw ∷ word.Commit ∷ word.Ask ∷
+    word.Answer ∷ []
 
 -- the word that bytes spell, letter for letter
 abbrev pub word_spelled : List ℕ → Option Word
@@ -213,6 +218,8 @@ line_after (Some word.Amend) fields = line_or_bad (alone (Open Amend) fields)
 line_after (Some word.Line) fields = line_or_refusal (row_of table.Lineorder (drop 1 fields))
 line_after (Some word.Withdraw) fields = line_or_bad (option_map Withdraw (key_of fields))
 line_after (Some word.Commit) fields = line_or_bad (alone Commit fields)
+line_after (Some word.Ask) fields = line_or_bad (alone Ask fields)
+line_after (Some word.Answer) fields = line_or_bad (alone Answer fields)
 
 -- whether a record is a `line`, which goes by its word alone
 abbrev pub is_line : Option Word → Bool

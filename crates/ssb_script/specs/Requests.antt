@@ -1,5 +1,5 @@
 -- What a script asks of the warehouse, and the lines that spell it.
-use Rattle.std.specs.Prelude.{◌≡◌, ◌++◌, List, [], ◌∷◌, All, None, map}
+use Rattle.std.specs.Prelude.{◌≡◌, ◌≤◌, ◌++◌, ℕ, List, [], ◌∷◌, All, None, map, length}
 use Rattle.std.specs.List.{flat_map}
 use Rattle.ssb_questions.specs.declared.query.Query.{Query as Named}
 use Rattle.ssb_questions.specs.declared.value.Value.{Value}
@@ -8,6 +8,8 @@ use Rattle.ssb_schema.specs.Refreshes.{refresh_fault}
 use Rattle.ssb_schema.specs.declared.line.LineFields.{LineFields}
 use Rattle.ssb_schema.specs.declared.refresh.Action.{Action}
 use Rattle.ssb_schema.specs.declared.refresh.Action.TheVariants as action
+use Rattle.ssb_script.specs.declared.request.Asking.{Asking}
+use Rattle.ssb_script.specs.declared.request.Asking.TheVariants.{Alone, Together}
 use Rattle.ssb_script.specs.declared.request.Request.{Request}
 use Rattle.ssb_script.specs.declared.request.Request.TheVariants as request
 use Rattle.ssb_script.specs.declared.request.Script.{Script}
@@ -16,28 +18,41 @@ use Rattle.ssb_script.specs.Lines as line
 use Rattle.ssb_script.specs.declared.control.Opening.{Opening}
 use Rattle.ssb_script.specs.declared.control.Opening.TheVariants.{Add, Amend}
 
--- what a request asks: the actions of a refresh, or a query with its constants
+-- what a request asks: the actions of a refresh, or questions, each a query with its constants
 pub data RequestRecord : Type 0 where
   Refresh : List Action → RequestRecord
-  Ask : Named × List Value → RequestRecord
+  Ask : Asking → RequestRecord
 
 abbrev pub request_of : Request → RequestRecord
 request_of (request.Refresh refresh) = Refresh refresh.value
-request_of (request.Ask question) = Ask question
+request_of (request.Ask asking) = Ask asking
+
+-- the questions that are asked, in order
+abbrev pub questions_in : Asking → List (Named × List Value)
+questions_in (Alone question) = question ∷ []
+questions_in (Together questions) = questions
+
+-- the most questions of a block
+abbrev pub most_questions : ℕ
+most_questions = 16
 
 -- the requests of a script, in order
 abbrev pub requests_of : Script → List RequestRecord
 requests_of script = map request_of script.requests.items
 
--- the lines of a script that spell an action, a refresh, a request
+-- the lines of a script that spell an action, questions, a request
 abbrev pub lines_of_action : Action → List ScriptLine
 lines_of_action (action.Add order) = line.Open Add ∷ map line.Line order
 lines_of_action (action.Amend order) = line.Open Amend ∷ map line.Line order
 lines_of_action (action.Withdraw key) = line.Withdraw key ∷ []
 
+abbrev pub lines_of_asking : Asking → List ScriptLine
+lines_of_asking (Alone question) = line.Query question ∷ []
+lines_of_asking (Together questions) = line.Ask ∷ (map line.Query questions ++ line.Answer ∷ [])
+
 abbrev pub lines_of_request : RequestRecord → List ScriptLine
 lines_of_request (Refresh actions) = line.Begin ∷ (flat_map lines_of_action actions ++ line.Commit ∷ [])
-lines_of_request (Ask question) = line.Query question ∷ []
+lines_of_request (Ask asking) = lines_of_asking asking
 
 abbrev pub lines_of_requests : List RequestRecord → List ScriptLine
 lines_of_requests requests = flat_map lines_of_request requests
@@ -53,7 +68,12 @@ IsWholeAction (action.Add order) = order_fault order ≡ None
 IsWholeAction (action.Amend order) = order_fault order ≡ None
 IsWholeAction (action.Withdraw key) = Unit {0}
 
+-- a block has 1 to 16 questions
+abbrev pub IsWholeAsking : Asking → Type 0
+IsWholeAsking (Alone question) = Unit {0}
+IsWholeAsking (Together questions) = (1 ≤ length questions) × (length questions ≤ most_questions)
+
 -- a refresh has 1 to 64 actions, on orders
 abbrev pub IsWholeRequest : RequestRecord → Type 0
 IsWholeRequest (Refresh actions) = (refresh_fault actions ≡ None) × All IsWholeAction actions
-IsWholeRequest (Ask question) = Unit {0}
+IsWholeRequest (Ask asking) = IsWholeAsking asking

@@ -8,6 +8,7 @@ use Rattle.std.specs.Prelude.{
   ◌⊎◌,
   ◌++◌,
   ◌&&◌,
+  ◌||◌,
   Bool,
   true,
   false,
@@ -40,7 +41,14 @@ use Rattle.ssb_script.specs.Begun.{Begun}
 use Rattle.ssb_script.specs.Begun as begun
 use Rattle.ssb_script.specs.Lines.{is_line, line_of, word_of, ScriptLine, RecordFault, Bad, Refused}
 use Rattle.ssb_script.specs.Lines as line
-use Rattle.ssb_script.specs.Requests.{RequestRecord, IsWholeAction, IsWholeRequest, lines_of_action, lines_of_requests}
+use Rattle.ssb_script.specs.Requests.{
+  RequestRecord,
+  IsWholeAction,
+  IsWholeRequest,
+  lines_of_action,
+  lines_of_requests,
+  most_questions,
+}
 use Rattle.ssb_script.specs.declared.error.ScriptError.{ScriptError}
 use Rattle.ssb_script.specs.declared.error.ScriptError.TheVariants as error
 use Rattle.ssb_script.specs.declared.word.Word.{Word}
@@ -53,20 +61,22 @@ pub record SpellsScript (most : ℕ) (text : List ℕ) (requests : List RequestR
   pub spelled : map line_of records ≡ map Ok (lines_of_requests requests)
   pub whole : All IsWholeRequest requests
 
--- the lines of the refresh, and in it of the order, that is begun and not ended
+-- the lines of the refresh, and in it of the order, or of the block that is begun and not ended
 abbrev pub lines_of_begun : Begun → List ScriptLine
 lines_of_begun begun.Nothing = []
 lines_of_begun (begun.Refresh actions) = line.Begin ∷ flat_map lines_of_action actions
 lines_of_begun (begun.Order order) = line.Begin ∷ (flat_map lines_of_action order.actions
     ++ line.Open order.opening ∷ map line.Line order.lines)
+lines_of_begun (begun.Asked questions) = line.Ask ∷ map line.Query questions
 
--- what is begun has room in a refresh and an order, and its order began at that record, of so many that were read
+-- what is begun has room in a refresh, an order and a block, and its order began at that record, of so many that were read
 abbrev pub HasRoom : ℕ → Begun → Type 0
 HasRoom count begun.Nothing = Unit {0}
 HasRoom count (begun.Refresh actions) = (length actions ≤ most_actions) × All IsWholeAction actions
 HasRoom count (begun.Order order) =
     (length order.actions < most_actions) × All IsWholeAction order.actions × (length order.lines ≤ most_order_lines)
     × (order.number + length order.lines ≡ count)
+HasRoom count (begun.Asked questions) = length questions ≤ most_questions
 
 -- whether the last of these actions adds or amends an order
 abbrev pub is_order : Action → Bool
@@ -84,6 +94,7 @@ abbrev pub IsSettled : Begun → Type 0
 IsSettled begun.Nothing = Unit {0}
 IsSettled (begun.Refresh actions) = ends_in_order actions ≡ false
 IsSettled (begun.Order order) = Unit {0}
+IsSettled (begun.Asked questions) = Unit {0}
 
 -- records spell whole requests, and then what is begun
 pub record Spells (records : List (List (List ℕ))) (requests : List RequestRecord) (begun : Begun) : Type 0 where
@@ -92,31 +103,55 @@ pub record Spells (records : List (List (List ℕ))) (requests : List RequestRec
   pub room : HasRoom (length records) begun
   pub settled : IsSettled begun
 
--- whether no refresh is begun; whether an order is
+-- whether nothing is begun; whether a refresh is; whether an order is; whether a block is
 abbrev pub is_outside : Begun → Bool
 is_outside begun.Nothing = true
 is_outside (begun.Refresh actions) = false
 is_outside (begun.Order order) = false
+is_outside (begun.Asked questions) = false
+
+abbrev pub is_refreshing : Begun → Bool
+is_refreshing begun.Nothing = false
+is_refreshing (begun.Refresh actions) = true
+is_refreshing (begun.Order order) = true
+is_refreshing (begun.Asked questions) = false
 
 abbrev pub is_in_order : Begun → Bool
 is_in_order begun.Nothing = false
 is_in_order (begun.Refresh actions) = false
 is_in_order (begun.Order order) = true
+is_in_order (begun.Asked questions) = false
+
+abbrev pub is_asking : Begun → Bool
+is_asking begun.Nothing = false
+is_asking (begun.Refresh actions) = false
+is_asking (begun.Order order) = false
+is_asking (begun.Asked questions) = true
 
 -- how many actions the refresh has, that of the order which is being read among them
 abbrev pub actions_in : Begun → ℕ
 actions_in begun.Nothing = 0
 actions_in (begun.Refresh actions) = length actions
 actions_in (begun.Order order) = length order.actions + 1
+actions_in (begun.Asked questions) = 0
+
+-- how many questions the block has
+abbrev pub asked_in : Begun → ℕ
+asked_in begun.Nothing = 0
+asked_in (begun.Refresh actions) = 0
+asked_in (begun.Order order) = 0
+asked_in (begun.Asked questions) = length questions
 
 -- whether a line may stand there
 abbrev pub may_stand : Begun → ScriptLine → Bool
-may_stand b (line.Query question) = is_outside b
+may_stand b (line.Query question) = is_outside b || is_asking b
 may_stand b line.Begin = is_outside b
-may_stand b (line.Open opening) = not (is_outside b)
+may_stand b (line.Open opening) = is_refreshing b
 may_stand b (line.Line row) = is_in_order b
-may_stand b (line.Withdraw key) = not (is_outside b)
-may_stand b line.Commit = not (is_outside b)
+may_stand b (line.Withdraw key) = is_refreshing b
+may_stand b line.Commit = is_refreshing b
+may_stand b line.Ask = is_outside b
+may_stand b line.Answer = is_asking b
 
 -- whether a record spells a line, were it not for the schema, that may stand there
 abbrev pub is_good : Begun → Result ScriptLine RecordFault → Bool
@@ -135,6 +170,7 @@ abbrev pub refusal_at_end : Begun → Option ScriptError
 refusal_at_end begun.Nothing = None
 refusal_at_end (begun.Refresh actions) = None
 refusal_at_end (begun.Order order) = option_map (error.Row order.number) (order_fault order.lines)
+refusal_at_end (begun.Asked questions) = None
 
 -- 2. it is no `line`, so that the order which is being read ends, and that order is refused
 abbrev pub order_refused : Begun → Option Word → Option ScriptError
@@ -165,10 +201,17 @@ abbrev pub too_many_actions : ℕ → Begun → Result ScriptLine RecordFault �
 too_many_actions number b spelled = if begins_action spelled && not (nat_lt (actions_in b) most_actions) then Some
     (error.Row number schema.TooManyActions) else None
 
--- 6. it is the `commit` of no action
+-- 6. it is the `commit` of no action, or the `answer` of no question
 abbrev pub empty_request : ℕ → Begun → Result ScriptLine RecordFault → Option ScriptError
 empty_request number b (Ok line.Commit) = if nat_eq (actions_in b) 0 then Some (error.EmptyBlock number) else None
+empty_request number b (Ok line.Answer) = if nat_eq (asked_in b) 0 then Some (error.EmptyBlock number) else None
 empty_request _ _ _ = None
+
+-- 7. it is the 17th question of a block
+abbrev pub too_many_questions : ℕ → Begun → Result ScriptLine RecordFault → Option ScriptError
+too_many_questions number b (Ok (line.Query question)) =
+    if nat_lt (asked_in b) most_questions then None else Some (error.TooManyQuestions number)
+too_many_questions _ _ _ = None
 
 -- the first fault of several checks
 abbrev pub first_of : List (Option ScriptError) → Option ScriptError
@@ -184,6 +227,7 @@ checks_in number b spelled =
     ∷ too_many_lines b spelled
     ∷ too_many_actions number b spelled
     ∷ empty_request number b spelled
+    ∷ too_many_questions number b spelled
     ∷ []
 
 abbrev pub checks : ℕ → ℕ → Begun → Option Word → Result ScriptLine RecordFault → List (Option ScriptError)
@@ -203,21 +247,27 @@ pub record IsFirstFault (most : ℕ) (text : List ℕ) (e : ScriptError) : Type 
   pub spells : Spells before requests begun
   pub is : fault_of most (length before + 1) begun fields ≡ Some e
 
--- the text ends where a refresh is begun
-pub record EndsInRefresh (most : ℕ) (text : List ℕ) : Type 0 where
+-- what a text lacks that ends there: the `commit` of a refresh, or the `answer` of a block
+abbrev pub IsOpenEnd : Begun → ScriptError → Type 0
+IsOpenEnd begun.Nothing e = ⊥
+IsOpenEnd (begun.Refresh actions) e = e ≡ error.NoCommit
+IsOpenEnd (begun.Order order) e = e ≡ error.NoCommit
+IsOpenEnd (begun.Asked questions) e = e ≡ error.NoAnswer
+
+-- the text ends where a refresh or a block is begun
+pub record EndsOpen (most : ℕ) (text : List ℕ) (e : ScriptError) : Type 0 where
   pub records : List (List (List ℕ))
   pub all : HasRecords text records
   pub few : length records ≤ most
   pub requests : List RequestRecord
   pub begun : Begun
   pub spells : Spells records requests begun
-  pub inside : is_outside begun ≡ false
+  pub is : IsOpenEnd begun e
 
 -- an error tells the first fault of a text; two tell nothing of it: that its reader failed, and that memory ran out
 abbrev pub IsScriptFault : ℕ → List ℕ → ScriptError → Type 0
 IsScriptFault most text e =
-    (e ≡ error.Read) ⊎ ((e ≡ error.OutOfMemory) ⊎ (IsFirstFault most text e
-    ⊎ ((e ≡ error.NoCommit) × EndsInRefresh most text)))
+    (e ≡ error.Read) ⊎ ((e ≡ error.OutOfMemory) ⊎ (IsFirstFault most text e ⊎ EndsOpen most text e))
 
 -- the most records of a script
 abbrev pub most_records : ℕ

@@ -1,7 +1,6 @@
 -- What one record of a script says, and does to what is begun.
-use Rattle.std.specs.Prelude.{◌≡◌, ℕ, ◌⊎◌, ◌++◌, List, [], ◌∷◌, map, All, Option, Some, None, Result, Ok, Err}
+use Rattle.std.specs.Prelude.{◌≡◌, ℕ, ◌⊎◌, ◌++◌, List, [], ◌∷◌, map, All, Option, Some, Result, Ok, Err}
 use Rattle.std.specs.Option.{option_to_list}
-use Rattle.ssb_schema.specs.declared.refresh.Action.{Action}
 use Rattle.ssb_script.specs.Begun.{Begun, BegunOrder}
 use Rattle.ssb_script.specs.Begun as begun
 use Rattle.ssb_script.specs.Lines.{ScriptLine, RecordFault}
@@ -11,6 +10,8 @@ use Rattle.ssb_script.specs.Scripts.{HasRoom, IsSettled, first_of, lines_of_begu
 use Rattle.ssb_script.specs.declared.begun.Begun.{Begun as Held}
 use Rattle.ssb_script.specs.declared.begun.Begun.TheVariants as held
 use Rattle.ssb_script.specs.declared.begun.BegunOrder.{BegunOrder as HeldOrder}
+use Rattle.ssb_script.specs.declared.begun.Ended.{Ended}
+use Rattle.ssb_script.specs.declared.begun.Ended.TheVariants as ended
 use Rattle.ssb_script.specs.declared.begun.Step.{Step}
 use Rattle.ssb_script.specs.declared.control.Control.{Control}
 use Rattle.ssb_script.specs.declared.control.Control.TheVariants as control
@@ -32,6 +33,7 @@ abbrev pub begun_in : Held → Begun
 begun_in held.Nothing = begun.Nothing
 begun_in (held.Refresh actions) = begun.Refresh actions
 begun_in (held.Order order) = begun.Order (begun_order order)
+begun_in (held.Asked questions) = begun.Asked questions
 
 -- what a `line` record says
 abbrev pub line_of_row : OrderLine → Result ScriptLine RecordFault
@@ -46,17 +48,21 @@ line_of_control control.Begin = line.Begin
 line_of_control (control.Open opening) = line.Open opening
 line_of_control (control.Withdraw key) = line.Withdraw key
 line_of_control control.Commit = line.Commit
+line_of_control control.Ask = line.Ask
+line_of_control control.Answer = line.Answer
 
--- the actions of the refresh that is begun, with that of the order which was being read
-abbrev pub actions_at_end : Begun → Option (List Action)
-actions_at_end begun.Nothing = None
-actions_at_end (begun.Refresh actions) = Some actions
-actions_at_end (begun.Order order) = Some (order.actions ++ action_of order.opening order.lines ∷ [])
+-- what is begun once the order that was being read has ended: it is the last action of its refresh
+abbrev pub ended_of : Begun → Ended
+ended_of begun.Nothing = ended.Nothing
+ended_of (begun.Refresh actions) = ended.Refresh actions
+ended_of (begun.Order order) = ended.Refresh (order.actions ++ action_of order.opening order.lines ∷ [])
+ended_of (begun.Asked questions) = ended.Asked questions
 
--- what is begun where no order is being read
-abbrev pub begun_of : Option (List Action) → Begun
-begun_of None = begun.Nothing
-begun_of (Some actions) = begun.Refresh actions
+-- the same as it stands where no order is being read
+abbrev pub begun_of : Ended → Begun
+begun_of ended.Nothing = begun.Nothing
+begun_of (ended.Refresh actions) = begun.Refresh actions
+begun_of (ended.Asked questions) = begun.Asked questions
 
 -- the request that a step ends
 abbrev pub asked : Step → List RequestRecord

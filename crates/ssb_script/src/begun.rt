@@ -9,7 +9,7 @@ ghost use Rattle.ssb_script.specs.Lines as spec;
 ghost use Rattle.ssb_script.specs.Lines.{ScriptLine};
 ghost use Rattle.ssb_script.specs.Requests.{action_of};
 ghost use Rattle.ssb_script.specs.Scripts.{HasRoom, checks_in, order_refused, refusal_at_end};
-ghost use Rattle.ssb_script.specs.Steps.{Follows, IsFoundBy, actions_at_end, begun_in, begun_order, line_of_control};
+ghost use Rattle.ssb_script.specs.Steps.{Follows, IsFoundBy, ended_of, begun_in, begun_order, line_of_control};
 ghost use Rattle.ssb_script.specs.Steps.{line_of_row};
 ghost use Rattle.ssb_script.specs.Begun as begun;
 
@@ -17,9 +17,10 @@ use crate::control::{Control, Opening};
 use crate::error::ScriptError;
 use crate::fields::word_of;
 use crate::order_line::OrderLine;
-use crate::request::Request;
+use crate::request::{Asking, MOST_QUESTIONS, Request};
 use crate::word::is_line;
 use csv::ByteRecord;
+use ssb_questions::Question;
 use ssb_schema::{
     Action, Items, Line, MOST_ACTIONS, MOST_ORDER_LINES, Order, Refresh, SchemaFault,
 };
@@ -39,7 +40,7 @@ pub struct BegunOrder {
     pub lines: Items<Line>,
 }
 
-/// What is begun and not ended: nothing, a refresh, or an order in a refresh.
+/// What is begun and not ended: nothing, a refresh, an order in a refresh, or a block of questions.
 #[derive(Drop)]
 pub enum Begun {
     /// No refresh is begun.
@@ -48,6 +49,19 @@ pub enum Begun {
     Refresh(Items<Action>),
     /// A refresh, and in it an order whose lines are being read.
     Order(BegunOrder),
+    /// A block, with its questions so far.
+    Asked(Items<Question>),
+}
+
+/// What is begun once the order that was being read has ended.
+#[derive(Drop)]
+pub(crate) enum Ended {
+    /// Nothing.
+    Nothing,
+    /// A refresh, with its actions so far.
+    Refresh(Items<Action>),
+    /// A block, with its questions so far.
+    Asked(Items<Question>),
 }
 
 /// What comes of one record: the request that it ends, if it ends one, and what is begun after it.
@@ -82,16 +96,21 @@ fn outside(alloc: Global, number: u64, control: Control) -> Result<Step, ScriptE
 {
     match control {
         Control::Query(question) => Ok(Step {
-            request: Some(Request::Ask(question)),
+            request: Some(Request::Ask(Asking::Alone(question))),
             begun: Begun::Nothing,
         }),
         Control::Begin => Ok(Step {
             request: None,
             begun: Begun::Refresh(Items::from_vec(Vec::new(alloc))),
         }),
+        Control::Ask => Ok(Step {
+            request: None,
+            begun: Begun::Asked(Items::from_vec(Vec::new(alloc))),
+        }),
         Control::Open(_) => Err(ScriptError::BadLine(number)),
         Control::Withdraw(_) => Err(ScriptError::BadLine(number)),
         Control::Commit => Err(ScriptError::BadLine(number)),
+        Control::Answer => Err(ScriptError::BadLine(number)),
     }
 }
 
@@ -168,6 +187,63 @@ fn inside(
         Control::Commit => commit(alloc, number, actions),
         Control::Query(_) => Err(ScriptError::BadLine(number)),
         Control::Begin => Err(ScriptError::BadLine(number)),
+        Control::Ask => Err(ScriptError::BadLine(number)),
+        Control::Answer => Err(ScriptError::BadLine(number)),
+    }
+}
+
+// The record of a number asks one question more in a block.
+fn ask_more(
+    number: u64,
+    questions: Items<Question>,
+    question: Question,
+) -> Result<Step, ScriptError>
+    requires { HasRoom number (begun.Asked questions) }
+    ensures step { IfOk result (λ step. Follows number (begun.Asked questions) (spec.Query question) step) }
+    ensures fault { IfErr result (IsFoundBy (checks_in number (begun.Asked questions) (Ok (spec.Query question)))) }
+{
+    if questions.len() >= MOST_QUESTIONS {
+        return Err(ScriptError::TooManyQuestions(number));
+    }
+    Ok(Step {
+        request: None,
+        begun: Begun::Asked(pushed(questions, question)?),
+    })
+}
+
+// The record of a number ends a block.
+fn end_block(number: u64, questions: Items<Question>) -> Result<Step, ScriptError>
+    requires { HasRoom number (begun.Asked questions) }
+    ensures step { IfOk result (λ step. Follows number (begun.Asked questions) spec.Answer step) }
+    ensures fault { IfErr result (IsFoundBy (checks_in number (begun.Asked questions) (Ok spec.Answer))) }
+{
+    if questions.len() == 0 {
+        return Err(ScriptError::EmptyBlock(number));
+    }
+    Ok(Step {
+        request: Some(Request::Ask(Asking::Together(questions))),
+        begun: Begun::Nothing,
+    })
+}
+
+// What comes of the record of a number in a block.
+fn in_block(
+    number: u64,
+    questions: Items<Question>,
+    control: Control,
+) -> Result<Step, ScriptError>
+    requires { HasRoom number (begun.Asked questions) }
+    ensures step { IfOk result (λ step. Follows number (begun.Asked questions) (line_of_control control) step) }
+    ensures fault { IfErr result (IsFoundBy (checks_in number (begun.Asked questions) (Ok (line_of_control control)))) }
+{
+    match control {
+        Control::Query(question) => ask_more(number, questions, question),
+        Control::Answer => end_block(number, questions),
+        Control::Begin => Err(ScriptError::BadLine(number)),
+        Control::Open(_) => Err(ScriptError::BadLine(number)),
+        Control::Withdraw(_) => Err(ScriptError::BadLine(number)),
+        Control::Commit => Err(ScriptError::BadLine(number)),
+        Control::Ask => Err(ScriptError::BadLine(number)),
     }
 }
 
@@ -209,16 +285,17 @@ impl BegunOrder {
 }
 
 impl Begun {
-    // The actions of its refresh once the order that is being read has ended, where a refresh is begun.
-    fn ended(self) -> Result<Option<Items<Action>>, ScriptError>
+    // What is begun once the order that is being read has ended.
+    fn ended(self) -> Result<Ended, ScriptError>
         ensures fault { IfErr result (IsFoundBy (refusal_at_end (begun_in self) ∷ [])) }
-        ensures whole { IfOk result (λ actions. refusal_at_end (begun_in self) ≡ None) }
-        ensures actions { IfOk result (λ actions. actions ≡ actions_at_end (begun_in self)) }
+        ensures whole { IfOk result (λ ended. refusal_at_end (begun_in self) ≡ None) }
+        ensures ended { IfOk result (λ ended. ended ≡ ended_of (begun_in self)) }
     {
         match self {
-            Begun::Nothing => Ok(None),
-            Begun::Refresh(actions) => Ok(Some(actions)),
-            Begun::Order(order) => Ok(Some(order.ended()?)),
+            Begun::Nothing => Ok(Ended::Nothing),
+            Begun::Refresh(actions) => Ok(Ended::Refresh(actions)),
+            Begun::Order(order) => Ok(Ended::Refresh(order.ended()?)),
+            Begun::Asked(questions) => Ok(Ended::Asked(questions)),
         }
     }
 
@@ -257,11 +334,12 @@ impl Begun {
             (spec.line_or_bad (option_map line_of_control control)))) }
     {
         let number = before + 1;
-        let actions = self.ended()?;
-        match (control, actions) {
+        let ended = self.ended()?;
+        match (control, ended) {
             (None, _) => Err(ScriptError::BadLine(number)),
-            (Some(control), None) => outside(alloc, number, control),
-            (Some(control), Some(actions)) => inside(alloc, number, actions, control),
+            (Some(control), Ended::Nothing) => outside(alloc, number, control),
+            (Some(control), Ended::Refresh(actions)) => inside(alloc, number, actions, control),
+            (Some(control), Ended::Asked(questions)) => in_block(number, questions, control),
         }
     }
 

@@ -37,6 +37,10 @@ pub enum Control {
     Withdraw(u64),
     /// `commit`: the refresh ends.
     Commit,
+    /// `ask`: a block of questions begins.
+    Ask,
+    /// `answer`: the block ends.
+    Answer,
 }
 
 impl Opening {
@@ -93,6 +97,8 @@ impl Control {
             Word::Amend => Control::Open(Opening::Amend).alone(fields),
             Word::Withdraw => key_of(fields).map(Control::Withdraw),
             Word::Commit => Control::Commit.alone(fields),
+            Word::Ask => Control::Ask.alone(fields),
+            Word::Answer => Control::Answer.alone(fields),
             Word::Line => None,
         })
     }

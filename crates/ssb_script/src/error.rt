@@ -18,7 +18,7 @@ pub enum ScriptError {
     /// The script ends inside a refresh.
     #[error("71 NoCommit")]
     NoCommit,
-    /// The `commit` of a refresh without actions.
+    /// The `commit` of a refresh without actions, or the `answer` of a block without questions.
     #[error("72 EmptyBlock {0}")]
     EmptyBlock(u64),
     /// The schema refuses a line, an order that began at this record, or one action more.
@@ -30,6 +30,12 @@ pub enum ScriptError {
     /// The reader underneath failed.
     #[error("75 Read")]
     Read,
+    /// The script ends inside a block of questions.
+    #[error("77 NoAnswer")]
+    NoAnswer,
+    /// This record is one question more than a block takes.
+    #[error("78 TooManyQuestions {0}")]
+    TooManyQuestions(u64),
     /// Memory ran out.
     #[error("out of memory")]
     OutOfMemory,

@@ -1,8 +1,8 @@
 //! The warehouse's script language: from the bytes of a client's script to the requests that it asks for, refreshes
 //! (lists of whole-order actions, in the manner of TPC-H's refresh functions) and questions.
 //!
-//! A script is text, one record a line, fields parted by `|`: `query|Q4.1` asks, `begin` .. `commit` is a refresh, and
-//! in it `add`, `amend` (each with its `line` records) and `withdraw|KEY` are its actions. The one contract, of
+//! A script is text, one record a line, fields parted by `|`: `query|Q4.1` asks, `ask` .. `answer` asks several questions
+//! that are answered together, `begin` .. `commit` is a refresh, and in it `add`, `amend` (each with its `line` records) and `withdraw|KEY` are its actions. The one contract, of
 //! `read_script`: the requests are exactly those whose lines the script's records spell, and an error is the first fault
 //! that the script has, record by record and check by check; only a failed read and want of memory may come before it.
 //!
@@ -29,5 +29,5 @@ pub use error::ScriptError;
 pub use laws::{one_reading, spelled_has_no_fault};
 pub use order_line::OrderLine;
 pub use question::{constants_from, question_at};
-pub use request::{Request, Script};
+pub use request::{Asking, MOST_QUESTIONS, Request, Script};
 pub use script::{MOST_RECORDS, read_script};

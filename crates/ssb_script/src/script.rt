@@ -1,12 +1,11 @@
 //! A script from any reader.
 
-ghost use Rattle.std.specs.Prelude.{◌≡◌, ℕ, List, Some, map, ◌++◌, false, IfOk, IfErr};
+ghost use Rattle.std.specs.Prelude.{◌≡◌, ℕ, List, Some, map, ◌++◌, IfOk, IfErr};
 ghost use Rattle.std.specs.Option.{option_to_list};
 ghost use Rattle.ssb_script.specs.Requests.{request_of, requests_of};
-ghost use Rattle.ssb_script.specs.Scripts.{IsScriptFault, SpellsScript, is_outside};
+ghost use Rattle.ssb_script.specs.Scripts.{IsOpenEnd, IsScriptFault, SpellsScript};
 ghost use Rattle.ssb_script.specs.Begun.{Nothing};
 ghost use Rattle.ssb_script.specs.Steps.{begun_in};
-ghost use Rattle.ssb_script.specs.declared.error.ScriptError.TheVariants.{NoCommit};
 
 use crate::begun::{Begun, Step};
 use crate::error::ScriptError;
@@ -34,12 +33,13 @@ fn keep(requests: &mut Vec<Request>, request: Option<Request>) -> Result<(), All
 fn script_of(requests: Vec<Request>, begun: Begun) -> Result<Script, ScriptError>
     ensures script { IfOk result (λ script. (begun_in begun ≡ Nothing)
         × (requests_of script ≡ map request_of requests.items)) }
-    ensures fault { IfErr result (λ e. (e ≡ NoCommit) × (is_outside (begun_in begun) ≡ false)) }
+    ensures fault { IfErr result (IsOpenEnd (begun_in begun)) }
 {
     match begun {
         Begun::Nothing => Ok(Script { requests }),
         Begun::Refresh(_) => Err(ScriptError::NoCommit),
         Begun::Order(_) => Err(ScriptError::NoCommit),
+        Begun::Asked(_) => Err(ScriptError::NoAnswer),
     }
 }
 
@@ -47,7 +47,7 @@ fn script_of(requests: Vec<Request>, begun: Begun) -> Result<Script, ScriptError
 ///
 /// The error is the first that the script's records have, in their order, and within a record in the
 /// order of the checks: a script of too many records is told at the first one past the bound, and a
-/// script that ends inside a refresh at its end. It reads `max_records` + 1 records at most, and
+/// script that ends inside a refresh or a block at its end. It reads `max_records` + 1 records at most, and
 /// reserves room only for what it has read.
 pub fn read_script<R: Read + Drop>(
     alloc: Global,

@@ -14,10 +14,12 @@ pub(crate) enum Word {
     Line,
     Withdraw,
     Commit,
+    Ask,
+    Answer,
 }
 
 /// All words.
-pub(crate) const WORDS: [Word; 7] = [
+pub(crate) const WORDS: [Word; 9] = [
     Word::Query,
     Word::Begin,
     Word::Add,
@@ -25,6 +27,8 @@ pub(crate) const WORDS: [Word; 7] = [
     Word::Line,
     Word::Withdraw,
     Word::Commit,
+    Word::Ask,
+    Word::Answer,
 ];
 
 /// Whether a record of this word is a `line`.
@@ -46,6 +50,8 @@ impl Word {
             Word::Line => b"line",
             Word::Withdraw => b"withdraw",
             Word::Commit => b"commit",
+            Word::Ask => b"ask",
+            Word::Answer => b"answer",
         }
     }
 

@@ -26,25 +26,24 @@ use Rattle.std.proofs.lemmas.List.Elements.{All-nil, All-push, All-head}
 use Rattle.std.specs.Prelude.{All}
 use Rattle.row_store.specs.History.{CommitRecord}
 use Rattle.ssb_base.specs.Base.{Tables}
-use Rattle.ssb_questions.specs.declared.query.Query.{Query}
-use Rattle.ssb_questions.specs.declared.value.Value.{Value}
-use Rattle.ssb_answers.specs.declared.answer.Rows.{Rows}
+use Rattle.history_core.specs.Events.{Questions}
+use Rattle.ssb_server.specs.declared.passes.RequestRows.{RequestRows}
 use Rattle.ssb_answers.specs.declared.answer.ResultRow.{ResultRow}
-use Rattle.ssb_answers.specs.declared.answer.Answer.{Answer}
-use Rattle.ssb_answers.specs.declared.answer.Answer.TheVariants as answer
+use Rattle.history_core.specs.declared.response.Response.{Response}
+use Rattle.history_core.specs.declared.response.Response.TheVariants as response
 use Rattle.ssb_answers.specs.declared.answer.Unserved.{Unserved}
-use Rattle.history_core.specs.World.{rows_after}
+use Rattle.history_core.specs.World.{all_rows_after}
 use Rattle.history_core.specs.declared.event.Reply.TheVariants.{Done}
 use Rattle.history_core.specs.Events as event
 use Rattle.history_core.specs.Deeds.{Deed}
-use Rattle.history.specs.declared.request.PostedQuestion.{PostedQuestion}
+use Rattle.history.specs.declared.request.PostedRequest.{PostedRequest}
 use Rattle.history.specs.declared.request.Grabbed.{Grabbed}
 use Rattle.history.specs.Members.{number_of, answer_named}
 use Rattle.history_core.specs.declared.dispatcher.Given.{Given}
 use Rattle.history_core.specs.declared.dispatcher.Outcome.{Outcome}
 use Rattle.history.specs.Tokens.{TokenRecord, MayAnswer, Answers, request_of, without}
 use Rattle.history.specs.Words.{IsCause, IsFresh, given_to, outcome_of}
-use Rattle.ssb_server.specs.Hand.{Hand, no_hand, clients_of, questions_of, Keeps}
+use Rattle.ssb_server.specs.Hand.{Hand, no_hand, clients_of, requests_of, Keeps}
 use Rattle.ssb_server.specs.Turns.{answers_after, HasInHand, Answered, GaveOne, Gave}
 use Rattle.ssb_server.specs.Deeds as deeds
 use Rattle.ssb_server.proofs.HandLaws.{with_one, not_empty}
@@ -60,48 +59,48 @@ without_first grabbed client newest others is e = ap (without client) is
     ∙ ap (λ b. cond b others (newest ∷ without client others)) (eq-eqb newest.client client e)
 
 -- the rows at the length of what was seen serve the newest request
-pub may_serve : (t : TokenRecord) (client at : ℕ) (question : Query × List Value) (rows : List ResultRow)
-    → HasInHand t.grabbed client question → at ≡ length t.seen → t.version ≡ Some at
-    → rows ≡ rows_after t.table.base question t.seen
-    → MayAnswer t client (answer.Rows question at rows)
-may_serve t client at question rows has e version is = record {
+pub may_serve : (t : TokenRecord) (client at : ℕ) (questions : Questions) (rows : List (List ResultRow))
+    → HasInHand t.grabbed client questions → at ≡ length t.seen → t.version ≡ Some at
+    → rows ≡ all_rows_after t.table.base questions t.seen
+    → MayAnswer t client (response.Rows questions at rows)
+may_serve t client at questions rows has e version is = record {
   asked = has.newest.request;
   held = found_first t.grabbed client has.newest has.others has.grabbed_is has.client_is;
   serves = (
-    sym has.question_is,
+    sym has.questions_is,
     version,
-    is ∙ ap (λ xs. rows_after t.table.base question xs)
+    is ∙ ap (λ xs. all_rows_after t.table.base questions xs)
         (sym (ap (λ n. take n t.seen) e ∙ take_all (length t.seen) t.seen (omega arith))),
   );
 }
 
-pub may_give_up : (t : TokenRecord) (client : ℕ) (question : Query × List Value) (cause : Unserved)
-    → HasInHand t.grabbed client question → IsCause cause → MayAnswer t client (answer.Unserved question cause)
-may_give_up t client question cause has is = record {
+pub may_give_up : (t : TokenRecord) (client : ℕ) (questions : Questions) (cause : Unserved)
+    → HasInHand t.grabbed client questions → IsCause cause → MayAnswer t client (response.Unserved questions cause)
+may_give_up t client questions cause has is = record {
   asked = has.newest.request;
   held = found_first t.grabbed client has.newest has.others has.grabbed_is has.client_is;
-  serves = (sym has.question_is, is);
+  serves = (sym has.questions_is, is);
 }
 
 some_is : {X : Type 0} {a b : X} → Some a ≡ Some b → a ≡ b
 some_is e = cc
 
 -- the event and the entry of an answer to the newest request
-named_newest : (number client : ℕ) (reply : Answer) (newest : Grabbed) → newest.client ≡ client
+named_newest : (number client : ℕ) (reply : Response) (newest : Grabbed) → newest.client ≡ client
     → answer_named number client reply ≡ deeds.answer_of number (outcome_of reply) newest
-named_newest number client (answer.Rows question at rows) newest e = ap (λ c. event.Answer number c) (sym e)
-named_newest number client (answer.Unserved question cause) newest e = ap (λ c. event.GiveUp number c cause) (sym e)
+named_newest number client (response.Rows questions at rows) newest e = ap (λ c. event.Answer number c) (sym e)
+named_newest number client (response.Unserved questions cause) newest e = ap (λ c. event.GiveUp number c cause) (sym e)
 
-given_newest : (client : ℕ) (asked : PostedQuestion) (reply : Answer) (newest : Grabbed) → newest.client ≡ client
+given_newest : (client : ℕ) (asked : PostedRequest) (reply : Response) (newest : Grabbed) → newest.client ≡ client
     → asked ≡ newest.request
     → given_to client asked reply ∷ [] ≡ deeds.given_to_all (outcome_of reply) (newest ∷ [])
 given_newest client asked reply newest e is =
     ap (λ c. given_to c asked reply ∷ []) (sym e) ∙ ap (λ a. given_to newest.client a reply ∷ []) is
 
 -- an answer to the newest request
-pub gave_one : (t : TokenRecord) (client : ℕ) (question : Query × List Value) (reply : Answer) (after : TokenRecord)
-    → HasInHand t.grabbed client question → Answers t client reply after → GaveOne t (outcome_of reply) after
-gave_one t client question reply after has answers =
+pub gave_one : (t : TokenRecord) (client : ℕ) (questions : Questions) (reply : Response) (after : TokenRecord)
+    → HasInHand t.grabbed client questions → Answers t client reply after → GaveOne t (outcome_of reply) after
+gave_one t client questions reply after has answers =
     let asked : answers.asked ≡ has.newest.request = some_is (sym answers.held
     ∙ found_first t.grabbed client has.newest has.others has.grabbed_is has.client_is) in
     let given = given_newest client answers.asked reply has.newest has.client_is asked in
@@ -138,19 +137,19 @@ snoc_inj (a ∷ xs) (b ∷ ys) x y e = let h : a ≡ b = cc in let t : xs ++ x �
     snoc_inj xs ys x y t in let l : xs ≡ ys = r.0 in (cc, r.1)
 
 -- the last of the hand is the newest request, and the rest of the hand is the others
-pub record Popped (hand : Hand) (grabbed : List Grabbed) (client : ℕ) (question : Query × List Value) : Type 0 where
-  pub has : HasInHand grabbed client question
+pub record Popped (hand : Hand) (grabbed : List Grabbed) (client : ℕ) (questions : Questions) : Type 0 where
+  pub has : HasInHand grabbed client questions
   pub keeps : Keeps hand has.others
 
-pub popped : (hand : Hand) (grabbed : List Grabbed) (client : ℕ) (question : Query × List Value)
-    → Keeps (with_one hand client question) grabbed → Popped hand grabbed client question
-popped hand [] client question keeps = absurd (not_empty hand.clients client keeps.clients)
-popped hand (newest ∷ others) client question keeps =
+pub popped : (hand : Hand) (grabbed : List Grabbed) (client : ℕ) (questions : Questions)
+    → Keeps (with_one hand client questions) grabbed → Popped hand grabbed client questions
+popped hand [] client questions keeps = absurd (not_empty hand.clients client keeps.clients)
+popped hand (newest ∷ others) client questions keeps =
     let c = snoc_inj hand.clients (clients_of others) client newest.client keeps.clients in
-    let q = snoc_inj hand.questions (questions_of others) question newest.request.query keeps.questions in
+    let q = snoc_inj hand.requests (requests_of others) questions newest.request.questions keeps.requests in
     record {
-      has = record { newest = newest; others = others; grabbed_is = refl; client_is = sym c.1; question_is = sym q.1 };
-      keeps = record { clients = c.0; questions = q.0 };
+      has = record { newest = newest; others = others; grabbed_is = refl; client_is = sym c.1; questions_is = sym q.1 };
+      keeps = record { clients = c.0; requests = q.0 };
     }
 
 -- no hand, no requests
@@ -218,44 +217,44 @@ gave_more before t after count outcome gave one =
     }
 
 pub left_keeps : (t : TokenRecord) (outcome : Outcome) (after : TokenRecord) (hand : Hand) (client : ℕ)
-    (question : Query × List Value) → GaveOne t outcome after → Popped hand t.grabbed client question
+    (questions : Questions) → GaveOne t outcome after → Popped hand t.grabbed client questions
     → Keeps hand after.grabbed
-left_keeps t outcome after hand client question one last =
+left_keeps t outcome after hand client questions one last =
     let both : one.newest ∷ one.others ≡ last.has.newest ∷ last.has.others = sym one.grabbed_is ∙ last.has.grabbed_is in
     let same : one.others ≡ last.has.others = cc in
     subst (λ gs. Keeps hand gs) (sym (ap (λ (u : TokenRecord). u.grabbed) one.now ∙ same)) last.keeps
 
 -- the last of the rows answers the last of the questions
-pub record RowsPopped (base : Tables) (seen : List CommitRecord) (questions : List (Query × List Value))
-    (question : Query × List Value) (rest : List Rows) (found : Rows) : Type 0 where
-  pub rest_is : rest ≡ answers_after base seen questions
-  pub query_is : found.query ≡ question
+pub record RowsPopped (base : Tables) (seen : List CommitRecord) (requests : List Questions)
+    (questions : Questions) (rest : List RequestRows) (found : RequestRows) : Type 0 where
+  pub rest_is : rest ≡ answers_after base seen requests
+  pub questions_is : found.questions ≡ questions
   pub answered : Answered base seen found
 
-pub rows_popped : (base : Tables) (seen : List CommitRecord) (questions : List (Query × List Value))
-    (question : Query × List Value) (rows rest : List Rows) (found : Rows)
-    → rows ≡ answers_after base seen (questions ++ question ∷ []) → rows ≡ rest ++ found ∷ []
-    → RowsPopped base seen questions question rest found
-rows_popped base seen questions question rows rest found is ends =
-    let f : Query × List Value → Rows = λ q. record { query = q; list = rows_after base q seen } in
-    let r = snoc_inj rest (answers_after base seen questions) found (f question)
-    (sym ends ∙ (is ∙ map_push f questions question)) in
-    let q : found.query ≡ question = ap (λ (row : Rows). row.query) r.1 in
+pub rows_popped : (base : Tables) (seen : List CommitRecord) (requests : List Questions)
+    (questions : Questions) (rows rest : List RequestRows) (found : RequestRows)
+    → rows ≡ answers_after base seen (requests ++ questions ∷ []) → rows ≡ rest ++ found ∷ []
+    → RowsPopped base seen requests questions rest found
+rows_popped base seen requests questions rows rest found is ends =
+    let f : Questions → RequestRows = λ q. record { questions = q; rows = all_rows_after base q seen } in
+    let r = snoc_inj rest (answers_after base seen requests) found (f questions)
+    (sym ends ∙ (is ∙ map_push f requests questions)) in
+    let q : found.questions ≡ questions = ap (λ (row : RequestRows). row.questions) r.1 in
     record {
       rest_is = r.0;
-      query_is = q;
-      answered = ap (λ (row : Rows). row.list) r.1 ∙ ap (λ x. rows_after base x seen) (sym q);
+      questions_is = q;
+      answered = ap (λ (row : RequestRows). row.rows) r.1 ∙ ap (λ x. all_rows_after base x seen) (sym q);
     }
 
-pub some_rows : (base : Tables) (seen : List CommitRecord) (questions : List (Query × List Value))
-    (question : Query × List Value) (rows : List Rows) → rows ≡ answers_after base seen (questions ++ question ∷ [])
+pub some_rows : (base : Tables) (seen : List CommitRecord) (requests : List Questions)
+    (questions : Questions) (rows : List RequestRows) → rows ≡ answers_after base seen (requests ++ questions ∷ [])
     → length rows ≡ 0 → ⊥
-some_rows base seen questions question rows is none =
-    let f : Query × List Value → Rows = λ q. record { query = q; list = rows_after base q seen } in
-    let n : length rows ≡ length (answers_after base seen questions ++ f question ∷ []) =
-    ap length (is ∙ map_push f questions question) in
-    omega (arith, length_push (answers_after base seen questions) (f question))
+some_rows base seen requests questions rows is none =
+    let f : Questions → RequestRows = λ q. record { questions = q; rows = all_rows_after base q seen } in
+    let n : length rows ≡ length (answers_after base seen requests ++ f questions ∷ []) =
+    ap length (is ∙ map_push f requests questions) in
+    omega (arith, length_push (answers_after base seen requests) (f questions))
 
-pub in_hand_of : (grabbed : List Grabbed) (client : ℕ) (question other : Query × List Value) → other ≡ question
-    → HasInHand grabbed client question → HasInHand grabbed client other
-in_hand_of grabbed client question other e has = subst (λ q. HasInHand grabbed client q) (sym e) has
+pub in_hand_of : (grabbed : List Grabbed) (client : ℕ) (questions other : Questions) → other ≡ questions
+    → HasInHand grabbed client questions → HasInHand grabbed client other
+in_hand_of grabbed client questions other e has = subst (λ q. HasInHand grabbed client q) (sym e) has

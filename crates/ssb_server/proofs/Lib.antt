@@ -9,3 +9,4 @@ pub mod PollingLaws
 pub mod StayingLaws
 pub mod ReaderLaws
 pub mod ClosingLaws
+pub mod PassLaws

@@ -1,4 +1,4 @@
--- A question, and its answer, which is right in all that is seen later.
+-- A request, and its answer, which is right in all that is seen later.
 use Rattle.std.proofs.Common.{◌≡◌, ℕ, ◌≤◌, List, [], ◌∷◌, ◌++◌, length, take, Some, None, ap, sym, subst, ◌∙◌, arith}
 use Rattle.std.proofs.Common.{append_assoc}
 use Rattle.std.specs.Prelude.{All}
@@ -6,11 +6,11 @@ use Rattle.std.proofs.lemmas.List.{take-append-le}
 use Rattle.std.proofs.lemmas.List.Elements.{All-head}
 use Rattle.row_store.specs.History.{CommitRecord, IsPrefix}
 use Rattle.ssb_base.specs.Base.{Tables}
-use Rattle.ssb_answers.specs.declared.answer.Answer.{Answer}
-use Rattle.ssb_answers.specs.declared.answer.Answer.TheVariants.{Rows, Unserved}
-use Rattle.history.specs.declared.request.PostedQuestion.{PostedQuestion}
-use Rattle.history_core.specs.World.{rows_after}
-use Rattle.history_core.specs.Events.{Question}
+use Rattle.history_core.specs.declared.response.Response.{Response}
+use Rattle.history_core.specs.declared.response.Response.TheVariants.{Rows, Unserved}
+use Rattle.history.specs.declared.request.PostedRequest.{PostedRequest}
+use Rattle.history_core.specs.World.{all_rows_after}
+use Rattle.history_core.specs.Events.{Questions}
 use Rattle.history_core.specs.declared.event.Reply.TheVariants.{Done}
 use Rattle.history.specs.Tokens.{TokenRecord, IsSound, Collected, Saw, posted}
 use Rattle.history.specs.Words.{IsRight, request}
@@ -23,14 +23,14 @@ use Rattle.row_store.proofs.PrefixLaws.{beginnings_are_shorter}
 take_prefix : (n : ℕ) (a b : List CommitRecord) → IsPrefix a b → n ≤ length a → take n b ≡ take n a
 take_prefix n a b p le = ap (take n) p.whole ∙ take-append-le n a p.rest le
 
-pub right_later : (base : Tables) (history later : List CommitRecord) (asked : PostedQuestion) (reply : Answer)
+pub right_later : (base : Tables) (history later : List CommitRecord) (asked : PostedRequest) (reply : Response)
     → IsPrefix history later → IsRight base history asked reply → IsRight base later asked reply
-right_later base history later asked (Rows query at rows) p (q, floor, within, is) =
+right_later base history later asked (Rows questions at rows) p (q, floor, within, is) =
     let n = beginnings_are_shorter history later p in
-    (q, floor, omega arith, is ∙ ap (λ xs. rows_after base query xs) (sym (take_prefix at history later p within)))
-right_later base history later asked (Unserved query cause) p is = is
+    (q, floor, omega arith, is ∙ ap (λ xs. all_rows_after base questions xs) (sym (take_prefix at history later p within)))
+right_later base history later asked (Unserved questions cause) p is = is
 
-pub polled : (before between after : TokenRecord) (reply : Answer) → Collected before reply between → Saw between after
+pub polled : (before between after : TokenRecord) (reply : Response) → Collected before reply between → Saw between after
     → Polls before reply after
 polled before between after reply col saw =
     let all = subst (λ (t : TokenRecord). All (λ list. IsPrefix list after.seen) t.beside) col.now saw.beside in
@@ -50,36 +50,36 @@ polled before between after reply col saw =
           (looked before.who (length after.seen) ∷ [])));
     }
 
-pub asks : (before between after : TokenRecord) (question : Question) → Saw before between → after ≡ posted between question
-    → Asks before question after
-asks before between after question saw now =
+pub asks : (before between after : TokenRecord) (questions : Questions) → Saw before between → after ≡ posted between questions
+    → Asks before questions after
+asks before between after questions saw now =
     let s : after.seen ≡ between.seen = ap (λ (u : TokenRecord). u.seen) now in
     let e : after ≡ record before {
       seen = between.seen;
       beside = [];
-      asked = Some (request question (length between.seen));
-      did = before.did ++ asked before.who question (length between.seen);
+      asked = Some (request questions (length between.seen));
+      did = before.did ++ asked before.who questions (length between.seen);
     } =
     now ∙ (ap (λ (u : TokenRecord). record u {
-      asked = Some (request question (length between.seen));
-      did = u.did ++ deed (event.Post (number_of u.who) question) Done ∷ [];
+      asked = Some (request questions (length between.seen));
+      did = u.did ++ deed (event.Post (number_of u.who) questions) Done ∷ [];
     }) saw.now ∙ ap (λ ds. record before {
       seen = between.seen;
       beside = [];
-      asked = Some (request question (length between.seen));
+      asked = Some (request questions (length between.seen));
       did = ds;
     }) (append_assoc before.did (looked before.who (length between.seen) ∷ [])
-    (deed (event.Post (number_of before.who) question) Done ∷ []))) in
+    (deed (event.Post (number_of before.who) questions) Done ∷ []))) in
     record {
       begins = subst (IsPrefix before.seen) (sym s) saw.begins;
       now = subst (λ xs. after ≡ record before {
         seen = xs;
         beside = [];
-        asked = Some (request question (length xs));
-        did = before.did ++ asked before.who question (length xs);
+        asked = Some (request questions (length xs));
+        did = before.did ++ asked before.who questions (length xs);
       }) (sym s) e;
     }
 
-pub sound_posted : (t after : TokenRecord) (question : Question) → after ≡ posted t question → IsSound t → IsSound after
-sound_posted t after question now sound =
+pub sound_posted : (t after : TokenRecord) (questions : Questions) → after ≡ posted t questions → IsSound t → IsSound after
+sound_posted t after questions now sound =
     subst IsSound (sym now) record { legal = sound.legal; named = sound.named; owns = sound.owns }

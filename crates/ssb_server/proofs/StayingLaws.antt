@@ -8,9 +8,8 @@ use Rattle.ssb_schema.specs.declared.refresh.Action.{Action}
 use Rattle.row_store.specs.declared.commit.Receipt.{Receipt}
 use Rattle.row_store.specs.declared.refusal.RefreshError.{RefreshError}
 use Rattle.row_store.specs.declared.refusal.RefreshError.TheVariants as refresh
-use Rattle.ssb_questions.specs.declared.query.Query.{Query}
-use Rattle.ssb_questions.specs.declared.value.Value.{Value}
-use Rattle.ssb_answers.specs.declared.answer.Answer.{Answer}
+use Rattle.history_core.specs.Events.{Questions}
+use Rattle.history_core.specs.declared.response.Response.{Response}
 use Rattle.history_core.specs.declared.event.Who.TheVariants.{Client, Dispatcher}
 use Rattle.history.specs.Tokens.{TableRecord, TokenRecord, new_token, new_clients, new_dispatchers}
 use Rattle.ssb_server.specs.Clients.{Refreshed, Looks, HandsBack, Asks, Polls}
@@ -43,14 +42,14 @@ module _ (table : TableRecord) where
   refreshed_stays number actions before after (Err refresh.OutOfMemory) quiet did =
       hands_back_stays before after quiet did.1
 
-  pub asks_stays : (before after : TokenRecord) (question : Query × List Value) → IsQuiet table before
-      → Asks before question after → (after.table ≡ table) × (is_some after.asked ≡ true)
-  asks_stays before after question quiet asks = (
+  pub asks_stays : (before after : TokenRecord) (questions : Questions) → IsQuiet table before
+      → Asks before questions after → (after.table ≡ table) × (is_some after.asked ≡ true)
+  asks_stays before after questions quiet asks = (
     ap (λ (t : TokenRecord). t.table) asks.now ∙ quiet.table_is,
     ap (λ (t : TokenRecord). is_some t.asked) asks.now,
   )
 
-  pub polls_stays : (before after : TokenRecord) (reply : Answer) → before.table ≡ table → Polls before reply after
+  pub polls_stays : (before after : TokenRecord) (reply : Response) → before.table ≡ table → Polls before reply after
       → IsQuiet table after
   polls_stays before after reply here polls = record {
     table_is = ap (λ (t : TokenRecord). t.table) polls.now ∙ here;

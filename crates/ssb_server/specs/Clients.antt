@@ -7,11 +7,10 @@ use Rattle.row_store.specs.Refusals.{refusal_of}
 use Rattle.row_store.specs.declared.commit.Receipt.{Receipt}
 use Rattle.row_store.specs.declared.refusal.RefreshError.{RefreshError}
 use Rattle.row_store.specs.declared.refusal.RefreshError.TheVariants as refresh
-use Rattle.ssb_questions.specs.declared.query.Query.{Query}
-use Rattle.ssb_questions.specs.declared.value.Value.{Value}
-use Rattle.ssb_answers.specs.declared.answer.Answer.{Answer}
+use Rattle.history_core.specs.Events.{Questions}
+use Rattle.history_core.specs.declared.response.Response.{Response}
 use Rattle.history_core.specs.declared.event.Who.TheVariants.{Client}
-use Rattle.history.specs.declared.request.PostedQuestion.{PostedQuestion}
+use Rattle.history.specs.declared.request.PostedRequest.{PostedRequest}
 use Rattle.history.specs.Tokens.{TableRecord, TokenRecord, IsSound}
 use Rattle.history.specs.Words.{IsRight, request}
 use Rattle.ssb_server.specs.Deeds as deeds
@@ -71,19 +70,19 @@ Refreshed before client actions (Err (refresh.Refused at action cause)) after =
 Refreshed before client actions (Err refresh.OutOfMemory) after =
     (refusal_of after.table.base after.seen actions ≡ None) × HandsBack before after
 
--- the client has asked, with what it sees then as floor
-pub record Asks (before : TokenRecord) (question : Query × List Value) (after : TokenRecord) : Type 0 where
+-- the client has asked these questions in one request, with what it sees then as floor
+pub record Asks (before : TokenRecord) (questions : Questions) (after : TokenRecord) : Type 0 where
   pub begins : IsPrefix before.seen after.seen
   pub now : after ≡ record before {
     seen = after.seen;
     beside = [];
-    asked = Some (request question (length after.seen));
-    did = before.did ++ deeds.asked before.who question (length after.seen);
+    asked = Some (request questions (length after.seen));
+    did = before.did ++ deeds.asked before.who questions (length after.seen);
   }
 
 -- the client got an answer to what it had asked, right in what it sees then
-pub record Polls (before : TokenRecord) (reply : Answer) (after : TokenRecord) : Type 0 where
-  pub asked : PostedQuestion
+pub record Polls (before : TokenRecord) (reply : Response) (after : TokenRecord) : Type 0 where
+  pub asked : PostedRequest
   pub was : before.asked ≡ Some asked
   pub right : IsRight before.table.base after.seen asked reply
   pub begins : IsPrefix before.seen after.seen

@@ -1,11 +1,11 @@
 -- What a call adds to the record of what a client or a dispatcher did.
 use Rattle.std.specs.Prelude.{ℕ, List, [], ◌∷◌, ◌++◌, map, Some, None}
 use Rattle.ssb_schema.specs.declared.refresh.Action.{Action}
-use Rattle.ssb_answers.specs.declared.answer.Answer.{Answer}
-use Rattle.history_core.specs.Events.{Question}
+use Rattle.history_core.specs.declared.response.Response.{Response}
+use Rattle.history_core.specs.Events.{Questions}
 use Rattle.history_core.specs.declared.event.Who.{Who}
 use Rattle.history_core.specs.declared.event.Reply.{Reply}
-use Rattle.history_core.specs.declared.event.Reply.TheVariants.{Done, Committed, Length, Query}
+use Rattle.history_core.specs.declared.event.Reply.TheVariants.{Done, Committed, Length, Asked as Asks}
 use Rattle.history_core.specs.Events.{Event}
 use Rattle.history_core.specs.Events as event
 use Rattle.history_core.specs.Deeds.{Deed}
@@ -32,18 +32,18 @@ committed who actions number =
     deed (event.TakeRows who) Done ∷ deed (event.PutRows who (Some actions)) (Committed number) ∷ []
 
 -- a client looked, and asked
-abbrev pub asked : Who → Question → ℕ → List Deed
-asked who question seen = looked who seen ∷ deed (event.Post (number_of who) question) Done ∷ []
+abbrev pub asked : Who → Questions → ℕ → List Deed
+asked who questions seen = looked who seen ∷ deed (event.Post (number_of who) questions) Done ∷ []
 
 -- a client collected this answer, and looked
-abbrev pub polled : Who → Answer → ℕ → List Deed
+abbrev pub polled : Who → Response → ℕ → List Deed
 polled who reply seen = deed (event.Collect (number_of who)) (told_by reply) ∷ looked who seen ∷ []
 
 -- a dispatcher grabbed these requests, whose newest comes first
 abbrev pub grabbed : ℕ → List Grabbed → List Deed
 grabbed number [] = []
 grabbed number (newest ∷ others) =
-    grabbed number others ++ deed (event.Grab number newest.client) (Query newest.request.query) ∷ []
+    grabbed number others ++ deed (event.Grab number newest.client) (Asks newest.request.questions) ∷ []
 
 -- a dispatcher took the writer, took the row store, and gave both back
 abbrev pub fetched : Who → List Deed

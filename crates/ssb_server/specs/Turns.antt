@@ -13,10 +13,9 @@ use Rattle.twin_cell.specs.Twin.{Writing, Reading, Entered}
 use Rattle.ssb_answers.specs.declared.answer.Unserved.{Unserved}
 use Rattle.ssb_answers.specs.declared.answer.Unserved.TheVariants.{OutOfMemory, Twin}
 use Rattle.history.specs.declared.request.Grabbed.{Grabbed}
-use Rattle.history_core.specs.World.{rows_after}
-use Rattle.ssb_answers.specs.declared.answer.Rows.{Rows}
-use Rattle.ssb_questions.specs.declared.query.Query.{Query}
-use Rattle.ssb_questions.specs.declared.value.Value.{Value}
+use Rattle.history_core.specs.World.{all_rows_after}
+use Rattle.ssb_server.specs.declared.passes.RequestRows.{RequestRows}
+use Rattle.history_core.specs.Events.{Questions}
 use Rattle.ssb_server.specs.Hand.{Hand, Keeps}
 use Rattle.ssb_server.specs.Deeds as deeds
 
@@ -123,21 +122,21 @@ pub record HasTaken (t : TokenRecord) (writer : Writing) : Type 0 where
   pub base_is : writer.base ≡ t.table.base
 
 -- the newest request in hand is this client's
-pub record HasInHand (grabbed : List Grabbed) (client : ℕ) (question : Query × List Value) : Type 0 where
+pub record HasInHand (grabbed : List Grabbed) (client : ℕ) (questions : Questions) : Type 0 where
   pub newest : Grabbed
   pub others : List Grabbed
   pub grabbed_is : grabbed ≡ newest ∷ others
   pub client_is : newest.client ≡ client
-  pub question_is : newest.request.query ≡ question
+  pub questions_is : newest.request.questions ≡ questions
 
--- each question with its rows after a history
-abbrev pub answers_after : Tables → List CommitRecord → List (Query × List Value) → List Rows
-answers_after base history questions = map (λ question.
-    record { query = question; list = rows_after base question history }) questions
+-- the questions of each request with their rows, all of them after one history
+abbrev pub answers_after : Tables → List CommitRecord → List Questions → List RequestRows
+answers_after base history requests = map (λ questions.
+    record { questions = questions; rows = all_rows_after base questions history }) requests
 
--- the rows answer the question after this history
-abbrev pub Answered : Tables → List CommitRecord → Rows → Type 0
-Answered base history found = found.list ≡ rows_after base found.query history
+-- the rows answer the questions, all of them after this history
+abbrev pub Answered : Tables → List CommitRecord → RequestRows → Type 0
+Answered base history found = found.rows ≡ all_rows_after base found.questions history
 
 -- the newest request has left the hand, and got an answer with this outcome
 pub record GaveOne (before : TokenRecord) (outcome : Outcome) (after : TokenRecord) : Type 0 where

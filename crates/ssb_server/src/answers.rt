@@ -7,9 +7,12 @@ ghost use Rattle.ssb_server.specs.Turns.{answers_after, IsDispatcher, HoldsNothi
 ghost use Rattle.ssb_server.specs.Turns.{GaveOne, Gave};
 
 use crate::batch::Batch;
+use crate::passes::RequestRows;
 use crate::server::{Server, Token, give};
-use ssb_answers::{Answer, Rows, Unserved};
+use history_core::Response;
+use ssb_answers::Unserved;
 use ssb_questions::Question;
+use ssb_schema::Items;
 use twin_cell::EndsCopies;
 
 // Answers the request that was grabbed last by its rows.
@@ -18,19 +21,19 @@ fn serve_one<W: EndsCopies + Drop>(
     token: &mut Token<W>,
     client: u32,
     at: u64,
-    found: Rows,
+    found: RequestRows,
 )
     requires dispatcher { IsDispatcher server.now token.old }
     requires free { HoldsNothing token.old }
-    requires hand { HasInHand token.old.grabbed client found.query }
+    requires hand { HasInHand token.old.grabbed client found.questions }
     requires at { (at ≡ length token.old.seen) × (token.old.version ≡ Some at) }
     requires rows { Answered token.old.table.base token.old.seen found }
     ensures { GaveOne token.old (Served at) token.new }
 {
-    let answer = Answer::Rows {
-        query: found.query,
+    let answer = Response::Rows {
+        questions: found.questions,
         at,
-        rows: found.list,
+        rows: found.rows,
     };
     give(&server.table, token, client, answer);
     server.bells.ring_client(client);
@@ -41,16 +44,16 @@ fn give_up_one<W: EndsCopies + Drop>(
     server: &Server<W>,
     token: &mut Token<W>,
     client: u32,
-    query: Question,
+    questions: Items<Question>,
     cause: Unserved,
 )
     requires dispatcher { IsDispatcher server.now token.old }
     requires free { HoldsNothing token.old }
-    requires hand { HasInHand token.old.grabbed client query }
+    requires hand { HasInHand token.old.grabbed client questions }
     requires cause { IsCause cause }
     ensures { GaveOne token.old (GivenUp cause) token.new }
 {
-    let answer = Answer::Unserved { query, cause };
+    let answer = Response::Unserved { questions, cause };
     give(&server.table, token, client, answer);
     server.bells.ring_client(client);
 }
@@ -61,13 +64,13 @@ pub(crate) fn serve_all<W: EndsCopies + Drop>(
     token: &mut Token<W>,
     batch: &mut Batch,
     at: u64,
-    mut rows: Vec<Rows>,
+    mut rows: Vec<RequestRows>,
 ) -> usize
     requires dispatcher { IsDispatcher server.now token.old }
     requires free { HoldsNothing token.old }
     requires hand { Keeps batch.old token.old.grabbed }
     requires at { (at ≡ length token.old.seen) × (token.old.version ≡ Some at) }
-    requires rows { rows.items ≡ answers_after token.old.table.base token.old.seen batch.old.questions }
+    requires rows { rows.items ≡ answers_after token.old.table.base token.old.seen batch.old.requests }
     ensures gave { Gave token.old result (Served at) token.new }
     ensures count { result ≡ length batch.old.clients }
     ensures empty { batch.new ≡ no_hand }
@@ -100,8 +103,8 @@ pub(crate) fn give_up_all<W: EndsCopies + Drop>(
     ensures hand { Keeps no_hand token.new.grabbed }
 {
     let count = batch.len();
-    while let Some((client, question)) = batch.pop() {
-        give_up_one(server, token, client, question, cause);
+    while let Some((client, questions)) = batch.pop() {
+        give_up_one(server, token, client, questions, cause);
     }
     count
 }

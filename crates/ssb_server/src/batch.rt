@@ -2,17 +2,18 @@
 ghost use Rattle.std.specs.Prelude.{◌≡◌, ◌+◌, ◌<◌, ◌≤◌, [], ◌∷◌, ◌++◌, length, IfOk, MatchOption, nat_eq};
 
 use ssb_questions::Question;
+use ssb_schema::Items;
 use std::alloc::{AllocError, Global};
 use std::marker::Model;
 
-/// The greatest number of clients, each of which has at most one request.
+/// The greatest number of clients, each of which has at most one request, of any number of questions.
 pub const MOST_CLIENTS: usize = 16;
 
-/// Clients with their questions, in room for one of each client. Contracts see the two lists.
+/// Clients with what they ask, in room for one request of each client. Contracts see the two lists.
 #[derive(Drop)]
 pub struct Batch {
     clients: Vec<u32>,
-    questions: Vec<Question>,
+    requests: Vec<Items<Question>>,
 }
 
 impl Model for Batch {
@@ -21,10 +22,10 @@ impl Model for Batch {
 
     ghost Value = { Hand };
 
-    ghost view = { λ b. record { clients = b.clients.items; questions = b.questions.items } };
+    ghost view = { λ b. record { clients = b.clients.items; requests = b.requests.items } };
 
-    ghost invariant = { λ b. (vec_len b.clients ≡ vec_len b.questions) × (16 ≤ vec_capacity b.clients)
-        × (16 ≤ vec_capacity b.questions) };
+    ghost invariant = { λ b. (vec_len b.clients ≡ vec_len b.requests) × (16 ≤ vec_capacity b.clients)
+        × (16 ≤ vec_capacity b.requests) };
 }
 
 impl Batch {
@@ -32,53 +33,53 @@ impl Batch {
 
     /// No requests, and room for those of all clients.
     pub fn new(alloc: Global) -> Result<Batch, AllocError>
-        ensures { IfOk result (λ batch. batch ≡ record { clients = []; questions = [] }) }
+        ensures { IfOk result (λ batch. batch ≡ record { clients = []; requests = [] }) }
     {
         let clients = Vec::with_capacity(alloc, MOST_CLIENTS)?;
-        let questions = Vec::with_capacity(alloc, MOST_CLIENTS)?;
-        Ok(Batch { clients, questions })
+        let requests = Vec::with_capacity(alloc, MOST_CLIENTS)?;
+        Ok(Batch { clients, requests })
     }
 
     /// How many requests there are.
     pub fn len(&self) -> usize
         ensures clients { result ≡ length self.now.clients }
-        ensures questions { result ≡ length self.now.questions }
+        ensures requests { result ≡ length self.now.requests }
     {
-        let _ = &self.questions;
+        let _ = &self.requests;
         self.clients.len()
     }
 
     /// What they ask, in the order of `push`.
-    pub fn questions(&self) -> &[Question]
-        ensures { result.now ≡ self.now.questions }
+    pub fn requests(&self) -> &[Items<Question>]
+        ensures { result.now ≡ self.now.requests }
     {
-        self.questions.as_slice()
+        self.requests.as_slice()
     }
 
     /// One request more.
-    pub fn push(&mut self, client: u32, question: Question)
+    pub fn push(&mut self, client: u32, questions: Items<Question>)
         requires { length self.old.clients < 16 }
         ensures { self.new ≡ record {
           clients = self.old.clients ++ client ∷ [];
-          questions = self.old.questions
-              ++ question ∷ [];
+          requests = self.old.requests
+              ++ questions ∷ [];
         } }
     {
         self.clients.push_reserved(client);
-        self.questions.push_reserved(question);
+        self.requests.push_reserved(questions);
     }
 
     /// The request that came last, which leaves.
-    pub fn pop(&mut self) -> Option<(u32, Question)>
+    pub fn pop(&mut self) -> Option<(u32, Items<Question>)>
         ensures { MatchOption result ((self.old ≡ no_hand) × (self.new ≡ no_hand))
             (λ last. self.old ≡ record {
               clients = self.new.clients ++ last.0 ∷ [];
-              questions = self.new.questions
+              requests = self.new.requests
                   ++ last.1 ∷ [];
             }) }
     {
         let client = self.clients.pop()?;
-        let question = self.questions.pop()?;
-        Some((client, question))
+        let questions = self.requests.pop()?;
+        Some((client, questions))
     }
 }

@@ -9,11 +9,10 @@ ghost use Rattle.history.specs.Members.{number_of};
 ghost use Rattle.ssb_server.specs.Clients.{IsClient, Refreshed, Looks, Asks, Polls};
 
 use crate::server::{Server, SharedTable, Token, look, meet, put_rows};
-use history_core::Who;
+use history_core::{Response, Who};
 use row_store::{Receipt, RefreshError};
-use ssb_answers::Answer;
 use ssb_questions::Question;
-use ssb_schema::Refresh;
+use ssb_schema::{Items, Refresh};
 use std::marker::Model;
 use std::sync::{Arc, Wait};
 use twin_cell::EndsCopies;
@@ -61,15 +60,15 @@ fn ask<W: EndsCopies + Drop>(
     table: &SharedTable<W>,
     token: &mut Token<W>,
     number: u32,
-    question: Question,
+    questions: Items<Question>,
 )
     requires client { IsClient table.now number token.old }
     requires mailbox { token.old.asked ≡ None }
-    ensures asked { Asks token.old question token.new }
+    ensures asked { Asks token.old questions token.new }
     ensures sound { IsSound token.new }
 {
     look(table, token);
-    table.post(token, question);
+    table.post(token, questions);
 }
 
 // Collects an answer, if there is one, and then looks.
@@ -77,7 +76,7 @@ fn poll<W: EndsCopies + Drop>(
     table: &SharedTable<W>,
     token: &mut Token<W>,
     number: u32,
-) -> Option<Answer>
+) -> Option<Response>
     requires client { IsClient table.now number token.old }
     requires sound { IsSound token.old }
     ensures polled { MatchOption result (token.new ≡ token.old) (λ answer. Polls token.old answer token.new) }
@@ -132,7 +131,7 @@ impl<W: EndsCopies + Drop> Client<W> {
         token
     }
 
-    /// Whether a question is outstanding.
+    /// Whether a request is outstanding.
     pub fn is_asking(&self) -> bool
         ensures { result ≡ is_some self.now.asked }
     {
@@ -165,20 +164,21 @@ impl<W: EndsCopies + Drop> Client<W> {
         applied
     }
 
-    /// Asks a question. Its floor is the number of commits that the client sees then.
-    pub fn ask(&mut self, server: &Server<W>, question: Question)
+    /// Asks questions in one request, which are answered over one copy, all of them after one number of commits. Their
+    /// floor is the number of commits that the client sees then.
+    pub fn ask(&mut self, server: &Server<W>, questions: Items<Question>)
         requires table { self.old.table ≡ server.now }
         requires quiet { is_some self.old.asked ≡ false }
-        ensures asked { Asks self.old question self.new }
+        ensures asked { Asks self.old questions self.new }
         ensures sound { IsSound self.new }
     {
-        ask(&server.table, &mut self.token, self.number, question);
+        ask(&server.table, &mut self.token, self.number, questions);
         self.asking = true;
         server.bells.ring_dispatchers();
     }
 
-    /// The answer to the outstanding question; none where nothing is outstanding or no answer is there yet.
-    pub fn poll(&mut self, server: &Server<W>) -> Option<Answer>
+    /// The answer to the outstanding request; none where nothing is outstanding or no answer is there yet.
+    pub fn poll(&mut self, server: &Server<W>) -> Option<Response>
         requires { self.old.table ≡ server.now }
         ensures polled { MatchOption result (self.new ≡ self.old) (λ answer. Polls self.old answer self.new) }
         ensures sound { IsSound self.new }
@@ -190,8 +190,8 @@ impl<W: EndsCopies + Drop> Client<W> {
         answer
     }
 
-    /// Waits for the answer to the outstanding question.
-    pub fn await_answer<R: Wait>(&mut self, rt: &R, server: &Server<W>) -> Answer
+    /// Waits for the answer to the outstanding request.
+    pub fn await_answer<R: Wait>(&mut self, rt: &R, server: &Server<W>) -> Response
         requires table { self.old.table ≡ server.now }
         requires asking { is_some self.old.asked ≡ true }
         ensures polled { Polls self.old result self.new }

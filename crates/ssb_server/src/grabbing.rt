@@ -16,14 +16,14 @@ pub(crate) fn grab_all<W: EndsCopies + Drop>(
     requires dispatcher { IsDispatcher table.now token.old }
     requires free { HoldsNothing token.old × (token.old.grabbed ≡ []) }
     requires clients { (clients ≡ table.now.clients) × (clients ≤ 16) }
-    requires empty { batch.old ≡ record { clients = []; questions = [] } }
+    requires empty { batch.old ≡ record { clients = []; requests = [] } }
     ensures grabbed { HasGrabbed token.old batch.new token.new }
     ensures few { length batch.new.clients ≤ 16 }
 {
     for before in 0..clients {
         let client = before + 1;
-        if let Some(question) = table.grab(token, client) {
-            batch.push(client, question);
+        if let Some(questions) = table.grab(token, client) {
+            batch.push(client, questions);
         }
     }
 }

@@ -2,9 +2,9 @@
 //! in batches, each batch over one snapshot that was brought up to date before it.
 //!
 //! **The headline.** There is one list of commits. Every client sees a beginning of it, which only grows; its own
-//! commits are in what it sees as soon as it is told of them, and every answer is what its question means after the
-//! first `at` commits of the list, for an `at` no less than the number of commits that the client had seen when it
-//! asked.
+//! commits are in what it sees as soon as it is told of them, and the answers to a request are what its questions mean
+//! after the first `at` commits of the list, all of them for one `at`, no less than the number of commits that the client
+//! had seen when it asked.
 //!
 //! Contracts see each client and dispatcher as a token (`specs/Clients.antt`, `specs/Ends.antt`); what a call does not
 //! name of it stays, and to the record of what it did the call adds the events of `specs/Deeds.antt`, no others. Which
@@ -17,8 +17,8 @@
 //! - floors: `Client::ask`, clause `asked`; answers: `Client::poll` and `Client::await_answer`, clause `polled`
 //!   (`IsRight`);
 //! - what others have seen: `Client::meet`, clause `met`;
-//! - batches: `Dispatcher::turn`, clauses `turned` (idle, answered at the length of what is then seen, or given up) and
-//!   `free`;
+//! - batches, of whole requests: `Dispatcher::turn`, clauses `turned` (idle, answered at the length of what is then seen,
+//!   or given up) and `free`;
 //! - who keeps a journal: `LogReader::commits_from`, clauses `commits` (all of the log behind those that it has taken)
 //!   and `reads`;
 //! - the beginning and the end: `open`, clauses `clients` and `dispatchers`; `Server::close`, clauses `whole`, `legal`,
@@ -28,7 +28,7 @@
 //! client ── refresh ─▶ row store ── log ─▶ copies of the columns ── scan ─▶ dispatcher ── answer ─▶ client
 //!
 //! let Opened { server, mut clients, mut dispatchers } = open(alloc, &rt, hashing, base, 2, 1)?;
-//! clients[0].ask(&server, question);                         // in one thread
+//! clients[0].ask(&server, questions);                        // in one thread
 //! dispatchers[0].turn(&rt, &server, &OpenGate);              // in another
 //! let answer = clients[0].await_answer(&rt, &server);
 //! ```
@@ -45,6 +45,7 @@ mod grabbing;
 mod log_reader;
 mod opening;
 mod pace;
+mod passes;
 mod room;
 mod server;
 mod snapshot;

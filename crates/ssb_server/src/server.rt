@@ -7,8 +7,8 @@ use crate::bells::Bells;
 use crate::pace::Pace;
 use crate::room::ClosingRoom;
 use fact_columns::Columns;
+use history_core::Response;
 use row_store::RowStore;
-use ssb_answers::Answer;
 use std::alloc::Global;
 use std::marker::Model;
 use std::sync::Mutex;
@@ -70,7 +70,7 @@ pub(crate) fn give<W: EndsCopies + Drop>(
     table: &SharedTable<W>,
     token: &mut Token<W>,
     client: u32,
-    answer: Answer,
+    answer: Response,
 )
     requires table { token.old.table ≡ table.now }
     requires dispatcher { IsDispatcher token.old }

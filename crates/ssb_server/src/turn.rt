@@ -1,5 +1,5 @@
 //! A turn, over the parts of a dispatcher.
-ghost use Rattle.std.specs.Prelude.{◌≡◌, ◌<◌, ◌≤◌, [], length, Some, IfOk};
+ghost use Rattle.std.specs.Prelude.{◌≡◌, ◌<◌, [], length, Some, IfOk};
 ghost use Rattle.history.specs.Tokens.{IsSound};
 ghost use Rattle.twin_cell.specs.Twin.{Reading};
 ghost use Rattle.ssb_server.specs.Hand.{Keeps, no_hand};
@@ -9,11 +9,11 @@ ghost use Rattle.ssb_server.specs.Ends.{Finishes, Ends, Turned, TellsFound};
 use crate::answers::{give_up_all, serve_all};
 use crate::batch::Batch;
 use crate::grabbing::grab_all;
+use crate::passes::{RequestRows, answer_all};
 use crate::server::{Server, Token};
 use crate::snapshot::snapshot;
 use fact_columns::Columns;
-use shared_scan::answer;
-use ssb_answers::{Rows, Unserved};
+use ssb_answers::Unserved;
 use std::alloc::AllocError;
 use std::sync::Wait;
 use std::thread::Threads;
@@ -50,7 +50,7 @@ fn finish<W: EndsCopies + Drop>(
     token: &mut Token<W>,
     batch: &mut Batch,
     at: u64,
-    scanned: Result<Vec<Rows>, AllocError>,
+    scanned: Result<Vec<RequestRows>, AllocError>,
 ) -> Turn
     requires dispatcher { IsDispatcher server.now token.old }
     requires free { HoldsNothing token.old }
@@ -58,7 +58,7 @@ fn finish<W: EndsCopies + Drop>(
     requires some { 0 < length batch.old.clients }
     requires at { (at ≡ length token.old.seen) × (token.old.version ≡ Some at) }
     requires rows { IfOk scanned (λ rows. rows.items ≡ answers_after token.old.table.base token.old.seen
-        batch.old.questions) }
+        batch.old.requests) }
     ensures finished { Finishes token.old result token.new }
     ensures found { (reader : Reading) → TellsFound reader result }
     ensures empty { batch.new ≡ no_hand }
@@ -89,7 +89,7 @@ fn serve<W: Wait + Drop, R: Wait + Threads + Sync, G: ScanGate>(
     requires dispatcher { IsDispatcher server.now token.old }
     requires free { HoldsNothing token.old }
     requires hand { Keeps batch.old token.old.grabbed }
-    requires some { (0 < length batch.old.clients) × (length batch.old.questions ≤ 16) }
+    requires some { 0 < length batch.old.clients }
     requires reader { Knows token.old.table.base token.old.seen reader }
     ensures ended { Ends token.old result.1 token.new }
     ensures found { TellsFound result.0 result.1 }
@@ -110,7 +110,7 @@ fn serve<W: Wait + Drop, R: Wait + Threads + Sync, G: ScanGate>(
         Ok(guard) => {
             let at = token.seen_len();
             gate.scanning(at);
-            let scanned = answer(rt, server.alloc, guard.replica(), batch.questions());
+            let scanned = answer_all(rt, server.alloc, guard.replica(), batch.requests());
             let reader = guard.leave();
             let turn = finish(server, token, batch, at, scanned);
             (reader, turn)

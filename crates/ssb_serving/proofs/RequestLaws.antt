@@ -4,6 +4,7 @@ use Rattle.std.proofs.Common.{
   ℕ,
   ◌+◌,
   ◌<◌,
+  ◌≤◌,
   suc,
   false,
   List,
@@ -44,9 +45,17 @@ use Rattle.ssb_report.specs.Replies.{Reply, reply_text}
 use Rattle.ssb_report.specs.Report.{report_of}
 use Rattle.ssb_report.proofs.WrittenLaws.{appends_none, appends_both}
 use Rattle.ssb_server.specs.Clients as client
-use Rattle.ssb_questions.specs.declared.query.Query.{Query as Named}
-use Rattle.ssb_questions.specs.declared.value.Value.{Value}
+use Rattle.row_store.specs.History.{CommitRecord}
+use Rattle.std.proofs.lemmas.List.{length-map}
+use Rattle.history_core.specs.declared.response.Response.{Response}
+use Rattle.history_core.specs.declared.response.Response.TheVariants.{Rows, Unserved}
+use Rattle.history_core.specs.Events.{Questions}
+use Rattle.history_core.specs.Responses.{answers_in, answers_with, asked_in}
+use Rattle.history.specs.declared.request.PostedRequest.{PostedRequest}
+use Rattle.history.specs.Words.{IsRight, request}
 use Rattle.ssb_answers.specs.declared.answer.Answer.{Answer}
+use Rattle.ssb_answers.specs.declared.answer.Answer.TheVariants as variant
+use Rattle.ssb_answers.specs.declared.answer.ResultRow.{ResultRow}
 use Rattle.ssb_serving.specs.Served.{IsAnswered, IsServed, AreServed, Serves, StopsAfter, Ends, told_of}
 use Rattle.ssb_serving.specs.Steps.{ServesOne, ServesInPart, StopsIn, AreAlike, error_after}
 use Rattle.ssb_serving.specs.declared.serve_error.ServeStop.{ServeStop}
@@ -101,21 +110,52 @@ alike_both a b c first second = record {
 pub asked_nothing : {X : Type 0} (asked : Option X) → asked ≡ None → is_some asked ≡ false
 asked_nothing asked none = ap is_some none
 
--- a question, and its answer
-pub answered : (before asking after : TokenRecord) (question : Named × List Value) (answer : Answer)
-    → client.Asks before question asking → IsSound asking → client.Polls asking answer after → IsSound after
-    → IsAnswered before question answer after
-answered before asking after question answer asked between polled sound = record {
+-- questions, and the answers to them
+pub answered : (before asking after : TokenRecord) (questions : Questions) (response : Response) (answers : List Answer)
+    → client.Asks before questions asking → IsSound asking → client.Polls asking response after → IsSound after
+    → answers ≡ answers_in response → IsAnswered before questions answers after
+answered before asking after questions response answers asked between polled sound are = record {
   asking = asking;
   asked = asked;
   asking_sound = between;
+  response = response;
   polled = polled;
   sound = sound;
+  answers_are = are;
 }
 
-pub answered_alike : (before asking after : TokenRecord) (question : Named × List Value) (answer : Answer)
-    → client.Asks before question asking → client.Polls asking answer after → AreAlike before after
-answered_alike before asking after question answer asked polled = record {
+-- the response is to the questions that were asked
+right_asks : (t : TokenRecord) (history : List CommitRecord) (asked : PostedRequest) (response : Response)
+    → IsRight t.table.base history asked response → asked_in response ≡ asked.questions
+right_asks t history asked (Rows questions at rows) right = right.0
+right_asks t history asked (Unserved questions cause) right = right.0
+
+-- it has no more answers than questions
+few_with : (at : ℕ) (questions : Questions) (rows : List (List ResultRow))
+    → length (answers_with at questions rows) ≤ length questions
+few_with at [] rows = omega arith
+few_with at (question ∷ questions) [] = omega arith
+few_with at (question ∷ questions) (list ∷ rows) = omega (arith, few_with at questions rows)
+
+pub few_answers : (response : Response) → length (answers_in response) ≤ length (asked_in response)
+few_answers (Rows questions at rows) = few_with at questions rows
+few_answers (Unserved questions cause) =
+    omega (arith, length-map questions (λ question. variant.Unserved question cause))
+
+some_is : {X : Type 0} {a b : X} → Some a ≡ Some b → a ≡ b
+some_is e = cc
+
+pub asked_same : (before asking after : TokenRecord) (questions : Questions) (response : Response)
+    → client.Asks before questions asking → client.Polls asking response after → asked_in response ≡ questions
+asked_same before asking after questions response asked polled =
+    let same : polled.asked ≡ request questions (length asking.seen) =
+    some_is (sym polled.was ∙ ap (λ (t : TokenRecord). t.asked) asked.now) in
+    right_asks asking after.seen polled.asked response polled.right
+    ∙ ap (λ (r : PostedRequest). r.questions) same
+
+pub answered_alike : (before asking after : TokenRecord) (questions : Questions) (response : Response)
+    → client.Asks before questions asking → client.Polls asking response after → AreAlike before after
+answered_alike before asking after questions response asked polled = record {
   table = ap (λ (t : TokenRecord). t.table) polled.now ∙ ap (λ (t : TokenRecord). t.table) asked.now;
   who = ap (λ (t : TokenRecord). t.who) polled.now ∙ ap (λ (t : TokenRecord). t.who) asked.now;
   quiet = ap (λ (t : TokenRecord). t.asked) polled.now;

@@ -1,12 +1,13 @@
 -- A client's requests, served one after another by a server.
 use Rattle.std.specs.Prelude.{◌≡◌, ℕ, ◌+◌, ◌<◌, List, [], ◌∷◌, ◌++◌, length, take, flat_map, Option}
 use Rattle.std.specs.Io.KnownBytes.{Appends}
-use Rattle.ssb_questions.specs.declared.query.Query.{Query as Named}
-use Rattle.ssb_questions.specs.declared.value.Value.{Value}
+use Rattle.history_core.specs.declared.response.Response.{Response}
+use Rattle.history_core.specs.Events.{Questions}
+use Rattle.history_core.specs.Responses.{answers_in}
 use Rattle.ssb_answers.specs.declared.answer.Answer.{Answer}
-use Rattle.ssb_answers.specs.declared.answer.Answer.TheVariants.{Rows}
+use Rattle.ssb_answers.specs.declared.answer.Answer.TheVariants.{Rows, Unserved}
 use Rattle.history.specs.Tokens.{TokenRecord, IsSound}
-use Rattle.ssb_script.specs.Requests.{RequestRecord, Refresh, Ask}
+use Rattle.ssb_script.specs.Requests.{RequestRecord, Refresh, Ask, questions_in}
 use Rattle.ssb_report.specs.Replies.{Reply, Refreshed, Answered, reply_text}
 use Rattle.ssb_report.specs.Report.{report_of}
 use Rattle.ssb_server.specs.Clients as client
@@ -15,21 +16,24 @@ use Rattle.ssb_audit.specs.declared.trace.Told.{Told}
 use Rattle.ssb_serving.specs.declared.serve_error.ServeError.{ServeError}
 use Rattle.ssb_serving.specs.declared.serve_error.ServeError.TheVariants.{Write, OutOfMemory}
 
--- the client asked a question, and got this answer
-pub record IsAnswered (before : TokenRecord) (question : Named × List Value) (answer : Answer) (after : TokenRecord) : Type 0 where
+-- the client asked these questions in one request, and got these answers to it
+pub record IsAnswered (before : TokenRecord) (questions : Questions) (answers : List Answer) (after : TokenRecord) :
+    Type 0 where
   pub asking : TokenRecord
-  pub asked : Asks before question asking
+  pub asked : Asks before questions asking
   pub asking_sound : IsSound asking
-  pub polled : Polls asking answer after
+  pub response : Response
+  pub polled : Polls asking response after
   pub sound : IsSound after
+  pub answers_are : answers ≡ answers_in response
 
 -- the reply to a client's request, and what the client sees, made and asks then: as the server's calls say
 abbrev pub IsServed : ℕ → TokenRecord → RequestRecord → Reply → TokenRecord → Type 0
 IsServed number before (Refresh actions) (Refreshed reply) after =
     client.Refreshed before number actions reply after × IsSound after
-IsServed number before (Ask question) (Answered answer) after = IsAnswered before question answer after
-IsServed number before (Refresh actions) (Answered answer) after = ⊥
-IsServed number before (Ask question) (Refreshed reply) after = ⊥
+IsServed number before (Ask asking) (Answered answers) after = IsAnswered before (questions_in asking) answers after
+IsServed number before (Refresh actions) (Answered answers) after = ⊥
+IsServed number before (Ask asking) (Refreshed reply) after = ⊥
 
 -- the replies to a client's requests, each of which finds the client as the one before it left it
 abbrev pub AreServed : ℕ → TokenRecord → List RequestRecord → List Reply → TokenRecord → Type 0
@@ -39,15 +43,15 @@ AreServed number before (request ∷ requests) (reply ∷ replies) after =
 AreServed number before [] (reply ∷ replies) after = ⊥
 AreServed number before (request ∷ requests) [] after = ⊥
 
--- the answer with rows that a reply is
+-- what a client is told by an answer with rows
+abbrev pub told_by : ℕ → Answer → List Told
+told_by client (Rows question at rows) = record { client = client; at = at; question = question; rows = rows } ∷ []
+told_by client (Unserved question cause) = []
+
+-- the answers with rows that a reply has
 abbrev pub told_of : ℕ → Reply → List Told
-told_of client (Answered (Rows question at rows)) = record {
-  client = client;
-  at = at;
-  question = question;
-  rows = rows;
-} ∷ []
-told_of client reply = []
+told_of client (Answered answers) = flat_map (told_by client) answers
+told_of client (Refreshed reply) = []
 
 -- all requests were served: what was written is the report of the replies, and the answers with rows are kept
 pub record Serves (number : ℕ) (old new : TokenRecord) (requests : List RequestRecord) (told_old told_new : List Told)
@@ -73,7 +77,7 @@ pub record StopsAfter (done number : ℕ) (old new : TokenRecord) (requests : Li
   pub left : 0 < length rest
   pub written : Appends before after (report_of replies ++ part)
 
--- how serving ends early: a report failed, or the next question was not asked for want of memory
+-- how serving ends early: a report failed, or the next questions were not asked for want of memory
 abbrev pub Ends : ServeError → ℕ → TokenRecord → TokenRecord → List RequestRecord → List Told → List Told → Option (List ℕ)
     → Option (List ℕ) → Type 0
 Ends (Write done) number old new requests told_old told_new before after =

@@ -12,7 +12,7 @@
 //! thread gets on is claimed by no proof.
 //!
 //! ```text
-//! serve_requests(rt, &server, &mut client, script, &mut report, &mut told, &mut NoMeter)?;
+//! serve_requests(rt, alloc, &server, &mut client, script, &mut report, &mut told, &mut NoMeter)?;
 //! ```
 #![tactic(auto)]
 

@@ -14,6 +14,7 @@ use Rattle.std.proofs.Common.{
   ◌∷◌,
   ◌++◌,
   length,
+  map,
   take,
   Some,
   None,
@@ -33,10 +34,13 @@ use Rattle.std.proofs.Common.{
 use Rattle.std.proofs.lemmas.Bool.Decides.{nat_tests}
 use Rattle.std.proofs.lemmas.List.{append_cancel_right, take_all}
 use Rattle.ssb_schema.specs.declared.refresh.Action.{Action}
-use Rattle.ssb_questions.specs.declared.query.Query.{Query as Named}
-use Rattle.ssb_questions.specs.declared.value.Value.{Value}
 use Rattle.ssb_answers.specs.declared.answer.Answer.{Answer}
-use Rattle.ssb_answers.specs.declared.answer.Answer.TheVariants.{Rows, Unserved}
+use Rattle.ssb_answers.specs.declared.answer.Answer.TheVariants as answer
+use Rattle.history_core.specs.declared.response.Response.{Response}
+use Rattle.history_core.specs.declared.response.Response.TheVariants.{Rows, Unserved}
+use Rattle.history_core.specs.Events.{Questions}
+use Rattle.history_core.specs.Responses.{answers_in}
+use Rattle.history_core.proofs.ResponseLaws.{in_order}
 use Rattle.ssb_answers.specs.declared.answer.Unserved.{Unserved as Cause}
 use Rattle.ssb_answers.specs.declared.answer.Unserved.TheVariants.{OutOfMemory, Twin}
 use Rattle.row_store.specs.History.{CommitRecord}
@@ -46,15 +50,17 @@ use Rattle.row_store.specs.declared.commit.Receipt.{Receipt}
 use Rattle.row_store.specs.declared.refusal.RefreshError.{RefreshError}
 use Rattle.row_store.specs.declared.refusal.RefreshError.TheVariants as refusal
 use Rattle.history_core.specs.OwnCommits.{IsOfClients, commits_of}
-use Rattle.history_core.specs.World.{rows_after}
+use Rattle.history_core.specs.World.{rows_after, all_rows_after}
 use Rattle.history_core.proofs.HistoryLaws.{some_injective}
 use Rattle.history.specs.Tokens.{TokenRecord, IsSound, new_token}
 use Rattle.history.specs.Words.{Owns, IsCause, IsRight, request}
-use Rattle.history.specs.declared.request.PostedQuestion.{PostedQuestion as Asked}
+use Rattle.history.specs.declared.request.PostedRequest.{PostedRequest as Asked}
 use Rattle.std.specs.Option.{is_some}
 use Rattle.history_core.specs.declared.event.Who.TheVariants.{Client}
-use Rattle.ssb_script.specs.Requests.{RequestRecord, Refresh, Ask}
-use Rattle.ssb_report.specs.Replies.{Reply, Refreshed, Answered, IsAnswer, IsReply, committed_by, with_commits}
+use Rattle.ssb_script.specs.Requests.{RequestRecord, Refresh, Ask, questions_in}
+use Rattle.ssb_script.specs.declared.request.Asking.{Asking}
+use Rattle.ssb_report.specs.Replies.{Reply, Refreshed, Answered, AreAnswers, IsReply, committed_by, with_commits}
+use Rattle.ssb_report.specs.Replies.{warehouse_answer}
 use Rattle.ssb_report.specs.Report.{AreReplies, committed}
 use Rattle.ssb_report.proofs.CommitLaws.{with_none, with_both}
 use Rattle.ssb_server.specs.Clients as client
@@ -151,10 +157,10 @@ record Stays (before asking after : TokenRecord) : Type 0 where
   asked : asking.seen ≡ before.mine
   answered : after.seen ≡ before.mine
 
-stays : (before asking after : TokenRecord) (question : Named × List Value) (answer : Answer)
-    → client.Asks before question asking → client.Polls asking answer after
+stays : (before asking after : TokenRecord) (questions : Questions) (response : Response)
+    → client.Asks before questions asking → client.Polls asking response after
     → IsAlone before → IsSound asking → IsSound after → Stays before asking after
-stays before asking after question answer asked polled alone sound ended =
+stays before asking after questions response asked polled alone sound ended =
     let one : IsAlone asking = record {
       who = ap (λ (t : TokenRecord). t.who) asked.now ∙ alone.who;
       clients = ap (λ (t : TokenRecord). t.table.clients) asked.now ∙ alone.clients;
@@ -170,13 +176,14 @@ stays before asking after question answer asked polled alone sound ended =
           ∙ ap (λ (t : TokenRecord). t.mine) asked.now;
     }
 
--- an answer that is right within the floor and the whole history is the warehouse's
-right_answer : (before asking after : TokenRecord) (question : Named × List Value) (answer : Answer) (asked : Asked)
+-- the answers of a response that is right within the floor and the whole history are the warehouse's
+right_answers : (before asking after : TokenRecord) (questions : Questions) (response : Response) (asked : Asked)
     → Stays before asking after
-    → asked ≡ request question (length asking.seen) → IsRight asking.table.base after.seen asked answer
-    → IsAnswer may_be_told (own before) question answer
-right_answer before asking after question (Rows query at rows) asked stays was right =
-    let query_is : query ≡ question = right.0 ∙ ap (λ (a : Asked). a.query) was in
+    → asked ≡ request questions (length asking.seen) → IsRight asking.table.base after.seen asked response
+    → AreAnswers may_be_told (own before) questions (answers_in response)
+right_answers before asking after questions (Rows asked_for at rows) asked stays was right =
+    let base = before.table.base in
+    let same : asked_for ≡ questions = right.0 ∙ ap (λ (a : Asked). a.questions) was in
     let at_is : at ≡ length before.mine = omega (
       arith,
       right.1,
@@ -187,29 +194,37 @@ right_answer before asking after question (Rows query at rows) asked stays was r
     ) in
     let all : take at after.seen ≡ before.mine = take_all at after.seen (omega (arith, at_is, ap length stays.answered))
     ∙ stays.answered in
-    let rows_are : rows ≡ rows_after before.table.base question before.mine =
-    right.3 ∙ ap (λ h. rows_after asking.table.base query h) all ∙ ap (λ b. rows_after b query before.mine) stays.base
-    ∙ ap (λ q. rows_after before.table.base q before.mine) query_is in
-    ap (λ q. Rows q at rows) query_is ∙ ap (λ n. Rows question n rows) at_is
-    ∙ ap (λ r. Rows question (length before.mine) r) rows_are
-right_answer before asking after question (Unserved query cause) asked stays was right =
-    (right.0 ∙ ap (λ (a : Asked). a.query) was, cause_may cause right.1)
+    let rows_are : rows ≡ all_rows_after base asked_for before.mine =
+    right.3 ∙ ap (λ h. all_rows_after asking.table.base asked_for h) all
+    ∙ ap (λ b. all_rows_after b asked_for before.mine) stays.base in
+    inl (in_order base before.mine asked_for at rows rows_are
+    ∙ ap (λ n. map (λ question. answer.Rows question n (rows_after base question before.mine)) asked_for) at_is
+    ∙ ap (λ qs. map (warehouse_answer (own before)) qs) same)
+right_answers before asking after questions (Unserved asked_for cause) asked stays was right =
+    inr (
+      cause,
+      cause_may cause right.1,
+      ap (λ qs. map (λ question. answer.Unserved question cause) qs)
+          (right.0 ∙ ap (λ (a : Asked). a.questions) was),
+    )
 
--- the answer to a question
-pub answered_reply : (before asking after : TokenRecord) (question : Named × List Value) (answer : Answer)
-    → client.Asks before question asking → client.Polls asking answer after
-    → IsAlone before → IsSound asking → IsSound after → IsAnswer may_be_told (own before) question answer
-answered_reply before asking after question answer asked polled alone sound ended =
-    let was : polled.asked ≡ request question (length asking.seen) =
-    some_injective polled.asked (request question (length asking.seen))
+-- the answers to questions
+pub answered_reply : (before asking after : TokenRecord) (questions : Questions) (response : Response)
+    (answers : List Answer) → client.Asks before questions asking → client.Polls asking response after
+    → IsAlone before → IsSound asking → IsSound after → answers ≡ answers_in response
+    → AreAnswers may_be_told (own before) questions answers
+answered_reply before asking after questions response answers asked polled alone sound ended are =
+    let was : polled.asked ≡ request questions (length asking.seen) =
+    some_injective polled.asked (request questions (length asking.seen))
     (sym polled.was ∙ ap (λ (t : TokenRecord). t.asked) asked.now) in
-    right_answer before asking after question answer polled.asked
-    (stays before asking after question answer asked polled alone sound ended) was polled.right
+    subst (AreAnswers may_be_told (own before) questions) (sym are)
+    (right_answers before asking after questions response polled.asked
+    (stays before asking after questions response asked polled alone sound ended) was polled.right)
 
-pub answered_own : (before asking after : TokenRecord) (question : Named × List Value) (answer : Answer)
-    → client.Asks before question asking → client.Polls asking answer after
-    → own after ≡ with_commits (own before) (committed_by 1 (Ask question) (Answered answer))
-answered_own before asking after question answer asked polled =
+pub answered_own : (before asking after : TokenRecord) (asking_is : Asking) (response : Response) (answers : List Answer)
+    → client.Asks before (questions_in asking_is) asking → client.Polls asking response after
+    → own after ≡ with_commits (own before) (committed_by 1 (Ask asking_is) (Answered answers))
+answered_own before asking after asking_is response answers asked polled =
     ap own polled.now ∙ ap own asked.now ∙ sym (with_none (own before))
 
 -- the replies of the one-thread warehouse, and its commits
@@ -243,17 +258,19 @@ are_one_threads old new (Refresh actions ∷ requests) (Refreshed reply ∷ repl
     one_more old mid new (Refresh actions) (Refreshed reply) requests replies
     (refreshed_reply old mid actions reply refreshed still served.1.1) (refreshed_own old mid actions reply refreshed)
     (are_one_threads mid new requests replies served.2 still (asked_nothing mid.asked alike.quiet))
-are_one_threads old new (Ask question ∷ requests) (Answered answer ∷ replies) served alone quiet =
+are_one_threads old new (Ask asking ∷ requests) (Answered answers ∷ replies) served alone quiet =
     let mid = served.0 in
     let is = served.1 in
-    let alike = answered_alike old is.asking mid question answer is.asked is.polled in
+    let questions = questions_in asking in
+    let alike = answered_alike old is.asking mid questions is.response is.asked is.polled in
     let still = alone_still old mid alike alone in
-    one_more old mid new (Ask question) (Answered answer) requests replies
-    (answered_reply old is.asking mid question answer is.asked is.polled alone is.asking_sound is.sound)
-    (answered_own old is.asking mid question answer is.asked is.polled)
+    one_more old mid new (Ask asking) (Answered answers) requests replies
+    (answered_reply old is.asking mid questions is.response answers is.asked is.polled alone is.asking_sound is.sound
+    is.answers_are)
+    (answered_own old is.asking mid asking is.response answers is.asked is.polled)
     (are_one_threads mid new requests replies served.2 still (asked_nothing mid.asked alike.quiet))
-are_one_threads old new (Refresh actions ∷ requests) (Answered answer ∷ replies) served alone quiet = absurd served.1
-are_one_threads old new (Ask question ∷ requests) (Refreshed reply ∷ replies) served alone quiet = absurd served.1
+are_one_threads old new (Refresh actions ∷ requests) (Answered answers ∷ replies) served alone quiet = absurd served.1
+are_one_threads old new (Ask asking ∷ requests) (Refreshed reply ∷ replies) served alone quiet = absurd served.1
 
 pub one_client_is_one_thread : OneClientIsOneThread
 one_client_is_one_thread table after requests told was is one served =

@@ -12,6 +12,7 @@ use Rattle.std.proofs.Common.{
   ◌++◌,
   length,
   take,
+  map,
   flat_map,
   Some,
   None,
@@ -32,10 +33,15 @@ use Rattle.std.specs.List.{AllByRecursion}
 use Rattle.std.proofs.lemmas.List.{take-append-le}
 use Rattle.ssb_base.specs.Base.{Tables}
 use Rattle.ssb_schema.specs.declared.refresh.Action.{Action}
-use Rattle.ssb_questions.specs.declared.query.Query.{Query}
-use Rattle.ssb_questions.specs.declared.value.Value.{Value}
 use Rattle.ssb_answers.specs.declared.answer.Answer.{Answer}
-use Rattle.ssb_answers.specs.declared.answer.Answer.TheVariants.{Rows, Unserved}
+use Rattle.ssb_answers.specs.declared.answer.Answer.TheVariants as answer
+use Rattle.ssb_answers.specs.declared.answer.ResultRow.{ResultRow}
+use Rattle.ssb_answers.specs.declared.answer.Unserved.{Unserved as Cause}
+use Rattle.history_core.specs.declared.response.Response.{Response}
+use Rattle.history_core.specs.declared.response.Response.TheVariants.{Rows, Unserved}
+use Rattle.history_core.specs.Events.{Questions}
+use Rattle.history_core.specs.Responses.{answers_in, answers_with}
+use Rattle.history_core.specs.World.{all_rows_after}
 use Rattle.row_store.specs.declared.commit.Receipt.{Receipt}
 use Rattle.row_store.specs.declared.refusal.RefreshError.{RefreshError}
 use Rattle.row_store.specs.declared.refusal.RefreshError.TheVariants as refusal
@@ -43,15 +49,15 @@ use Rattle.row_store.specs.History.{CommitRecord, IsPrefix}
 use Rattle.row_store.proofs.PrefixLaws.{prefix_longer}
 use Rattle.history.specs.Tokens.{TokenRecord}
 use Rattle.history.specs.Words.{request}
-use Rattle.history.specs.declared.request.PostedQuestion.{PostedQuestion as Asked}
+use Rattle.history.specs.declared.request.PostedRequest.{PostedRequest as Asked}
 use Rattle.history.proofs.HistoryLaws.{prefix_trans}
-use Rattle.ssb_script.specs.Requests.{RequestRecord, Refresh, Ask}
+use Rattle.ssb_script.specs.Requests.{RequestRecord, Refresh, Ask, questions_in}
 use Rattle.ssb_report.specs.Replies.{Reply, Refreshed, Answered}
 use Rattle.ssb_audit.specs.declared.trace.Told.{Told}
 use Rattle.ssb_audit.specs.Traces.{rows_after}
 use Rattle.ssb_audit.specs.Legal.{IsTrueOf, NeverGoBack}
 use Rattle.ssb_server.specs.Clients as client
-use Rattle.ssb_serving.specs.Served.{IsAnswered, IsServed, AreServed, told_of}
+use Rattle.ssb_serving.specs.Served.{IsAnswered, IsServed, AreServed, told_by, told_of}
 use Rattle.ssb_sessions.specs.Traces.{IsTold, AreTold, RunsAreLegal}
 
 -- what is true of the first commits is true of all
@@ -99,55 +105,76 @@ refreshed_goes before number actions (Err (refusal.Refused at action cause)) aft
 refreshed_goes before number actions (Err refusal.OutOfMemory) after refreshed =
     record { table = ap (λ (t : TokenRecord). t.table) refreshed.1.now; begins = refreshed.1.begins }
 
-answered_goes : (before : TokenRecord) (question : Query × List Value) (answer : Answer) (after : TokenRecord)
-    → IsAnswered before question answer after → Goes before after
-answered_goes before question answer after answered = goes_on before answered.asking after
+answered_goes : (before : TokenRecord) (questions : Questions) (answers : List Answer) (after : TokenRecord)
+    → IsAnswered before questions answers after → Goes before after
+answered_goes before questions answers after answered = goes_on before answered.asking after
     (record { table = ap (λ (t : TokenRecord). t.table) answered.asked.now; begins = answered.asked.begins })
     (record { table = ap (λ (t : TokenRecord). t.table) answered.polled.now; begins = answered.polled.begins })
 
--- rows that a client was told
-rows_between : (base : Tables) (number : ℕ) (before : TokenRecord) (question asked_for : Query × List Value) (at : ℕ)
-    (rows : _) (after : TokenRecord) → before.table.base ≡ base
-    → IsAnswered before question (Rows asked_for at rows) after
-    → IsBetween base number before after (record { client = number; at = at; question = asked_for; rows = rows })
-rows_between base number before question asked_for at rows after over answered =
-    let asking = answered.asking in
-    let right = answered.polled.right in
-    let was : Some answered.polled.asked ≡ Some (request question (length asking.seen)) =
-    sym answered.polled.was ∙ ap (λ (t : TokenRecord). t.asked) answered.asked.now in
-    let floor : answered.polled.asked.floor ≡ length asking.seen = floor_of was in
-    let over_asking : asking.table.base ≡ base = ap (λ (t : TokenRecord). t.table.base) answered.asked.now ∙ over in
-    record {
-      client = refl;
-      since = omega (arith, right.1, floor, longer_length before.seen asking.seen answered.asked.begins);
-      is_true = record {
-        within = right.2;
-        rows = subst (λ b. rows ≡ rows_after b (take at after.seen)
-            (record { client = number; at = at; question = asked_for; rows = rows })) over_asking right.3;
-      };
-    }
+-- the answers to a request, all of them after one number of commits
+with_rows : (base : Tables) (number : ℕ) (before after : TokenRecord) (at : ℕ) (questions : Questions)
+    → length before.seen ≤ at → at ≤ length after.seen
+    → AllByRecursion (IsBetween base number before after)
+    (flat_map (told_by number) (answers_with at questions (all_rows_after base questions (take at after.seen))))
+with_rows base number before after at [] low high = tt
+with_rows base number before after at (question ∷ questions) low high = (
+  record { client = refl; since = low; is_true = record { within = high; rows = refl } },
+  with_rows base number before after at questions low high,
+)
+
+without_rows : (number : ℕ) (cause : Cause) (questions : Questions)
+    → flat_map (told_by number) (map (λ question. answer.Unserved question cause) questions) ≡ []
+without_rows number cause [] = refl
+without_rows number cause (question ∷ questions) = without_rows number cause questions
+
+of_response : (base : Tables) (number : ℕ) (before asking after : TokenRecord) (questions : Questions)
+    (response : Response) → before.table.base ≡ base → client.Asks before questions asking
+    → client.Polls asking response after
+    → AllByRecursion (IsBetween base number before after) (flat_map (told_by number) (answers_in response))
+of_response base number before asking after questions (Rows asked_for at rows) over asked polled =
+    let right = polled.right in
+    let was : Some polled.asked ≡ Some (request questions (length asking.seen)) =
+    sym polled.was ∙ ap (λ (t : TokenRecord). t.asked) asked.now in
+    let floor : polled.asked.floor ≡ length asking.seen = floor_of was in
+    let over_asking : asking.table.base ≡ base = ap (λ (t : TokenRecord). t.table.base) asked.now ∙ over in
+    let rows_are : rows ≡ all_rows_after base asked_for (take at after.seen) =
+    right.3 ∙ ap (λ b. all_rows_after b asked_for (take at after.seen)) over_asking in
+    subst (λ l. AllByRecursion (IsBetween base number before after)
+    (flat_map (told_by number) (answers_with at asked_for l))) (sym rows_are)
+    (with_rows base number before after at asked_for
+    (omega (arith, right.1, floor, longer_length before.seen asking.seen asked.begins)) right.2)
   where
     floor_of : {a b : Asked} → Some a ≡ Some b → a.floor ≡ b.floor
     floor_of e = cc
+of_response base number before asking after questions (Unserved asked_for cause) over asked polled =
+    subst (AllByRecursion (IsBetween base number before after)) (sym (without_rows number cause asked_for)) tt
+
+answers_between : (base : Tables) (number : ℕ) (before : TokenRecord) (questions : Questions) (answers : List Answer)
+    (after : TokenRecord) → before.table.base ≡ base → IsAnswered before questions answers after
+    → AllByRecursion (IsBetween base number before after) (flat_map (told_by number) answers)
+answers_between base number before questions answers after over answered =
+    subst (λ l. AllByRecursion (IsBetween base number before after) (flat_map (told_by number) l))
+    (sym answered.answers_are)
+    (of_response base number before answered.asking after questions answered.response over answered.asked answered.polled)
 
 -- a request goes on, and what it told is between
 one_goes : (number : ℕ) (before : TokenRecord) (request : RequestRecord) (reply : Reply) (after : TokenRecord)
     → IsServed number before request reply after → Goes before after
 one_goes number before (Refresh actions) (Refreshed reply) after served =
     refreshed_goes before number actions reply after served.0
-one_goes number before (Ask question) (Answered answer) after served = answered_goes before question answer after served
-one_goes number before (Refresh actions) (Answered answer) after served = absurd served
-one_goes number before (Ask question) (Refreshed reply) after served = absurd served
+one_goes number before (Ask asking) (Answered answers) after served =
+    answered_goes before (questions_in asking) answers after served
+one_goes number before (Refresh actions) (Answered answers) after served = absurd served
+one_goes number before (Ask asking) (Refreshed reply) after served = absurd served
 
 one_told : (base : Tables) (number : ℕ) (before : TokenRecord) (request : RequestRecord) (reply : Reply) (after : TokenRecord)
     → before.table.base ≡ base → IsServed number before request reply after
     → AllByRecursion (IsBetween base number before after) (told_of number reply)
 one_told base number before (Refresh actions) (Refreshed reply) after over served = tt
-one_told base number before (Ask question) (Answered (Rows asked_for at rows)) after over served =
-    (rows_between base number before question asked_for at rows after over served, tt)
-one_told base number before (Ask question) (Answered (Unserved asked_for cause)) after over served = tt
-one_told base number before (Refresh actions) (Answered answer) after over served = absurd served
-one_told base number before (Ask question) (Refreshed reply) after over served = absurd served
+one_told base number before (Ask asking) (Answered answers) after over served =
+    answers_between base number before (questions_in asking) answers after over served
+one_told base number before (Refresh actions) (Answered answers) after over served = absurd served
+one_told base number before (Ask asking) (Refreshed reply) after over served = absurd served
 
 -- lists of answers
 all_append : {X : Type 0} (P : X → Type 0) (xs ys : List X) → AllByRecursion P xs → AllByRecursion P ys
@@ -203,10 +230,32 @@ never_back (told ∷ answers) orderly zero (suc j) earlier later lt at_i at_j sa
 never_back (told ∷ answers) orderly (suc i) (suc j) earlier later lt at_i at_j same =
     never_back answers orderly.1 i j earlier later (omega (arith, lt)) at_i at_j same
 
-one_orderly : (number : ℕ) (reply : Reply) → Orderly (told_of number reply)
-one_orderly number (Refreshed reply) = tt
-one_orderly number (Answered (Rows asked_for at rows)) = (tt, tt)
-one_orderly number (Answered (Unserved asked_for cause)) = tt
+-- answers after one number of commits
+orderly_at : (at : ℕ) (told : List Told) → AllByRecursion (λ (t : Told). t.at ≡ at) told → Orderly told
+orderly_at at [] all = tt
+orderly_at at (first ∷ told) all = (
+  all_weaken (λ (t : Told). t.at ≡ at) (IsNoEarlier first) told (λ t is same. omega (arith, is, all.0)) all.1,
+  orderly_at at told all.1,
+)
+
+all_of_moment : (number at : ℕ) (questions : Questions) (rows : List (List ResultRow))
+    → AllByRecursion (λ (t : Told). t.at ≡ at) (flat_map (told_by number) (answers_with at questions rows))
+all_of_moment number at [] rows = tt
+all_of_moment number at (question ∷ questions) [] = tt
+all_of_moment number at (question ∷ questions) (list ∷ rows) = (refl, all_of_moment number at questions rows)
+
+response_orderly : (number : ℕ) (response : Response) → Orderly (flat_map (told_by number) (answers_in response))
+response_orderly number (Rows questions at rows) = orderly_at at _ (all_of_moment number at questions rows)
+response_orderly number (Unserved questions cause) = subst Orderly (sym (without_rows number cause questions)) tt
+
+one_orderly : (number : ℕ) (before : TokenRecord) (request : RequestRecord) (reply : Reply) (after : TokenRecord)
+    → IsServed number before request reply after → Orderly (told_of number reply)
+one_orderly number before (Refresh actions) (Refreshed reply) after served = tt
+one_orderly number before (Ask asking) (Answered answers) after served =
+    subst (λ l. Orderly (flat_map (told_by number) l)) (sym served.answers_are)
+    (response_orderly number served.response)
+one_orderly number before (Refresh actions) (Answered answers) after served = absurd served
+one_orderly number before (Ask asking) (Refreshed reply) after served = absurd served
 
 -- what a client was told between two tokens
 record AreBetween (base : Tables) (number : ℕ) (before after : TokenRecord) (told : List Told) : Type 0 where
@@ -241,7 +290,8 @@ are_between base number before after (request ∷ requests) (reply ∷ replies) 
           (flat_map (told_of number) replies)
           (λ told is. record { client = is.client; since = omega (arith, earlier, is.since); is_true = is.is_true })
           rest.each);
-      orderly = orderly_append (told_of number reply) (flat_map (told_of number) replies) (one_orderly number reply)
+      orderly = orderly_append (told_of number reply) (flat_map (told_of number) replies)
+          (one_orderly number before request reply between served.1)
           rest.orderly
           (all_weaken (IsBetween base number before between)
           (λ x. AllByRecursion (IsNoEarlier x) (flat_map (told_of number) replies)) (told_of number reply)

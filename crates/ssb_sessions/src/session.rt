@@ -50,6 +50,7 @@ pub(crate) fn serve_script<W: Wait + Drop, R: Wait + Clock>(
     let mut timer = Timer::new(alloc, rt, timed)?;
     let served = serve_requests(
         rt,
+        alloc,
         server,
         &mut client,
         script,

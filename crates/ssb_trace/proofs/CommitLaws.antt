@@ -41,9 +41,11 @@ use Rattle.ssb_script.specs.Begun as begun
 use Rattle.ssb_script.specs.Lines.{ScriptLine, alone, line_or_bad, line_or_refusal}
 use Rattle.ssb_script.specs.Lines as script
 use Rattle.ssb_script.specs.Requests.{Refresh, Ask, IsWholeAction, IsWholeRequest, lines_of_action, lines_of_request}
-use Rattle.ssb_script.specs.Scripts.{is_outside, lines_of_begun}
+use Rattle.ssb_script.specs.Scripts.{is_outside, is_refreshing, lines_of_begun}
 use Rattle.ssb_script.specs.Steps.{Follows as FollowsInScript, asked, begun_in}
 use Rattle.ssb_script.specs.declared.begun.Step.{Step as ScriptStep}
+use Rattle.ssb_script.specs.declared.request.Asking.{Asking}
+use Rattle.ssb_script.specs.declared.request.Asking.TheVariants.{Alone, Together}
 use Rattle.ssb_questions.specs.declared.query.Query.{Query as Named}
 use Rattle.ssb_questions.specs.declared.value.Value.{Value}
 use Rattle.ssb_trace.specs.Entries.{IsWholeEntry, in_commit, lines_of_commit}
@@ -94,9 +96,10 @@ stands_inside (Some word.End) fields line e = of_alone _ line (has_columns 1 fie
 stands_inside (Some word.Answer) fields line e = absurd cc
 stands_inside (Some word.Row) fields line e = absurd cc
 
--- how many refreshes begin in lines
+-- how many refreshes and blocks begin in lines
 begins : ScriptLine → ℕ
 begins script.Begin = 1
+begins script.Ask = 1
 begins _ = 0
 
 begins_in : List ScriptLine → ℕ
@@ -128,6 +131,11 @@ begins-actions (a ∷ actions) =
     let both = begins-append (lines_of_action a) (flat_map lines_of_action actions) in
     omega (arith, first, later, both)
 
+begins-queries : (questions : List (Named × List Value)) → begins_in (map script.Query questions) ≡ 0
+unfolding begins begins_in
+begins-queries [] = refl
+begins-queries (question ∷ questions) = let later = begins-queries questions in omega (arith, later)
+
 begins-begun : (b : Begun) → begins_in (lines_of_begun b) ≡ (if is_outside b then 0 else 1)
 unfolding begins begins_in
 begins-begun begun.Nothing = refl
@@ -138,6 +146,7 @@ begins-begun (begun.Order order) =
     let both = begins-append (flat_map lines_of_action order.actions)
     (script.Open order.opening ∷ map script.Line order.lines) in
     omega (arith, inner, lines, both)
+begins-begun (begun.Asked questions) = let none = begins-queries questions in omega (arith, none)
 
 begins-request : (actions : List Action) → begins_in (lines_of_request (Refresh actions)) ≡ 1
 unfolding begins begins_in
@@ -154,13 +163,21 @@ begins-inside (script.Open opening) stands = refl
 begins-inside (script.Line row) stands = refl
 begins-inside (script.Withdraw key) stands = refl
 begins-inside script.Commit stands = refl
+begins-inside script.Ask stands = absurd stands
+begins-inside script.Answer stands = absurd stands
+
+not_outside : (b : Begun) → is_refreshing b ≡ true → is_outside b ≡ false
+not_outside begun.Nothing inside = absurd cc
+not_outside (begun.Refresh actions) inside = refl
+not_outside (begun.Order order) inside = refl
+not_outside (begun.Asked questions) inside = absurd cc
 
 -- one line more in a commit, where one is begun: one refresh begins in it
-begins-one : (b : Begun) (line : ScriptLine) → is_outside b ≡ false → StandsInside line
+begins-one : (b : Begun) (line : ScriptLine) → is_refreshing b ≡ true → StandsInside line
     → begins_in (lines_of_begun b ++ line ∷ []) ≡ 1
 unfolding begins_in
 begins-one b line inside stands =
-    let first : begins_in (lines_of_begun b) ≡ 1 = begins-begun b ∙ ap (λ out. if out then 0 else 1) inside in
+    let first : begins_in (lines_of_begun b) ≡ 1 = begins-begun b ∙ ap (λ out. if out then 0 else 1) (not_outside b inside) in
     let last = begins-inside line stands in
     let both = begins-append (lines_of_begun b) (line ∷ []) in
     omega (arith, first, last, both)
@@ -171,28 +188,38 @@ is_nothing begun.Nothing none = refl
 is_nothing (begun.Refresh actions) none = let one = begins-begun (begun.Refresh actions) in
     absurd (omega (arith, one, none))
 is_nothing (begun.Order order) none = let one = begins-begun (begun.Order order) in absurd (omega (arith, one, none))
+is_nothing (begun.Asked questions) none = let one = begins-begun (begun.Asked questions) in
+    absurd (omega (arith, one, none))
 
-is_inside : (b : Begun) → begins_in (lines_of_begun b) ≡ 1 → is_outside b ≡ false
-is_inside begun.Nothing one = let none = begins-begun begun.Nothing in absurd (omega (arith, one, none))
-is_inside (begun.Refresh actions) one = refl
-is_inside (begun.Order order) one = refl
+-- the first line of a refresh, and what has such a first line
+begins_so : (b : Begun) (line : ScriptLine) → is_refreshing b ≡ true
+    → (rest : List ScriptLine) × (lines_of_begun b ++ line ∷ [] ≡ script.Begin ∷ rest)
+begins_so begun.Nothing line inside = absurd cc
+begins_so (begun.Refresh actions) line inside = (_, refl)
+begins_so (begun.Order order) line inside = (_, refl)
+begins_so (begun.Asked questions) line inside = absurd cc
 
--- no question is asked in a refresh
-no_query : (b : Begun) (line : ScriptLine) (question : Named × List Value) (rest : List ScriptLine)
-    → is_outside b ≡ false → lines_of_begun b ++ line ∷ [] ≡ script.Query question ∷ rest → ⊥
-no_query begun.Nothing line question rest inside e = absurd cc
-no_query (begun.Refresh actions) line question rest inside e = absurd cc
-no_query (begun.Order order) line question rest inside e = absurd cc
+is_inside : (b : Begun) (rest : List ScriptLine) → lines_of_begun b ≡ script.Begin ∷ rest → is_refreshing b ≡ true
+is_inside begun.Nothing rest e = absurd cc
+is_inside (begun.Refresh actions) rest e = refl
+is_inside (begun.Order order) rest e = refl
+is_inside (begun.Asked questions) rest e = absurd cc
+
+-- nothing is asked in a refresh
+no_asking : (asking : Asking) (rest more : List ScriptLine)
+    → script.Begin ∷ rest ≡ (lines_of_request (Ask asking) ++ []) ++ more → ⊥
+no_asking (Alone question) rest more e = cc
+no_asking (Together questions) rest more e = cc
 
 -- the step of a script's refresh, in which nothing, a refresh, or a question ended
-module _ (number : ℕ) (old : Begun) (line : ScriptLine) (step : ScriptStep) (inside : is_outside old ≡ false)
+module _ (number : ℕ) (old : Begun) (line : ScriptLine) (step : ScriptStep) (inside : is_refreshing old ≡ true)
     (stands : StandsInside line) (follows : FollowsInScript number old line step) where
-  pub still_inside : asked step ≡ [] → is_outside (begun_in step.begun) ≡ false
-  still_inside none = is_inside (begun_in step.begun) (sym (ap begins_in (rw none at follows.lines))
-      ∙ begins-one old line inside stands)
-
   pub lines_still : asked step ≡ [] → lines_of_begun old ++ line ∷ [] ≡ lines_of_begun (begun_in step.begun)
   lines_still none = rw none at follows.lines
+
+  pub still_inside : asked step ≡ [] → is_refreshing (begun_in step.begun) ≡ true
+  still_inside none = let first = begins_so old line inside in
+      is_inside (begun_in step.begun) first.0 (sym (lines_still none) ∙ first.1)
 
   pub lines_whole : (actions : List Action) → asked step ≡ Refresh actions ∷ [] → lines_of_begun old
       ++ line ∷ [] ≡ lines_of_request (Refresh actions)
@@ -211,8 +238,9 @@ module _ (number : ℕ) (old : Begun) (line : ScriptLine) (step : ScriptStep) (i
       same ∙ ap (λ rest. lines_of_request (Refresh actions) ++ rest) (is_nothing (begun_in step.begun) none)
       ∙ append-nil (lines_of_request (Refresh actions))
 
-  pub no_question : (question : Named × List Value) → asked step ≡ Ask question ∷ [] → ⊥
-  no_question question one = no_query old line question _ inside (rw one at follows.lines)
+  pub no_question : (asking : Asking) → asked step ≡ Ask asking ∷ [] → ⊥
+  no_question asking one = let first = begins_so old line inside in
+      no_asking asking first.0 (lines_of_begun (begun_in step.begun)) (sym first.1 ∙ rw one at follows.lines)
 
   pub takes_refresh : (client : ℕ) (actions : List Action) → asked step ≡ Refresh actions ∷ []
       → Takes number (map (in_commit client) (lines_of_begun old ++ line ∷ []))
@@ -248,6 +276,8 @@ in_commit-inside client (script.Open opening) stands = refl
 in_commit-inside client (script.Line row) stands = refl
 in_commit-inside client (script.Withdraw key) stands = refl
 in_commit-inside client script.Commit stands = refl
+in_commit-inside client script.Ask stands = absurd stands
+in_commit-inside client script.Answer stands = absurd stands
 
 pub lines-inside : (client : ℕ) (lines : List ScriptLine) (line : ScriptLine) → StandsInside line
     → map (in_commit client) (lines ++ line ∷ []) ≡ map (in_commit client) lines ++ Inside line ∷ []

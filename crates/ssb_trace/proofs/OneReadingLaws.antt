@@ -221,6 +221,8 @@ before_inside (script.Withdraw key) tail = record {
   entries = tail.entries;
 }
 before_inside script.Commit tail = record { lines = []; actions = []; rows = []; entries = tail.entries }
+before_inside script.Ask tail = tail
+before_inside script.Answer tail = tail
 
 abbrev before : TraceLine → Tail → Tail
 before (Begin client) tail = record {

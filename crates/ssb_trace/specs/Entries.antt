@@ -1,12 +1,12 @@
 -- The commits and answers of a trace, and the lines that spell them.
-use Rattle.std.specs.Prelude.{◌≡◌, ℕ, ◌<◌, false, List, [], ◌∷◌, length, map}
+use Rattle.std.specs.Prelude.{◌≡◌, ℕ, ◌<◌, true, List, [], ◌∷◌, length, map}
 use Rattle.std.specs.List.{flat_map}
 use Rattle.row_store.specs.History.{CommitRecord}
 use Rattle.ssb_audit.specs.declared.trace.Told.{Told}
 use Rattle.ssb_script.specs.Lines.{ScriptLine}
 use Rattle.ssb_script.specs.Lines as script
 use Rattle.ssb_script.specs.Requests.{IsWholeRequest, Refresh, lines_of_request}
-use Rattle.ssb_script.specs.Scripts.{HasRoom, IsSettled, is_outside, lines_of_begun}
+use Rattle.ssb_script.specs.Scripts.{HasRoom, IsSettled, is_refreshing, lines_of_begun}
 use Rattle.ssb_script.specs.Steps.{begun_in}
 use Rattle.ssb_trace.specs.Lines.{TraceLine, Begin, Inside, Answer, Row}
 use Rattle.ssb_trace.specs.Rows.{group_kinds}
@@ -70,7 +70,7 @@ lines_of_unfinished (unfinished.Answer answer) = Answer answer.head ∷ map (Row
 abbrev pub IsUnfinished : ℕ → Unfinished → Type 0
 IsUnfinished count unfinished.Nothing = Unit {0}
 IsUnfinished count (unfinished.Commit commit) =
-    (is_outside (begun_in commit.begun) ≡ false) × HasRoom count (begun_in commit.begun)
+    (is_refreshing (begun_in commit.begun) ≡ true) × HasRoom count (begun_in commit.begun)
     × IsSettled (begun_in commit.begun)
 IsUnfinished count (unfinished.Answer answer) =
     (length answer.rows < answer.head.count) × (answer.kinds ≡ group_kinds answer.head.question)

@@ -1,10 +1,10 @@
 -- What one record of a trace does to what is begun.
-use Rattle.std.specs.Prelude.{◌≡◌, ℕ, ◌++◌, false, List, [], ◌∷◌, All, Option, map}
+use Rattle.std.specs.Prelude.{◌≡◌, ℕ, ◌++◌, true, List, [], ◌∷◌, All, Option, map}
 use Rattle.std.specs.Option.{option_to_list}
 use Rattle.ssb_script.specs.Begun.{Begun}
 use Rattle.ssb_script.specs.Lines.{ScriptLine}
 use Rattle.ssb_script.specs.Lines as script
-use Rattle.ssb_script.specs.Scripts.{is_outside, lines_of_begun}
+use Rattle.ssb_script.specs.Scripts.{is_refreshing, lines_of_begun}
 use Rattle.ssb_script.specs.Steps.{Follows as FollowsInScript}
 use Rattle.ssb_script.specs.declared.begun.Step.{Step as ScriptStep}
 use Rattle.ssb_trace.specs.Entries.{IsUnfinished, IsWholeEntry, in_commit, lines_of_entries, lines_of_unfinished}
@@ -36,11 +36,13 @@ TakesRecord number old word fields step = (line : TraceLine) × SaysAfter word f
 abbrev pub StandsInside : ScriptLine → Type 0
 StandsInside (script.Query question) = ⊥
 StandsInside script.Begin = ⊥
+StandsInside script.Ask = ⊥
+StandsInside script.Answer = ⊥
 StandsInside _ = Unit {0}
 
 -- a step in a refresh of a script is this one in a commit of the client
 abbrev pub CommitStep : ℕ → ScriptStep → TraceStep → Type 0
-CommitStep client inside step = (number : ℕ) (old : Begun) (line : ScriptLine) → is_outside old ≡ false
+CommitStep client inside step = (number : ℕ) (old : Begun) (line : ScriptLine) → is_refreshing old ≡ true
     → StandsInside line
     → FollowsInScript number old line inside → Takes number (map (in_commit client) (lines_of_begun old ++ line ∷ []))
     step

@@ -1,9 +1,9 @@
 //! What the records of a trace have begun and not ended, and what one more record does to it.
-ghost use Rattle.std.specs.Prelude.{◌≡◌, ℕ, ◌+◌, ◌-◌, ◌<◌, ◌≤◌, ◌^◌, ◌++◌, ◌∷◌, [], Ok, Some, false, length, IfOk};
+ghost use Rattle.std.specs.Prelude.{◌≡◌, ℕ, ◌+◌, ◌-◌, ◌<◌, ◌≤◌, ◌^◌, ◌++◌, ◌∷◌, [], Ok, Some, true, false, length, IfOk};
 ghost use Rattle.std.specs.Prelude.{IfErr};
 ghost use Rattle.csv.specs.Records.{fields_of};
 ghost use Rattle.ssb_script.specs.Lines.{ScriptLine};
-ghost use Rattle.ssb_script.specs.Scripts.{HasRoom, checks_in, is_outside};
+ghost use Rattle.ssb_script.specs.Scripts.{HasRoom, checks_in, is_refreshing};
 ghost use Rattle.ssb_script.specs.Steps.{Follows as FollowsInScript, IsFoundBy, begun_in};
 ghost use Rattle.ssb_trace.specs.Entries.{IsUnfinished, lines_of_unfinished};
 ghost use Rattle.ssb_trace.specs.Lines as spec;
@@ -186,7 +186,7 @@ impl UnfinishedCommit {
         fields: &ByteRecord,
     ) -> Result<TraceStep, ScriptError>
         requires counted { before < 2 ^ 64 - 1 }
-        requires inside { is_outside (begun_in self.begun) ≡ false }
+        requires inside { is_refreshing (begun_in self.begun) ≡ true }
         requires room { HasRoom before (begun_in self.begun) }
         ensures step { IfOk result (TakesRecord (before + 1) (unfinished.Commit self) word (fields_of fields.now)) }
         ensures fault { IfErr result (IsFoundBy (checks_after (before + 1) (unfinished.Commit self) word

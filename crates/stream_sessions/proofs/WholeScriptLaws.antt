@@ -63,7 +63,7 @@ not_refused : (request : List ℕ) (asked : List RequestRecord) (fault : ScriptE
 not_refused request asked fault spells (inl first) =
     (spelled_has_no_fault request most_records asked spells).0 fault first
 not_refused request asked fault spells (inr open_end) =
-    (spelled_has_no_fault request most_records asked spells).1 open_end.1
+    (spelled_has_no_fault request most_records asked spells).1 fault open_end
 
 request_told : (number : ℕ) (request : List ℕ) (old new : TokenRecord) (text : List ℕ) (asked : List RequestRecord)
     → SpellsScript most_records request asked → IsAnswered number request old new text

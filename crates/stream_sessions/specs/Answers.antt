@@ -4,7 +4,7 @@ use Rattle.history.specs.Tokens.{TokenRecord}
 use Rattle.ssb_report.specs.Replies.{Reply}
 use Rattle.ssb_report.specs.Report.{report_of}
 use Rattle.ssb_script.specs.Requests.{RequestRecord}
-use Rattle.ssb_script.specs.Scripts.{SpellsScript, IsFirstFault, EndsInRefresh, most_records}
+use Rattle.ssb_script.specs.Scripts.{SpellsScript, IsFirstFault, EndsOpen, most_records}
 use Rattle.ssb_script.specs.declared.error.ScriptError.{ScriptError}
 use Rattle.ssb_script.specs.declared.error.ScriptError.TheVariants as script
 use Rattle.ssb_serving.specs.Served.{AreServed}
@@ -18,8 +18,7 @@ is_of_text _ = true
 
 -- read as a script of its own, a text has this fault first
 abbrev pub HasFault : List ℕ → ScriptError → Type 0
-HasFault text fault =
-    IsFirstFault most_records text fault ⊎ ((fault ≡ script.NoCommit) × EndsInRefresh most_records text)
+HasFault text fault = IsFirstFault most_records text fault ⊎ EndsOpen most_records text fault
 
 -- the client was served all that a request asks, as the loop of scripts serves it, and this is the report
 pub record IsReported (number : ℕ) (request : List ℕ) (old new : TokenRecord) (text : List ℕ) : Type 0 where

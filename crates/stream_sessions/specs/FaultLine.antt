@@ -33,6 +33,8 @@ fault_text (script.Row record_number why) =
     concat (codes "73 Row " ∷ decimal record_number ∷ codes " " ∷ []) ++ schema_text why
 fault_text script.TooLong = codes "74 TooLong"
 fault_text script.Read = codes "75 Read"
+fault_text script.NoAnswer = codes "77 NoAnswer"
+fault_text (script.TooManyQuestions record_number) = concat (codes "78 TooManyQuestions " ∷ decimal record_number ∷ [])
 fault_text script.OutOfMemory = codes "out of memory"
 
 -- the line of a fault

@@ -85,6 +85,14 @@ fn write_fault<W: Write>(writer: &mut W, fault: ScriptError) -> Result<(), Write
         }
         ScriptError::TooLong => write_pieces(writer, &[Piece::Text("74 TooLong")]),
         ScriptError::Read => write_pieces(writer, &[Piece::Text("75 Read")]),
+        ScriptError::NoAnswer => write_pieces(writer, &[Piece::Text("77 NoAnswer")]),
+        ScriptError::TooManyQuestions(record) => write_pieces(
+            writer,
+            &[
+                Piece::Text("78 TooManyQuestions "),
+                Piece::Number(record),
+            ],
+        ),
         ScriptError::OutOfMemory => write_pieces(writer, &[Piece::Text("out of memory")]),
     }
 }

@@ -33,7 +33,8 @@ loop-count-preserved c =
       inv.0 ++ line,
       rejoined c.in-Some.count _ inv.0 c.loop-count.rest.now line _ inv.1 c.split_at.ensures.front
           c.split_at.ensures.back,
-      line_goes_on c.loop-count.begun inv.0 line inv.2 is (sym c.ends_request.ensures ∙ c.if-ends_request.false),
+      rw c.begun_behind-begun.ensures (line_goes_on c.loop-count.begun inv.0 line inv.2 is
+          (sym c.ends_request.ensures ∙ c.if-ends_request.false)),
     )
 
 pub returns-clause-none : goal.returns-clause-none

@@ -56,5 +56,6 @@ loop-request-preserved g c =
     record {
       within = c.next_line.ensures.within;
       taken = taken_on _ _ _ _ _ _ inv.taken took;
-      begun = request_goes_on c.loop-request.begun _ _ _ _ _ inv.begun took line (sym c.if-ends_request.ensures);
+      begun = rw c.begun_behind-begun.ensures (request_goes_on c.loop-request.begun _ _ _ _ _ inv.begun took line
+          (sym c.if-ends_request.ensures));
     }

@@ -15,12 +15,12 @@ loop-client-init g c = record {
 
 pub give_up_one-requires-clause-hand : goal.give_up_one-requires-clause-hand
 give_up_one-requires-clause-hand g c = (popped c.pop.new.self c.loop-client.token.grabbed c.in-Some.client
-    c.in-Some.question (subst (λ (h : Hand). Keeps h c.loop-client.token.grabbed) c.in-Some.ensures
+    c.in-Some.questions (subst (λ (h : Hand). Keeps h c.loop-client.token.grabbed) c.in-Some.ensures
     c.loop-client.invariant.keeps)).has
 
 pub loop-client-preserved : goal.loop-client-preserved
 loop-client-preserved g c =
-    let last = popped c.pop.new.self c.loop-client.token.grabbed c.in-Some.client c.in-Some.question
+    let last = popped c.pop.new.self c.loop-client.token.grabbed c.in-Some.client c.in-Some.questions
     (subst (λ (h : Hand). Keeps h c.loop-client.token.grabbed) c.in-Some.ensures c.loop-client.invariant.keeps) in
     let n : length c.loop-client.batch.clients ≡ length c.pop.new.self.clients + 1 =
     ap (λ (h : Hand). length h.clients) c.in-Some.ensures ∙ length_push c.pop.new.self.clients c.in-Some.client in
@@ -31,5 +31,5 @@ loop-client-preserved g c =
       gave = gave_more c.args.token.now c.loop-client.token c.give_up_one.new.token c.loop-client.invariant.given
           (GivenUp c.args.cause) c.loop-client.invariant.gave c.give_up_one.ensures;
       keeps = left_keeps c.loop-client.token (GivenUp c.args.cause) c.give_up_one.new.token c.pop.new.self
-          c.in-Some.client c.in-Some.question c.give_up_one.ensures last;
+          c.in-Some.client c.in-Some.questions c.give_up_one.ensures last;
     }

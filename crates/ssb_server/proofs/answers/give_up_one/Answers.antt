@@ -12,9 +12,9 @@ pub give-requires-clause-free : goal.give-requires-clause-free
 give-requires-clause-free g c = (c.requires.free.rows, c.requires.free.writer)
 
 pub give-requires-clause-request : goal.give-requires-clause-request
-give-requires-clause-request g c = may_give_up c.args.token.now c.args.client c.args.query c.args.cause c.requires.hand
+give-requires-clause-request g c = may_give_up c.args.token.now c.args.client c.args.questions c.args.cause c.requires.hand
     c.requires.cause
 
 pub returns : goal.returns
-returns g c = gave_one c.args.token.now c.args.client c.args.query _ c.give.new.token c.requires.hand
+returns g c = gave_one c.args.token.now c.args.client c.args.questions _ c.give.new.token c.requires.hand
     c.give.ensures.answers

@@ -20,11 +20,11 @@ pub serve_one-requires-clause-hand : goal.serve_one-requires-clause-hand
 serve_one-requires-clause-hand g c =
     let last = popped c.pop.new.self c.loop-client.token.grabbed c.in-Some.client c.in-Some.field-0-1
     (subst (λ (h : Hand). Keeps h c.loop-client.token.grabbed) c.in-Some.ensures c.loop-client.invariant.keeps) in
-    let rows = rows_popped c.args.token.now.table.base c.args.token.now.seen c.pop.new.self.questions c.in-Some.field-0-1
+    let rows = rows_popped c.args.token.now.table.base c.args.token.now.seen c.pop.new.self.requests c.in-Some.field-0-1
     c.loop-client.rows.items c.pop-in-Some.new.self.items c.in-Some-pop.found
     (c.loop-client.invariant.rows ∙ ap (λ (h : Hand). answers_after c.args.token.now.table.base c.args.token.now.seen
-    h.questions) c.in-Some.ensures) c.in-Some-pop.ensures.items in
-    in_hand_of c.loop-client.token.grabbed c.in-Some.client c.in-Some.field-0-1 c.in-Some-pop.found.query rows.query_is
+    h.requests) c.in-Some.ensures) c.in-Some-pop.ensures.items in
+    in_hand_of c.loop-client.token.grabbed c.in-Some.client c.in-Some.field-0-1 c.in-Some-pop.found.questions rows.questions_is
     last.has
 
 pub serve_one-requires-clause-at : goal.serve_one-requires-clause-at
@@ -34,10 +34,10 @@ serve_one-requires-clause-at g c =
 
 pub serve_one-requires-clause-rows : goal.serve_one-requires-clause-rows
 serve_one-requires-clause-rows g c =
-    let rows = rows_popped c.args.token.now.table.base c.args.token.now.seen c.pop.new.self.questions c.in-Some.field-0-1
+    let rows = rows_popped c.args.token.now.table.base c.args.token.now.seen c.pop.new.self.requests c.in-Some.field-0-1
     c.loop-client.rows.items c.pop-in-Some.new.self.items c.in-Some-pop.found
     (c.loop-client.invariant.rows ∙ ap (λ (h : Hand). answers_after c.args.token.now.table.base c.args.token.now.seen
-    h.questions) c.in-Some.ensures) c.in-Some-pop.ensures.items in
+    h.requests) c.in-Some.ensures) c.in-Some-pop.ensures.items in
     subst (λ (t : TokenRecord). Answered t.table.base t.seen c.in-Some-pop.found) (sym c.loop-client.invariant.gave.now)
     rows.answered
 
@@ -45,10 +45,10 @@ pub loop-client-preserved-in-Some-pop : goal.loop-client-preserved-in-Some-pop
 loop-client-preserved-in-Some-pop g c =
     let last = popped c.pop.new.self c.loop-client.token.grabbed c.in-Some.client c.in-Some.field-0-1
     (subst (λ (h : Hand). Keeps h c.loop-client.token.grabbed) c.in-Some.ensures c.loop-client.invariant.keeps) in
-    let rows = rows_popped c.args.token.now.table.base c.args.token.now.seen c.pop.new.self.questions c.in-Some.field-0-1
+    let rows = rows_popped c.args.token.now.table.base c.args.token.now.seen c.pop.new.self.requests c.in-Some.field-0-1
     c.loop-client.rows.items c.pop-in-Some.new.self.items c.in-Some-pop.found
     (c.loop-client.invariant.rows ∙ ap (λ (h : Hand). answers_after c.args.token.now.table.base c.args.token.now.seen
-    h.questions) c.in-Some.ensures) c.in-Some-pop.ensures.items in
+    h.requests) c.in-Some.ensures) c.in-Some-pop.ensures.items in
     let n : length c.loop-client.batch.clients ≡ length c.pop.new.self.clients + 1 =
     ap (λ (h : Hand). length h.clients) c.in-Some.ensures ∙ length_push c.pop.new.self.clients c.in-Some.client in
     let total = c.loop-client.invariant.total in

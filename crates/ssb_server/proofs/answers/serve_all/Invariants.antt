@@ -10,7 +10,7 @@ invariant-loop-client g l = record {
   total : given + length l.batch.clients ≡ length l.initial.batch.clients;
   gave : Gave l.initial.token given (Served l.at) l.token;
   keeps : Keeps l.batch l.token.grabbed;
-  rows : l.rows.items ≡ answers_after l.initial.token.table.base l.initial.token.seen l.batch.questions;
+  rows : l.rows.items ≡ answers_after l.initial.token.table.base l.initial.token.seen l.batch.requests;
 }
 
 abbrev pub decreases-loop-client : goal.decreases-loop-client

@@ -12,9 +12,9 @@ pub give-requires-clause-free : goal.give-requires-clause-free
 give-requires-clause-free g c = (c.requires.free.rows, c.requires.free.writer)
 
 pub give-requires-clause-request : goal.give-requires-clause-request
-give-requires-clause-request g c = may_serve c.args.token.now c.args.client c.args.at c.args.found.query
-    c.args.found.list c.requires.hand c.requires.at.0 c.requires.at.1 c.requires.rows
+give-requires-clause-request g c = may_serve c.args.token.now c.args.client c.args.at c.args.found.questions
+    c.args.found.rows c.requires.hand c.requires.at.0 c.requires.at.1 c.requires.rows
 
 pub returns : goal.returns
-returns g c = gave_one c.args.token.now c.args.client c.args.found.query _ c.give.new.token c.requires.hand
+returns g c = gave_one c.args.token.now c.args.client c.args.found.questions _ c.give.new.token c.requires.hand
     c.give.ensures.answers

@@ -19,9 +19,9 @@ pub post-requires-clause-mailbox : goal.post-requires-clause-mailbox
 post-requires-clause-mailbox g c = ap (λ (t : TokenRecord). t.asked) c.look.ensures.saw.now ∙ c.requires.mailbox
 
 pub returns-clause-sound : goal.returns-clause-sound
-returns-clause-sound g c = sound_posted c.look.new.token c.post.new.token c.args.question c.post.ensures.posted
+returns-clause-sound g c = sound_posted c.look.new.token c.post.new.token c.args.questions c.post.ensures.posted
     c.look.ensures.sound
 
 pub returns-clause-asked : goal.returns-clause-asked
-returns-clause-asked g c = asks c.args.token.now c.look.new.token c.post.new.token c.args.question c.look.ensures.saw
+returns-clause-asked g c = asks c.args.token.now c.look.new.token c.post.new.token c.args.questions c.look.ensures.saw
     c.post.ensures.posted

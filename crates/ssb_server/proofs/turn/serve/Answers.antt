@@ -17,8 +17,8 @@ use Rattle.ssb_server.proofs.TurningLaws.{
 }
 use Rattle.ssb_server.proofs.turn.serve.Goals as goal
 
-pub answer-scanned-requires-clause-snapshot : goal.answer-scanned-requires-clause-snapshot
-answer-scanned-requires-clause-snapshot g c = λ κs outlives. are_snapshot c.snapshot.new.token c.in-Ok.guard
+pub answer_all-scanned-requires-clause-snapshot : goal.answer_all-scanned-requires-clause-snapshot
+answer_all-scanned-requires-clause-snapshot g c = λ κs outlives. are_snapshot c.snapshot.new.token c.in-Ok.guard
     c.replica.result.now c.in-Ok.ensures.entered c.replica.ensures.state c.in-Ok.ensures.few
 
 pub finish-turn-requires : goal.finish-turn-requires
@@ -27,18 +27,18 @@ finish-turn-requires g c = record {
       c.requires.dispatcher;
   free = nothing_later c.args.token.now c.snapshot.new.token c.in-Ok.ensures.fetched c.requires.free;
   hand = keeps_later c.args.token.now c.snapshot.new.token c.args.batch.now c.in-Ok.ensures.fetched c.requires.hand;
-  some = c.requires.some.0;
+  some = c.requires.some;
   at = (
     c.seen_len-at.ensures,
     version_later c.args.token.now c.snapshot.new.token c.in-Ok.ensures.fetched
         ∙ ap (λ n. Some n) (sym c.seen_len-at.ensures),
   );
-  rows = subst (λ base. IfOk c.answer-scanned.result
-      (λ rows. rows.items ≡ answers_after base c.snapshot.new.token.seen c.args.batch.now.questions))
+  rows = subst (λ base. IfOk c.answer_all-scanned.result
+      (λ rows. rows.items ≡ answers_after base c.snapshot.new.token.seen c.args.batch.now.requests))
       (copy_base c.snapshot.new.token c.in-Ok.guard c.replica.result.now c.in-Ok.ensures.entered c.replica.ensures.state)
-      (subst (λ qs. IfOk c.answer-scanned.result (λ rows. rows.items ≡ answers_after c.replica.result.now.base
-      c.snapshot.new.token.seen qs)) c.questions.ensures
-      (c.answer-scanned.ensures c.snapshot.new.token.seen
+      (subst (λ qs. IfOk c.answer_all-scanned.result (λ rows. rows.items ≡ answers_after c.replica.result.now.base
+      c.snapshot.new.token.seen qs)) c.requests.ensures
+      (c.answer_all-scanned.ensures c.snapshot.new.token.seen
       (copy_stands c.snapshot.new.token c.in-Ok.guard c.replica.result.now c.in-Ok.ensures.entered
       c.replica.ensures.state)));
 }
@@ -64,7 +64,7 @@ returns-in-Ok g c = record {
 pub returns-in-Err-clause-ended : goal.returns-in-Err-clause-ended
 returns-in-Err-clause-ended g c =
     let some : 1 ≤ c.give_up_all-count.result = let n = c.give_up_all-count.ensures.count in let m =
-    c.requires.some.0 in omega arith in
+    c.requires.some in omega arith in
     record {
       between = c.snapshot.new.token;
       fetched = c.in-Err.ensures.fetched;

@@ -11,10 +11,8 @@ serve-served-requires-clause-free g c = λ κs outlives. nothing_grabbed c.args.
     c.grab_all.new.batch c.grab_all.ensures.grabbed c.requires.free
 
 pub serve-served-requires-clause-some : goal.serve-served-requires-clause-some
-serve-served-requires-clause-some g c = λ κs outlives. (
-  omega (arith, c.grab_all.ensures.few, c.len.ensures.clients, c.if-len-eq0.false),
-  omega (arith, c.grab_all.ensures.few, c.len.ensures.clients, c.len.ensures.questions),
-)
+serve-served-requires-clause-some g c = λ κs outlives.
+    omega (arith, c.len.ensures.clients, c.if-len-eq0.false)
 
 pub serve-served-requires-clause-reader : goal.serve-served-requires-clause-reader
 serve-served-requires-clause-reader g c = λ κs outlives. knows_grabbed c.args.token.now c.grab_all.new.token

@@ -7,6 +7,12 @@ use Rattle.stream_sessions.proofs.fault_line.write_fault.Goals as goal
 pub returns-in-NoCommit : goal.returns-in-NoCommit
 returns-in-NoCommit g c = rw c.in-NoCommit.is c.write_pieces-in-NoCommit.ensures
 
+pub returns-in-NoAnswer : goal.returns-in-NoAnswer
+returns-in-NoAnswer g c = rw c.in-NoAnswer.is c.write_pieces-in-NoAnswer.ensures
+
+pub returns-in-TooManyQuestions : goal.returns-in-TooManyQuestions
+returns-in-TooManyQuestions g c = rw c.in-TooManyQuestions.is c.write_pieces-in-TooManyQuestions.ensures
+
 pub returns-in-EmptyBlock : goal.returns-in-EmptyBlock
 returns-in-EmptyBlock g c = rw c.in-EmptyBlock.is c.write_pieces-in-EmptyBlock.ensures
 

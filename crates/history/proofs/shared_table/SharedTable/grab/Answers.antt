@@ -18,7 +18,7 @@ insert-requires g c = let p = c.token.inside in let low = c.requires.client.0 in
 
 pub returns : goal.returns
 returns g c = let p = c.token.inside in let low = c.requires.client.0 in record {
-  grabs = subst (λ t. Grabs t c.args.client c.in_ok-request.request.query
+  grabs = subst (λ t. Grabs t c.args.client c.in_ok-request.request.questions
       (shown_token (passed p c.insert.new.self c.grab.new.seat p.seen_len))) c.token.view_is
       (grabbed_token p c.insert.new.self c.grab.new.seat (c.args.client - 1) c.args.client c.in_ok-request.request _
       (omega arith) c.in_ok-request.ensures.0.0 c.in_ok-request.ensures.0.2);

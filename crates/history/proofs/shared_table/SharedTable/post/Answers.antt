@@ -39,13 +39,13 @@ pub invariant_of-token : goal.invariant_of-token
 invariant_of-token g c = let is = c.token.invariant in let p = c.token.inside in let near =
     is_before p c.args.token.now c.token.view_is is c.requires.client in let quiet =
     ap (λ (t : TokenRecord). t.asked) c.token.view_is ∙ c.requires.mailbox in
-    posted_seated p c.post.new.seat (request c.args.question p.seen_len) is near
-    (c.post.ensures.2 ∙ (ap (λ m. (posted m.0 (request c.args.question p.seen_len), rest m.1)) c.turn.ensures.2
-    ∙ ap (λ cs. (posted p.seat.me.0 (request c.args.question p.seen_len), rest cs)) (box_in_front p is near quiet)))
+    posted_seated p c.post.new.seat (request c.args.questions p.seen_len) is near
+    (c.post.ensures.2 ∙ (ap (λ m. (posted m.0 (request c.args.questions p.seen_len), rest m.1)) c.turn.ensures.2
+    ∙ ap (λ cs. (posted p.seat.me.0 (request c.args.questions p.seen_len), rest cs)) (box_in_front p is near quiet)))
 
 pub returns : goal.returns
 returns g c = let p = c.token.inside in record {
-  posted = posted_token p c.post.new.seat c.args.question _ c.token.invariant (c.post.ensures.0 ∙ c.turn.ensures.0)
-      (c.post.ensures.2 ∙ ap (λ m. (posted m.0 (request c.args.question p.seen_len), rest m.1)) c.turn.ensures.2)
-      ∙ ap (λ t. public.posted t c.args.question) c.token.view_is;
+  posted = posted_token p c.post.new.seat c.args.questions _ c.token.invariant (c.post.ensures.0 ∙ c.turn.ensures.0)
+      (c.post.ensures.2 ∙ ap (λ m. (posted m.0 (request c.args.questions p.seen_len), rest m.1)) c.turn.ensures.2)
+      ∙ ap (λ t. public.posted t c.args.questions) c.token.view_is;
 }

@@ -5,7 +5,7 @@ use Rattle.history_core.proofs.EffectLaws.{posts}
 use Rattle.history_core.proofs.world.World.post.Goals as goal
 
 pub returns-clause-stepped : goal.returns-clause-stepped
-returns-clause-stepped c = posts c.args.self.now c.args.client c.args.question.now c.in-Some.floor c.in-Some.ensures
+returns-clause-stepped c = posts c.args.self.now c.args.client c.args.questions.now c.in-Some.floor c.in-Some.ensures
     ∙ ap (λ (w : World). (w, Done))
-    (ap (λ q. into_mailbox c.args.self.now c.args.client (asked q c.in-Some.floor)) (sym c.in_ok-question.ensures)
+    (ap (λ q. into_mailbox c.args.self.now c.args.client (asked q c.in-Some.floor)) (sym c.in_ok-questions.ensures)
     ∙ sym c.put.ensures)

@@ -1,0 +1,9 @@
+use Rattle.std.proofs.Common.{◌≡◌, ◌+◌, ◌≤◌, ◌++◌, length, map, vec_len, vec_capacity}
+use Rattle.ssb_answers.specs.declared.answer.Answer.TheVariants.{Unserved}
+use Rattle.history_core.proofs.response.put_unserved.Given as goal
+
+abbrev pub invariant-loop-query : goal.invariant-loop-query
+invariant-loop-query l = record {
+  room : vec_len l.answers + length l.query-iterator.rest.items ≤ vec_capacity l.answers;
+  said : l.answers.items ≡ l.initial.answers.items ++ map (λ question. Unserved question l.cause) l.yielded;
+}

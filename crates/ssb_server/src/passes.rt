@@ -1,0 +1,126 @@
+//! What a batch asks, answered over one copy: in passes of at most 16 questions, whosever they are.
+ghost use Rattle.std.specs.Prelude.{◌≡◌, ◌++◌, List, IfOk, OnOk, length};
+ghost use Rattle.row_store.specs.History.{CommitRecord};
+ghost use Rattle.row_store.specs.State.{StandsFor};
+ghost use Rattle.fact_columns.specs.Stored.{columns_state};
+ghost use Rattle.shared_scan.specs.Answers as scan;
+ghost use Rattle.shared_scan.specs.Answers.{AreSnapshot};
+ghost use Rattle.ssb_server.specs.Passes.{all_questions, joined, grouped};
+ghost use Rattle.ssb_server.specs.Turns.{answers_after};
+
+use fact_columns::Columns;
+use shared_scan::answer;
+use ssb_answers::{ResultRow, Rows};
+use ssb_questions::Question;
+use ssb_schema::Items;
+use std::alloc::{AllocError, Global};
+use std::mem;
+use std::thread::Threads;
+
+/// The most questions of one pass over the columns.
+const MOST_QUESTIONS: usize = 16;
+
+/// The questions of a request, and the rows of each.
+#[derive(Drop)]
+pub struct RequestRows {
+    pub questions: Items<Question>,
+    pub rows: Items<Items<ResultRow>>,
+}
+
+// Puts the questions of a request behind those before it.
+fn share_questions(all: &mut Vec<Question>, questions: &[Question]) -> Result<(), AllocError>
+    ensures { OnOk result (all.new.items ≡ all.old.items ++ questions.now) }
+{
+    for question in questions {
+        all.push(question.share()?)?;
+    }
+    Ok(())
+}
+
+// The questions of these requests, one after another.
+fn questions_of(alloc: Global, requests: &[Items<Question>]) -> Result<Vec<Question>, AllocError>
+    ensures { IfOk result (λ all. all.items ≡ all_questions requests.now) }
+{
+    let mut all = Vec::new(alloc);
+    for request in requests {
+        share_questions(&mut all, request.as_slice())?;
+    }
+    Ok(all)
+}
+
+// The rows of each question, in passes over these columns.
+fn scan_all<R: Threads + Sync>(
+    rt: &R,
+    alloc: Global,
+    columns: &Columns,
+    questions: &[Question],
+) -> Result<Vec<Rows>, AllocError>
+    requires snapshot { AreSnapshot columns.now }
+    ensures { (history : List CommitRecord) → StandsFor (columns_state columns.now) history
+        → IfOk result (λ rows. rows.items ≡ scan.answers_after columns.now.base history questions.now) }
+{
+    let mut rows = Vec::new(alloc);
+    let mut rest = questions;
+    while !rest.is_empty() {
+        let count = rest.len().min(MOST_QUESTIONS);
+        let (pass, later) = rest.split_at(count);
+        let mut found = answer(rt, alloc, columns, pass)?;
+        rows.append(&mut found)?;
+        rest = later;
+    }
+    Ok(rows)
+}
+
+// The rows of the questions of one request.
+fn join_rows(alloc: Global, found: Vec<Rows>) -> Result<RequestRows, AllocError>
+    ensures { IfOk result (λ request. request ≡ joined found.items) }
+{
+    let mut questions = Vec::new(alloc);
+    let mut rows = Vec::new(alloc);
+    for one in found {
+        let Rows { query, list } = one;
+        questions.push(query)?;
+        rows.push(list)?;
+    }
+    Ok(RequestRows {
+        questions: Items::from_vec(questions),
+        rows: Items::from_vec(rows),
+    })
+}
+
+// The rows of each request, out of those of all their questions.
+fn group(
+    alloc: Global,
+    requests: &[Items<Question>],
+    rows: Vec<Rows>,
+) -> Result<Vec<RequestRows>, AllocError>
+    requires { length rows.items ≡ length (all_questions requests.now) }
+    ensures { IfOk result (λ found. found.items ≡ grouped requests.now rows.items) }
+{
+    let mut found = Vec::new(alloc);
+    let mut rest = rows;
+    for request in requests {
+        let later = rest.split_off(request.len())?;
+        let own = mem::replace(&mut rest, later);
+        found.push(join_rows(alloc, own)?)?;
+    }
+    Ok(found)
+}
+
+/// For each request, in order, the rows of each of its questions, all of them over these columns. Fails for want of
+/// memory alone.
+pub(crate) fn answer_all<R: Threads + Sync>(
+    rt: &R,
+    alloc: Global,
+    columns: &Columns,
+    requests: &[Items<Question>],
+) -> Result<Vec<RequestRows>, AllocError>
+    requires snapshot { AreSnapshot columns.now }
+    ensures { (history : List CommitRecord) → StandsFor (columns_state columns.now) history
+        → IfOk result (λ found. found.items ≡ answers_after columns.now.base history requests.now) }
+{
+    let questions = questions_of(alloc, requests)?;
+    let rows = scan_all(rt, alloc, columns, questions.as_slice())?;
+    let found = group(alloc, requests, rows)?;
+    Ok(found)
+}
