@@ -131,7 +131,9 @@ impl ListsFaults for ScriptError {
             ScriptError::EmptyBlock(_) => ScriptError::Row(3, SchemaFault::FieldTooLong(C_CITY)),
             ScriptError::Row(_, _) => ScriptError::TooLong,
             ScriptError::TooLong => ScriptError::Read,
-            ScriptError::Read | ScriptError::OutOfMemory => return None,
+            ScriptError::Read => ScriptError::NoAnswer,
+            ScriptError::NoAnswer => ScriptError::TooManyQuestions(3),
+            ScriptError::TooManyQuestions(_) | ScriptError::OutOfMemory => return None,
         })
     }
 }

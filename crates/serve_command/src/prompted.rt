@@ -6,8 +6,10 @@ use std::io;
 use std::io::{Read, Write};
 
 // What stands before the first prompt.
-const GREETING: &str =
-    "query|NAME asks, ask .. answer asks at once; begin .. commit refreshes; help lists the queries; Ctrl-D ends\n";
+const GREETING: &str = "\
+query|NAME asks; ask .. answer asks several at once; begin .. commit refreshes
+help lists the queries; Ctrl-D ends
+";
 
 const PROMPT: &str = "> ";
 

@@ -5,9 +5,8 @@ use Rattle.ssb_schema.specs.declared.refresh.Action.{Action}
 use Rattle.row_store.specs.declared.commit.Receipt.{Receipt}
 use Rattle.row_store.specs.declared.refusal.RefreshError.{RefreshError}
 use Rattle.row_store.specs.declared.refusal.RefreshError.TheVariants as refresh
-use Rattle.ssb_questions.specs.declared.query.Query.{Query}
-use Rattle.ssb_questions.specs.declared.value.Value.{Value}
-use Rattle.ssb_answers.specs.declared.answer.Answer.{Answer}
+use Rattle.history_core.specs.Events.{Questions}
+use Rattle.history_core.specs.declared.response.Response.{Response}
 use Rattle.history.specs.Tokens.{TableRecord, TokenRecord}
 use Rattle.ssb_server.specs.Clients.{Refreshed, Looks, HandsBack, Asks, Polls}
 use Rattle.ssb_server.specs.Tickets.{IsOf}
@@ -32,10 +31,10 @@ module _ (table : TableRecord) where
   refreshed_stays number actions before after (Err refresh.OutOfMemory) here did =
       hands_back_stays before after here did.1
 
-  pub asks_stays : (before after : TokenRecord) (question : Query × List Value) → IsOf table before
-      → Asks before question after → IsOf table after
-  asks_stays before after question here asks = ap (λ (t : TokenRecord). t.table) asks.now ∙ here
+  pub asks_stays : (before after : TokenRecord) (questions : Questions) → IsOf table before
+      → Asks before questions after → IsOf table after
+  asks_stays before after questions here asks = ap (λ (t : TokenRecord). t.table) asks.now ∙ here
 
-  pub polls_stays : (before after : TokenRecord) (reply : Answer) → IsOf table before → Polls before reply after
+  pub polls_stays : (before after : TokenRecord) (response : Response) → IsOf table before → Polls before response after
       → IsOf table after
-  polls_stays before after reply here polls = ap (λ (t : TokenRecord). t.table) polls.now ∙ here
+  polls_stays before after response here polls = ap (λ (t : TokenRecord). t.table) polls.now ∙ here

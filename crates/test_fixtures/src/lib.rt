@@ -1,4 +1,4 @@
-//! What tests share: the small data set as a base, refreshes and questions as a script writes them.
+//! What tests share: the small data set as a base, refreshes and requests as a script writes them.
 //!
 //! It promises nothing: what is done with it, the tests compare with answers that were worked out by hand.
 //!
@@ -11,5 +11,5 @@
 mod records;
 mod small;
 
-pub use records::{adding, question, refresh, requests};
+pub use records::{adding, asking, refresh, requests};
 pub use small::{small_base, standard_base};

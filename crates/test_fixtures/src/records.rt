@@ -1,7 +1,7 @@
 //! Requests, as a script writes them.
 
 use ssb_questions::Question;
-use ssb_schema::Refresh;
+use ssb_schema::{Items, Refresh};
 use ssb_script::{Request, ScriptError, read_script};
 use std::alloc::Global;
 use std::sync::Arc;
@@ -23,12 +23,17 @@ pub fn refresh(alloc: Global, actions: &str) -> Result<Arc<Refresh>, ScriptError
     }
 }
 
-/// The question of a record: the query's name, and its constants where they are not the benchmark's.
-pub fn question(alloc: Global, record: &str) -> Result<Question, ScriptError> {
-    let script = format!(in alloc; "query|{record}\n")?;
+/// A request of these queries, parted by spaces, each with the benchmark's constants.
+pub fn asking(alloc: Global, queries: &str) -> Result<Items<Question>, ScriptError> {
+    let mut script = String::from_str(alloc, "ask\n")?;
+    for query in queries.split(' ') {
+        let record = format!(in alloc; "query|{query}\n")?;
+        script.push_str(record.as_str())?;
+    }
+    script.push_str("answer\n")?;
     match requests(alloc, script.as_str())?.pop() {
-        Some(Request::Ask(question)) => Ok(question),
-        _ => Err(ScriptError::NoCommit),
+        Some(Request::Ask(asking)) => Ok(asking.into_questions(alloc)?),
+        _ => Err(ScriptError::NoAnswer),
     }
 }
 

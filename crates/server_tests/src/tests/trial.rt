@@ -3,8 +3,10 @@ ghost use Rattle.std.specs.Prelude.{All};
 ghost use Rattle.ssb_server.specs.Tickets.{IsOf, IsQuiet};
 
 use crate::tests::opening::{next_client, next_dispatcher, opened};
+use history_core::Response;
 use row_store::{Receipt, RefreshError};
-use ssb_report::{WriteFault, write_answer, write_reply};
+use ssb_answers::Answer;
+use ssb_report::{WriteFault, write_answers, write_reply};
 use ssb_schema::Refresh;
 use ssb_server::{Client, Dispatcher, OpenGate, Opened, ScanGate, Server, Turn};
 use std::alloc::{AllocError, Global};
@@ -13,14 +15,14 @@ use std::random::RandomSource;
 use std::sync::{Arc, Wait};
 use std::test::Fail;
 use std::thread::Threads;
-use test_fixtures::{adding, question};
+use test_fixtures::{adding, asking};
 
 /// What a client does.
 #[derive(Clone, Copy, Debug)]
 pub enum TrialDeed {
     /// It adds the order of this key.
     Adds(u64),
-    /// It asks the query of this name, with the benchmark's constants.
+    /// It asks the queries of these names, parted by spaces, in one request, with the benchmark's constants.
     Asks(&'static str),
     /// It polls.
     Polls,
@@ -63,7 +65,7 @@ impl<'s, W: Wait + Drop> Model for Trial<'s, W> {
 // Room for what is told, so that its growth is never the one that is refused.
 fn room(alloc: Global) -> Result<Vec<u8>, AllocError> {
     let mut told = Vec::new(alloc);
-    told.reserve(200)?;
+    told.reserve(400)?;
     Ok(told)
 }
 
@@ -124,7 +126,7 @@ fn asks<W: Wait + Drop>(
     alloc: Global,
     server: &Server<W>,
     client: &mut Client<W>,
-    query: &str,
+    queries: &str,
 ) -> Result<String, AllocError>
     requires { IsOf server.now client.old }
     ensures { IsOf server.now client.new }
@@ -132,9 +134,20 @@ fn asks<W: Wait + Drop>(
     if client.is_asking() {
         return String::from_str(alloc, "asking");
     }
-    let question = question(alloc, query).map_err(|_| AllocError)?;
-    client.ask(server, question);
+    let questions = asking(alloc, queries).map_err(|_| AllocError)?;
+    client.ask(server, questions);
     String::from_str(alloc, "asked")
+}
+
+// The answer to each question of a request, in order.
+fn answers_of(alloc: Global, response: Response) -> Result<Vec<Answer>, AllocError> {
+    let count = match &response {
+        Response::Rows { questions, .. } => questions.len(),
+        Response::Unserved { questions, .. } => questions.len(),
+    };
+    let mut answers = Vec::with_capacity(alloc, count)?;
+    response.put_answers(&mut answers);
+    Ok(answers)
 }
 
 // A client polls, and what it is told.
@@ -147,11 +160,12 @@ fn polls<W: Wait + Drop>(
     requires { IsOf server.now client.old }
     ensures { IsOf server.now client.new }
 {
-    let Some(answer) = client.poll(server) else {
+    let Some(response) = client.poll(server) else {
         return String::from_str(alloc, "no answer");
     };
+    let answers = answers_of(alloc, response)?;
     let mut told = room(alloc)?;
-    let written = write_answer(&mut told, &answer);
+    let written = write_answers(&mut told, answers.as_slice());
     text(alloc, written, told)
 }
 
@@ -199,7 +213,7 @@ fn does<R: Wait, W: Wait + Drop>(
 {
     match deed {
         TrialDeed::Adds(order) => adds(rt, alloc, server, client, order),
-        TrialDeed::Asks(query) => asks(alloc, server, client, query),
+        TrialDeed::Asks(queries) => asks(alloc, server, client, queries),
         TrialDeed::Polls => polls(alloc, server, client),
     }
 }

@@ -89,3 +89,21 @@ fn two_clients_share_a_batch(rt: HostRuntime) -> Result<(), Fail> {
         ],
     )
 }
+
+#[test]
+fn questions_of_a_request_are_answered_at_one_commit(rt: HostRuntime) -> Result<(), Fail> {
+    played(
+        &rt,
+        &[
+            (First(Asks("Q4.1 Q1.1 Q4.1")), "asked"),
+            (Second(Adds(9)), "committed 1"),
+            (Turn, "answered 1 at 1"),
+            (Second(Adds(10)), "committed 2"),
+            (
+                First(Polls),
+                "Q4.1 at 1 rows 1\n1997|UNITED STATES|-1330\nQ1.1 at 1 rows 1\n3000\n\
+                 Q4.1 at 1 rows 1\n1997|UNITED STATES|-1330",
+            ),
+        ],
+    )
+}

@@ -16,8 +16,32 @@ const CLIENT: Who = Who::Client(1);
 
 const DISPATCHER: Who = Who::Dispatcher(1);
 
-fn question(alloc: Global, query: Query) -> Result<Question, Fail> {
-    Ok(Question::standard(alloc, query)?)
+// A request of these queries, with the benchmark's constants.
+fn questions(alloc: Global, queries: &[Query]) -> Result<Items<Question>, Fail> {
+    let mut asked = Vec::new(alloc);
+    for query in queries {
+        asked.push(Question::standard(alloc, *query)?)?;
+    }
+    Ok(Items::from_vec(asked))
+}
+
+// What the first request asks: the profit of 1997, and then the discounts of 1993.
+fn first_questions(alloc: Global) -> Result<Items<Question>, Fail> {
+    questions(alloc, &[Query::Q4_1, Query::Q1_1])
+}
+
+// What the second request asks.
+fn second_questions(alloc: Global) -> Result<Items<Question>, Fail> {
+    questions(alloc, &[Query::Q1_1])
+}
+
+// The one row of a question without groups.
+fn row_without_groups(alloc: Global, sum: i64) -> Result<Items<ResultRow>, Fail> {
+    let row = ResultRow {
+        groups: Items::from_vec(Vec::new(alloc)),
+        sum: Some(sum),
+    };
+    Ok(Items::from_vec(vec![in alloc; row]?))
 }
 
 // The row of the United States in 1997.
@@ -31,11 +55,12 @@ fn row_of_1997(alloc: Global, sum: i64) -> Result<Items<ResultRow>, Fail> {
     Ok(Items::from_vec(vec![in alloc; row]?))
 }
 
-// A client asks, a refresh comes in between, a dispatcher fetches and answers; a second question is given up.
+// A client asks two questions in one request, a refresh comes in between, a dispatcher fetches and answers; a second
+// request is given up.
 fn worked_events(alloc: Global) -> Result<Vec<Event>, Fail> {
-    let first = question(alloc, Query::Q4_1)?;
+    let first = first_questions(alloc)?;
     let added = adding(alloc, 9)?;
-    let second = question(alloc, Query::Q1_1)?;
+    let second = second_questions(alloc)?;
     Ok(vec![in alloc;
         Event::Post(1, first),
         Event::Grab(1, 1),
@@ -58,27 +83,30 @@ fn worked_events(alloc: Global) -> Result<Vec<Event>, Fail> {
     ]?)
 }
 
-// The reply with the rows of the first question, and that with the second question, which was given up.
+// The reply with the rows of the first request, and that of the second one, which was given up.
 fn told(alloc: Global) -> Result<(Reply, Reply), Fail> {
+    let profit = row_of_1997(alloc, -1330)?;
+    let discounts = row_without_groups(alloc, 3000)?;
+    let rows = vec![in alloc; profit, discounts]?;
     let answered = Reply::Rows {
-        query: question(alloc, Query::Q4_1)?,
+        questions: first_questions(alloc)?,
         at: 1,
-        rows: row_of_1997(alloc, -1330)?,
+        rows: Items::from_vec(rows),
     };
     let given_up = Reply::Unserved {
-        query: question(alloc, Query::Q1_1)?,
+        questions: second_questions(alloc)?,
         cause: Unserved::OutOfMemory,
     };
     Ok((answered, given_up))
 }
 
 fn worked_replies(alloc: Global) -> Result<Vec<Reply>, Fail> {
-    let first = question(alloc, Query::Q4_1)?;
-    let second = question(alloc, Query::Q1_1)?;
+    let first = first_questions(alloc)?;
+    let second = second_questions(alloc)?;
     let (answered, given_up) = told(alloc)?;
     Ok(vec![in alloc;
         Reply::Done,
-        Reply::Query(first),
+        Reply::Asked(first),
         Reply::Done,
         Reply::NotEnabled,
         Reply::Committed(1),
@@ -91,7 +119,7 @@ fn worked_replies(alloc: Global) -> Result<Vec<Reply>, Fail> {
         Reply::NotEnabled,
         Reply::Length(1),
         Reply::Done,
-        Reply::Query(second),
+        Reply::Asked(second),
         Reply::NotEnabled,
         Reply::Done,
         given_up,
@@ -123,7 +151,7 @@ fn push_turn_events(
 fn push_unknown(alloc: Global, number: u32, events: &mut Vec<Event>) -> Result<(), Fail> {
     push_rows_events(alloc, Who::Client(number), events)?;
     push_rows_events(alloc, Who::Dispatcher(number), events)?;
-    events.push(Event::Post(number, question(alloc, Query::Q1_1)?))?;
+    events.push(Event::Post(number, second_questions(alloc)?))?;
     events.push(Event::TakeWriter(number))?;
     events.push(Event::PutWriter(number))?;
     events.push(Event::Collect(number))?;
