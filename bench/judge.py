@@ -1,6 +1,7 @@
 """Judges the reports of a run, for `soak`: by the scripts and the tables alone, without our program.
 
-`read_reports` asks that each request has one reply of its kind, in order, and that no client goes back. `replay` goes
+`read_reports` asks that each request has one reply of its kind, in order, those to the questions of a block all after
+the same commits, and that no client goes back. `replay` goes
 through the commits by their numbers in a warehouse of its own, SQLite in memory: each commit has to be acceptable after
 those before it, each refusal has to be the first cause at its number of commits, and the answers that are picked have
 to be SQLite's."""
@@ -9,7 +10,7 @@ import sqlite3
 
 from common import HERE, read_queries
 from stars import sql_of
-from traffic import CONSTANTS, NUMBERS, Question, Withdrawal
+from traffic import CONSTANTS, NUMBERS, Block, Question, Withdrawal
 
 COMMITTED = re.compile(r"committed (\d+)")
 REFUSED = re.compile(r"refused at (\d+) action (\d+): (.+)")
@@ -65,6 +66,17 @@ def read_reply(lines, client, request):
     return Reply(client, request, int(found[1]), refusal=(int(found[2]), found[3]))
 
 
+def read_replies(lines, client, request):
+    """The reply to a request, or to each question of a block, in order."""
+    if not isinstance(request, Block):
+        return [read_reply(lines, client, request)]
+    replies = [read_reply(lines, client, question) for question in request.questions]
+    if len({reply.number for reply in replies}) > 1:
+        raise Disagreement(f"line {lines.place} of the report: a block is answered after "
+                           f"{', '.join(str(reply.number) for reply in replies)} commits")
+    return replies
+
+
 def read_reports(text, scripts):
     """The replies to all requests, and how many commits the run told."""
     lines, replies = Lines(text), []
@@ -72,11 +84,11 @@ def read_reports(text, scripts):
         lines.expect(f"client {client}")
         seen = 0
         for request in script:
-            reply = read_reply(lines, client, request)
-            if reply.number < seen + reply.is_commit():
-                raise Disagreement(f"line {lines.place} of the report: client {client} had seen {seen} commits")
-            seen = reply.number
-            replies.append(reply)
+            for reply in read_replies(lines, client, request):
+                if reply.number < seen + reply.is_commit():
+                    raise Disagreement(f"line {lines.place} of the report: client {client} had seen {seen} commits")
+                seen = reply.number
+                replies.append(reply)
     commits = int(lines.match(re.compile(r"commits (\d+)"))[1])
     lines.expect("")
     numbers = sorted(reply.number for reply in replies if reply.is_commit())

@@ -8,7 +8,7 @@ import threading
 import time
 
 from common import LIVE
-from judge import Disagreement, Lines, read_reply
+from judge import Disagreement, Lines, read_replies
 from traffic import Refresh, Traffic
 
 PATIENCE = 120          # seconds after which a reply counts as lost
@@ -18,7 +18,9 @@ AHEAD = 40              # requests that a client sends at most before it reads t
 BAD_REQUESTS = [("que", "70 BadLine 1"), ("commit", "70 BadLine 1"), ("query|Q9.9", "70 BadLine 1"),
                 ("query|star", "70 BadLine 1"), ("query|star|COUNT|D_YEAR|D_YEAR", "70 BadLine 1"),
                 ("begin\ncommit", "72 EmptyBlock 2"), ("begin\nwithdraw|x\ncommit", "70 BadLine 2"),
-                ("begin\nadd\ncommit", "73 Row 2 1 NoLines")]
+                ("begin\nadd\ncommit", "73 Row 2 1 NoLines"), ("answer", "70 BadLine 1"),
+                ("ask\nquery|Q1.1\nwithdraw|1\nanswer", "70 BadLine 3"), ("ask\nanswer", "72 EmptyBlock 2"),
+                ("ask\n" + "query|Q1.1\n" * 17 + "answer", "78 TooManyQuestions 18")]
 
 
 class Server:
@@ -119,12 +121,12 @@ class Asker:
         self.out = os.open(out, os.O_RDONLY)
         self.into = os.open(into, os.O_WRONLY)
 
-    def ask(self, request):
-        """Sends a request, and gives the seconds until its reply was read."""
+    def ask(self, request, answers=1):
+        """Sends a request, and gives the seconds until its reply was read: so many answers, or one line."""
         start = time.perf_counter()
         os.write(self.into, request)
         reply = os.read(self.out, 1 << 20)
-        while not self.is_whole(reply):
+        while not self.is_whole(reply, answers):
             part = os.read(self.out, 1 << 20)
             if not part:
                 raise Disagreement("the session ended")
@@ -133,7 +135,11 @@ class Asker:
         return time.perf_counter() - start
 
     @staticmethod
-    def is_whole(reply):
+    def is_whole(reply, answers):
+        for _ in range(answers - 1):
+            head, _, reply = reply.partition(b"\n")
+            if b" rows " in head:
+                reply = reply.split(b"\n", int(head.rpartition(b" rows ")[2]))[-1]
         head, end, rows = reply.partition(b"\n")
         wanted = int(head.rpartition(b" rows ")[2]) if b" rows " in head else 0
         return bool(end) and rows.count(b"\n") == wanted and (not rows or rows.endswith(b"\n"))
@@ -214,7 +220,7 @@ class Sessions:
 
     def __init__(self, tables, number, ends, seed):
         self.number, self.ends, self.random = number, ends, random.Random(seed)
-        self.traffic = Traffic(tables, number - 1, random.Random(self.random.random()))
+        self.traffic = Traffic(tables, number - 1, random.Random(self.random.random()), has_blocks=True)
         self.replies, self.seen = [], 0
         self.counts = {"sessions": 0, "broken": 0, "faults": 0}
 
@@ -248,18 +254,22 @@ class Sessions:
             told.expect(f"fault: {fault}")
             self.counts["faults"] += 1
         for request in requests:
-            reply = read_reply(told, self.number, request)
-            if reply.number < self.seen + reply.is_commit():
-                raise Disagreement(f"client {self.number} had seen {self.seen} commits, and was told {reply.number}")
-            self.seen = reply.number
-            self.replies.append(reply)
+            for reply in read_replies(told, self.number, request):
+                if reply.number < self.seen + reply.is_commit():
+                    raise Disagreement(f"client {self.number} had seen {self.seen} commits, and was told {reply.number}")
+                self.seen = reply.number
+                self.replies.append(reply)
 
     def end(self, client):
-        """Ends a session: between requests, in the middle of a refresh, or there without reading what is told of it."""
+        """Ends a session: between requests, in the middle of a refresh or of a block, or there without reading what is
+        told of it."""
         way = self.random.choice(["between", "inside", "gone"])
         if way != "between":
-            text = text_of(Refresh([self.traffic.action() for _ in range(self.random.randint(1, 4))]))
-            client.send(text[:self.random.randrange(len("begin\n"), len(text) - len("commit\n"))])
+            open_one = self.random.choice([self.traffic.block(),
+                                           Refresh([self.traffic.action() for _ in range(self.random.randint(1, 4))])])
+            first, *records = open_one.records()
+            text = text_of(open_one)
+            client.send(text[:self.random.randrange(len(f"{first}\n"), len(text) - len(f"{records[-1]}\n"))])
             self.counts["broken"] += 1
         if way == "gone":
             client.go()

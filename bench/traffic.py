@@ -3,7 +3,8 @@
 Clients share a few keys of orders, so that they get into each other's way: what one adds, another finds there. Some
 lines name a customer, supplier, part or date that is not there, and some constants no value that is there.
 
-A word in the environment: STARS, the share of star questions in all (by default 0.2)."""
+Words in the environment: STARS, the share of star questions in all (by default 0.2); BLOCKS, the share of questions that
+stand in blocks, where a script asks for blocks (by default a third)."""
 import os
 
 from stars import Stars
@@ -14,6 +15,8 @@ UNKNOWN = GREATEST_KEY - 7      # key of no row
 COMMON_KEYS = 64
 STAR_ROWS = 5000                # that a star question may have groups for
 STARS = float(os.environ.get("STARS", 0.2))
+BLOCKS = float(os.environ.get("BLOCKS", 1 / 3))
+SIZES = [1, 2, 3, 5, 13, 16]    # of blocks, each as often as another
 TEXTS = ["1-URGENT", "5-LOW", "AIR", "", " leading", "Überlänge ✓", "x" * 64, 'a "quoted" word', "NULL", "-0"]
 
 # The constants of each query, in the order in which a question gives them.
@@ -92,10 +95,23 @@ class Question:
         return ["|".join(["query", self.name, *self.constants])]
 
 
-class Traffic:
-    """The requests of one client, in order, from its own source of random numbers."""
+class Block:
+    """Questions that are asked in one request."""
 
-    def __init__(self, tables, client, random):
+    def __init__(self, questions):
+        self.questions = questions
+
+    def records(self):
+        return ["ask", *(record for question in self.questions for record in question.records()), "answer"]
+
+
+class Traffic:
+    """The requests of one client, in order, from its own source of random numbers. Where it has blocks, a share BLOCKS
+    of its questions stands in them."""
+
+    def __init__(self, tables, client, random, has_blocks=False):
+        share, size = BLOCKS if has_blocks else 0, sum(SIZES) / len(SIZES)
+        self.blocks = share / (share + size * (1 - share))        # their share in the requests that ask
         self.tables, self.client, self.random = tables, client, random
         self.stars = Stars(tables, random)
         self.questions = random.choice([0.05, 0.2, 0.5, 0.9])     # their share in all requests
@@ -103,7 +119,7 @@ class Traffic:
         self.own = []           # keys of orders that this client has added, if nobody withdrew them
 
     def requests(self, count):
-        return [self.question() if self.random.random() < self.questions else self.refresh() for _ in range(count)]
+        return [self.asking() if self.random.random() < self.questions else self.refresh() for _ in range(count)]
 
     def chance(self, share):
         return self.random.random() < share
@@ -164,6 +180,12 @@ class Traffic:
                 self.random.choice(TEXTS)]
 
     # ---- questions ----
+
+    def asking(self):
+        return self.block() if self.blocks and self.chance(self.blocks) else self.question()
+
+    def block(self):
+        return Block([self.question() for _ in range(self.random.choice(SIZES))])
 
     def question(self):
         if self.chance(STARS):
