@@ -52,8 +52,9 @@ the dispatchers answer the clients' questions in batches. When all have ended it
 in the order given, the line 'client K' and the report of its records, and at the end the line 'commits C'. With --trace
 it then writes the commits and the answers into FILE, which 'ssb_live audit' checks.
 
-A script has one record a line: 'query|NAME' or 'query|NAME|CONSTANT..' asks; 'begin', then 'add' or 'amend' with
-'line|..' records and 'withdraw|KEY', then 'commit' is one refresh, which is taken whole or refused whole.
+A script has one record a line: 'query|NAME' or 'query|NAME|CONSTANT..' asks; 'ask', then 1 to 16 of these, then
+'answer' asks them together, and all are answered after the same commits; 'begin', then 'add' or 'amend' with 'line|..'
+records and 'withdraw|KEY', then 'commit' is one refresh, which is taken whole or refused whole.
 
 Examples:
   ssb_live run --data tables morning.txt
@@ -75,10 +76,11 @@ Loads the five table files of a folder and serves clients as their requests come
 there is one, on standard input and output. Each --client, 1 to 16 of them, is read from IN and answered to OUT: named
 pipes (mkfifo) or files, opened in a thread of its own, OUT first. An OUT that is not there is made, a file is emptied.
 
-A client sends the records of a script: a line 'query|NAME' or 'query|NAME|CONSTANT..', or the lines from 'begin' through
-'commit', is a request, and has its reply before the next is waited for: one line, or a line that tells how many rows
-follow. A request with a fault is answered 'fault: ..', and does nothing. The end of the input ends the session. On a
-terminal the word 'help' shows the queries and their constants.
+A client sends the records of a script: a line 'query|NAME' or 'query|NAME|CONSTANT..', or the lines from 'ask' through
+'answer' or from 'begin' through 'commit', is a request, and has its reply before the next is waited for: one line, or
+for each question a line that says how many rows follow. The questions between 'ask' and 'answer', 1 to 16 of them, are
+all answered after the same commits. A request with a fault is answered 'fault: ..', and does nothing. The end of the
+input ends the session. On a terminal the word 'help' shows the queries and their constants.
 
 With --journal the commits are kept in FILE, which is made where there is none: a receipt is told when its commit is on
 the disk, an answer when every commit that it saw is. The next server with that FILE, over the same tables, goes on from
@@ -104,8 +106,9 @@ Example:
 
 /// What the word `help` shows on the terminal of a live session.
 pub const TERMINAL_HELP: &str = "\
-query|NAME or query|NAME|CONSTANT.. asks. begin, then add or amend with line|.. records, and withdraw|KEY, then commit
-is one refresh. The end of the input (Ctrl-D) ends the session. The queries, and their constants in order:
+query|NAME or query|NAME|CONSTANT.. asks. ask, then 1 to 16 of these, then answer asks them together: all are answered
+after the same commits. begin, then add or amend with line|.. records, and withdraw|KEY, then commit is one refresh. The
+end of the input (Ctrl-D) ends the session. The queries, and their constants in order:
 
   Q1.1        year; discount from, to; quantity from, to
   Q1.2        year and month, as 199401; discount from, to; quantity from, to
