@@ -145,13 +145,18 @@ few_answers (Unserved questions cause) =
 some_is : {X : Type 0} {a b : X} → Some a ≡ Some b → a ≡ b
 some_is e = cc
 
+-- what is answered is what was asked, with what the client saw then as floor
+pub asked_is : (before asking after : TokenRecord) (questions : Questions) (response : Response)
+    → (asked : client.Asks before questions asking) → (polled : client.Polls asking response after)
+    → polled.asked ≡ request questions (length asking.seen)
+asked_is before asking after questions response asked polled =
+    some_is (sym polled.was ∙ ap (λ (t : TokenRecord). t.asked) asked.now)
+
 pub asked_same : (before asking after : TokenRecord) (questions : Questions) (response : Response)
     → client.Asks before questions asking → client.Polls asking response after → asked_in response ≡ questions
 asked_same before asking after questions response asked polled =
-    let same : polled.asked ≡ request questions (length asking.seen) =
-    some_is (sym polled.was ∙ ap (λ (t : TokenRecord). t.asked) asked.now) in
     right_asks asking after.seen polled.asked response polled.right
-    ∙ ap (λ (r : PostedRequest). r.questions) same
+    ∙ ap (λ (r : PostedRequest). r.questions) (asked_is before asking after questions response asked polled)
 
 pub answered_alike : (before asking after : TokenRecord) (questions : Questions) (response : Response)
     → client.Asks before questions asking → client.Polls asking response after → AreAlike before after

@@ -2,3 +2,4 @@ pub mod Served
 pub mod Steps
 pub mod Members
 pub mod RunFaults
+pub mod Moment

@@ -8,8 +8,8 @@
 //!
 //! The contract of [`serve_requests`] (`specs/Served.antt`): request by request one reply, true as the server's calls
 //! say, whose report is written; the answers with rows are kept, in order. Whatever ends it, nothing is outstanding
-//! then. That of [`Staff`] (`specs/Members.antt`): the dispatchers that end are those that were handed in. That a
-//! thread gets on is claimed by no proof.
+//! then. The answers to one request are of one moment ([`laws::one_moment`]). That of [`Staff`] (`specs/Members.antt`):
+//! the dispatchers that end are those that were handed in. That a thread gets on is claimed by no proof.
 //!
 //! ```text
 //! serve_requests(rt, alloc, &server, &mut client, script, &mut report, &mut told, &mut NoMeter)?;
@@ -18,6 +18,7 @@
 
 mod batches;
 mod dispatchers;
+pub mod laws;
 mod meter;
 mod requests;
 mod run_fault;
