@@ -125,10 +125,10 @@ impl RunTimes {
         tell_latency(err, "questions", self.latencies.answers);
     }
 
-    // The mean is told in hundredths, rounded down.
+    // Each question of a batch that was answered has an answer. The mean is told in hundredths, rounded down.
     fn tell_batches<E: Write>(&self, err: &mut E) {
-        let Batches { count, questions } = self.batches;
-        let hundredths = (u128::from(questions) * 100).checked_div(u128::from(count));
+        let count = self.batches.count;
+        let hundredths = (u128::from(self.answers) * 100).checked_div(u128::from(count));
         if let Some(hundredths) = hundredths {
             let whole = hundredths / 100;
             let rest = hundredths % 100;

@@ -1,21 +1,22 @@
 //! What looks on while a script is served.
 
-use ssb_script::Request;
+use ssb_script::{Asking, Request};
 
 /// What a request of a script asks for.
 #[derive(Clone, Copy, Debug, PartialEq, Eq)]
 pub enum RequestKind {
     /// A refresh.
     Refresh,
-    /// A question.
-    Question,
+    /// So many questions, which are asked together.
+    Questions(usize),
 }
 
 // The kind of a request.
 pub(crate) fn kind_of(request: &Request) -> RequestKind {
     match request {
         Request::Refresh(_) => RequestKind::Refresh,
-        Request::Ask(_) => RequestKind::Question,
+        Request::Ask(Asking::Alone(_)) => RequestKind::Questions(1),
+        Request::Ask(Asking::Together(questions)) => RequestKind::Questions(questions.len()),
     }
 }
 

@@ -16,7 +16,8 @@ pub struct Latency {
     pub greatest: Duration,
 }
 
-/// How long the requests of all clients took; no requests where no times were taken.
+/// How long the requests of all clients took; no requests where no times were taken. A question takes as long as the
+/// request that it is asked in.
 #[derive(Clone, Copy, Debug, Default, PartialEq, Eq)]
 pub struct Latencies {
     pub refreshes: Latency,
@@ -51,7 +52,11 @@ impl Times {
         let nanos = u64::try_from(time.as_nanos()).unwrap_or(u64::MAX);
         match kind {
             RequestKind::Refresh => self.refreshes.add(nanos),
-            RequestKind::Question => self.answers.add(nanos),
+            RequestKind::Questions(count) => {
+                for _ in 0..count {
+                    self.answers.add(nanos);
+                }
+            }
         }
     }
 
