@@ -15,6 +15,7 @@ const PROMPT: &str = "> ";
 
 // Where a refresh is open, and where questions are.
 const REFRESH_PROMPT: &str = "refresh> ";
+
 const ASK_PROMPT: &str = "ask> ";
 
 // The line that asks for help. It has no reply, as a line of no bytes has none.

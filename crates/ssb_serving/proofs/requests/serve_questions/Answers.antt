@@ -14,8 +14,13 @@ use Rattle.ssb_serving.proofs.requests.serve_questions.Goals as goal
 pub put_answers-requires : goal.put_answers-requires
 put_answers-requires g c =
     let same = asked_same _ _ _ _ _ c.ask.ensures.asked c.await_answer-response.ensures.polled in
-    omega (arith, ap length same, c.len-count.ensures, c.in-Ok-with_capacity.ensures.capacity,
-    c.in-Ok-with_capacity.ensures.len)
+    omega (
+      arith,
+      ap length same,
+      c.len-count.ensures,
+      c.in-Ok-with_capacity.ensures.capacity,
+      c.in-Ok-with_capacity.ensures.len,
+    )
 
 pub keep_all-requires : goal.keep_all-requires
 keep_all-requires g c =
