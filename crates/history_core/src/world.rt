@@ -309,7 +309,14 @@ impl World {
             outcome: Outcome::Served(at),
         };
         self.give(number, given)?;
-        self.put(client, Mailbox::Answered { questions, at, rows });
+        self.put(
+            client,
+            Mailbox::Answered {
+                questions,
+                at,
+                rows,
+            },
+        );
         Ok(Reply::Done)
     }
 

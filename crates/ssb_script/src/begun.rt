@@ -227,11 +227,7 @@ fn end_block(number: u64, questions: Items<Question>) -> Result<Step, ScriptErro
 }
 
 // What comes of the record of a number in a block.
-fn in_block(
-    number: u64,
-    questions: Items<Question>,
-    control: Control,
-) -> Result<Step, ScriptError>
+fn in_block(number: u64, questions: Items<Question>, control: Control) -> Result<Step, ScriptError>
     requires { HasRoom number (begun.Asked questions) }
     ensures step { IfOk result (λ step. Follows number (begun.Asked questions) (line_of_control control) step) }
     ensures fault { IfErr result (IsFoundBy (checks_in number (begun.Asked questions) (Ok (line_of_control control)))) }

@@ -38,7 +38,16 @@ fn report<W: Wait + Drop, R: Wait>(
     let before = replies.len();
     // What the client was told is dropped: memory does not grow with a session.
     let mut told = Vec::new(alloc);
-    match serve_requests(rt, alloc, server, client, script, replies, &mut told, &mut NoMeter) {
+    match serve_requests(
+        rt,
+        alloc,
+        server,
+        client,
+        script,
+        replies,
+        &mut told,
+        &mut NoMeter,
+    ) {
         Ok(()) => Ok(()),
         Err(_) => {
             replies.truncate(before);

@@ -88,10 +88,7 @@ fn write_fault<W: Write>(writer: &mut W, fault: ScriptError) -> Result<(), Write
         ScriptError::NoAnswer => write_pieces(writer, &[Piece::Text("77 NoAnswer")]),
         ScriptError::TooManyQuestions(record) => write_pieces(
             writer,
-            &[
-                Piece::Text("78 TooManyQuestions "),
-                Piece::Number(record),
-            ],
+            &[Piece::Text("78 TooManyQuestions "), Piece::Number(record)],
         ),
         ScriptError::OutOfMemory => write_pieces(writer, &[Piece::Text("out of memory")]),
     }
