@@ -35,18 +35,22 @@ fn a_refresh_that_lacks_memory_commits_nothing(rt: HostRuntime) -> Result<(), Fa
 #[test]
 fn a_turn_that_lacks_memory_gives_up_and_the_next_one_answers(rt: HostRuntime) -> Result<(), Fail> {
     let given_up = [
-        (First(Polls), "Q4.1 unserved: out of memory"),
-        (First(Asks("Q4.1")), "asked"),
+        (
+            First(Polls),
+            "Q4.1 unserved: out of memory\nQ1.1 unserved: out of memory",
+        ),
+        (First(Asks("Q4.1 Q1.1")), "asked"),
         (Turn, "answered 1 at 1"),
     ];
+    let answered = "Q4.1 at 1 rows 1\n1997|UNITED STATES|-1330\nQ1.1 at 1 rows 1\n3000";
     played_at_last(
         &rt,
         &[
             (First(Adds(9)), "committed 1"),
-            (First(Asks("Q4.1")), "asked"),
+            (First(Asks("Q4.1 Q1.1")), "asked"),
         ],
         (Turn, "answered 1 at 1"),
         ("gave up 1: OutOfMemory", &given_up),
-        &[(First(Polls), WITH_NINE)],
+        &[(First(Polls), answered)],
     )
 }
