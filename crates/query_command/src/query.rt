@@ -8,7 +8,7 @@ ghost use Rattle.ssb_files.specs.Loaded.{AreRefused};
 ghost use Rattle.ssb_files.specs.Status.{status_of};
 ghost use Rattle.ssb_text.specs.Load.{AreTexts};
 ghost use Rattle.ssb_report.specs.AnswerText.{answer_text};
-ghost use Rattle.ssb_report.specs.Written.{AppendsPart, Writes};
+ghost use Rattle.ssb_report.specs.Written.{AppendsPart};
 ghost use Rattle.ssb_schema.specs.declared.table.Table.{Table};
 ghost use Rattle.std.specs.Io.KnownBytes.{Appends};
 
@@ -18,7 +18,7 @@ use crate::stopwatch::{Stopwatch, TimedStep};
 use ssb_answers::Answer;
 use ssb_files::{Fault, base_of};
 use ssb_questions::Question;
-use ssb_report::{WriteFault, write_answer};
+use ssb_report::write_answers;
 use ssb_text::Tables;
 use std::hash::RandomState;
 use std::io::{Read, Write};
@@ -53,16 +53,6 @@ fn answers<R: Threads + Sync + Clock + AllocGlobal, I: Read + Drop>(
     watch.lap(rt, TimedStep::Load);
     let answers = opening_answers(rt, rt.alloc(), hashing, base, questions, watch)?;
     Ok(answers)
-}
-
-// Writes the reports of answers, one after another.
-fn write_answers<W: Write>(out: &mut W, answers: &[Answer]) -> Result<(), WriteFault>
-    ensures { Writes (W.contents out.old) (W.contents out.new) result (flat_map answer_text answers.now) }
-{
-    for answer in answers {
-        write_answer(out, answer)?;
-    }
-    Ok(())
 }
 
 // Writes the reports of answers, and has the writer hand on what it holds.

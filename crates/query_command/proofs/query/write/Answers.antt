@@ -8,14 +8,14 @@ use Rattle.query_command.proofs.query.write.Goals as goal
 
 pub returns-in-Err-clause-written : goal.returns-in-Err-clause-written
 returns-in-Err-clause-written g c =
-    let written : Appends (g.W.Write.contents c.args.out.now) (g.W.Write.contents c.write_answers.new.out)
+    let written : Appends (g.W.Write.contents c.args.out.now) (g.W.Write.contents c.write_answers.new.writer)
     (flat_map answer_text c.args.answers.now) = is_ok_of c.write_answers.result _ _ c.write_answers.ensures
     (sym c.is_err.ensures.value ∙ c.if-is_err.false) in
     appended_whole _ _ _ (appended_kept _ _ _ _ written c.flush.ensures.bytes)
 
 pub returns-in-Ok-clause-written : goal.returns-in-Ok-clause-written
 returns-in-Ok-clause-written g c =
-    let written : Appends (g.W.Write.contents c.args.out.now) (g.W.Write.contents c.write_answers.new.out)
+    let written : Appends (g.W.Write.contents c.args.out.now) (g.W.Write.contents c.write_answers.new.writer)
     (flat_map answer_text c.args.answers.now) = is_ok_of c.write_answers.result _ _ c.write_answers.ensures
     (sym c.is_err.ensures.value ∙ c.if-is_err.false) in
     appended_kept _ _ _ _ written c.flush.ensures.bytes
