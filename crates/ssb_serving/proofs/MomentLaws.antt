@@ -36,7 +36,7 @@ no_fewer : (shorter longer : List CommitRecord) → IsPrefix shorter longer → 
 no_fewer shorter longer begins = omega (arith, ap length begins.whole, length-append shorter begins.rest)
 
 -- the answers by this table's base
-by_rows : TableRecord → List CommitRecord → ℕ → Questions → List Answer
+abbrev by_rows : TableRecord → List CommitRecord → ℕ → Questions → List Answer
 by_rows table history at questions =
     map (λ (question : Question). answer.Rows question at (rows_after table.base question (take at history))) questions
 
