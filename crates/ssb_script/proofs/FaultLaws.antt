@@ -32,8 +32,9 @@ use Rattle.std.proofs.Common.{
   append-nil,
   arith,
 }
-use Rattle.std.specs.List.{AllByRecursion, flat_map}
+use Rattle.std.specs.List.{AllByRecursion, AllZip, flat_map}
 use Rattle.std.specs.Option.{option_map}
+use Rattle.std.specs.Prelude.{◌||◌}
 use Rattle.std.proofs.lemmas.Bool.{le-ltb, lt-ltb, ltb-false}
 use Rattle.std.proofs.lemmas.Bool.Decides.{nat_tests}
 use Rattle.std.proofs.lemmas.List.{length_push, length-append, map-append}
@@ -62,6 +63,7 @@ use Rattle.ssb_script.specs.Laws.{HasNoFaultIfSpelled}
 use Rattle.ssb_script.specs.Lines.{
   ScriptLine,
   RecordFault,
+  is_abort,
   is_line,
   line_after,
   line_of,
@@ -75,24 +77,30 @@ use Rattle.ssb_script.specs.Requests.{
   RequestRecord,
   Refresh,
   Ask,
+  Abort,
   IsWholeAction,
   IsWholeRequest,
   action_of,
   lines_of_action,
-  lines_of_request,
-  lines_of_requests,
+  lines_of_asking,
+  lines_of_refresh,
   most_questions,
 }
 use Rattle.ssb_script.specs.Scripts.{
   EndsOpen,
+  HasRoom,
   IsFirstFault,
   IsOpenEnd,
   IsSettled,
+  Spell,
+  SpellAll,
   SpellsScript,
   checks_in,
   ends_in_order,
   fault_of,
   first_of,
+  is_outside,
+  lines_in,
   lines_of_begun,
   order_refused,
   refusal_at_end,
@@ -100,6 +108,7 @@ use Rattle.ssb_script.specs.Scripts.{
 use Rattle.ssb_script.specs.declared.control.Opening.{Opening}
 use Rattle.ssb_script.specs.declared.control.Opening.TheVariants.{Add, Amend}
 use Rattle.ssb_script.specs.declared.error.ScriptError.{ScriptError}
+use Rattle.ssb_script.specs.declared.request.Asking.{Asking}
 use Rattle.ssb_script.specs.declared.request.Asking.TheVariants.{Alone, Together}
 use Rattle.ssb_questions.specs.declared.query.Query.{Query as Named}
 use Rattle.ssb_questions.specs.declared.value.Value.{Value}
@@ -146,6 +155,7 @@ next s (line.Withdraw key) = Inside (actions_of s ++ action.Withdraw key ∷ [])
 next s line.Commit = Outside
 next s line.Ask = Block []
 next s line.Answer = Outside
+next s line.Abort = Outside
 
 abbrev behind : Stand → List ScriptLine → Stand
 behind s [] = s
@@ -157,6 +167,12 @@ IsOutside Outside = Unit {0}
 IsOutside (Inside actions) = ⊥
 IsOutside (Within actions opening lines) = ⊥
 IsOutside (Block questions) = ⊥
+
+abbrev IsInside : Stand → Type 0
+IsInside Outside = ⊥
+IsInside (Inside actions) = Unit {0}
+IsInside (Within actions opening lines) = Unit {0}
+IsInside (Block questions) = Unit {0}
 
 abbrev MayEnd : Stand → Type 0
 MayEnd Outside = ⊥
@@ -193,6 +209,7 @@ Fits s (line.Withdraw key) = MayEnd s × (length (actions_of s) < most_actions)
 Fits s line.Commit = MayEnd s × (0 < length (actions_of s))
 Fits s line.Ask = IsOutside s
 Fits s line.Answer = MayAnswer s
+Fits s line.Abort = IsInside s
 
 abbrev AllFit : Stand → List ScriptLine → Type 0
 AllFit s [] = Unit {0}
@@ -246,21 +263,28 @@ behind_settled a (b ∷ actions) s e =
     ∙ ap Inside (ap (λ xs. xs ++ b ∷ actions) (behind_action s a)
     ∙ append_assoc (actions_of s) (a ∷ []) (b ∷ actions)))
 
-behind_requests : (requests : List RequestRecord) → behind Outside (lines_of_requests requests) ≡ Outside
-behind_requests [] = refl
-behind_requests (Ask (Alone question) ∷ requests) = behind_requests requests
-behind_requests (Ask (Together questions) ∷ requests) =
-    let asked = map line.Query questions in
-    let ended : behind Outside (lines_of_request (Ask (Together questions))) ≡ Outside =
-    behind-append (Block []) asked (line.Answer ∷ []) in
-    behind-append Outside (lines_of_request (Ask (Together questions))) (lines_of_requests requests)
-    ∙ (ap (λ s. behind s (lines_of_requests requests)) ended ∙ behind_requests requests)
-behind_requests (Refresh actions ∷ requests) =
-    let acts = flat_map lines_of_action actions in
-    let ended : behind Outside (lines_of_request (Refresh actions)) ≡ Outside =
-    behind-append (Inside []) acts (line.Commit ∷ []) in
-    behind-append Outside (lines_of_request (Refresh actions)) (lines_of_requests requests)
-    ∙ (ap (λ s. behind s (lines_of_requests requests)) ended ∙ behind_requests requests)
+behind_request : (one : RequestRecord) (lines : List ScriptLine) → Spell one lines → behind Outside lines ≡ Outside
+behind_request (Refresh actions) lines spell =
+    ap (behind Outside) spell ∙ behind-append (Inside []) (flat_map lines_of_action actions) (line.Commit ∷ [])
+behind_request (Ask (Alone question)) lines spell = ap (behind Outside) spell
+behind_request (Ask (Together questions)) lines spell =
+    ap (behind Outside) spell ∙ behind-append (Block []) (map line.Query questions) (line.Answer ∷ [])
+behind_request Abort lines spell =
+    ap (behind Outside) spell.joined ∙ behind-append Outside (lines_of_begun spell.begun) (line.Abort ∷ [])
+
+behind_parts : (requests : List RequestRecord) (parts : List (List ScriptLine)) → AllZip Spell requests parts
+    → behind Outside (lines_in parts) ≡ Outside
+behind_parts [] [] each = refl
+behind_parts [] (part ∷ parts) each = absurd each
+behind_parts (one ∷ requests) [] each = absurd each
+behind_parts (one ∷ requests) (part ∷ parts) each =
+    behind-append Outside part (lines_in parts)
+    ∙ (ap (λ s. behind s (lines_in parts)) (behind_request one part each.0) ∙ behind_parts requests parts each.1)
+
+behind_requests : (requests : List RequestRecord) (lines : List ScriptLine) → SpellAll requests lines
+    → behind Outside lines ≡ Outside
+behind_requests requests lines spell =
+    ap (behind Outside) spell.joined ∙ behind_parts requests spell.parts spell.each
 
 behind_begun : (b : Begun) → IsSettled b → behind Outside (lines_of_begun b) ≡ stand_of b
 behind_begun begun.Nothing settled = refl
@@ -274,11 +298,11 @@ behind_begun (begun.Order order) settled =
     ∙ ap (λ actions. Within actions order.opening order.lines) (behind_actions order.actions (Inside [])))
 
 -- behind whole requests and what is begun, that is begun
-behind_all : (requests : List RequestRecord) (b : Begun) → IsSettled b
-    → behind Outside (lines_of_requests requests ++ lines_of_begun b) ≡ stand_of b
-behind_all requests b settled =
-    behind-append Outside (lines_of_requests requests) (lines_of_begun b)
-    ∙ (ap (λ s. behind s (lines_of_begun b)) (behind_requests requests) ∙ behind_begun b settled)
+behind_all : (requests : List RequestRecord) (lines : List ScriptLine) (b : Begun) → SpellAll requests lines
+    → IsSettled b → behind Outside (lines ++ lines_of_begun b) ≡ stand_of b
+behind_all requests lines b spell settled =
+    behind-append Outside lines (lines_of_begun b)
+    ∙ (ap (λ s. behind s (lines_of_begun b)) (behind_requests requests lines spell) ∙ behind_begun b settled)
 
 -- the lines of whole requests fit
 fit_rows : (actions : List Action) (opening : Opening) (lines order : List LineFields) (rest : List ScriptLine)
@@ -342,15 +366,18 @@ has_few actions none = few_of (length actions) none
         else None) ≡ None → n ≤ 64
     few_of n none = ltb-false 64 n (test_none _ _ _ (test_none (nat_eq n 0) _ _ none).1).0
 
-fit_request : (one : RequestRecord) (rest : List ScriptLine) → IsWholeRequest one → AllFit Outside rest
-    → AllFit Outside (lines_of_request one ++ rest)
-fit_request (Ask (Alone question)) rest whole fit = (tt, fit)
-fit_request (Ask (Together questions)) rest whole fit = (
+fit_asking : (asking : Asking) (rest : List ScriptLine) → IsWholeRequest (Ask asking) → AllFit Outside rest
+    → AllFit Outside (lines_of_asking asking ++ rest)
+fit_asking (Alone question) rest whole fit = (tt, fit)
+fit_asking (Together questions) rest whole fit = (
   tt,
   subst (AllFit (Block [])) (sym (append_assoc (map line.Query questions) (line.Answer ∷ []) rest))
       (fit_questions [] questions (line.Answer ∷ rest) (omega (arith, whole.1)) (omega (arith, whole.0), fit)),
 )
-fit_request (Refresh actions) rest whole fit = (
+
+fit_refresh : (actions : List Action) (rest : List ScriptLine) → IsWholeRequest (Refresh actions) → AllFit Outside rest
+    → AllFit Outside (lines_of_refresh actions ++ rest)
+fit_refresh actions rest whole fit = (
   tt,
   subst (AllFit (Inside [])) (sym (append_assoc (flat_map lines_of_action actions) (line.Commit ∷ []) rest))
       (fit_actions actions (Inside []) (line.Commit ∷ rest) tt (omega (arith, has_few actions whole.0))
@@ -358,22 +385,79 @@ fit_request (Refresh actions) rest whole fit = (
       (λ t end at. ((end, rw at (has_some actions whole.0)), fit))),
 )
 
-fit_requests : (requests : List RequestRecord) → AllByRecursion IsWholeRequest requests
-    → AllFit Outside (lines_of_requests requests)
-fit_requests [] whole = tt
-fit_requests (one ∷ requests) whole = fit_request one (lines_of_requests requests) whole.0
-    (fit_requests requests whole.1)
+-- where an action may end, what is begun may be dropped
+may_drop : (s : Stand) → MayEnd s → IsInside s
+may_drop Outside ends = absurd ends
+may_drop (Inside actions) ends = tt
+may_drop (Within actions opening lines) ends = tt
+may_drop (Block questions) ends = absurd ends
 
--- a line that fits has no fault
-abbrev is_row : ScriptLine → Bool
-is_row (line.Line row) = true
-is_row (line.Query question) = false
-is_row line.Begin = false
-is_row (line.Open opening) = false
-is_row (line.Withdraw key) = false
-is_row line.Commit = false
-is_row line.Ask = false
-is_row line.Answer = false
+fit_dropped : (b : Begun) (count : ℕ) (rest : List ScriptLine) → is_outside b ≡ false → HasRoom count b
+    → AllFit Outside rest → AllFit Outside ((lines_of_begun b ++ line.Abort ∷ []) ++ rest)
+fit_dropped begun.Nothing count rest inside room fit = absurd cc
+fit_dropped (begun.Refresh actions) count rest inside room fit = (
+  tt,
+  subst (AllFit (Inside [])) (sym (append_assoc (flat_map lines_of_action actions) (line.Abort ∷ []) rest))
+      (fit_actions actions (Inside []) (line.Abort ∷ rest) tt (omega (arith, room.0))
+      (recursion_from_All IsWholeAction actions room.1) (λ t end at. (may_drop t end, fit))),
+)
+fit_dropped (begun.Order order) count rest inside room fit =
+    let acts = flat_map lines_of_action order.actions in
+    let last : List ScriptLine = line.Open order.opening ∷ map line.Line order.lines in (
+      tt,
+      subst (AllFit (Inside []))
+          (sym (append_assoc (acts ++ last) (line.Abort ∷ []) rest ∙ append_assoc acts last (line.Abort ∷ rest)))
+          (fit_actions order.actions (Inside []) (last ++ line.Abort ∷ rest) tt (omega (arith, room.0))
+          (recursion_from_All IsWholeAction order.actions room.1)
+          (λ t end at. (
+            (end, rw at room.0),
+            fit_rows (actions_of t) order.opening [] order.lines (line.Abort ∷ rest) (omega (arith, room.2))
+                (tt, fit),
+          ))),
+    )
+fit_dropped (begun.Asked questions) count rest inside room fit = (
+  tt,
+  subst (AllFit (Block [])) (sym (append_assoc (map line.Query questions) (line.Abort ∷ []) rest))
+      (fit_questions [] questions (line.Abort ∷ rest) (omega (arith, room)) (tt, fit)),
+)
+
+fit_request : (one : RequestRecord) (lines rest : List ScriptLine) → Spell one lines → IsWholeRequest one
+    → AllFit Outside rest → AllFit Outside (lines ++ rest)
+fit_request (Ask asking) lines rest spell whole fit =
+    subst (λ first. AllFit Outside (first ++ rest)) (sym spell) (fit_asking asking rest whole fit)
+fit_request (Refresh actions) lines rest spell whole fit =
+    subst (λ first. AllFit Outside (first ++ rest)) (sym spell) (fit_refresh actions rest whole fit)
+fit_request Abort lines rest spell whole fit =
+    subst (λ first. AllFit Outside (first ++ rest)) (sym spell.joined)
+    (fit_dropped spell.begun spell.count rest spell.inside spell.room fit)
+
+fit_parts : (requests : List RequestRecord) (parts : List (List ScriptLine)) → AllZip Spell requests parts
+    → AllByRecursion IsWholeRequest requests → AllFit Outside (lines_in parts)
+fit_parts [] [] each whole = tt
+fit_parts [] (part ∷ parts) each whole = absurd each
+fit_parts (one ∷ requests) [] each whole = absurd each
+fit_parts (one ∷ requests) (part ∷ parts) each whole =
+    fit_request one part (lines_in parts) each.0 whole.0 (fit_parts requests parts each.1 whole.1)
+
+fit_requests : (requests : List RequestRecord) (lines : List ScriptLine) → SpellAll requests lines
+    → AllByRecursion IsWholeRequest requests → AllFit Outside lines
+fit_requests requests lines spell whole =
+    subst (AllFit Outside) (sym spell.joined) (fit_parts requests spell.parts spell.each whole)
+
+-- a line that fits has no fault; before one of an order, and before an `abort`, no order is refused
+abbrev spares : ScriptLine → Bool
+spares (line.Line row) = true
+spares (line.Query question) = false
+spares line.Begin = false
+spares (line.Open opening) = false
+spares (line.Withdraw key) = false
+spares line.Commit = false
+spares line.Ask = false
+spares line.Answer = false
+spares line.Abort = true
+
+abbrev spared : Option Word → Bool
+spared w = is_line w || is_abort w
 
 -- no order is being read that is refused where it ends
 abbrev EndsWell : Stand → Type 0
@@ -406,15 +490,16 @@ well_answered (Inside actions) answers = absurd answers
 well_answered (Within actions opening lines) answers = absurd answers
 well_answered (Block questions) answers = tt
 
-ends_unless_row : (s : Stand) (l : ScriptLine) → Fits s l → is_row l ≡ false → EndsWell s
-ends_unless_row s (line.Query question) fits e = well_asked s fits
-ends_unless_row s line.Begin fits e = well_outside s fits
-ends_unless_row s (line.Open opening) fits e = well_ended s fits.0
-ends_unless_row s (line.Line row) fits e = absurd cc
-ends_unless_row s (line.Withdraw key) fits e = well_ended s fits.0
-ends_unless_row s line.Commit fits e = well_ended s fits.0
-ends_unless_row s line.Ask fits e = well_outside s fits
-ends_unless_row s line.Answer fits e = well_answered s fits
+ends_unless_spared : (s : Stand) (l : ScriptLine) → Fits s l → spares l ≡ false → EndsWell s
+ends_unless_spared s (line.Query question) fits e = well_asked s fits
+ends_unless_spared s line.Begin fits e = well_outside s fits
+ends_unless_spared s (line.Open opening) fits e = well_ended s fits.0
+ends_unless_spared s (line.Line row) fits e = absurd cc
+ends_unless_spared s (line.Withdraw key) fits e = well_ended s fits.0
+ends_unless_spared s line.Commit fits e = well_ended s fits.0
+ends_unless_spared s line.Ask fits e = well_outside s fits
+ends_unless_spared s line.Answer fits e = well_answered s fits
+ends_unless_spared s line.Abort fits e = absurd cc
 
 end_not_refused : (b : Begun) → EndsWell (stand_of b) → refusal_at_end b ≡ None
 end_not_refused begun.Nothing ends = refl
@@ -422,13 +507,13 @@ end_not_refused (begun.Refresh actions) ends = refl
 end_not_refused (begun.Order order) whole = rw whole refl
 end_not_refused (begun.Asked questions) ends = refl
 
-not_refused : (b : Begun) (l : ScriptLine) (w : Option Word) → Fits (stand_of b) l → is_line w ≡ is_row l
+not_refused : (b : Begun) (l : ScriptLine) (w : Option Word) → Fits (stand_of b) l → spared w ≡ spares l
     → order_refused b w ≡ None
-not_refused b l w fits same = by (is_row l) same refl
+not_refused b l w fits same = by (spares l) same refl
   where
-    by : (row : Bool) → is_line w ≡ row → is_row l ≡ row → (if is_line w then None else refusal_at_end b) ≡ None
+    by : (is : Bool) → spared w ≡ is → spares l ≡ is → (if spared w then None else refusal_at_end b) ≡ None
     by true w_is l_is = rw w_is refl
-    by false w_is l_is = rw w_is (end_not_refused b (ends_unless_row (stand_of b) l fits l_is))
+    by false w_is l_is = rw w_is (end_not_refused b (ends_unless_spared (stand_of b) l fits l_is))
 
 not_zero : (n : ℕ) → 0 < n → nat_eq n 0 ≡ false
 not_zero n some = grind (arith, nat_tests)
@@ -443,6 +528,7 @@ checks_none number begun.Nothing (line.Withdraw key) fits = absurd fits.0
 checks_none number begun.Nothing line.Commit fits = absurd fits.0
 checks_none number begun.Nothing line.Ask fits = refl
 checks_none number begun.Nothing line.Answer fits = absurd fits
+checks_none number begun.Nothing line.Abort fits = absurd fits
 checks_none number (begun.Refresh actions) (line.Query question) fits = absurd fits
 checks_none number (begun.Refresh actions) line.Begin fits = absurd fits
 checks_none number (begun.Refresh actions) (line.Open opening) fits = rw (lt-ltb (length actions) 64 fits.1) refl
@@ -451,6 +537,7 @@ checks_none number (begun.Refresh actions) (line.Withdraw key) fits = rw (lt-ltb
 checks_none number (begun.Refresh actions) line.Commit fits = rw (not_zero (length actions) fits.1) refl
 checks_none number (begun.Refresh actions) line.Ask fits = absurd fits
 checks_none number (begun.Refresh actions) line.Answer fits = absurd fits
+checks_none number (begun.Refresh actions) line.Abort fits = refl
 checks_none number (begun.Order order) (line.Query question) fits = absurd fits
 checks_none number (begun.Order order) line.Begin fits = absurd fits
 checks_none number (begun.Order order) (line.Open opening) fits =
@@ -467,6 +554,7 @@ checks_none number (begun.Order order) line.Commit fits =
     rw (not_zero (length order.actions + 1) some) refl
 checks_none number (begun.Order order) line.Ask fits = absurd fits
 checks_none number (begun.Order order) line.Answer fits = absurd fits
+checks_none number (begun.Order order) line.Abort fits = refl
 checks_none number (begun.Asked questions) (line.Query question) fits = rw (lt-ltb (length questions) 16 fits) refl
 checks_none number (begun.Asked questions) line.Begin fits = absurd fits
 checks_none number (begun.Asked questions) (line.Open opening) fits = absurd fits.0
@@ -475,6 +563,7 @@ checks_none number (begun.Asked questions) (line.Withdraw key) fits = absurd fit
 checks_none number (begun.Asked questions) line.Commit fits = absurd fits.0
 checks_none number (begun.Asked questions) line.Ask fits = absurd fits
 checks_none number (begun.Asked questions) line.Answer fits = rw (not_zero (length questions) fits) refl
+checks_none number (begun.Asked questions) line.Abort fits = refl
 
 -- parts of what is the same are the same, and the other way round
 same_ok : (r : Result ScriptLine RecordFault) (x y : ScriptLine) → r ≡ Ok x → r ≡ Ok y → x ≡ y
@@ -483,41 +572,42 @@ same_ok r x y one other = cc
 same_list : {X : Type 0} (x y : X) (xs ys : List X) → x ≡ y → xs ≡ ys → x ∷ xs ≡ y ∷ ys
 same_list x y xs ys first rest = cc
 
--- the word of a record tells whether its line is one of an order
-by_option : {X : Type 0} (f : X → ScriptLine) (o : Option X) (l : ScriptLine) → ((x : X) → is_row (f x) ≡ false)
-    → line_or_bad (option_map f o) ≡ Ok l → false ≡ is_row l
+-- the word of a record tells whether its line is one of an order, or an `abort`
+by_option : {X : Type 0} (f : X → ScriptLine) (o : Option X) (l : ScriptLine) → ((x : X) → spares (f x) ≡ false)
+    → line_or_bad (option_map f o) ≡ Ok l → false ≡ spares l
 by_option f None l none e = absurd cc
-by_option f (Some x) l none e = sym (none x) ∙ ap is_row (same_ok (Ok (f x)) (f x) l refl e)
+by_option f (Some x) l none e = sym (none x) ∙ ap spares (same_ok (Ok (f x)) (f x) l refl e)
 
-by_row : (r : Result (List columns.Value) LineFault) (l : ScriptLine) → line_or_refusal r ≡ Ok l → true ≡ is_row l
+by_row : (r : Result (List columns.Value) LineFault) (l : ScriptLine) → line_or_refusal r ≡ Ok l → true ≡ spares l
 by_row (Ok values) l e =
     let said : ScriptLine = line.Line (line_with values) in
-    ap is_row (same_ok (Ok said) said l refl e)
+    ap spares (same_ok (Ok said) said l refl e)
 by_row (Err (fault.Refused why)) l e = absurd cc
 by_row (Err fault.FieldCount) l e = absurd cc
 by_row (Err (fault.NotUtf8 column)) l e = absurd cc
 by_row (Err (fault.NotANumber column)) l e = absurd cc
 by_row (Err fault.OutOfMemory) l e = absurd cc
 
-by_alone : (test : Bool) (said l : ScriptLine) → is_row said ≡ false
-    → line_or_bad (if test then Some said else None) ≡ Ok l → false ≡ is_row l
-by_alone true said l none e = sym none ∙ ap is_row (same_ok (Ok said) said l refl e)
-by_alone false said l none e = absurd cc
+by_alone : (test : Bool) (said l : ScriptLine) → line_or_bad (if test then Some said else None) ≡ Ok l
+    → spares said ≡ spares l
+by_alone true said l e = ap spares (same_ok (Ok said) said l refl e)
+by_alone false said l e = absurd cc
 
 by_word : (w : Option Word) (fields : List (List ℕ)) (l : ScriptLine) → line_after w fields ≡ Ok l
-    → is_line w ≡ is_row l
+    → spared w ≡ spares l
 by_word None fields l e = absurd cc
 by_word (Some word.Query) fields l e = by_option line.Query _ l (λ x. refl) e
-by_word (Some word.Begin) fields l e = by_alone _ line.Begin l refl e
-by_word (Some word.Add) fields l e = by_alone _ (line.Open Add) l refl e
-by_word (Some word.Amend) fields l e = by_alone _ (line.Open Amend) l refl e
+by_word (Some word.Begin) fields l e = by_alone _ line.Begin l e
+by_word (Some word.Add) fields l e = by_alone _ (line.Open Add) l e
+by_word (Some word.Amend) fields l e = by_alone _ (line.Open Amend) l e
 by_word (Some word.Line) fields l e = by_row _ l e
 by_word (Some word.Withdraw) fields l e = by_option line.Withdraw _ l (λ x. refl) e
-by_word (Some word.Commit) fields l e = by_alone _ line.Commit l refl e
-by_word (Some word.Ask) fields l e = by_alone _ line.Ask l refl e
-by_word (Some word.Answer) fields l e = by_alone _ line.Answer l refl e
+by_word (Some word.Commit) fields l e = by_alone _ line.Commit l e
+by_word (Some word.Ask) fields l e = by_alone _ line.Ask l e
+by_word (Some word.Answer) fields l e = by_alone _ line.Answer l e
+by_word (Some word.Abort) fields l e = by_alone _ line.Abort l e
 
-word_tells : (fields : List (List ℕ)) (l : ScriptLine) → line_of fields ≡ Ok l → is_line (word_of fields) ≡ is_row l
+word_tells : (fields : List (List ℕ)) (l : ScriptLine) → line_of fields ≡ Ok l → spared (word_of fields) ≡ spares l
 unfolding line_of
 word_tells fields l e = by_word (word_of fields) fields l e
 
@@ -563,15 +653,17 @@ no_first_fault most text wanted e a b =
     let all = begins_all record_config st.StartRecord b.begins.0 a.all.0 (strip_bom text) b.begins.1 a.all.1
     (before ++ b.fields ∷ []) a.records b.begins.2 a.all.2 a.all.3 in
     let split : a.records ≡ before ++ b.fields ∷ all.0 = all.1 ∙ append_assoc before (b.fields ∷ []) all.0 in
-    let lines = lines_of_requests b.requests ++ lines_of_begun b.begun in
-    let said : map Ok lines ++ line_of b.fields ∷ map line_of all.0 ≡ map Ok (lines_of_requests wanted) =
-    ap (λ xs. xs ++ line_of b.fields ∷ map line_of all.0) (sym b.spells.spelled)
-    ∙ (sym (map-append line_of before (b.fields ∷ all.0)) ∙ (ap (map line_of) (sym split) ∙ a.spelled)) in
-    let one = says_next lines (lines_of_requests wanted) (line_of b.fields) (map line_of all.0) said in
+    let lines = b.spells.lines ++ lines_of_begun b.begun in
+    let said : map Ok lines ++ line_of b.fields ∷ map line_of all.0 ≡ map Ok a.lines =
+    ap (λ xs. xs ++ line_of b.fields ∷ map line_of all.0) (sym b.spells.said)
+    ∙ (sym (map-append line_of before (b.fields ∷ all.0)) ∙ (ap (map line_of) (sym split) ∙ a.said)) in
+    let one = says_next lines a.lines (line_of b.fields) (map line_of all.0) said in
     let fit : AllFit Outside (lines ++ one.0 ∷ one.1) =
-    subst (AllFit Outside) one.3 (fit_requests wanted (recursion_from_All IsWholeRequest wanted a.whole)) in
+    subst (AllFit Outside) one.3
+    (fit_requests wanted a.lines a.spelled (recursion_from_All IsWholeRequest wanted a.whole)) in
     let here : AllFit (stand_of b.begun) (one.0 ∷ one.1) =
-    subst (λ s. AllFit s (one.0 ∷ one.1)) (behind_all b.requests b.begun b.spells.settled)
+    subst (λ s. AllFit s (one.0 ∷ one.1))
+    (behind_all b.requests b.spells.lines b.begun b.spells.spelled b.spells.settled)
     (fit_behind Outside lines (one.0 ∷ one.1) fit) in
     let few : length before + 1 ≤ most =
     omega (arith, a.few, ap length split, length-append before (b.fields ∷ all.0)) in
@@ -590,14 +682,13 @@ no_open_end most text wanted e a b =
     let records : a.records ≡ b.records =
     one_list record_config st.StartRecord a.all.0 b.all.0 (strip_bom text) a.all.1 b.all.1 a.records b.records
     a.all.2 a.all.3 b.all.2 b.all.3 in
-    let begun_lines = lines_of_requests b.requests ++ lines_of_begun b.begun in
-    let results : map Ok (lines_of_requests wanted) ≡ map Ok begun_lines =
-    sym a.spelled ∙ (ap (map line_of) records ∙ b.spells.spelled) in
-    let lines : lines_of_requests wanted ≡ begun_lines =
-    sym (all_given (lines_of_requests wanted)) ∙ (ap (map given) results ∙ all_given begun_lines) in
+    let begun_lines = b.spells.lines ++ lines_of_begun b.begun in
+    let results : map Ok a.lines ≡ map Ok begun_lines = sym a.said ∙ (ap (map line_of) records ∙ b.spells.said) in
+    let lines : a.lines ≡ begun_lines =
+    sym (all_given a.lines) ∙ (ap (map given) results ∙ all_given begun_lines) in
     let stands : stand_of b.begun ≡ Outside =
-    sym (behind_all b.requests b.begun b.spells.settled)
-    ∙ (ap (behind Outside) (sym lines) ∙ behind_requests wanted) in
+    sym (behind_all b.requests b.spells.lines b.begun b.spells.spelled b.spells.settled)
+    ∙ (ap (behind Outside) (sym lines) ∙ behind_requests wanted a.lines a.spelled) in
     nothing_lacks b.begun e stands b.is
 
 pub spelled_has_no_fault : (text : List ℕ) → HasNoFaultIfSpelled text

@@ -2,6 +2,9 @@
 use Rattle.std.proofs.Common.{
   ◌≡◌,
   ℕ,
+  Bool,
+  true,
+  false,
   List,
   [],
   ◌∷◌,
@@ -21,7 +24,7 @@ use Rattle.std.proofs.Common.{
   append_assoc,
   arith,
 }
-use Rattle.std.specs.List.{flat_map}
+use Rattle.std.specs.List.{AllZip, flat_map}
 use Rattle.std.proofs.lemmas.List.Elements.{All-nil}
 use Rattle.std.proofs.lemmas.Option.{none-some, same_Some}
 use Rattle.csv.specs.Machine.{Read, next_record}
@@ -35,6 +38,8 @@ use Rattle.ssb_schema.specs.declared.refresh.Action.{Action}
 use Rattle.ssb_schema.specs.declared.refresh.Action.TheVariants as action
 use Rattle.ssb_questions.specs.declared.query.Query.{Query as Named}
 use Rattle.ssb_questions.specs.declared.value.Value.{Value}
+use Rattle.ssb_script.specs.Begun.{Begun}
+use Rattle.ssb_script.specs.Begun as begun
 use Rattle.ssb_script.specs.Laws.{HasOneReading}
 use Rattle.ssb_script.specs.Lines.{ScriptLine, RecordFault, line_of}
 use Rattle.ssb_script.specs.Lines as line
@@ -42,13 +47,12 @@ use Rattle.ssb_script.specs.Requests.{
   RequestRecord,
   Refresh,
   Ask,
+  Abort,
   IsWholeRequest,
   action_of,
   lines_of_action,
-  lines_of_request,
-  lines_of_requests,
 }
-use Rattle.ssb_script.specs.Scripts.{SpellsScript}
+use Rattle.ssb_script.specs.Scripts.{Spell, SpellAll, SpellsScript, is_outside, lines_in, lines_of_begun}
 use Rattle.ssb_script.specs.declared.control.Opening.TheVariants.{Add, Amend}
 use Rattle.ssb_script.specs.declared.request.Asking.TheVariants.{Alone, Together}
 
@@ -56,11 +60,12 @@ abbrev Question : Type 0
 Question = Named × List Value
 
 -- what the lines from one on hold: lines of an order that began before it, actions of a refresh that did, questions of a
--- block that did, and requests
+-- block that did, whether what did is dropped, and requests
 record Tail : Type 0 where
   lines : List LineFields
   actions : List Action
   block : Option (List Question)
+  dropped : Bool
   requests : List RequestRecord
 
 -- a question of the block, where its end follows; else one alone
@@ -69,40 +74,72 @@ before_query question tail None = record {
   lines = [];
   actions = [];
   block = None;
+  dropped = false;
   requests = Ask (Alone question) ∷ tail.requests;
 }
-before_query question tail (Some questions) =
-    record { lines = []; actions = []; block = Some (question ∷ questions); requests = tail.requests }
+before_query question tail (Some questions) = record {
+  lines = [];
+  actions = [];
+  block = Some (question ∷ questions);
+  dropped = tail.dropped;
+  requests = tail.requests;
+}
 
 abbrev asked_in : Option (List Question) → List Question
 asked_in None = []
 asked_in (Some questions) = questions
 
+-- the request, unless it is dropped
+abbrev unless : Bool → RequestRecord → RequestRecord
+unless true one = Abort
+unless false one = one
+
 abbrev before : ScriptLine → Tail → Tail
 before (line.Query question) tail = before_query question tail tail.block
-before line.Begin tail =
-    record { lines = []; actions = []; block = None; requests = Refresh tail.actions ∷ tail.requests }
+before line.Begin tail = record {
+  lines = [];
+  actions = [];
+  block = None;
+  dropped = false;
+  requests = unless tail.dropped (Refresh tail.actions) ∷ tail.requests;
+}
 before (line.Open opening) tail = record {
   lines = [];
   actions = action_of opening tail.lines ∷ tail.actions;
   block = tail.block;
+  dropped = tail.dropped;
   requests = tail.requests;
 }
-before (line.Line row) tail =
-    record { lines = row ∷ tail.lines; actions = tail.actions; block = tail.block; requests = tail.requests }
+before (line.Line row) tail = record {
+  lines = row ∷ tail.lines;
+  actions = tail.actions;
+  block = tail.block;
+  dropped = tail.dropped;
+  requests = tail.requests;
+}
 before (line.Withdraw key) tail = record {
   lines = [];
   actions = action.Withdraw key ∷ tail.actions;
   block = tail.block;
+  dropped = tail.dropped;
   requests = tail.requests;
 }
-before line.Commit tail = record { lines = []; actions = []; block = None; requests = tail.requests }
-before line.Ask tail =
-    record { lines = []; actions = []; block = None; requests = Ask (Together (asked_in tail.block)) ∷ tail.requests }
-before line.Answer tail = record { lines = []; actions = []; block = Some []; requests = tail.requests }
+before line.Commit tail =
+    record { lines = []; actions = []; block = None; dropped = false; requests = tail.requests }
+before line.Ask tail = record {
+  lines = [];
+  actions = [];
+  block = None;
+  dropped = false;
+  requests = unless tail.dropped (Ask (Together (asked_in tail.block))) ∷ tail.requests;
+}
+before line.Answer tail =
+    record { lines = []; actions = []; block = Some []; dropped = false; requests = tail.requests }
+before line.Abort tail =
+    record { lines = []; actions = []; block = Some []; dropped = true; requests = tail.requests }
 
 abbrev tail_of : List ScriptLine → Tail
-tail_of [] = record { lines = []; actions = []; block = None; requests = [] }
+tail_of [] = record { lines = []; actions = []; block = None; dropped = false; requests = [] }
 tail_of (l ∷ lines) = before l (tail_of lines)
 
 -- of the lines of an order, of an action, of actions, of a block, of a request
@@ -111,6 +148,7 @@ of_order : (order : List LineFields) (rest : List ScriptLine) → (tail_of rest)
       lines = order;
       actions = (tail_of rest).actions;
       block = (tail_of rest).block;
+      dropped = (tail_of rest).dropped;
       requests = (tail_of rest).requests;
     }
 of_order [] rest none = rw (← none) refl
@@ -121,6 +159,7 @@ of_action : (a : Action) (rest : List ScriptLine) → (tail_of rest).lines ≡ [
       lines = [];
       actions = a ∷ (tail_of rest).actions;
       block = (tail_of rest).block;
+      dropped = (tail_of rest).dropped;
       requests = (tail_of rest).requests;
     }
 of_action (action.Add order) rest none = ap (before (line.Open Add)) (of_order order rest none)
@@ -132,6 +171,7 @@ of_actions : (actions : List Action) (rest : List ScriptLine)
       lines = [];
       actions = actions;
       block = None;
+      dropped = false;
       requests = (tail_of rest).requests;
     }
 of_actions [] rest = refl
@@ -139,45 +179,141 @@ of_actions (a ∷ actions) rest =
     let later = of_actions actions rest in
     ap tail_of (append_assoc (lines_of_action a) (flat_map lines_of_action actions) (line.Commit ∷ rest))
     ∙ (of_action a (flat_map lines_of_action actions ++ line.Commit ∷ rest) (ap (λ t. t.lines) later)
-    ∙ ap (λ t. record { lines = []; actions = a ∷ t.actions; block = t.block; requests = t.requests }) later)
+    ∙ ap (λ t. record {
+      lines = [];
+      actions = a ∷ t.actions;
+      block = t.block;
+      dropped = t.dropped;
+      requests = t.requests;
+    }) later)
 
 of_block : (questions : List Question) (rest : List ScriptLine)
     → tail_of (map line.Query questions ++ line.Answer ∷ rest) ≡ record {
       lines = [];
       actions = [];
       block = Some questions;
+      dropped = false;
       requests = (tail_of rest).requests;
     }
 of_block [] rest = refl
 of_block (question ∷ questions) rest = ap (before (line.Query question)) (of_block questions rest)
 
-of_request : (one : RequestRecord) (rest : List ScriptLine) → (tail_of rest).block ≡ None
-    → (tail_of (lines_of_request one ++ rest)).requests ≡ one ∷ (tail_of rest).requests
-of_request (Refresh actions) rest none =
-    ap (λ lines. (tail_of (line.Begin ∷ lines)).requests)
-    (append_assoc (flat_map lines_of_action actions) (line.Commit ∷ []) rest)
-    ∙ ap (λ t. (before line.Begin t).requests) (of_actions actions rest)
-of_request (Ask (Alone question)) rest none = ap (λ o. (before_query question (tail_of rest) o).requests) none
-of_request (Ask (Together questions)) rest none =
+of_dropped_block : (questions : List Question) (rest : List ScriptLine)
+    → tail_of (map line.Query questions ++ line.Abort ∷ rest) ≡ record {
+      lines = [];
+      actions = [];
+      block = Some questions;
+      dropped = true;
+      requests = (tail_of rest).requests;
+    }
+of_dropped_block [] rest = refl
+of_dropped_block (question ∷ questions) rest = ap (before (line.Query question)) (of_dropped_block questions rest)
+
+-- the lines of actions, be the last whole or not, change nothing of whether they are dropped, and of later requests
+abbrev later_of : Tail → Bool × List RequestRecord
+later_of tail = (tail.dropped, tail.requests)
+
+later_order : (order : List LineFields) (rest : List ScriptLine)
+    → later_of (tail_of (map line.Line order ++ rest)) ≡ later_of (tail_of rest)
+later_order [] rest = refl
+later_order (row ∷ order) rest = later_order order rest
+
+later_action : (a : Action) (rest : List ScriptLine)
+    → later_of (tail_of (lines_of_action a ++ rest)) ≡ later_of (tail_of rest)
+later_action (action.Add order) rest = later_order order rest
+later_action (action.Amend order) rest = later_order order rest
+later_action (action.Withdraw key) rest = refl
+
+later_actions : (actions : List Action) (rest : List ScriptLine)
+    → later_of (tail_of (flat_map lines_of_action actions ++ rest)) ≡ later_of (tail_of rest)
+later_actions [] rest = refl
+later_actions (a ∷ actions) rest =
+    ap (λ lines. later_of (tail_of lines)) (append_assoc (lines_of_action a) (flat_map lines_of_action actions) rest)
+    ∙ (later_action a (flat_map lines_of_action actions ++ rest) ∙ later_actions actions rest)
+
+begin_dropped : (tail : Tail) (requests : List RequestRecord) → later_of tail ≡ (true, requests)
+    → (before line.Begin tail).requests ≡ Abort ∷ requests
+begin_dropped tail requests e =
+    rw (ap (λ (p : Bool × List RequestRecord). p.0) e, ap (λ (p : Bool × List RequestRecord). p.1) e) refl
+
+of_begun : (b : Begun) (rest : List ScriptLine) → is_outside b ≡ false
+    → (tail_of ((lines_of_begun b ++ line.Abort ∷ []) ++ rest)).requests ≡ Abort ∷ (tail_of rest).requests
+of_begun begun.Nothing rest inside = absurd cc
+of_begun (begun.Refresh actions) rest inside =
+    let acts = flat_map lines_of_action actions in
+    begin_dropped (tail_of ((acts ++ line.Abort ∷ []) ++ rest)) (tail_of rest).requests
+    (ap (λ lines. later_of (tail_of lines)) (append_assoc acts (line.Abort ∷ []) rest)
+    ∙ later_actions actions (line.Abort ∷ rest))
+of_begun (begun.Order order) rest inside =
+    let acts = flat_map lines_of_action order.actions in
+    let last : List ScriptLine = line.Open order.opening ∷ map line.Line order.lines in
+    begin_dropped (tail_of (((acts ++ last) ++ line.Abort ∷ []) ++ rest)) (tail_of rest).requests
+    (ap (λ lines. later_of (tail_of lines))
+    (append_assoc (acts ++ last) (line.Abort ∷ []) rest ∙ append_assoc acts last (line.Abort ∷ rest))
+    ∙ (later_actions order.actions (last ++ line.Abort ∷ rest) ∙ later_order order.lines (line.Abort ∷ rest)))
+of_begun (begun.Asked questions) rest inside =
     ap (λ lines. (tail_of (line.Ask ∷ lines)).requests)
+    (append_assoc (map line.Query questions) (line.Abort ∷ []) rest)
+    ∙ ap (λ t. (before line.Ask t).requests) (of_dropped_block questions rest)
+
+of_request : (one : RequestRecord) (lines rest : List ScriptLine) → Spell one lines → (tail_of rest).block ≡ None
+    → (tail_of (lines ++ rest)).requests ≡ one ∷ (tail_of rest).requests
+of_request (Refresh actions) lines rest spell none =
+    ap (λ first. (tail_of (first ++ rest)).requests) spell
+    ∙ (ap (λ lines. (tail_of (line.Begin ∷ lines)).requests)
+    (append_assoc (flat_map lines_of_action actions) (line.Commit ∷ []) rest)
+    ∙ ap (λ t. (before line.Begin t).requests) (of_actions actions rest))
+of_request (Ask (Alone question)) lines rest spell none =
+    ap (λ first. (tail_of (first ++ rest)).requests) spell
+    ∙ ap (λ o. (before_query question (tail_of rest) o).requests) none
+of_request (Ask (Together questions)) lines rest spell none =
+    ap (λ first. (tail_of (first ++ rest)).requests) spell
+    ∙ (ap (λ lines. (tail_of (line.Ask ∷ lines)).requests)
     (append_assoc (map line.Query questions) (line.Answer ∷ []) rest)
-    ∙ ap (λ t. (before line.Ask t).requests) (of_block questions rest)
+    ∙ ap (λ t. (before line.Ask t).requests) (of_block questions rest))
+of_request Abort lines rest spell none =
+    ap (λ first. (tail_of (first ++ rest)).requests) spell.joined ∙ of_begun spell.begun rest spell.inside
 
 -- a request begins with no line that a block goes on with
-no_block : (one : RequestRecord) (rest : List ScriptLine) → (tail_of rest).block ≡ None
-    → (tail_of (lines_of_request one ++ rest)).block ≡ None
-no_block (Refresh actions) rest none = refl
-no_block (Ask (Alone question)) rest none = ap (λ o. (before_query question (tail_of rest) o).block) none
-no_block (Ask (Together questions)) rest none = refl
+begun_no_block : (b : Begun) (more : List ScriptLine) → is_outside b ≡ false
+    → (tail_of (lines_of_begun b ++ more)).block ≡ None
+begun_no_block begun.Nothing more inside = absurd cc
+begun_no_block (begun.Refresh actions) more inside = refl
+begun_no_block (begun.Order order) more inside = refl
+begun_no_block (begun.Asked questions) more inside = refl
 
-no_blocks : (requests : List RequestRecord) → (tail_of (lines_of_requests requests)).block ≡ None
-no_blocks [] = refl
-no_blocks (one ∷ requests) = no_block one (lines_of_requests requests) (no_blocks requests)
+no_block : (one : RequestRecord) (lines rest : List ScriptLine) → Spell one lines → (tail_of rest).block ≡ None
+    → (tail_of (lines ++ rest)).block ≡ None
+no_block (Refresh actions) lines rest spell none = ap (λ first. (tail_of (first ++ rest)).block) spell
+no_block (Ask (Alone question)) lines rest spell none =
+    ap (λ first. (tail_of (first ++ rest)).block) spell ∙ ap (λ o. (before_query question (tail_of rest) o).block) none
+no_block (Ask (Together questions)) lines rest spell none = ap (λ first. (tail_of (first ++ rest)).block) spell
+no_block Abort lines rest spell none =
+    ap (λ first. (tail_of (first ++ rest)).block) spell.joined
+    ∙ (ap (λ all. (tail_of all).block) (append_assoc (lines_of_begun spell.begun) (line.Abort ∷ []) rest)
+    ∙ begun_no_block spell.begun (line.Abort ∷ rest) spell.inside)
 
-of_requests : (requests : List RequestRecord) → (tail_of (lines_of_requests requests)).requests ≡ requests
-of_requests [] = refl
-of_requests (one ∷ requests) = of_request one (lines_of_requests requests) (no_blocks requests)
-    ∙ ap (λ rest. one ∷ rest) (of_requests requests)
+no_blocks : (requests : List RequestRecord) (parts : List (List ScriptLine)) → AllZip Spell requests parts
+    → (tail_of (lines_in parts)).block ≡ None
+no_blocks [] [] each = refl
+no_blocks [] (part ∷ parts) each = absurd each
+no_blocks (one ∷ requests) [] each = absurd each
+no_blocks (one ∷ requests) (part ∷ parts) each =
+    no_block one part (lines_in parts) each.0 (no_blocks requests parts each.1)
+
+of_parts : (requests : List RequestRecord) (parts : List (List ScriptLine)) → AllZip Spell requests parts
+    → (tail_of (lines_in parts)).requests ≡ requests
+of_parts [] [] each = refl
+of_parts [] (part ∷ parts) each = absurd each
+of_parts (one ∷ requests) [] each = absurd each
+of_parts (one ∷ requests) (part ∷ parts) each =
+    of_request one part (lines_in parts) each.0 (no_blocks requests parts each.1)
+    ∙ ap (λ rest. one ∷ rest) (of_parts requests parts each.1)
+
+of_requests : (requests : List RequestRecord) (lines : List ScriptLine) → SpellAll requests lines
+    → (tail_of lines).requests ≡ requests
+of_requests requests lines spell =
+    ap (λ all. (tail_of all).requests) spell.joined ∙ of_parts requests spell.parts spell.each
 
 -- the records of a text are one list
 pub one_list : (cfg : Config) (s s1 s2 : State) (text ys zs : List ℕ) (one other : List (List (List ℕ)))
@@ -212,11 +348,10 @@ pub one_reading : (text : List ℕ) → HasOneReading text
 one_reading text most more one other a b =
     let records : a.records ≡ b.records = one_list record_config st.StartRecord a.all.0 b.all.0 (strip_bom text) a.all.1
     b.all.1 a.records b.records a.all.2 a.all.3 b.all.2 b.all.3 in
-    let results : map Ok (lines_of_requests one) ≡ map Ok (lines_of_requests other) =
-    sym a.spelled ∙ (ap (map line_of) records ∙ b.spelled) in
-    let lines : lines_of_requests one ≡ lines_of_requests other =
-    sym (all_given (lines_of_requests one)) ∙ (ap (map given) results ∙ all_given (lines_of_requests other)) in
-    sym (of_requests one) ∙ (ap (λ lines. (tail_of lines).requests) lines ∙ of_requests other)
+    let results : map Ok a.lines ≡ map Ok b.lines = sym a.said ∙ (ap (map line_of) records ∙ b.said) in
+    let lines : a.lines ≡ b.lines = sym (all_given a.lines) ∙ (ap (map given) results ∙ all_given b.lines) in
+    sym (of_requests one a.lines a.spelled)
+    ∙ (ap (λ lines. (tail_of lines).requests) lines ∙ of_requests other b.lines b.spelled)
 
 -- a text of no bytes asks nothing
 spells_nothing : (most : ℕ) → SpellsScript most [] []
@@ -225,7 +360,9 @@ spells_nothing most = record {
   records = [];
   all = (st.StartRecord, [], (refl, refl), refl);
   few = omega arith;
-  spelled = refl;
+  lines = [];
+  said = refl;
+  spelled = record { parts = []; each = tt; joined = refl };
   whole = All-nil IsWholeRequest;
 }
 

@@ -13,12 +13,14 @@ use Rattle.std.proofs.Common.{
   ◌++◌,
   Option,
   Some,
+  None,
   Result,
   Ok,
   Err,
   map,
   length,
   refl,
+  subst,
   sym,
   ap,
   ◌∙◌,
@@ -27,10 +29,11 @@ use Rattle.std.proofs.Common.{
   arith,
 }
 use Rattle.std.proofs.lemmas.List.Elements.{All-append, All-nil}
+use Rattle.std.specs.List.{AllZip}
+use Rattle.std.specs.Option.{option_to_list}
 use Rattle.std.specs.Result.{IfOk, IfErr}
 use Rattle.std.proofs.lemmas.Bool.{le-ltb, lt-ltb}
 use Rattle.std.proofs.lemmas.List.{append_assoc, append-nil, map-append, length_push}
-use Rattle.std.proofs.lemmas.Grind.{flat_map-append}
 use Rattle.csv.specs.declared.reader.Reader.{Reader}
 use Rattle.ssb_text.specs.Records.{GivesNext, HasGiven}
 use Rattle.ssb_text.specs.declared.records.ReadError.{ReadError}
@@ -38,8 +41,10 @@ use Rattle.ssb_text.specs.declared.records.ReadError.TheVariants as read
 use Rattle.ssb_script.specs.Begun.{Begun, Nothing}
 use Rattle.ssb_script.specs.Errors.{error_of_read}
 use Rattle.ssb_script.specs.Lines.{ScriptLine, line_of, word_of}
-use Rattle.ssb_script.specs.Requests.{RequestRecord, IsWholeRequest, lines_of_request, lines_of_requests, requests_of}
+use Rattle.ssb_script.specs.Requests.{RequestRecord, IsWholeRequest, request_of, requests_of}
 use Rattle.ssb_script.specs.Scripts.{
+  Spell,
+  SpellAll,
   Spells,
   SpellsScript,
   IsFirstFault,
@@ -49,11 +54,13 @@ use Rattle.ssb_script.specs.Scripts.{
   checks_in,
   fault_of,
   first_of,
+  lines_in,
   lines_of_begun,
   order_refused,
 }
-use Rattle.ssb_script.specs.Steps.{Follows, IsFoundBy, asked, begun_in}
+use Rattle.ssb_script.specs.Steps.{AreTaken, Follows, IsFoundBy, asked, begun_in}
 use Rattle.ssb_script.specs.declared.begun.Step.{Step}
+use Rattle.ssb_script.specs.declared.request.Request.{Request}
 use Rattle.ssb_script.specs.declared.request.Script.{Script}
 use Rattle.ssb_script.specs.declared.error.ScriptError.{ScriptError}
 use Rattle.ssb_script.specs.declared.error.ScriptError.TheVariants as error
@@ -79,33 +86,76 @@ read_nothing remaining text reader given = record {
   records = [];
   given = given;
   many = refl;
-  spells = record { spelled = refl; whole = All-nil IsWholeRequest; room = tt; settled = tt };
+  spells = record {
+    lines = [];
+    said = refl;
+    spelled = record { parts = []; each = tt; joined = refl };
+    whole = All-nil IsWholeRequest;
+    room = tt;
+    settled = tt;
+  };
 }
 
--- the lines of one record more
-lines_more : (before begun asked begun' : List ScriptLine) (line : ScriptLine) → begun ++ line ∷ [] ≡ asked ++ begun'
-    → (before ++ begun) ++ line ∷ [] ≡ (before ++ asked) ++ begun'
-lines_more before begun asked begun' line e = append_assoc before begun (line ∷ []) ∙ ap (λ rest. before ++ rest) e
-    ∙ sym (append_assoc before asked begun')
+zip_push : {A B : Type 0} (R : A → B → Type 0) (xs : List A) (ys : List B) (x : A) (y : B) → AllZip R xs ys → R x y
+    → AllZip R (xs ++ x ∷ []) (ys ++ y ∷ [])
+zip_push R [] [] x y all one = (one, tt)
+zip_push R [] (b ∷ ys) x y all one = absurd all
+zip_push R (a ∷ xs) [] x y all one = absurd all
+zip_push R (a ∷ xs) (b ∷ ys) x y all one = (all.0, zip_push R xs ys x y all.1 one)
+
+lines_push : (parts : List (List ScriptLine)) (part : List ScriptLine)
+    → lines_in (parts ++ part ∷ []) ≡ lines_in parts ++ part
+lines_push [] part = append-nil part
+lines_push (first ∷ parts) part = ap (λ rest. first ++ rest) (lines_push parts part)
+    ∙ sym (append_assoc first (lines_in parts) part)
+
+-- one request more
+spell_push : (requests : List RequestRecord) (before : List ScriptLine) (one : RequestRecord) (lines : List ScriptLine)
+    → SpellAll requests before → Spell one lines → SpellAll (requests ++ one ∷ []) (before ++ lines)
+spell_push requests before one lines so_far spell = record {
+  parts = so_far.parts ++ lines ∷ [];
+  each = zip_push Spell requests so_far.parts one lines so_far.each spell;
+  joined = ap (λ first. first ++ lines) so_far.joined ∙ sym (lines_push so_far.parts lines);
+}
+
+-- the lines of requests, and those of what is begun, where some were taken up
+record Grown (before : List ScriptLine) (requests : List RequestRecord) (taken : List ScriptLine)
+    (request : Option Request) (begun : Begun) : Type 0 where
+  lines : List ScriptLine
+  same : before ++ taken ≡ lines ++ lines_of_begun begun
+  spelled : SpellAll (requests ++ map request_of (option_to_list request)) lines
+
+grown : (before : List ScriptLine) (requests : List RequestRecord) (taken : List ScriptLine) (request : Option Request)
+    (begun : Begun)
+    → SpellAll requests before → AreTaken taken request begun → Grown before requests taken request begun
+grown before requests taken None begun so_far are = record {
+  lines = before;
+  same = ap (λ rest. before ++ rest) are;
+  spelled = subst (λ all. SpellAll all before) (sym (append-nil requests)) so_far;
+}
+grown before requests taken (Some request) begun so_far are = record {
+  lines = before ++ taken;
+  same = rw are.1 (sym (append-nil (before ++ taken)));
+  spelled = spell_push requests before (request_of request) taken so_far are.0;
+}
 
 spells_more : (records : List (List (List ℕ))) (requests : List RequestRecord) (old : Begun) (fields : List (List ℕ))
     (line : ScriptLine) (step : Step)
     → Spells records requests old → line_of fields ≡ Ok line → Follows (length records + 1) old line step
     → Spells (records ++ fields ∷ []) (requests ++ asked step) (begun_in step.begun)
-spells_more records requests old fields line step so_far spelled follows = record {
-  spelled = rw (
-    map-append line_of records (fields ∷ []),
-    so_far.spelled,
-    spelled,
-    flat_map-append lines_of_request requests (asked step),
-  )
-      (sym (map-append Ok (lines_of_requests requests ++ lines_of_begun old) (line ∷ []))
-      ∙ ap (map Ok) (lines_more (lines_of_requests requests) (lines_of_begun old) (lines_of_requests (asked step))
-      (lines_of_begun (begun_in step.begun)) line follows.lines));
-  whole = All-append IsWholeRequest requests (asked step) so_far.whole follows.whole;
-  room = rw (length_push records fields) follows.room;
-  settled = follows.settled;
-}
+spells_more records requests old fields line step so_far spelled follows =
+    let more = grown so_far.lines requests (lines_of_begun old ++ line ∷ []) step.request (begun_in step.begun)
+    so_far.spelled follows.taken in
+    record {
+      lines = more.lines;
+      said = rw (map-append line_of records (fields ∷ []), so_far.said, spelled)
+          (sym (map-append Ok (so_far.lines ++ lines_of_begun old) (line ∷ []))
+          ∙ ap (map Ok) (append_assoc so_far.lines (lines_of_begun old) (line ∷ []) ∙ more.same));
+      spelled = more.spelled;
+      whole = All-append IsWholeRequest requests (asked step) so_far.whole follows.whole;
+      room = rw (length_push records fields) follows.room;
+      settled = follows.settled;
+    }
 
 -- one more record was read
 pub read_more : {R : Type 0} (remaining : R → Option (List ℕ)) (text : List ℕ) (old new : Reader R) (count : ℕ)
@@ -129,7 +179,9 @@ read_all remaining most text old new count requests fields so_far next few = rec
   records = so_far.records;
   all = next text so_far.records so_far.given;
   few = rw so_far.many few;
-  spelled = so_far.spells.spelled ∙ ap (map Ok) (append-nil (lines_of_requests requests));
+  lines = so_far.spells.lines;
+  said = so_far.spells.said ∙ ap (map Ok) (append-nil so_far.spells.lines);
+  spelled = so_far.spells.spelled;
   whole = so_far.spells.whole;
 }
 

@@ -16,6 +16,7 @@ use Rattle.std.proofs.Common.{
   Err,
   map,
   refl,
+  subst,
   sym,
   ap,
   ◌∙◌,
@@ -28,6 +29,7 @@ use Rattle.std.specs.List.{flat_map}
 use Rattle.std.specs.Option.{option_map}
 use Rattle.std.specs.Result.{IfOk, IfErr}
 use Rattle.std.specs.Bool.{if◌then◌else◌}
+use Rattle.std.specs.Prelude.{◌||◌}
 use Rattle.std.proofs.lemmas.List.{append-nil, length_push}
 use Rattle.std.proofs.lemmas.List.Elements.{All-push}
 use Rattle.std.proofs.lemmas.Grind.{flat_map-append}
@@ -37,7 +39,7 @@ use Rattle.ssb_schema.specs.declared.refresh.Action.{Action}
 use Rattle.ssb_schema.specs.declared.refresh.Action.TheVariants as action
 use Rattle.ssb_script.specs.Begun.{Begun}
 use Rattle.ssb_script.specs.Begun as begun
-use Rattle.ssb_script.specs.Lines.{ScriptLine, RecordFault, Open, Line, Begin, is_line, line_or_bad}
+use Rattle.ssb_script.specs.Lines.{ScriptLine, RecordFault, Abort, Open, Line, Begin, alone, is_abort, is_line, line_or_bad}
 use Rattle.ssb_script.specs.Requests.{IsWholeAction, action_of, lines_of_action}
 use Rattle.ssb_script.specs.Scripts.{
   HasRoom,
@@ -48,7 +50,7 @@ use Rattle.ssb_script.specs.Scripts.{
   order_refused,
   refusal_at_end,
 }
-use Rattle.ssb_script.specs.Steps.{Follows, IsFoundBy, ended_of, begun_of, line_of_control}
+use Rattle.ssb_script.specs.Steps.{AreTaken, Follows, IsFoundBy, begun_in, begun_of, ended_of, line_of_control}
 use Rattle.ssb_script.specs.declared.begun.Ended.{Ended}
 use Rattle.ssb_script.specs.declared.begun.Step.{Step}
 use Rattle.ssb_script.specs.declared.control.Control.{Control}
@@ -104,7 +106,8 @@ room-ended count after (begun.Order order) room whole =
 pub follows-ended : (number : ℕ) (b : Begun) (line : ScriptLine) (step : Step)
     → Follows number (begun_of (ended_of b)) line step → Follows number b line step
 follows-ended number b line step follows = record {
-  lines = ap (λ lines. lines ++ line ∷ []) (sym (lines-ended b)) ∙ follows.lines;
+  taken = subst (λ lines. AreTaken (lines ++ line ∷ []) step.request (begun_in step.begun)) (lines-ended b)
+      follows.taken;
   whole = follows.whole;
   room = follows.room;
   settled = follows.settled;
@@ -139,7 +142,7 @@ refused_later (Err e) b word checks none (inl memory) = inl memory
 refused_later (Err e) b word checks none (inr found) = inr (rw none found)
 
 pub not_refused : (b : Begun) (word : Option Word) → refusal_at_end b ≡ None → order_refused b word ≡ None
-not_refused b word none = by (is_line word)
+not_refused b word none = by (is_line word || is_abort word)
   where
     by : (line : Bool) → (if line then None else refusal_at_end b) ≡ None
     by true = refl
@@ -147,6 +150,13 @@ not_refused b word none = by (is_line word)
 
 pub line_not_refused : (b : Begun) (word : Option Word) → is_line word ≡ true → order_refused b word ≡ None
 line_not_refused b word is_one = rw is_one refl
+
+pub abort_not_refused : (b : Begun) (word : Option Word) → is_abort word ≡ true → order_refused b word ≡ None
+abort_not_refused b word is_one = by (is_line word)
+  where
+    by : (line : Bool) → (if line || is_abort word then None else refusal_at_end b) ≡ None
+    by true = refl
+    by false = rw is_one refl
 
 -- what comes of a record that is no `line`, once the order has ended
 pub step_after : (result : Result Step ScriptError) (number : ℕ) (b : Begun) (spelled : Result ScriptLine RecordFault)
@@ -173,3 +183,10 @@ pub ends_withdrawn : (actions : List Action) (key : ℕ) → ends_in_order (acti
 ends_withdrawn [] key = refl
 ends_withdrawn (a ∷ []) key = refl
 ends_withdrawn (a ∷ b ∷ actions) key = ends_withdrawn (b ∷ actions) key
+
+-- what comes of an `abort`
+pub abort_step : (result : Result Step ScriptError) (number : ℕ) (b : Begun) (fields : List (List ℕ))
+    → IfOk result (λ step. (alone Abort fields ≡ Some Abort) × Follows number b Abort step)
+    → IfOk result (λ step. (line : ScriptLine) × (line_or_bad (alone Abort fields) ≡ Ok line) × Follows number b line step)
+abort_step (Ok step) number b fields told = (Abort, ap line_or_bad told.0, told.1)
+abort_step (Err e) number b fields told = tt

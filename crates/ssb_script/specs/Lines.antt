@@ -64,6 +64,7 @@ pub data ScriptLine : Type 0 where
   Commit : ScriptLine
   Ask : ScriptLine
   Answer : ScriptLine
+  Abort : ScriptLine
 
 -- why a record says nothing: it is none of a script's, or the schema refuses its line
 pub data RecordFault : Type 0 where
@@ -81,10 +82,11 @@ spelling_of word.Withdraw = codes "withdraw"
 spelling_of word.Commit = codes "commit"
 spelling_of word.Ask = codes "ask"
 spelling_of word.Answer = codes "answer"
+spelling_of word.Abort = codes "abort"
 
 abbrev pub words : List Word
 words = word.Query ∷ word.Begin ∷ word.Add ∷ word.Amend ∷ word.Line ∷ word.Withdraw ∷ word.Commit ∷ word.Ask ∷
-    word.Answer ∷ []
+    word.Answer ∷ word.Abort ∷ []
 
 -- the word that bytes spell, letter for letter
 abbrev pub word_spelled : List ℕ → Option Word
@@ -220,11 +222,17 @@ line_after (Some word.Withdraw) fields = line_or_bad (option_map Withdraw (key_o
 line_after (Some word.Commit) fields = line_or_bad (alone Commit fields)
 line_after (Some word.Ask) fields = line_or_bad (alone Ask fields)
 line_after (Some word.Answer) fields = line_or_bad (alone Answer fields)
+line_after (Some word.Abort) fields = line_or_bad (alone Abort fields)
 
 -- whether a record is a `line`, which goes by its word alone
 abbrev pub is_line : Option Word → Bool
 is_line (Some word.Line) = true
 is_line _ = false
+
+-- whether a record is an `abort`, which goes by its word alone too
+abbrev pub is_abort : Option Word → Bool
+is_abort (Some word.Abort) = true
+is_abort _ = false
 
 -- what a record spells
 unfoldable pub line_of : List (List ℕ) → Result ScriptLine RecordFault

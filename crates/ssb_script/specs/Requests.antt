@@ -18,14 +18,17 @@ use Rattle.ssb_script.specs.Lines as line
 use Rattle.ssb_script.specs.declared.control.Opening.{Opening}
 use Rattle.ssb_script.specs.declared.control.Opening.TheVariants.{Add, Amend}
 
--- what a request asks: the actions of a refresh, or questions, each a query with its constants
+-- what a request asks: the actions of a refresh, or questions, each a query with its constants; or that what it began be
+-- dropped
 pub data RequestRecord : Type 0 where
   Refresh : List Action → RequestRecord
   Ask : Asking → RequestRecord
+  Abort : RequestRecord
 
 abbrev pub request_of : Request → RequestRecord
 request_of (request.Refresh refresh) = Refresh refresh.value
 request_of (request.Ask asking) = Ask asking
+request_of request.Abort = Abort
 
 -- the questions that are asked, in order
 abbrev pub questions_in : Asking → List (Named × List Value)
@@ -40,22 +43,18 @@ most_questions = 16
 abbrev pub requests_of : Script → List RequestRecord
 requests_of script = map request_of script.requests.items
 
--- the lines of a script that spell an action, questions, a request
+-- the lines of a script that spell an action, a refresh, questions
 abbrev pub lines_of_action : Action → List ScriptLine
 lines_of_action (action.Add order) = line.Open Add ∷ map line.Line order
 lines_of_action (action.Amend order) = line.Open Amend ∷ map line.Line order
 lines_of_action (action.Withdraw key) = line.Withdraw key ∷ []
 
+abbrev pub lines_of_refresh : List Action → List ScriptLine
+lines_of_refresh actions = line.Begin ∷ (flat_map lines_of_action actions ++ line.Commit ∷ [])
+
 abbrev pub lines_of_asking : Asking → List ScriptLine
 lines_of_asking (Alone question) = line.Query question ∷ []
 lines_of_asking (Together questions) = line.Ask ∷ (map line.Query questions ++ line.Answer ∷ [])
-
-abbrev pub lines_of_request : RequestRecord → List ScriptLine
-lines_of_request (Refresh actions) = line.Begin ∷ (flat_map lines_of_action actions ++ line.Commit ∷ [])
-lines_of_request (Ask asking) = lines_of_asking asking
-
-abbrev pub lines_of_requests : List RequestRecord → List ScriptLine
-lines_of_requests requests = flat_map lines_of_request requests
 
 -- the action of an order that began so
 abbrev pub action_of : Opening → List LineFields → Action
@@ -77,3 +76,4 @@ IsWholeAsking (Together questions) = (1 ≤ length questions) × (length questio
 abbrev pub IsWholeRequest : RequestRecord → Type 0
 IsWholeRequest (Refresh actions) = (refresh_fault actions ≡ None) × All IsWholeAction actions
 IsWholeRequest (Ask asking) = IsWholeAsking asking
+IsWholeRequest Abort = Unit {0}

@@ -30,7 +30,7 @@ use Rattle.std.specs.Prelude.{
   nat_lt,
   if◌then◌else◌,
 }
-use Rattle.std.specs.List.{flat_map}
+use Rattle.std.specs.List.{AllZip, flat_map}
 use Rattle.ssb_text.specs.Records.{BeginsWith, HasRecords}
 use Rattle.ssb_schema.specs.Orders.{order_fault, most_order_lines}
 use Rattle.ssb_schema.specs.Refreshes.{most_actions}
@@ -39,27 +39,23 @@ use Rattle.ssb_schema.specs.declared.refresh.Action.{Action}
 use Rattle.ssb_schema.specs.declared.refresh.Action.TheVariants as action
 use Rattle.ssb_script.specs.Begun.{Begun}
 use Rattle.ssb_script.specs.Begun as begun
-use Rattle.ssb_script.specs.Lines.{is_line, line_of, word_of, ScriptLine, RecordFault, Bad, Refused}
+use Rattle.ssb_script.specs.Lines.{is_abort, is_line, line_of, word_of, ScriptLine, RecordFault, Bad, Refused}
 use Rattle.ssb_script.specs.Lines as line
 use Rattle.ssb_script.specs.Requests.{
   RequestRecord,
   IsWholeAction,
   IsWholeRequest,
+  Refresh,
+  Ask,
+  Abort,
   lines_of_action,
-  lines_of_requests,
+  lines_of_asking,
+  lines_of_refresh,
   most_questions,
 }
 use Rattle.ssb_script.specs.declared.error.ScriptError.{ScriptError}
 use Rattle.ssb_script.specs.declared.error.ScriptError.TheVariants as error
 use Rattle.ssb_script.specs.declared.word.Word.{Word}
-
--- a text spells these requests: its records, at most so many, spell their lines and nothing else
-pub record SpellsScript (most : ℕ) (text : List ℕ) (requests : List RequestRecord) : Type 0 where
-  pub records : List (List (List ℕ))
-  pub all : HasRecords text records
-  pub few : length records ≤ most
-  pub spelled : map line_of records ≡ map Ok (lines_of_requests requests)
-  pub whole : All IsWholeRequest requests
 
 -- the lines of the refresh, and in it of the order, or of the block that is begun and not ended
 abbrev pub lines_of_begun : Begun → List ScriptLine
@@ -77,31 +73,6 @@ HasRoom count (begun.Order order) =
     (length order.actions < most_actions) × All IsWholeAction order.actions × (length order.lines ≤ most_order_lines)
     × (order.number + length order.lines ≡ count)
 HasRoom count (begun.Asked questions) = length questions ≤ most_questions
-
--- whether the last of these actions adds or amends an order
-abbrev pub is_order : Action → Bool
-is_order (action.Add order) = true
-is_order (action.Amend order) = true
-is_order (action.Withdraw key) = false
-
-abbrev pub ends_in_order : List Action → Bool
-ends_in_order [] = false
-ends_in_order (last ∷ []) = is_order last
-ends_in_order (one ∷ next ∷ actions) = ends_in_order (next ∷ actions)
-
--- an order that has begun is being read until a record that is no `line` follows, and so is no action yet
-abbrev pub IsSettled : Begun → Type 0
-IsSettled begun.Nothing = Unit {0}
-IsSettled (begun.Refresh actions) = ends_in_order actions ≡ false
-IsSettled (begun.Order order) = Unit {0}
-IsSettled (begun.Asked questions) = Unit {0}
-
--- records spell whole requests, and then what is begun
-pub record Spells (records : List (List (List ℕ))) (requests : List RequestRecord) (begun : Begun) : Type 0 where
-  pub spelled : map line_of records ≡ map Ok (lines_of_requests requests ++ lines_of_begun begun)
-  pub whole : All IsWholeRequest requests
-  pub room : HasRoom (length records) begun
-  pub settled : IsSettled begun
 
 -- whether nothing is begun; whether a refresh is; whether an order is; whether a block is
 abbrev pub is_outside : Begun → Bool
@@ -128,6 +99,67 @@ is_asking (begun.Refresh actions) = false
 is_asking (begun.Order order) = false
 is_asking (begun.Asked questions) = true
 
+-- these lines begin a refresh or a block, be its last order whole or not, and then drop it
+pub record AreDropped (lines : List ScriptLine) : Type 0 where
+  pub begun : Begun
+  pub inside : is_outside begun ≡ false
+  pub count : ℕ
+  pub room : HasRoom count begun
+  pub joined : lines ≡ lines_of_begun begun ++ line.Abort ∷ []
+
+-- these lines spell a request; those of one that is dropped may be any that begin it
+abbrev pub Spell : RequestRecord → List ScriptLine → Type 0
+Spell (Refresh actions) lines = lines ≡ lines_of_refresh actions
+Spell (Ask asking) lines = lines ≡ lines_of_asking asking
+Spell Abort lines = AreDropped lines
+
+-- the lines of parts, one part after another
+abbrev pub lines_in : List (List ScriptLine) → List ScriptLine
+lines_in parts = flat_map (λ part. part) parts
+
+-- these lines spell requests, one after another
+pub record SpellAll (requests : List RequestRecord) (lines : List ScriptLine) : Type 0 where
+  pub parts : List (List ScriptLine)
+  pub each : AllZip Spell requests parts
+  pub joined : lines ≡ lines_in parts
+
+-- a text spells these requests: its records, at most so many, spell their lines and nothing else
+pub record SpellsScript (most : ℕ) (text : List ℕ) (requests : List RequestRecord) : Type 0 where
+  pub records : List (List (List ℕ))
+  pub all : HasRecords text records
+  pub few : length records ≤ most
+  pub lines : List ScriptLine
+  pub said : map line_of records ≡ map Ok lines
+  pub spelled : SpellAll requests lines
+  pub whole : All IsWholeRequest requests
+
+-- whether the last of these actions adds or amends an order
+abbrev pub is_order : Action → Bool
+is_order (action.Add order) = true
+is_order (action.Amend order) = true
+is_order (action.Withdraw key) = false
+
+abbrev pub ends_in_order : List Action → Bool
+ends_in_order [] = false
+ends_in_order (last ∷ []) = is_order last
+ends_in_order (one ∷ next ∷ actions) = ends_in_order (next ∷ actions)
+
+-- an order that has begun is being read until a record that is no `line` follows, and so is no action yet
+abbrev pub IsSettled : Begun → Type 0
+IsSettled begun.Nothing = Unit {0}
+IsSettled (begun.Refresh actions) = ends_in_order actions ≡ false
+IsSettled (begun.Order order) = Unit {0}
+IsSettled (begun.Asked questions) = Unit {0}
+
+-- records spell whole requests, and then what is begun
+pub record Spells (records : List (List (List ℕ))) (requests : List RequestRecord) (begun : Begun) : Type 0 where
+  pub lines : List ScriptLine
+  pub said : map line_of records ≡ map Ok (lines ++ lines_of_begun begun)
+  pub spelled : SpellAll requests lines
+  pub whole : All IsWholeRequest requests
+  pub room : HasRoom (length records) begun
+  pub settled : IsSettled begun
+
 -- how many actions the refresh has, that of the order which is being read among them
 abbrev pub actions_in : Begun → ℕ
 actions_in begun.Nothing = 0
@@ -152,6 +184,7 @@ may_stand b (line.Withdraw key) = is_refreshing b
 may_stand b line.Commit = is_refreshing b
 may_stand b line.Ask = is_outside b
 may_stand b line.Answer = is_asking b
+may_stand b line.Abort = not (is_outside b)
 
 -- whether a record spells a line, were it not for the schema, that may stand there
 abbrev pub is_good : Begun → Result ScriptLine RecordFault → Bool
@@ -172,9 +205,9 @@ refusal_at_end (begun.Refresh actions) = None
 refusal_at_end (begun.Order order) = option_map (error.Row order.number) (order_fault order.lines)
 refusal_at_end (begun.Asked questions) = None
 
--- 2. it is no `line`, so that the order which is being read ends, and that order is refused
+-- 2. it is no `line` and no `abort`, so that the order which is being read ends, and that order is refused
 abbrev pub order_refused : Begun → Option Word → Option ScriptError
-order_refused b word = if is_line word then None else refusal_at_end b
+order_refused b word = if is_line word || is_abort word then None else refusal_at_end b
 
 -- 3. it spells no line, or one that may not stand there
 abbrev pub bad_line : ℕ → Begun → Result ScriptLine RecordFault → Option ScriptError

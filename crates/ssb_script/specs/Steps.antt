@@ -1,12 +1,12 @@
 -- What one record of a script says, and does to what is begun.
-use Rattle.std.specs.Prelude.{◌≡◌, ℕ, ◌⊎◌, ◌++◌, List, [], ◌∷◌, map, All, Option, Some, Result, Ok, Err}
+use Rattle.std.specs.Prelude.{◌≡◌, ℕ, ◌⊎◌, ◌++◌, List, [], ◌∷◌, map, All, Option, Some, None, Result, Ok, Err}
 use Rattle.std.specs.Option.{option_to_list}
 use Rattle.ssb_script.specs.Begun.{Begun, BegunOrder}
 use Rattle.ssb_script.specs.Begun as begun
 use Rattle.ssb_script.specs.Lines.{ScriptLine, RecordFault}
 use Rattle.ssb_script.specs.Lines as line
-use Rattle.ssb_script.specs.Requests.{RequestRecord, IsWholeRequest, action_of, lines_of_requests, request_of}
-use Rattle.ssb_script.specs.Scripts.{HasRoom, IsSettled, first_of, lines_of_begun}
+use Rattle.ssb_script.specs.Requests.{RequestRecord, IsWholeRequest, action_of, request_of}
+use Rattle.ssb_script.specs.Scripts.{HasRoom, IsSettled, Spell, first_of, lines_of_begun}
 use Rattle.ssb_script.specs.declared.begun.Begun.{Begun as Held}
 use Rattle.ssb_script.specs.declared.begun.Begun.TheVariants as held
 use Rattle.ssb_script.specs.declared.begun.BegunOrder.{BegunOrder as HeldOrder}
@@ -15,6 +15,7 @@ use Rattle.ssb_script.specs.declared.begun.Ended.TheVariants as ended
 use Rattle.ssb_script.specs.declared.begun.Step.{Step}
 use Rattle.ssb_script.specs.declared.control.Control.{Control}
 use Rattle.ssb_script.specs.declared.control.Control.TheVariants as control
+use Rattle.ssb_script.specs.declared.request.Request.{Request}
 use Rattle.ssb_script.specs.declared.order_line.OrderLine.{OrderLine}
 use Rattle.ssb_script.specs.declared.order_line.OrderLine.TheVariants as order_line
 use Rattle.ssb_script.specs.declared.error.ScriptError.{ScriptError}
@@ -68,9 +69,14 @@ begun_of (ended.Asked questions) = begun.Asked questions
 abbrev pub asked : Step → List RequestRecord
 asked step = map request_of (option_to_list step.request)
 
+-- these lines are those of the request that is ended, and nothing more is begun; or else of what is begun
+abbrev pub AreTaken : List ScriptLine → Option Request → Begun → Type 0
+AreTaken lines (Some request) b = Spell (request_of request) lines × (b ≡ begun.Nothing)
+AreTaken lines None b = lines ≡ lines_of_begun b
+
 -- a step takes up one more line, of the record of this number
 pub record Follows (number : ℕ) (old : Begun) (line : ScriptLine) (step : Step) : Type 0 where
-  pub lines : lines_of_begun old ++ line ∷ [] ≡ lines_of_requests (asked step) ++ lines_of_begun (begun_in step.begun)
+  pub taken : AreTaken (lines_of_begun old ++ line ∷ []) step.request (begun_in step.begun)
   pub whole : All IsWholeRequest (asked step)
   pub room : HasRoom number (begun_in step.begun)
   pub settled : IsSettled (begun_in step.begun)

@@ -1,7 +1,7 @@
 //! What the records of a script have begun and not ended, and what one more record does to it.
 
 ghost use Rattle.std.specs.Prelude.{◌≡◌, ◌+◌, ◌-◌, ◌<◌, ◌^◌, ◌++◌, ◌∷◌, [], IfOk, IfErr, None, Ok, length, nat_lt};
-ghost use Rattle.std.specs.Prelude.{option_map};
+ghost use Rattle.std.specs.Prelude.{Some, option_map};
 ghost use Rattle.csv.specs.Records.{fields_of};
 ghost use Rattle.ssb_schema.specs.Orders.{order_fault};
 ghost use Rattle.ssb_schema.specs.Refreshes.{most_actions};
@@ -18,12 +18,13 @@ use crate::error::ScriptError;
 use crate::fields::word_of;
 use crate::order_line::OrderLine;
 use crate::request::{Asking, MOST_QUESTIONS, Request};
-use crate::word::is_line;
+use crate::word::{is_abort, is_line};
 use csv::ByteRecord;
 use ssb_questions::Question;
 use ssb_schema::{
     Action, Items, Line, MOST_ACTIONS, MOST_ORDER_LINES, Order, Refresh, SchemaFault,
 };
+use ssb_text::has_columns;
 use std::alloc::{AllocError, Global};
 use std::sync::Arc;
 
@@ -313,7 +314,7 @@ impl Begun {
         }
     }
 
-    /// What comes of one more record that is no `line`, after so many: of what it says, if it says anything. The order
+    /// What comes of one more record that is no `line` and no `abort`, after so many: of what it says, if it says anything. The order
     /// that is being read ends before it.
     pub fn with_control(
         self,
@@ -339,6 +340,23 @@ impl Begun {
         }
     }
 
+    // What comes of one more record, an `abort` of this number: what is begun is dropped, be it whole or not.
+    fn with_abort(self, number: u64, fields: &ByteRecord) -> Result<Step, ScriptError>
+        requires room { HasRoom (number - 1) (begun_in self) }
+        ensures step { IfOk result (λ step. (spec.alone spec.Abort (fields_of fields.now) ≡ Some spec.Abort)
+            × Follows number (begun_in self) spec.Abort step) }
+        ensures fault { IfErr result (IsFoundBy (checks_in number (begun_in self)
+            (spec.line_or_bad (spec.alone spec.Abort (fields_of fields.now))))) }
+    {
+        if !has_columns(fields, 1) || matches!(self, Begun::Nothing) {
+            return Err(ScriptError::BadLine(number));
+        }
+        Ok(Step {
+            request: Some(Request::Abort),
+            begun: Begun::Nothing,
+        })
+    }
+
     /// What comes of one more record, after so many.
     pub(crate) fn after(
         self,
@@ -357,6 +375,9 @@ impl Begun {
         if is_line(word) {
             let number = before + 1;
             return self.with_row(number, OrderLine::of(alloc, fields)?);
+        }
+        if is_abort(word) {
+            return self.with_abort(before + 1, fields);
         }
         let control = Control::of(alloc, word, fields)?;
         self.with_control(alloc, before, control)

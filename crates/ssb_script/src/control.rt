@@ -1,9 +1,9 @@
-//! The records of a script that are no `line`.
+//! The records of a script that are no `line` and no `abort`.
 
 ghost use Rattle.std.specs.Prelude.{◌≡◌, false, option_map, IfOk};
 ghost use Rattle.csv.specs.Records.{fields_of};
 ghost use Rattle.ssb_script.specs.Lines as spec;
-ghost use Rattle.ssb_script.specs.Lines.{is_line, line_after, line_or_bad};
+ghost use Rattle.ssb_script.specs.Lines.{is_abort, is_line, line_after, line_or_bad};
 ghost use Rattle.ssb_script.specs.Steps.{line_of_control};
 ghost use Rattle.ssb_script.specs.Requests.{action_of};
 
@@ -24,7 +24,7 @@ pub enum Opening {
     Amend,
 }
 
-/// What a record that is no `line` says.
+/// What a record that is no `line` and no `abort` says.
 #[derive(Drop)]
 pub enum Control {
     /// `query`: it asks.
@@ -83,7 +83,8 @@ impl Control {
         word: Option<Word>,
         fields: &ByteRecord,
     ) -> Result<Option<Control>, AllocError>
-        requires { is_line word ≡ false }
+        requires line { is_line word ≡ false }
+        requires abort { is_abort word ≡ false }
         ensures { IfOk result (λ control. line_after word (fields_of fields.now) ≡ line_or_bad
             (option_map line_of_control control)) }
     {
@@ -100,6 +101,7 @@ impl Control {
             Word::Ask => Control::Ask.alone(fields),
             Word::Answer => Control::Answer.alone(fields),
             Word::Line => None,
+            Word::Abort => None,
         })
     }
 }

@@ -2,12 +2,13 @@
 //! (lists of whole-order actions, in the manner of TPC-H's refresh functions) and questions.
 //!
 //! A script is text, one record a line, fields parted by `|`: `query|Q4.1` asks, `ask` .. `answer` asks several questions
-//! that are answered together, `begin` .. `commit` is a refresh, and in it `add`, `amend` (each with its `line` records) and `withdraw|KEY` are its actions. The one contract, of
+//! that are answered together, `begin` .. `commit` is a refresh, and in it `add`, `amend` (each with its `line` records)
+//! and `withdraw|KEY` are its actions. `abort` in place of `answer` or `commit` drops what was begun. The one contract, of
 //! `read_script`: the requests are exactly those whose lines the script's records spell, and an error is the first fault
-//! that the script has, record by record and check by check; only a failed read and want of memory may come before it.
+//! that the script has, record by record and check by check; only a failed read and lack of memory may come before it.
 //!
-//! The definitions stand in `specs/`: `Lines` (what one record says), `Requests` (the lines of a request) and `Scripts`
-//! (what a text spells, the checks in their order, and the first fault).
+//! The definitions stand in `specs/`: `Lines` (what one record says), `Requests` (the lines of an action and of questions)
+//! and `Scripts` (what a text spells, the checks in their order, and the first fault).
 //!
 //! `read_script(alloc, "query|Q1.1\n".as_bytes(), 1_000_000)?.requests` is one request, the question of Q1.1.
 #![tactic(auto)]

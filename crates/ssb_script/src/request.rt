@@ -35,14 +35,16 @@ impl Asking {
     }
 }
 
-/// What a client asks of the warehouse: a refresh, whose actions take effect together or not at all,
-/// or questions.
+/// What a client asks of the warehouse: a refresh, whose actions take effect together or not at all, or questions; or
+/// that what it began be dropped.
 #[derive(Drop)]
 pub enum Request {
     /// `begin` .. `commit`: a refresh, for the log and the server to share.
     Refresh(Arc<Refresh>),
     /// Questions that are answered together.
     Ask(Asking),
+    /// `begin` .. `abort` or `ask` .. `abort`: what was begun is dropped.
+    Abort,
 }
 
 /// The requests of a script, in order.

@@ -16,10 +16,11 @@ pub(crate) enum Word {
     Commit,
     Ask,
     Answer,
+    Abort,
 }
 
 /// All words.
-pub(crate) const WORDS: [Word; 9] = [
+pub(crate) const WORDS: [Word; 10] = [
     Word::Query,
     Word::Begin,
     Word::Add,
@@ -29,6 +30,7 @@ pub(crate) const WORDS: [Word; 9] = [
     Word::Commit,
     Word::Ask,
     Word::Answer,
+    Word::Abort,
 ];
 
 /// Whether a record of this word is a `line`.
@@ -36,6 +38,13 @@ pub(crate) fn is_line(word: Option<Word>) -> bool
     ensures { result ≡ spec.is_line word }
 {
     matches!(word, Some(Word::Line))
+}
+
+/// Whether a record of this word is an `abort`.
+pub(crate) fn is_abort(word: Option<Word>) -> bool
+    ensures { result ≡ spec.is_abort word }
+{
+    matches!(word, Some(Word::Abort))
 }
 
 impl Word {
@@ -52,6 +61,7 @@ impl Word {
             Word::Commit => b"commit",
             Word::Ask => b"ask",
             Word::Answer => b"answer",
+            Word::Abort => b"abort",
         }
     }
 

@@ -11,7 +11,7 @@ returns-clause-step c =
     let room : length c.args.questions < 16 = search rules in
     let few : length c.args.questions + 1 ≤ 16 = omega (arith, room) in
     record {
-      lines = rw (more, map_push Query c.args.questions c.args.question) (search rules);
+      taken = rw (more, map_push Query c.args.questions c.args.question) (search rules);
       whole = All-nil IsWholeRequest;
       room = rw (more, length_push c.args.questions c.args.question) few;
       settled = tt;

@@ -14,7 +14,7 @@ returns-clause-step c =
     let room = ltb-true (length c.args.actions) 64 (sym c.has_room.ensures ∙ c.if-not-has_room.false) in
     let few : length c.args.actions + 1 ≤ 64 = omega (arith, room) in
     record {
-      lines = rw (more, flat_map-append lines_of_action c.args.actions (Withdraw c.args.key ∷ [])) (search rules);
+      taken = rw (more, flat_map-append lines_of_action c.args.actions (Withdraw c.args.key ∷ [])) (search rules);
       whole = All-nil IsWholeRequest;
       room = (
         rw (more, length_push c.args.actions (Withdraw c.args.key)) few,
