@@ -16,7 +16,7 @@ use Rattle.ssb_script.specs.Lines.{ScriptLine, RecordFault, line_of, word_of, li
 use Rattle.ssb_script.specs.Lines as script
 use Rattle.ssb_script.specs.declared.control.Opening.TheVariants.{Add, Amend}
 use Rattle.csv.specs.Reading.{strip_bom}
-use Rattle.session_requests.specs.Lines.{is_begin, is_ask, is_commit, is_answer, closes, opens, word_alone}
+use Rattle.session_requests.specs.Lines.{is_begin, is_ask, is_commit, is_answer, is_abort, closes, opens, word_alone}
 use Rattle.session_requests.specs.declared.lines.Block.{Block}
 use Rattle.session_requests.specs.declared.lines.Block.TheVariants.{Refreshing, Asking}
 use Rattle.session_requests.specs.ScriptLaws.{HasNoMark}
@@ -46,6 +46,7 @@ spelling_for (script.Withdraw key) = codes "withdraw"
 spelling_for script.Commit = codes "commit"
 spelling_for script.Ask = codes "ask"
 spelling_for script.Answer = codes "answer"
+spelling_for script.Abort = codes "abort"
 
 abbrev IsAlone : ScriptLine → List (List ℕ) → Type 0
 IsAlone (script.Query question) f = Unit {0}
@@ -56,6 +57,7 @@ IsAlone (script.Withdraw key) f = Unit {0}
 IsAlone script.Commit f = has_columns 1 f ≡ true
 IsAlone script.Ask f = has_columns 1 f ≡ true
 IsAlone script.Answer f = has_columns 1 f ≡ true
+IsAlone script.Abort f = has_columns 1 f ≡ true
 
 abbrev IsSaid : ScriptLine → List (List ℕ) → Type 0
 IsSaid l f = (is_word (spelling_for l) f ≡ true) × IsAlone l f
@@ -115,7 +117,11 @@ said l f h = elim (tells (is_word (codes "query") f)) [
                 | inl is ↦ alone_said script.Ask l f is (λ c. c) (rw (nq, nb, na, nm, nl, nw, nc, is) at h)
                 | inr nk ↦ elim (tells (is_word (codes "answer") f)) [
                   | inl is ↦ alone_said script.Answer l f is (λ c. c) (rw (nq, nb, na, nm, nl, nw, nc, nk, is) at h)
-                  | inr nr ↦ absurd (let e = rw (nq, nb, na, nm, nl, nw, nc, nk, nr) at h in cc)
+                  | inr nr ↦ elim (tells (is_word (codes "abort") f)) [
+                    | inl is ↦ alone_said script.Abort l f is (λ c. c)
+                        (rw (nq, nb, na, nm, nl, nw, nc, nk, nr, is) at h)
+                    | inr nz ↦ absurd (let e = rw (nq, nb, na, nm, nl, nw, nc, nk, nr, nz) at h in cc)
+                  ]
                 ]
               ]
             ]
@@ -145,6 +151,11 @@ pub answer_is_said : (f : List (List ℕ)) → field f 0 ≡ codes "answer" → 
     → line_of f ≡ Ok script.Answer
 unfolding line_of word_of
 answer_is_said f spelled columns = rw (spelled, columns) refl
+
+pub abort_is_said : (f : List (List ℕ)) → field f 0 ≡ codes "abort" → has_columns 1 f ≡ true
+    → line_of f ≡ Ok script.Abort
+unfolding line_of word_of
+abort_is_said f spelled columns = rw (spelled, columns) refl
 
 -- strip_last, from the front
 strip-one : (e b : ℕ) → (b == e) ≡ false → strip_last e (b ∷ []) ≡ b ∷ []
@@ -345,6 +356,14 @@ answer_tells = record {
   says = said script.Answer;
 }
 
+abort_tells : Tells (codes "abort") script.Abort
+abort_tells = record {
+  some = λ e. cc;
+  plain = (refl, (refl, (refl, (refl, (refl, tt)))));
+  said = abort_is_said;
+  says = said script.Abort;
+}
+
 no_word : word_in [] ≡ []
 unfolding without_spaces
 no_word = refl
@@ -387,6 +406,10 @@ opening_of Asking = script.Ask
 abbrev pub closing_of : Block → ScriptLine
 closing_of Refreshing = script.Commit
 closing_of Asking = script.Answer
+
+-- the lines that end one
+abbrev pub Ends : Block → ScriptLine → Type 0
+Ends block l = (l ≡ closing_of block) ⊎ (l ≡ script.Abort)
 
 -- which of two words a line has
 word_opens : (begin ask : Bool) (block : Block) → (if begin then Some Refreshing else if ask then Some Asking else None) ≡ Some block
@@ -450,19 +473,81 @@ line_opens_not line content f Refreshing is none other e said =
 line_opens_not line content f Asking is none other e said =
     line_asks_not line content f is none (no_word_opens (is_begin line) (is_ask line) other).1 e said
 
--- the same of a line that ends a block
-pub line_closes : (line content : List ℕ) (block : Block) → Ended line content → closes block line ≡ true
-    → (f : List (List ℕ)) × (records_in content ≡ f ∷ []) × (line_of f ≡ Ok (closing_of block))
-unfolding is_commit is_answer
-line_closes line content Refreshing is ends =
-    line_tells (codes "commit") script.Commit line content commit_tells is ends
-line_closes line content Asking is ends =
-    line_tells (codes "answer") script.Answer line content answer_tells is ends
+-- the same of the lines that end a block
+line_commits : (line content : List ℕ) → Ended line content → is_commit line ≡ true
+    → (f : List (List ℕ)) × (records_in content ≡ f ∷ []) × (line_of f ≡ Ok script.Commit)
+unfolding is_commit
+line_commits line content is ends = line_tells (codes "commit") script.Commit line content commit_tells is ends
 
-pub line_closes_not : (line content : List ℕ) (f : List (List ℕ)) (block : Block) → Ended line content
-    → closes block line ≡ false → records_in content ≡ f ∷ [] → line_of f ≡ Ok (closing_of block) → ⊥
-unfolding is_commit is_answer
-line_closes_not line content f Refreshing is other e said =
+line_answers : (line content : List ℕ) → Ended line content → is_answer line ≡ true
+    → (f : List (List ℕ)) × (records_in content ≡ f ∷ []) × (line_of f ≡ Ok script.Answer)
+unfolding is_answer
+line_answers line content is ends = line_tells (codes "answer") script.Answer line content answer_tells is ends
+
+line_aborts : (line content : List ℕ) → Ended line content → is_abort line ≡ true
+    → (f : List (List ℕ)) × (records_in content ≡ f ∷ []) × (line_of f ≡ Ok script.Abort)
+unfolding is_abort
+line_aborts line content is ends = line_tells (codes "abort") script.Abort line content abort_tells is ends
+
+line_commits_not : (line content : List ℕ) (f : List (List ℕ)) → Ended line content → is_commit line ≡ false
+    → records_in content ≡ f ∷ [] → line_of f ≡ Ok script.Commit → ⊥
+unfolding is_commit
+line_commits_not line content f is other e said =
     line_tells_not (codes "commit") script.Commit line content f commit_tells refl is other e said
-line_closes_not line content f Asking is other e said =
+
+line_answers_not : (line content : List ℕ) (f : List (List ℕ)) → Ended line content → is_answer line ≡ false
+    → records_in content ≡ f ∷ [] → line_of f ≡ Ok script.Answer → ⊥
+unfolding is_answer
+line_answers_not line content f is other e said =
     line_tells_not (codes "answer") script.Answer line content f answer_tells refl is other e said
+
+line_aborts_not : (line content : List ℕ) (f : List (List ℕ)) → Ended line content → is_abort line ≡ false
+    → records_in content ≡ f ∷ [] → line_of f ≡ Ok script.Abort → ⊥
+unfolding is_abort
+line_aborts_not line content f is other e said =
+    line_tells_not (codes "abort") script.Abort line content f abort_tells refl is other e said
+
+-- a line that ends a block has one record, which says one of the two
+pub record SaysEnd (block : Block) (content : List ℕ) : Type 0 where
+  pub fields : List (List ℕ)
+  pub said : ScriptLine
+  pub one : records_in content ≡ fields ∷ []
+  pub says : line_of fields ≡ Ok said
+  pub ends : Ends block said
+
+end_found : (block : Block) (content : List ℕ) (said : ScriptLine) → Ends block said
+    → (f : List (List ℕ)) × (records_in content ≡ f ∷ []) × (line_of f ≡ Ok said) → SaysEnd block content
+end_found block content said ends found =
+    record { fields = found.0; said = said; one = found.1; says = found.2; ends = ends }
+
+pub line_closes : (line content : List ℕ) (block : Block) → Ended line content → closes block line ≡ true
+    → SaysEnd block content
+line_closes line content Refreshing is ends = elim (or_true (is_commit line) (is_abort line) ends) [
+  | inl own ↦ end_found Refreshing content script.Commit (inl refl) (line_commits line content is own)
+  | inr abort ↦ end_found Refreshing content script.Abort (inr refl) (line_aborts line content is abort)
+]
+line_closes line content Asking is ends = elim (or_true (is_answer line) (is_abort line) ends) [
+  | inl own ↦ end_found Asking content script.Answer (inl refl) (line_answers line content is own)
+  | inr abort ↦ end_found Asking content script.Abort (inr refl) (line_aborts line content is abort)
+]
+
+or_false : (a b : Bool) → (a || b) ≡ false → (a ≡ false) × (b ≡ false)
+or_false true b h = absurd cc
+or_false false b h = (refl, h)
+
+-- and one that ends none says neither
+pub line_closes_not : (line content : List ℕ) (f : List (List ℕ)) (block : Block) (said : ScriptLine)
+    → Ended line content → closes block line ≡ false → records_in content ≡ f ∷ [] → line_of f ≡ Ok said
+    → Ends block said → ⊥
+line_closes_not line content f Refreshing said is other e says ends =
+    let neither = or_false (is_commit line) (is_abort line) other in
+    elim ends [
+      | inl own ↦ line_commits_not line content f is neither.0 e (says ∙ ap Ok own)
+      | inr abort ↦ line_aborts_not line content f is neither.1 e (says ∙ ap Ok abort)
+    ]
+line_closes_not line content f Asking said is other e says ends =
+    let neither = or_false (is_answer line) (is_abort line) other in
+    elim ends [
+      | inl own ↦ line_answers_not line content f is neither.0 e (says ∙ ap Ok own)
+      | inr abort ↦ line_aborts_not line content f is neither.1 e (says ∙ ap Ok abort)
+    ]

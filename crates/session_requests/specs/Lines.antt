@@ -1,5 +1,5 @@
 -- The lines of a text, and the words that a line of a block's begin or end has alone.
-use Rattle.std.specs.Prelude.{◌≡◌, ◌≢◌, ℕ, Bool, List, [], ◌∷◌, ◌++◌, Option, Some, None, codes, nat_eq, if◌then◌else◌}
+use Rattle.std.specs.Prelude.{◌≡◌, ◌≢◌, ℕ, Bool, List, [], ◌∷◌, ◌++◌, ◌||◌, Option, Some, None, codes, nat_eq, if◌then◌else◌}
 use Rattle.std.specs.List.{AllByRecursion, concat}
 use Rattle.std.specs.Cmp.Lexicographic.{pointwise}
 use Rattle.std.specs.Io.BufRead.{strip_last}
@@ -35,18 +35,21 @@ is_begin line = pointwise nat_eq (word_alone (strip_bom line)) (codes "begin")
 unfoldable pub is_ask : List ℕ → Bool
 is_ask line = pointwise nat_eq (word_alone (strip_bom line)) (codes "ask")
 
--- whether a line is a `commit`, or an `answer`
+-- whether a line is a `commit`, an `answer`, or an `abort`
 unfoldable pub is_commit : List ℕ → Bool
 is_commit line = pointwise nat_eq (word_alone line) (codes "commit")
 
 unfoldable pub is_answer : List ℕ → Bool
 is_answer line = pointwise nat_eq (word_alone line) (codes "answer")
 
+unfoldable pub is_abort : List ℕ → Bool
+is_abort line = pointwise nat_eq (word_alone line) (codes "abort")
+
 -- the block that a line begins
 abbrev pub opens : List ℕ → Option Block
 opens line = if is_begin line then Some Refreshing else if is_ask line then Some Asking else None
 
--- whether a line ends a block
+-- whether a line ends a block: its own last line does, and an `abort`
 abbrev pub closes : Block → List ℕ → Bool
-closes Refreshing line = is_commit line
-closes Asking line = is_answer line
+closes Refreshing line = is_commit line || is_abort line
+closes Asking line = is_answer line || is_abort line

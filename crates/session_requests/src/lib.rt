@@ -1,6 +1,6 @@
 //! The cutting of the text that a session writes into requests, each of which a live server answers at once: a line; or
-//! a block, which are the lines from a `begin` through the first `commit` behind it, or from an `ask` through the first
-//! `answer`. Each is read as a script of its own.
+//! a block, which are the lines from a `begin` through the first `commit` or `abort` behind it, or from an `ask` through the
+//! first `answer` or `abort`. Each is read as a script of its own.
 //!
 //! ```text
 //! query|Q1.1          the first request

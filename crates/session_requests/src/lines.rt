@@ -66,9 +66,9 @@ fn word_alone(line: &[u8]) -> &[u8]
 /// A request of several lines.
 #[derive(Clone, Copy, Debug, PartialEq, Eq)]
 pub enum Block {
-    /// A refresh, from a `begin` through the first `commit`.
+    /// A refresh, from a `begin` through the first `commit` or `abort`.
     Refreshing,
-    /// Questions, from an `ask` through the first `answer`.
+    /// Questions, from an `ask` through the first `answer` or `abort`.
     Asking,
 }
 
@@ -104,6 +104,14 @@ pub(crate) fn is_answer(line: &[u8]) -> bool
     word_alone(line) == b"answer".as_slice()
 }
 
+/// Whether a line is an `abort`.
+#[tactic(auto, unfolding(crate::specs::Lines::is_abort))]
+pub(crate) fn is_abort(line: &[u8]) -> bool
+    ensures { result ≡ spec.is_abort line.now }
+{
+    word_alone(line) == b"abort".as_slice()
+}
+
 // The block that a line begins.
 fn opens(line: &[u8]) -> Option<Block>
     ensures { result ≡ spec.opens line.now }
@@ -122,8 +130,8 @@ fn closes(block: Block, line: &[u8]) -> bool
     ensures { result ≡ spec.closes block line.now }
 {
     match block {
-        Block::Refreshing => is_commit(line),
-        Block::Asking => is_answer(line),
+        Block::Refreshing => is_commit(line) || is_abort(line),
+        Block::Asking => is_answer(line) || is_abort(line),
     }
 }
 
