@@ -10,8 +10,8 @@ use Rattle.row_store.specs.History.{Warehouse}
 use Rattle.row_store.specs.Legal.{IsRefreshReply}
 use Rattle.row_store.specs.declared.commit.Receipt.{Receipt}
 use Rattle.row_store.specs.declared.refusal.RefreshError.{RefreshError}
-use Rattle.ssb_script.specs.Requests.{RequestRecord, Refresh, Ask, questions_in}
-use Rattle.ssb_report.specs.Replies.{Reply, Refreshed, Answered, true_reply, warehouse_answer, AreAnswers, IsReply}
+use Rattle.ssb_script.specs.Requests.{RequestRecord, Refresh, Ask, Abort, questions_in}
+use Rattle.ssb_report.specs.Replies.{Reply, Refreshed, Answered, Aborted, true_reply, warehouse_answer, AreAnswers, IsReply}
 use Rattle.ssb_report.specs.Replies.{committed_by, with_commits}
 use Rattle.ssb_report.specs.Laws.{true_replies, any_unserved, gives_up, TrueRepliesAnswer, OthersGiveUp}
 
@@ -46,7 +46,12 @@ true_or_given_up : (causes : Cause → Bool) (warehouse : Warehouse) (request : 
     → IsReply causes warehouse request reply → TrueOrGivenUp warehouse request reply
 true_or_given_up causes warehouse (Refresh actions) (Refreshed reply) is = refreshed_so warehouse actions reply is
 true_or_given_up causes warehouse (Refresh actions) (Answered answers) is = absurd is
+true_or_given_up causes warehouse (Refresh actions) Aborted is = absurd is
+true_or_given_up causes warehouse Abort (Refreshed result) is = absurd is
+true_or_given_up causes warehouse Abort (Answered answers) is = absurd is
+true_or_given_up causes warehouse Abort Aborted is = inl refl
 true_or_given_up causes warehouse (Ask asking) (Refreshed result) is = absurd is
+true_or_given_up causes warehouse (Ask asking) Aborted is = absurd is
 true_or_given_up causes warehouse (Ask asking) (Answered answers) is =
     elim (answered_so causes warehouse (questions_in asking) answers is) [
       | inl same ↦ inl (ap Answered same)
@@ -57,6 +62,7 @@ true_reply_may : (causes : Cause → Bool) (warehouse : Warehouse) (request : Re
     → IsReply causes warehouse request (true_reply warehouse request)
 true_reply_may causes warehouse (Refresh actions) = inl refl
 true_reply_may causes warehouse (Ask asking) = inl refl
+true_reply_may causes warehouse Abort = tt
 
 pub true_replies_answer : TrueRepliesAnswer
 true_replies_answer causes client warehouse [] = tt

@@ -7,7 +7,7 @@ use Rattle.ssb_answers.specs.declared.answer.Unserved.{Unserved as Cause}
 use Rattle.row_store.specs.History.{Warehouse}
 use Rattle.row_store.specs.declared.refusal.RefreshError.TheVariants.{Refused, OutOfMemory}
 use Rattle.ssb_script.specs.Requests.{RequestRecord}
-use Rattle.ssb_report.specs.Replies.{Reply, Refreshed, Answered, true_reply, committed_by, with_commits}
+use Rattle.ssb_report.specs.Replies.{Reply, Refreshed, Answered, Aborted, true_reply, committed_by, with_commits}
 use Rattle.ssb_report.specs.Report.{AreReplies}
 
 -- the replies of the one-thread warehouse to a client's requests, one after another
@@ -29,6 +29,7 @@ gives_up (Refreshed (Ok receipt)) = false
 gives_up (Refreshed (Err (Refused at action cause))) = false
 gives_up (Refreshed (Err OutOfMemory)) = true
 gives_up (Answered answers) = any_unserved answers
+gives_up Aborted = false
 
 -- they answer every list of requests
 abbrev pub TrueRepliesAnswer : Type 0

@@ -1,4 +1,4 @@
--- The reports of refreshes.
+-- The reports of refreshes, and of what is dropped.
 use Rattle.std.specs.Prelude.{ℕ, List, [], ◌∷◌, ◌++◌, codes, decimal}
 use Rattle.std.specs.List.{concat}
 use Rattle.row_store.specs.declared.commit.Receipt.{Receipt}
@@ -21,6 +21,10 @@ use Rattle.ssb_report.specs.Numbers.{line_feed}
 -- the report of a commit
 abbrev pub receipt_text : Receipt → List ℕ
 receipt_text receipt = concat (codes "committed " ∷ decimal receipt.number ∷ line_feed ∷ [])
+
+-- the report of what is dropped
+abbrev pub aborted_text : List ℕ
+aborted_text = codes "aborted" ++ line_feed
 
 -- the number and the name of a cause, and its key
 abbrev pub cause_text : Cause → List ℕ

@@ -12,8 +12,8 @@ use Rattle.row_store.specs.Legal.{warehouse_reply, IsRefreshReply}
 use Rattle.row_store.specs.declared.commit.Receipt.{Receipt}
 use Rattle.row_store.specs.declared.refusal.RefreshError.{RefreshError}
 use Rattle.ssb_script.specs.Requests.{RequestRecord}
-use Rattle.ssb_script.specs.Requests.{Refresh, Ask, questions_in}
-use Rattle.ssb_report.specs.RefreshText.{receipt_text, refusal_text}
+use Rattle.ssb_script.specs.Requests.{Refresh, Ask, Abort, questions_in}
+use Rattle.ssb_report.specs.RefreshText.{aborted_text, receipt_text, refusal_text}
 use Rattle.ssb_report.specs.AnswerText.{answer_text}
 
 -- what a request is answered
@@ -21,12 +21,15 @@ pub data Reply : Type 0 where
   Refreshed : Result Receipt RefreshError → Reply
   -- an answer to each question that was asked, in order
   Answered : List Answer → Reply
+  -- what was begun is dropped
+  Aborted : Reply
 
 -- the report of a reply
 abbrev pub reply_text : Reply → List ℕ
 reply_text (Refreshed (Ok receipt)) = receipt_text receipt
 reply_text (Refreshed (Err error)) = refusal_text error
 reply_text (Answered answers) = flat_map answer_text answers
+reply_text Aborted = aborted_text
 
 -- the rows that answer a question over the live lines, after all commits so far
 abbrev pub warehouse_answer : Warehouse → Named × List Value → Answer
@@ -38,6 +41,7 @@ warehouse_answer warehouse question =
 abbrev pub true_reply : Warehouse → RequestRecord → Reply
 true_reply warehouse (Refresh actions) = Refreshed (warehouse_reply warehouse.base warehouse.log actions)
 true_reply warehouse (Ask asking) = Answered (map (warehouse_answer warehouse) (questions_in asking))
+true_reply warehouse Abort = Aborted
 
 -- the questions that are asked together have the answers of the one-thread warehouse, or are all left unanswered for one
 -- of the causes that may stand
@@ -46,12 +50,17 @@ AreAnswers causes warehouse questions answers = (answers ≡ map (warehouse_answ
     ⊎ ((cause : Cause) × (causes cause ≡ true) × (answers ≡ map (λ question. Unserved question cause) questions))
 
 -- a reply that may be given: to a refresh that of the one-thread warehouse, or that memory ran out where that is a
--- receipt
+-- receipt; to an `abort` that alone
 abbrev pub IsReply : (Cause → Bool) → Warehouse → RequestRecord → Reply → Type 0
 IsReply causes warehouse (Refresh actions) (Refreshed reply) = IsRefreshReply warehouse.base warehouse.log actions reply
 IsReply causes warehouse (Ask asking) (Answered answers) = AreAnswers causes warehouse (questions_in asking) answers
+IsReply causes warehouse Abort Aborted = Unit {0}
 IsReply causes warehouse (Refresh actions) (Answered answers) = ⊥
+IsReply causes warehouse (Refresh actions) Aborted = ⊥
 IsReply causes warehouse (Ask asking) (Refreshed reply) = ⊥
+IsReply causes warehouse (Ask asking) Aborted = ⊥
+IsReply causes warehouse Abort (Refreshed reply) = ⊥
+IsReply causes warehouse Abort (Answered answers) = ⊥
 
 -- the commit that a client's request becomes where the reply is a receipt
 abbrev pub committed_by : ℕ → RequestRecord → Reply → List CommitRecord

@@ -21,4 +21,4 @@ mod refresh;
 pub use answer::{write_answer, write_answers, write_barred, write_row};
 pub use fault::WriteFault;
 pub use piece::{Piece, write_bytes, write_pieces};
-pub use refresh::{write_receipt, write_refusal, write_reply};
+pub use refresh::{write_aborted, write_receipt, write_refusal, write_reply};

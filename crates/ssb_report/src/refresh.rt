@@ -1,9 +1,9 @@
-//! The reports of refreshes.
+//! The reports of refreshes, and of what is dropped.
 ghost use Rattle.std.specs.Prelude.{OnOk, OnErr};
 ghost use Rattle.std.specs.Io.KnownBytes.{Appends};
 ghost use Rattle.ssb_report.specs.Written.{StopsShort, Writes};
 ghost use Rattle.ssb_report.specs.Replies.{Refreshed, reply_text};
-ghost use Rattle.ssb_report.specs.RefreshText.{receipt_text, refusal_text, refused_text, cause_text};
+ghost use Rattle.ssb_report.specs.RefreshText.{aborted_text, receipt_text, refusal_text, refused_text, cause_text};
 
 use crate::fault::WriteFault;
 use crate::piece::{Piece, write_pieces};
@@ -21,6 +21,14 @@ pub fn write_receipt<W: Write>(writer: &mut W, receipt: &Receipt) -> Result<(), 
         writer,
         &[Piece::Text("committed "), number, Piece::Text("\n")],
     )
+}
+
+/// Writes that what was begun is dropped. It takes no memory.
+pub fn write_aborted<W: Write>(writer: &mut W) -> Result<(), WriteFault>
+    ensures report { OnOk result (Appends (W.contents writer.old) (W.contents writer.new) aborted_text) }
+    ensures fault { OnErr result (StopsShort (W.contents writer.old) (W.contents writer.new) aborted_text) }
+{
+    write_pieces(writer, &[Piece::Text("aborted\n")])
 }
 
 // The number and the name of a cause, with its key where it has one.
