@@ -40,10 +40,22 @@ use Rattle.ssb_script.specs.Begun.{Begun}
 use Rattle.ssb_script.specs.Begun as begun
 use Rattle.ssb_script.specs.Lines.{ScriptLine, alone, line_or_bad, line_or_refusal}
 use Rattle.ssb_script.specs.Lines as script
-use Rattle.ssb_script.specs.Requests.{Refresh, Ask, IsWholeAction, IsWholeRequest, lines_of_action, lines_of_request}
-use Rattle.ssb_script.specs.Scripts.{is_outside, is_refreshing, lines_of_begun}
-use Rattle.ssb_script.specs.Steps.{Follows as FollowsInScript, asked, begun_in}
+use Rattle.ssb_script.specs.Requests.{
+  RequestRecord,
+  Refresh,
+  Ask,
+  Abort,
+  IsWholeAction,
+  IsWholeRequest,
+  lines_of_asking,
+  lines_of_refresh,
+  request_of,
+}
+use Rattle.ssb_script.specs.Scripts.{Spell, is_refreshing, lines_of_begun}
+use Rattle.ssb_script.specs.Steps.{AreTaken, Follows as FollowsInScript, asked, begun_in}
 use Rattle.ssb_script.specs.declared.begun.Step.{Step as ScriptStep}
+use Rattle.std.specs.Option.{option_to_list}
+use Rattle.ssb_script.specs.declared.request.Request.{Request}
 use Rattle.ssb_script.specs.declared.request.Asking.{Asking}
 use Rattle.ssb_script.specs.declared.request.Asking.TheVariants.{Alone, Together}
 use Rattle.ssb_questions.specs.declared.query.Query.{Query as Named}
@@ -96,101 +108,6 @@ stands_inside (Some word.End) fields line e = of_alone _ line (has_columns 1 fie
 stands_inside (Some word.Answer) fields line e = absurd cc
 stands_inside (Some word.Row) fields line e = absurd cc
 
--- how many refreshes and blocks begin in lines
-begins : ScriptLine → ℕ
-begins script.Begin = 1
-begins script.Ask = 1
-begins _ = 0
-
-begins_in : List ScriptLine → ℕ
-begins_in [] = 0
-begins_in (line ∷ lines) = begins line + begins_in lines
-
-begins-append : (xs ys : List ScriptLine) → begins_in (xs ++ ys) ≡ begins_in xs + begins_in ys
-unfolding begins_in
-begins-append [] ys = omega arith
-begins-append (x ∷ xs) ys = let later = begins-append xs ys in omega (arith, later)
-
-begins-order : (order : List LineFields) → begins_in (map script.Line order) ≡ 0
-unfolding begins begins_in
-begins-order [] = refl
-begins-order (row ∷ order) = let later = begins-order order in omega (arith, later)
-
-begins-action : (a : Action) → begins_in (lines_of_action a) ≡ 0
-unfolding begins begins_in
-begins-action (action.Add order) = let lines = begins-order order in omega (arith, lines)
-begins-action (action.Amend order) = let lines = begins-order order in omega (arith, lines)
-begins-action (action.Withdraw key) = refl
-
-begins-actions : (actions : List Action) → begins_in (flat_map lines_of_action actions) ≡ 0
-unfolding begins_in
-begins-actions [] = refl
-begins-actions (a ∷ actions) =
-    let first = begins-action a in
-    let later = begins-actions actions in
-    let both = begins-append (lines_of_action a) (flat_map lines_of_action actions) in
-    omega (arith, first, later, both)
-
-begins-queries : (questions : List (Named × List Value)) → begins_in (map script.Query questions) ≡ 0
-unfolding begins begins_in
-begins-queries [] = refl
-begins-queries (question ∷ questions) = let later = begins-queries questions in omega (arith, later)
-
-begins-begun : (b : Begun) → begins_in (lines_of_begun b) ≡ (if is_outside b then 0 else 1)
-unfolding begins begins_in
-begins-begun begun.Nothing = refl
-begins-begun (begun.Refresh actions) = let inner = begins-actions actions in omega (arith, inner)
-begins-begun (begun.Order order) =
-    let inner = begins-actions order.actions in
-    let lines = begins-order order.lines in
-    let both = begins-append (flat_map lines_of_action order.actions)
-    (script.Open order.opening ∷ map script.Line order.lines) in
-    omega (arith, inner, lines, both)
-begins-begun (begun.Asked questions) = let none = begins-queries questions in omega (arith, none)
-
-begins-request : (actions : List Action) → begins_in (lines_of_request (Refresh actions)) ≡ 1
-unfolding begins begins_in
-begins-request actions =
-    let inner = begins-actions actions in
-    let both = begins-append (flat_map lines_of_action actions) (script.Commit ∷ []) in
-    omega (arith, inner, both)
-
-begins-inside : (line : ScriptLine) → StandsInside line → begins line ≡ 0
-unfolding begins
-begins-inside (script.Query question) stands = absurd stands
-begins-inside script.Begin stands = absurd stands
-begins-inside (script.Open opening) stands = refl
-begins-inside (script.Line row) stands = refl
-begins-inside (script.Withdraw key) stands = refl
-begins-inside script.Commit stands = refl
-begins-inside script.Ask stands = absurd stands
-begins-inside script.Answer stands = absurd stands
-
-not_outside : (b : Begun) → is_refreshing b ≡ true → is_outside b ≡ false
-not_outside begun.Nothing inside = absurd cc
-not_outside (begun.Refresh actions) inside = refl
-not_outside (begun.Order order) inside = refl
-not_outside (begun.Asked questions) inside = absurd cc
-
--- one line more in a commit, where one is begun: one refresh begins in it
-begins-one : (b : Begun) (line : ScriptLine) → is_refreshing b ≡ true → StandsInside line
-    → begins_in (lines_of_begun b ++ line ∷ []) ≡ 1
-unfolding begins_in
-begins-one b line inside stands =
-    let first : begins_in (lines_of_begun b) ≡ 1 = begins-begun b ∙ ap (λ out. if out then 0 else 1) (not_outside b inside) in
-    let last = begins-inside line stands in
-    let both = begins-append (lines_of_begun b) (line ∷ []) in
-    omega (arith, first, last, both)
-
--- what is begun, where none, or one, begins in its lines
-is_nothing : (b : Begun) → begins_in (lines_of_begun b) ≡ 0 → lines_of_begun b ≡ []
-is_nothing begun.Nothing none = refl
-is_nothing (begun.Refresh actions) none = let one = begins-begun (begun.Refresh actions) in
-    absurd (omega (arith, one, none))
-is_nothing (begun.Order order) none = let one = begins-begun (begun.Order order) in absurd (omega (arith, one, none))
-is_nothing (begun.Asked questions) none = let one = begins-begun (begun.Asked questions) in
-    absurd (omega (arith, one, none))
-
 -- the first line of a refresh, and what has such a first line
 begins_so : (b : Begun) (line : ScriptLine) → is_refreshing b ≡ true
     → (rest : List ScriptLine) × (lines_of_begun b ++ line ∷ [] ≡ script.Begin ∷ rest)
@@ -206,41 +123,68 @@ is_inside (begun.Order order) rest e = refl
 is_inside (begun.Asked questions) rest e = absurd cc
 
 -- nothing is asked in a refresh
-no_asking : (asking : Asking) (rest more : List ScriptLine)
-    → script.Begin ∷ rest ≡ (lines_of_request (Ask asking) ++ []) ++ more → ⊥
-no_asking (Alone question) rest more e = cc
-no_asking (Together questions) rest more e = cc
+no_asking : (asking : Asking) (rest : List ScriptLine) → script.Begin ∷ rest ≡ lines_of_asking asking → ⊥
+no_asking (Alone question) rest e = cc
+no_asking (Together questions) rest e = cc
 
--- the step of a script's refresh, in which nothing, a refresh, or a question ended
+-- and nothing is dropped, where the last line is no `abort`
+last_of : ScriptLine → List ScriptLine → ScriptLine
+last_of line [] = line
+last_of line (next ∷ lines) = last_of next lines
+
+last-push : (first : ScriptLine) (lines : List ScriptLine) (line : ScriptLine)
+    → last_of first (lines ++ line ∷ []) ≡ line
+unfolding last_of
+last-push first [] line = refl
+last-push first (next ∷ lines) line = last-push next lines line
+
+no_abort : (lines other : List ScriptLine) (line : ScriptLine) → StandsInside line
+    → lines ++ line ∷ [] ≡ other ++ script.Abort ∷ [] → ⊥
+no_abort lines other line stands e =
+    let same : line ≡ script.Abort = sym (last-push line lines line)
+    ∙ (ap (last_of line) e ∙ last-push line other script.Abort) in
+    subst StandsInside same stands
+
+-- what a step ended, or did not
+ended_none : (request : Option Request) (lines : List ScriptLine) (b : Begun)
+    → map request_of (option_to_list request) ≡ [] → AreTaken lines request b → lines ≡ lines_of_begun b
+ended_none None lines b none taken = taken
+ended_none (Some request) lines b none taken = absurd cc
+
+ended_one : (request : Option Request) (one : RequestRecord) (lines : List ScriptLine) (b : Begun)
+    → map request_of (option_to_list request) ≡ one ∷ [] → AreTaken lines request b → Spell one lines
+ended_one None one lines b is taken = absurd cc
+ended_one (Some request) one lines b is taken =
+    let same : request_of request ≡ one = cc in
+    subst (λ (r : RequestRecord). Spell r lines) same taken.0
+
+-- the step of a script's refresh, in which nothing, or a refresh, ended
 module _ (number : ℕ) (old : Begun) (line : ScriptLine) (step : ScriptStep) (inside : is_refreshing old ≡ true)
     (stands : StandsInside line) (follows : FollowsInScript number old line step) where
   pub lines_still : asked step ≡ [] → lines_of_begun old ++ line ∷ [] ≡ lines_of_begun (begun_in step.begun)
-  lines_still none = rw none at follows.lines
+  lines_still none =
+      ended_none step.request (lines_of_begun old ++ line ∷ []) (begun_in step.begun) none follows.taken
 
   pub still_inside : asked step ≡ [] → is_refreshing (begun_in step.begun) ≡ true
   still_inside none = let first = begins_so old line inside in
       is_inside (begun_in step.begun) first.0 (sym (lines_still none) ∙ first.1)
 
   pub lines_whole : (actions : List Action) → asked step ≡ Refresh actions ∷ [] → lines_of_begun old
-      ++ line ∷ [] ≡ lines_of_request (Refresh actions)
+      ++ line ∷ [] ≡ lines_of_refresh actions
   lines_whole actions one =
-      let all : lines_of_begun old ++ line ∷ [] ≡ (lines_of_request (Refresh actions) ++ [])
-      ++ lines_of_begun (begun_in step.begun) = rw one at follows.lines in
-      let same : lines_of_begun old ++ line ∷ [] ≡ lines_of_request (Refresh actions)
-      ++ lines_of_begun (begun_in step.begun)
-      = all ∙ ap (λ first. first ++ lines_of_begun (begun_in step.begun))
-      (append-nil (lines_of_request (Refresh actions))) in
-      let count = begins-one old line inside stands in
-      let whole = begins-request actions in
-      let both = begins-append (lines_of_request (Refresh actions)) (lines_of_begun (begun_in step.begun)) in
-      let sum = ap begins_in same in
-      let none : begins_in (lines_of_begun (begun_in step.begun)) ≡ 0 = omega (arith, count, whole, both, sum) in
-      same ∙ ap (λ rest. lines_of_request (Refresh actions) ++ rest) (is_nothing (begun_in step.begun) none)
-      ∙ append-nil (lines_of_request (Refresh actions))
+      ended_one step.request (Refresh actions) (lines_of_begun old ++ line ∷ []) (begun_in step.begun) one
+      follows.taken
 
   pub no_question : (asking : Asking) → asked step ≡ Ask asking ∷ [] → ⊥
   no_question asking one = let first = begins_so old line inside in
-      no_asking asking first.0 (lines_of_begun (begun_in step.begun)) (sym first.1 ∙ rw one at follows.lines)
+      no_asking asking first.0 (sym first.1 ∙ ended_one step.request (Ask asking) (lines_of_begun old ++ line ∷ [])
+      (begun_in step.begun) one follows.taken)
+
+  pub no_drop : asked step ≡ Abort ∷ [] → ⊥
+  no_drop one =
+      let dropped = ended_one step.request Abort (lines_of_begun old ++ line ∷ []) (begun_in step.begun) one
+      follows.taken in
+      no_abort (lines_of_begun old) (lines_of_begun dropped.begun) line stands dropped.joined
 
   pub takes_refresh : (client : ℕ) (actions : List Action) → asked step ≡ Refresh actions ∷ []
       → Takes number (map (in_commit client) (lines_of_begun old ++ line ∷ []))
@@ -278,6 +222,7 @@ in_commit-inside client (script.Withdraw key) stands = refl
 in_commit-inside client script.Commit stands = refl
 in_commit-inside client script.Ask stands = absurd stands
 in_commit-inside client script.Answer stands = absurd stands
+in_commit-inside client script.Abort stands = absurd stands
 
 pub lines-inside : (client : ℕ) (lines : List ScriptLine) (line : ScriptLine) → StandsInside line
     → map (in_commit client) (lines ++ line ∷ []) ≡ map (in_commit client) lines ++ Inside line ∷ []

@@ -43,7 +43,7 @@ use Rattle.ssb_schema.specs.declared.refresh.Action.{Action}
 use Rattle.ssb_schema.specs.declared.refresh.Action.TheVariants as action
 use Rattle.ssb_script.specs.Lines.{ScriptLine, RecordFault}
 use Rattle.ssb_script.specs.Lines as script
-use Rattle.ssb_script.specs.Requests.{Refresh, action_of, lines_of_action, lines_of_request}
+use Rattle.ssb_script.specs.Requests.{action_of, lines_of_action, lines_of_refresh}
 use Rattle.ssb_script.specs.declared.control.Opening.TheVariants.{Add, Amend}
 use Rattle.ssb_trace.specs.Entries.{answers_in, commits_in, in_commit, lines_of_entries}
 use Rattle.ssb_trace.specs.Laws.{HasOneReading}
@@ -184,7 +184,7 @@ follow_entries : (question : Query × List Value) (entries : List TraceEntry)
 unfolding Follow IsOf next_question
 follow_entries question [] = tt
 follow_entries question (entry.Commit commit ∷ entries) = follow_commit question commit.client
-    (lines_of_request (Refresh commit.actions)) (lines_of_entries entries) (follow_entries question entries)
+    (lines_of_refresh commit.actions) (lines_of_entries entries) (follow_entries question entries)
 follow_entries question (entry.Answer told ∷ entries) = (
   tt,
   follow_rows told.question told.rows (lines_of_entries entries) (follow_entries told.question entries),
@@ -223,6 +223,7 @@ before_inside (script.Withdraw key) tail = record {
 before_inside script.Commit tail = record { lines = []; actions = []; rows = []; entries = tail.entries }
 before_inside script.Ask tail = tail
 before_inside script.Answer tail = tail
+before_inside script.Abort tail = tail
 
 abbrev before : TraceLine → Tail → Tail
 before (Begin client) tail = record {

@@ -5,7 +5,7 @@ use Rattle.row_store.specs.History.{CommitRecord}
 use Rattle.ssb_audit.specs.declared.trace.Told.{Told}
 use Rattle.ssb_script.specs.Lines.{ScriptLine}
 use Rattle.ssb_script.specs.Lines as script
-use Rattle.ssb_script.specs.Requests.{IsWholeRequest, Refresh, lines_of_request}
+use Rattle.ssb_script.specs.Requests.{IsWholeRequest, Refresh, lines_of_refresh}
 use Rattle.ssb_script.specs.Scripts.{HasRoom, IsSettled, is_refreshing, lines_of_begun}
 use Rattle.ssb_script.specs.Steps.{begun_in}
 use Rattle.ssb_trace.specs.Lines.{TraceLine, Begin, Inside, Answer, Row}
@@ -38,7 +38,7 @@ in_commit client line = Inside line
 
 -- the lines of a commit: those that its refresh has in a script
 abbrev pub lines_of_commit : CommitRecord → List TraceLine
-lines_of_commit commit = map (in_commit commit.client) (lines_of_request (Refresh commit.actions))
+lines_of_commit commit = map (in_commit commit.client) (lines_of_refresh commit.actions)
 
 -- the lines of an answer: its first one, which tells how many rows there are, and its rows
 abbrev pub head_of_told : Told → AnswerHead

@@ -38,6 +38,7 @@ StandsInside (script.Query question) = ⊥
 StandsInside script.Begin = ⊥
 StandsInside script.Ask = ⊥
 StandsInside script.Answer = ⊥
+StandsInside script.Abort = ⊥
 StandsInside _ = Unit {0}
 
 -- a step in a refresh of a script is this one in a commit of the client
