@@ -8,7 +8,7 @@ use std::io::{Read, Write};
 // What stands before the first prompt.
 const GREETING: &str = "\
 query|NAME asks; ask .. answer asks several at once; begin .. commit refreshes
-help lists the queries; Ctrl-D ends
+abort drops what was begun; help lists the queries; Ctrl-D ends
 ";
 
 const PROMPT: &str = "> ";
