@@ -7,8 +7,8 @@ use Rattle.history_core.specs.Responses.{answers_in}
 use Rattle.ssb_answers.specs.declared.answer.Answer.{Answer}
 use Rattle.ssb_answers.specs.declared.answer.Answer.TheVariants.{Rows, Unserved}
 use Rattle.history.specs.Tokens.{TokenRecord, IsSound}
-use Rattle.ssb_script.specs.Requests.{RequestRecord, Refresh, Ask, questions_in}
-use Rattle.ssb_report.specs.Replies.{Reply, Refreshed, Answered, reply_text}
+use Rattle.ssb_script.specs.Requests.{RequestRecord, Refresh, Ask, Abort, questions_in}
+use Rattle.ssb_report.specs.Replies.{Reply, Refreshed, Answered, Aborted, reply_text}
 use Rattle.ssb_report.specs.Report.{report_of}
 use Rattle.ssb_server.specs.Clients as client
 use Rattle.ssb_server.specs.Clients.{Asks, Polls}
@@ -27,13 +27,19 @@ pub record IsAnswered (before : TokenRecord) (questions : Questions) (answers : 
   pub sound : IsSound after
   pub answers_are : answers ≡ answers_in response
 
--- the reply to a client's request, and what the client sees, made and asks then: as the server's calls say
+-- the reply to a client's request, and what the client sees, made and asks then: as the server's calls say; an `abort`
+-- calls nothing
 abbrev pub IsServed : ℕ → TokenRecord → RequestRecord → Reply → TokenRecord → Type 0
 IsServed number before (Refresh actions) (Refreshed reply) after =
     client.Refreshed before number actions reply after × IsSound after
 IsServed number before (Ask asking) (Answered answers) after = IsAnswered before (questions_in asking) answers after
+IsServed number before Abort Aborted after = after ≡ before
 IsServed number before (Refresh actions) (Answered answers) after = ⊥
+IsServed number before (Refresh actions) Aborted after = ⊥
 IsServed number before (Ask asking) (Refreshed reply) after = ⊥
+IsServed number before (Ask asking) Aborted after = ⊥
+IsServed number before Abort (Refreshed reply) after = ⊥
+IsServed number before Abort (Answered answers) after = ⊥
 
 -- the replies to a client's requests, each of which finds the client as the one before it left it
 abbrev pub AreServed : ℕ → TokenRecord → List RequestRecord → List Reply → TokenRecord → Type 0
@@ -52,6 +58,7 @@ told_by client (Unserved question cause) = []
 abbrev pub told_of : ℕ → Reply → List Told
 told_of client (Answered answers) = flat_map (told_by client) answers
 told_of client (Refreshed reply) = []
+told_of client Aborted = []
 
 -- all requests were served: what was written is the report of the replies, and the answers with rows are kept
 pub record Serves (number : ℕ) (old new : TokenRecord) (requests : List RequestRecord) (told_old told_new : List Told)

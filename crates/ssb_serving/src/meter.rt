@@ -9,6 +9,8 @@ pub enum RequestKind {
     Refresh,
     /// So many questions, which are asked together.
     Questions(usize),
+    /// An `abort`: nothing was asked for.
+    Abort,
 }
 
 // The kind of a request.
@@ -17,6 +19,7 @@ pub(crate) fn kind_of(request: &Request) -> RequestKind {
         Request::Refresh(_) => RequestKind::Refresh,
         Request::Ask(Asking::Alone(_)) => RequestKind::Questions(1),
         Request::Ask(Asking::Together(questions)) => RequestKind::Questions(questions.len()),
+        Request::Abort => RequestKind::Abort,
     }
 }
 

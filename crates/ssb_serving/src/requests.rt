@@ -1,10 +1,10 @@
 //! The requests of a script, served one after another.
-ghost use Rattle.std.specs.Prelude.{◌≡◌, ◌+◌, ◌<◌, ◌≤◌, ◌++◌, List, false, OnOk, IfErr, vec_len, vec_capacity};
+ghost use Rattle.std.specs.Prelude.{◌≡◌, ◌+◌, ◌<◌, ◌≤◌, ◌++◌, ℕ, List, false, OnOk, IfErr, vec_len, vec_capacity};
 ghost use Rattle.std.specs.Option.{is_some};
-ghost use Rattle.history.specs.Tokens.{IsSound};
+ghost use Rattle.history.specs.Tokens.{IsSound, TokenRecord};
 ghost use Rattle.history.specs.Members.{number_of};
 ghost use Rattle.history_core.specs.declared.event.Who.TheVariants.{Client as IsNumbered};
-ghost use Rattle.ssb_script.specs.Requests.{request_of, requests_of, Ask};
+ghost use Rattle.ssb_script.specs.Requests.{request_of, requests_of, Abort, Ask};
 ghost use Rattle.ssb_script.specs.Requests.{Refresh as Refreshes};
 ghost use Rattle.ssb_report.specs.Replies.{Answered};
 ghost use Rattle.ssb_serving.specs.Served.{Serves, Ends, told_by, told_of};
@@ -15,7 +15,7 @@ use crate::meter::{Meter, kind_of};
 use crate::serve_error::{ServeError, ServeStop};
 use ssb_answers::Answer;
 use ssb_audit::Told;
-use ssb_report::{write_answers, write_reply};
+use ssb_report::{write_aborted, write_answers, write_reply};
 use ssb_schema::Refresh;
 use ssb_script::{Asking, Request, Script};
 use ssb_server::{Client, Server};
@@ -119,6 +119,19 @@ fn serve_questions<W: Wait + Drop, R: Wait, O: Write>(
     }
 }
 
+// Reports that what was begun is dropped; the server has nothing of it.
+fn serve_abort<O: Write>(writer: &mut O) -> Result<(), ServeStop>
+    ensures served { (number : ℕ) (client : TokenRecord) (told : List PlainTold) → OnOk result
+        (ServesOne number client client Abort told told (O.contents writer.old) (O.contents writer.new)) }
+    ensures stopped { (number : ℕ) (client : TokenRecord) (told : List PlainTold) → IfErr result
+        (λ stop. StopsIn stop number client client Abort told told (O.contents writer.old) (O.contents writer.new)) }
+{
+    match write_aborted(writer) {
+        Ok(()) => Ok(()),
+        Err(_) => Err(ServeStop::Write),
+    }
+}
+
 /// Serves one request of a client's script, and writes its report. Answers with rows are kept behind what was told
 /// before. It waits as [`serve_requests`] does, and nothing is outstanding then. The meter is told when the request begins,
 /// and when it ends where it was served and reported.
@@ -149,6 +162,7 @@ pub fn serve_request<W: Wait + Drop, R: Wait, O: Write, M: Meter>(
         Request::Ask(asking) => serve_questions(
             rt, alloc, server, client, number, asking, writer, told,
         )?,
+        Request::Abort => serve_abort(writer)?,
     }
     meter.end(kind);
     Ok(())
