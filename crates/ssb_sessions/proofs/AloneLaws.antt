@@ -57,9 +57,9 @@ use Rattle.history.specs.Words.{Owns, IsCause, IsRight, request}
 use Rattle.history.specs.declared.request.PostedRequest.{PostedRequest as Asked}
 use Rattle.std.specs.Option.{is_some}
 use Rattle.history_core.specs.declared.event.Who.TheVariants.{Client}
-use Rattle.ssb_script.specs.Requests.{RequestRecord, Refresh, Ask, questions_in}
+use Rattle.ssb_script.specs.Requests.{RequestRecord, Refresh, Ask, Abort, questions_in}
 use Rattle.ssb_script.specs.declared.request.Asking.{Asking}
-use Rattle.ssb_report.specs.Replies.{Reply, Refreshed, Answered, AreAnswers, IsReply, committed_by, with_commits}
+use Rattle.ssb_report.specs.Replies.{Reply, Refreshed, Answered, Aborted, AreAnswers, IsReply, committed_by, with_commits}
 use Rattle.ssb_report.specs.Replies.{warehouse_answer}
 use Rattle.ssb_report.specs.Report.{AreReplies, committed}
 use Rattle.ssb_report.proofs.CommitLaws.{with_none, with_both}
@@ -269,8 +269,18 @@ are_one_threads old new (Ask asking ∷ requests) (Answered answers ∷ replies)
     is.answers_are)
     (answered_own old is.asking mid asking is.response answers is.asked is.polled)
     (are_one_threads mid new requests replies served.2 still (asked_nothing mid.asked alike.quiet))
+are_one_threads old new (Abort ∷ requests) (Aborted ∷ replies) served alone quiet =
+    let mid = served.0 in
+    let same : mid ≡ old = served.1 in
+    one_more old mid new Abort Aborted requests replies tt (ap own same ∙ sym (with_none (own old)))
+    (are_one_threads mid new requests replies served.2 (subst IsAlone (sym same) alone)
+    (subst (λ (t : TokenRecord). is_some t.asked ≡ false) (sym same) quiet))
 are_one_threads old new (Refresh actions ∷ requests) (Answered answers ∷ replies) served alone quiet = absurd served.1
+are_one_threads old new (Refresh actions ∷ requests) (Aborted ∷ replies) served alone quiet = absurd served.1
 are_one_threads old new (Ask asking ∷ requests) (Refreshed reply ∷ replies) served alone quiet = absurd served.1
+are_one_threads old new (Ask asking ∷ requests) (Aborted ∷ replies) served alone quiet = absurd served.1
+are_one_threads old new (Abort ∷ requests) (Refreshed reply ∷ replies) served alone quiet = absurd served.1
+are_one_threads old new (Abort ∷ requests) (Answered answers ∷ replies) served alone quiet = absurd served.1
 
 pub one_client_is_one_thread : OneClientIsOneThread
 one_client_is_one_thread table after requests told was is one served =

@@ -51,8 +51,8 @@ use Rattle.history.specs.Tokens.{TokenRecord}
 use Rattle.history.specs.Words.{request}
 use Rattle.history.specs.declared.request.PostedRequest.{PostedRequest as Asked}
 use Rattle.history.proofs.HistoryLaws.{prefix_trans}
-use Rattle.ssb_script.specs.Requests.{RequestRecord, Refresh, Ask, questions_in}
-use Rattle.ssb_report.specs.Replies.{Reply, Refreshed, Answered}
+use Rattle.ssb_script.specs.Requests.{RequestRecord, Refresh, Ask, Abort, questions_in}
+use Rattle.ssb_report.specs.Replies.{Reply, Refreshed, Answered, Aborted}
 use Rattle.ssb_audit.specs.declared.trace.Told.{Told}
 use Rattle.ssb_audit.specs.Traces.{rows_after}
 use Rattle.ssb_audit.specs.Legal.{IsTrueOf, NeverGoBack}
@@ -164,8 +164,13 @@ one_goes number before (Refresh actions) (Refreshed reply) after served =
     refreshed_goes before number actions reply after served.0
 one_goes number before (Ask asking) (Answered answers) after served =
     answered_goes before (questions_in asking) answers after served
+one_goes number before Abort Aborted after served = subst (Goes before) (sym served) (goes_nowhere before)
 one_goes number before (Refresh actions) (Answered answers) after served = absurd served
+one_goes number before (Refresh actions) Aborted after served = absurd served
 one_goes number before (Ask asking) (Refreshed reply) after served = absurd served
+one_goes number before (Ask asking) Aborted after served = absurd served
+one_goes number before Abort (Refreshed reply) after served = absurd served
+one_goes number before Abort (Answered answers) after served = absurd served
 
 one_told : (base : Tables) (number : ℕ) (before : TokenRecord) (request : RequestRecord) (reply : Reply) (after : TokenRecord)
     → before.table.base ≡ base → IsServed number before request reply after
@@ -173,8 +178,13 @@ one_told : (base : Tables) (number : ℕ) (before : TokenRecord) (request : Requ
 one_told base number before (Refresh actions) (Refreshed reply) after over served = tt
 one_told base number before (Ask asking) (Answered answers) after over served =
     answers_between base number before (questions_in asking) answers after over served
+one_told base number before Abort Aborted after over served = tt
 one_told base number before (Refresh actions) (Answered answers) after over served = absurd served
+one_told base number before (Refresh actions) Aborted after over served = absurd served
 one_told base number before (Ask asking) (Refreshed reply) after over served = absurd served
+one_told base number before (Ask asking) Aborted after over served = absurd served
+one_told base number before Abort (Refreshed reply) after over served = absurd served
+one_told base number before Abort (Answered answers) after over served = absurd served
 
 -- lists of answers
 all_append : {X : Type 0} (P : X → Type 0) (xs ys : List X) → AllByRecursion P xs → AllByRecursion P ys
@@ -254,8 +264,13 @@ one_orderly number before (Refresh actions) (Refreshed reply) after served = tt
 one_orderly number before (Ask asking) (Answered answers) after served =
     subst (λ l. Orderly (flat_map (told_by number) l)) (sym served.answers_are)
     (response_orderly number served.response)
+one_orderly number before Abort Aborted after served = tt
 one_orderly number before (Refresh actions) (Answered answers) after served = absurd served
+one_orderly number before (Refresh actions) Aborted after served = absurd served
 one_orderly number before (Ask asking) (Refreshed reply) after served = absurd served
+one_orderly number before (Ask asking) Aborted after served = absurd served
+one_orderly number before Abort (Refreshed reply) after served = absurd served
+one_orderly number before Abort (Answered answers) after served = absurd served
 
 -- what a client was told between two tokens
 record AreBetween (base : Tables) (number : ℕ) (before after : TokenRecord) (told : List Told) : Type 0 where

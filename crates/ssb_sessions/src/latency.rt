@@ -16,8 +16,8 @@ pub struct Latency {
     pub greatest: Duration,
 }
 
-/// How long the requests of all clients took; no requests where no times were taken. A question takes as long as the
-/// request that it is asked in.
+/// How long the requests of all clients took, without those that were aborted; no requests where no times were taken. A
+/// question takes as long as the request that it is asked in.
 #[derive(Clone, Copy, Debug, Default, PartialEq, Eq)]
 pub struct Latencies {
     pub refreshes: Latency,
@@ -57,6 +57,7 @@ impl Times {
                     self.answers.add(nanos);
                 }
             }
+            RequestKind::Abort => {}
         }
     }
 
