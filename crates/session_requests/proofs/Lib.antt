@@ -7,3 +7,4 @@ pub mod MachineLaws
 pub mod RecordLaws
 pub mod WordLaws
 pub mod ScriptLaws
+pub mod AheadLaws
