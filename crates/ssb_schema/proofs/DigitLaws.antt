@@ -29,6 +29,7 @@ use Rattle.std.proofs.Common.{
   length-append,
   pow-suc,
   add-one,
+  lit≤,
   refl,
   ap,
   ◌∙◌,
@@ -39,10 +40,21 @@ use Rattle.std.specs.Char.{is_ascii_digit}
 use Rattle.std.proofs.lemmas.Bool.{le-ltb, lt-ltb, le-leb}
 use Rattle.std.proofs.lemmas.List.{take_more, take-append-drop}
 use Rattle.std.proofs.lemmas.List.Folds.{list_all_at}
+use Rattle.std.proofs.Math.Nat.{pow-le-pow_right}
+use Rattle.std.proofs.lemmas.Bool.Decides.{nat_tests}
 use Rattle.ssb_schema.specs.Numerals.{decimal_value, is_numeral, number_of}
 
-power : (n : ℕ) → 10 ^ (n + 1) ≡ 10 ^ n * 10
+pub power : (n : ℕ) → 10 ^ (n + 1) ≡ 10 ^ n * 10
 power n = rw (add-one, pow-suc) refl
+
+-- 19 digits write numbers of 64 bits
+pub few_digits : (n : ℕ) → n ≤ 19 → 10 ^ n < 2 ^ 64
+few_digits n few =
+    let most : 10 ^ n ≤ 10 ^ 19 = pow-le-pow_right (lit≤ tt) few in
+    omega (arith, most)
+
+pub digit_most : (c : ℕ) → is_ascii_digit c ≡ true → c ≤ 57
+digit_most c digit = grind (arith, nat_tests)
 
 -- one digit more
 pub decimal_value-push : (cs : List ℕ) (c : ℕ) → decimal_value (cs ++ c ∷ []) ≡ decimal_value cs * 10 + (c - 48)

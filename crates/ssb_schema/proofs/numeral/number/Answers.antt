@@ -4,7 +4,7 @@ use Rattle.std.specs.Char.{is_ascii_digit}
 use Rattle.std.proofs.lemmas.List.Folds.{list_all_more}
 use Rattle.ssb_schema.specs.Numerals.{decimal_value}
 use Rattle.ssb_schema.proofs.DigitLaws.{decimal_value-take, number_of-too_large, number_of-digits}
-use Rattle.ssb_schema.proofs.numeral.number.Goals as goal
+use Rattle.ssb_schema.proofs.numeral.long_number.Goals as goal
 
 pub returns-in_default : goal.returns-in_default
 returns-in_default c =

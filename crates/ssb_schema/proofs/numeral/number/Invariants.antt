@@ -2,7 +2,7 @@ use Rattle.std.proofs.Common.{◌≡◌, ◌<◌, ◌≤◌, ◌^◌, true, leng
 use Rattle.std.specs.List.{list_all}
 use Rattle.std.specs.Char.{is_ascii_digit}
 use Rattle.ssb_schema.specs.Numerals.{decimal_value}
-use Rattle.ssb_schema.proofs.numeral.number.Given as goal
+use Rattle.ssb_schema.proofs.numeral.long_number.Given as goal
 
 abbrev pub invariant-loop-b : goal.invariant-loop-b
 invariant-loop-b l = record {
