@@ -10,7 +10,7 @@ abbrev pub most_lines : ℕ
 most_lines = 33554432
 
 abbrev pub most_commits : ℕ
-most_commits = 1000000000
+most_commits = 72057594037927936
 
 -- the most of a warehouse whose history is kept whole beside it
 abbrev pub standard_commits : ℕ

@@ -8,8 +8,8 @@ pub const MOST_DIMENSION_ROWS: usize = 1_048_576;
 /// The greatest number of live lines: the sum of any measure over so many lines fits an `i64`.
 pub const MOST_LINES: usize = 33_554_432;
 
-/// The greatest number of commits.
-pub const MOST_COMMITS: u64 = 1_000_000_000;
+/// The greatest number of commits: 2^56.
+pub const MOST_COMMITS: u64 = 72_057_594_037_927_936;
 
 /// How many commits a warehouse may have whose history is kept whole beside it, as a run's in its trace.
 pub const STANDARD_COMMITS: u64 = 1_000_000;
@@ -21,18 +21,18 @@ pub struct Limits {
     pub dimension_rows: usize,
     /// Live lines, up to 33,554,432.
     pub lines: usize,
-    /// Commits, 1 to 1,000,000,000.
+    /// Commits, 1 to 2^56.
     pub commits: u64,
     ghost dimension_rows_range: { (1 ≤ dimension_rows) × (dimension_rows ≤ 1048576) },
     ghost lines_range: { lines ≤ 33554432 },
-    ghost commits_range: { (1 ≤ commits) × (commits ≤ 1000000000) },
+    ghost commits_range: { (1 ≤ commits) × (commits ≤ 72057594037927936) },
 }
 
 impl Limits {
     ghost use Rattle.ssb_base.specs.Limits.{AreLimits, limits_of, most_dimension_rows, most_lines, most_commits, standard_commits};
 
     /// These limits; none unless there are 1 to 1,048,576 rows of a dimension, up to 33,554,432 lines and 1 to
-    /// 1,000,000,000 commits.
+    /// 2^56 commits.
     pub fn new(dimension_rows: usize, lines: usize, commits: u64) -> Option<Limits>
         ensures given { IsSome result ↔ AreLimits dimension_rows lines commits }
         ensures values { IfSome result (λ limits. limits_of limits ≡ (dimension_rows, lines, commits)) }

@@ -36,7 +36,7 @@ pub fn base_of<I: Read + Drop>(
     }
 }
 
-/// The base that the tables spell, to be served live: the same, with up to 1,000,000,000 commits.
+/// The base that the tables spell, to be served live: the same, with up to 2^56 commits.
 pub fn base_to_serve<I: Read + Drop>(
     rt: &(impl Threads + Sync),
     alloc: Global,

@@ -6,10 +6,9 @@ ghost use Rattle.ssb_script.specs.Lines.{line_after};
 ghost use Rattle.ssb_script.specs.Steps.{line_of_row};
 ghost use Rattle.ssb_script.specs.declared.word.Word.TheVariants as words;
 
-use crate::fields::columns;
 use csv::ByteRecord;
 use ssb_schema::{Line, SchemaFault};
-use ssb_text::{LineFault, line_of};
+use ssb_text::{LineFault, line_from};
 use std::alloc::{AllocError, Global};
 
 /// What a `line` record says: a line, one that the schema refuses, or nothing.
@@ -28,8 +27,7 @@ impl OrderLine {
     pub fn of(alloc: Global, fields: &ByteRecord) -> Result<OrderLine, AllocError>
         ensures { IfOk result (λ row. line_after (Some words.Line) (fields_of fields.now) ≡ line_of_row row) }
     {
-        let columns = columns(alloc, 1, fields)?;
-        match line_of(alloc, columns.as_slice()) {
+        match line_from(alloc, fields, 1) {
             Ok(line) => Ok(OrderLine::Read(line)),
             Err(LineFault::Refused(why)) => Ok(OrderLine::Refused(why)),
             Err(LineFault::FieldCount) => Ok(OrderLine::Bad),

@@ -3,7 +3,7 @@
 //!
 //! ```text
 //! bytes ── record_reader, next_record ─▶ record ── trimmed_at ─▶ field ── text ─▶ what it spells
-//! five files ── load ─▶ Base         a record's fields ── line_of ─▶ Line
+//! five files ── load ─▶ Base         a record's last fields ── line_from ─▶ Line
 //! lineorder ── Blocks ─▶ blocks ── all processors ─▶ lines of each, up to its first fault ── join ─▶ lines, or the fault
 //! ```
 //!
@@ -42,7 +42,7 @@ mod table;
 pub use error::{LineFault, LoadError};
 pub use fields::{field_at, has_columns, trimmed_at};
 pub use law::records_of_appended;
-pub use line::line_of;
+pub use line::line_from;
 pub use loading::{Tables, load};
 pub use records::{ReadError, next_record, record_reader};
 pub use spelling::{text, trimmed};

@@ -1,15 +1,17 @@
 //! Lines from records.
 
-ghost use Rattle.std.specs.Prelude.{◌≡◌, map};
+ghost use Rattle.std.specs.Prelude.{◌≡◌, IfOk, drop};
+ghost use Rattle.csv.specs.Records.{fields_of};
 ghost use Rattle.ssb_schema.specs.declared.table.Table.TheVariants as table;
 ghost use Rattle.ssb_schema.specs.Rows.{line_values};
 ghost use Rattle.ssb_text.specs.Row.{Gives, row_of};
 
 use crate::error::LineFault;
+use crate::fields::field_at;
 use crate::row::{RecordFields, TableRow, read_number, read_str};
 use csv::ByteRecord;
 use ssb_schema::{Column, Fields, Line, LineFields, LineTexts, Row, Table};
-use std::alloc::Global;
+use std::alloc::{AllocError, Global};
 
 impl RecordFields for LineFields {
     #[tactic(auto, unfolding(crate::specs::Row::values_from))]
@@ -67,11 +69,21 @@ impl TableRow for Line {
     }
 }
 
-/// The line that the fields of one lineorder record spell (Star Schema Benchmark, section 2): its 17
-/// columns in order, with or without the empty field that the closing `|` makes. The error is the
-/// record's first fault.
-pub fn line_of(alloc: Global, fields: &[&[u8]]) -> Result<Line, LineFault>
-    ensures { Gives line_values result (row_of table.Lineorder (map (λ f. f.now) fields.now)) }
+// The fields of a record from a place on, as a record of their own.
+fn fields_from(alloc: Global, record: &ByteRecord, first: usize) -> Result<ByteRecord, AllocError>
+    ensures { IfOk result (λ rest. fields_of rest ≡ drop first (fields_of record.now)) }
 {
-    Line::read(alloc, &ByteRecord::from_fields(alloc, fields)?)
+    let mut rest = ByteRecord::with_capacity(alloc, record.as_slice().len(), record.len())?;
+    for place in first..record.len() {
+        rest.push_field(field_at(record, place))?;
+    }
+    Ok(rest)
+}
+
+/// The line that the fields of a record spell from a place on, counted from 0 (Star Schema Benchmark, section 2): its 17
+/// columns in order, with or without the empty field that the closing `|` makes. The error is their first fault.
+pub fn line_from(alloc: Global, record: &ByteRecord, first: usize) -> Result<Line, LineFault>
+    ensures { Gives line_values result (row_of table.Lineorder (drop first (fields_of record.now))) }
+{
+    Line::read(alloc, &fields_from(alloc, record, first)?)
 }

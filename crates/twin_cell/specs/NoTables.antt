@@ -15,9 +15,9 @@ line_limit : 0 ≤ 33554432
 unfolding IsLe
 line_limit = le_by_compare 0 33554432 tt
 
-commit_limit : 1 ≤ 1000000000
+commit_limit : 1 ≤ 72057594037927936
 unfolding IsLe
-commit_limit = le_by_compare 1 1000000000 tt
+commit_limit = le_by_compare 1 72057594037927936 tt
 
 -- an empty base, which stands where a seat names none
 pub no_tables : Tables
