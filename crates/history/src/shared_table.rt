@@ -183,8 +183,8 @@ impl<W: Follower + Drop> SharedTable<W> {
 
     /// Gives the row store back, as it was taken or with one commit more of the token's client. One that waits for it
     /// is woken where it was given back as it was, and by each 4,096th commit, so that clients that commit side by
-    /// side do so in runs; nobody sleeps for it for more than four milliseconds at a time, and `wake_waiting` ends
-    /// these sleeps.
+    /// side do so in runs; nobody sleeps for it for more than four milliseconds at a time, and at first for 50
+    /// microseconds; `wake_waiting` ends these sleeps.
     pub fn put_rows(&self, token: &mut Token<W>, rows: RowStore)
         requires table { token.old.table ≡ self.now }
         requires taken { token.old.has_rows ≡ true }

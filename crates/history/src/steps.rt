@@ -19,7 +19,12 @@ use row_store::{Follower, RowStore};
 use std::sync::Wait;
 use std::time::Duration;
 
-/// The longest sleep of one that waits for the row store, in microseconds: then it tries again, though nobody woke it.
+/// The first sleep of one that waits for the row store, in microseconds: then it tries again, though nobody woke it. A
+/// live client holds the row store for a microsecond at a time.
+const FIRST_SLEEP: u64 = 50;
+
+/// The longest sleep, in microseconds: each is twice as long as the one before. Clients of scripts commit one refresh
+/// after another, and lose their caches each time that the row store changes hands.
 const LONGEST_SLEEP: u64 = 4_000;
 
 /// One that waits for the row store is woken by each commit whose number this divides.
@@ -35,6 +40,7 @@ pub(crate) fn take_rows<W: Follower + Drop, R: Wait>(
     requires token { IsToken seat.old }
     ensures { Takes seat.old result seat.new }
 {
+    let mut sleep = FIRST_SLEEP;
     for _ in rt.forever() {
         let found = ruled.shared.fetch_or::<TryRows>(seat, 0, 1);
         if found % 2 == 0 {
@@ -48,8 +54,9 @@ pub(crate) fn take_rows<W: Follower + Drop, R: Wait>(
             rt,
             0,
             (found % (1 << 32)) as u32,
-            Duration::from_micros(LONGEST_SLEEP),
+            Duration::from_micros(sleep),
         );
+        sleep = sleep.saturating_mul(2).min(LONGEST_SLEEP);
     }
     unreachable!()
 }
