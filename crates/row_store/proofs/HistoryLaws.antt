@@ -8,6 +8,7 @@ use Rattle.std.proofs.Common.{
   true,
   false,
   ltb,
+  List,
   [],
   ◌∷◌,
   ◌++◌,
@@ -23,6 +24,8 @@ use Rattle.std.proofs.Common.{
   ap,
   ◌∙◌,
   arith,
+  zero,
+  suc,
   length-append,
 }
 use Rattle.std.proofs.lemmas.Bool.{ltb-true, ltb-false}
@@ -33,7 +36,17 @@ use Rattle.row_store.specs.History.{CommitRecord}
 use Rattle.row_store.specs.Refusals.{refusal_of}
 use Rattle.row_store.specs.Legal.{reply_at, unless_refused}
 use Rattle.row_store.specs.Laws.{BeginningsAreLegal, AcceptedStaysLegal, AcceptedIsCommitted, RefusedChangesNothing}
-use Rattle.row_store.proofs.PlacedLaws.{get-push, get-last}
+
+-- what a list has is there when it grows
+get-push : {A : Type 0} (xs ys : List A) (k : ℕ) → k < length xs → slice_get (xs ++ ys) k ≡ slice_get xs k
+get-push [] ys k h = absurd (omega arith)
+get-push (x ∷ xs) ys zero h = refl
+get-push (x ∷ xs) ys (suc k) h = get-push xs ys k (omega arith)
+
+-- the last element
+get-last : {A : Type 0} (xs : List A) (x : A) → slice_get (xs ++ x ∷ []) (length xs) ≡ Some x
+get-last [] x = refl
+get-last (y ∷ xs) x = get-last xs x
 
 pub beginnings_are_legal : BeginningsAreLegal
 beginnings_are_legal base shorter longer is legal = record {

@@ -57,7 +57,6 @@ use Rattle.std.proofs.lemmas.List.Sorted.{All-permutation, sum_by-IsPermutation}
 use Rattle.std.proofs.lemmas.List.FromFn.{get_or-range_with_len, length-range_with_len}
 use Rattle.ssb_schema.specs.declared.line.LineFields.{LineFields}
 use Rattle.row_store.specs.Lines.{is_of, lines_of}
-use Rattle.row_store.specs.History.{CommitRecord}
 use Rattle.row_store.specs.declared.place.Place.{Place}
 use Rattle.row_store.specs.declared.place.Source.TheVariants.{Loaded}
 use Rattle.row_store.specs.Keyed.{Sources, IsAt, Located, key_at, lines_at}
@@ -320,14 +319,14 @@ module _ (lines : List LineFields) (index : List ℕ) (inside : All (λ i. i < l
       ap length own ∙ length-lines_at lines run run_inside ∙ length-run in
       omega (arith, few, count, outer, inner, long)
 
-  pub next_located : (log : List CommitRecord) (f g : ℕ → Option Place) (key : ℕ)
+  pub next_located : (f g : ℕ → Option Place) (key : ℕ)
       → key ≡ key_at lines (slice_index index first) → length (lines_of key (lines_at lines index)) ≤ 7
       → ((q : ℕ) → g q ≡ cond (eqb key q) (Some (record { lines = end - first; source = Loaded first })) (f q))
-      → Located (record { loaded = lines; index = index; log = log }) f (lines_at lines (take first index))
-      → Located (record { loaded = lines; index = index; log = log }) g (lines_at lines (take end index))
+      → Located (record { loaded = lines; index = index }) f (lines_at lines (take first index))
+      → Located (record { loaded = lines; index = index }) g (lines_at lines (take end index))
   unfolding run
-  next_located log f g key same few now each =
-      let sources : Sources = record { loaded = lines; index = index; log = log } in
+  next_located f g key same few now each =
+      let sources : Sources = record { loaded = lines; index = index } in
       let place : Place = record { lines = end - first; source = Loaded first } in
       let at : IsAt sources place (lines_at lines run) = record {
         found = refl;

@@ -5,6 +5,7 @@ pub mod FactCountLaws
 pub mod FewLaws
 pub mod HistoryLaws
 pub mod IndexedLaws
+pub mod LastLaws
 pub mod PlacedLaws
 pub mod PrefixLaws
 pub mod RearrangedLaws

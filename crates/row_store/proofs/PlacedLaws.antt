@@ -2,7 +2,6 @@
 use Rattle.std.proofs.Common.{
   ◌≡◌,
   ℕ,
-  ◌<◌,
   Bool,
   true,
   false,
@@ -12,7 +11,6 @@ use Rattle.std.proofs.Common.{
   [],
   ◌∷◌,
   ◌++◌,
-  length,
   slice_get,
   Option,
   Some,
@@ -22,21 +20,14 @@ use Rattle.std.proofs.Common.{
   ap,
   ◌∙◌,
   subst,
-  arith,
-  zero,
-  suc,
-  length-append,
 }
 use Rattle.std.specs.Option.{option_map_or}
 use Rattle.std.proofs.lemmas.Bool.{eqb-true, eq-eqb}
 use Rattle.ssb_schema.specs.declared.line.LineFields.{LineFields}
 use Rattle.ssb_schema.specs.declared.refresh.Action.{Action}
 use Rattle.row_store.specs.Lines.{added_by, lines_of, lines_without}
-use Rattle.row_store.specs.History.{CommitRecord}
 use Rattle.row_store.specs.declared.place.Place.{Place}
-use Rattle.row_store.specs.declared.place.Source.{Source}
-use Rattle.row_store.specs.declared.place.Source.TheVariants.{Loaded, Added}
-use Rattle.row_store.specs.Keyed.{Sources, Located, Lies, IsAt, IsWithin, lines_from, order_at}
+use Rattle.row_store.specs.Keyed.{Sources, Located, Lies, IsAt, order_at}
 use Rattle.row_store.proofs.CountedLaws.{HaveKey, lines_more, lines_other, lines_gone, lines_kept}
 
 differs : (a b : ℕ) → eqb a b ≡ false → (a ≡ b → ⊥)
@@ -86,48 +77,10 @@ module _ (sources : Sources) (f g : ℕ → Option Place) (lines : List LineFiel
       (lines_gone key key lines refl))) at)
       (λ q apart. lines_other q key (lines_without key lines) order alike apart ∙ lines_kept q key lines apart) each
 
--- a place stays what it is when the log grows
-pub get-push : {A : Type 0} (xs ys : List A) (k : ℕ) → k < length xs → slice_get (xs ++ ys) k ≡ slice_get xs k
-get-push [] ys k h = absurd (omega arith)
-get-push (x ∷ xs) ys zero h = refl
-get-push (x ∷ xs) ys (suc k) h = get-push xs ys k (omega arith)
-
-abbrev longer : Sources → CommitRecord → Sources
-longer sources commit = record sources { log = sources.log ++ commit ∷ [] }
-
-source_push : (sources : Sources) (made : CommitRecord) (count : ℕ) (source : Source) (lines : List LineFields)
-    → lines_from sources count source ≡ lines → IsWithin sources count source
-    → (lines_from (longer sources made) count source ≡ lines) × IsWithin (longer sources made) count source
-source_push sources made count (Loaded first) lines found within = (found, within)
-source_push sources made count (Added commit action) lines found within = (
-  ap (λ o. option_map_or (λ (m : CommitRecord). option_map_or added_by (slice_get m.actions action) []) o [])
-      (get-push sources.log (made ∷ []) commit within) ∙ found,
-  omega (arith, length-append sources.log (made ∷ [])),
-)
-
-at_push : (sources : Sources) (made : CommitRecord) (place : Option Place) (lines : List LineFields)
-    → Lies sources place lines → Lies (longer sources made) place lines
-at_push sources made None lines h = h
-at_push sources made (Some place) lines h =
-    let p = source_push sources made place.lines place.source lines h.found h.within in
-    record { found = p.0; count = h.count; some = h.some; few = h.few; within = p.1 }
-
-pub located_push : (sources : Sources) (made : CommitRecord) (f : ℕ → Option Place) (lines : List LineFields)
-    → Located sources f lines → Located (longer sources made) f lines
-located_push sources made f lines each q = at_push sources made (f q) (lines_of q lines) (each q)
-
--- the last element
-pub get-last : {A : Type 0} (xs : List A) (x : A) → slice_get (xs ++ x ∷ []) (length xs) ≡ Some x
-get-last [] x = refl
-get-last (y ∷ xs) x = get-last xs x
-
--- what the action of a commit adds
-pub order_at-action : (log : List CommitRecord) (commit k : ℕ) (made : CommitRecord) (action : Action)
-    → slice_get log commit ≡ Some made → slice_get made.actions k ≡ Some action
-    → order_at log commit k ≡ added_by action
-order_at-action log commit k made action there here =
-    ap (λ o. option_map_or (λ (m : CommitRecord). option_map_or added_by (slice_get m.actions k) []) o []) there
-    ∙ ap (λ o. option_map_or added_by o []) here
+-- what an action of these adds
+pub order_at-action : (actions : List Action) (k : ℕ) (action : Action) → slice_get actions k ≡ Some action
+    → order_at actions k ≡ added_by action
+order_at-action actions k action here = ap (λ o. option_map_or added_by o []) here
 
 pub moves : (f g : ℕ → Option Place) (sources : Sources) (lines : List LineFields) → ((q : ℕ) → g q ≡ f q)
     → Located sources f lines → Located sources g lines

@@ -3,19 +3,20 @@ use Rattle.std.specs.Prelude.{◌≡◌, ℕ, ◌+◌, ◌<◌, ◌≤◌, All, 
 use Rattle.std.specs.Option.{option_map_or}
 use Rattle.std.specs.List.{filter_map}
 use Rattle.ssb_schema.specs.declared.line.LineFields.{LineFields}
+use Rattle.ssb_schema.specs.declared.refresh.Action.{Action}
 use Rattle.ssb_base.specs.Base.{Tables}
 use Rattle.row_store.specs.Lines.{lines_of, added_by}
 use Rattle.row_store.specs.History.{CommitRecord, lines_after}
 use Rattle.row_store.specs.Legal.{IsLegal}
+use Rattle.row_store.specs.Last.{AreLast}
 use Rattle.row_store.specs.declared.place.Place.{Place}
 use Rattle.row_store.specs.declared.place.Source.{Source}
 use Rattle.row_store.specs.declared.place.Source.TheVariants.{Loaded, Added}
 
--- where lines lie: the loaded lines, an index of them, and the commits
+-- where loaded lines lie: the lines, and an index of them
 pub record Sources : Type 0 where
   pub loaded : List LineFields
   pub index : List ℕ
-  pub log : List CommitRecord
 
 -- the lines at these positions
 abbrev pub lines_at : List LineFields → List ℕ → List LineFields
@@ -25,20 +26,19 @@ lines_at lines positions = filter_map (λ i. slice_get lines i) positions
 abbrev pub key_at : List LineFields → ℕ → ℕ
 key_at lines i = option_map_or (λ line. line.order_key) (slice_get lines i) 0
 
--- the lines that an action of a commit adds
-abbrev pub order_at : List CommitRecord → ℕ → ℕ → List LineFields
-order_at log commit action = option_map_or (λ made. option_map_or added_by (slice_get made.actions action) [])
-    (slice_get log commit) []
+-- the lines that an action of these adds
+abbrev pub order_at : List Action → ℕ → List LineFields
+order_at actions action = option_map_or added_by (slice_get actions action) []
 
--- so many lines from a source: the loaded lines in the order of the index, or an order of the log
+-- so many lines from a source: the loaded lines in the order of the index, or an order of the refresh that it holds
 abbrev pub lines_from : Sources → ℕ → Source → List LineFields
 lines_from sources count (Loaded first) = lines_at sources.loaded (take count (drop first sources.index))
-lines_from sources count (Added commit action) = order_at sources.log commit action
+lines_from sources count (Added refresh action) = order_at refresh.value action
 
--- the source is within the index or the log
+-- the source is within the index
 abbrev pub IsWithin : Sources → ℕ → Source → Type 0
 IsWithin sources count (Loaded first) = first + count ≤ length sources.index
-IsWithin sources count (Added commit action) = commit < length sources.log
+IsWithin sources count (Added refresh action) = Unit {0}
 
 -- these lines lie at the place, and there are one to seven
 pub record IsAt (sources : Sources) (place : Place) (lines : List LineFields) : Type 0 where
@@ -65,9 +65,9 @@ pub record IsKeyed (base : Tables) (sources : Sources) (orders : ℕ → Option 
   pub few : line_count ≤ base.limits.lines
   pub index : All (λ i. i < length sources.loaded) sources.index
 
--- the orders by key stand for the lines that the log leaves, and the log is legal
-pub record IsStore (base : Tables) (index : List ℕ) (log : List CommitRecord) (orders : ℕ → Option Place)
-    (line_count : ℕ) : Type 0 where
-  pub keyed : IsKeyed base (record { loaded = base.lines; index = index; log = log }) orders line_count
-      (lines_after base log)
+-- the orders by key stand for the lines that the log leaves, the log is legal, and its last commits are at hand
+pub record IsStore (base : Tables) (index : List ℕ) (log recent : List CommitRecord) (count : ℕ)
+    (orders : ℕ → Option Place) (line_count : ℕ) : Type 0 where
+  pub keyed : IsKeyed base (record { loaded = base.lines; index = index }) orders line_count (lines_after base log)
   pub legal : IsLegal base log
+  pub last : AreLast log recent count

@@ -3,6 +3,7 @@ pub mod History
 pub mod Refusals
 pub mod Legal
 pub mod State
+pub mod Last
 pub mod Keyed
 pub mod Absorbing
 pub mod OrderLines

@@ -1,12 +1,11 @@
 //! The loaded orders: an index of the loaded lines in the order of their keys, and each order's run in it.
-ghost use Rattle.std.specs.Prelude.{◌≡◌, ◌≢◌, ◌<◌, ◌≤◌, ◌^◌, ℕ, List, All, length, nat_eq, slice_index, None, IfOk};
+ghost use Rattle.std.specs.Prelude.{◌≡◌, ◌≢◌, ◌<◌, ◌≤◌, ◌^◌, ℕ, All, length, nat_eq, slice_index, None, IfOk};
 ghost use Rattle.std.specs.Prelude.{OnOk};
 ghost use Rattle.std.specs.List.{range_with_len};
 ghost use Rattle.std.specs.List.Sorted.{IsNonDecreasingBy};
 ghost use Rattle.std.specs.HashMap.{get};
 ghost use Rattle.ssb_schema.specs.Rows.{IsWithinLimits};
 ghost use Rattle.row_store.specs.Lines.{lines_of};
-ghost use Rattle.row_store.specs.History.{CommitRecord};
 ghost use Rattle.row_store.specs.Keyed.{Located, key_at, lines_at};
 
 use crate::place::{Place, Places, Source};
@@ -81,8 +80,7 @@ pub(crate) fn place_runs(
     requires sorted { IsNonDecreasingBy (key_at lines.now) index.now }
     requires orders { (key : ℕ) → length (lines_of key (lines_at lines.now index.now)) ≤ 7 }
     requires empty { (key : ℕ) → get nat_eq orders.old key ≡ None }
-    ensures { OnOk result ((log : List CommitRecord)
-        → Located (record { loaded = lines.now; index = index.now; log = log }) (get nat_eq orders.new)
+    ensures { OnOk result (Located (record { loaded = lines.now; index = index.now }) (get nat_eq orders.new)
         (lines_at lines.now index.now)) }
 {
     let mut first = 0;

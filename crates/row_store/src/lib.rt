@@ -17,13 +17,14 @@
 //! ```text
 //! let mut store = RowStore::new(alloc, base, RandomState::new(&rt)?)?;
 //! let receipt = store.apply(client, refresh)?;          // commit number `receipt.number`
-//! for commit in store.log_from(taken) { plain.absorb(commit)?; }
+//! if let Some(commits) = store.log_from(taken) { for commit in commits { plain.absorb(commit)?; } }
 //! ```
 #![tactic(auto)]
 
 mod commit;
 mod index;
 pub mod laws;
+mod log;
 mod order_lines;
 mod place;
 mod plain;
@@ -32,6 +33,7 @@ mod replica;
 mod store;
 
 pub use commit::{Commit, Receipt};
+pub use log::Log;
 pub use order_lines::OrderLines;
 pub use plain::PlainLines;
 pub use refusal::{ApplyError, Cause, RefreshError, Refusal};

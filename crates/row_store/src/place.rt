@@ -1,32 +1,32 @@
 //! Where the lines of an order lie, and what an action does to the places.
-ghost use Rattle.std.specs.Prelude.{◌≡◌, ◌+◌, ◌*◌, ◌^◌, ◌<◌, ◌≤◌, ℕ, List, length, nat_eq, slice_get, None, Some};
+ghost use Rattle.std.specs.Prelude.{◌≡◌, ◌+◌, ◌*◌, ◌^◌, ◌<◌, ◌≤◌, ℕ, List, All, length, nat_eq, None, OnOk};
 ghost use Rattle.std.specs.HashMap.{get, spare};
 ghost use Rattle.ssb_schema.specs.declared.line.LineFields.{LineFields};
 ghost use Rattle.ssb_base.specs.Base.{Tables};
 ghost use Rattle.row_store.specs.Lines.{added_by, lines_of, lines_after_action, lines_after_refresh};
-ghost use Rattle.row_store.specs.History.{CommitRecord};
 ghost use Rattle.row_store.specs.Refusals.{cause_of, first_refusal};
 ghost use Rattle.row_store.specs.Keyed.{Sources, IsWithin, Located, lines_from, order_at};
 
-use crate::commit::Commit;
-use ssb_schema::{Action, Line};
+use ssb_schema::{Action, Line, Refresh};
+use std::alloc::AllocError;
 use std::collections::HashMap;
 use std::hash::RandomState;
+use std::sync::Arc;
 
 /// Where the lines of an order lie, and how many they are.
-#[derive(Clone, Copy)]
+#[derive(Drop)]
 pub(crate) struct Place {
     pub(crate) lines: u32,
     pub(crate) source: Source,
 }
 
-/// A place in the base, or in the log.
-#[derive(Clone, Copy)]
+/// A place in the base, or in a refresh, which it holds.
+#[derive(Drop)]
 pub(crate) enum Source {
     /// From this position on in the index of the loaded lines.
     Loaded(u32),
-    /// In this action of this commit.
-    Added { commit: u32, action: u32 },
+    /// In this action of the refresh.
+    Added { refresh: Arc<Refresh>, action: u32 },
 }
 
 /// The places of the live orders, by key. A client picks the keys, so they hash with random keys.
@@ -42,14 +42,11 @@ pub(crate) fn added(action: &Action) -> &[Line]
     }
 }
 
-// The lines that an action of a commit adds.
-pub(crate) fn order_at(log: &[Commit], commit: u32, action: u32) -> &[Line]
-    ensures { result.now ≡ order_at log.now commit action }
+// The lines that an action of a refresh adds.
+pub(crate) fn order_at(actions: &[Action], action: u32) -> &[Line]
+    ensures { result.now ≡ order_at actions.now action }
 {
-    let Some(made) = log.get(commit as usize) else {
-        return &[];
-    };
-    match made.refresh.actions().get(action as usize) {
+    match actions.get(action as usize) {
         Some(action) => added(action),
         None => &[],
     }
@@ -124,19 +121,38 @@ fn put(orders: &mut Places, action: &Action, source: Source)
     }
 }
 
-// Puts the actions of a commit into the orders by key. There is room for all.
-pub(crate) fn place_all(orders: &mut Places, actions: &[Action], commit: u32)
+// Makes a share of the refresh for each of its actions, in the place of those that are there.
+pub(crate) fn share_all(
+    refresh: &Arc<Refresh>,
+    shares: &mut Vec<Arc<Refresh>>,
+) -> Result<(), AllocError>
+    ensures count { OnOk result (length shares.new.items ≡ length refresh.now.value) }
+    ensures alike { OnOk result (All (λ share. share.value ≡ refresh.now.value) shares.new.items) }
+{
+    shares.clear();
+    let count = refresh.actions().len();
+    while shares.len() < count {
+        shares.push(Arc::try_clone(refresh)?)?;
+    }
+    Ok(())
+}
+
+// Puts the actions of a refresh into the orders by key, each with a share of the refresh. There is room for all.
+pub(crate) fn place_all(orders: &mut Places, actions: &[Action], shares: &mut Vec<Arc<Refresh>>)
     requires room { length actions.now ≤ spare orders.old }
     requires few { length actions.now ≤ 64 }
-    ensures { (base : Tables) (sources : Sources) (lines : List LineFields) (made : CommitRecord) (number : ℕ)
-        → slice_get sources.log commit ≡ Some made
-        → made.actions ≡ actions.now
+    requires shares { length actions.now ≤ length shares.old.items }
+    requires alike { All (λ share. share.value ≡ actions.now) shares.old.items }
+    ensures { (base : Tables) (sources : Sources) (lines : List LineFields) (number : ℕ)
         → Located sources (get nat_eq orders.old) lines
         → first_refusal base number lines actions.now ≡ None
         → Located sources (get nat_eq orders.new) (lines_after_refresh lines actions.now) }
 {
     for i in 0..actions.len() {
+        let Some(refresh) = shares.pop() else {
+            unreachable!()
+        };
         let action = i as u32;
-        put(orders, &actions[i], Source::Added { commit, action });
+        put(orders, &actions[i], Source::Added { refresh, action });
     }
 }

@@ -11,15 +11,18 @@ ghost use Rattle.row_store.specs.Legal.{Fails, IsLegal, IsRefreshReply};
 
 use crate::commit::{Commit, Receipt};
 use crate::index::{index_of, look_through, place_runs};
+use crate::log::Log;
 use crate::order_lines::OrderLines;
-use crate::place::{Places, Source, count_after, order_at, place_all};
+use crate::place::{Places, Source, count_after, order_at, place_all, share_all};
 use crate::refusal::{ApplyError, Cause, RefreshError, Refusal};
+use ghost_list::GhostList;
 use ssb_base::Base;
 use ssb_schema::{Action, Line, Order, Refresh};
 use std::alloc::{AllocError, Global};
 use std::collections::HashMap;
 use std::hash::RandomState;
 use std::marker::Model;
+use std::mem;
 use std::sync::Arc;
 
 /// The live orders by key, and the log of commits. Contracts see the base and the commits.
@@ -30,7 +33,14 @@ pub struct RowStore {
     index: Vec<u32>,
     orders: Places,
     line_count: usize,
-    log: Vec<Commit>,
+    // All commits. No memory holds them.
+    history: GhostList<Commit>,
+    // How many commits there are.
+    count: u64,
+    // The last of them: those that were not forgotten.
+    recent: Vec<Commit>,
+    // The shares of a refresh that is being applied, one for each action.
+    shares: Vec<Arc<Refresh>>,
 }
 
 impl Model for RowStore {
@@ -41,9 +51,10 @@ impl Model for RowStore {
 
     ghost Value = { Warehouse };
 
-    ghost view = { λ s. record { base = s.base.value; log = s.log.items } };
+    ghost view = { λ s. record { base = s.base.value; log = s.history.items } };
 
-    ghost invariant = { λ s. IsStore s.base.value s.index.items s.log.items (get nat_eq s.orders) s.line_count };
+    ghost invariant = { λ s. IsStore s.base.value s.index.items s.history.items s.recent.items s.count
+        (get nat_eq s.orders) s.line_count };
 }
 
 // Whether some line names a customer that the base lacks.
@@ -138,7 +149,10 @@ impl RowStore {
             index,
             orders,
             line_count,
-            log: Vec::new(alloc),
+            history: GhostList::new(),
+            count: 0,
+            recent: Vec::new(alloc),
+            shares: Vec::new(alloc),
         })
     }
 
@@ -152,13 +166,17 @@ impl RowStore {
         let _count = self.line_count();
     }
 
-    /// The commits from the one after the first `n` on. `n` is at most `len()`.
-    pub fn log_from(&self, n: usize) -> &[Commit]
+    /// The commits from the one after the first `n` on; none where some of them are forgotten. `n` is at most `len()`.
+    pub fn log_from(&self, n: u64) -> Option<&[Commit]>
         requires { n ≤ length self.now.log }
-        ensures commits { result.now ≡ drop n self.now.log }
+        ensures commits { IfSome result (λ commits. commits.now ≡ drop n self.now.log) }
         ensures legal { IsLegal self.now.base self.now.log }
     {
-        &self.log[n..]
+        let forgotten = self.count - self.recent.len() as u64;
+        if n < forgotten {
+            return None;
+        }
+        Some(&self.recent[(n - forgotten) as usize..])
     }
 
     /// The number of commits.
@@ -166,7 +184,23 @@ impl RowStore {
         ensures count { result ≡ length self.now.log }
         ensures few { result ≤ self.now.base.limits.commits }
     {
-        self.log.len()
+        self.count as usize
+    }
+
+    /// Forgets the first `n` commits, or nothing where memory is wanting. They come back, to be dropped where nobody
+    /// waits.
+    pub fn forget(&mut self, n: u64) -> Vec<Commit>
+        ensures same { self.new ≡ self.old }
+    {
+        let alloc = *self.recent.allocator();
+        let forgotten = self.count - self.recent.len() as u64;
+        if n <= forgotten || n > self.count {
+            return Vec::new(alloc);
+        }
+        match self.recent.split_off((n - forgotten) as usize) {
+            Ok(rest) => mem::replace(&mut self.recent, rest),
+            Err(_) => Vec::new(alloc),
+        }
     }
 
     /// The base, which the store shares.
@@ -189,32 +223,35 @@ impl RowStore {
         ensures absent { IsNone result ↔ (lines_of key (lines_after self.now.base self.now.log) ≡ []) }
         ensures lines { IfSome result (λ order. order ≡ lines_of key (lines_after self.now.base self.now.log)) }
     {
-        let place = *self.orders.get(&key)?;
-        match place.source {
+        let place = self.orders.get(&key)?;
+        match &place.source {
             Source::Loaded(first) => {
-                let first = first as usize;
+                let first = *first as usize;
                 let positions = &self.index[first..first + place.lines as usize];
                 Some(OrderLines::loaded(self.base.lines(), positions))
             }
-            Source::Added { commit, action } => {
-                Some(OrderLines::added(order_at(&self.log, commit, action)))
+            Source::Added { refresh, action } => {
+                Some(OrderLines::added(order_at(refresh.actions(), *action)))
             }
         }
     }
 
     /// The base and the commits.
-    pub fn into_parts(self) -> (Arc<Base>, Vec<Commit>)
+    pub fn into_parts(self) -> (Arc<Base>, Log)
         ensures base { result.0.value ≡ self.base }
-        ensures log { result.1.items ≡ self.log }
+        ensures log { result.1 ≡ self.log }
     {
         let RowStore {
             base,
             index: _,
             orders: _,
             line_count: _,
-            log,
+            history,
+            count,
+            recent,
+            shares: _,
         } = self;
-        (base, log)
+        (base, Log::new(history, count, recent))
     }
 
     /// Whether the refresh would be accepted, or its refusal: a full log, or the first action that is refused, each
@@ -242,19 +279,23 @@ impl RowStore {
             Ok(count) => count,
             Err(refusal) => return Err(ApplyError::Refused(refusal)),
         };
-        if self.log.reserve(1).is_err() {
+        if share_all(&refresh, &mut self.shares).is_err() {
+            return Err(ApplyError::OutOfMemory);
+        }
+        if self.recent.reserve(1).is_err() {
             return Err(ApplyError::OutOfMemory);
         }
         if self.orders.reserve(refresh.actions().len()).is_err() {
             return Err(ApplyError::OutOfMemory);
         }
-        let number = self.log.len();
-        place_all(&mut self.orders, refresh.actions(), number as u32);
-        self.log.push_reserved(Commit { client, refresh });
+        let number = self.count + 1;
+        place_all(&mut self.orders, refresh.actions(), &mut self.shares);
+        let commit = Commit { client, refresh };
+        self.history.push(&commit);
+        self.recent.push_reserved(commit);
+        self.count = number;
         self.line_count = line_count;
-        Ok(Receipt {
-            number: number as u64 + 1,
-        })
+        Ok(Receipt { number })
     }
 
     /// Applies all of a client's refresh as the next commit, or nothing. The result is what the client is told: the
@@ -265,7 +306,7 @@ impl RowStore {
             (record { client = client; actions = refresh.value })) }
         ensures unchanged { OnErr result (self.new ≡ self.old) }
     {
-        let at = self.log.len() as u64;
+        let at = self.count;
         match self.apply(client, refresh) {
             Ok(receipt) => Ok(receipt),
             Err(ApplyError::Refused(refusal)) => Err(RefreshError::Refused {
@@ -285,7 +326,7 @@ impl RowStore {
             × (n ≤ self.now.base.limits.lines))
             (λ refusal. refusal_of self.now.base self.now.log refresh.now ≡ Some refusal) }
     {
-        if self.log.len() as u64 >= self.base.limits().commits {
+        if self.count >= self.base.limits().commits {
             return Err(Refusal {
                 action: 0,
                 cause: Cause::LogFull,

@@ -1,9 +1,14 @@
 use Rattle.std.proofs.Common.{◌≡◌, true, ap, sym, subst, ◌∙◌}
 use Rattle.history.specs.Tokens.{MayPut, Put}
 use Rattle.history.specs.TokenParts.{IsSeated, shown_token}
-use Rattle.history.proofs.PassingLaws.{passed, put_seated, put_token, put_adds}
+use Rattle.history.proofs.PassingLaws.{passed, put_seated, put_token, put_adds, put_same}
 use Rattle.history.proofs.shared_table.SharedTable.put_rows.Goals.{then-length-token, else-length-token}
 use Rattle.history.proofs.shared_table.SharedTable.put_rows.Goals as goal
+
+pub put_back-requires-clause-rows : goal.put_back-requires-clause-rows
+put_back-requires-clause-rows g c = let may : MayPut (shown_token c.token.inside) c.args.rows =
+    subst (λ t. MayPut t c.args.rows) (sym c.token.view_is) c.requires.rows in
+    put_same c.token.inside c.args.rows c.token.invariant may (sym c.len-length.ensures.count ∙ c.if-length-token.true)
 
 pub put_commit-requires-clause-rows : goal.put_commit-requires-clause-rows
 put_commit-requires-clause-rows g c = let may : MayPut (shown_token c.token.inside) c.args.rows =
