@@ -7,7 +7,7 @@ import subprocess
 import threading
 import time
 
-from common import LIVE
+from common import HERE, LIVE
 from judge import Disagreement, Lines, read_replies
 from traffic import Refresh, Traffic
 
@@ -149,36 +149,58 @@ class Asker:
         os.close(self.out)
 
 
+def line_end(tables):
+    """What follows the key and the number of a line."""
+    return (f"|{tables.customers[0]}|{tables.parts[0]}|{tables.suppliers[0]}|{tables.dates[0]}|5-LOW|0|10|1000000|"
+            f"1000000|2|980000|600000|0|{tables.dates[0]}|AIR\n")
+
+
 def refreshes(tables, first, count):
     """The text of so many refreshes, each of which adds an order of one line."""
-    line = (f"|1|{tables.customers[0]}|{tables.parts[0]}|{tables.suppliers[0]}|{tables.dates[0]}|5-LOW|0|10|1000000|"
-            f"1000000|2|980000|600000|0|{tables.dates[0]}|AIR\ncommit\n")
-    return "".join(f"begin\nadd\nline|{key}{line}" for key in range(first, first + count)).encode()
+    end = f"|1{line_end(tables)}commit\n"
+    return "".join(f"begin\nadd\nline|{key}{end}" for key in range(first, first + count)).encode()
 
 
-def floods(ends, text, count):
-    """Sends refreshes without waiting, and reads as many replies: the seconds from the first byte to the last."""
-    into, out = ends
-    out = os.open(out, os.O_RDONLY)
-    into = os.open(into, os.O_WRONLY)
+def in_turn(tables, first, count):
+    """The text of so many refreshes, which in turn add an order of four lines and withdraw it."""
+    end = line_end(tables)
 
-    def send():
-        left = memoryview(text)
-        while left:
-            left = left[os.write(into, left[:1 << 20]):]
-        os.close(into)
+    def action(key, is_added):
+        lines = (f"line|{key}|{number}{end}" for number in range(1, 5))
+        return f"withdraw|{key}\n" if is_added else f"add\n{''.join(lines)}"
+    return "".join(f"begin\n{action(first + place // 2, place % 2)}commit\n" for place in range(count)).encode()
 
-    sender = threading.Thread(target=send, daemon=True)
-    start = time.monotonic()
-    sender.start()
-    told, replies = 0, b"-"
-    while replies:
-        replies = os.read(out, 1 << 20)
-        told += replies.count(b"\n")
-    os.close(out)
-    if told != count:
-        raise Disagreement(f"{told} replies to {count} refreshes")
-    return start, time.monotonic()
+
+class Flood:
+    """The clients in C (flood.c), in a folder where their texts are put."""
+
+    def __init__(self, folder):
+        self.folder, self.program = folder, folder / "flood"
+        subprocess.run(["cc", "-O2", "-pthread", "-o", self.program, HERE / "flood.c"], check=True)
+
+    def words(self, ends, texts):
+        for number, ((into, out), text) in enumerate(zip(ends, texts)):
+            file = self.folder / f"text-{number}"
+            file.write_bytes(text)
+            yield from (file, into, out)
+
+    def start(self, ends, texts):
+        """Starts a client for each pair of ends, which sends its text without waiting for replies."""
+        return subprocess.Popen([self.program, "ahead", *self.words(ends, texts)], stdout=subprocess.PIPE, text=True)
+
+    def end(self, started, count):
+        """The seconds from the first byte to the last reply, which has to be one line for each of so many refreshes."""
+        told, _ = started.communicate(timeout=PATIENCE)
+        lines, seconds = told.split() or ("no", "0")
+        if started.returncode or lines != str(count):
+            raise Disagreement(f"{lines} replies to {count} refreshes")
+        return float(seconds)
+
+    def receipts(self, ends, text, seconds):
+        """The milliseconds of each refresh of one client, which waits for its receipt."""
+        done = subprocess.run([self.program, "wait", str(seconds), *self.words([ends], [text])], check=True, text=True,
+                              stdout=subprocess.PIPE, timeout=seconds + PATIENCE)
+        return [int(nanoseconds) / 1e6 for nanoseconds in done.stdout.split()]
 
 
 class Told(Lines):
