@@ -1,13 +1,12 @@
 -- Laws of the cutting of a text into requests.
 use Rattle.std.proofs.Common.{◌≡◌, ◌≢◌, ℕ, Bool, true, false, List, [], ◌∷◌, ◌++◌, refl, sym, ap, ◌∙◌, append_assoc, Option, None, inl, inr, ◌⊎◌}
-use Rattle.std.proofs.lemmas.Bool.Decides.{eqb_tells}
 use Rattle.std.specs.List.{AllByRecursion, concat}
-use Rattle.session_requests.specs.Lines.{HasNoLineEnd, IsLine, AreLines}
+use Rattle.ssb_text.specs.TextLines.{HasNoLineEnd, IsLine}
+use Rattle.ssb_text.proofs.LineLaws.{lines_of}
 use Rattle.session_requests.specs.Requests.{IsRequest, IsUnfinished, IsCutInto}
-use Rattle.session_requests.specs.Laws.{HasItsLines, HasCutting, HasOneCutting, IsCutAsItComes}
+use Rattle.session_requests.specs.Laws.{HasCutting, HasOneCutting, IsCutAsItComes}
 use Rattle.session_requests.specs.Taking.{IsOpen, begun_behind, ends_request}
 use Rattle.session_requests.specs.declared.lines.Block.{Block}
-use Rattle.session_requests.proofs.LineLaws.{same_front, no_line_before_end}
 use Rattle.session_requests.proofs.RequestLaws.{same_request, open_is_unfinished, line_ends, line_goes_on, nothing_open}
 
 -- two requests, with more behind each, at the front of one text
@@ -58,45 +57,9 @@ cut_as_it_comes_on text = λ requests all rest more left a b.
     goes_on requests all rest more left a.each b.each b.unfinished
     (ap (λ bytes. bytes ++ more) (sym a.joined) ∙ b.joined)
 
--- the lines of a text
-line_front : (b : ℕ) (text : List ℕ) (lines : List (List ℕ)) (last : List ℕ) → b ≢ 10 → AreLines text lines last
-    → (all : List (List ℕ)) × (end : List ℕ) × AreLines (b ∷ text) all end
-line_front b text [] last other are =
-    ([], b ∷ last, record { joined = ap (λ t. b ∷ t) are.joined; each = tt; behind = (other, are.behind) })
-line_front b text ([] ∷ lines) last other are = absurd are.each.0
-line_front b text ((c ∷ line) ∷ lines) last other are = (
-  (b ∷ c ∷ line) ∷ lines,
-  last,
-  record {
-    joined = ap (λ t. b ∷ t) are.joined;
-    each = ((other, are.each.0), are.each.1);
-    behind = are.behind;
-  },
-)
-
-decided : (b : ℕ) → (b ≡ 10) ⊎ (b ≢ 10)
-decided b = elim (eqb_tells b 10) [ inl is ↦ inl is.1 | inr other ↦ inr other.1 ]
-
 true_or_false : (b : Bool) → (b ≡ true) ⊎ (b ≡ false)
 true_or_false true = inl refl
 true_or_false false = inr refl
-
-lines_of : (text : List ℕ) → (lines : List (List ℕ)) × (last : List ℕ) × AreLines text lines last
-lines_of [] = ([], [], record { joined = refl; each = tt; behind = tt })
-lines_of (b ∷ text) =
-    let rest = lines_of text in
-    elim (decided b) [
-      | inl end ↦ (
-        (b ∷ []) ∷ rest.0,
-        rest.1,
-        record {
-          joined = ap (λ t. b ∷ t) rest.2.joined;
-          each = (end, rest.2.each);
-          behind = rest.2.behind;
-        },
-      )
-      | inr other ↦ line_front b text rest.0 rest.1 other rest.2
-    ]
 
 -- the lines behind what is begun, cut
 cut_lines : (lines : List (List ℕ)) (begun : Option Block) (bytes last : List ℕ) → AllByRecursion IsLine lines
@@ -142,30 +105,4 @@ text_has_cutting text =
         each = cut.2.each;
         unfinished = cut.2.unfinished;
       },
-    )
-
-same_lines : (ls ms : List (List ℕ)) (x y : List ℕ) → AllByRecursion IsLine ls → AllByRecursion IsLine ms
-    → HasNoLineEnd x → HasNoLineEnd y → concat ls ++ x ≡ concat ms ++ y → (ls ≡ ms) × (x ≡ y)
-same_lines [] [] x y al am p q e = (refl, e)
-same_lines [] (m ∷ ms) x y al am p q e =
-    absurd (no_line_before_end m (concat ms ++ y) x am.0 p (e ∙ append_assoc m (concat ms) y))
-same_lines (l ∷ ls) [] x y al am p q e =
-    absurd (no_line_before_end l (concat ls ++ x) y al.0 q (sym e ∙ append_assoc l (concat ls) x))
-same_lines (l ∷ ls) (m ∷ ms) x y al am p q e =
-    let front = same_front l m (concat ls) (concat ms) x y al.0 am.0 e in
-    let others = same_lines ls ms x y al.1 am.1 p q front.1 in
-    let head = front.0 in
-    let tail = others.0 in
-    (cc, others.1)
-
--- a text has its lines, and no others
-pub text_has_lines : (text : List ℕ) → HasItsLines text
-text_has_lines text =
-    let lines = lines_of text in (
-      lines.0,
-      lines.1,
-      lines.2,
-      λ others end are.
-          same_lines others lines.0 end lines.1 are.each lines.2.each are.behind lines.2.behind
-          (sym are.joined ∙ lines.2.joined),
     )

@@ -1,9 +1,7 @@
-pub mod LineLaws
 pub mod RequestLaws
 pub mod CuttingLaws
 pub mod TakingLaws
 pub mod NextLaws
-pub mod MachineLaws
 pub mod RecordLaws
 pub mod WordLaws
 pub mod ScriptLaws

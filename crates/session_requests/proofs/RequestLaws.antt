@@ -1,11 +1,12 @@
 -- Laws of a request: at the front of a text there is one at most, and none where no line has ended it.
 use Rattle.std.proofs.Common.{◌≡◌, ℕ, Bool, true, false, List, [], ◌∷◌, ◌++◌, Option, Some, None, is_none, refl, sym, ap, subst, ◌∙◌, append_assoc, append-nil}
 use Rattle.std.specs.List.{AllByRecursion, concat}
-use Rattle.session_requests.specs.Lines.{HasNoLineEnd, IsLine, opens, closes}
+use Rattle.ssb_text.specs.TextLines.{HasNoLineEnd, IsLine}
+use Rattle.session_requests.specs.Lines.{opens, closes}
 use Rattle.session_requests.specs.Requests.{EndAt, MakeRequest, IsRequest, IsUnfinished}
 use Rattle.session_requests.specs.Taking.{AreOpen, IsOpen, begun_behind, ends_request}
 use Rattle.session_requests.specs.declared.lines.Block.{Block}
-use Rattle.session_requests.proofs.LineLaws.{same_front, no_line_before_end}
+use Rattle.ssb_text.proofs.LineLaws.{same_front, no_line_before_end}
 
 abbrev AreLinesAll : List (List ℕ) → Type 0
 AreLinesAll lines = AllByRecursion IsLine lines

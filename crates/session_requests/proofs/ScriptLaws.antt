@@ -9,7 +9,8 @@ use Rattle.ssb_schema.specs.declared.refresh.Action.{Action}
 use Rattle.ssb_schema.specs.declared.refresh.Action.TheVariants as action
 use Rattle.ssb_questions.specs.declared.query.Query.{Query as Named}
 use Rattle.ssb_questions.specs.declared.value.Value.{Value}
-use Rattle.session_requests.specs.Lines.{IsLine, opens}
+use Rattle.ssb_text.specs.TextLines.{IsLine, HasNoLoneReturn, HasNoMark}
+use Rattle.session_requests.specs.Lines.{opens}
 use Rattle.session_requests.specs.Requests.{EndAt, MakeRequest, IsRequest}
 use Rattle.session_requests.specs.declared.lines.Block.{Block}
 use Rattle.session_requests.specs.declared.lines.Block.TheVariants.{Refreshing, Asking}
@@ -22,9 +23,10 @@ use Rattle.ssb_script.specs.Requests.{RequestRecord, Refresh, Ask, Abort, IsWhol
 use Rattle.ssb_script.specs.Scripts.{Spell, SpellsScript, is_outside, lines_in, lines_of_begun}
 use Rattle.ssb_script.specs.declared.control.Opening.{Opening}
 use Rattle.ssb_script.specs.declared.control.Opening.TheVariants.{Add, Amend}
-use Rattle.session_requests.specs.ScriptLaws.{HasNoLoneReturn, HasNoMark, HasScriptOfRequests, texts_of}
-use Rattle.session_requests.proofs.MachineLaws.{Ended, fields_from, records_in}
-use Rattle.session_requests.proofs.RecordLaws.{RecordsFrom, lines_have, request_contents, strip_line, text_records, unmarked}
+use Rattle.session_requests.specs.ScriptLaws.{HasScriptOfRequests, texts_of}
+use Rattle.ssb_text.proofs.MachineLaws.{Ended, fields_from, records_in}
+use Rattle.ssb_text.proofs.LineRecordLaws.{RecordsFrom, lines_have, strip_line, unmarked}
+use Rattle.session_requests.proofs.RecordLaws.{request_contents, text_records}
 use Rattle.session_requests.proofs.WordLaws.{Ends, opening_of, closing_of, line_opens, line_opens_not, line_closes, line_closes_not}
 
 -- records spell these lines

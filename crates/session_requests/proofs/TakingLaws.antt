@@ -6,7 +6,7 @@ use Rattle.std.specs.Io.{StartsWith}
 use Rattle.std.specs.Io.KnownBytes.{Consumes, Keeps}
 use Rattle.std.proofs.KnownBytes.{Consumes-nil, Consumes-trans, Consumes-kept}
 use Rattle.std.proofs.Transfers.{starts_with_length, drop-appended}
-use Rattle.session_requests.specs.Lines.{HasNoLineEnd, IsLine}
+use Rattle.ssb_text.specs.TextLines.{HasNoLineEnd, IsLine}
 use Rattle.session_requests.specs.Requests.{IsRequest, IsUnfinished}
 use Rattle.session_requests.specs.Next.{IsAllOf, IsLessThan, IsRequestFault}
 use Rattle.session_requests.specs.Taking.{Took, IsPiece, TellsLine, IsLineFault, IsOpen, begun_behind, ends_request}
@@ -14,7 +14,7 @@ use Rattle.session_requests.specs.declared.lines.Block.{Block}
 use Rattle.session_requests.specs.declared.pieces.Piece.TheVariants as piece
 use Rattle.session_requests.specs.declared.error.RequestError.{RequestError}
 use Rattle.session_requests.specs.declared.error.RequestError.TheVariants as error
-use Rattle.session_requests.proofs.LineLaws.{no_line_end-append, line-append}
+use Rattle.ssb_text.proofs.LineLaws.{no_line_end-append, line-append}
 use Rattle.session_requests.proofs.RequestLaws.{open_is_unfinished, line_ends, line_goes_on}
 
 -- a read that took nothing

@@ -19,8 +19,8 @@ use Rattle.csv.specs.Reading.{strip_bom}
 use Rattle.session_requests.specs.Lines.{is_begin, is_ask, is_commit, is_answer, is_abort, closes, opens, word_alone}
 use Rattle.session_requests.specs.declared.lines.Block.{Block}
 use Rattle.session_requests.specs.declared.lines.Block.TheVariants.{Refreshing, Asking}
-use Rattle.session_requests.specs.ScriptLaws.{HasNoMark}
-use Rattle.session_requests.proofs.MachineLaws.{ArePlain, Ended, fields_from, records_in}
+use Rattle.ssb_text.specs.TextLines.{HasNoMark}
+use Rattle.ssb_text.proofs.MachineLaws.{ArePlain, Ended, fields_from, records_in}
 
 tells : (b : Bool) → (b ≡ true) ⊎ (b ≡ false)
 tells true = inl refl

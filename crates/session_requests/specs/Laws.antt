@@ -1,13 +1,6 @@
 -- Laws of the cutting of a text into requests.
 use Rattle.std.specs.Prelude.{◌≡◌, ℕ, List, ◌++◌}
-use Rattle.session_requests.specs.Lines.{AreLines}
 use Rattle.session_requests.specs.Requests.{IsCutInto}
-
--- a text has lines, and no others
-abbrev pub HasItsLines : List ℕ → Type 0
-HasItsLines text =
-    (lines : List (List ℕ)) × (last : List ℕ) × AreLines text lines last
-    × ((others : List (List ℕ)) (end : List ℕ) → AreLines text others end → (others ≡ lines) × (end ≡ last))
 
 -- a text can be cut
 abbrev pub HasCutting : List ℕ → Type 0

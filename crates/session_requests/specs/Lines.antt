@@ -1,28 +1,11 @@
--- The lines of a text, and the words that a line of a block's begin or end has alone.
-use Rattle.std.specs.Prelude.{◌≡◌, ◌≢◌, ℕ, Bool, List, [], ◌∷◌, ◌++◌, ◌||◌, Option, Some, None, codes, nat_eq, if◌then◌else◌}
-use Rattle.std.specs.List.{AllByRecursion, concat}
+-- The words that a line of a block's begin or end has alone.
+use Rattle.std.specs.Prelude.{ℕ, Bool, List, ◌||◌, Option, Some, None, codes, nat_eq, if◌then◌else◌}
 use Rattle.std.specs.Cmp.Lexicographic.{pointwise}
 use Rattle.std.specs.Io.BufRead.{strip_last}
 use Rattle.csv.specs.Reading.{strip_bom}
 use Rattle.ssb_text.specs.Spelling.{without_spaces}
 use Rattle.session_requests.specs.declared.lines.Block.{Block}
 use Rattle.session_requests.specs.declared.lines.Block.TheVariants.{Refreshing, Asking}
-
--- none of these bytes is an LF
-abbrev pub HasNoLineEnd : List ℕ → Type 0
-HasNoLineEnd bytes = AllByRecursion (λ b. b ≢ 10) bytes
-
--- a whole line: its last byte is an LF, and no other is
-abbrev pub IsLine : List ℕ → Type 0
-IsLine [] = ⊥
-IsLine (b ∷ []) = b ≡ 10
-IsLine (b ∷ next ∷ bytes) = (b ≢ 10) × IsLine (next ∷ bytes)
-
--- the whole lines of a text, in order, and the bytes behind the last LF
-pub record AreLines (text : List ℕ) (lines : List (List ℕ)) (last : List ℕ) : Type 0 where
-  pub joined : text ≡ concat lines ++ last
-  pub each : AllByRecursion IsLine lines
-  pub behind : HasNoLineEnd last
 
 -- the word that a line has alone, if it has one alone: without LF or CR LF, a closing bar, and spaces at its end
 abbrev pub word_alone : List ℕ → List ℕ

@@ -1,7 +1,8 @@
 -- The requests of a text: what a client asks at once.
 use Rattle.std.specs.Prelude.{◌≡◌, ℕ, true, false, List, [], ◌∷◌, ◌++◌, Some, None}
 use Rattle.std.specs.List.{AllByRecursion, concat}
-use Rattle.session_requests.specs.Lines.{IsLine, opens, closes}
+use Rattle.ssb_text.specs.TextLines.{IsLine}
+use Rattle.session_requests.specs.Lines.{opens, closes}
 use Rattle.session_requests.specs.declared.lines.Block.{Block}
 
 -- the last of these lines, and no other, ends the block

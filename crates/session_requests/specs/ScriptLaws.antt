@@ -1,21 +1,11 @@
 -- Laws of the requests of a text and the records of it.
-use Rattle.std.specs.Prelude.{◌≡◌, ◌≢◌, ◌≤◌, ℕ, List, [], ◌∷◌, ◌++◌, length}
+use Rattle.std.specs.Prelude.{◌≡◌, ◌≤◌, ℕ, List, [], ◌∷◌, ◌++◌, length}
 use Rattle.std.specs.List.{AllByRecursion, AllZip, flat_map}
-use Rattle.csv.specs.Reading.{strip_bom}
 use Rattle.ssb_text.specs.Records.{HasRecords}
+use Rattle.ssb_text.specs.TextLines.{HasNoLoneReturn, HasNoMark}
 use Rattle.session_requests.specs.Requests.{IsCutInto}
 use Rattle.ssb_script.specs.Requests.{RequestRecord}
 use Rattle.ssb_script.specs.Scripts.{SpellsScript}
-
--- each CR of a text stands before an LF
-abbrev pub HasNoLoneReturn : List ℕ → Type 0
-HasNoLoneReturn [] = Unit {0}
-HasNoLoneReturn (b ∷ []) = b ≢ 13
-HasNoLoneReturn (b ∷ next ∷ bytes) = (b ≡ 13 → next ≡ 10) × HasNoLoneReturn (next ∷ bytes)
-
--- a text does not begin with a byte order mark
-abbrev pub HasNoMark : List ℕ → Type 0
-HasNoMark bytes = strip_bom bytes ≡ bytes
 
 -- what a client's text is given as: its requests, and what is left behind them
 abbrev pub texts_of : List (List ℕ) → List ℕ → List (List ℕ)

@@ -2,7 +2,8 @@
 use Rattle.std.specs.Prelude.{◌≡◌, ℕ, Bool, true, false, List, [], ◌∷◌, ◌++◌, Option, Some, None, is_none, Result, Ok, Err}
 use Rattle.std.specs.List.{AllByRecursion, concat}
 use Rattle.std.specs.Io.KnownBytes.{Consumes}
-use Rattle.session_requests.specs.Lines.{HasNoLineEnd, IsLine, opens, closes}
+use Rattle.ssb_text.specs.TextLines.{HasNoLineEnd, IsLine}
+use Rattle.session_requests.specs.Lines.{opens, closes}
 use Rattle.session_requests.specs.declared.lines.Block.{Block}
 use Rattle.session_requests.specs.Next.{IsAllOf, IsLessThan}
 use Rattle.session_requests.specs.declared.pieces.Piece.{Piece}

@@ -1,12 +1,7 @@
 //! What holds of the cutting of every text: each law is the contract of a function that does nothing.
 ghost use Rattle.std.specs.Prelude.{ℕ, List};
-ghost use Rattle.session_requests.specs.Laws.{HasCutting, HasItsLines, HasOneCutting, IsCutAsItComes};
+ghost use Rattle.session_requests.specs.Laws.{HasCutting, HasOneCutting, IsCutAsItComes};
 ghost use Rattle.session_requests.specs.ScriptLaws.{HasRecordsOfRequests, HasScriptOfRequests};
-
-/// A text has lines, and bytes behind its last LF, and no others.
-pub fn has_its_lines()
-    ensures { (text : List ℕ) → HasItsLines text }
-{}
 
 /// A text can be cut into requests, and what is left behind them.
 pub fn has_cutting()

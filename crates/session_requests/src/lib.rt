@@ -14,10 +14,10 @@
 //! request, or what a text that has ended still had, or, behind an error, the front of a request that has no end yet.
 //! [`has_request`] says whether a whole request stands at the front of bytes.
 //!
-//! The definitions stand in `specs/`: `Lines` (a line, and which begin and end a block), `Requests` (a request, and the
-//! requests of a text), `Next` (what a read gives and tells), `Taking` (the same of its parts), `Laws` (a text has one
-//! cutting, and whatever follows it leaves its requests as they are) and `ScriptLaws`: serving the requests of a legal
-//! script as they come serves the script.
+//! The definitions stand in `specs/`: `Lines` (which lines begin and end a block; what a line is says `ssb_text`),
+//! `Requests` (a request, and the requests of a text), `Next` (what a read gives and tells), `Taking` (the same of its
+//! parts), `Laws` (a text has one cutting, and whatever follows it leaves its requests as they are) and `ScriptLaws`:
+//! serving the requests of a legal script as they come serves the script.
 #![tactic(auto)]
 
 mod at_hand;

@@ -1,7 +1,7 @@
 //! One look at what a reader has at hand, and how much of it belongs to the line that is being read.
 
 ghost use Rattle.std.specs.Prelude.{◌≡◌, ◌≤◌, ℕ, List, [], Option, take, length, IfSome, IfNone};
-ghost use Rattle.session_requests.specs.Lines.{HasNoLineEnd, IsLine};
+ghost use Rattle.ssb_text.specs.TextLines.{HasNoLineEnd, IsLine};
 ghost use Rattle.session_requests.specs.Taking.{IsPiece, TellsPiece, Took};
 
 use crate::error::RequestError;

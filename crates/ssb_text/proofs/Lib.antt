@@ -6,6 +6,9 @@ pub mod ReadingLaws
 pub mod RowLaws
 pub mod LoadLaws
 pub mod RecordLaws
+pub mod LineLaws
+pub mod MachineLaws
+pub mod LineRecordLaws
 pub mod BlockReadingLaws
 pub mod BlockLaws
 pub mod ParsingLaws

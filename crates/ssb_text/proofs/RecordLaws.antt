@@ -193,7 +193,7 @@ unfolding next_record
 feed_skipped b = refl
 
 -- a byte order mark before a line feed
-and_false : (b : Bool) → (b && false) ≡ false
+pub and_false : (b : Bool) → (b && false) ≡ false
 and_false true = refl
 and_false false = refl
 

@@ -1,5 +1,6 @@
 pub mod Spelling
 pub mod Records
+pub mod TextLines
 pub mod Row
 pub mod DateColumns
 pub mod Tables

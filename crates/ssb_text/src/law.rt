@@ -1,11 +1,18 @@
-//! The law that carries the reading of a text in blocks.
+//! What holds of every text: each law is the contract of a function that does nothing.
 
+ghost use Rattle.std.specs.Prelude.{ℕ, List};
 ghost use Rattle.ssb_text.specs.Appended.{FirstOfAppended, FirstOfLonger, RecordsOfAppended};
+ghost use Rattle.ssb_text.specs.TextLines.{HasItsLines};
 
 /// The records of a text in two parts, the second of which begins with a line feed, are those of the first and then
-/// those of the second. The law alone: it does nothing.
+/// those of the second: so a text is read in blocks.
 pub fn records_of_appended()
     ensures all { RecordsOfAppended }
     ensures first { FirstOfAppended }
     ensures longer { FirstOfLonger }
+{}
+
+/// A text has lines, and bytes behind its last LF, and no others.
+pub fn has_its_lines()
+    ensures { (text : List ℕ) → HasItsLines text }
 {}

@@ -14,8 +14,9 @@
 //! want of memory may come before it. It says nothing of blocks: that they change nothing rests on the law of
 //! [`records_of_appended`].
 //!
-//! The definitions stand in `specs/`, from the bottom up: `Records` (the records of a text), `Spelling` (what a field
-//! spells), `Row` (a record's row, or its first fault), `Tables` (a file's rows) and `Load` (the base of five files).
+//! The definitions stand in `specs/`, from the bottom up: `Records` (the records of a text), `TextLines` (its lines),
+//! `Spelling` (what a field spells), `Row` (a record's row, or its first fault), `Tables` (a file's rows) and `Load` (the
+//! base of five files).
 //!
 //! `load(rt, alloc, Limits::standard(), 4_194_304, Tables { customer, supplier, part, date, lineorder })?` gives the base
 //! of five open files. Of the text `query|Q4.1 ` the first record has two columns, and `trimmed_at(&record, 1)` is `Q4.1`.
@@ -41,7 +42,7 @@ mod table;
 
 pub use error::{LineFault, LoadError};
 pub use fields::{field_at, has_columns, trimmed_at};
-pub use law::records_of_appended;
+pub use law::{has_its_lines, records_of_appended};
 pub use line::line_from;
 pub use loading::{Tables, load};
 pub use records::{ReadError, next_record, record_reader};

@@ -3,7 +3,8 @@ use Rattle.std.specs.Prelude.{◌≡◌, ℕ, List}
 use Rattle.std.specs.List.{AllByRecursion, concat}
 use Rattle.history.specs.Tokens.{TokenRecord}
 use Rattle.session_requests.specs.Requests.{IsCutInto}
-use Rattle.session_requests.specs.ScriptLaws.{HasNoLoneReturn, HasNoMark, texts_of}
+use Rattle.ssb_text.specs.TextLines.{HasNoLoneReturn, HasNoMark}
+use Rattle.session_requests.specs.ScriptLaws.{texts_of}
 use Rattle.ssb_report.specs.Replies.{Reply}
 use Rattle.ssb_report.specs.Report.{report_of}
 use Rattle.ssb_script.specs.Requests.{RequestRecord}

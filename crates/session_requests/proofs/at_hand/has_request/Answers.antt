@@ -1,7 +1,7 @@
 use Rattle.std.proofs.Common.{◌≡◌, ◌++◌, ℕ, List, take, drop, ap, sym, subst, ◌∙◌, append_assoc}
 use Rattle.std.proofs.lemmas.List.{take-append-drop}
 use Rattle.session_requests.proofs.RequestLaws.{line_ends, line_goes_on, open_is_unfinished}
-use Rattle.session_requests.specs.Lines.{IsLine}
+use Rattle.ssb_text.specs.TextLines.{IsLine}
 use Rattle.session_requests.proofs.at_hand.has_request.Goals as goal
 
 -- the bytes before and behind the line, joined

@@ -1,5 +1,5 @@
 use Rattle.std.proofs.Common.{◌≤◌, length}
-use Rattle.session_requests.specs.Lines.{HasNoLineEnd}
+use Rattle.ssb_text.specs.TextLines.{HasNoLineEnd}
 use Rattle.session_requests.specs.Taking.{Took}
 use Rattle.session_requests.proofs.lines.next_line.Given as goal
 

@@ -1,7 +1,7 @@
 use Rattle.std.proofs.Common.{subst}
 use Rattle.std.proofs.lemmas.List.{take_all}
-use Rattle.session_requests.specs.Lines.{HasNoLineEnd}
-use Rattle.session_requests.proofs.LineLaws.{line-more, no_line_end-more}
+use Rattle.ssb_text.specs.TextLines.{HasNoLineEnd}
+use Rattle.ssb_text.proofs.LineLaws.{line-more, no_line_end-more}
 use Rattle.session_requests.proofs.pieces.line_length.Goals as goal
 
 pub returns-then-bytes-at-eq10-clause-line : goal.returns-then-bytes-at-eq10-clause-line

@@ -1,5 +1,5 @@
 use Rattle.std.proofs.Common.{take}
-use Rattle.session_requests.specs.Lines.{HasNoLineEnd}
+use Rattle.ssb_text.specs.TextLines.{HasNoLineEnd}
 use Rattle.session_requests.proofs.pieces.line_length.Given as goal
 
 abbrev pub invariant-loop-at : goal.invariant-loop-at

@@ -2,7 +2,7 @@ use Rattle.std.proofs.Common.{◌≡◌, ◌<◌, sym, subst, length, take, arit
 use Rattle.std.proofs.lemmas.Bool.{eqb-false}
 use Rattle.std.specs.Io.BufRead.{FillKeeps}
 use Rattle.std.proofs.BufReadLemmas.{Consumes_shown}
-use Rattle.session_requests.specs.Lines.{HasNoLineEnd}
+use Rattle.ssb_text.specs.TextLines.{HasNoLineEnd}
 use Rattle.session_requests.specs.Taking.{Took}
 use Rattle.std.proofs.lemmas.Result.{err_from_is_err_and}
 use Rattle.session_requests.proofs.TakingLaws.{took_nothing, shown_none, shown_some}

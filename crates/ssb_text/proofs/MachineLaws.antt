@@ -10,8 +10,7 @@ use Rattle.csv.specs.Reading.{AreRecords, Reached}
 use Rattle.csv.specs.declared.parser.State.{State}
 use Rattle.csv.specs.declared.parser.State.TheVariants as st
 use Rattle.ssb_text.specs.Records.{record_config}
-use Rattle.session_requests.specs.Lines.{IsLine}
-use Rattle.session_requests.specs.ScriptLaws.{HasNoLoneReturn}
+use Rattle.ssb_text.specs.TextLines.{HasNoLoneReturn, IsLine}
 
 -- a byte that ends no record
 abbrev pub IsPlainByte : ℕ → Type 0
