@@ -10,3 +10,5 @@ pub mod PlainLaws
 pub mod SpellingLaws
 pub mod PartedLaws
 pub mod ClauseLaws
+pub mod OnceLaws
+pub mod StarMeaningLaws

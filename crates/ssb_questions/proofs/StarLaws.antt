@@ -95,7 +95,7 @@ within [] i x e = absurd cc
 within (y ∷ xs) zero x e = omega arith
 within (y ∷ xs) (suc i) x e = let later = within xs i x e in omega (arith, later)
 
-stands : (constants : List Value) → constants_fault Star constants ≡ None → (i : ℕ) (v : Value)
+pub stands : (constants : List Value) → constants_fault Star constants ≡ None → (i : ℕ) (v : Value)
     → slice_get constants i ≡ Some v
     → may_stand_at i (subjects_of (take i constants)) (option_map subject (clause_said v)) ≡ true
 stands constants none i v at =

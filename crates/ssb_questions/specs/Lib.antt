@@ -18,3 +18,5 @@ pub mod Plan
 pub mod Question
 pub mod QuestionEq
 pub mod Laws
+-- what the plan of a star question means
+pub mod StarMeaning

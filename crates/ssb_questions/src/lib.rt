@@ -33,6 +33,7 @@ pub mod plan;
 pub mod query;
 pub mod question;
 pub mod star;
+pub mod star_meaning;
 pub mod value;
 
 pub use clause::{Clause, Spelled, clause_of};
