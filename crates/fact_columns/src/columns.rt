@@ -161,7 +161,8 @@ impl Replica for Columns {
         }
         self.table.reserve(fresh.len())?;
         self.spans.reserve(actions.len())?;
-        self.hints.reserve(actions.len())?;
+        // An amended order may give two: its old places, and what its new ones leave of a longer span.
+        self.hints.reserve(2 * actions.len())?;
         let freed = apply_actions(
             &mut self.table,
             &mut self.spans,

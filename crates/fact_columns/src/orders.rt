@@ -68,7 +68,10 @@ fn withdraw(table: &mut FactTable, spans: &mut Spans, hints: &mut Hints, key: u6
     ensures { Withdrawn table.old table.new spans.old spans.new key result }
 {
     let (span, freed) = take_order(table, spans, key);
-    hints.offer(span);
+    // Loaded lines of an order may lie apart, with those of others between them: such a span is not free.
+    if span.end.saturating_sub(span.first) as usize == freed {
+        hints.offer(span);
+    }
     freed
 }
 
