@@ -9,6 +9,7 @@ pub mod RecordLaws
 pub mod LineLaws
 pub mod MachineLaws
 pub mod LineRecordLaws
+pub mod PlainLaws
 pub mod BlockReadingLaws
 pub mod BlockLaws
 pub mod ParsingLaws

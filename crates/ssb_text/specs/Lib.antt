@@ -1,6 +1,7 @@
 pub mod Spelling
 pub mod Records
 pub mod TextLines
+pub mod LineRecords
 pub mod Row
 pub mod DateColumns
 pub mod Tables

@@ -34,3 +34,7 @@ HasNoLoneReturn (b ∷ next ∷ bytes) = (b ≡ 13 → next ≡ 10) × HasNoLone
 -- a text does not begin with a byte order mark
 abbrev pub HasNoMark : List ℕ → Type 0
 HasNoMark bytes = strip_bom bytes ≡ bytes
+
+-- each CR of a text stands before an LF, and none of its bytes begins a byte order mark
+abbrev pub IsPlainText : List ℕ → Type 0
+IsPlainText text = HasNoLoneReturn text × AllByRecursion (λ b. b ≢ 239) text

@@ -2,7 +2,8 @@
 
 ghost use Rattle.std.specs.Prelude.{ℕ, List};
 ghost use Rattle.ssb_text.specs.Appended.{FirstOfAppended, FirstOfLonger, RecordsOfAppended};
-ghost use Rattle.ssb_text.specs.TextLines.{HasItsLines};
+ghost use Rattle.ssb_text.specs.LineRecords.{HasRecordsOfLines};
+ghost use Rattle.ssb_text.specs.TextLines.{HasItsLines, IsPlainText};
 
 /// The records of a text in two parts, the second of which begins with a line feed, are those of the first and then
 /// those of the second: so a text is read in blocks.
@@ -15,4 +16,10 @@ pub fn records_of_appended()
 /// A text has lines, and bytes behind its last LF, and no others.
 pub fn has_its_lines()
     ensures { (text : List ℕ) → HasItsLines text }
+{}
+
+/// The records of a plain text are those of its lines, one after another, and then those of the bytes behind its last LF:
+/// so many texts of whole lines are read as one.
+pub fn records_of_lines()
+    ensures { (text : List ℕ) → IsPlainText text → HasRecordsOfLines text }
 {}

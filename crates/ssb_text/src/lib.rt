@@ -34,6 +34,7 @@ mod line;
 mod loading;
 mod parsing;
 mod part;
+mod plain;
 mod records;
 mod row;
 mod spelling;
@@ -42,8 +43,9 @@ mod table;
 
 pub use error::{LineFault, LoadError};
 pub use fields::{field_at, has_columns, trimmed_at};
-pub use law::{has_its_lines, records_of_appended};
+pub use law::{has_its_lines, records_of_appended, records_of_lines};
 pub use line::line_from;
 pub use loading::{Tables, load};
+pub use plain::is_plain_text;
 pub use records::{ReadError, next_record, record_reader};
 pub use spelling::{text, trimmed};
