@@ -1,21 +1,20 @@
 -- How far a text was read, where blocks are read and joined while others are parsed.
 use Rattle.std.specs.Prelude.{◌≡◌, ℕ, ◌≤◌, List, [], map, length, Option, Result}
 use Rattle.std.specs.List.{AllZip}
-use Rattle.std.specs.declared.alloc.Global.{Global}
-use Rattle.std.specs.declared.vec.Vec.{Vec}
 use Rattle.ssb_schema.specs.Columns.{Value}
 use Rattle.ssb_schema.specs.Rows.{line_values}
 use Rattle.ssb_text.specs.declared.records.ReadError.{ReadError}
 use Rattle.ssb_text.specs.Blocks.{GivesBlocks, WasAll, bytes_left}
 use Rattle.ssb_text.specs.Joining.{Joins}
 use Rattle.ssb_text.specs.Parsing.{IsParsedOk}
+use Rattle.ssb_text.specs.declared.blocks.Block.{Block}
 use Rattle.ssb_text.specs.declared.ahead.Ahead.{Ahead}
 use Rattle.ssb_text.specs.declared.ahead.Reading.{Reading}
 use Rattle.ssb_text.specs.declared.parsing.Parsed.{Parsed}
 
 -- the bytes of blocks
-abbrev pub block_bytes : List (Vec ℕ Global) → List (List ℕ)
-block_bytes blocks = map (λ block. block.items) blocks
+abbrev pub block_bytes : List Block → List (List ℕ)
+block_bytes blocks = map (λ block. block.bytes.items) blocks
 
 -- blocks were given of the bytes that were left, and none only where no bytes were left
 pub record Gives (old new : Option (List ℕ)) (blocks : List (List ℕ)) : Type 0 where

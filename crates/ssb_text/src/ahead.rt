@@ -10,7 +10,7 @@ ghost use Rattle.ssb_text.specs.Ahead.{GoesAhead, IsBegun, TakesStep};
 ghost use Rattle.ssb_text.specs.Joining.{Joins, Stops};
 ghost use Rattle.ssb_text.specs.Parsing.{IsParsedOk};
 
-use crate::blocks::{BlockError, Blocks};
+use crate::blocks::{Block, BlockError, Blocks};
 use crate::error::LoadError;
 use crate::joining::join_blocks;
 use crate::parsing::{Parsed, parse_blocks};
@@ -30,7 +30,7 @@ const BLOCKS: usize = 8;
 pub(crate) struct Reading<R> {
     pub(crate) lines: Vec<Line>,
     pub(crate) parsed: Vec<Result<Parsed, ReadError>>,
-    pub(crate) blocks: Vec<Vec<u8>>,
+    pub(crate) blocks: Vec<Block>,
     pub(crate) source: Blocks<R>,
 }
 
@@ -38,7 +38,7 @@ pub(crate) struct Reading<R> {
 #[derive(Drop)]
 pub(crate) struct Ahead<R> {
     pub(crate) lines: Vec<Line>,
-    pub(crate) blocks: Vec<Vec<u8>>,
+    pub(crate) blocks: Vec<Block>,
     pub(crate) source: Blocks<R>,
 }
 
@@ -58,7 +58,7 @@ fn begin<R: Read + Drop>(alloc: Global, block: u32, source: R) -> Result<Reading
     ensures fault { IfErr result (IsReadFault table.Lineorder) }
 {
     let mut source = Blocks::new(alloc, source, block);
-    match source.next_blocks(alloc, BLOCKS) {
+    match source.next_blocks(alloc, BLOCKS, Vec::new(alloc)) {
         Ok(blocks) => Ok(Reading {
             lines: Vec::new(alloc),
             parsed: Vec::new(alloc),
@@ -69,7 +69,7 @@ fn begin<R: Read + Drop>(alloc: Global, block: u32, source: R) -> Result<Reading
     }
 }
 
-// Joins what was parsed before, and reads the next blocks.
+// Joins what was parsed before, and reads the next blocks into its buffers.
 fn go_ahead<R: Read + Drop>(
     alloc: Global,
     limit: usize,
@@ -83,8 +83,8 @@ fn go_ahead<R: Read + Drop>(
         (bytes_left R.remaining source)) }
     ensures stops { IfErr result (Stops IsParsedOk parsed.items limit (map line_values lines.items)) }
 {
-    join_blocks(&mut lines, parsed, limit)?;
-    match source.next_blocks(alloc, BLOCKS) {
+    let rooms = join_blocks(alloc, &mut lines, parsed, limit)?;
+    match source.next_blocks(alloc, BLOCKS, rooms) {
         Ok(blocks) => Ok(Ahead {
             lines,
             blocks,
@@ -114,10 +114,10 @@ fn step<R: Read + Drop>(
     } = reading;
     let (next, ahead) = thread::join(
         rt,
-        || -> Result<Vec<Result<Parsed, ReadError>>, AllocError>
-            ensures { IfOk result (λ parsed. AllZip (λ block read. IsParsedOk block.items read) blocks.items
+        move || -> Result<Vec<Result<Parsed, ReadError>>, AllocError>
+            ensures { IfOk result (λ parsed. AllZip (λ block read. IsParsedOk block.bytes.items read) blocks.items
                 parsed.items) }
-        { parse_blocks(rt, alloc, &blocks) },
+        { parse_blocks(rt, alloc, blocks) },
         move || -> Result<Ahead<R>, LoadError>
             requires small { limit < 2 ^ 32 }
             requires few { length lines.items ≤ limit }
@@ -139,7 +139,7 @@ fn step<R: Read + Drop>(
 }
 
 // The lines of a text of which all blocks were parsed.
-fn finish<R>(limit: usize, reading: Reading<R>) -> Result<Vec<Line>, LoadError>
+fn finish<R>(alloc: Global, limit: usize, reading: Reading<R>) -> Result<Vec<Line>, LoadError>
 where
     R: Drop,
     requires small { limit < 2 ^ 32 }
@@ -150,7 +150,7 @@ where
     ensures stops { IfErr result (Stops IsParsedOk reading.parsed.items limit (map line_values reading.lines.items)) }
 {
     let mut lines = reading.lines;
-    join_blocks(&mut lines, reading.parsed, limit)?;
+    join_blocks(alloc, &mut lines, reading.parsed, limit)?;
     Ok(lines)
 }
 
@@ -171,7 +171,7 @@ pub(crate) fn read_lines<R: Read + Drop>(
     let mut reading = begin(alloc, block, source)?;
     for _ in 0..u64::MAX {
         if reading.blocks.is_empty() {
-            return finish(limit, reading);
+            return finish(alloc, limit, reading);
         }
         reading = step(rt, alloc, limit, reading)?;
     }

@@ -9,9 +9,9 @@ ghost use Rattle.std.specs.Prelude.{◌≡◌, ◌<◌, ◌≤◌, ◌+◌, ℕ,
 ghost use Rattle.std.specs.Io.KnownBytes.{Consumes, IsAtEnd};
 ghost use Rattle.ssb_text.specs.BlockReading.{ReadsMore};
 
+use ssb_schema::Line;
 use std::alloc::Global;
 use std::io::Read;
-use std::mem;
 
 /// Why a block could not be read.
 #[derive(Clone, Copy, Debug, PartialEq, Eq)]
@@ -20,6 +20,25 @@ pub enum BlockError {
     Read,
     /// Memory ran out.
     OutOfMemory,
+}
+
+/// The bytes of a block, and room for the lines that are parsed of it. Both are used again for a later block, and cleared
+/// before they are filled: so the buffers of a text are made once.
+#[derive(Drop)]
+pub(crate) struct Block {
+    pub(crate) bytes: Vec<u8>,
+    pub(crate) lines: Vec<Line>,
+}
+
+// The buffers of an earlier block, or new ones where there are none.
+fn room_in(alloc: Global, rooms: &mut Vec<Block>) -> Block {
+    match rooms.pop() {
+        Some(room) => room,
+        None => Block {
+            bytes: Vec::new(alloc),
+            lines: Vec::new(alloc),
+        },
+    }
 }
 
 /// The bytes of a source, given block by block. Each block but the first begins with a line feed.
@@ -99,12 +118,17 @@ impl<R: Read> Blocks<R> {
         }
     }
 
-    /// The next block, or none where all bytes were given. After an error there are no more to be asked for.
-    pub fn next_block(&mut self, alloc: Global) -> Result<Option<Vec<u8>>, BlockError>
+    /// The next block, in place of what the buffer held, or none where all bytes were given. After an error there are no
+    /// more to be asked for.
+    pub fn next_block(&mut self, room: Vec<u8>) -> Result<Option<Vec<u8>>, BlockError>
         ensures { IfOk result (λ found. MatchOption found (WasAll (bytes_left R.remaining self.old) (bytes_left R.remaining self.new))
             (λ block. GivesBlock (bytes_left R.remaining self.old) (bytes_left R.remaining self.new) block.items)) }
     {
-        let mut block = mem::replace(&mut self.carry, Vec::new(alloc));
+        let mut block = room;
+        block.clear();
+        if block.append(&mut self.carry).is_err() {
+            return Err(BlockError::OutOfMemory);
+        }
         for _ in 0..u64::MAX {
             let from = block.len();
             let count = read_more(&mut self.source, &mut block, self.asked)?;
@@ -126,19 +150,25 @@ impl<R: Read> Blocks<R> {
         Err(BlockError::Read)
     }
 
-    /// The next blocks, up to so many: none where all bytes were given.
-    pub fn next_blocks(&mut self, alloc: Global, count: usize) -> Result<Vec<Vec<u8>>, BlockError>
+    /// The next blocks, up to so many, put into the buffers of earlier ones: none where all bytes were given.
+    pub fn next_blocks(
+        &mut self,
+        alloc: Global,
+        count: usize,
+        mut rooms: Vec<Block>,
+    ) -> Result<Vec<Block>, BlockError>
         requires { 0 < count }
         ensures given { IfOk result (λ blocks. GivesBlocks (bytes_left R.remaining self.old)
-            (bytes_left R.remaining self.new) (map (λ block. block.items) blocks.items)) }
+            (bytes_left R.remaining self.new) (map (λ block. block.bytes.items) blocks.items)) }
         ensures ended { IfOk result (λ blocks. vec_len blocks ≡ 0
             → WasAll (bytes_left R.remaining self.old) (bytes_left R.remaining self.new)) }
     {
         let mut blocks = Vec::new(alloc);
         for _ in 0..count {
-            match self.next_block(alloc)? {
-                Some(block) => {
-                    if blocks.push(block).is_err() {
+            let Block { bytes, lines } = room_in(alloc, &mut rooms);
+            match self.next_block(bytes)? {
+                Some(bytes) => {
+                    if blocks.push(Block { bytes, lines }).is_err() {
                         return Err(BlockError::OutOfMemory);
                     }
                 }

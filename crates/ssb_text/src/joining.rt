@@ -8,10 +8,12 @@ ghost use Rattle.ssb_text.specs.declared.error.LoadError.TheVariants as errors;
 ghost use Rattle.ssb_text.specs.Joining.{Joins, Stops};
 ghost use Rattle.ssb_text.specs.Parsing.{IsParsed, IsParsedOk};
 
+use crate::blocks::Block;
 use crate::error::LoadError;
 use crate::parsing::Parsed;
 use crate::records::ReadError;
 use ssb_schema::{Line, SchemaFault, Table};
+use std::alloc::Global;
 
 /// The fault of one line more than the limit.
 fn too_many(limit: usize) -> LoadError
@@ -25,12 +27,13 @@ fn too_many(limit: usize) -> LoadError
     )
 }
 
-/// Puts the lines of the next block behind those before it, or tells the first fault.
+/// Puts the lines of the next block behind those before it, or tells the first fault. What comes back is the block's
+/// buffers.
 pub(crate) fn join_block(
     lines: &mut Vec<Line>,
     mut parsed: Parsed,
     limit: usize,
-) -> Result<(), LoadError>
+) -> Result<Block, LoadError>
     requires small { limit < 2 ^ 32 }
     requires few { vec_len lines.old ≤ limit }
     ensures few { OnOk result (vec_len lines.new ≤ limit) }
@@ -45,18 +48,23 @@ pub(crate) fn join_block(
         return Err(too_many(limit));
     }
     match parsed.fault {
-        None => Ok(()),
+        None => Ok(Block {
+            bytes: parsed.bytes,
+            lines: parsed.lines,
+        }),
         Some(_) if lines.len() == limit => Err(too_many(limit)),
         Some(fault) => Err(LoadError::in_row(Table::Lineorder, lines.len() + 1, fault)),
     }
 }
 
-/// Puts the lines of the next blocks behind those before them, or tells the first fault.
+/// Puts the lines of the next blocks behind those before them, or tells the first fault. What comes back is the blocks'
+/// buffers.
 pub(crate) fn join_blocks(
+    alloc: Global,
     lines: &mut Vec<Line>,
     parsed: Vec<Result<Parsed, ReadError>>,
     limit: usize,
-) -> Result<(), LoadError>
+) -> Result<Vec<Block>, LoadError>
     requires small { limit < 2 ^ 32 }
     requires few { vec_len lines.old ≤ limit }
     ensures few { OnOk result (vec_len lines.new ≤ limit) }
@@ -64,11 +72,17 @@ pub(crate) fn join_blocks(
         (map line_values lines.new.items)) }
     ensures stops { IfErr result (Stops IsParsedOk parsed.items limit (map line_values lines.old.items)) }
 {
+    let mut rooms = Vec::new(alloc);
     for block in parsed {
         match block {
-            Ok(block) => join_block(lines, block, limit)?,
+            Ok(block) => {
+                let room = join_block(lines, block, limit)?;
+                if rooms.push(room).is_err() {
+                    return Err(LoadError::OutOfMemory);
+                }
+            }
             Err(why) => return Err(LoadError::in_table(Table::Lineorder, why)),
         }
     }
-    Ok(())
+    Ok(rooms)
 }

@@ -25,7 +25,7 @@ returns-then-is_empty-clause-rows g c =
     let reading = c.loop.reading in
     let waiting = block_bytes reading.blocks.items in
     let empty : vec_len reading.blocks ≡ 0 = search rules in
-    let none : length waiting ≡ 0 = length-map reading.blocks.items (λ b. b.items)
+    let none : length waiting ≡ 0 = length-map reading.blocks.items (λ b. b.bytes.items)
     ∙ sym reading.blocks.ok.0 ∙ empty in
     if_ok c.finish.result _ _ _ (λ lines few joins. reading_all IsParsedOk c.args.limit known _
     (map line_values reading.lines.items) (map line_values lines.items) reading.parsed.items waiting

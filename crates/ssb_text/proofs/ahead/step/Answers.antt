@@ -11,5 +11,5 @@ returns-clause-step g c =
       few = ahead.few;
       joins = ahead.joins;
       gives = ahead.gives;
-      parsed = AllZip-map (λ b. b.items) IsParsedOk _ c.in-Ok.next.items parsed;
+      parsed = AllZip-map (λ b. b.bytes.items) IsParsedOk _ c.in-Ok.next.items parsed;
     }

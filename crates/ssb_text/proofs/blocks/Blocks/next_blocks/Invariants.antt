@@ -6,5 +6,5 @@ abbrev pub invariant-loop : goal.invariant-loop
 invariant-loop g l = record {
   count : length l.blocks.items ≡ l.counter;
   given : GivesBlocks (bytes_left g.R.Read.remaining l.fn.self) (bytes_left g.R.Read.remaining l.self)
-      (map (λ block. block.items) l.blocks.items);
+      (map (λ block. block.bytes.items) l.blocks.items);
 }

@@ -5,12 +5,12 @@ use Rattle.ssb_schema.specs.Rows.{line_values}
 use Rattle.ssb_schema.specs.declared.table.Table.TheVariants as table
 use Rattle.ssb_text.proofs.ReadingLaws.{read_nothing, read_more}
 use Rattle.ssb_text.proofs.ParsingLaws.{parsed_until, slice_bytes}
-use Rattle.ssb_text.proofs.parsing.parse_block.Goals as goal
+use Rattle.ssb_text.proofs.parsing.parse_lines.Goals as goal
 
 pub loop-init : goal.loop-init
 loop-init c =
     let made = c.record_reader-reader.ensures in
-    rw c.new-lines.ensures.items (record {
+    rw c.clear.ensures.items (record {
       ready = made.ready;
       so_far = read_nothing slice_bytes table.Lineorder c.args.block.now c.record_reader-reader.result
           (made.start c.args.block.now refl);
