@@ -18,3 +18,4 @@ pub mod CommitLaws
 pub mod InOrderLaws
 pub mod OneReadingLaws
 pub mod ReadingLaws
+pub mod TogetherLaws

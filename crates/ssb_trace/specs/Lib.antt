@@ -8,3 +8,4 @@ pub mod Rows
 pub mod Steps
 pub mod Traces
 pub mod TraceText
+pub mod Together
