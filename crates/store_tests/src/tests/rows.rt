@@ -153,12 +153,17 @@ fn commit_nine<A: Abort>(rt: &A, alloc: Global, store: &mut RowStore) -> Result<
     let nine = adding(alloc, 9)?;
     same(rt, &store.check(&nine).is_ok(), &true);
     same(rt, &store.apply(3, nine)?.number, &1);
-    same(
-        rt,
-        &(store.log_from(0).len(), store.log_from(1).len()),
-        &(1, 0),
-    );
+    same(rt, &commits_from(store, 0), &Some(1));
+    same(rt, &commits_from(store, 1), &Some(0));
     Ok(())
+}
+
+// How many commits there are behind the first `n`, where none of them is forgotten.
+fn commits_from(store: &RowStore, n: u64) -> Option<usize> {
+    if n > store.len() as u64 {
+        return None;
+    }
+    Some(store.log_from(n)?.len())
 }
 
 // A second order 9 is refused, and why.
@@ -196,5 +201,126 @@ fn a_committed_order_has_its_lines(rt: HostRuntime) -> Result<(), Fail> {
     commit_and_look(&rt, rt.alloc(), &mut store)?;
     let (base, log) = store.into_parts();
     same(&rt, &(base.lines().len(), log.len()), &(4, 1));
+    let commits = log.into_commits().ok_or("forgotten")?;
+    same(&rt, &commits.len(), &1);
+    Ok(())
+}
+
+#[test]
+fn a_forgotten_commit_is_counted_and_its_lines_stay(rt: HostRuntime) -> Result<(), Fail> {
+    let mut store = opened(&rt, Limits::standard())?;
+    commit_and_look(&rt, rt.alloc(), &mut store)?;
+    same(&rt, &store.forget(1).len(), &1);
+    same(&rt, &commits_from(&store, 0), &None);
+    same(&rt, &commits_from(&store, 1), &Some(0));
+    have(&rt, rt.alloc(), &store, (9, "1 "))?;
+    refuse_nine(&rt, rt.alloc(), &store)?;
+    let (_base, log) = store.into_parts();
+    same(&rt, &log.len(), &1);
+    same(&rt, &log.into_commits().is_none(), &true);
+    Ok(())
+}
+
+// Order 9 comes with one line, then has two, goes and comes again; a loaded order goes with it.
+const STEPS: [&str; 6] = [
+    "\
+begin
+add
+line|9|1|3|4|3|19971215|o|0|1|10|10|0|10|2000|0|19971215|AIR
+commit
+",
+    "\
+begin
+amend
+line|9|2|3|4|3|19971215|o|0|1|10|10|0|10|2000|0|19971215|AIR
+line|9|5|3|4|3|19971215|o|0|1|10|10|0|10|2000|0|19971215|AIR
+commit
+",
+    "\
+begin
+withdraw|1
+withdraw|9
+commit
+",
+    "\
+begin
+withdraw|9
+commit
+",
+    "\
+begin
+amend
+line|1|1|3|4|3|19971215|o|0|1|10|10|0|10|2000|0|19971215|AIR
+commit
+",
+    "\
+begin
+add
+line|9|3|3|4|3|19971215|o|0|1|10|10|0|10|2000|0|19971215|AIR
+commit
+",
+];
+
+// The replies to a step and the lines of order 9 then; the commits are forgotten before the lines are looked at.
+fn step(alloc: Global, store: &mut RowStore, script: &str) -> Result<String, Fail> {
+    let told = told(alloc, store, script)?;
+    let count = store.len() as u64;
+    let forgotten = store.forget(count);
+    let nine = numbers_of(alloc, store, 9)?;
+    Ok(format!(in alloc; "{told}, {} forgotten, 9: {nine}\n", forgotten.len())?)
+}
+
+// The same for each of the steps.
+fn all_steps(alloc: Global, store: &mut RowStore) -> Result<String, Fail> {
+    let mut all = String::new(alloc);
+    for script in STEPS {
+        all.push_str(&step(alloc, store, script)?)?;
+    }
+    Ok(all)
+}
+
+#[test]
+fn forgotten_orders_are_amended_and_withdrawn_and_come_again(rt: HostRuntime) -> Result<(), Fail> {
+    let mut store = opened(&rt, Limits::standard())?;
+    reads(
+        &rt,
+        &all_steps(rt.alloc(), &mut store)?,
+        "\
+committed 1
+lines 5, 1 forgotten, 9: 1 
+committed 2
+lines 6, 1 forgotten, 9: 2 5 
+committed 3
+lines 2, 1 forgotten, 9: 
+refused at 3 action 1: 47 Absent 9
+lines 2, 0 forgotten, 9: 
+refused at 3 action 1: 48 AmendAbsent 1
+lines 2, 0 forgotten, 9: 
+committed 4
+lines 3, 1 forgotten, 9: 3 
+",
+    );
+    Ok(())
+}
+
+// After three commits of which the first two are forgotten: how many there are behind each number, and at the end.
+fn ask_for_each<A: Abort>(rt: &A, store: &mut RowStore) {
+    same(rt, &store.forget(2).len(), &2);
+    same(rt, &commits_from(store, 0), &None);
+    same(rt, &commits_from(store, 1), &None);
+    same(rt, &commits_from(store, 2), &Some(1));
+    same(rt, &commits_from(store, 3), &Some(0));
+    same(rt, &(store.forget(1).len(), store.forget(4).len()), &(0, 0));
+    same(rt, &commits_from(store, 2), &Some(1));
+}
+
+#[test]
+fn who_asks_for_forgotten_commits_gets_none(rt: HostRuntime) -> Result<(), Fail> {
+    let alloc = rt.alloc();
+    let mut store = opened(&rt, Limits::standard())?;
+    for order in 9..12 {
+        store.apply(1, adding(alloc, order)?)?;
+    }
+    ask_for_each(&rt, &mut store);
     Ok(())
 }
