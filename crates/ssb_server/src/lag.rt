@@ -52,12 +52,9 @@ impl Lag {
 
     /// The dispatcher that follows is about to rest. Whether it is to look again after a while, though nobody wakes it.
     pub(crate) fn rests(&self) -> bool {
-        let _ = self.state.compare_exchange(
-            BEHIND,
-            QUIET,
-            Ordering::Relaxed,
-            Ordering::Relaxed,
-        );
+        let _ = self
+            .state
+            .compare_exchange(BEHIND, QUIET, Ordering::Relaxed, Ordering::Relaxed);
         self.follows
     }
 
