@@ -5,3 +5,4 @@ pub mod NextLaws
 pub mod RecordLaws
 pub mod WordLaws
 pub mod ScriptLaws
+pub mod AheadLaws

@@ -119,7 +119,7 @@ pub concat-push : (lines : List (List ℕ)) (line : List ℕ) → concat (lines 
 concat-push [] line = append-nil line
 concat-push (l ∷ lines) line = ap (λ b. l ++ b) (concat-push lines line) ∙ sym (append_assoc l (concat lines) line)
 
-all-push : (P : List ℕ → Type 0) (lines : List (List ℕ)) (line : List ℕ) → AllByRecursion P lines → P line
+pub all-push : (P : List ℕ → Type 0) (lines : List (List ℕ)) (line : List ℕ) → AllByRecursion P lines → P line
     → AllByRecursion P (lines ++ line ∷ [])
 all-push P [] line all is = (is, tt)
 all-push P (l ∷ lines) line all is = (all.0, all-push P lines line all.1 is)

@@ -4,3 +4,4 @@ pub mod Next
 pub mod Taking
 pub mod Laws
 pub mod ScriptLaws
+pub mod Ahead

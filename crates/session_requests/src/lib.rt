@@ -14,10 +14,15 @@
 //! request, or what a text that has ended still had, or, behind an error, the front of a request that has no end yet.
 //! [`has_request`] says whether a whole request stands at the front of bytes.
 //!
+//! That of [`read_together`]: of many requests at hand ([`requests_at_hand`]), read as one script, what is given is what
+//! each of them asks, read as a script of its own. A reader of records costs as much to make as dozens of records to
+//! read, and so it is made once for all of them.
+//!
 //! The definitions stand in `specs/`: `Lines` (which lines begin and end a block; what a line is says `ssb_text`),
 //! `Requests` (a request, and the requests of a text), `Next` (what a read gives and tells), `Taking` (the same of its
-//! parts), `Laws` (a text has one cutting, and whatever follows it leaves its requests as they are) and `ScriptLaws`:
-//! serving the requests of a legal script as they come serves the script.
+//! parts), `Ahead` (requests that are read before their turn), `Laws` (a text has one cutting, and whatever follows it
+//! leaves its requests as they are) and `ScriptLaws`: serving the requests of a legal script as they come serves the
+//! script.
 #![tactic(auto)]
 
 mod at_hand;
@@ -26,8 +31,10 @@ pub mod laws;
 mod lines;
 mod pieces;
 mod requests;
+mod together;
 
-pub use at_hand::has_request;
+pub use at_hand::{AtHand, has_request, request_length, requests_at_hand};
 pub use error::RequestError;
 pub use lines::{Block, begun_behind, ends_request};
 pub use requests::{Found, MOST_BYTES, next_request};
+pub use together::read_together;

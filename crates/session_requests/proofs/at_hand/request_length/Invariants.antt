@@ -1,6 +1,6 @@
 use Rattle.std.proofs.Common.{◌≡◌, ℕ, List, ◌++◌, length}
 use Rattle.session_requests.specs.Taking.{IsOpen}
-use Rattle.session_requests.proofs.at_hand.has_request.Given as goal
+use Rattle.session_requests.proofs.at_hand.request_length.Given as goal
 
 -- the lines before what is left were begun and have no end yet
 abbrev pub invariant-loop-count : goal.invariant-loop-count
