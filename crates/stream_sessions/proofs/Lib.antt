@@ -5,3 +5,4 @@ mod SessionLaws
 mod EndLaws
 mod WholeScriptLaws
 mod StreamLaws
+mod AheadLaws

@@ -1,11 +1,15 @@
 -- The steps of a session.
-use Rattle.std.specs.Prelude.{◌≡◌, ℕ, List, ◌++◌, ◌⊎◌, length, Option, Result, Ok, Err}
+use Rattle.std.specs.Prelude.{◌≡◌, ℕ, List, [], ◌∷◌, ◌++◌, ◌⊎◌, length, map, MatchOption, Option, Result, Ok, Err}
 use Rattle.std.specs.Io.KnownBytes.{Appends, Consumes}
+use Rattle.std.specs.Vec.Iter.{into_iter_items}
 use Rattle.history.specs.Tokens.{TokenRecord}
 use Rattle.session_requests.specs.Next.{IsFound, IsLessThan}
-use Rattle.session_requests.specs.Requests.{IsUnfinished}
+use Rattle.session_requests.specs.Requests.{IsRequest, IsUnfinished}
 use Rattle.session_requests.specs.declared.requests.Found.TheVariants as found
 use Rattle.ssb_report.specs.Written.{AppendsPart}
+use Rattle.ssb_script.specs.Requests.{RequestRecord, request_of}
+use Rattle.ssb_script.specs.declared.request.Request.{Request}
+use Rattle.stream_sessions.specs.declared.ahead.Ahead.{Ahead}
 use Rattle.stream_sessions.specs.Answers.{IsAnswered, BreaksOff}
 use Rattle.stream_sessions.specs.FaultLine.{too_long_line}
 use Rattle.stream_sessions.specs.Session.{IsServed, IsBroken, Breaks, most_bytes}
@@ -26,6 +30,21 @@ pub record AddsAnswer (number : ℕ) (request : List ℕ) (old new : TokenRecord
 pub record AddsNothing (number : ℕ) (request : List ℕ) (old new : TokenRecord) (before after : List ℕ) : Type 0 where
   pub broken : BreaksOff number request old new
   pub added : after ≡ before
+
+-- what the requests ask that were read before their turn
+abbrev pub asked_ahead : Ahead → List RequestRecord
+asked_ahead ahead = map request_of (into_iter_items ahead.requests)
+
+-- the first of them is taken, where there is one
+abbrev pub TakesFirst : List RequestRecord → Option Request → List RequestRecord → Type 0
+TakesFirst old taken new =
+    MatchOption taken ((old ≡ []) × (new ≡ [])) (λ request. old ≡ request_of request ∷ new)
+
+-- a request was taken from the front of bytes
+pub record TakesRequest (old new : List ℕ) : Type 0 where
+  pub request : List ℕ
+  pub is : IsRequest request
+  pub parted : old ≡ request ++ new
 
 -- of the replies that were held, the first were written
 pub record HandsOn (before after : Option (List ℕ)) (held kept : List ℕ) : Type 0 where

@@ -1,17 +1,17 @@
 //! The answer to one request.
 
-ghost use Rattle.std.specs.Prelude.{◌≡◌, false, List, ℕ, MatchResult};
+ghost use Rattle.std.specs.Prelude.{◌≡◌, false, List, ℕ, [], ◌∷◌, MatchResult};
 ghost use Rattle.std.specs.Option.{is_some};
 ghost use Rattle.history.specs.Tokens.{IsSound, TokenRecord};
 ghost use Rattle.history.specs.Members.{number_of};
 ghost use Rattle.ssb_serving.specs.Steps.{AreAlike};
 ghost use Rattle.stream_sessions.specs.Steps.{AddsAnswer, AddsNothing};
 ghost use Rattle.stream_sessions.specs.Answers.{is_of_text};
-ghost use Rattle.ssb_script.specs.Requests.{requests_of};
+ghost use Rattle.ssb_script.specs.Requests.{request_of, requests_of};
 ghost use Rattle.ssb_script.specs.Scripts.{IsScriptFault, SpellsScript, most_records};
 
 use crate::fault_line::write_fault_line;
-use ssb_script::{MOST_RECORDS, Script, ScriptError, read_script};
+use ssb_script::{MOST_RECORDS, Request, Script, ScriptError, read_script};
 use ssb_server::{Client, Server};
 use ssb_serving::{NoMeter, serve_requests};
 use std::alloc::{AllocError, Global};
@@ -111,4 +111,30 @@ pub(crate) fn answer<W: Wait + Drop, R: Wait>(
         Ok(script) => report(rt, alloc, server, client, script, replies),
         Err(fault) => refuse(fault, replies),
     }
+}
+
+/// Serves what a request asks that was read before its turn, and adds the report to the replies. Where memory runs out
+/// it adds nothing.
+pub(crate) fn answer_read<W: Wait + Drop, R: Wait>(
+    rt: &R,
+    alloc: Global,
+    server: &Server<W>,
+    client: &mut Client<W>,
+    request: Request,
+    replies: &mut Vec<u8>,
+) -> Result<(), AllocError>
+    requires table { client.old.table ≡ server.now }
+    requires quiet { is_some client.old.asked ≡ false }
+    ensures answered { (text : List ℕ) → SpellsScript most_records text (request_of request ∷ []) → MatchResult result
+        (λ _. AddsAnswer (number_of client.old.who) text client.old client.new replies.old.items replies.new.items)
+        (λ _. AddsNothing (number_of client.old.who) text client.old client.new replies.old.items
+        replies.new.items) }
+    ensures same { AreAlike client.old client.new }
+    ensures sound { IsSound client.old → IsSound client.new }
+{
+    let mut requests = Vec::new(alloc);
+    if requests.push(request).is_err() {
+        return Err(AllocError);
+    }
+    report(rt, alloc, server, client, Script { requests }, replies)
 }

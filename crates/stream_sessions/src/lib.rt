@@ -34,6 +34,7 @@
 #![tactic(auto)]
 
 mod acknowledges;
+mod ahead;
 mod answer;
 mod clients;
 mod fault_line;

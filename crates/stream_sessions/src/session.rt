@@ -12,6 +12,7 @@ ghost use Rattle.stream_sessions.specs.Told.{MayBeToldOf};
 ghost use Rattle.stream_sessions.specs.declared.outcome.SessionFault.TheVariants.{Write as FailedWrite};
 
 use crate::acknowledges::Acknowledges;
+use crate::ahead::Ahead;
 use crate::held::hand_on;
 use crate::outcome::{Ending, Served, SessionError, SessionFault};
 use crate::step::{Step, serve_next};
@@ -40,6 +41,7 @@ fn answer_all<W: Wait + Drop, R: Wait, K: Acknowledges, I: Read, O: Write>(
     ensures same { AreAlike client.old client.new }
     ensures sound { IsSound client.old → IsSound client.new }
 {
+    let mut ahead = Ahead::new(alloc);
     let mut request = Vec::new(alloc);
     for answered in 0..u64::MAX {
         match serve_next(
@@ -50,6 +52,7 @@ fn answer_all<W: Wait + Drop, R: Wait, K: Acknowledges, I: Read, O: Write>(
             client,
             input,
             output,
+            &mut ahead,
             &mut request,
             replies,
         ) {
@@ -138,9 +141,10 @@ fn break_off<W: Wait + Drop, R: Wait, K: Acknowledges, O: Write>(
 /// Serves a client whose requests are read from the input, and whose replies are written to the output, until the
 /// input ends or a request is longer than 1 MiB.
 ///
-/// Each request is read as a script of its own, and answered by its report, or by the line of its fault, as
-/// `fault: 70 BadLine 2`; it then changed nothing, and the session goes on. At the end of the input the rest is
-/// answered likewise, where there is any. A request that is too long is told as soon as it is known.
+/// Each request is read as a script of its own, though many that are at hand are read together, and answered by its
+/// report, or by the line of its fault, as `fault: 70 BadLine 2`; it then changed nothing, and the session goes on. At
+/// the end of the input the rest is answered likewise, where there is any. A request that is too long is told as soon as
+/// it is known.
 ///
 /// Replies are held while whole requests are at hand in the input's buffer, 64 KiB of them at most and one more, and
 /// are handed on before the session waits for its client, and at its end, once there is the evidence of all commits that

@@ -1,27 +1,33 @@
 //! One step of a session: the next request, answered.
 
-ghost use Rattle.std.specs.Prelude.{◌≡◌, ◌⊎◌, [], ◌++◌, false, OnOk, MatchResult};
+ghost use Rattle.std.specs.Prelude.{◌≡◌, ◌⊎◌, [], ◌++◌, true, false, OnOk, MatchResult};
 ghost use Rattle.std.specs.Option.{is_some};
 ghost use Rattle.std.specs.Io.Buffered.{reader_buffer, reader_remaining};
 ghost use Rattle.history.specs.Tokens.{IsSound};
 ghost use Rattle.history.specs.Members.{number_of};
+ghost use Rattle.session_requests.specs.Ahead.{AskFirst, AsksFirst};
 ghost use Rattle.session_requests.specs.Requests.{BeginsWithRequest};
 ghost use Rattle.ssb_report.specs.Written.{AppendsPart};
+ghost use Rattle.ssb_script.specs.Requests.{request_of};
 ghost use Rattle.ssb_serving.specs.Steps.{AreAlike};
 ghost use Rattle.stream_sessions.specs.FaultLine.{too_long_line};
-ghost use Rattle.stream_sessions.specs.Steps.{Fails, HandsOn, Steps};
+ghost use Rattle.stream_sessions.specs.Steps.{Fails, HandsOn, Steps, TakesRequest, asked_ahead};
 ghost use Rattle.stream_sessions.specs.declared.outcome.SessionFault.TheVariants.{OutOfMemory, Write as FailedWrite};
 ghost use Rattle.stream_sessions.specs.declared.step.Step.TheVariants.{TooLong};
 
 use crate::acknowledges::Acknowledges;
-use crate::answer::answer;
+use crate::ahead::Ahead;
+use crate::answer::{answer, answer_read};
 use crate::held::hand_on;
 use crate::outcome::SessionFault;
-use session_requests::{Found, MOST_BYTES, RequestError, has_request, next_request};
+use session_requests::{
+    Found, MOST_BYTES, RequestError, has_request, next_request, request_length,
+};
 use ssb_report::{Piece, write_pieces};
+use ssb_script::Request;
 use ssb_server::{Client, Server};
 use std::alloc::Global;
-use std::io::{BufReader, Read, Write};
+use std::io::{BufRead, BufReader, Read, Write};
 use std::sync::Wait;
 
 /// The most bytes of replies that are held while requests are at hand.
@@ -47,16 +53,18 @@ fn hand_on_in_time<W: Wait + Drop, R: Wait, K: Acknowledges, I: Read, O: Write>(
     acknowledger: &K,
     client: &Client<W>,
     input: &BufReader<I>,
+    is_at_hand: bool,
     output: &mut O,
     replies: &mut Vec<u8>,
 ) -> Result<(), SessionFault>
+    requires at_hand { is_at_hand ≡ true → BeginsWithRequest (reader_buffer input.now) }
     ensures handed { MatchResult result
         (λ _. HandsOn (O.contents output.old) (O.contents output.new) replies.old.items replies.new.items)
         (λ fault. AppendsPart (O.contents output.old) (O.contents output.new) replies.old.items
         × (fault ≡ FailedWrite)) }
     ensures in_time { OnOk result ((replies.new.items ≡ []) ⊎ BeginsWithRequest (reader_buffer input.now)) }
 {
-    if replies.len() >= MOST_HELD || !has_request(input.buffer()) {
+    if replies.len() >= MOST_HELD || !is_at_hand {
         hand_on(rt, alloc, acknowledger, client, output, replies)?;
     }
     Ok(())
@@ -78,8 +86,55 @@ fn tell_too_long(replies: &mut Vec<u8>) -> Result<Step, SessionFault>
     }
 }
 
-/// Takes the next request, answers it, and adds the reply to those that are held.
-pub(crate) fn serve_next<W: Wait + Drop, R: Wait, K: Acknowledges, I: Read, O: Write>(
+// Answers the request at the front of the input's buffer, which was read before its turn, and takes it.
+fn serve_ahead<W: Wait + Drop, R: Wait, K: Acknowledges, I: Read, O: Write>(
+    rt: &R,
+    alloc: Global,
+    acknowledger: &K,
+    server: &Server<W>,
+    client: &mut Client<W>,
+    input: &mut BufReader<I>,
+    output: &mut O,
+    request: Request,
+    replies: &mut Vec<u8>,
+) -> Result<Step, SessionFault>
+    requires table { client.old.table ≡ server.now }
+    requires quiet { is_some client.old.asked ≡ false }
+    requires first { AsksFirst (reader_buffer input.old) (request_of request) }
+    ensures step { MatchResult result
+        (λ step. Steps step (number_of client.old.who) client.old client.new (reader_remaining I.remaining input.old)
+        (reader_remaining I.remaining input.new) (O.contents output.old) (O.contents output.new) replies.old.items
+        replies.new.items)
+        (λ fault. Fails fault (number_of client.old.who) client.old client.new (reader_remaining I.remaining input.old)
+        (reader_remaining I.remaining input.new) (O.contents output.old) (O.contents output.new) replies.old.items
+        replies.new.items) }
+    ensures taken { OnOk result (TakesRequest (reader_buffer input.old) (reader_buffer input.new)) }
+    ensures same { AreAlike client.old client.new }
+    ensures sound { IsSound client.old → IsSound client.new }
+{
+    hand_on_in_time(
+        rt,
+        alloc,
+        acknowledger,
+        client,
+        input,
+        true,
+        output,
+        replies,
+    )?;
+    let Some(size) = request_length(input.buffer()) else {
+        unreachable!()
+    };
+    let answered = answer_read(rt, alloc, server, client, request, replies);
+    input.consume(size);
+    match answered {
+        Ok(()) => Ok(Step::Request),
+        Err(_) => Err(SessionFault::OutOfMemory),
+    }
+}
+
+// Takes the next request, reads it alone, answers it, and adds the reply to those that are held.
+fn serve_alone<W: Wait + Drop, R: Wait, K: Acknowledges, I: Read, O: Write>(
     rt: &R,
     alloc: Global,
     acknowledger: &K,
@@ -102,7 +157,17 @@ pub(crate) fn serve_next<W: Wait + Drop, R: Wait, K: Acknowledges, I: Read, O: W
     ensures same { AreAlike client.old client.new }
     ensures sound { IsSound client.old → IsSound client.new }
 {
-    hand_on_in_time(rt, alloc, acknowledger, client, input, output, replies)?;
+    let is_at_hand = has_request(input.buffer());
+    hand_on_in_time(
+        rt,
+        alloc,
+        acknowledger,
+        client,
+        input,
+        is_at_hand,
+        output,
+        replies,
+    )?;
     let step = match next_request(input, request, MOST_BYTES) {
         Ok(Found::Request) => Step::Request,
         Ok(Found::Rest) => Step::Rest,
@@ -114,5 +179,60 @@ pub(crate) fn serve_next<W: Wait + Drop, R: Wait, K: Acknowledges, I: Read, O: W
     match answer(rt, alloc, server, client, request.as_slice(), replies) {
         Ok(()) => Ok(step),
         Err(_) => Err(SessionFault::OutOfMemory),
+    }
+}
+
+/// Takes the next request, answers it, and adds the reply to those that are held. Where several stand whole in the
+/// input's buffer, they are read together, each before its turn.
+pub(crate) fn serve_next<W: Wait + Drop, R: Wait, K: Acknowledges, I: Read, O: Write>(
+    rt: &R,
+    alloc: Global,
+    acknowledger: &K,
+    server: &Server<W>,
+    client: &mut Client<W>,
+    input: &mut BufReader<I>,
+    output: &mut O,
+    ahead: &mut Ahead,
+    request: &mut Vec<u8>,
+    replies: &mut Vec<u8>,
+) -> Result<Step, SessionFault>
+    requires table { client.old.table ≡ server.now }
+    requires quiet { is_some client.old.asked ≡ false }
+    requires ahead { AskFirst (reader_buffer input.old) (asked_ahead ahead.old) }
+    ensures step { MatchResult result
+        (λ step. Steps step (number_of client.old.who) client.old client.new (reader_remaining I.remaining input.old)
+        (reader_remaining I.remaining input.new) (O.contents output.old) (O.contents output.new) replies.old.items
+        replies.new.items)
+        (λ fault. Fails fault (number_of client.old.who) client.old client.new (reader_remaining I.remaining input.old)
+        (reader_remaining I.remaining input.new) (O.contents output.old) (O.contents output.new) replies.old.items
+        replies.new.items) }
+    ensures ahead { OnOk result (AskFirst (reader_buffer input.new) (asked_ahead ahead.new)) }
+    ensures same { AreAlike client.old client.new }
+    ensures sound { IsSound client.old → IsSound client.new }
+{
+    ahead.look(alloc, input.buffer());
+    match ahead.next() {
+        Some(read) => serve_ahead(
+            rt,
+            alloc,
+            acknowledger,
+            server,
+            client,
+            input,
+            output,
+            read,
+            replies,
+        ),
+        None => serve_alone(
+            rt,
+            alloc,
+            acknowledger,
+            server,
+            client,
+            input,
+            output,
+            request,
+            replies,
+        ),
     }
 }

@@ -1,5 +1,8 @@
-use Rattle.std.proofs.Common.{◌≡◌, ap, subst, arith}
+use Rattle.std.proofs.Common.{◌≡◌, ap, subst, sym, arith}
+use Rattle.std.specs.Io.Buffered.{reader_buffer}
 use Rattle.history.specs.Members.{number_of}
+use Rattle.session_requests.specs.Ahead.{AskFirst}
+use Rattle.session_requests.proofs.AheadLaws.{ask_nothing}
 use Rattle.ssb_serving.proofs.RequestLaws.{alike_itself, alike_both}
 use Rattle.stream_sessions.specs.declared.step.Step.TheVariants as step
 use Rattle.stream_sessions.proofs.SessionLaws.{IsThrough, through_none, through_next}
@@ -18,6 +21,7 @@ loop-answered-init g c = record {
   through = through_none _ _ _ _ _ c.requires.none_held;
   alike = alike_itself _ c.requires.quiet;
   sound = λ sound. sound;
+  ahead = subst (AskFirst (reader_buffer c.args.input.now)) (sym c.new-ahead.ensures) (ask_nothing _);
 }
 
 pub loop-answered-preserved : goal.loop-answered-preserved
@@ -28,6 +32,7 @@ loop-answered-preserved g c =
           (steps_so _ step.Request _ _ _ _ _ _ _ _ _ _ arm.field-0-is (ap number_of inv.alike.who) arm.ensures.step);
       alike = alike_both _ _ _ inv.alike c.serve_next.ensures.same;
       sound = λ sound. c.serve_next.ensures.sound (inv.sound sound);
+      ahead = arm.ensures.ahead;
     }
 
 pub returns-in-Ok-Rest-clause-held : goal.returns-in-Ok-Rest-clause-held

@@ -1,7 +1,9 @@
-use Rattle.std.specs.Io.Buffered.{reader_remaining}
+use Rattle.std.specs.Io.Buffered.{reader_buffer, reader_remaining}
 use Rattle.history.specs.Tokens.{IsSound}
 use Rattle.history.specs.Members.{number_of}
+use Rattle.session_requests.specs.Ahead.{AskFirst}
 use Rattle.ssb_serving.specs.Steps.{AreAlike}
+use Rattle.stream_sessions.specs.Steps.{asked_ahead}
 use Rattle.stream_sessions.proofs.SessionLaws.{IsThrough}
 use Rattle.stream_sessions.proofs.session.answer_all.Given as goal
 
@@ -13,4 +15,5 @@ invariant-loop-answered g l = record {
       (g.O.Write.contents l.fn.output) (g.O.Write.contents l.output) l.replies.items l.answered;
   alike : AreAlike l.fn.client l.client;
   sound : IsSound l.fn.client → IsSound l.client;
+  ahead : AskFirst (reader_buffer l.input) (asked_ahead l.ahead);
 }

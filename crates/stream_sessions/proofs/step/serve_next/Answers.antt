@@ -1,23 +1,23 @@
-use Rattle.std.proofs.Common.{inl, inr, rules}
-use Rattle.std.specs.Io.Buffered.{reader_remaining}
-use Rattle.stream_sessions.specs.Steps.{IsText}
-use Rattle.stream_sessions.proofs.StepLaws.{runs_out, too_long_told}
-use Rattle.stream_sessions.proofs.step.serve_next.Goals.{in-Ok-Request, in-Ok-Rest}
+use Rattle.std.proofs.Common.{subst}
+use Rattle.std.specs.Io.Buffered.{reader_buffer}
+use Rattle.session_requests.specs.Ahead.{AskFirst}
+use Rattle.session_requests.proofs.AheadLaws.{asks_first}
+use Rattle.stream_sessions.proofs.AheadLaws.{ask_none_ok, ask_on_ok}
+use Rattle.stream_sessions.specs.Steps.{asked_ahead}
 use Rattle.stream_sessions.proofs.step.serve_next.Goals as goal
 
-pub returns-in-Err-clause-step : goal.returns-in-Err-clause-step
-returns-in-Err-clause-step g c =
-    let unread = reader_remaining g.I.Read.remaining c.args.input.now in
-    let bytes = c.next_request.new.request.items in
-    let text : IsText unread bytes = elim c.match-next_request-2.branch [
-      | in-Ok-Request w ↦ inl (search rules)
-      | in-Ok-Rest w ↦ inr (search rules)
-    ] in
-    runs_out _ _ _ _ _ _ _ _ _ _ bytes _ c.in_ok-hand_on_in_time.ensures.handed c.next_request.ensures.taken text
-    c.as_slice.ensures.value c.in-Err.ensures.answered
+pub serve_ahead-requires-clause-first : goal.serve_ahead-requires-clause-first
+serve_ahead-requires-clause-first g c =
+    let looked = subst (λ bytes. AskFirst bytes (asked_ahead c.look.new.self)) c.buffer.ensures c.look.ensures in
+    asks_first _ _ (asked_ahead c.next.new.self)
+    (subst (AskFirst (reader_buffer c.args.input.now)) c.in-Some.ensures looked)
 
-pub returns-in-Err-TooLong-clause-step : goal.returns-in-Err-TooLong-clause-step
-returns-in-Err-TooLong-clause-step g c =
-    too_long_told c.tell_too_long.result c.in-Err-TooLong.field-0 _ _ _ _ _ _ _ _ _ c.next_request.new.request.items
-    c.in_ok-hand_on_in_time.ensures.handed c.next_request.ensures.taken c.in-Err-TooLong.field-0-is
-    c.in-Err-TooLong.ensures.fault c.tell_too_long.ensures
+pub returns-in-Some-clause-ahead : goal.returns-in-Some-clause-ahead
+returns-in-Some-clause-ahead g c =
+    let looked = subst (λ bytes. AskFirst bytes (asked_ahead c.look.new.self)) c.buffer.ensures c.look.ensures in
+    ask_on_ok c.serve_ahead.result (reader_buffer c.args.input.now) _ _ (asked_ahead c.next.new.self)
+    (subst (AskFirst (reader_buffer c.args.input.now)) c.in-Some.ensures looked) c.serve_ahead.ensures.taken
+
+pub returns-in-None-clause-ahead : goal.returns-in-None-clause-ahead
+returns-in-None-clause-ahead g c =
+    ask_none_ok c.serve_alone.result _ (asked_ahead c.next.new.self) c.in-None.ensures.1

@@ -1,0 +1,44 @@
+-- Requests that were read before their turn, at the front of what a reader has at hand.
+use Rattle.std.proofs.Common.{◌≡◌, ◌≤◌, ℕ, Bool, true, false, List, [], ◌∷◌, ◌++◌, length, take, drop, Option, Some, None, Result, Ok, Err, sym, ap, subst, ◌∙◌, append_assoc, if◌then◌else◌}
+use Rattle.std.specs.Prelude.{OnOk}
+use Rattle.std.specs.Io.BufRead.{DropsConsumable}
+use Rattle.std.specs.Io.KnownBytes.{Consumes, prepend_known}
+use Rattle.std.proofs.lemmas.List.{drop-append-le, take-append-drop}
+use Rattle.session_requests.specs.Ahead.{AskFirst, IsWhole}
+use Rattle.session_requests.proofs.AheadLaws.{ask_behind, ask_nothing}
+use Rattle.ssb_script.specs.Requests.{RequestRecord}
+use Rattle.stream_sessions.specs.Steps.{TakesRequest}
+
+-- the first bytes of a buffer are taken of what a reader has left
+pub consumed_front : (unknown : Bool) (inner left : Option (List ℕ)) (buffer : List ℕ) (size : ℕ) → size ≤ length buffer
+    → DropsConsumable (if unknown then None else prepend_known buffer inner) left (Some (length buffer)) size
+    → Consumes (if unknown then None else prepend_known buffer inner) left (take size buffer)
+consumed_front true inner left buffer size within drops = tt
+consumed_front false None left buffer size within drops = tt
+consumed_front false (Some xs) left buffer size within drops =
+    subst (λ l. Consumes (Some (buffer ++ xs)) l (take size buffer)) (sym (drops within))
+    (ap (λ t. t ++ xs) (sym (take-append-drop size buffer)) ∙ append_assoc (take size buffer) (drop size buffer) xs
+    ∙ ap (λ t. take size buffer ++ t) (sym (drop-append-le size buffer xs within)))
+
+pub takes_front : (old new : List ℕ) (size : ℕ) → IsWhole size old → new ≡ drop size old → TakesRequest old new
+takes_front old new size whole left = record {
+  request = take size old;
+  is = whole.1;
+  parted = sym (take-append-drop size old) ∙ ap (λ t. take size old ++ t) (sym left);
+}
+
+-- after a request that was taken stand the others
+pub ask_on : (old new : List ℕ) (one : RequestRecord) (asked : List RequestRecord) → AskFirst old (one ∷ asked)
+    → TakesRequest old new → AskFirst new asked
+ask_on old new one asked first takes = ask_behind old takes.request new one asked first takes.is takes.parted
+
+-- the same where a step did not fail
+pub ask_on_ok : {X E : Type 0} (result : Result X E) (old new : List ℕ) (one : RequestRecord) (asked : List RequestRecord)
+    → AskFirst old (one ∷ asked) → OnOk result (TakesRequest old new) → OnOk result (AskFirst new asked)
+ask_on_ok (Ok x) old new one asked first takes = ask_on old new one asked first takes
+ask_on_ok (Err e) old new one asked first takes = tt
+
+pub ask_none_ok : {X E : Type 0} (result : Result X E) (bytes : List ℕ) (asked : List RequestRecord) → asked ≡ []
+    → OnOk result (AskFirst bytes asked)
+ask_none_ok (Ok x) bytes asked none = subst (AskFirst bytes) (sym none) (ask_nothing bytes)
+ask_none_ok (Err e) bytes asked none = tt
