@@ -21,6 +21,25 @@ pub(crate) struct Ahead {
     alone: usize,
 }
 
+/// The requests of a session that are still to be served: those that were read ahead, and room for one that is read alone.
+#[derive(Drop)]
+pub(crate) struct Requests {
+    pub(crate) ahead: Ahead,
+    pub(crate) alone: Vec<u8>,
+}
+
+impl Requests {
+    /// Nothing is read.
+    pub(crate) fn new(alloc: Global) -> Requests
+        ensures { asked_ahead result.ahead ≡ [] }
+    {
+        Requests {
+            ahead: Ahead::new(alloc),
+            alone: Vec::new(alloc),
+        }
+    }
+}
+
 impl Ahead {
     /// Nothing is read ahead.
     pub(crate) fn new(alloc: Global) -> Ahead

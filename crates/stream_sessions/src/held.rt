@@ -8,9 +8,9 @@ ghost use Rattle.stream_sessions.specs.declared.outcome.SessionFault.TheVariants
 
 use crate::acknowledges::Acknowledges;
 use crate::outcome::SessionFault;
+use crate::service::Service;
 use ssb_report::write_bytes;
 use ssb_server::Client;
-use std::alloc::Global;
 use std::io::Write;
 use std::sync::Wait;
 
@@ -47,9 +47,7 @@ fn write_held<W: Wait + Drop, K: Acknowledges, O: Write>(
 /// Writes the replies that are held, once all commits that the client has seen may be told, and has the writer hand
 /// them on. Replies leave a session by this function alone.
 pub(crate) fn hand_on<W: Wait + Drop, R: Wait, K: Acknowledges, O: Write>(
-    rt: &R,
-    alloc: Global,
-    acknowledger: &K,
+    service: &Service<'_, W, R, K>,
     client: &Client<W>,
     output: &mut O,
     replies: &mut Vec<u8>,
@@ -60,7 +58,8 @@ pub(crate) fn hand_on<W: Wait + Drop, R: Wait, K: Acknowledges, O: Write>(
         × (fault ≡ FailedWrite)) }
     ensures told { OnOk result (MayBeToldOf K.covers (length client.now.seen)) }
 {
-    match acknowledger.acknowledge(rt, alloc, client.seen()) {
+    let acknowledger = service.acknowledger;
+    match acknowledger.acknowledge(service.rt, service.alloc, client.seen()) {
         Ok(evidence) => write_held(acknowledger, client, evidence, output, replies),
         Err(_) => Err(SessionFault::Write),
     }

@@ -41,6 +41,7 @@ mod fault_line;
 mod held;
 pub mod laws;
 mod outcome;
+mod service;
 mod session;
 mod speaks;
 mod step;

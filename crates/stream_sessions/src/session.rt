@@ -12,9 +12,10 @@ ghost use Rattle.stream_sessions.specs.Told.{MayBeToldOf};
 ghost use Rattle.stream_sessions.specs.declared.outcome.SessionFault.TheVariants.{Write as FailedWrite};
 
 use crate::acknowledges::Acknowledges;
-use crate::ahead::Ahead;
+use crate::ahead::Requests;
 use crate::held::hand_on;
 use crate::outcome::{Ending, Served, SessionError, SessionFault};
+use crate::service::Service;
 use crate::step::{Step, serve_next};
 use ssb_server::{Client, Server};
 use std::alloc::Global;
@@ -23,16 +24,13 @@ use std::sync::Wait;
 
 // Answers requests until the session ends; the last replies are still held.
 fn answer_all<W: Wait + Drop, R: Wait, K: Acknowledges, I: Read, O: Write>(
-    rt: &R,
-    alloc: Global,
-    acknowledger: &K,
-    server: &Server<W>,
+    service: &Service<'_, W, R, K>,
     client: &mut Client<W>,
     input: &mut BufReader<I>,
     output: &mut O,
     replies: &mut Vec<u8>,
 ) -> Result<Served, SessionError>
-    requires table { client.old.table ≡ server.now }
+    requires table { client.old.table ≡ service.now.server.now }
     requires quiet { is_some client.old.asked ≡ false }
     requires none_held { replies.old.items ≡ [] }
     ensures held { EndsHeld result (number_of client.old.who) client.old client.new
@@ -41,21 +39,9 @@ fn answer_all<W: Wait + Drop, R: Wait, K: Acknowledges, I: Read, O: Write>(
     ensures same { AreAlike client.old client.new }
     ensures sound { IsSound client.old → IsSound client.new }
 {
-    let mut ahead = Ahead::new(alloc);
-    let mut request = Vec::new(alloc);
+    let mut requests = Requests::new(service.alloc);
     for answered in 0..u64::MAX {
-        match serve_next(
-            rt,
-            alloc,
-            acknowledger,
-            server,
-            client,
-            input,
-            output,
-            &mut ahead,
-            &mut request,
-            replies,
-        ) {
+        match serve_next(service, client, input, output, &mut requests, replies) {
             Ok(Step::Request) => {}
             Ok(Step::Rest) => {
                 return Ok(Served {
@@ -87,9 +73,7 @@ fn answer_all<W: Wait + Drop, R: Wait, K: Acknowledges, I: Read, O: Write>(
 
 // Hands on the last replies of a session that was served to its end.
 fn end<W: Wait + Drop, R: Wait, K: Acknowledges, O: Write>(
-    rt: &R,
-    alloc: Global,
-    acknowledger: &K,
+    service: &Service<'_, W, R, K>,
     client: &Client<W>,
     output: &mut O,
     replies: &mut Vec<u8>,
@@ -102,7 +86,7 @@ fn end<W: Wait + Drop, R: Wait, K: Acknowledges, O: Write>(
     ensures told { OnOk result (MayBeToldOf K.covers (length client.now.seen)) }
     ensures not_told { IfErr result (λ error. error.fault ≡ FailedWrite) }
 {
-    match hand_on(rt, alloc, acknowledger, client, output, replies) {
+    match hand_on(service, client, output, replies) {
         Ok(()) => Ok(served),
         Err(fault) => Err(SessionError {
             answered: served.answered,
@@ -113,9 +97,7 @@ fn end<W: Wait + Drop, R: Wait, K: Acknowledges, O: Write>(
 
 // Hands on the last replies of a session that broke. What was not written is not tried again.
 fn break_off<W: Wait + Drop, R: Wait, K: Acknowledges, O: Write>(
-    rt: &R,
-    alloc: Global,
-    acknowledger: &K,
+    service: &Service<'_, W, R, K>,
     client: &Client<W>,
     output: &mut O,
     replies: &mut Vec<u8>,
@@ -129,7 +111,7 @@ fn break_off<W: Wait + Drop, R: Wait, K: Acknowledges, O: Write>(
     if let SessionFault::Write = error.fault {
         return error;
     }
-    match hand_on(rt, alloc, acknowledger, client, output, replies) {
+    match hand_on(service, client, output, replies) {
         Ok(()) => error,
         Err(fault) => SessionError {
             answered: error.answered,
@@ -176,27 +158,15 @@ pub fn serve_session<W: Wait + Drop, R: Wait, K: Acknowledges, I: Read, O: Write
     ensures same { AreAlike client.old client.new }
     ensures sound { IsSound client.old → IsSound client.new }
 {
-    let mut replies = Vec::new(alloc);
-    let answered = answer_all(
+    let service = Service {
         rt,
         alloc,
         acknowledger,
         server,
-        client,
-        input,
-        output,
-        &mut replies,
-    );
-    match answered {
-        Ok(served) => end(
-            rt,
-            alloc,
-            acknowledger,
-            client,
-            output,
-            &mut replies,
-            served,
-        ),
-        Err(error) => Err(break_off(rt, alloc, acknowledger, client, output, &mut replies, error)),
+    };
+    let mut replies = Vec::new(alloc);
+    match answer_all(&service, client, input, output, &mut replies) {
+        Ok(served) => end(&service, client, output, &mut replies, served),
+        Err(error) => Err(break_off(&service, client, output, &mut replies, error)),
     }
 }

@@ -16,17 +16,17 @@ ghost use Rattle.stream_sessions.specs.declared.outcome.SessionFault.TheVariants
 ghost use Rattle.stream_sessions.specs.declared.step.Step.TheVariants.{TooLong};
 
 use crate::acknowledges::Acknowledges;
-use crate::ahead::Ahead;
+use crate::ahead::Requests;
 use crate::answer::{answer, answer_read};
 use crate::held::hand_on;
 use crate::outcome::SessionFault;
+use crate::service::Service;
 use session_requests::{
     Found, MOST_BYTES, RequestError, has_request, next_request, request_length,
 };
 use ssb_report::{Piece, write_pieces};
 use ssb_script::Request;
-use ssb_server::{Client, Server};
-use std::alloc::Global;
+use ssb_server::Client;
 use std::io::{BufRead, BufReader, Read, Write};
 use std::sync::Wait;
 
@@ -48,9 +48,7 @@ pub(crate) enum Step {
 
 // Hands the replies on before the session waits for its client, or where many are held.
 fn hand_on_in_time<W: Wait + Drop, R: Wait, K: Acknowledges, I: Read, O: Write>(
-    rt: &R,
-    alloc: Global,
-    acknowledger: &K,
+    service: &Service<'_, W, R, K>,
     client: &Client<W>,
     input: &BufReader<I>,
     is_at_hand: bool,
@@ -65,7 +63,7 @@ fn hand_on_in_time<W: Wait + Drop, R: Wait, K: Acknowledges, I: Read, O: Write>(
     ensures in_time { OnOk result ((replies.new.items ≡ []) ⊎ BeginsWithRequest (reader_buffer input.now)) }
 {
     if replies.len() >= MOST_HELD || !is_at_hand {
-        hand_on(rt, alloc, acknowledger, client, output, replies)?;
+        hand_on(service, client, output, replies)?;
     }
     Ok(())
 }
@@ -88,17 +86,14 @@ fn tell_too_long(replies: &mut Vec<u8>) -> Result<Step, SessionFault>
 
 // Answers the request at the front of the input's buffer, which was read before its turn, and takes it.
 fn serve_ahead<W: Wait + Drop, R: Wait, K: Acknowledges, I: Read, O: Write>(
-    rt: &R,
-    alloc: Global,
-    acknowledger: &K,
-    server: &Server<W>,
+    service: &Service<'_, W, R, K>,
     client: &mut Client<W>,
     input: &mut BufReader<I>,
     output: &mut O,
     request: Request,
     replies: &mut Vec<u8>,
 ) -> Result<Step, SessionFault>
-    requires table { client.old.table ≡ server.now }
+    requires table { client.old.table ≡ service.now.server.now }
     requires quiet { is_some client.old.asked ≡ false }
     requires first { AsksFirst (reader_buffer input.old) (request_of request) }
     ensures step { MatchResult result
@@ -112,20 +107,18 @@ fn serve_ahead<W: Wait + Drop, R: Wait, K: Acknowledges, I: Read, O: Write>(
     ensures same { AreAlike client.old client.new }
     ensures sound { IsSound client.old → IsSound client.new }
 {
-    hand_on_in_time(
-        rt,
-        alloc,
-        acknowledger,
-        client,
-        input,
-        true,
-        output,
-        replies,
-    )?;
+    hand_on_in_time(service, client, input, true, output, replies)?;
     let Some(size) = request_length(input.buffer()) else {
         unreachable!()
     };
-    let answered = answer_read(rt, alloc, server, client, request, replies);
+    let answered = answer_read(
+        service.rt,
+        service.alloc,
+        service.server,
+        client,
+        request,
+        replies,
+    );
     input.consume(size);
     match answered {
         Ok(()) => Ok(Step::Request),
@@ -135,17 +128,14 @@ fn serve_ahead<W: Wait + Drop, R: Wait, K: Acknowledges, I: Read, O: Write>(
 
 // Takes the next request, reads it alone, answers it, and adds the reply to those that are held.
 fn serve_alone<W: Wait + Drop, R: Wait, K: Acknowledges, I: Read, O: Write>(
-    rt: &R,
-    alloc: Global,
-    acknowledger: &K,
-    server: &Server<W>,
+    service: &Service<'_, W, R, K>,
     client: &mut Client<W>,
     input: &mut BufReader<I>,
     output: &mut O,
     request: &mut Vec<u8>,
     replies: &mut Vec<u8>,
 ) -> Result<Step, SessionFault>
-    requires table { client.old.table ≡ server.now }
+    requires table { client.old.table ≡ service.now.server.now }
     requires quiet { is_some client.old.asked ≡ false }
     ensures step { MatchResult result
         (λ step. Steps step (number_of client.old.who) client.old client.new (reader_remaining I.remaining input.old)
@@ -158,16 +148,7 @@ fn serve_alone<W: Wait + Drop, R: Wait, K: Acknowledges, I: Read, O: Write>(
     ensures sound { IsSound client.old → IsSound client.new }
 {
     let is_at_hand = has_request(input.buffer());
-    hand_on_in_time(
-        rt,
-        alloc,
-        acknowledger,
-        client,
-        input,
-        is_at_hand,
-        output,
-        replies,
-    )?;
+    hand_on_in_time(service, client, input, is_at_hand, output, replies)?;
     let step = match next_request(input, request, MOST_BYTES) {
         Ok(Found::Request) => Step::Request,
         Ok(Found::Rest) => Step::Rest,
@@ -176,7 +157,15 @@ fn serve_alone<W: Wait + Drop, R: Wait, K: Acknowledges, I: Read, O: Write>(
         Err(RequestError::Read) => return Err(SessionFault::Read),
         Err(RequestError::OutOfMemory) => return Err(SessionFault::OutOfMemory),
     };
-    match answer(rt, alloc, server, client, request.as_slice(), replies) {
+    let answered = answer(
+        service.rt,
+        service.alloc,
+        service.server,
+        client,
+        request.as_slice(),
+        replies,
+    );
+    match answered {
         Ok(()) => Ok(step),
         Err(_) => Err(SessionFault::OutOfMemory),
     }
@@ -185,20 +174,16 @@ fn serve_alone<W: Wait + Drop, R: Wait, K: Acknowledges, I: Read, O: Write>(
 /// Takes the next request, answers it, and adds the reply to those that are held. Where several stand whole in the
 /// input's buffer, they are read together, each before its turn.
 pub(crate) fn serve_next<W: Wait + Drop, R: Wait, K: Acknowledges, I: Read, O: Write>(
-    rt: &R,
-    alloc: Global,
-    acknowledger: &K,
-    server: &Server<W>,
+    service: &Service<'_, W, R, K>,
     client: &mut Client<W>,
     input: &mut BufReader<I>,
     output: &mut O,
-    ahead: &mut Ahead,
-    request: &mut Vec<u8>,
+    requests: &mut Requests,
     replies: &mut Vec<u8>,
 ) -> Result<Step, SessionFault>
-    requires table { client.old.table ≡ server.now }
+    requires table { client.old.table ≡ service.now.server.now }
     requires quiet { is_some client.old.asked ≡ false }
-    requires ahead { AskFirst (reader_buffer input.old) (asked_ahead ahead.old) }
+    requires ahead { AskFirst (reader_buffer input.old) (asked_ahead requests.old.ahead) }
     ensures step { MatchResult result
         (λ step. Steps step (number_of client.old.who) client.old client.new (reader_remaining I.remaining input.old)
         (reader_remaining I.remaining input.new) (O.contents output.old) (O.contents output.new) replies.old.items
@@ -206,33 +191,13 @@ pub(crate) fn serve_next<W: Wait + Drop, R: Wait, K: Acknowledges, I: Read, O: W
         (λ fault. Fails fault (number_of client.old.who) client.old client.new (reader_remaining I.remaining input.old)
         (reader_remaining I.remaining input.new) (O.contents output.old) (O.contents output.new) replies.old.items
         replies.new.items) }
-    ensures ahead { OnOk result (AskFirst (reader_buffer input.new) (asked_ahead ahead.new)) }
+    ensures ahead { OnOk result (AskFirst (reader_buffer input.new) (asked_ahead requests.new.ahead)) }
     ensures same { AreAlike client.old client.new }
     ensures sound { IsSound client.old → IsSound client.new }
 {
-    ahead.look(alloc, input.buffer());
-    match ahead.next() {
-        Some(read) => serve_ahead(
-            rt,
-            alloc,
-            acknowledger,
-            server,
-            client,
-            input,
-            output,
-            read,
-            replies,
-        ),
-        None => serve_alone(
-            rt,
-            alloc,
-            acknowledger,
-            server,
-            client,
-            input,
-            output,
-            request,
-            replies,
-        ),
+    requests.ahead.look(service.alloc, input.buffer());
+    match requests.ahead.next() {
+        Some(request) => serve_ahead(service, client, input, output, request, replies),
+        None => serve_alone(service, client, input, output, &mut requests.alone, replies),
     }
 }

@@ -21,7 +21,7 @@ loop-answered-init g c = record {
   through = through_none _ _ _ _ _ c.requires.none_held;
   alike = alike_itself _ c.requires.quiet;
   sound = λ sound. sound;
-  ahead = subst (AskFirst (reader_buffer c.args.input.now)) (sym c.new-ahead.ensures) (ask_nothing _);
+  ahead = subst (AskFirst (reader_buffer c.args.input.now)) (sym c.new-requests.ensures) (ask_nothing _);
 }
 
 pub loop-answered-preserved : goal.loop-answered-preserved

@@ -15,5 +15,5 @@ invariant-loop-answered g l = record {
       (g.O.Write.contents l.fn.output) (g.O.Write.contents l.output) l.replies.items l.answered;
   alike : AreAlike l.fn.client l.client;
   sound : IsSound l.fn.client → IsSound l.client;
-  ahead : AskFirst (reader_buffer l.input) (asked_ahead l.ahead);
+  ahead : AskFirst (reader_buffer l.input) (asked_ahead l.requests.ahead);
 }
