@@ -17,7 +17,7 @@ use crate::fault::JournaledFault;
 use crate::remaking::remake;
 use crate::source::{Opening, ServerLog, reader_of};
 use journal::{Disk, Journal};
-use row_store::Commit;
+use row_store::Log;
 use ssb_base::Base;
 use ssb_journal::laws::{begun_journal_keeps, first_of_log};
 use ssb_journal::{JournaledLog, KeptCommits, OpenedJournal, SharedJournal, TableSize, begin};
@@ -57,7 +57,7 @@ pub struct JournaledRun<L: Drop> {
     pub left: Vec<L>,
     /// None where the journal could not be written: then the last commits were told to nobody, and need not be on the
     /// disk.
-    pub log: Option<Vec<Commit>>,
+    pub log: Option<Log>,
     pub batches: Batches,
 }
 
@@ -189,9 +189,9 @@ fn log_of<W: Wait + Drop>(
     clients: Vec<Client<W>>,
     reader: LogReader<W>,
     dispatchers: Vec<Dispatcher<W>>,
-) -> Vec<Commit>
+) -> Log
     requires { IsReady server clients.items (dispatchers.items ++ reader ∷ []) }
-    ensures { IsClosedWith server clients.items (dispatchers.items ++ reader ∷ []) result.items }
+    ensures { IsClosedWith server clients.items (dispatchers.items ++ reader ∷ []) result }
 {
     let Ok(Closed { base: _, log }) = server.close_with_reader(clients, reader, dispatchers) else {
         unreachable!()
@@ -211,7 +211,7 @@ fn close<W: Wait + Drop, L: Drop>(
         ++ resting.items) (ended.dispatchers.items ++ reader ∷ [])) }
     ensures left { IfOk result (λ run. run.left.items ≡ map (λ one. one.left) ended.spoken.items) }
     ensures closed { IfOk result (λ run. IfSome run.log (λ log. IsClosedBy server (map (λ one. one.client)
-        ended.spoken.items ++ resting.items) ended.dispatchers.items reader log.items)) }
+        ended.spoken.items ++ resting.items) ended.dispatchers.items reader log)) }
 {
     let Ended {
         spoken,
@@ -247,7 +247,7 @@ where
     requires sixteen { opened.server.clients ≡ 16 }
     requires dispatchers { opened.dispatchers.items ++ opened.reader ∷ [] ≡ new_dispatchers opened.server }
     ensures served { IfOk result (λ run. IfSome run.log (λ log. IsJournaledRun S.spoken opened.server.base
-        recovered.entry.opened.kept.commits.items speakers.items run.left.items log.items)) }
+        recovered.entry.opened.kept.commits.items speakers.items run.left.items log)) }
     ensures behind { IfOk result (λ run. AreServedBehind S.spoken recovered.entry.opened.kept.commits.items
         speakers.items run.left.items) }
     ensures left { IfOk result (λ run. vec_len run.left ≡ vec_len speakers) }
@@ -297,7 +297,7 @@ where
     requires few { vec_len speakers ≤ 16 }
     requires kept { IsKept recovered.sizes.now (recovered_groups (D.seen recovered.opened.found)) recovered.opened.kept }
     ensures served { IfOk result (λ run. IfSome run.log (λ log. IsJournaledRun S.spoken base.value
-        recovered.entry.opened.kept.commits.items speakers.items run.left.items log.items)) }
+        recovered.entry.opened.kept.commits.items speakers.items run.left.items log)) }
     ensures behind { IfOk result (λ run. AreServedBehind S.spoken recovered.entry.opened.kept.commits.items
         speakers.items run.left.items) }
     ensures left { IfOk result (λ run. vec_len run.left ≡ vec_len speakers) }

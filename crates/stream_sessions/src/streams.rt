@@ -12,7 +12,7 @@ use crate::acknowledges::{Acknowledges, AtOnce};
 use crate::clients::{Seat, Spoken};
 use crate::speaks::Speaks;
 use crate::threads::{Ended, run_threads};
-use row_store::Commit;
+use row_store::Log;
 use ssb_base::Base;
 use ssb_server::{Client, Closed, Dispatcher, Opened, Server, open};
 use ssb_serving::{Batches, RunFault};
@@ -26,7 +26,7 @@ use std::thread::Threads;
 #[derive(Drop)]
 pub struct StreamRun<L: Drop> {
     pub left: Vec<L>,
-    pub log: Vec<Commit>,
+    pub log: Log,
     pub batches: Batches,
 }
 
@@ -92,7 +92,7 @@ fn close<W: Wait + Drop, L: Drop>(
 ) -> Result<StreamRun<L>, AllocError>
     requires { IsReady server (map (λ one. one.client) ended.spoken.items) ended.dispatchers.items }
     ensures closed { IfOk result (λ run. IsClosedWith server (map (λ one. one.client) ended.spoken.items)
-        ended.dispatchers.items run.log.items) }
+        ended.dispatchers.items run.log) }
     ensures left { IfOk result (λ run. run.left.items ≡ map (λ one. one.left) ended.spoken.items) }
 {
     let Ended {
@@ -120,7 +120,7 @@ where
     requires dispatchers { opened.dispatchers.items ≡ new_dispatchers opened.server }
     requires speakers { opened.server.clients ≡ vec_len speakers }
     ensures { IfOk result (λ run. IsStreamRun S.spoken opened.server.base speakers.items opened.server.dispatchers
-        run.left.items run.log.items) }
+        run.left.items run.log) }
 {
     let Opened {
         server,
@@ -181,7 +181,7 @@ where
     S::Left: Drop + Send,
     ensures counts { OnOk result (AreCounts (vec_len speakers) dispatchers) }
     ensures served { IfOk result (λ run. IsStreamRun S.spoken base.value speakers.items dispatchers run.left.items
-        run.log.items) }
+        run.log) }
     ensures fault { IfErr result (λ fault. IsRunFault (vec_len speakers) dispatchers fault) }
 {
     let count = u32::try_from(speakers.len()).unwrap_or(u32::MAX);

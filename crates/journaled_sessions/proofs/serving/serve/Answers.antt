@@ -74,7 +74,7 @@ returns-clause-served g c =
     c.len.result clients.len clients.items c.begin_again.new.clients c.split_off.new.self.items
     c.in_ok-resting.resting.items c.in_ok-begun.ensures.clients same few whole c.in_ok-resting.ensures.items
     c.in_ok-resting.ensures.tail in
-    run_where g.S.Speaker.spoken (λ log. log.items) c.args.opened.server c.args.recovered.opened.kept.commits.items
+    run_where g.S.Speaker.spoken (λ log. log) c.args.opened.server c.args.recovered.opened.kept.commits.items
     c.args.speakers.items c.split_off.new.self.items c.in_ok-resting.resting.items _ _ c.in_ok-close.field-0.left.items
     c.in_ok-ended.ended.dispatchers.items c.in_ok-begun.begun.reader c.in_ok-ended.reader c.in_ok-close.field-0.log
     parts c.in_ok-ended.ensures.served c.requires.sixteen c.in_ok-begun.ensures.seen c.in_ok-ended.ensures.reader

@@ -33,7 +33,7 @@ close-requires g c =
 
 pub returns : goal.returns
 returns g c =
-    stream_where g.S.Speaker.spoken c.close.result (λ run. run.left.items) (λ run. run.log.items)
+    stream_where g.S.Speaker.spoken c.close.result (λ run. run.left.items) (λ run. run.log)
     c.args.opened.server c.args.speakers.items c.in_ok-seats.seats.items c.in_ok-ended.ended.spoken.items
     (λ seat. seat.client) (λ seat. seat.speaker) (λ one. one.client) (λ one. one.left)
     c.in_ok-ended.ended.dispatchers.items (omega (arith, c.requires.speakers, c.args.speakers.ok.0, c.args.speakers.ok.1))
