@@ -91,6 +91,20 @@ fn two_clients_share_a_batch(rt: HostRuntime) -> Result<(), Fail> {
 }
 
 #[test]
+fn two_clients_that_ask_the_same_share_a_batch(rt: HostRuntime) -> Result<(), Fail> {
+    played(
+        &rt,
+        &[
+            (First(Asks("Q4.1")), "asked"),
+            (Second(Asks("Q4.1")), "asked"),
+            (Turn, "answered 2 at 0"),
+            (First(Polls), LOADED),
+            (Second(Polls), LOADED),
+        ],
+    )
+}
+
+#[test]
 fn questions_of_a_request_are_answered_at_one_commit(rt: HostRuntime) -> Result<(), Fail> {
     played(
         &rt,
