@@ -68,6 +68,29 @@ fn replies<R: Threads + Sync + AllocGlobal + RandomSource>(
     told(rt.alloc(), &mut store, script)
 }
 
+// Rows of a dimension, lines and commits, and whether a warehouse may be limited to these.
+const BOUNDS: &[(usize, usize, u64, bool)] = &[
+    (1, 0, 1, true),
+    (1_048_576, 33_554_432, 72_057_594_037_927_936, true),
+    (0, 4, 1, false),
+    (1_048_577, 4, 1, false),
+    (4, 33_554_433, 1, false),
+    (4, 4, 0, false),
+    (4, 4, 72_057_594_037_927_937, false),
+];
+
+#[test]
+fn limits_have_bounds(rt: HostRuntime) -> Result<(), Fail> {
+    for (rows, lines, commits, allowed) in BOUNDS {
+        same(
+            &rt,
+            &Limits::new(*rows, *lines, *commits).is_some(),
+            allowed,
+        );
+    }
+    Ok(())
+}
+
 // Four lines are live. Order 9 has one, order 2 is withdrawn for two, and then for one.
 const FULL: &str = "\
 begin
