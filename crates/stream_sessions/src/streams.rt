@@ -14,7 +14,7 @@ use crate::speaks::Speaks;
 use crate::threads::{Ended, run_threads};
 use row_store::Log;
 use ssb_base::Base;
-use ssb_server::{Client, Closed, Dispatcher, Opened, Server, open};
+use ssb_server::{Client, Closed, Dispatcher, Keeps, Opened, Server, open};
 use ssb_serving::{Batches, RunFault};
 use std::alloc::{AllocError, Global};
 use std::hash::RandomState;
@@ -185,7 +185,7 @@ where
     ensures fault { IfErr result (λ fault. IsRunFault (vec_len speakers) dispatchers fault) }
 {
     let count = u32::try_from(speakers.len()).unwrap_or(u32::MAX);
-    match open(alloc, rt, hashing, base, count, dispatchers) {
+    match open(alloc, rt, hashing, base, count, dispatchers, Keeps::Recent) {
         Ok(opened) => Ok(serve(rt, alloc, opened, speakers)?),
         Err(error) => Err(RunFault::from(error.fault)),
     }
