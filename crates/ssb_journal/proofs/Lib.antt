@@ -4,3 +4,4 @@ mod TextLaws
 pub mod KeptLaws
 mod CountLaws
 mod NewLaws
+mod TogetherLaws

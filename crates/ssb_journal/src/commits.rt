@@ -1,12 +1,14 @@
 //! Commits as the text of a group, and back.
-ghost use Rattle.std.specs.Prelude.{◌≡◌, ◌⊎◌, ◌++◌, IfOk, IfErr, OnOk};
-ghost use Rattle.std.specs.List.{AllByRecursion};
+ghost use Rattle.std.specs.Prelude.{◌≡◌, ◌≤◌, ◌⊎◌, ◌++◌, true, length, take, IfOk, IfErr, IfSome, OnOk};
+ghost use Rattle.std.specs.List.{AllByRecursion, concat};
 ghost use Rattle.journal.specs.Groups.{lists};
 ghost use Rattle.ssb_trace.specs.Allowed.{IsClient};
 ghost use Rattle.ssb_trace.specs.TraceText.{trace_text};
+ghost use Rattle.ssb_trace.specs.Together.{IsClosed};
 ghost use Rattle.ssb_journal.specs.Kept.{trace_of, SpellsBatch, SpellCommits, SpellsNoBatch, IsFirstNoBatch, batch_fault};
 
 use crate::fault::JournalFault;
+use memchr::memchr2;
 use row_store::Commit;
 use ssb_audit::Trace;
 use ssb_schema::Items;
@@ -68,6 +70,85 @@ fn push_all(commits: &mut Vec<Commit>, batch: Vec<Commit>) -> Result<(), AllocEr
     Ok(())
 }
 
+// The most bytes of texts that are read together, by one reader of records.
+const MOST_TOGETHER: usize = 65_536;
+
+// The first byte of a byte order mark.
+const MARK: u8 = 0xEF;
+
+// Whether the last line of a text is `end`, and no byte of it is a CR or begins a byte order mark: then what follows it
+// begins a commit of its own.
+fn is_closed(text: &[u8]) -> bool
+    ensures { result ≡ true → IsClosed text.now }
+{
+    let Some(_front) = text.strip_suffix(b"\nend\n".as_slice()) else {
+        return false;
+    };
+    match memchr2(b'\r', MARK, text) {
+        None => true,
+        Some(_) => false,
+    }
+}
+
+// The first texts, joined, and how many they are.
+#[derive(Drop)]
+struct Gathered {
+    count: usize,
+    text: Vec<u8>,
+}
+
+// The first texts that are closed, of few bytes together.
+fn gather(alloc: Global, texts: &[Vec<u8>]) -> Result<Gathered, AllocError>
+    ensures within { IfOk result (λ all. all.count ≤ length texts.now) }
+    ensures text { IfOk result (λ all. all.text.items ≡ concat (take all.count (lists texts.now))) }
+    ensures closed { IfOk result (λ all. AllByRecursion IsClosed (take all.count (lists texts.now))) }
+{
+    let mut all = Vec::new(alloc);
+    for count in 0..texts.len() {
+        let text = &texts[count];
+        if all.len() >= MOST_TOGETHER || !is_closed(text) {
+            return Ok(Gathered { count, text: all });
+        }
+        all.extend_from_slice(text)?;
+    }
+    Ok(Gathered {
+        count: texts.len(),
+        text: all,
+    })
+}
+
+// The commits of the first texts, so many of them, that were read together.
+#[derive(Drop)]
+struct Together {
+    count: usize,
+    commits: Option<Vec<Commit>>,
+}
+
+// The commits of the first texts, read together; none where they have to be read one by one.
+fn commits_together(alloc: Global, texts: &[Vec<u8>]) -> Result<Together, AllocError>
+    ensures within { IfOk result (λ found. found.count ≤ length texts.now) }
+    ensures commits { IfOk result (λ found. IfSome found.commits
+        (λ batch. SpellCommits (take found.count (lists texts.now)) batch.items)) }
+{
+    let Gathered { count, text } = gather(alloc, texts)?;
+    let Ok(trace) = read_trace(alloc, text.as_slice(), u64::MAX) else {
+        return Ok(Together {
+            count,
+            commits: None,
+        });
+    };
+    if trace.answers.len() > 0 {
+        return Ok(Together {
+            count,
+            commits: None,
+        });
+    }
+    Ok(Together {
+        count,
+        commits: Some(trace.commits.into_vec()),
+    })
+}
+
 /// The commits that texts spell. The first text is that of group 1.
 pub(crate) fn commits_of(alloc: Global, texts: &[Vec<u8>]) -> Result<Vec<Commit>, JournalFault>
     ensures commits { IfOk result (λ commits. SpellCommits (lists texts.now) commits.items) }
@@ -75,12 +156,30 @@ pub(crate) fn commits_of(alloc: Global, texts: &[Vec<u8>]) -> Result<Vec<Commit>
         ⊎ IsFirstNoBatch (lists texts.now) fault) }
 {
     let mut commits = Vec::new(alloc);
-    for (place, text) in texts.iter().enumerate() {
-        let batch = match batch_of(alloc, place as u64 + 1, text) {
+    let mut place = 0;
+    let mut alone = 0;
+    while place < texts.len() {
+        if place >= alone {
+            let (_, rest) = texts.split_at(place);
+            let Together {
+                count,
+                commits: found,
+            } = commits_together(alloc, rest)?;
+            if let Some(batch) = found {
+                if count > 0 {
+                    push_all(&mut commits, batch)?;
+                    place += count;
+                    continue;
+                }
+            }
+            alone = place + count;
+        }
+        let batch = match batch_of(alloc, place as u64 + 1, &texts[place]) {
             Ok(batch) => batch,
             Err(fault) => return Err(fault),
         };
         push_all(&mut commits, batch)?;
+        place += 1;
     }
     Ok(commits)
 }
