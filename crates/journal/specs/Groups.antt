@@ -1,5 +1,5 @@
 -- A file of groups behind gates, and what it stands for.
-use Rattle.std.specs.Prelude.{◌≡◌, ◌⊎◌, ◌≤◌, ℕ, zero, suc, ◌+◌, ◌-◌, ◌*◌, ◌/◌, ◌%◌, Bool, ◌&&◌, nat_eq, nat_le, List, [], ◌∷◌, ◌++◌, length, take, drop, map, if◌then◌else◌, Option, Some, None, Vec}
+use Rattle.std.specs.Prelude.{◌≡◌, ◌≢◌, ◌⊎◌, ◌≤◌, ℕ, zero, suc, ◌+◌, ◌-◌, ◌*◌, ◌/◌, ◌%◌, Bool, ◌&&◌, nat_eq, nat_le, List, [], ◌∷◌, ◌++◌, length, take, drop, map, if◌then◌else◌, Option, Some, None, Vec}
 use Rattle.std.specs.List.{starts_with}
 use Rattle.std.specs.declared.alloc.Global.{Global}
 use Rattle.journal.specs.Disk.{Only}
@@ -78,6 +78,11 @@ IsBeforeOrAfter groups group file = (recovered file ≡ groups) ⊎ (recovered f
 -- what stands behind the groups of a file: a closed gate and nothing else, where no crash has torn it
 abbrev pub behind : List ℕ → List ℕ
 behind file = drop (length (blocks (recovered file))) file
+
+-- the bytes that a crash has torn of a file: those behind its groups, and none where a closed gate alone stands there
+pub record AreTorn (file torn : List ℕ) : Type 0 where
+  pub none : behind file ≡ 48 ∷ [] → torn ≡ []
+  pub all : behind file ≢ 48 ∷ [] → torn ≡ behind file
 
 -- what a crash leaves of a file whose end is being mended: a beginning of it, or its groups and at most one byte
 abbrev pub IsMending : List ℕ → List ℕ → Type 0

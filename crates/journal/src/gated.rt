@@ -74,6 +74,7 @@ pub(crate) fn repair<D: Disk>(disk: &mut D, end: usize) -> Result<(), DiskError>
     ensures any_moment { LeavesOnly D.moment D.left_since disk.old disk.new
         (λ c. recovered c ≡ recovered (D.seen disk.old)) }
     ensures torn { LeavesOnly D.moment D.left_since disk.old disk.new (IsMending (D.seen disk.old)) }
+    ensures later { D.faults disk.old ≤ D.faults disk.new }
     ensures failed { IsErrOf result DiskError.Failed → D.faults disk.old < D.faults disk.new }
     ensures full { IsErrOf result DiskError.Full → ⊥ }
 {

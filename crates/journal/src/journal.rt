@@ -1,11 +1,12 @@
 //! A file that was read and is not yet changed, and a journal that groups are appended to.
 ghost use Rattle.std.specs.Prelude.{◌≡◌, ◌<◌, ◌≤◌, ◌^◌, ◌++◌, [], ◌∷◌, length, IfOk, IfErr};
 ghost use Rattle.journal.specs.Disk.{Only, LeavesOnly};
-ghost use Rattle.journal.specs.Groups.{recovered, blocks, behind, lists, IsSettled, IsBeforeOrAfter, IsMending, IsAppending};
+ghost use Rattle.journal.specs.Groups.{recovered, blocks, behind, at_rest, lists, AreTorn, IsSettled, IsBeforeOrAfter, IsMending, IsAppending};
 
 use crate::disk::read_through;
 use crate::gated::{GatedFile, repair};
 use crate::groups::{Contents, read_groups};
+use crate::torn::KeepsTorn;
 use crate::{Disk, DiskError};
 use std::alloc::Global;
 use std::marker::Model;
@@ -80,9 +81,11 @@ impl<D: Disk> Found<D> {
         }
     }
 
-    /// Cuts off what stands behind the groups, and makes it a journal. A crash at any moment leaves the same groups,
-    /// and an `Err` hands the disk back.
-    pub fn mend(self) -> Result<Journal<D>, (DiskError, D)>
+    /// Cuts off what stands behind the groups, and makes it a journal. It takes evidence that what a crash has torn is
+    /// kept. A crash at any moment leaves the same groups, and an `Err` hands the disk back.
+    pub fn mend<T: KeepsTorn>(self, kept: &T::Kept) -> Result<Journal<D>, (DiskError, D)>
+        requires kept { AreTorn (D.seen self) (T.bytes kept.now) }
+        ensures at_rest { IfOk result (λ journal. D.seen journal ≡ at_rest (recovered (D.seen self))) }
         ensures same { IfOk result (λ journal. recovered (D.seen journal) ≡ recovered (D.seen self)) }
         ensures any_moment { IfOk result (λ journal. LeavesOnly D.moment D.left_since self journal
             (λ c. recovered c ≡ recovered (D.seen self))) }
@@ -92,9 +95,11 @@ impl<D: Disk> Found<D> {
             (IsMending (D.seen self))) }
         ensures torn_err { IfErr result (λ e. LeavesOnly D.moment D.left_since self e.1
             (IsMending (D.seen self))) }
+        ensures later { IfOk result (λ journal. D.faults self ≤ D.faults journal) }
         ensures failed { IfErr result (λ e. e.0 ≡ DiskError.Failed → D.faults self < D.faults e.1) }
         ensures full { IfErr result (λ e. e.0 ≡ DiskError.Full → ⊥) }
     {
+        let _evidence = kept;
         let Found { mut disk, end } = self;
         match repair(&mut disk, end) {
             Ok(()) => Ok(Journal {

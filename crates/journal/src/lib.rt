@@ -13,7 +13,8 @@
 //! [`Journal::append`] writes a group behind the closed gate, syncs, opens the gate by a write of its own, and syncs.
 //! So a crash at any moment leaves the groups from before, with the new one whole or without it; at `Ok` each crash
 //! from then on leaves a file that has it. [`Found::read`] reads the groups and changes nothing; [`Found::mend`] then
-//! cuts off what a crash has torn. Both may crash too, at any moment, and the file then stands for the same groups.
+//! cuts off what a crash has torn, and takes evidence that this is kept elsewhere ([`KeepsTorn`]). Both may crash too,
+//! at any moment, and the file then stands for the same groups.
 //!
 //! The contract speaks of a [`Disk`] with a clock: what a read returns, what a crash at this moment may leave, and
 //! what a crash at some moment since might have left (`specs/Disk`). Until a sync, a crash may leave any bytes in the
@@ -22,7 +23,8 @@
 //!
 //! ```text
 //! let (found, contents) = Found::read(alloc, disk)?;      // look at contents.groups before anything is written
-//! let mut journal = found.mend()?;
+//! let kept = keeper.keep_torn(contents.torn().to_vec(alloc)?)?;
+//! let mut journal = found.mend::<Keeper>(&kept)?;
 //! journal = journal.append(alloc, b"insert 1\n")?;        // on the disk
 //! ```
 #![tactic(auto)]
@@ -31,8 +33,10 @@ mod disk;
 mod gated;
 mod groups;
 mod journal;
+mod torn;
 
 pub use disk::{Disk, DiskError};
 pub use gated::{MAX_GROUP, behind_gate};
 pub use groups::{CLOSED, Contents};
 pub use journal::{Found, Journal};
+pub use torn::KeepsTorn;

@@ -11,13 +11,14 @@
 //! of that `FileDisk` fails; the system may then still show bytes that the disk lacks, so restart the machine before
 //! the file is opened again.
 //!
-//! [`keep_torn`] puts the bytes that a mend will cut off behind those of a file beside the journal.
+//! [`keep_torn`] puts the bytes that a mend will cut off behind those of a file beside the journal, and gives evidence of
+//! it: a [`TornFile`], for a mend takes what is made of one (`journal`'s `KeepsTorn`).
 //!
 //! ```text
 //! let disk = FileDisk::open(rt, alloc, "orders.journal")?;      // of rt's files: each that is a JournalFile
 //! let (found, contents) = Found::read(alloc, disk)?;
-//! keep_torn(rt, alloc, "orders.journal", contents.torn())?;
-//! let journal = found.mend()?;
+//! let kept = keep_torn(rt, alloc, "orders.journal", contents.torn().to_vec(alloc)?)?;
+//! let journal = found.mend::<Keeper>(&kept)?;                   // `Keeper::Kept` is `TornFile`
 //! ```
 #![tactic(auto)]
 
@@ -26,4 +27,4 @@ mod torn;
 mod transcript;
 
 pub use file_disk::{FileDisk, JournalFile, OpenError};
-pub use torn::{keep_torn, torn_path};
+pub use torn::{TornFile, keep_torn, torn_path};
