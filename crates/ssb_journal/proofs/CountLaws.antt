@@ -1,12 +1,13 @@
 -- How what a journal keeps of a log grows.
-use Rattle.std.proofs.Common.{◌≡◌, ⊎_elim, ℕ, ◌+◌, ◌≤◌, List, ◌++◌, length, take, drop, sym, ◌∙◌, ap, subst, arith}
+use Rattle.std.proofs.Common.{◌≡◌, ⊎_elim, ℕ, ◌+◌, ◌≤◌, Bool, true, false, List, ◌++◌, length, take, drop, sym, ◌∙◌, ap, subst, Result, Ok, Err, arith}
+use Rattle.std.specs.Prelude.{IfErr}
 use Rattle.std.proofs.lemmas.List.{length-append, length-take-le, take_all, take-append-drop, take-append-le}
 use Rattle.journal.specs.Disk.{LeavesOnly, Only}
 use Rattle.journal.proofs.MomentLaws.{leaves, stays}
 use Rattle.row_store.specs.History.{CommitRecord, IsPrefix}
 use Rattle.ssb_journal.specs.declared.head.TableSize.{TableSize}
 use Rattle.ssb_journal.specs.Kept.{KeepsCommits, KeepsWithOrWithout}
-use Rattle.ssb_journal.specs.Counts.{KeepsAtLeast, KeepsBeginning, KeepsFirst}
+use Rattle.ssb_journal.specs.Counts.{IsLeft, KeepsAtLeast, KeepsBeginning, KeepsFirst}
 
 -- so many commits at least
 pub keeps_enough : (count : ℕ) (log : List CommitRecord) (file : List ℕ) → KeepsFirst count log file → KeepsAtLeast count file
@@ -80,3 +81,34 @@ module _ {D : Type 0} (moment : D → ℕ) (left_since : D → ℕ → List ℕ 
   stays_beginning count log disk may_leave first now durable =
       stays moment left_since disk (KeepsBeginning count log)
       (λ file left. subst (KeepsBeginning count log) (sym (durable file (now file left))) (record { count = count; enough = omega arith; first = first }))
+
+  -- what is left where a run of calls has failed: a crash now leaves what one at some moment of it may leave
+  pub left_failed : (may_leave : D → List ℕ → Type 0)
+      → ((disk : D) (t : ℕ) (file : List ℕ) → t ≤ moment disk → may_leave disk file → left_since disk t file)
+      → (count : ℕ) (log : List CommitRecord) (old new : D) → LeavesOnly moment left_since old new (KeepsBeginning count log)
+      → IsLeft (may_leave new) (seen new) count log false
+  left_failed may_leave counts_now count log old new run = record {
+    crash = λ file left. run.each file (counts_now new (moment old) file run.later left);
+    written = λ is. cc;
+  }
+
+-- what is left of a journal that is on the disk
+pub left_whole : (may_leave : List ℕ → Type 0) (seen : List ℕ) (count : ℕ) (log : List CommitRecord) (whole : Bool)
+    → Only seen may_leave → KeepsFirst count log seen → IsLeft may_leave seen count log whole
+left_whole may_leave seen count log whole durable first = record {
+  crash = λ file left. subst (KeepsBeginning count log) (sym (durable file left)) (record { count = count; enough = omega arith; first = first });
+  written = λ is. first;
+}
+
+-- of a longer log too
+pub left_of_longer : (may_leave : List ℕ → Type 0) (seen : List ℕ) (count : ℕ) (shorter longer : List CommitRecord) (whole : Bool)
+    → IsPrefix shorter longer → IsLeft may_leave seen count shorter whole → IsLeft may_leave seen count longer whole
+left_of_longer may_leave seen count shorter longer whole begins left = record {
+  crash = λ file may. let was = left.crash file may in record { count = was.count; enough = was.enough; first = keeps_of_longer was.count shorter longer file begins was.first };
+  written = λ is. keeps_of_longer count shorter longer seen begins (left.written is);
+}
+
+-- two things that hold of what has failed
+pub both_err : {A E : Type 0} (r : Result A E) (P Q R : E → Type 0) → IfErr r P → IfErr r Q → ((e : E) → P e → Q e → R e) → IfErr r R
+both_err (Ok a) P Q R one other means = tt
+both_err (Err e) P Q R one other means = means e one other

@@ -2,6 +2,6 @@ pub mod SealLaws
 mod HeadLaws
 mod TextLaws
 pub mod KeptLaws
-mod CountLaws
+pub mod CountLaws
 mod NewLaws
 mod TogetherLaws

@@ -1,5 +1,5 @@
 -- How many commits a journal keeps, and of which log.
-use Rattle.std.specs.Prelude.{◌≤◌, List, ℕ, length, take}
+use Rattle.std.specs.Prelude.{◌≡◌, ◌≤◌, List, ℕ, length, take, Bool, true}
 use Rattle.row_store.specs.History.{CommitRecord}
 use Rattle.ssb_journal.specs.declared.head.TableSize.{TableSize}
 use Rattle.ssb_journal.specs.Kept.{KeepsCommits}
@@ -28,3 +28,17 @@ pub record Journaled (D L : Type 0) : Type 0 where
   pub disk : D
   pub source : L
   pub count : ℕ
+
+-- what is left of it: whether it was written to the end, too
+pub record LeftJournal (D L : Type 0) : Type 0 where
+  pub disk : D
+  pub source : L
+  pub count : ℕ
+  pub whole : Bool
+
+-- whatever crashes now leaves a journal of the first commits of a log, of at least so many; and where it was written to
+-- the end, the file is one of just so many
+pub record IsLeft (may_leave : List ℕ → Type 0) (seen : List ℕ) (count : ℕ) (log : List CommitRecord) (whole : Bool)
+    : Type 0 where
+  pub crash : (file : List ℕ) → may_leave file → KeepsBeginning count log file
+  pub written : whole ≡ true → KeepsFirst count log seen

@@ -1,5 +1,5 @@
 -- The commits that a journal keeps.
-use Rattle.std.specs.Prelude.{◌≡◌, ◌⊎◌, ◌<◌, List, ℕ, [], ◌++◌, length, ◌+◌, take, slice_get, Some}
+use Rattle.std.specs.Prelude.{◌≡◌, ◌⊎◌, ◌<◌, ◌≤◌, ◌^◌, List, ℕ, [], ◌++◌, length, ◌+◌, take, slice_get, Some}
 use Rattle.std.specs.List.{AllZip, flat_map}
 use Rattle.journal.specs.Groups.{recovered}
 use Rattle.row_store.specs.History.{CommitRecord}
@@ -12,6 +12,7 @@ use Rattle.ssb_script.specs.declared.error.ScriptError.TheVariants as error
 use Rattle.ssb_journal.specs.declared.fault.JournalFault.{JournalFault}
 use Rattle.ssb_journal.specs.declared.fault.JournalFault.TheVariants.{Damaged, OutOfMemory}
 use Rattle.ssb_trace.specs.Traces.{EndsInBlock, IsFirstFault, SpellsTrace}
+use Rattle.ssb_trace.specs.TraceText.{trace_text}
 
 -- the trace of these commits, without answers
 abbrev pub trace_of : List CommitRecord → Trace
@@ -36,6 +37,10 @@ pub record KeepsCommits (sizes : List TableSize) (commits : List CommitRecord) (
 -- a file keeps these commits, with the new ones all or without them
 abbrev pub KeepsWithOrWithout : List TableSize → List CommitRecord → List CommitRecord → List ℕ → Type 0
 KeepsWithOrWithout sizes commits more file = KeepsCommits sizes commits file ⊎ KeepsCommits sizes (commits ++ more) file
+
+-- a file has no room for these commits as one group: it has 2^60 bytes, or their group more than 2^49
+abbrev pub HasNoRoom : List ℕ → List CommitRecord → Type 0
+HasNoRoom file commits = (2 ^ 60 ≤ length file) ⊎ (2 ^ 49 < length (sealed (trace_text (trace_of commits))))
 
 -- a file stands for these groups, or is a new journal, where one is being made
 abbrev pub IsAsItWasOrNew : List TableSize → List (List ℕ) → List ℕ → Type 0

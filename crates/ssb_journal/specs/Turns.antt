@@ -8,4 +8,4 @@ abbrev pub HasEnough : {J : Type 0} → ℕ → Turn J → Type 0
 HasEnough commits (Reached on_disk) = commits ≤ on_disk.commits
 HasEnough commits (Append log) = Unit {0}
 HasEnough commits Wait = Unit {0}
-HasEnough commits Failed = Unit {0}
+HasEnough commits (Failed why) = Unit {0}

@@ -7,7 +7,7 @@ ghost use Rattle.ssb_journal.specs.Seals.{sealed};
 ghost use Rattle.ssb_journal.specs.declared.head.TableSize.{TableSize};
 ghost use Rattle.ssb_trace.specs.Allowed.{IsClient};
 ghost use Rattle.ssb_trace.specs.TraceText.{trace_text};
-ghost use Rattle.ssb_journal.specs.Kept.{trace_of, IsGroupOf, KeepsCommits, KeepsWithOrWithout};
+ghost use Rattle.ssb_journal.specs.Kept.{trace_of, HasNoRoom, IsGroupOf, KeepsCommits, KeepsWithOrWithout};
 
 use crate::checksum::seal;
 use crate::commits::text_of;
@@ -50,8 +50,7 @@ pub fn append_commits<D: Disk>(
         → LeavesOnly D.moment D.left_since journal e.1 (KeepsWithOrWithout sizes before commits.items)) }
     // It does not give up by itself.
     ensures failed { IfErr result (λ e. e.0 ≡ DiskError.Failed → D.faults journal < D.faults e.1) }
-    ensures full { IfErr result (λ e. e.0 ≡ DiskError.Full
-        → (2 ^ 60 ≤ length (D.seen journal)) ⊎ (2 ^ 49 < length (sealed (trace_text (trace_of commits.items))))) }
+    ensures full { IfErr result (λ e. e.0 ≡ DiskError.Full → HasNoRoom (D.seen journal) commits.items) }
 {
     match group_of(alloc, commits) {
         Ok(group) => journal.append(alloc, &group),

@@ -1,10 +1,11 @@
 //! A journal beside the log whose commits it keeps.
-ghost use Rattle.std.specs.Prelude.{◌≡◌, ◌⊎◌, ◌<◌, ◌^◌, List, length, drop, IfOk, IfErr};
+ghost use Rattle.std.specs.Prelude.{◌≡◌, ◌⊎◌, ◌<◌, ◌^◌, length, drop, true, IfOk, IfErr};
 ghost use Rattle.std.specs.List.{AllByRecursion};
 ghost use Rattle.journal.specs.Disk.{LeavesOnly};
-ghost use Rattle.row_store.specs.History.{CommitRecord, IsPrefix};
+ghost use Rattle.row_store.specs.History.{IsPrefix};
 ghost use Rattle.ssb_trace.specs.Allowed.{IsClient};
-ghost use Rattle.ssb_journal.specs.Counts.{KeepsBeginning, KeepsFirst};
+ghost use Rattle.ssb_journal.specs.Counts.{IsLeft, KeepsBeginning, KeepsFirst};
+ghost use Rattle.ssb_journal.specs.Kept.{HasNoRoom};
 
 use crate::appending::append_commits;
 use crate::on_disk::OnDisk;
@@ -34,6 +35,43 @@ impl<D: Disk, L: LogSource> Model for JournaledLog<D, L> {
     ghost invariant = { λ log. KeepsFirst log.count (L.log log.source) (D.seen log.journal) };
 }
 
+/// What is left of a journal beside a log, when nothing is appended any more: the disk, the log, and how many of its
+/// commits are on the disk, whatever crashes.
+#[derive(Drop)]
+pub struct LeftLog<D: Disk, L: LogSource> {
+    disk: D,
+    source: L,
+    count: u64,
+    is_whole: bool,
+}
+
+impl<D: Disk, L: LogSource> Model for LeftLog<D, L> {
+    ghost use Rattle.ssb_journal.specs.Counts.{LeftJournal, IsLeft};
+
+    ghost Value = { LeftJournal D L };
+
+    ghost view = { λ left. record { disk = left.disk; source = left.source; count = left.count; whole = left.is_whole } };
+
+    ghost invariant = { λ left. IsLeft (D.may_leave left.disk) (D.seen left.disk) left.count (L.log left.source)
+        left.is_whole };
+}
+
+impl<D: Disk, L: LogSource> LeftLog<D, L> {
+    /// The disk, the log, how many of its commits are on the disk, and whether the journal was written to the end.
+    pub fn into_parts(self) -> (D, L, u64, bool)
+        ensures same { self ≡ record { disk = result.0; source = result.1; count = result.2; whole = result.3 } }
+        ensures left { IsLeft (D.may_leave result.0) (D.seen result.0) result.2 (L.log result.1) result.3 }
+    {
+        let LeftLog {
+            disk,
+            source,
+            count,
+            is_whole,
+        } = self;
+        (disk, source, count, is_whole)
+    }
+}
+
 // Appends the commits that a look at the log has given, and the journal lacks.
 fn append_given<D: Disk + Drop, L: LogSource + Drop>(
     alloc: Global,
@@ -41,7 +79,7 @@ fn append_given<D: Disk + Drop, L: LogSource + Drop>(
     source: L,
     count: u64,
     commits: Vec<Commit>,
-) -> Result<JournaledLog<D, L>, (DiskError, D)>
+) -> Result<JournaledLog<D, L>, (DiskError, LeftLog<D, L>)>
     requires kept { KeepsFirst count (L.log source) (D.seen journal) }
     requires given { commits.items ≡ drop count (L.log source) }
     requires clients { AllByRecursion (λ commit. IsClient commit.client) commits.items }
@@ -50,17 +88,28 @@ fn append_given<D: Disk + Drop, L: LogSource + Drop>(
     ensures whole { IfOk result (λ after. after.count ≡ length (L.log source)) }
     ensures any_moment { IfOk result (λ after. LeavesOnly D.moment D.left_since journal after.disk
         (KeepsBeginning count (L.log source))) }
-    ensures any_moment_err { IfErr result (λ e. LeavesOnly D.moment D.left_since journal e.1
+    ensures same_err { IfErr result (λ e. (e.1.source ≡ source) × (e.1.count ≡ count)) }
+    ensures any_moment_err { IfErr result (λ e. LeavesOnly D.moment D.left_since journal e.1.disk
         (KeepsBeginning count (L.log source))) }
+    ensures failed { IfErr result (λ e. e.0 ≡ DiskError.Failed → D.faults journal < D.faults e.1.disk) }
+    ensures full { IfErr result (λ e. e.0 ≡ DiskError.Full → HasNoRoom (D.seen journal) commits.items) }
 {
-    let count = count + commits.len() as u64;
+    let more = commits.len() as u64;
     match append_commits(alloc, journal, commits) {
         Ok(journal) => Ok(JournaledLog {
             journal,
             source,
-            count,
+            count: count + more,
         }),
-        Err(failed) => Err(failed),
+        Err((error, disk)) => Err((
+            error,
+            LeftLog {
+                disk,
+                source,
+                count,
+                is_whole: false,
+            },
+        )),
     }
 }
 
@@ -85,19 +134,25 @@ impl<D: Disk + Drop, L: LogSource + Drop> JournaledLog<D, L> {
     }
 
     /// Looks at the log, and appends all of its commits that the journal lacks, as one group: then they are on the
-    /// disk. At `Err`, which hands the disk back, open the file again.
+    /// disk. An `Err` hands the disk and the log back: the commits that were on the disk still are.
     pub fn append_new<R: Wait>(
         self,
         rt: &R,
         alloc: Global,
-    ) -> Result<JournaledLog<D, L>, (DiskError, D)>
+    ) -> Result<JournaledLog<D, L>, (DiskError, LeftLog<D, L>)>
         ensures whole { IfOk result (λ after. after.count ≡ length (L.log after.source)) }
         ensures grown { IfOk result (λ after. IsPrefix (L.log self.source) (L.log after.source)) }
         // A crash at any moment of the call leaves a journal of the first commits of the log, no fewer than before.
         ensures any_moment { IfOk result (λ after. (after.disk ≡ self.disk)
             ⊎ LeavesOnly D.moment D.left_since self.disk after.disk (KeepsBeginning self.count (L.log after.source))) }
-        ensures any_moment_err { IfErr result (λ e. (log : List CommitRecord) × IsPrefix (L.log self.source) log
-            × LeavesOnly D.moment D.left_since self.disk e.1 (KeepsBeginning self.count log)) }
+        ensures grown_err { IfErr result (λ e. IsPrefix (L.log self.source) (L.log e.1.source)) }
+        ensures same_err { IfErr result (λ e. e.1.count ≡ self.count) }
+        ensures any_moment_err { IfErr result (λ e. LeavesOnly D.moment D.left_since self.disk e.1.disk
+            (KeepsBeginning self.count (L.log e.1.source))) }
+        // It does not give up by itself.
+        ensures failed { IfErr result (λ e. e.0 ≡ DiskError.Failed → D.faults self.disk < D.faults e.1.disk) }
+        ensures full { IfErr result (λ e. e.0 ≡ DiskError.Full
+            → HasNoRoom (D.seen self.disk) (drop self.count (L.log e.1.source))) }
     {
         let JournaledLog {
             journal,
@@ -111,20 +166,32 @@ impl<D: Disk + Drop, L: LogSource + Drop> JournaledLog<D, L> {
                 count,
             }),
             Ok(commits) => append_given(alloc, journal, source, count, commits),
-            Err(_) => Err((DiskError::OutOfMemory, journal.into_disk())),
+            Err(_) => Err((
+                DiskError::OutOfMemory,
+                LeftLog {
+                    disk: journal.into_disk(),
+                    source,
+                    count,
+                    is_whole: false,
+                },
+            )),
         }
     }
 
-    /// The journal, the log, and how many of its commits the journal keeps.
-    pub fn into_parts(self) -> (Journal<D>, L, u64)
-        ensures same { self ≡ record { disk = result.0; source = result.1; count = result.2 } }
-        ensures kept { KeepsFirst self.count (L.log self.source) (D.seen self.disk) }
+    /// What is left of it when nothing is appended any more.
+    pub fn into_left(self) -> LeftLog<D, L>
+        ensures { result ≡ record { disk = self.disk; source = self.source; count = self.count; whole = true } }
     {
         let JournaledLog {
             journal,
             source,
             count,
         } = self;
-        (journal, source, count)
+        LeftLog {
+            disk: journal.into_disk(),
+            source,
+            count,
+            is_whole: true,
+        }
     }
 }

@@ -11,7 +11,8 @@
 //! [`append_commits`] writes commits as one group: their text, as a trace has it, behind the line of its checksum.
 //! [`open`] reads a file, looks at all of it and writes nothing: it gives the commits that the file keeps, or tells why
 //! it is no journal over these tables. [`replay`] makes them again over the tables, or names the first that is refused.
-//! Then [`begin`] cuts off what a crash has torn, and writes the head of a new journal.
+//! Then what a crash has torn is kept elsewhere; with evidence of that, [`begin`] cuts it off, and writes the head of a
+//! new journal.
 //!
 //! The contract: a file keeps these commits (`specs/Kept`: `KeepsCommits`) where its groups are the head of these
 //! tables and texts that spell the commits, in order. It keeps one list only (`laws::one_list_of_commits`), so what is
@@ -24,15 +25,17 @@
 //! [`SharedJournal::reach`] for its number. If the journal is there, it takes it away, appends all commits of the log
 //! that the journal lacks as one group, puts it back and wakes the others; else it waits. What is committed meanwhile
 //! is the next group. An [`OnDisk`] is made only of an open journal that keeps so many commits (`KeepsAtLeast`): who
-//! tells of a commit holds one of at least its number.
+//! tells of a commit holds one of at least its number. At the end, and where an append has failed, disk and log come
+//! back as a [`LeftLog`]: whatever crashes then, so many commits are on the disk (`IsLeft`).
 //!
 //! ```text
 //! let OpenedJournal { found, kept, torn } = open(alloc, &sizes, disk)?;
 //! let store = replay(alloc, base, hashing, &kept.commits)?;
-//! keep_torn(rt, alloc, path, &torn)?;
-//! let journal = begin(alloc, &sizes, found, kept.is_new)?;
+//! let torn = keeper.keep_torn(torn)?;
+//! let journal = begin::<D, Keeper>(alloc, &sizes, found, kept.is_new, &torn)?;
 //! let shared = SharedJournal::new(JournaledLog::new(journal, source, count));
 //! let on_disk = shared.reach(rt, alloc, receipt.number)?;       // in each thread; then it is told
+//! let left = shared.into_left();                                // when no thread shares it any more
 //! ```
 #![tactic(auto)]
 
@@ -54,7 +57,7 @@ pub use appending::append_commits;
 pub use checksum::{CHECKSUM_LINE, seal};
 pub use fault::JournalFault;
 pub use head::{TableSize, head_of};
-pub use journaled_log::JournaledLog;
+pub use journaled_log::{JournaledLog, LeftLog};
 pub use on_disk::OnDisk;
 pub use opening::{JournalOpenFault, KeptCommits, OpenedJournal, begin, open};
 pub use replaying::{ReplayFault, replay};

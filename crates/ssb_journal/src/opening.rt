@@ -1,7 +1,9 @@
 //! A journal's file, read and looked at before anything is written, and then begun.
-ghost use Rattle.std.specs.Prelude.{◌≡◌, ◌⊎◌, ◌<◌, [], true, false, IfOk, IfErr};
+ghost use Rattle.std.specs.Prelude.{◌≡◌, ◌⊎◌, ◌<◌, ◌^◌, [], length, true, false, IfOk, IfErr};
 ghost use Rattle.journal.specs.Disk.{Only, LeavesOnly};
-ghost use Rattle.journal.specs.Groups.{recovered, behind, lists};
+ghost use Rattle.journal.specs.Groups.{recovered, behind, lists, AreTorn};
+ghost use Rattle.ssb_journal.specs.Heads.{head_text};
+ghost use Rattle.ssb_journal.specs.Seals.{sealed};
 ghost use Rattle.ssb_journal.specs.Texts.{IsBeginning, IsJournalOf, IsNewJournal};
 ghost use Rattle.ssb_journal.specs.Kept.{IsAsItWasOrNew, KeepsCommits};
 ghost use Rattle.ssb_journal.specs.Opening.{IsKept, IsOpenFault, TellsOpenFault};
@@ -10,7 +12,7 @@ use crate::commits::commits_of;
 use crate::fault::JournalFault;
 use crate::head::TableSize;
 use crate::texts::{head_group, texts_of};
-use journal::{Contents, Disk, DiskError, Found, Journal, MAX_GROUP};
+use journal::{Contents, Disk, DiskError, Found, Journal, KeepsTorn, MAX_GROUP};
 use row_store::Commit;
 use std::alloc::Global;
 use thiserror::Error;
@@ -61,7 +63,7 @@ fn kept_in(
 pub struct OpenedJournal<D: Disk> {
     pub found: Found<D>,
     pub kept: KeptCommits,
-    /// What a crash has torn: it is cut off when the journal is begun.
+    /// What a crash has torn: it is cut off when the journal is begun, and has to be kept before.
     pub torn: Vec<u8>,
 }
 
@@ -78,7 +80,11 @@ pub fn open<D: Disk>(
     ensures beginning { IfOk result (λ opened. opened.kept.is_new ≡ true
         → IsBeginning sizes.now (behind (D.seen disk))) }
     ensures same { IfOk result (λ opened. D.seen opened.found ≡ D.seen disk) }
+    ensures torn { IfOk result (λ opened. AreTorn (D.seen disk) opened.torn.items) }
     ensures fault { IfErr result (λ e. TellsOpenFault sizes.now (D.seen disk) e.0) }
+    ensures failed { IfErr result (λ e. e.0 ≡ JournalOpenFault.Disk DiskError.Failed
+        → D.faults disk < D.faults e.1) }
+    ensures full { IfErr result (λ e. e.0 ≡ JournalOpenFault.Disk DiskError.Full → ⊥) }
     // A crash at any moment leaves the file as it was.
     ensures any_moment { IfOk result (λ opened. LeavesOnly D.moment D.left_since disk opened.found
         (λ c. c ≡ D.seen disk)) }
@@ -101,15 +107,17 @@ pub fn open<D: Disk>(
     }
 }
 
-/// Cuts off what a crash has torn, and writes the head of a new journal: then commits can be appended. An `Err` hands
-/// the disk back.
-pub fn begin<D: Disk>(
+/// Cuts off what a crash has torn, and writes the head of a new journal: then commits can be appended. It takes evidence
+/// that what it cuts off is kept. An `Err` hands the disk back.
+pub fn begin<D: Disk, T: KeepsTorn>(
     alloc: Global,
     sizes: &[TableSize],
     found: Found<D>,
     is_new: bool,
+    kept: &T::Kept,
 ) -> Result<Journal<D>, (DiskError, D)>
     requires new { is_new ≡ true → recovered (D.seen found) ≡ [] }
+    requires kept { AreTorn (D.seen found) (T.bytes kept.now) }
     ensures same { is_new ≡ false → IfOk result (λ journal. recovered (D.seen journal) ≡ recovered (D.seen found)) }
     ensures made { is_new ≡ true → IfOk result (λ journal. IsJournalOf sizes.now [] (D.seen journal)) }
     // A crash at any moment leaves the groups as they were, or a new journal.
@@ -122,8 +130,12 @@ pub fn begin<D: Disk>(
         → IfOk result (λ journal. LeavesOnly D.moment D.left_since found journal (IsNewJournal sizes.now)) }
     ensures new_journal_err { is_new ≡ true → IsBeginning sizes.now (behind (D.seen found))
         → IfErr result (λ e. LeavesOnly D.moment D.left_since found e.1 (IsNewJournal sizes.now)) }
+    // It does not give up by itself.
+    ensures failed { IfErr result (λ e. e.0 ≡ DiskError.Failed → D.faults found < D.faults e.1) }
+    ensures full { IfErr result (λ e. e.0 ≡ DiskError.Full
+        → (is_new ≡ true) × (2 ^ 49 < length (sealed (head_text sizes.now)))) }
 {
-    let journal = found.mend()?;
+    let journal = found.mend::<T>(kept)?;
     if !is_new {
         return Ok(journal);
     }

@@ -2,29 +2,32 @@
 ghost use Rattle.std.specs.Prelude.{◌≤◌, IfOk};
 ghost use Rattle.ssb_journal.specs.Turns.{HasEnough};
 
-use crate::journaled_log::JournaledLog;
+use crate::journaled_log::{JournaledLog, LeftLog};
 use crate::on_disk::OnDisk;
 use crate::source::LogSource;
-use journal::Disk;
+use journal::{Disk, DiskError};
 use std::alloc::Global;
 use std::mem;
 use std::sync::{Condvar, Mutex, Wait};
 use thiserror::Error;
 
-/// The journal has failed, as its disk or memory has: nobody may be told anything more.
+/// The journal has failed: nobody may be told anything more.
 #[derive(Clone, Copy, Debug, PartialEq, Eq, Error)]
 #[error("journal write failed")]
-pub struct JournalFailed;
+pub struct JournalFailed {
+    /// Why the append failed: its disk, its length, or memory. None where the log has not so many commits.
+    pub cause: Option<DiskError>,
+}
 
 // Where the journal is.
 #[derive(Drop)]
-enum Place<J> {
+enum Place<J, F> {
     // Here, for the next who needs more commits on the disk.
     Here(J),
     // With one who appends. So many commits were on the disk before.
     Away(OnDisk),
-    // It has failed.
-    Failed,
+    // It has failed, and this is left of it.
+    Failed(JournalFailed, Option<F>),
 }
 
 // What is left to do for one who needs commits on the disk.
@@ -37,15 +40,15 @@ enum Turn<J> {
     // To wait for the one who appends.
     Wait,
     // To give up.
-    Failed,
+    Failed(JournalFailed),
 }
 
-impl<D: Disk + Drop, L: LogSource + Drop> Place<JournaledLog<D, L>> {
+impl<D: Disk + Drop, L: LogSource + Drop> Place<JournaledLog<D, L>, LeftLog<D, L>> {
     // The turn of one who needs so many commits. Who is to append takes the journal away.
     fn turn(&mut self, commits: u64) -> Turn<JournaledLog<D, L>>
         ensures { HasEnough commits result }
     {
-        match mem::replace(self, Place::Failed) {
+        match mem::replace(self, Place::Failed(JournalFailed { cause: None }, None)) {
             Place::Here(log) => {
                 let on_disk = log.on_disk();
                 if on_disk.commits() >= commits {
@@ -63,7 +66,10 @@ impl<D: Disk + Drop, L: LogSource + Drop> Place<JournaledLog<D, L>> {
                     Turn::Wait
                 }
             },
-            Place::Failed => Turn::Failed,
+            Place::Failed(failed, left) => {
+                *self = Place::Failed(failed, left);
+                Turn::Failed(failed)
+            },
         }
     }
 }
@@ -72,7 +78,7 @@ impl<D: Disk + Drop, L: LogSource + Drop> Place<JournaledLog<D, L>> {
 /// meanwhile is the next group.
 #[derive(Drop)]
 pub struct SharedJournal<D: Disk + Drop, L: LogSource + Drop> {
-    place: Mutex<Place<JournaledLog<D, L>>>,
+    place: Mutex<Place<JournaledLog<D, L>, LeftLog<D, L>>>,
     changed: Condvar,
 }
 
@@ -86,7 +92,7 @@ impl<D: Disk + Drop, L: LogSource + Drop> SharedJournal<D, L> {
     }
 
     // Puts the journal back, and wakes all who wait.
-    fn put_back<R: Wait>(&self, rt: &R, place: Place<JournaledLog<D, L>>) {
+    fn put_back<R: Wait>(&self, rt: &R, place: Place<JournaledLog<D, L>, LeftLog<D, L>>) {
         *self.place.lock(rt) = place;
         self.changed.notify_all();
     }
@@ -101,14 +107,18 @@ impl<D: Disk + Drop, L: LogSource + Drop> SharedJournal<D, L> {
     ) -> Result<OnDisk, JournalFailed>
         ensures { IfOk result (λ on_disk. commits ≤ on_disk.commits) }
     {
-        let Ok(log) = log.append_new(rt, alloc) else {
-            self.put_back(rt, Place::Failed);
-            return Err(JournalFailed);
+        let log = match log.append_new(rt, alloc) {
+            Ok(log) => log,
+            Err((error, left)) => {
+                let failed = JournalFailed { cause: Some(error) };
+                self.put_back(rt, Place::Failed(failed, Some(left)));
+                return Err(failed);
+            },
         };
         let on_disk = log.on_disk();
         self.put_back(rt, Place::Here(log));
         if on_disk.commits() < commits {
-            return Err(JournalFailed);
+            return Err(JournalFailed { cause: None });
         }
         Ok(on_disk)
     }
@@ -132,18 +142,19 @@ impl<D: Disk + Drop, L: LogSource + Drop> SharedJournal<D, L> {
                     return self.append_for_all(rt, alloc, taken, commits);
                 },
                 Turn::Wait => place = self.changed.wait(rt, place),
-                Turn::Failed => return Err(JournalFailed),
+                Turn::Failed(failed) => return Err(failed),
             }
         }
         unreachable!()
     }
 
-    /// The journal and its log, when no thread shares it any more. `Err` where it has failed.
-    pub fn into_log(self) -> Result<JournaledLog<D, L>, JournalFailed> {
+    /// What is left of the journal and its log, when no thread shares it any more; none where one has it out.
+    pub fn into_left(self) -> Option<LeftLog<D, L>> {
         let SharedJournal { place, changed: _ } = self;
         match place.into_inner() {
-            Place::Here(log) => Ok(log),
-            Place::Away(_) | Place::Failed => Err(JournalFailed),
+            Place::Here(log) => Some(log.into_left()),
+            Place::Away(_) => None,
+            Place::Failed(_, left) => left,
         }
     }
 }

@@ -3,7 +3,7 @@
 use crate::TearingDisk;
 use crate::tests::own_log::A_LOOK;
 use crate::tests::runs::{
-    A_GROUP, CALLS, COMMITS, NEW, gone_on, kept_in, mended, new_log, refreshes,
+    A_GROUP, CALLS, COMMITS, NEW, disk_left, gone_on, kept_in, mended, new_log, refreshes,
 };
 use ssb_journal::SharedJournal;
 use std::alloc::Global;
@@ -23,8 +23,7 @@ fn disk_of_run(rt: &impl Wait, alloc: Global) -> Result<TearingDisk, Fail> {
     for number in 1..=COMMITS {
         shared.reach(rt, alloc, number as u64)?;
     }
-    let (journal, _, _) = shared.into_log()?.into_parts();
-    Ok(journal.into_disk())
+    disk_left(shared)
 }
 
 // A group counts once the third of its calls has begun, which opens its gate, or is as if it had not; it is told behind

@@ -2,45 +2,30 @@
 
 use crate::TearingDisk;
 use crate::tests::own_log::A_LOOK;
-use crate::tests::runs::{A_GROUP, CALLS, COMMITS, GROUPS, NEW, kept_in, new_log, refreshes};
+use crate::tests::runs::{A_GROUP, CALLS, COMMITS, NEW, disk_left, kept_in, new_log, refreshes};
+use journal::DiskError;
 use ssb_journal::SharedJournal;
 use ssb_schema::Refresh;
 use std::alloc::Global;
 use std::sync::{Arc, Wait};
 use std::test::Fail;
 
-// How many commits are told, where each is asked for, whatever came of those before.
-fn told(
+// How many commits are told, where each is asked for, whatever came of those before; and the disk that is handed back.
+fn run_refused(
     rt: &impl Wait,
     alloc: Global,
     refreshes: &[Arc<Refresh>],
     refused: usize,
-) -> Result<usize, Fail> {
+) -> Result<(usize, TearingDisk), Fail> {
     let shared = SharedJournal::new(new_log(alloc, refreshes, Some(refused))?);
     let mut told = 0;
     for number in 1..=COMMITS {
-        if shared.reach(rt, alloc, number as u64).is_ok() {
-            told = number;
+        match shared.reach(rt, alloc, number as u64) {
+            Ok(_) => told = number,
+            Err(failed) => assert_eq!(rt; failed.cause, Some(DiskError::Failed), "{number}"),
         }
     }
-    Ok(told)
-}
-
-// The disk that is handed back where it refuses a call.
-fn disk_after(
-    rt: &impl Wait,
-    alloc: Global,
-    refreshes: &[Arc<Refresh>],
-    refused: usize,
-) -> Result<TearingDisk, Fail> {
-    let mut log = new_log(alloc, refreshes, Some(refused))?;
-    for _ in 0..GROUPS {
-        log = match log.append_new(rt, alloc) {
-            Ok(log) => log,
-            Err((_, disk)) => return Ok(disk),
-        };
-    }
-    Err(Fail::from("no call was refused"))
+    Ok((told, disk_left(shared)?))
 }
 
 #[test]
@@ -49,7 +34,7 @@ fn after_a_refused_call_nothing_is_told(rt: HostRuntime) -> Result<(), Fail> {
     let refreshes = refreshes(alloc)?;
     for refused in NEW..CALLS {
         let before = A_LOOK * ((refused - NEW) / A_GROUP);
-        let told = told(&rt, alloc, &refreshes, refused)?;
+        let (told, _) = run_refused(&rt, alloc, &refreshes, refused)?;
         assert_eq!(rt; told, before, "{refused}");
     }
     Ok(())
@@ -64,7 +49,7 @@ fn what_was_told_before_a_refused_call_comes_back(rt: HostRuntime) -> Result<(),
         let calls = refused - NEW;
         let told = A_LOOK * (calls / A_GROUP);
         let most = A_LOOK * ((calls + 2) / A_GROUP);
-        let disk = disk_after(&rt, alloc, &refreshes, refused)?;
+        let (_, disk) = run_refused(&rt, alloc, &refreshes, refused)?;
         let kept = kept_in(alloc, &disk.crashed(disk.calls(), refused as u64)?)?;
         assert!(rt; kept == told || kept == most, "{refused} {kept}");
     }

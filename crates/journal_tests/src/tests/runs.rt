@@ -5,18 +5,21 @@ ghost use Rattle.journal_tests.specs.TearingDisks.{disk_bytes};
 
 use crate::TearingDisk;
 use crate::tests::own_log::{A_LOOK, OwnLog, own_commits};
-use journal::Journal;
+use journal::{Journal, KeepsTorn};
 use ssb_audit::Trace;
-use ssb_journal::{JournaledLog, OpenedJournal, TableSize, append_commits, begin, open};
+use ssb_journal::{
+    JournaledLog, OpenedJournal, SharedJournal, TableSize, append_commits, begin, open,
+};
 use ssb_schema::{Items, Refresh, Table};
 use ssb_trace::write_trace;
 use std::alloc::{AllocError, Global};
+use std::io;
 use std::sync::Arc;
 use std::test::Fail;
 use test_fixtures::adding;
 
-/// How many groups a run appends.
-pub(crate) const GROUPS: usize = 25;
+// How many groups a run appends.
+const GROUPS: usize = 25;
 
 /// How many commits that are.
 pub(crate) const COMMITS: usize = A_LOOK * GROUPS;
@@ -45,6 +48,19 @@ pub(crate) fn refreshes(alloc: Global) -> Result<Vec<Arc<Refresh>>, Fail> {
     Ok(refreshes)
 }
 
+// What a crash has torn is kept in memory.
+struct InMemory;
+
+impl KeepsTorn for InMemory {
+    type Kept = Vec<u8>;
+
+    ghost bytes = { λ kept. kept.items };
+
+    fn keep_torn(&self, torn: Vec<u8>) -> io::Result<Vec<u8>> {
+        Ok(torn)
+    }
+}
+
 // A new journal of no commits.
 fn new_journal(
     alloc: Global,
@@ -53,20 +69,18 @@ fn new_journal(
 ) -> Result<Journal<TearingDisk>, Fail>
     ensures { IfOk result (λ journal. KeepsFirst 0 [] (disk_bytes journal)) }
 {
-    let Ok(
-        OpenedJournal {
-            found,
-            kept,
-            torn: _,
-        },
-    ) = open(alloc, sizes, TearingDisk::new(alloc, b"", refused)?)
-    else {
+    let Ok(OpenedJournal { found, kept, torn }) = open(
+        alloc,
+        sizes,
+        TearingDisk::new(alloc, b"", refused)?,
+    ) else {
         return Err(Fail::from("not opened"));
     };
     if !kept.is_new {
         return Err(Fail::from("not new"));
     }
-    match begin(alloc, sizes, found, true) {
+    let torn = InMemory.keep_torn(torn)?;
+    match begin::<TearingDisk, InMemory>(alloc, sizes, found, true, &torn) {
         Ok(journal) => Ok(journal),
         Err((error, _)) => Err(Fail::from(error)),
     }
@@ -121,20 +135,29 @@ pub(crate) fn kept_in(alloc: Global, bytes: &[u8]) -> Result<usize, Fail> {
 
 /// The journal of a file that is opened again.
 pub(crate) fn mended(alloc: Global, bytes: &[u8]) -> Result<Journal<TearingDisk>, Fail> {
-    let Ok(
-        OpenedJournal {
-            found,
-            kept,
-            torn: _,
-        },
-    ) = open(alloc, &SIZES, TearingDisk::new(alloc, bytes, None)?)
-    else {
+    let Ok(OpenedJournal { found, kept, torn }) = open(
+        alloc,
+        &SIZES,
+        TearingDisk::new(alloc, bytes, None)?,
+    ) else {
         return Err(Fail::from("not opened again"));
     };
-    match begin(alloc, &SIZES, found, kept.is_new) {
+    let torn = InMemory.keep_torn(torn)?;
+    match begin::<TearingDisk, InMemory>(alloc, &SIZES, found, kept.is_new, &torn) {
         Ok(journal) => Ok(journal),
         Err((error, _)) => Err(Fail::from(error)),
     }
+}
+
+/// The disk of a journal that no thread shares any more.
+pub(crate) fn disk_left(
+    shared: SharedJournal<TearingDisk, OwnLog<'_>>,
+) -> Result<TearingDisk, Fail> {
+    let Some(left) = shared.into_left() else {
+        return Err(Fail::from("the journal is away"));
+    };
+    let (disk, _, _, _) = left.into_parts();
+    Ok(disk)
 }
 
 /// The disk of a file that is opened again, to whose commits these are appended.

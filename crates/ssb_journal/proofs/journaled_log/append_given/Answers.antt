@@ -1,4 +1,4 @@
-use Rattle.ssb_journal.proofs.CountLaws.{leaves_beginning}
+use Rattle.ssb_journal.proofs.CountLaws.{leaves_beginning, left_failed}
 use Rattle.ssb_journal.proofs.journaled_log.append_given.Goals as goal
 
 pub returns-in-Ok-clause-any_moment : goal.returns-in-Ok-clause-any_moment
@@ -7,4 +7,9 @@ returns-in-Ok-clause-any_moment g c =
 
 pub returns-in-Err-clause-any_moment_err : goal.returns-in-Err-clause-any_moment_err
 returns-in-Err-clause-any_moment_err g c =
-    leaves_beginning g.D.Disk.moment g.D.Disk.left_since g.D.Disk.seen c.args.count (g.L.LogSource.log c.args.source) c.args.commits.items c.args.journal c.in-Err.failed.1 c.requires.given c.requires.kept c.in-Err.ensures.any_moment_err
+    leaves_beginning g.D.Disk.moment g.D.Disk.left_since g.D.Disk.seen c.args.count (g.L.LogSource.log c.args.source) c.args.commits.items c.args.journal c.in-Err.disk c.requires.given c.requires.kept c.in-Err.ensures.any_moment_err
+
+pub invariant_of-result-in-Err : goal.invariant_of-result-in-Err
+invariant_of-result-in-Err g c =
+    left_failed g.D.Disk.moment g.D.Disk.left_since g.D.Disk.seen g.D.Disk.may_leave g.met.D.Disk.counts_now c.args.count (g.L.LogSource.log c.args.source) c.args.journal c.in-Err.disk
+    (leaves_beginning g.D.Disk.moment g.D.Disk.left_since g.D.Disk.seen c.args.count (g.L.LogSource.log c.args.source) c.args.commits.items c.args.journal c.in-Err.disk c.requires.given c.requires.kept c.in-Err.ensures.any_moment_err)
