@@ -30,4 +30,4 @@ mod source;
 
 pub use acknowledging::Journaled;
 pub use fault::JournaledFault;
-pub use serving::{JournaledRun, KeepsTorn, Recovered, serve_journaled};
+pub use serving::{JournaledRun, Recovered, serve_journaled};

@@ -2,7 +2,7 @@
 
 ghost use Rattle.std.specs.Prelude.{◌≡◌, ◌≤◌, ◌++◌, [], ◌∷◌, All, IfOk, IfErr, IfSome, OnOk, Some, map, vec_len};
 ghost use Rattle.history.specs.Tokens.{new_clients, new_dispatchers};
-ghost use Rattle.journal.specs.Groups.{recovered as recovered_groups};
+ghost use Rattle.journal.specs.Groups.{recovered as recovered_groups, AreTorn};
 ghost use Rattle.ssb_journal.specs.Counts.{KeepsFirst};
 ghost use Rattle.ssb_journal.specs.Opening.{IsKept};
 ghost use Rattle.ssb_server.specs.Tickets.{IsOf, IsQuiet};
@@ -16,7 +16,7 @@ use crate::acknowledging::Journaled;
 use crate::fault::JournaledFault;
 use crate::remaking::remake;
 use crate::source::{Opening, ServerLog, reader_of};
-use journal::{Disk, Journal};
+use journal::{Disk, Journal, KeepsTorn};
 use row_store::Log;
 use ssb_base::Base;
 use ssb_journal::laws::{begun_journal_keeps, first_of_log};
@@ -27,7 +27,6 @@ use ssb_server::{
 use ssb_serving::{Batches, RunFault};
 use std::alloc::{AllocError, Global};
 use std::hash::RandomState;
-use std::io;
 use std::marker::Brand;
 use std::sync::atomic::AtomicBool;
 use std::sync::{Arc, Wait};
@@ -36,11 +35,6 @@ use stream_sessions::{Ended, Speaks, Spoken, serve_opened};
 
 /// How many clients a server with a journal has: its commits may be of any of them.
 const CLIENTS: u32 = 16;
-
-/// Keeps what a crash has torn, before it is cut off.
-pub trait KeepsTorn {
-    fn keep_torn(&self, torn: &[u8]) -> io::Result<()>;
-}
 
 /// A journal that was read and looked at, over tables of these sizes, and what keeps what a crash has torn of it.
 #[derive(Drop)]
@@ -86,6 +80,7 @@ where
     requires clients { AreSeated server.now [] clients.old }
     requires reader { (reader.table ≡ server.now) × (reader.seen ≡ []) }
     requires kept { IsKept recovered.sizes.now (recovered_groups (D.seen recovered.opened.found)) recovered.opened.kept }
+    requires torn { AreTorn (D.seen recovered.opened.found) recovered.opened.torn.items }
     ensures clients { OnOk result (AreSeated server.now recovered.entry.opened.kept.commits.items clients.new) }
     ensures reader { IfOk result (λ begun. IsStill reader begun.reader) }
     ensures seen { IfOk result (λ begun. begun.reader.seen ≡ recovered.entry.opened.kept.commits.items) }
@@ -101,13 +96,13 @@ where
     let OpenedJournal { found, kept, torn } = opened;
     let KeptCommits { commits, is_new } = kept;
     remake(rt, server, clients, &mut reader, &commits)?;
-    if keeper.keep_torn(&torn).is_err() {
+    let Ok(torn) = keeper.keep_torn(torn) else {
         return Err(JournaledFault::Write);
-    }
+    };
     begun_journal_keeps();
     first_of_log();
     let count = commits.len() as u64;
-    match begin(alloc, sizes, found, is_new) {
+    match begin::<D, T>(alloc, sizes, found, is_new, &torn) {
         Ok(journal) => Ok(Begun {
             journal,
             reader,
@@ -243,6 +238,7 @@ where
     S::Left: Drop + Send,
     requires few { vec_len speakers ≤ 16 }
     requires kept { IsKept recovered.sizes.now (recovered_groups (D.seen recovered.opened.found)) recovered.opened.kept }
+    requires torn { AreTorn (D.seen recovered.opened.found) recovered.opened.torn.items }
     requires clients { opened.clients.items ≡ new_clients opened.server }
     requires sixteen { opened.server.clients ≡ 16 }
     requires dispatchers { opened.dispatchers.items ++ opened.reader ∷ [] ≡ new_dispatchers opened.server }
@@ -296,6 +292,7 @@ where
     S::Left: Drop + Send,
     requires few { vec_len speakers ≤ 16 }
     requires kept { IsKept recovered.sizes.now (recovered_groups (D.seen recovered.opened.found)) recovered.opened.kept }
+    requires torn { AreTorn (D.seen recovered.opened.found) recovered.opened.torn.items }
     ensures served { IfOk result (λ run. IfSome run.log (λ log. IsJournaledRun S.spoken base.value
         recovered.entry.opened.kept.commits.items speakers.items run.left.items log)) }
     ensures behind { IfOk result (λ run. AreServedBehind S.spoken recovered.entry.opened.kept.commits.items

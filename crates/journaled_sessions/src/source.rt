@@ -71,11 +71,6 @@ pub(crate) fn reader_of<D: Disk + Drop, W: Wait + Drop, K: Opening>(
 ) -> Option<LogReader<W>>
     ensures { IfSome result (λ reader. ForSome K.reader (λ first. IsLater first reader)) }
 {
-    match journal.into_log() {
-        Ok(log) => {
-            let (_journal, source, _count) = log.into_parts();
-            Some(source.reader)
-        },
-        Err(_) => None,
-    }
+    let (_disk, source, _count, is_whole) = journal.into_left()?.into_parts();
+    if is_whole { Some(source.reader) } else { None }
 }

@@ -14,10 +14,10 @@ use crate::ends::EndPaths;
 use crate::journal_fault::{JournalRefusal, JournalServingFault};
 use crate::serving::{MOST_CLIENTS, ServeSettings, StreamEnd, speakers_of, tell_ended};
 use crate::speakers::{StreamClient, StreamLeft};
-use journal::Disk;
-use journal_file::{FileDisk, JournalFile, keep_torn};
+use journal::{Disk, KeepsTorn};
+use journal_file::{FileDisk, JournalFile, TornFile, keep_torn};
 use journal_opening::{OpeningFault, table_sizes};
-use journaled_sessions::{JournaledRun, KeepsTorn, Recovered, serve_journaled};
+use journaled_sessions::{JournaledRun, Recovered, serve_journaled};
 use ssb_base::Base;
 use ssb_files::{Fault, TableBytes, base_to_serve};
 use ssb_journal::open;
@@ -52,12 +52,17 @@ struct TornKeeper<'a, F: Files, E: Print> {
 }
 
 impl<'a, F: Files, E: Print> KeepsTorn for TornKeeper<'a, F, E> {
-    fn keep_torn(&self, torn: &[u8]) -> io::Result<()> {
-        keep_torn(self.place.files, self.alloc, self.place.path, torn)?;
+    type Kept = TornFile;
+
+    ghost bytes = { λ kept. kept };
+
+    fn keep_torn(&self, torn: Vec<u8>) -> io::Result<TornFile> {
+        let bytes = torn.len();
+        let kept = keep_torn(self.place.files, self.alloc, self.place.path, torn)?;
         if self.place.tells {
             let mut screen = io::writer(self.screen);
             let commits = self.commits;
-            let _ = match torn.len() {
+            let _ = match bytes {
                 0 => writeln!(screen, "ssb_live: journal: {commits} commits"),
                 cut => writeln!(
                     screen,
@@ -65,7 +70,7 @@ impl<'a, F: Files, E: Print> KeepsTorn for TornKeeper<'a, F, E> {
                 ),
             };
         }
-        Ok(())
+        Ok(kept)
     }
 }
 

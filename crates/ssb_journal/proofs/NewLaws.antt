@@ -14,6 +14,7 @@ use Rattle.journal.proofs.MomentLaws.{leaves, then_leaves, both}
 use Rattle.journal.specs.Groups.{recovered, blocks, behind, IsBeforeOrAfter, IsMending, IsAppending}
 use Rattle.ssb_journal.specs.Seals.{sealed}
 use Rattle.ssb_journal.specs.Heads.{title, size_line, head_text, IsHeadFault}
+use Rattle.ssb_journal.specs.Kept.{IsAsItWasOrNew}
 use Rattle.ssb_journal.specs.Texts.{IsBeginning, IsNewJournal, IsDamaged, behind_first_gate}
 use Rattle.ssb_journal.specs.Opening.{IsOpenFault}
 use Rattle.ssb_journal.specs.declared.head.TableSize.{TableSize}
@@ -69,6 +70,13 @@ module _ (sizes : List TableSize) where
       let alone : file ≡ gate ∷ rest = is ∙ ap (λ (groups : List (List ℕ)). blocks groups ++ gate ∷ rest) none in
       inl (now, subst (IsBeginning sizes) (sym (all_behind file now ∙ alone)) (torn_begins gate rest how))
   appending_begins groups file none (inr one) left = inr (one ∙ ap (λ (groups : List (List ℕ)). groups ++ sealed (head_text sizes) ∷ []) none)
+
+  -- a file while the head is appended behind no groups
+  pub as_it_was_or_new : (groups now : List (List ℕ)) (group : List ℕ) → now ≡ groups → groups ≡ [] → group ≡ sealed (head_text sizes)
+      → (file : List ℕ) → IsBeforeOrAfter now group file → IsAsItWasOrNew sizes groups file
+  as_it_was_or_new groups now group same none is file (inl before) = inl (before ∙ same)
+  as_it_was_or_new groups now group same none is file (inr after) =
+      inr (none, after ∙ ap (λ (gs : List (List ℕ)). gs ++ group ∷ []) (same ∙ none) ∙ ap (λ (g : List ℕ). g ∷ []) is)
 
   -- the head of these tables is no other
   head_is_told : (fault : JournalFault) → IsHeadFault sizes (head_text sizes) fault → ⊥

@@ -1,9 +1,12 @@
-use Rattle.std.proofs.Common.{◌≡◌, [], sym, ◌∙◌, subst}
+use Rattle.std.proofs.Common.{◌≡◌, [], sym, ◌∙◌, inl, subst}
 use Rattle.journal.specs.Disk.{LeavesOnly}
 use Rattle.journal.specs.Groups.{recovered, IsBeforeOrAfter, IsAppending}
 use Rattle.journal.specs.declared.disk.DiskError.{DiskError}
+use Rattle.journal.proofs.MomentLaws.{then_leaves}
+use Rattle.ssb_journal.specs.Kept.{IsAsItWasOrNew}
 use Rattle.ssb_journal.specs.Texts.{IsNewJournal}
-use Rattle.ssb_journal.proofs.NewLaws.{mended, appended, if_both_ok, if_both_err, err_is}
+use Rattle.ssb_journal.proofs.KeptLaws.{if_ok, if_err}
+use Rattle.ssb_journal.proofs.NewLaws.{mended, appended, as_it_was_or_new, if_both_ok, if_both_err, err_is}
 use Rattle.ssb_journal.proofs.opening.begin.Goals as goal
 
 -- where the mend fails
@@ -51,3 +54,38 @@ pub returns-in-Err-clause-new_journal_err : goal.returns-in-Err-clause-new_journ
 returns-in-Err-clause-new_journal_err g c is_new begins =
     subst (λ (disk : g.row.D.Denot). LeavesOnly g.D.Disk.moment g.D.Disk.left_since c.args.found disk (IsNewJournal c.args.sizes.now)) (sym c.into_disk-in-Err.ensures.same)
     (mended g.D.Disk.moment g.D.Disk.left_since c.args.sizes.now c.args.found c.in_ok-journal.journal (g.D.Disk.seen c.args.found) (c.requires.new is_new) begins c.in_ok-journal.ensures.any_moment c.in_ok-journal.ensures.torn)
+
+-- the head is appended to what was mended
+pub returns-in-Ok-clause-any_moment : goal.returns-in-Ok-clause-any_moment
+returns-in-Ok-clause-any_moment g c =
+    let moment = g.D.Disk.moment in
+    let left_since = g.D.Disk.left_since in
+    let sizes = c.args.sizes.now in
+    let mid = c.in_ok-journal.journal in
+    let groups = recovered (g.D.Disk.seen c.args.found) in
+    let now = recovered (g.D.Disk.seen mid) in
+    let group = c.deref.result.now in
+    if_ok c.append.result (λ (after : g.row.D.Denot). LeavesOnly moment left_since mid after (IsBeforeOrAfter now group))
+    (λ (after : g.row.D.Denot). LeavesOnly moment left_since c.args.found after (IsAsItWasOrNew sizes groups))
+    c.append.ensures.any_moment
+    (λ after run. then_leaves moment left_since c.args.found mid after (λ f. recovered f ≡ groups) (IsBeforeOrAfter now group)
+    (IsAsItWasOrNew sizes groups) c.in_ok-journal.ensures.any_moment run (λ f same. inl same)
+    (as_it_was_or_new sizes groups now group c.in_ok-journal.ensures.same (c.requires.new (search rules))
+    (c.deref.ensures.value ∙ c.in-Ok.ensures)))
+
+pub returns-in-Ok-clause-any_moment_err : goal.returns-in-Ok-clause-any_moment_err
+returns-in-Ok-clause-any_moment_err g c =
+    let moment = g.D.Disk.moment in
+    let left_since = g.D.Disk.left_since in
+    let sizes = c.args.sizes.now in
+    let mid = c.in_ok-journal.journal in
+    let groups = recovered (g.D.Disk.seen c.args.found) in
+    let now = recovered (g.D.Disk.seen mid) in
+    let group = c.deref.result.now in
+    if_err c.append.result (λ (e : DiskError × g.row.D.Denot). LeavesOnly moment left_since mid e.1 (IsBeforeOrAfter now group))
+    (λ (e : DiskError × g.row.D.Denot). LeavesOnly moment left_since c.args.found e.1 (IsAsItWasOrNew sizes groups))
+    c.append.ensures.any_moment_err
+    (λ e run. then_leaves moment left_since c.args.found mid e.1 (λ f. recovered f ≡ groups) (IsBeforeOrAfter now group)
+    (IsAsItWasOrNew sizes groups) c.in_ok-journal.ensures.any_moment run (λ f same. inl same)
+    (as_it_was_or_new sizes groups now group c.in_ok-journal.ensures.same (c.requires.new (search rules))
+    (c.deref.ensures.value ∙ c.in-Ok.ensures)))
