@@ -4,7 +4,7 @@ use crate::TearingDisk;
 use crate::tests::own_log::A_LOOK;
 use crate::tests::runs::{A_GROUP, CALLS, COMMITS, NEW, disk_left, kept_in, new_log, refreshes};
 use journal::DiskError;
-use ssb_journal::SharedJournal;
+use ssb_journal::{JournalFailed, SharedJournal};
 use ssb_schema::Refresh;
 use std::alloc::Global;
 use std::sync::{Arc, Wait};
@@ -22,7 +22,12 @@ fn run_refused(
     for number in 1..=COMMITS {
         match shared.reach(rt, alloc, number as u64) {
             Ok(_) => told = number,
-            Err(failed) => assert_eq!(rt; failed.cause, Some(DiskError::Failed), "{number}"),
+            Err(
+                JournalFailed {
+                    cause: Some(DiskError::Failed),
+                },
+            ) => {},
+            Err(_) => return Err(Fail::from("another cause")),
         }
     }
     Ok((told, disk_left(shared)?))
