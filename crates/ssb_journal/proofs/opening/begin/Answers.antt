@@ -1,4 +1,4 @@
-use Rattle.std.proofs.Common.{◌≡◌, [], sym, ◌∙◌, inl, subst}
+use Rattle.std.proofs.Common.{◌≡◌, [], sym, ◌∙◌, inl, subst, rules}
 use Rattle.journal.specs.Disk.{LeavesOnly}
 use Rattle.journal.specs.Groups.{recovered, IsBeforeOrAfter, IsAppending}
 use Rattle.journal.specs.declared.disk.DiskError.{DiskError}

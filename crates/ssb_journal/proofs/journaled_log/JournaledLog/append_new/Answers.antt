@@ -52,10 +52,10 @@ returns-in-Ok-2-clause-full g c =
     let log = g.L.LogSource.log in
     let seen = g.D.Disk.seen in
     let before : Journaled g.row.D.Denot g.row.L.Denot = record { disk = c.self.inside.journal; source = c.self.inside.source; count = c.self.inside.count } in
-    both_err c.append_given.result (λ e. e.0 ≡ Full → HasNoRoom (seen before.disk) c.in-Ok-2.commits.items)
+    both_err c.append_given.result (λ e. e.0 ≡ Full → HasNoRoom (seen before.disk) c.in-Ok.commits.items)
     (λ e. (e.1.source ≡ c.commits_from.new.self) × (e.1.count ≡ before.count))
     (λ e. e.0 ≡ Full → HasNoRoom (seen c.args.self.disk) (drop c.args.self.count (log e.1.source)))
     c.append_given.ensures.full c.append_given.ensures.same_err
     (λ e full same is. subst (λ (self : Journaled g.row.D.Denot g.row.L.Denot). HasNoRoom (seen self.disk) (drop self.count (log e.1.source))) c.self.view_is
     (subst (HasNoRoom (seen before.disk))
-    (c.in-Ok-2.ensures.commits ∙ ap (λ (source : g.row.L.Denot). drop before.count (log source)) (sym same.0)) (full is)))
+    (c.in-Ok.ensures.commits ∙ ap (λ (source : g.row.L.Denot). drop before.count (log source)) (sym same.0)) (full is)))
