@@ -75,6 +75,7 @@ fn begin_again<D, T, W, R>(
 where
     D: Disk + Drop,
     T: KeepsTorn,
+    T::Kept: Drop,
     W: Wait + Drop,
     R: Wait,
     requires clients { AreSeated server.now [] clients.old }
@@ -232,6 +233,7 @@ fn serve<D, T, W, R, S>(
 where
     D: Disk + Drop + Send,
     T: KeepsTorn,
+    T::Kept: Drop,
     W: Wait + Drop + Send,
     R: Wait + Threads + Sync,
     S: Speaks<R> + Drop + Send,
@@ -287,6 +289,7 @@ pub fn serve_journaled<D, T, R, S>(
 where
     D: Disk + Drop + Send,
     T: KeepsTorn,
+    T::Kept: Drop,
     R: Wait + Threads + Sync,
     S: Speaks<R> + Drop + Send,
     S::Left: Drop + Send,
