@@ -1,0 +1,4 @@
+pub mod Calls
+pub mod Filled
+pub mod Noted
+pub mod FilesFolder
