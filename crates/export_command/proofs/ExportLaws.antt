@@ -1,43 +1,100 @@
 -- What an export leaves, of what was loaded, kept and written.
-use Rattle.std.proofs.Common.{◌≡◌, ℕ, List, Result, Ok, Err, IfErr, OnOk, ap, ◌∙◌, subst}
+use Rattle.std.proofs.Common.{◌≡◌, ◌∙◌, ℕ, List, [], Option, Result, Ok, Err, OnOk, ap, subst, inl, inr}
 use Rattle.ssb_base.specs.Base.{IsSound, Tables}
 use Rattle.ssb_base.specs.Limits.{limits_of}
 use Rattle.ssb_files.specs.Loaded.{IsLoadedToServe}
+use Rattle.ssb_files.specs.declared.job.JobFault.{JobFault}
+use Rattle.ssb_files.specs.declared.job.JobFault.TheVariants as job
+use Rattle.journal.specs.Groups.{recovered}
+use Rattle.journal_opening.specs.declared.fault.OpeningFault.TheVariants as opening
+use Rattle.ssb_journal.specs.Opening.{IsKept}
+use Rattle.ssb_journal.specs.Replays.{IsReplayFault}
 use Rattle.ssb_journal.specs.declared.head.TableSize.{TableSize}
+use Rattle.ssb_journal.specs.declared.opening.KeptCommits.{KeptCommits}
+use Rattle.ssb_journal.specs.declared.replaying.ReplayFault.{ReplayFault}
 use Rattle.ssb_schema.specs.declared.table.Table.{Table}
+use Rattle.ssb_schema.specs.declared.table.Table.TheVariants.{Lineorder}
+use Rattle.table_folder.specs.Calls.{FolderCall, LeftAnyTime}
+use Rattle.table_folder.specs.Filled.{AreNoneOrAll, HasAll, LeftNoneOrAll}
 use Rattle.table_text.specs.RoundTrip.{AreTableRows, TextsSpellTheirBase}
 use Rattle.table_text.specs.TableText.{base_texts}
-use Rattle.export_command.specs.Exported.{AreReadBack, AreTablesAfter, Exports}
+use Rattle.export_command.specs.Exported.{AreReadBack, AreTablesAfter, Exports, IsExport, IsNoneOrExport}
+use Rattle.export_command.specs.Exported.{LeftNoneOrExport, TellsJournalFault, TellsNoJournal}
+use Rattle.export_command.specs.declared.fault.ExportRefusal.{ExportRefusal}
+use Rattle.export_command.specs.declared.fault.ExportRefusal.TheVariants as refusal
 
-exports-of : (texts : Table → List ℕ) (base : Tables) (sizes : List TableSize) (file : List ℕ) (tables : Tables)
-    → TextsSpellTheirBase → IsLoadedToServe texts base → AreTablesAfter base sizes file tables → IsSound tables
-    → ((t : Table) → AreTableRows tables t) → Exports texts
-exports-of texts base sizes file tables spell loaded after sound rows = record {
+-- a folder that was filled with the tables after the commits
+pub is_export : (base : Tables) (sizes : List TableSize) (file : List ℕ) (tables : Tables) (calls : List FolderCall)
+    → AreTablesAfter base sizes file tables → IsSound tables → TextsSpellTheirBase → HasAll (base_texts tables) calls
+    → ((t : Table) → AreTableRows tables t) → IsExport base sizes file calls
+is_export base sizes file tables calls after sound spell has rows = record {
+  tables = tables;
+  after = after;
+  has = has;
+  spelled = spell tables rows;
+  sound = sound;
+}
+
+-- where no call was made a crash leaves nothing
+pub left_nothing : (base : Tables) (sizes : List TableSize) (file : List ℕ) (calls : List FolderCall) → calls ≡ []
+    → LeftNoneOrExport base sizes file calls
+left_nothing base sizes file calls none left any =
+    inl (subst (λ (now : List FolderCall). LeftAnyTime now left) none any Lineorder)
+
+none_or_export : (base : Tables) (sizes : List TableSize) (file : List ℕ) (tables : Tables)
+    → AreTablesAfter base sizes file tables → (left : Table → Option (List ℕ))
+    → AreNoneOrAll (base_texts tables) left → IsNoneOrExport base sizes file left
+none_or_export base sizes file tables after left (inl none) = inl none
+none_or_export base sizes file tables after left (inr all) = inr (tables, after, all)
+
+pub left_export : (base : Tables) (sizes : List TableSize) (file : List ℕ) (tables : Tables) (calls : List FolderCall)
+    → AreTablesAfter base sizes file tables → LeftNoneOrAll (base_texts tables) calls
+    → LeftNoneOrExport base sizes file calls
+left_export base sizes file tables calls after all left any =
+    none_or_export base sizes file tables after left (all left any)
+
+-- what tells nothing of a journal
+pub tells_none : (base : Tables) (sizes : List TableSize) (file : List ℕ) (fault : JobFault ExportRefusal)
+    → TellsNoJournal fault → TellsJournalFault base sizes file fault
+tells_none base sizes file (job.Program why) none = tt
+tells_none base sizes file (job.Found (refusal.Folder why)) none = tt
+tells_none base sizes file (job.Found (refusal.CannotWrite path)) none = tt
+tells_none base sizes file (job.Found (refusal.Journal why)) none = absurd none
+
+-- over the tables that were loaded
+exports-of : (texts : Table → List ℕ) (base : Tables) (sizes : List TableSize) (file : List ℕ) (calls : List FolderCall)
+    → IsLoadedToServe texts base → IsExport base sizes file calls → Exports texts
+exports-of texts base sizes file calls loaded is = record {
   base = base;
   loaded = loaded;
-  commits = after.commits;
-  legal = after.legal;
-  read_back = subst (λ (now : Tables). AreReadBack (base_texts now) now) after.are (record {
+  commits = is.after.commits;
+  legal = is.after.legal;
+  read_back = subst (λ (now : Tables). AreReadBack (base_texts now) now) is.after.are (record {
     loaded = record {
-      limited = ap (λ (now : Tables). limits_of now.limits) after.are ∙ loaded.limited;
-      spelled = spell tables rows;
+      limited = ap (λ (now : Tables). limits_of now.limits) is.after.are ∙ loaded.limited;
+      spelled = is.spelled;
     };
-    sound = sound;
+    sound = is.sound;
   });
 }
 
-pub exports : (texts : Table → List ℕ) (base held : Tables) (sizes : List TableSize) (file : List ℕ) (tables : Tables)
-    → TextsSpellTheirBase → IsLoadedToServe texts base → held ≡ base → AreTablesAfter held sizes file tables
-    → IsSound tables → ((t : Table) → AreTableRows tables t) → Exports texts
-exports texts base held sizes file tables spell loaded same after sound rows =
-    exports-of texts base sizes file tables spell loaded
-    (subst (λ (b : Tables). AreTablesAfter b sizes file tables) same after) sound rows
+pub exports : (texts : Table → List ℕ) (base held : Tables) (sizes : List TableSize) (file : List ℕ)
+    (calls : List FolderCall) → IsLoadedToServe texts base → held ≡ base → IsExport held sizes file calls → Exports texts
+exports texts base held sizes file calls loaded same is =
+    exports-of texts base sizes file calls loaded
+    (subst (λ (b : Tables). IsExport b sizes file calls) same is)
 
 pub on_ok : {X E : Type 0} (P Q : Type 0) (result : Result X E) → (P → Q) → OnOk result P → OnOk result Q
 on_ok P Q (Ok v) more holds = more holds
 on_ok P Q (Err e) more holds = tt
 
-pub if_err : {X E : Type 0} (P Q : E → Type 0) (result : Result X E) → ((e : E) → P e → Q e) → IfErr result P
-    → IfErr result Q
-if_err P Q (Ok v) more holds = tt
-if_err P Q (Err e) more holds = more e holds
+-- the commits that a file keeps, and why they are no history
+pub replay_told : (base : Tables) (sizes : List TableSize) (file : List ℕ) (kept : KeptCommits) (why : ReplayFault)
+    → IsKept sizes (recovered file) kept → IsReplayFault base kept.commits.items why
+    → TellsJournalFault base sizes file (job.Found (refusal.Journal (opening.Replay why)))
+replay_told base sizes file kept why (inl new) fault = (kept.commits.items, inr (new.1, new.2), fault)
+replay_told base sizes file kept why (inr is) fault = (
+  kept.commits.items,
+  inl (record { texts = is.1.texts; is_journal = is.1.sealed; spelled = is.1.spelled }),
+  fault,
+)

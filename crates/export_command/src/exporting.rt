@@ -1,29 +1,32 @@
 //! `export`: the tables after a journal's commits, into a folder.
 
-ghost use Rattle.std.specs.Prelude.{◌≡◌, ◌≢◌, ℕ, List, IfOk, IfErr, OnOk};
+ghost use Rattle.std.specs.Prelude.{◌≡◌, ◌≢◌, ℕ, [], List, IfOk, IfErr, OnOk};
 ghost use Rattle.journal.specs.Disk.{Only};
-ghost use Rattle.export_command.specs.Exported.{AreTablesAfter, Exports};
+ghost use Rattle.export_command.specs.Exported.{AreTablesAfter, Exports, IsExport, LeftNoneOrExport};
+ghost use Rattle.export_command.specs.Exported.{TellsJournalFault, TellsNoJournal};
 ghost use Rattle.export_command.specs.Status.{export_status};
-ghost use Rattle.journal_opening.specs.Status.{opening_status};
 ghost use Rattle.ssb_schema.specs.declared.table.Table.{Table};
 ghost use Rattle.ssb_text.specs.Load.{AreTexts};
+ghost use Rattle.table_folder.specs.FilesFolder.{IsUntouched};
 
-use crate::fault::{ExportFault, ExportRefusal};
-use crate::folder::ExportFolder;
+use crate::fault::ExportRefusal::Journal;
+use crate::fault::{ExportFault, ExportRefusal, NotEmpty};
 use crate::tables_after::TablesAfter;
 use journal::Disk;
 use journal_file::{FileDisk, JournalFile};
 use journal_opening::{OpeningFault, table_sizes};
 use ssb_base::Base;
-use ssb_files::{TableBytes, base_to_serve};
+use ssb_files::JobFault::{Found, Program};
+use ssb_files::{Fault, TableBytes, base_to_serve};
 use ssb_journal::{OpenedJournal, TableSize, open, replay};
 use ssb_text::Tables;
 use std::alloc::Global;
 use std::hash::RandomState;
-use std::io::{Read, Write};
+use std::io::{self, ErrorKind, Read, Write};
 use std::rt::Files;
 use std::sync::Arc;
 use std::thread::Threads;
+use table_folder::{FilesFolder, FillFault, TableFolder, fill};
 use table_text::tables_are_read_back;
 
 /// Where the journal is, where the tables go, and what is told.
@@ -40,6 +43,16 @@ pub struct ExportPlace<'a, F: Files> {
     pub tells: bool,
 }
 
+/// Loaded tables, and a journal over them.
+#[derive(Drop)]
+pub struct ExportSource<'a, D: Disk + Drop> {
+    pub base: Arc<Base>,
+    /// How large the tables are, as the journal's head tells it.
+    pub sizes: &'a [TableSize],
+    /// The journal's file.
+    pub disk: D,
+}
+
 // The tables after a journal's commits, and how many bytes stand behind its last whole group.
 #[derive(Drop)]
 struct JournalTables {
@@ -47,29 +60,24 @@ struct JournalTables {
     torn: usize,
 }
 
-fn refused(fault: OpeningFault) -> ExportFault
-    ensures { export_status result ≡ opening_status fault }
-{
-    ExportFault::Found(ExportRefusal::Journal(fault))
-}
-
 // The tables after the commits of a journal's file that was just opened. Nothing is written.
 fn tables_after_journal<D: Disk + Drop>(
     alloc: Global,
     hashing: RandomState,
-    base: Arc<Base>,
-    sizes: &[TableSize],
-    disk: D,
+    source: ExportSource<'_, D>,
 ) -> Result<JournalTables, ExportFault>
-    requires readable { D.is_readable disk }
-    requires durable { Only (D.seen disk) (D.may_leave disk) }
-    ensures after { IfOk result (λ found. AreTablesAfter base.value sizes.now (D.seen disk) found.tables) }
+    requires readable { D.is_readable source.disk }
+    requires durable { Only (D.seen source.disk) (D.may_leave source.disk) }
+    ensures after { IfOk result (λ found.
+        AreTablesAfter source.base.value source.sizes.now (D.seen source.disk) found.tables) }
+    ensures journal { IfErr result (TellsJournalFault source.base.value source.sizes.now (D.seen source.disk)) }
     ensures words { IfErr result (λ fault. export_status fault ≢ 2) }
     ensures trace { IfErr result (λ fault. export_status fault ≢ 3) }
 {
+    let ExportSource { base, sizes, disk } = source;
     let opened = match open(alloc, sizes, disk) {
         Ok(opened) => opened,
-        Err((fault, _)) => return Err(refused(OpeningFault::Kept(fault))),
+        Err((fault, _)) => return Err(Found(Journal(OpeningFault::Kept(fault)))),
     };
     let OpenedJournal {
         found: _,
@@ -78,7 +86,7 @@ fn tables_after_journal<D: Disk + Drop>(
     } = opened;
     let store = match replay(alloc, base, hashing, kept.commits.as_slice()) {
         Ok(store) => store,
-        Err(fault) => return Err(refused(OpeningFault::Replay(fault))),
+        Err(fault) => return Err(Found(Journal(OpeningFault::Replay(fault)))),
     };
     Ok(JournalTables {
         tables: TablesAfter::new(alloc, hashing, store)?,
@@ -98,8 +106,82 @@ fn tell_commits<E: Write>(err: &mut E, found: &JournalTables) {
     };
 }
 
-// Exports the tables. All of it is looked at before anything is written.
-fn export<R: Threads + Sync + AllocGlobal, F: Files, I: Read + Drop, E: Write>(
+fn lacks_memory(error: &io::Error) -> bool {
+    error.kind() == ErrorKind::OutOfMemory
+}
+
+// Why a folder of this path was not filled.
+fn not_filled(alloc: Global, path: &str, fault: &FillFault) -> ExportFault
+    ensures status { export_status result ≡ 4 }
+    ensures folder { TellsNoJournal result }
+{
+    match fault {
+        FillFault::Folder(error) | FillFault::Tables(error) if lacks_memory(error) => {
+            Program(Fault::OutOfMemory)
+        }
+        FillFault::Folder(_) => match String::from_str(alloc, path) {
+            Ok(path) => Found(ExportRefusal::CannotWrite(path)),
+            Err(_) => Program(Fault::OutOfMemory),
+        },
+        FillFault::Tables(_) => Program(Fault::WriteFailed),
+    }
+}
+
+/// Writes the tables after a journal's commits into a folder on which no call was made, and tells on `told`, if it is
+/// given, how many commits these were. All of the journal is looked at before anything is made.
+///
+/// At `Ok` the folder has the five texts, and each crash from then on leaves them. A crash at any moment, also before an
+/// `Err`, leaves no `lineorder`, or all five.
+pub fn export_into<D: Disk + Drop, T: TableFolder, E: Write>(
+    alloc: Global,
+    hashing: RandomState,
+    source: ExportSource<'_, D>,
+    folder: &mut T,
+    told: Option<&mut E>,
+) -> Result<(), ExportFault>
+    requires readable { D.is_readable source.disk }
+    requires durable { Only (D.seen source.disk) (D.may_leave source.disk) }
+    requires new { T.calls folder.old ≡ [] }
+    ensures exported { OnOk result
+        (IsExport source.base.value source.sizes.now (D.seen source.disk) (T.calls folder.new)) }
+    ensures any_moment { LeftNoneOrExport source.base.value source.sizes.now (D.seen source.disk) (T.calls folder.new) }
+    ensures journal { IfErr result (TellsJournalFault source.base.value source.sizes.now (D.seen source.disk)) }
+    ensures words { IfErr result (λ fault. export_status fault ≢ 2) }
+    ensures trace { IfErr result (λ fault. export_status fault ≢ 3) }
+{
+    let found = tables_after_journal(alloc, hashing, source)?;
+    if let Some(err) = told {
+        tell_commits(err, &found);
+    }
+    found.tables.soundness();
+    tables_are_read_back();
+    match fill(alloc, folder, &found.tables) {
+        Ok(()) => Ok(()),
+        Err(fault) => Err(not_filled(alloc, folder.path(), &fault)),
+    }
+}
+
+// The folder of this path, where it is not there or is empty. Nothing is made.
+fn find_folder<'a, F: Files>(
+    files: &'a F,
+    alloc: Global,
+    path: &'a str,
+) -> Result<FilesFolder<'a, F>, ExportFault>
+    ensures new { IfOk result IsUntouched }
+    ensures words { IfErr result (λ fault. export_status fault ≢ 2) }
+    ensures trace { IfErr result (λ fault. export_status fault ≢ 3) }
+{
+    match FilesFolder::find(files, alloc, path) {
+        Ok(Some(folder)) => Ok(folder),
+        Ok(None) => Err(Found(ExportRefusal::Folder(NotEmpty))),
+        Err(error) if lacks_memory(&error) => Err(Program(Fault::OutOfMemory)),
+        Err(_) => Err(Program(Fault::CannotRead(String::from_str(alloc, path)?))),
+    }
+}
+
+/// Writes the tables as they are after a journal's commits into a folder, and tells on `err` how many commits these
+/// were. The folder is looked at first, then the tables are read, and then the journal, which is as it was.
+pub fn export<R: Threads + Sync + AllocGlobal, F: Files, I: Read + Drop, E: Write>(
     rt: &R,
     hashing: RandomState,
     tables: Tables<I>,
@@ -113,26 +195,24 @@ where
     ensures trace { IfErr result (λ fault. export_status fault ≢ 3) }
 {
     let alloc = rt.alloc();
-    let folder = ExportFolder::find(place.files, alloc, place.folder)?;
+    let mut folder = find_folder(place.files, alloc, place.folder)?;
     let base = base_to_serve(rt, alloc, tables)?;
     let sizes = table_sizes(&base, place.bytes);
     let base = Arc::new(alloc, base)?;
     let disk = match FileDisk::open_to_read(place.files, alloc, place.journal) {
         Ok(disk) => disk,
-        Err(error) => return Err(refused(OpeningFault::File(error))),
+        Err(error) => return Err(Found(Journal(OpeningFault::File(error)))),
     };
-    let found = tables_after_journal(alloc, hashing, base, &sizes, disk)?;
-    if place.tells {
-        tell_commits(err, &found);
-    }
-    found.tables.soundness();
-    tables_are_read_back();
-    folder.fill(&found.tables)
+    let source = ExportSource {
+        base,
+        sizes: &sizes,
+        disk,
+    };
+    let told = if place.tells { Some(err) } else { None };
+    export_into(alloc, hashing, source, &mut folder, told)
 }
 
-/// Writes the tables as they are after a journal's commits into a folder, and tells on `err` how many commits these
-/// were; or a fault line. The folder is looked at first, then the tables are read, and then the journal, which is as it
-/// was.
+/// Exports the tables, as `export` does, and tells a fault on a line of `err`.
 ///
 /// The result is the exit status: 0 where the folder has all tables, 1 where the folder, the data or the journal is
 /// refused and nothing was made, and else 4.

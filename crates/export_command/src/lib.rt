@@ -2,7 +2,7 @@
 //!
 //! ```text
 //! tables ── base_to_serve ─▶ base ─┐
-//! journal ── open ─▶ commits ──── replay ─▶ history ── TablesAfter ─▶ lines after it ── write_table ─▶ FOLDER
+//! journal ── open ─▶ commits ──── replay ─▶ history ── TablesAfter ─▶ lines after it ── fill ─▶ FOLDER
 //! ```
 //!
 //! The tables after a history (`specs/After`: `tables_after`) are the dimensions as they were and the lines after it.
@@ -10,26 +10,27 @@
 //! the order of the commits: each order has at most one last action by which its earlier lines go (`last_gone`), so that
 //! one pass over the loaded lines and one over the log write them all, and no line is copied.
 //!
-//! The contract of [`write_table`]: what is written is the text of a table after the history. That of [`run_export`]
-//! (`specs/Exported`): with status 0 the tables spell a base, the commits are a legal history over it, and the texts of
-//! the tables after it spell these tables, which are sound: so a load of FOLDER gives the lines after the history.
-//! What the system opens, makes, syncs and renames is in no contract.
+//! The contract of [`write_table`]: what is written is the text of a table after the history. That of [`export_into`]
+//! (`specs/Exported`), over a journal's disk and a folder as its model has it (`table_folder`): at `Ok` the folder has the
+//! five texts of the tables after the commits that the file keeps, each crash from then on leaves them, and a load of them
+//! gives these tables; a crash at any moment until then leaves no `lineorder`, or all five. [`run_export`] opens both: with
+//! status 0 the tables spell a base, and the texts of the tables after a legal history over it spell these, which are sound.
 //!
 //! ```text
-//! let status = run_export(rt, hashing, tables, &place, &mut err);     // ssb_live: journal: 1204 commits
+//! let source = ExportSource { base, sizes: &sizes, disk };
+//! export_into(alloc, hashing, source, &mut folder, Some(&mut err))?;      // ssb_live: journal: 1204 commits
 //! ```
 #![tactic(auto)]
 
 mod exporting;
 mod fault;
-mod folder;
 mod last_gone;
 mod laws;
 mod orders;
 mod tables_after;
 mod writing;
 
-pub use exporting::{ExportPlace, run_export};
+pub use exporting::{ExportPlace, ExportSource, export, export_into, run_export};
 pub use fault::{ExportFault, ExportRefusal, NotEmpty};
 pub use laws::tables_after_are_sound;
 pub use tables_after::TablesAfter;

@@ -3,15 +3,21 @@
 ghost use Rattle.std.specs.Prelude.{◌≡◌, IfOk};
 ghost use Rattle.ssb_base.specs.Base.{IsSound};
 ghost use Rattle.export_command.specs.After.{tables_after};
+ghost use Rattle.table_text.specs.RoundTrip.{AreTableRows};
+ghost use Rattle.table_text.specs.TableText.{base_texts};
 
 use crate::last_gone::LastGone;
 use crate::orders::log_adds_orders;
+use crate::writing::write_table;
 use row_store::{Commit, RowStore};
 use ssb_base::Base;
+use ssb_schema::Table;
 use std::alloc::{AllocError, Global};
 use std::hash::RandomState;
+use std::io::{self, ErrorKind, Write};
 use std::marker::Model;
 use std::sync::Arc;
+use table_folder::TableTexts;
 
 /// The tables after a legal history over a base. Contracts see them as the tables of a base.
 #[derive(Drop)]
@@ -64,5 +70,18 @@ impl TablesAfter {
     /// How many commits led to them.
     pub fn commits(&self) -> usize {
         self.log.len()
+    }
+}
+
+impl TableTexts for TablesAfter {
+    ghost texts = { λ tables. base_texts tables };
+
+    ghost known = { λ tables t. AreTableRows tables t };
+
+    fn write<W: Write>(&self, out: &mut W, table: Table) -> io::Result<()> {
+        match write_table(out, self, table) {
+            Ok(()) => Ok(()),
+            Err(_) => Err(io::Error::from(ErrorKind::Other)),
+        }
     }
 }
