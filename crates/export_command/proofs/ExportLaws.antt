@@ -18,6 +18,8 @@ use Rattle.table_folder.specs.Calls.{FolderCall, LeftAnyTime}
 use Rattle.table_folder.specs.Filled.{AreNoneOrAll, HasAll, LeftNoneOrAll}
 use Rattle.table_text.specs.RoundTrip.{AreTableRows, TextsSpellTheirBase}
 use Rattle.table_text.specs.TableText.{base_texts}
+use Rattle.row_store.specs.Legal.{IsLegal}
+use Rattle.export_command.specs.After.{tables_after}
 use Rattle.export_command.specs.Exported.{AreReadBack, AreTablesAfter, Exports, IsExport, IsNoneOrExport}
 use Rattle.export_command.specs.Exported.{LeftNoneOrExport, TellsJournalFault, TellsNoJournal}
 use Rattle.export_command.specs.declared.fault.ExportRefusal.{ExportRefusal}
@@ -98,3 +100,16 @@ replay_told base sizes file kept why (inr is) fault = (
   inl (record { texts = is.1.texts; is_journal = is.1.sealed; spelled = is.1.spelled }),
   fault,
 )
+
+-- the tables after the commits that a file keeps
+pub after_kept : (base : Tables) (sizes : List TableSize) (file : List ℕ) (kept : KeptCommits) (tables : Tables)
+    → IsKept sizes (recovered file) kept → IsLegal base kept.commits.items
+    → tables ≡ tables_after base kept.commits.items → AreTablesAfter base sizes file tables
+after_kept base sizes file kept tables (inl new) legal are =
+    record { commits = kept.commits.items; has = inr (new.1, new.2); legal = legal; are = are }
+after_kept base sizes file kept tables (inr is) legal are = record {
+  commits = kept.commits.items;
+  has = inl (record { texts = is.1.texts; is_journal = is.1.sealed; spelled = is.1.spelled });
+  legal = legal;
+  are = are;
+}

@@ -18,7 +18,7 @@ use Rattle.export_command.specs.declared.last_gone.LastGone.{LastGone}
 pub record AreAfter (base : Tables) (log : List CommitRecord) (last : LastGone) : Type 0 where
   pub sound : IsSound base
   pub legal : IsLegal base log
-  pub few : length log < 2 ^ 32
+  pub few : length log < 2 ^ 57
   pub orders : AllByRecursion AddsOrder (actions_of log)
   pub last_of : IsLastGoneOf (actions_of log) last
 

@@ -69,8 +69,9 @@ fn tables_after_journal<D: Disk + Drop>(
     requires readable { D.is_readable source.disk }
     requires durable { Only (D.seen source.disk) (D.may_leave source.disk) }
     ensures after { IfOk result (λ found.
-        AreTablesAfter source.base.value source.sizes.now (D.seen source.disk) found.tables) }
-    ensures journal { IfErr result (TellsJournalFault source.base.value source.sizes.now (D.seen source.disk)) }
+        AreTablesAfter source.entry.base.value source.entry.sizes.now (D.seen source.entry.disk) found.tables) }
+    ensures journal { IfErr result (TellsJournalFault source.entry.base.value source.entry.sizes.now
+        (D.seen source.entry.disk)) }
     ensures words { IfErr result (λ fault. export_status fault ≢ 2) }
     ensures trace { IfErr result (λ fault. export_status fault ≢ 3) }
 {
@@ -143,9 +144,11 @@ pub fn export_into<D: Disk + Drop, T: TableFolder, E: Write>(
     requires durable { Only (D.seen source.disk) (D.may_leave source.disk) }
     requires new { T.calls folder.old ≡ [] }
     ensures exported { OnOk result
-        (IsExport source.base.value source.sizes.now (D.seen source.disk) (T.calls folder.new)) }
-    ensures any_moment { LeftNoneOrExport source.base.value source.sizes.now (D.seen source.disk) (T.calls folder.new) }
-    ensures journal { IfErr result (TellsJournalFault source.base.value source.sizes.now (D.seen source.disk)) }
+        (IsExport source.entry.base.value source.entry.sizes.now (D.seen source.entry.disk) (T.calls folder.new)) }
+    ensures any_moment { LeftNoneOrExport source.entry.base.value source.entry.sizes.now (D.seen source.entry.disk)
+        (T.calls folder.new) }
+    ensures journal { IfErr result (TellsJournalFault source.entry.base.value source.entry.sizes.now
+        (D.seen source.entry.disk)) }
     ensures words { IfErr result (λ fault. export_status fault ≢ 2) }
     ensures trace { IfErr result (λ fault. export_status fault ≢ 3) }
 {

@@ -24,7 +24,7 @@ impl LastGone {
         hashing: RandomState,
         log: &[Commit],
     ) -> Result<LastGone, AllocError>
-        requires few { length log.now < 2 ^ 32 }
+        requires few { length log.now < 2 ^ 57 }
         ensures { IfOk result (IsLastGoneOf (actions_of log.now)) }
     {
         let mut last = LastGone {

@@ -9,7 +9,7 @@ ghost use Rattle.table_text.specs.TableText.{base_texts};
 use crate::last_gone::LastGone;
 use crate::orders::log_adds_orders;
 use crate::writing::write_table;
-use row_store::{Commit, RowStore};
+use row_store::{Commit, Log, RowStore};
 use ssb_base::Base;
 use ssb_schema::Table;
 use std::alloc::{AllocError, Global};
@@ -39,6 +39,16 @@ impl Model for TablesAfter {
     ghost invariant = { λ after. AreAfter after.base.value after.log.items after.last };
 }
 
+// The commits of a row store that forgot none, as one does that nobody tells to forget.
+fn all_commits(log: Log) -> Result<Vec<Commit>, AllocError>
+    ensures { IfOk result (λ commits. commits.items ≡ log) }
+{
+    match log.into_commits() {
+        Some(commits) => Ok(commits),
+        None => Err(AllocError),
+    }
+}
+
 impl TablesAfter {
     /// The tables after the history of a row store.
     pub fn new(
@@ -52,9 +62,7 @@ impl TablesAfter {
         store.base().soundness();
         let _count = store.len();
         let (base, log) = store.into_parts();
-        let Some(log) = log.into_commits() else {
-            return Err(AllocError);
-        };
+        let log = all_commits(log)?;
         log_adds_orders(log.as_slice());
         let last = LastGone::of(alloc, hashing, log.as_slice())?;
         Ok(TablesAfter { base, log, last })

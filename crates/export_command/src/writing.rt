@@ -68,7 +68,7 @@ fn write_added<W: Write>(
 // Writes the lines that the commits of a log added and that stand after it.
 fn write_log<W: Write>(out: &mut W, last: &LastGone, log: &[Commit]) -> Result<(), WriteFault>
     requires last { IsLastGoneOf (actions_of log.now) last.now }
-    requires few { length log.now < 2 ^ 32 }
+    requires few { length log.now < 2 ^ 57 }
     ensures { WritesLines (W.contents out.old) (W.contents out.new) result
         (standing_added (actions_of log.now) 0 (actions_of log.now)) }
 {

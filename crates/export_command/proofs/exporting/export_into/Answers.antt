@@ -1,4 +1,4 @@
-use Rattle.export_command.proofs.ExportLaws.{is_export, left_export, left_nothing, tells_none}
+use Rattle.export_command.proofs.ExportLaws.{is_export, left_export, left_nothing}
 use Rattle.export_command.proofs.exporting.export_into.Goals as goal
 
 pub returns-in_err-found-clause-any_moment : goal.returns-in_err-found-clause-any_moment
@@ -12,8 +12,5 @@ returns-in-Ok-clause-exported g c =
 pub returns-in-Ok-clause-any_moment : goal.returns-in-Ok-clause-any_moment
 returns-in-Ok-clause-any_moment g c = left_export _ _ _ _ _ c.in_ok-found.ensures.after c.fill.ensures.any_moment
 
-pub returns-in-Err-clause-any_moment : goal.returns-in-Err-clause-any_moment
-returns-in-Err-clause-any_moment g c = left_export _ _ _ _ _ c.in_ok-found.ensures.after c.fill.ensures.any_moment
-
-pub returns-in-Err-clause-journal : goal.returns-in-Err-clause-journal
-returns-in-Err-clause-journal g c = tells_none _ _ _ _ c.not_filled.ensures.folder
+pub returns-clause-any_moment : goal.returns-clause-any_moment
+returns-clause-any_moment g c = left_export _ _ _ _ _ c.in_ok-found.ensures.after c.fill.ensures.any_moment

@@ -1,0 +1,20 @@
+use Rattle.std.proofs.Common.{◌≡◌, ◌∙◌, ap, subst}
+use Rattle.row_store.specs.Legal.{IsLegal}
+use Rattle.ssb_journal.specs.Replays.{IsReplayFault}
+use Rattle.export_command.specs.After.{tables_after}
+use Rattle.export_command.proofs.ExportLaws.{after_kept, replay_told}
+use Rattle.export_command.proofs.exporting.tables_after_journal.Goals as goal
+
+pub returns-in-Err-replay-clause-journal : goal.returns-in-Err-replay-clause-journal
+returns-in-Err-replay-clause-journal g c =
+    let base = c.args.source.base.value in
+    replay_told base _ _ c.in-Ok.opened.kept _ c.in-Ok.ensures.kept
+    (subst (λ l. IsReplayFault base l c.in-Err-replay.fault) c.as_slice.ensures.value c.in-Err-replay.ensures.fault)
+
+pub returns-clause-after : goal.returns-clause-after
+returns-clause-after g c =
+    let base = c.args.source.base.value in
+    after_kept base _ _ c.in-Ok.opened.kept _ c.in-Ok.ensures.kept
+    (subst (λ l. IsLegal base l) c.as_slice.ensures.value c.in-Ok-replay.ensures.legal)
+    (c.in_ok-new.ensures ∙ ap (λ s. tables_after s.base s.log) c.in-Ok-replay.ensures.store
+    ∙ ap (λ l. tables_after base l) c.as_slice.ensures.value)
