@@ -2,7 +2,7 @@
 ghost use Rattle.std.specs.Prelude.{All, IfOk, IfSome};
 ghost use Rattle.ssb_server.specs.Tickets.{IsOf, IsQuiet};
 
-use ssb_server::{Client, CloseError, Dispatcher, OpenFault, Opened, Server, open};
+use ssb_server::{Client, CloseError, Dispatcher, Keeps, OpenFault, Opened, Server, open};
 use std::hash::RandomState;
 use std::random::RandomSource;
 use std::sync::Wait;
@@ -22,7 +22,15 @@ pub fn opened<R: Threads + Sync + Wait + AllocGlobal + RandomSource>(
 {
     let alloc = rt.alloc();
     let base = standard_base(rt, alloc)?;
-    match open(alloc, rt, RandomState::new(rt)?, base, clients, dispatchers) {
+    match open(
+        alloc,
+        rt,
+        RandomState::new(rt)?,
+        base,
+        clients,
+        dispatchers,
+        Keeps::All,
+    ) {
         Ok(made) => Ok(made),
         Err(error) => Err(error.fault)?,
     }
@@ -66,7 +74,7 @@ fn counts_out_of_range_open_nothing(rt: HostRuntime) -> Result<(), Fail> {
         (0, 0, OpenFault::ClientCount),
     ] {
         let hashing = RandomState::new(&rt)?;
-        let opened = open(alloc, &rt, hashing, base, clients, dispatchers);
+        let opened = open(alloc, &rt, hashing, base, clients, dispatchers, Keeps::All);
         let error = opened.err().ok_or("opened")?;
         assert_eq!(rt; error.fault, fault);
         base = error.back;
