@@ -13,6 +13,7 @@ MANY = 16               # clients, beside one
 LIVE_ORDERS = 1000      # of a client
 SPREAD = 0.05           # of the memory from the second million commits on
 MOST_MEGABYTES = 2000   # at scale 1
+LEAST_REFRESHES = 4_000_000
 QUESTIONS = 26          # behind the first, of which the middle counts
 SHOWN = [1, 2, 5, 10, 20, 30, 40, 50, 60, 70, 80, 90, 100]      # millions
 
@@ -96,6 +97,8 @@ def print_memory(runs):
 
 def measure_long(data, scale, refreshes):
     """Measures and prints; whether the memory is flat and small enough."""
+    if refreshes < LEAST_REFRESHES:
+        raise SystemExit(f"live: --long takes at least {LEAST_REFRESHES:,} REFRESHES")
     with tempfile.TemporaryDirectory(prefix="live-", dir=WORK) as folder:
         runs = [Balanced(data, clients, refreshes, folder) for clients in (1, MANY)]
     print_memory(runs)
