@@ -2,7 +2,7 @@
 ghost use Rattle.std.specs.Prelude.{All, IfOk, IfSome};
 ghost use Rattle.ssb_server.specs.Tickets.{IsOf, IsQuiet};
 
-use ssb_server::{Client, CloseError, Dispatcher, Keeps, OpenFault, Opened, Server, open};
+use ssb_server::{Client, Dispatcher, Keeps, OpenFault, Opened, Server, open};
 use std::hash::RandomState;
 use std::random::RandomSource;
 use std::sync::Wait;
@@ -80,39 +80,5 @@ fn counts_out_of_range_open_nothing(rt: HostRuntime) -> Result<(), Fail> {
         base = error.back;
     }
     assert_eq!(rt; base.lines().len(), 4);
-    Ok(())
-}
-
-// Closes a server with a client missing, and then with all. How many clients and dispatchers were handed back.
-fn closed_at_last<W: Wait + Drop>(made: Opened<W>) -> Result<(usize, usize), Fail>
-    requires clients { All (IsQuiet made.server) made.clients.items }
-    requires dispatchers { All (IsOf made.server) made.dispatchers.items }
-{
-    let Opened {
-        server,
-        mut clients,
-        dispatchers,
-    } = made;
-    let missing = next_client(&server, &mut clients).ok_or("no client")?;
-    let CloseError {
-        server,
-        mut clients,
-        dispatchers,
-    } = match server.close(clients, dispatchers) {
-        Ok(_) => return Err("closed without a client")?,
-        Err(error) => error,
-    };
-    let back = (clients.len(), dispatchers.len());
-    clients.push(missing)?;
-    match server.close(clients, dispatchers) {
-        Ok(_) => Ok(back),
-        Err(_) => Err("not closed with all")?,
-    }
-}
-
-#[test]
-fn a_server_with_a_client_missing_hands_all_back(rt: HostRuntime) -> Result<(), Fail> {
-    let back = closed_at_last(opened(&rt, 3, 2)?)?;
-    assert_eq!(rt; back, (2, 2));
     Ok(())
 }
