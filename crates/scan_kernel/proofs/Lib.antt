@@ -15,3 +15,4 @@ pub mod WrittenLaws
 pub mod BatchLaws
 pub mod PartLaws
 pub mod SparseLaws
+pub mod DealtLaws

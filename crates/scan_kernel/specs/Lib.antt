@@ -13,3 +13,4 @@ pub mod Room
 pub mod Parts
 pub mod Sparse
 pub mod Taken
+pub mod Dealt

@@ -1,13 +1,15 @@
 //! The questions of a batch, chunk by chunk.
 ghost use Rattle.std.specs.Prelude.{◌≡◌, ◌<◌, ◌≤◌, ◌-◌, length, vec_len};
 ghost use Rattle.std.specs.List.{range_with_len};
-ghost use Rattle.scan_kernel.specs.Room.{AreFound, HasSelectedRoom};
+ghost use Rattle.scan_kernel.specs.Dealt.{AreDealt, KeepRoom};
+ghost use Rattle.scan_kernel.specs.Places.{mask_at};
+ghost use Rattle.scan_kernel.specs.Room.{AreFound, HasDealtRoom};
 ghost use Rattle.scan_kernel.specs.Totals.{CanSum, CanSumAll, HaveSizes, AddsPlaces, AddsBatch, taken};
 
 use crate::adding::add_places;
 use crate::columns::{Grouping, LineColumns};
 use crate::masks::Masks;
-use crate::selecting::select_places;
+use crate::selecting::deal_places;
 use crate::totals::Totals;
 
 /// The places from `from` up to `to` that some question takes, each with its mask.
@@ -19,37 +21,39 @@ pub struct Found<'a> {
     pub masks: &'a [u16],
 }
 
-/// Room for the places that one question takes, and for their groups.
+/// Room for the places that each question takes, and for the groups of those of one.
 #[derive(Drop)]
-pub struct Selected {
-    pub places: Vec<u32>,
+pub struct Dealt {
+    /// As many as a mask has bits.
+    pub lists: Vec<Vec<u32>>,
     pub groups: Vec<u32>,
 }
 
-/// Adds to the totals of one question the places that it takes of those that were found.
+/// Adds to the totals of one question the places that were dealt to it.
 fn add_question(
     lines: &LineColumns<'_>,
     masks: &Masks,
     grouping: &Grouping<'_>,
     number: usize,
     found: Found<'_>,
-    selected: &mut Selected,
+    lists: &[Vec<u32>],
+    groups: &mut [u32],
     totals: &mut Totals,
 )
     requires few { number < 16 }
     requires found { AreFound lines.now masks.now found }
-    requires room { HasSelectedRoom (length found.places.now) selected.old }
+    requires all { length lists.now ≡ 16 }
+    requires dealt { AreDealt (mask_at lines.now masks.now) found.places.now lists.now }
+    requires room { length found.places.now ≤ length groups.old }
     requires can_sum { CanSum lines.now masks.now number grouping.now }
     requires size { vec_len totals.old.counts ≡ grouping.now.size }
-    ensures places { vec_len selected.new.places ≡ vec_len selected.old.places }
-    ensures groups { vec_len selected.new.groups ≡ vec_len selected.old.groups }
+    ensures groups { length groups.new ≡ length groups.old }
     ensures size { vec_len totals.new.counts ≡ vec_len totals.old.counts }
     ensures added { AddsPlaces lines.now grouping.now (taken lines.now masks.now number
         (range_with_len found.entry.from (found.entry.to - found.entry.from))) totals.old totals.new }
 {
-    let count = select_places(number, found.places, found.masks, &mut selected.places);
-    let places = &selected.places[..count];
-    add_places(lines, grouping, places, &mut selected.groups, totals);
+    let places = lists[number].as_slice();
+    add_places(lines, grouping, places, groups, totals);
 }
 
 /// Adds to the totals of each question the places that it takes of those that were found.
@@ -58,23 +62,33 @@ pub fn add_found(
     masks: &Masks,
     groupings: &[Grouping<'_>],
     found: Found<'_>,
-    selected: &mut Selected,
+    dealt: &mut Dealt,
     totals: &mut [Totals],
 )
     requires few { length groupings.now ≤ 16 }
     requires found { AreFound lines.now masks.now found }
-    requires room { HasSelectedRoom (length found.places.now) selected.old }
+    requires room { HasDealtRoom (length found.places.now) dealt.old }
     requires can_sum { CanSumAll lines.now masks.now groupings.now }
     requires sizes { HaveSizes groupings.now totals.old }
-    ensures places { vec_len selected.new.places ≡ vec_len selected.old.places }
-    ensures groups { vec_len selected.new.groups ≡ vec_len selected.old.groups }
+    ensures lists { KeepRoom dealt.old.lists.items dealt.new.lists.items }
+    ensures groups { vec_len dealt.new.groups ≡ vec_len dealt.old.groups }
     ensures sizes { HaveSizes groupings.now totals.new }
     ensures added { AddsBatch lines.now masks.now groupings.now
         (range_with_len found.entry.from (found.entry.to - found.entry.from)) totals.old totals.new }
 {
+    deal_places(found.places, found.masks, &mut dealt.lists);
     for number in 0..groupings.len() {
         let grouping = &groupings[number];
         let sums = &mut totals[number];
-        add_question(lines, masks, grouping, number, found, selected, sums);
+        add_question(
+            lines,
+            masks,
+            grouping,
+            number,
+            found,
+            &dealt.lists,
+            &mut dealt.groups,
+            sums,
+        );
     }
 }

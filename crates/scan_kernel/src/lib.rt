@@ -7,7 +7,8 @@
 //!
 //! ```text
 //! chunk of places ─ search ─▶ places that some question takes, with their masks
-//!   for each question:      ─ select ─▶ its places ─ number ─▶ their groups ─ add ─▶ its totals
+//!                         ─ deal by the bits of the masks ─▶ the places of each question
+//!   for each question:      its places ─ number ─▶ their groups ─ add ─▶ its totals
 //! totals by group number    ─ groups that have lines ─▶ their values ─ sorted ─▶ rows
 //! ```
 //!

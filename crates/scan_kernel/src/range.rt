@@ -1,12 +1,13 @@
 //! The totals of a batch over a range of places, in one thread.
 ghost use Rattle.std.specs.Prelude.{◌≡◌, ℕ, ◌<◌, ◌≤◌, ◌-◌, ◌^◌, IfOk, length, replicate, vec_len, slice_index_or};
 ghost use Rattle.std.specs.List.{range_with_len};
+ghost use Rattle.scan_kernel.specs.Dealt.{AreListsFor};
 ghost use Rattle.scan_kernel.specs.Room.{HasRoom};
 ghost use Rattle.scan_kernel.specs.declared.columns.Grouping.{Grouping};
 ghost use Rattle.scan_kernel.specs.declared.totals.Totals.{Totals};
 ghost use Rattle.scan_kernel.specs.Totals.{CanScan, HaveSizes, AddsBatch, AreBatchTotals, AreZeros};
 
-use crate::batch::{Found, Selected, add_found};
+use crate::batch::{Dealt, Found, add_found};
 use crate::columns::{Grouping, LineColumns};
 use crate::masks::Masks;
 use crate::search::search;
@@ -21,7 +22,7 @@ pub const CHUNK: usize = 2048;
 struct Room {
     places: Vec<u32>,
     masks: Vec<u16>,
-    selected: Selected,
+    dealt: Dealt,
 }
 
 /// Adds the places of one chunk to the totals of each question.
@@ -51,7 +52,7 @@ fn add_chunk(
         places: &room.places[..count],
         masks: &room.masks[..count],
     };
-    add_found(lines, masks, groupings, found, &mut room.selected, totals);
+    add_found(lines, masks, groupings, found, &mut room.dealt, totals);
 }
 
 /// Adds the places of a range to the totals of each question, chunk by chunk.
@@ -100,19 +101,30 @@ fn places_room(alloc: Global, count: usize) -> Result<Vec<u32>, AllocError>
     vec![in alloc; 0u32; count]
 }
 
+// Lists for so many places each, as many as a mask has bits.
+fn lists_room(alloc: Global, count: usize) -> Result<Vec<Vec<u32>>, AllocError>
+    ensures { IfOk result (λ lists. AreListsFor count lists.items) }
+{
+    let mut lists = Vec::with_capacity(alloc, 16)?;
+    for _bit in 0..16usize {
+        lists.push(Vec::with_capacity(alloc, count)?)?;
+    }
+    Ok(lists)
+}
+
 fn room_for(alloc: Global, count: usize) -> Result<Room, AllocError>
     ensures { IfOk result (λ room. HasRoom count room) }
 {
     let places = places_room(alloc, count)?;
     let masks = masks_room(alloc, count)?;
-    let selected = Selected {
-        places: places_room(alloc, count)?,
+    let dealt = Dealt {
+        lists: lists_room(alloc, count)?,
         groups: places_room(alloc, count)?,
     };
     Ok(Room {
         places,
         masks,
-        selected,
+        dealt,
     })
 }
 

@@ -1,30 +1,53 @@
-//! The places of one question among those that were found for all, and their groups.
-ghost use Rattle.std.specs.Prelude.{◌≡◌, ℕ, ◌<◌, ◌≤◌, ◌+◌, ◌%◌, ◌^◌, All, length, map, filter, take, nat_eq};
+//! The places that were found, dealt out to the questions that take them, and their groups.
+ghost use Rattle.std.specs.Prelude.{◌≡◌, ℕ, [], ◌<◌, ◌≤◌, ◌+◌, ◌%◌, ◌^◌, All, Vec, length, map};
 ghost use Rattle.std.specs.Prelude.{slice_index};
-ghost use Rattle.std.specs.Int.{bit_at};
+ghost use Rattle.std.specs.declared.alloc.Global.{Global};
+ghost use Rattle.scan_kernel.specs.Dealt.{AreDealt, AreListsFor, GivesPlace, KeepRoom, in_list, len_of, room_of};
 ghost use Rattle.scan_kernel.specs.Places.{part_at, group_at, CanNumber};
 
 use crate::columns::GroupColumn;
 
-/// Writes those places whose mask has the question's bit, and says how many they are.
-#[inline(never)]
-pub fn select_places(number: usize, places: &[u32], found: &[u16], selected: &mut [u32]) -> usize
-    requires few { number < 16 }
-    requires marks { length found.now ≡ length places.now }
-    requires room { length places.now ≤ length selected.old }
-    ensures count { result ≤ length places.now }
-    ensures len { length selected.new ≡ length selected.old }
-    ensures selected { (mask : ℕ → ℕ) → found.now ≡ map mask places.now
-        → take result selected.new ≡ filter (λ place. nat_eq (bit_at (mask place) number) 1) places.now }
+// Takes all places out of the lists.
+fn clear_lists(lists: &mut [Vec<u32>])
+    requires { length lists.old ≡ 16 }
+    ensures room { KeepRoom lists.old lists.new }
+    ensures none { (k : ℕ) (list : Vec ℕ Global) → k < 16 → in_list lists.new k list ≡ [] }
 {
-    let mut count = 0usize;
-    for at in 0..places.len() {
-        selected[count] = places[at];
-        if (found[at] >> number) & 1 == 1 {
-            count += 1;
-        }
+    for number in 0..lists.len() {
+        let list = &mut lists[number];
+        list.clear();
     }
-    count
+}
+
+// Adds a place to the lists of the bits that its mask has, from the lowest on: most places have one or two.
+#[inline(always)]
+fn deal_place(place: u32, mask: u16, lists: &mut [Vec<u32>])
+    requires all { length lists.old ≡ 16 }
+    requires room { (k : ℕ) (list : Vec ℕ Global) → k < 16 → len_of lists.old k list < room_of lists.old k list }
+    ensures room { KeepRoom lists.old lists.new }
+    ensures gives { GivesPlace place mask lists.old lists.new }
+{
+    let mut rest = mask;
+    while rest != 0 {
+        let number = rest.trailing_zeros();
+        let list = &mut lists[number as usize];
+        list.push_reserved(place);
+        rest &= !(1 << number);
+    }
+}
+
+/// Writes to the list of each question those places whose mask has the question's bit, in place of what was there.
+#[inline(never)]
+pub fn deal_places(places: &[u32], found: &[u16], lists: &mut [Vec<u32>])
+    requires marks { length found.now ≡ length places.now }
+    requires lists { AreListsFor (length places.now) lists.old }
+    ensures room { KeepRoom lists.old lists.new }
+    ensures dealt { (mask : ℕ → ℕ) → found.now ≡ map mask places.now → AreDealt mask places.now lists.new }
+{
+    clear_lists(lists);
+    for at in 0..places.len() {
+        deal_place(places[at], found[at], lists);
+    }
 }
 
 #[inline(always)]

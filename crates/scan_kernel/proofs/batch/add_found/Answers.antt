@@ -38,8 +38,9 @@ loop-number-preserved c =
     let in_mid : n < length c.loop-number.totals = omega (arith, c.loop-number.invariant.all) in
     let in_old : n < length c.args.totals.now = omega (arith, c.requires.sizes.all) in
     record {
-      places = c.add_question.ensures.places ∙ c.loop-number.invariant.places;
-      groups = c.add_question.ensures.groups ∙ c.loop-number.invariant.groups;
+      lists = c.loop-number.invariant.lists;
+      dealt = c.loop-number.invariant.dealt;
+      groups = c.loop-number.invariant.groups;
       all = length-set c.loop-number.totals n c.add_question.new.totals ∙ c.loop-number.invariant.all;
       done = written_more adds c.args.groupings.now c.args.totals.now c.loop-number.totals n
           c.index-groupings-number.result mine c.add_question.new.totals c.loop-number-test.true in_mid in_old

@@ -1,6 +1,8 @@
 use Rattle.std.proofs.Common.{◌≡◌, ℕ, ◌<◌, ◌≤◌, ◌-◌, length, get_or}
 use Rattle.std.specs.List.{range_with_len}
 use Rattle.std.specs.Prelude.{vec_len}
+use Rattle.scan_kernel.specs.Dealt.{AreDealt, KeepRoom}
+use Rattle.scan_kernel.specs.Places.{mask_at}
 use Rattle.scan_kernel.specs.Totals.{AddsPlaces, taken}
 use Rattle.scan_kernel.specs.declared.columns.Grouping.{Grouping}
 use Rattle.scan_kernel.specs.declared.totals.Totals.{Totals}
@@ -8,8 +10,9 @@ use Rattle.scan_kernel.proofs.batch.add_found.Given as goal
 
 abbrev pub invariant-loop-number : goal.invariant-loop-number
 invariant-loop-number l = record {
-  places : vec_len l.selected.places ≡ vec_len l.initial.selected.places;
-  groups : vec_len l.selected.groups ≡ vec_len l.initial.selected.groups;
+  lists : KeepRoom l.fn.dealt.lists.items l.dealt.lists.items;
+  dealt : AreDealt (mask_at l.lines l.masks) l.found.places.now l.dealt.lists.items;
+  groups : vec_len l.dealt.groups ≡ vec_len l.fn.dealt.groups;
   all : length l.totals ≡ length l.groupings;
   done : (k : ℕ) (q : Grouping) (t : Totals) → k < l.number
       → AddsPlaces l.lines (get_or l.groupings k q) (taken l.lines l.masks k (range_with_len l.found.from (l.found.to - l.found.from)))
