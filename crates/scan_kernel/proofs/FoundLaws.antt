@@ -116,3 +116,8 @@ range_first b e more =
     let s : b + (e - b) ≡ e = omega arith in
     ap (λ (v : ℕ). range_with_len 0 b ++ range_with_len v (e - b)) (sym (zero-add b)) ∙ range_append 0 b (e - b)
     ∙ ap (range_with_len 0) s
+
+-- one number more
+pub range_push : (n : ℕ) → range_with_len 0 (n + 1) ≡ range_with_len 0 n ++ n ∷ []
+range_push n =
+    sym (range_append 0 n 1) ∙ ap (λ (v : ℕ). range_with_len 0 n ++ range_with_len v 1) (zero-add n)

@@ -7,7 +7,6 @@ pub mod RowLaws
 pub mod ScanLaws
 pub mod SparseRowLaws
 pub mod SearchLaws
-pub mod TakenLaws
 pub mod AddLaws
 pub mod SelectLaws
 pub mod FoundLaws

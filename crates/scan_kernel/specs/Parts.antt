@@ -1,17 +1,24 @@
 -- The parts that the places are divided into.
 use Rattle.std.specs.Prelude.{ℕ, ◌*◌, ◌-◌, ◌<◌, ◌+◌, min, List, slice_index_or}
-use Rattle.std.specs.List.{range_with_len}
+use Rattle.std.specs.List.{flat_map, range_with_len}
 use Rattle.scan_kernel.specs.declared.totals.Totals.{Totals}
 use Rattle.scan_kernel.specs.Sums.{Merges}
 
+-- how many places a part has, if it is not the last
+abbrev pub part_size : ℕ
+part_size = 65536
+
 -- where the part begins, and the one before it ends
-abbrev pub bound : ℕ → ℕ → ℕ → ℕ
-bound count size part = min (part * size) count
+abbrev pub bound : ℕ → ℕ → ℕ
+bound count part = min (part * part_size) count
 
 -- the places of a part
-abbrev pub part_places : ℕ → ℕ → ℕ → List ℕ
-part_places count size part =
-    range_with_len (bound count size part) (bound count size (part + 1) - bound count size part)
+abbrev pub part_places : ℕ → ℕ → List ℕ
+part_places count part = range_with_len (bound count part) (bound count (part + 1) - bound count part)
+
+-- the places of parts, one part after another
+abbrev pub places_of_parts : ℕ → List ℕ → List ℕ
+places_of_parts count parts = flat_map (part_places count) parts
 
 -- the totals of two lists of places together
 pub record MergesTotals (left right new : Totals) : Type 0 where

@@ -1,19 +1,18 @@
--- The parts that a thread took.
-use Rattle.std.specs.Prelude.{ℕ, List, All, length, Result, IfOk, Vec}
+-- What a thread took.
+use Rattle.std.specs.Prelude.{List, length, Result, IfOk}
 use Rattle.std.specs.declared.alloc.AllocError.{AllocError}
-use Rattle.std.specs.declared.alloc.Global.{Global}
 use Rattle.scan_kernel.specs.declared.columns.LineColumns.{LineColumns}
 use Rattle.scan_kernel.specs.declared.columns.Grouping.{Grouping}
 use Rattle.scan_kernel.specs.declared.masks.Masks.{Masks}
-use Rattle.scan_kernel.specs.declared.taking.TakenPart.{TakenPart}
-use Rattle.scan_kernel.specs.Parts.{part_places}
+use Rattle.scan_kernel.specs.declared.taking.Taken.{Taken}
+use Rattle.scan_kernel.specs.Parts.{places_of_parts}
 use Rattle.scan_kernel.specs.Totals.{AreBatchTotals}
 
--- the totals are those of the part's places
-abbrev pub IsOfPart : LineColumns → Masks → List Grouping → ℕ → TakenPart → Type 0
-IsOfPart lines masks groupings size part = AreBatchTotals lines masks groupings
-    (part_places (length lines.customer.now) size part.number) part.totals.items
+-- the totals are those of the places of the parts that were taken
+abbrev pub IsOfParts : LineColumns → Masks → List Grouping → Taken → Type 0
+IsOfParts lines masks groupings taken = AreBatchTotals lines masks groupings
+    (places_of_parts (length lines.customer.now) taken.parts.items) taken.totals.items
 
--- where memory did not run out, a thread's parts have the totals of their places
-abbrev pub AreOfParts : LineColumns → Masks → List Grouping → ℕ → Result (Vec TakenPart Global) AllocError → Type 0
-AreOfParts lines masks groupings size taken = IfOk taken (λ v. All (IsOfPart lines masks groupings size) v.items)
+-- the same, where memory did not run out
+abbrev pub IsOfPartsOk : LineColumns → Masks → List Grouping → Result Taken AllocError → Type 0
+IsOfPartsOk lines masks groupings taken = IfOk taken (IsOfParts lines masks groupings)

@@ -1,18 +1,17 @@
-//! The totals of a batch over all places, part by part: in one thread, or in as many as there are
-//! processors.
-ghost use Rattle.std.specs.Prelude.{◌≡◌, ℕ, ◌+◌, ◌<◌, ◌≤◌, ◌^◌, All, IfOk, OnOk, length, slice_index_or, vec_len};
+//! The totals of a batch over all places, in as many threads as there are processors.
+ghost use Rattle.std.specs.Prelude.{◌≡◌, ℕ, ◌<◌, ◌≤◌, ◌^◌, true, All, IfOk, IsPermutation, length, slice_index_or, vec_len};
 ghost use Rattle.std.specs.List.{range_with_len};
 ghost use Rattle.scan_kernel.specs.Places.{CanSearch};
-ghost use Rattle.scan_kernel.specs.Parts.{bound, MergesTotals, MergesBatch};
+ghost use Rattle.scan_kernel.specs.Parts.{MergesTotals, MergesBatch};
 ghost use Rattle.scan_kernel.specs.Sums.{Merges};
-ghost use Rattle.scan_kernel.specs.Taken.{AreOfParts};
+ghost use Rattle.scan_kernel.specs.Taken.{IsOfParts, IsOfPartsOk};
 ghost use Rattle.scan_kernel.specs.declared.totals.Totals.{Totals};
 ghost use Rattle.scan_kernel.specs.Totals.{CanScan, CanSumAll, AreBatchTotals};
 
 use crate::columns::{Grouping, LineColumns};
 use crate::masks::Masks;
-use crate::range::no_batch_totals;
-use crate::taking::{PARTS, TakenPart, part_of, part_totals, take_in_threads};
+use crate::range::{no_batch_totals, range_totals};
+use crate::taking::{Taken, part_count, take_in_threads};
 use crate::totals::Totals;
 use std::alloc::{AllocError, Global};
 use std::thread::Threads;
@@ -51,35 +50,46 @@ fn merge_batch(into: &mut [Totals], from: &[Totals])
     }
 }
 
-/// Adds a part to the totals of the parts before it. No clause follows the threads, so a part that none of them took
-/// would be added up here.
-fn add_part(
+// What the threads took, added up.
+fn join_taken(
     alloc: Global,
     lines: &LineColumns<'_>,
     masks: &Masks,
     groupings: &[Grouping<'_>],
-    size: usize,
-    takers: &[Result<Vec<TakenPart>, AllocError>],
-    number: u32,
-    all: &mut [Totals],
-) -> Result<(), AllocError>
-    requires part { number < 16 }
-    requires size { size ≤ 2 ^ 32 }
+    takers: &[Result<Taken, AllocError>],
+) -> Result<Taken, AllocError>
     requires scan { CanScan lines.now masks.now groupings.now }
-    requires takers { All (AreOfParts lines.now masks.now groupings.now size) takers.now }
-    requires before { AreBatchTotals lines.now masks.now groupings.now
-        (range_with_len 0 (bound (length lines.now.customer.now) size number)) all.old }
-    ensures len { length all.new ≡ length all.old }
-    ensures after { OnOk result (AreBatchTotals lines.now masks.now groupings.now
-        (range_with_len 0 (bound (length lines.now.customer.now) size (number + 1))) all.new) }
+    requires takers { All (IsOfPartsOk lines.now masks.now groupings.now) takers.now }
+    ensures { IfOk result (IsOfParts lines.now masks.now groupings.now) }
 {
-    if let Some(part) = part_of(takers, number)? {
-        merge_batch(all, &part.totals);
-        return Ok(());
+    let mut parts = Vec::new(alloc);
+    let mut totals = no_batch_totals(alloc, groupings)?;
+    for taker in takers {
+        match taker {
+            Ok(taken) => {
+                parts.extend_from_slice(&taken.parts)?;
+                merge_batch(&mut totals, &taken.totals);
+            }
+            Err(error) => return Err(*error),
+        }
     }
-    let part = part_totals(alloc, lines, masks, groupings, size, number)?;
-    merge_batch(all, &part);
-    Ok(())
+    Ok(Taken { parts, totals })
+}
+
+// Whether these are all numbers below a count, each once.
+fn are_all(mut parts: Vec<u32>, count: u32) -> bool
+    ensures { result ≡ true → IsPermutation parts.items (range_with_len 0 count) }
+{
+    parts.sort_unstable();
+    if parts.len() != count as usize {
+        return false;
+    }
+    for number in 0..count {
+        if parts[number as usize] != number {
+            return false;
+        }
+    }
+    true
 }
 
 /// The totals of each question over all places, in as many threads as there are processors.
@@ -97,13 +107,12 @@ pub fn parallel_totals(
     ensures { IfOk result (λ v. AreBatchTotals lines.now masks.now groupings.now
         (range_with_len 0 (length lines.now.customer.now)) v.items) }
 {
-    let size = lines.customer.len() / 16 + 1;
-    let takers = take_in_threads(rt, alloc, lines, masks, groupings, size)?;
-    let mut all = no_batch_totals(alloc, groupings)?;
-    for number in 0..PARTS {
-        add_part(
-            alloc, lines, masks, groupings, size, &takers, number, &mut all,
-        )?;
+    let places = lines.customer.len();
+    let takers = take_in_threads(rt, alloc, lines, masks, groupings)?;
+    let Taken { parts, totals } = join_taken(alloc, lines, masks, groupings, &takers)?;
+    if are_all(parts, part_count(places)) {
+        return Ok(totals);
     }
-    Ok(all)
+    // No clause follows the threads: had they left a part out, or taken one twice, one thread would add all up here.
+    range_totals(alloc, lines, masks, groupings, 0, places)
 }

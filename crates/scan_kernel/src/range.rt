@@ -19,7 +19,7 @@ pub const CHUNK: usize = 2048;
 
 /// What is found of a chunk.
 #[derive(Drop)]
-struct Room {
+pub struct Room {
     places: Vec<u32>,
     masks: Vec<u16>,
     dealt: Dealt,
@@ -56,7 +56,7 @@ fn add_chunk(
 }
 
 /// Adds the places of a range to the totals of each question, chunk by chunk.
-fn add_range(
+pub fn add_range(
     lines: &LineColumns<'_>,
     masks: &Masks,
     groupings: &[Grouping<'_>],
@@ -70,6 +70,7 @@ fn add_range(
     requires order { from ≤ to }
     requires room { HasRoom 2048 room.old }
     requires sizes { HaveSizes groupings.now totals.old }
+    ensures room { HasRoom 2048 room.new }
     ensures sizes { HaveSizes groupings.now totals.new }
     ensures added { AddsBatch lines.now masks.now groupings.now (range_with_len from (to - from)) totals.old
         totals.new }
@@ -112,7 +113,8 @@ fn lists_room(alloc: Global, count: usize) -> Result<Vec<Vec<u32>>, AllocError>
     Ok(lists)
 }
 
-fn room_for(alloc: Global, count: usize) -> Result<Room, AllocError>
+/// Room for what is found of so many places.
+pub fn room_for(alloc: Global, count: usize) -> Result<Room, AllocError>
     ensures { IfOk result (λ room. HasRoom count room) }
 {
     let places = places_room(alloc, count)?;

@@ -6,7 +6,7 @@ use ssb_schema::Items;
 use std::alloc::{AllocError, Global};
 
 /// How many groups a question may have and still be summed up with a number for each of them. The totals of a batch of
-/// sixteen such questions, in sixteen parts, then take 428 MB at most.
+/// sixteen such questions then take 25 MB at most for each thread, and as much where they are joined.
 const MOST_DENSE: u128 = 65_536;
 
 /// By group column, what each code adds to the number of a group: in 32 bits where a number is kept for each group, and

@@ -1,6 +1,13 @@
-use Rattle.std.proofs.Common.{All}
-use Rattle.scan_kernel.specs.Taken.{IsOfPart}
+use Rattle.std.proofs.Common.{length}
+use Rattle.scan_kernel.specs.Parts.{places_of_parts}
+use Rattle.scan_kernel.specs.Room.{HasRoom}
+use Rattle.scan_kernel.specs.Totals.{AreBatchTotals, HaveSizes}
 use Rattle.scan_kernel.proofs.taking.take_parts.Given as goal
 
 abbrev pub invariant-loop-turn : goal.invariant-loop-turn
-invariant-loop-turn l = All (IsOfPart l.lines l.masks l.groupings l.size) l.taken.items
+invariant-loop-turn l = record {
+  room : HasRoom 2048 l.room;
+  sizes : HaveSizes l.groupings l.totals.items;
+  totals : AreBatchTotals l.lines l.masks l.groupings (places_of_parts (length l.lines.customer.now) l.parts.items)
+      l.totals.items;
+}
