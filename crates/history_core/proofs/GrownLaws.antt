@@ -1,5 +1,5 @@
 -- The world that the fields show when the row store has one commit more.
-use Rattle.std.proofs.Common.{◌≡◌, ◌≢◌, ℕ, zero, suc, ◌+◌, ◌≤◌, List, [], ◌∷◌, ◌++◌, length}
+use Rattle.std.proofs.Common.{◌≡◌, ◌≢◌, ℕ, zero, suc, ◌+◌, ◌≤◌, List, [], ◌∷◌, ◌++◌, length, Vec, Global}
 use Rattle.std.proofs.Common.{Option, Some, None, refl, ap, sym, subst, ◌∙◌, arith, length-append}
 use Rattle.std.proofs.lemmas.List.{take-append-le}
 use Rattle.std.specs.Prelude.{map, slice_get}
@@ -95,13 +95,16 @@ module _ (history : List CommitRecord) (commit : CommitRecord) where
         mailbox = c.mailbox;
       })
 
-pub grown_kept : (w : Inside) (store : Warehouse) (commit : CommitRecord) → store ≡ with_commit w.store commit
-    → IsWorld w → IsWorld record w { store = store }
-grown_kept w store commit is k = subst (λ (s : Warehouse). IsWorld record w { store = s }) (sym is) record {
-  base = k.base;
-  clients = clients_more w.store.log commit w.clients.items k.clients;
-  dispatchers = dispatchers_more w.store.log commit w.dispatchers.items k.dispatchers;
-}
+pub grown_kept : (w : Inside) (store : Warehouse) (commits : Vec CommitRecord Global) (commit : CommitRecord)
+    → store ≡ with_commit w.store commit → commits.items ≡ w.commits.items ++ commit ∷ [] → IsWorld w
+    → IsWorld record w { store = store; commits = commits }
+grown_kept w store commits commit is pushed k =
+    subst (λ (s : Warehouse). IsWorld record w { store = s; commits = commits }) (sym is) record {
+      base = k.base;
+      commits = pushed ∙ ap (λ l. l ++ commit ∷ []) k.commits;
+      clients = clients_more w.store.log commit w.clients.items k.clients;
+      dispatchers = dispatchers_more w.store.log commit w.dispatchers.items k.dispatchers;
+    }
 
 pub applied_grown : (w : Inside) (store : Warehouse) (client : ℕ) (actions : List Action) (number : ℕ) → IsWorld w
     → refusal_of w.store.base w.store.log actions ≡ None → store ≡ with_commit w.store (commit_by client actions)

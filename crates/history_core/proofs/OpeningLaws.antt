@@ -40,10 +40,11 @@ idle_dispatchers commits count dispatchers idle = record { own = own }
         (sym (idle.each place d at)) (zero-le, tt, tt)
 
 pub opening_kept : (w : Inside) (clients dispatchers : ℕ) → w.base.value ≡ w.store.base
-    → OpeningClients clients w.clients.items → OpeningDispatchers dispatchers w.dispatchers.items → IsWorld w
-opening_kept w clients dispatchers base new idle =
+    → w.commits.items ≡ w.store.log → OpeningClients clients w.clients.items → OpeningDispatchers dispatchers w.dispatchers.items → IsWorld w
+opening_kept w clients dispatchers base commits new idle =
     record {
       base = base;
+      commits = commits;
       clients = new_clients _ clients w.clients.items new;
       dispatchers = idle_dispatchers _ dispatchers w.dispatchers.items idle;
     }

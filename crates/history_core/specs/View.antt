@@ -50,5 +50,6 @@ pub record DispatchersFit (commits : ℕ) (dispatchers : List Dispatcher) : Type
 
 pub record IsWorld (w : Inside) : Type 0 where
   pub base : w.base.value ≡ w.store.base
+  pub commits : w.commits.items ≡ w.store.log
   pub clients : ClientsFit (length w.store.log) w.clients.items
   pub dispatchers : DispatchersFit (length w.store.log) w.dispatchers.items

@@ -19,7 +19,7 @@ use crate::event::{Event, Reply, Who};
 use crate::mailbox::Mailbox;
 use crate::numbered::{find, place_of};
 use crate::questions::share;
-use row_store::{ApplyError, PlainLines, Replica, RowStore};
+use row_store::{ApplyError, Commit, PlainLines, Replica, RowStore};
 use ssb_answers::{Question, ResultRow, Unserved, evaluate};
 use ssb_base::Base;
 use ssb_schema::{Items, Refresh};
@@ -36,6 +36,8 @@ pub struct World {
     alloc: Global,
     base: Arc<Base>,
     store: RowStore,
+    // All commits: the row store may forget some of its own.
+    commits: Vec<Commit>,
     rows: Option<Who>,
     writer: Option<u32>,
     clients: Vec<client::Client>,
@@ -92,6 +94,7 @@ impl World {
             alloc,
             base,
             store,
+            commits: Vec::new(alloc),
             rows: None,
             writer: None,
             clients,
@@ -517,7 +520,8 @@ impl World {
         ensures lines { IfOk result (λ lines. lines ≡ record { base = self.now.base; log = take at self.now.history }) }
         ensures legal { IsLegal self.now.base self.now.history }
     {
-        let commits = &self.store.log_from(0)[..at as usize];
+        self.store.soundness();
+        let commits = &self.commits[..at as usize];
         let mut lines = PlainLines::new(self.alloc, Arc::try_clone(&self.base)?)?;
         for commit in commits {
             lines.absorb(commit)?;
@@ -559,7 +563,9 @@ impl World {
         ensures unchanged { OnErr result (self.new ≡ self.old) }
     {
         let refresh = Arc::try_clone(refresh)?;
-        let receipt = match self.store.apply(client, refresh) {
+        let shared = Arc::try_clone(&refresh)?;
+        self.commits.reserve(1)?;
+        let receipt = match self.store.apply(client, shared) {
             Ok(receipt) => receipt,
             Err(ApplyError::Refused(refusal)) => {
                 return Ok(Reply::Refused {
@@ -570,6 +576,7 @@ impl World {
             }
             Err(ApplyError::OutOfMemory) => return Err(AllocError),
         };
+        self.commits.push_reserved(Commit { client, refresh });
         Ok(Reply::Committed(receipt.number))
     }
 }

@@ -1,13 +1,8 @@
-use Rattle.std.proofs.Common.{sym, ◌∙◌}
+use Rattle.std.proofs.Common.{rules, sym, ◌∙◌}
 use Rattle.history_core.specs.World.{commit_by}
 use Rattle.history_core.specs.Applying.{applied}
 use Rattle.history_core.proofs.GrownLaws.{grown_kept, applied_grown}
 use Rattle.history_core.proofs.world.World.apply.Goals as goal
-
-pub invariant_of-self-2 : goal.invariant_of-self-2
-invariant_of-self-2 c =
-    grown_kept c.self.inside c.apply.new.self
-    (commit_by c.args.client c.in_ok-refresh.refresh.value) c.in-Ok.ensures.log c.self.invariant
 
 pub returns-clause-applied : goal.returns-clause-applied
 returns-clause-applied c = (λ i. applied (sym c.self.view_is i) c.args.client (sym c.in_ok-refresh.ensures i))

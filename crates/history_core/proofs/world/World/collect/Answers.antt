@@ -9,6 +9,7 @@ use Rattle.history_core.proofs.world.World.collect.Goals as goal
 pub invariant_of-self : goal.invariant_of-self
 invariant_of-self c = record {
   base = c.self.invariant.base;
+  commits = c.self.invariant.commits;
   clients =
       clients_fit c.self.inside c.self.invariant c.args.client c.in-Some.place c.len.result c.in-Some.ensures.place
       (λ x. record x { mailbox = c.collect.new.self }) c.index_mut.result.now c.index_mut.ensures.value (search rules)

@@ -1,4 +1,4 @@
-use Rattle.std.proofs.Common.{refl, ap, sym, ◌∙◌, [], None}
+use Rattle.std.proofs.Common.{rules, refl, ap, sym, ◌∙◌, [], None}
 use Rattle.ssb_base.specs.Base.{Tables}
 use Rattle.row_store.specs.History.{Warehouse}
 use Rattle.history_core.specs.declared.world.World.TheInside.{Inside}
@@ -10,7 +10,7 @@ invariant_of-result c =
     opening_kept _ c.args.clients c.args.dispatchers
     (sym
     (ap (λ (w : Warehouse). w.base) c.in_ok-store.ensures
-    ∙ c.in_ok-try_clone.ensures)) c.in_ok-clients.ensures c.in_ok-dispatchers.ensures
+    ∙ c.in_ok-try_clone.ensures)) (search rules) c.in_ok-clients.ensures c.in_ok-dispatchers.ensures
 
 pub returns : goal.returns
 returns c =
@@ -18,6 +18,7 @@ returns c =
       alloc = c.args.alloc;
       base = c.args.base;
       store = c.in_ok-store.store;
+      commits = c.new.result;
       rows = None;
       writer = None;
       clients = c.in_ok-clients.clients;

@@ -6,6 +6,7 @@ pub invariant_of-self : goal.invariant_of-self
 invariant_of-self c = let placed : c.replace.new.dest ≡ c.args.mailbox = search rules in
     record {
       base = c.self.invariant.base;
+      commits = c.self.invariant.commits;
       clients =
           clients_fit c.self.inside c.self.invariant c.args.number c.in-Some.place c.len.result c.in-Some.ensures.place
           (λ x. record x { mailbox = c.replace.new.dest }) c.index_mut.result.now c.index_mut.ensures.value (search rules)

@@ -8,6 +8,7 @@ use Rattle.history_core.proofs.world.World.see.Goals as goal
 pub invariant_of-self : goal.invariant_of-self
 invariant_of-self c = let count : c.len-length.result ≡ length c.self.inside.store.log = search rules in record {
   base = c.self.invariant.base;
+  commits = c.self.invariant.commits;
   clients =
       clients_fit c.self.inside c.self.invariant c.in-Client.number c.in-Some.place c.len.result c.in-Some.ensures.place
       (λ x. record x { seen = c.len-length.result }) c.index_mut.result.now c.index_mut.ensures.value (search rules)
@@ -34,6 +35,7 @@ pub invariant_of-self-in-Some-place_of : goal.invariant_of-self-in-Some-place_of
 invariant_of-self-in-Some-place_of c =
     let count : c.len-length.result ≡ length c.self.inside.store.log = search rules in record {
       base = c.self.invariant.base;
+      commits = c.self.invariant.commits;
       clients = c.self.invariant.clients;
       dispatchers =
           dispatchers_fit c.self.inside c.self.invariant c.in-Dispatcher.number c.in-Some-place_of.place c.len-in-Dispatcher.result

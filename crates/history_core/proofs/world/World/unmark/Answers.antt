@@ -6,6 +6,7 @@ use Rattle.history_core.proofs.world.World.unmark.Goals as goal
 pub invariant_of-self : goal.invariant_of-self
 invariant_of-self c = record {
   base = c.self.invariant.base;
+  commits = c.self.invariant.commits;
   clients = c.self.invariant.clients;
   dispatchers =
       dispatchers_fit c.self.inside c.self.invariant c.args.number c.in-Some.place c.len.result c.in-Some.ensures.place
