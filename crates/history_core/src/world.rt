@@ -88,13 +88,14 @@ impl World {
         ensures { IfOk result (λ world. world ≡ opening_world base.value clients dispatchers) }
     {
         let store = RowStore::new(alloc, Arc::try_clone(&base)?, hashing)?;
+        let commits = Vec::new(alloc);
         let clients = opening_clients(alloc, clients)?;
         let dispatchers = opening_dispatchers(alloc, dispatchers)?;
         Ok(World {
             alloc,
             base,
             store,
-            commits: Vec::new(alloc),
+            commits,
             rows: None,
             writer: None,
             clients,
@@ -563,9 +564,9 @@ impl World {
         ensures unchanged { OnErr result (self.new ≡ self.old) }
     {
         let refresh = Arc::try_clone(refresh)?;
-        let shared = Arc::try_clone(&refresh)?;
+        let kept = Arc::try_clone(&refresh)?;
         self.commits.reserve(1)?;
-        let receipt = match self.store.apply(client, shared) {
+        let receipt = match self.store.apply(client, refresh) {
             Ok(receipt) => receipt,
             Err(ApplyError::Refused(refusal)) => {
                 return Ok(Reply::Refused {
@@ -576,7 +577,11 @@ impl World {
             }
             Err(ApplyError::OutOfMemory) => return Err(AllocError),
         };
-        self.commits.push_reserved(Commit { client, refresh });
+        let commit = Commit {
+            client,
+            refresh: kept,
+        };
+        self.commits.push_reserved(commit);
         Ok(Reply::Committed(receipt.number))
     }
 }
