@@ -13,18 +13,18 @@ use crate::log_reader::LogReader;
 use crate::room::ClosingRoom;
 use crate::server::{Server, SharedTable};
 use crate::tickets::{are_all_numbered, are_clients_numbered, are_dispatchers_numbered};
-use row_store::Commit;
+use row_store::Log;
 use ssb_base::Base;
 use std::fmt;
 use std::fmt::{Display, Formatter};
 use std::sync::Arc;
 use twin_cell::EndsCopies;
 
-/// What a closed server leaves: the base that it was opened over, and every commit.
+/// What a closed server leaves: the base that it was opened over, and the log.
 #[derive(Drop)]
 pub struct Closed {
     pub base: Arc<Base>,
-    pub log: Vec<Commit>,
+    pub log: Log,
 }
 
 /// A client or a dispatcher is missing, or there twice. All is handed back.
@@ -105,7 +105,7 @@ impl<W: EndsCopies + Drop> Server<W> {
         requires there { AreAllThere self clients.items (with_reader dispatchers.items reader) }
         requires clients { All (IsQuiet self) clients.items }
         requires dispatchers { All (IsOf self) (with_reader dispatchers.items reader) }
-        ensures { Leaves self clients.items (with_reader dispatchers.items reader) result.base.value result.log.items }
+        ensures { Leaves self clients.items (with_reader dispatchers.items reader) result.base.value result.log }
     {
         let (table, room) = self.into_table();
         let (client_tokens, dispatcher_tokens) = room.gather(clients, dispatchers, reader);
@@ -126,12 +126,12 @@ impl<W: EndsCopies + Drop> Server<W> {
         ensures back { IfErr result (λ error. (error.server ≡ self) × (error.clients ≡ clients)
             × (error.dispatchers ≡ dispatchers)) }
         ensures base { IfOk result (λ closed. closed.base.value ≡ self.base) }
-        ensures legal { IfOk result (λ closed. IsLegal self.base closed.log.items) }
-        ensures named { IfOk result (λ closed. IsOfClients self.clients closed.log.items) }
-        ensures seen { IfOk result (λ closed. All (λ t. IsPrefix t.seen closed.log.items) clients.items
-            × All (λ t. IsPrefix t.seen closed.log.items) dispatchers.items) }
-        ensures true_log { IfOk result (λ closed. IsLogOf self clients.items dispatchers.items closed.log.items) }
-        ensures owns { IfOk result (λ closed. All (λ t. Owns t.who t.mine closed.log.items) clients.items) }
+        ensures legal { IfOk result (λ closed. IsLegal self.base closed.log) }
+        ensures named { IfOk result (λ closed. IsOfClients self.clients closed.log) }
+        ensures seen { IfOk result (λ closed. All (λ t. IsPrefix t.seen closed.log) clients.items
+            × All (λ t. IsPrefix t.seen closed.log) dispatchers.items) }
+        ensures true_log { IfOk result (λ closed. IsLogOf self clients.items dispatchers.items closed.log) }
+        ensures owns { IfOk result (λ closed. All (λ t. Owns t.who t.mine closed.log) clients.items) }
     {
         if !self.are_all_there(clients.as_slice(), dispatchers.as_slice()) {
             return Err(CloseError {
@@ -159,13 +159,13 @@ impl<W: EndsCopies + Drop> Server<W> {
         ensures back { IfErr result (λ error. (error.server ≡ self) × (error.clients ≡ clients)
             × (error.reader ≡ reader) × (error.dispatchers ≡ dispatchers)) }
         ensures base { IfOk result (λ closed. closed.base.value ≡ self.base) }
-        ensures legal { IfOk result (λ closed. IsLegal self.base closed.log.items) }
-        ensures named { IfOk result (λ closed. IsOfClients self.clients closed.log.items) }
-        ensures seen { IfOk result (λ closed. All (λ t. IsPrefix t.seen closed.log.items) clients.items
-            × All (λ t. IsPrefix t.seen closed.log.items) (dispatchers.items ++ reader ∷ [])) }
+        ensures legal { IfOk result (λ closed. IsLegal self.base closed.log) }
+        ensures named { IfOk result (λ closed. IsOfClients self.clients closed.log) }
+        ensures seen { IfOk result (λ closed. All (λ t. IsPrefix t.seen closed.log) clients.items
+            × All (λ t. IsPrefix t.seen closed.log) (dispatchers.items ++ reader ∷ [])) }
         ensures true_log { IfOk result (λ closed. IsLogOf self clients.items (dispatchers.items ++ reader ∷ [])
-            closed.log.items) }
-        ensures owns { IfOk result (λ closed. All (λ t. Owns t.who t.mine closed.log.items) clients.items) }
+            closed.log) }
+        ensures owns { IfOk result (λ closed. All (λ t. Owns t.who t.mine closed.log) clients.items) }
     {
         if !self.are_all_there_with_reader(clients.as_slice(), &reader, dispatchers.as_slice()) {
             return Err(CloseWithReaderError {

@@ -17,6 +17,17 @@ fn copy_of(alloc: Global, commits: &[Commit]) -> Result<Vec<Commit>, AllocError>
     Ok(copies)
 }
 
+// Copies the commits behind the first `taken`.
+fn copy_behind(alloc: Global, rows: &RowStore, taken: u64) -> Result<Vec<Commit>, AllocError>
+    requires { taken ≤ length rows.now.log }
+    ensures { IfOk result (λ commits. commits.items ≡ drop taken rows.now.log) }
+{
+    match rows.log_from(taken) {
+        Some(commits) => copy_of(alloc, commits),
+        None => Err(AllocError),
+    }
+}
+
 /// Copies the commits behind the first `taken` out of the rows, and gives the rows back as they were taken.
 pub(crate) fn copy_and_put<W: EndsCopies + Drop>(
     alloc: Global,
@@ -33,7 +44,7 @@ pub(crate) fn copy_and_put<W: EndsCopies + Drop>(
     ensures commits { IfOk result (λ commits. commits.items ≡ drop taken token.new.seen) }
     ensures sound { IsSound token.new }
 {
-    let commits = copy_of(alloc, rows.log_from(taken as usize));
+    let commits = copy_behind(alloc, &rows, taken);
     put_rows(table, token, rows);
     commits
 }

@@ -129,10 +129,13 @@ fn close<W: Wait + Drop>(
     let Ok(Closed { base: _, log }) = server.close(clients, dispatchers) else {
         unreachable!()
     };
+    let Some(commits) = log.into_commits() else {
+        return Err(AllocError);
+    };
     Ok(Run {
         reports,
         trace: Trace {
-            commits: Items::from_vec(log),
+            commits: Items::from_vec(commits),
             answers: Items::from_vec(told),
         },
         batches,
