@@ -46,6 +46,9 @@ impl TablesAfter {
         store.base().soundness();
         let _count = store.len();
         let (base, log) = store.into_parts();
+        let Some(log) = log.into_commits() else {
+            return Err(AllocError);
+        };
         log_adds_orders(log.as_slice());
         let last = LastGone::of(alloc, hashing, log.as_slice())?;
         Ok(TablesAfter { base, log, last })
