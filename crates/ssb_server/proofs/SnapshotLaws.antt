@@ -23,7 +23,7 @@ use Rattle.std.proofs.Common.{
 }
 use Rattle.std.proofs.lemmas.List.{append-nil}
 use Rattle.std.proofs.lemmas.List.Elements.{All-head}
-use Rattle.std.specs.Prelude.{All, Result, Ok, Err, MatchResult, is_err, false, true, Some, None}
+use Rattle.std.specs.Prelude.{All, Result, Ok, Err, MatchResult, OnOk, OnErr, is_err, false, true, Some, None}
 use Rattle.std.specs.declared.alloc.AllocError.{AllocError}
 use Rattle.std.proofs.lemmas.List.{map-id}
 use Rattle.row_store.specs.History.{CommitRecord, IsPrefix}
@@ -379,3 +379,14 @@ snapshot_fetched before list taken fetched after free first fetches put =
 
 pub sound_without : (t u : TokenRecord) → u ≡ without_writer t → IsSound t → IsSound u
 sound_without t u e sound = subst IsSound (sym e) record { legal = sound.legal; named = sound.named; owns = sound.owns }
+
+-- the writer follows as before when it has published once more, or failed to
+pub again_follows : (base : Tables) (list : List CommitRecord) (between : Writing)
+    (result : Result (Unit {0}) AllocError) (after : Writing)
+    → OnOk result (after ≡ record between { published = between.published ++ between.pending; pending = [] })
+    → OnErr result (after ≡ between) → Follows base list between → Follows base list after
+again_follows base list between (Ok _) after is same follows = subst (λ w. Follows base list w) (sym is) record {
+  base_is = follows.base_is;
+  taken = subst (λ xs. IsPrefix xs list) (sym (append-nil (between.published ++ between.pending))) follows.taken;
+}
+again_follows base list between (Err _) after is same follows = subst (λ w. Follows base list w) (sym same) follows

@@ -2,6 +2,7 @@
 use Rattle.std.proofs.Common.{append-nil, ◌≡◌, ℕ, ◌≤◌, List, [], ◌++◌, length, Some, ap, sym, subst, ◌∙◌, arith}
 use Rattle.row_store.specs.History.{CommitRecord, IsPrefix, lines_after}
 use Rattle.row_store.specs.State.{State, StandsFor}
+use Rattle.row_store.proofs.PrefixLaws.{beginnings_chain}
 use Rattle.ssb_base.specs.Base.{Tables}
 use Rattle.twin_cell.specs.Twin.{Reading, Entered}
 use Rattle.fact_columns.specs.Stored.{Stored, columns_state}
@@ -221,3 +222,14 @@ pub turned_who : (t u : TokenRecord) (turn : Turn) → Turned t turn u → u.who
 turned_who t u Idle turned = ap (λ (x : TokenRecord). x.who) turned
 turned_who t u (Answered at count) turned = ap (λ (x : TokenRecord). x.who) turned.1.now
 turned_who t u (Unserved count cause) turned = ap (λ (x : TokenRecord). x.who) turned.1.now
+
+pub fetched_free : (t u : TokenRecord) → HasFetched t u → IsFree t → IsFree u
+fetched_free t u fetched free = subst IsFree (sym fetched.now)
+    record { rows = free.rows; writer = free.writer; hand = free.hand }
+
+pub fetched_knows : (t u : TokenRecord) (reader : Reading) → HasFetched t u → Knows t.table.base t.seen reader
+    → Knows u.table.base u.seen reader
+fetched_knows t u reader fetched knows = record {
+  base_is = knows.base_is ∙ sym (ap (λ (x : TokenRecord). x.table.base) fetched.now);
+  told = beginnings_chain reader.told t.seen u.seen knows.told fetched.begins;
+}

@@ -5,6 +5,9 @@ use std::sync::Wait;
 use std::thread::Parker;
 use std::time::Duration;
 
+/// The dispatcher that carries commits over to the copies while nobody asks. Each server has one of this number.
+pub(crate) const FOLLOWER: u32 = 1;
+
 /// A parker for each client and each dispatcher, by number. A ring before the sleep lets the sleep end at once, so none
 /// is lost. At most one thread at a time sleeps at each, since it has the token.
 #[derive(Drop)]
@@ -41,6 +44,13 @@ impl Bells {
         }
     }
 
+    /// Wakes the dispatcher that follows the commits.
+    pub(crate) fn ring_follower(&self) {
+        if let Some(parker) = parker_of(self.dispatchers.as_slice(), FOLLOWER) {
+            parker.unpark();
+        }
+    }
+
     /// Wakes the client.
     pub(crate) fn ring_client(&self, number: u32) {
         if let Some(parker) = parker_of(self.clients.as_slice(), number) {
@@ -73,6 +83,13 @@ impl Bells {
     pub(crate) fn await_dispatcher<R: Wait>(&self, rt: &R, number: u32) {
         if let Some(parker) = parker_of(self.dispatchers.as_slice(), number) {
             parker.park(rt);
+        }
+    }
+
+    /// Sleeps until the dispatcher is woken, or for so long. It may return for no reason.
+    pub(crate) fn await_dispatcher_for<R: Wait>(&self, rt: &R, number: u32, longest: Duration) {
+        if let Some(parker) = parker_of(self.dispatchers.as_slice(), number) {
+            parker.park_timeout(rt, longest);
         }
     }
 }

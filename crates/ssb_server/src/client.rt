@@ -8,6 +8,7 @@ ghost use Rattle.ssb_server.specs.Tickets.{IsNewClient, IsResting};
 ghost use Rattle.history.specs.Members.{number_of};
 ghost use Rattle.ssb_server.specs.Clients.{IsClient, Refreshed, Looks, Asks, Polls};
 
+use crate::pace::Pace;
 use crate::server::{Server, SharedTable, Token, look, meet, put_rows};
 use history_core::{Response, Who};
 use row_store::{Receipt, RefreshError};
@@ -41,6 +42,7 @@ impl<W: EndsCopies + Drop> Model for Client<W> {
 fn apply<W: EndsCopies + Drop, R: Wait>(
     rt: &R,
     table: &SharedTable<W>,
+    pace: &Pace,
     token: &mut Token<W>,
     number: u32,
     refresh: Arc<Refresh>,
@@ -51,6 +53,7 @@ fn apply<W: EndsCopies + Drop, R: Wait>(
 {
     let mut rows = table.take_rows(rt, token);
     let reply = rows.refresh(number, refresh);
+    pace.lag.grows(rows.len() as u64);
     put_rows(table, token, rows);
     reply
 }
@@ -151,7 +154,14 @@ impl<W: EndsCopies + Drop> Client<W> {
             → Refreshed self.old number refresh.value result self.new }
         ensures sound { IsSound self.new }
     {
-        let applied = apply(rt, &server.table, &mut self.token, self.number, refresh);
+        let applied = apply(
+            rt,
+            &server.table,
+            &server.pace,
+            &mut self.token,
+            self.number,
+            refresh,
+        );
         if let Ok(receipt) = &applied {
             server.pace.keep(
                 rt,

@@ -17,7 +17,8 @@ fn copy_of(alloc: Global, commits: &[Commit]) -> Result<Vec<Commit>, AllocError>
     Ok(copies)
 }
 
-// Copies the commits behind the first `taken`.
+// Copies the commits behind the first `taken`. Rows forget no more than the writer of the columns has taken and who reads
+// the log has read, so none of these is forgotten; no contract says so, and where it were otherwise, nothing is copied.
 fn copy_behind(alloc: Global, rows: &RowStore, taken: u64) -> Result<Vec<Commit>, AllocError>
     requires { taken ≤ length rows.now.log }
     ensures { IfOk result (λ commits. commits.items ≡ drop taken rows.now.log) }
@@ -28,13 +29,15 @@ fn copy_behind(alloc: Global, rows: &RowStore, taken: u64) -> Result<Vec<Commit>
     }
 }
 
-/// Copies the commits behind the first `taken` out of the rows, and gives the rows back as they were taken.
+/// Copies the commits behind the first `taken` out of the rows, lets the rows forget those before them that are among
+/// the first `unneeded`, and gives the rows back as they were taken.
 pub(crate) fn copy_and_put<W: EndsCopies + Drop>(
     alloc: Global,
     table: &SharedTable<W>,
     token: &mut Token<W>,
-    rows: RowStore,
+    mut rows: RowStore,
     taken: u64,
+    unneeded: u64,
 ) -> Result<Vec<Commit>, AllocError>
     requires table { token.old.table ≡ table.now }
     requires holds { token.old.has_rows ≡ true }
@@ -45,6 +48,8 @@ pub(crate) fn copy_and_put<W: EndsCopies + Drop>(
     ensures sound { IsSound token.new }
 {
     let commits = copy_behind(alloc, &rows, taken);
+    let forgotten = rows.forget(taken.min(unneeded));
     put_rows(table, token, rows);
+    drop(forgotten);
     commits
 }

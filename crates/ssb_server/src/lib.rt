@@ -27,7 +27,7 @@
 //! ```text
 //! client ── refresh ─▶ row store ── log ─▶ copies of the columns ── scan ─▶ dispatcher ── answer ─▶ client
 //!
-//! let Opened { server, mut clients, mut dispatchers } = open(alloc, &rt, hashing, base, 2, 1)?;
+//! let Opened { server, mut clients, mut dispatchers } = open(alloc, &rt, hashing, base, 2, 1, Keeps::All)?;
 //! clients[0].ask(&server, questions);                        // in one thread
 //! dispatchers[0].turn(&rt, &server, &OpenGate);              // in another
 //! let answer = clients[0].await_answer(&rt, &server);
@@ -41,7 +41,9 @@ mod client;
 mod closing;
 mod copying;
 mod dispatcher;
+mod following;
 mod grabbing;
+mod lag;
 mod log_reader;
 mod opening;
 mod pace;
@@ -51,6 +53,7 @@ mod server;
 mod snapshot;
 mod tickets;
 mod turn;
+mod unneeded;
 
 pub use client::Client;
 pub use closing::{CloseError, CloseWithReaderError, Closed};
@@ -62,3 +65,4 @@ pub use opening::{
 pub use server::Server;
 pub use turn::{OpenGate, ScanGate, Turn};
 pub use twin_cell::EndsCopies;
+pub use unneeded::Keeps;

@@ -61,7 +61,7 @@ fn read<W: EndsCopies + Drop, R: Wait>(
 {
     let before = pace.hold();
     let rows = table.take_rows(rt, token);
-    let commits = copy_and_put(alloc, table, token, rows, taken);
+    let commits = copy_and_put(alloc, table, token, rows, taken, 0);
     pace.release(before);
     bells.ring_clients();
     commits
@@ -153,6 +153,7 @@ impl<W: EndsCopies + Drop> LogReader<W> {
         ensures free { IsFree self.new }
         ensures sound { IsSound self.new }
     {
+        server.pace.unneeded.has_read(taken);
         read(
             rt,
             server.alloc,

@@ -9,11 +9,13 @@ use crate::batch::{Batch, MOST_CLIENTS};
 use crate::bells::Bells;
 use crate::client::Client;
 use crate::dispatcher::Dispatcher;
+use crate::lag::Lag;
 use crate::log_reader::LogReader;
 use crate::pace::Pace;
 use crate::room::ClosingRoom;
 use crate::server::{Server, SharedTable, Token};
 use crate::tickets::clients_of;
+use crate::unneeded::{Keeps, Unneeded};
 use dimension_index::index_of;
 use fact_columns::Columns;
 use row_store::RowStore;
@@ -95,6 +97,7 @@ fn server_over<W: EndsCopies + Drop>(
     table: SharedTable<W>,
     clients: u32,
     dispatchers: u32,
+    pace: Pace,
 ) -> Result<Server<W>, AllocError>
     requires counts { (clients ≡ table.clients) × (dispatchers ≡ table.dispatchers) }
     requires few { (clients ≤ 16) × (dispatchers ≤ 5) }
@@ -105,7 +108,7 @@ fn server_over<W: EndsCopies + Drop>(
         clients,
         dispatchers,
         bells: Bells::new(alloc, clients, dispatchers)?,
-        pace: Pace::new(),
+        pace,
         alloc,
         room: Mutex::new(ClosingRoom::new(alloc)?),
     })
@@ -117,6 +120,7 @@ fn seat_all<W: EndsCopies + Drop>(
     opened: history::OpenedTable<twin_cell::TwinWriter<Columns, W>>,
     readers: Vec<TwinReader<Columns>>,
     counts: (u32, u32),
+    pace: Pace,
 ) -> Result<Opened<W>, AllocError>
     requires counts { (counts.0 ≡ opened.shared.clients) × (counts.1 ≡ opened.shared.dispatchers) }
     requires few { (counts.0 ≤ 16) × (counts.1 ≤ 5) }
@@ -136,7 +140,7 @@ fn seat_all<W: EndsCopies + Drop>(
     let clients = clients_of(alloc, clients)?;
     let dispatchers = dispatchers_of(alloc, dispatchers, readers)?;
     Ok(Opened {
-        server: server_over(alloc, shared, counts.0, counts.1)?,
+        server: server_over(alloc, shared, counts.0, counts.1, pace)?,
         clients,
         dispatchers,
     })
@@ -210,6 +214,7 @@ fn build<W: Threads + Sync + Wait + Drop>(
     base: &Arc<Base>,
     clients: u32,
     dispatchers: u32,
+    keeps: Keeps,
 ) -> Result<Opened<W>, TwinError>
     requires counts { AreCounts clients dispatchers }
     ensures base { IfOk result (λ made. made.server.base ≡ base.now.value) }
@@ -219,7 +224,8 @@ fn build<W: Threads + Sync + Wait + Drop>(
 {
     let counts = (clients, dispatchers);
     let made = table_over(alloc, rt, hashing, base, counts, dispatchers)?;
-    match seat_all(alloc, made.opened, made.readers, counts) {
+    let pace = Pace::new(Lag::new(keeps == Keeps::Recent), Unneeded::by_nobody(keeps));
+    match seat_all(alloc, made.opened, made.readers, counts, pace) {
         Ok(seated) => Ok(seated),
         Err(_) => Err(TwinError::OutOfMemory),
     }
@@ -248,7 +254,8 @@ fn build_with_reader<W: Threads + Sync + Wait + Drop>(
         unreachable!()
     };
     let reader = LogReader::new(token);
-    let Ok(seated) = seat_all(alloc, made.opened, made.readers, counts) else {
+    let pace = Pace::new(Lag::new(true), Unneeded::by_reader());
+    let Ok(seated) = seat_all(alloc, made.opened, made.readers, counts, pace) else {
         return Err(TwinError::OutOfMemory);
     };
     let Opened {
@@ -288,8 +295,8 @@ fn fault_of(error: TwinError) -> OpenFault
 }
 
 /// Opens a server over a base, for 1 to 16 clients and 1 to 4 dispatchers. `rt` is the handle by which the writer of
-/// the columns waits, and `hashing` keys the map of orders. The client count is looked at first, then the dispatcher
-/// count; any fault hands the base back.
+/// the columns waits, `hashing` keys the map of orders, and `keeps` says which part of the log stays in memory. The
+/// client count is looked at first, then the dispatcher count; any fault hands the base back.
 pub fn open<W: Threads + Sync + Wait + Drop>(
     alloc: Global,
     rt: W,
@@ -297,6 +304,7 @@ pub fn open<W: Threads + Sync + Wait + Drop>(
     base: Arc<Base>,
     clients: u32,
     dispatchers: u32,
+    keeps: Keeps,
 ) -> Result<Opened<W>, OpenError>
     ensures range { OnOk result (AreCounts clients dispatchers) }
     ensures base { IfOk result (λ made. made.server.base ≡ base.value) }
@@ -309,7 +317,7 @@ pub fn open<W: Threads + Sync + Wait + Drop>(
     if let Some(fault) = count_fault(clients, dispatchers) {
         return Err(OpenError { fault, back: base });
     }
-    match build(alloc, rt, hashing, &base, clients, dispatchers) {
+    match build(alloc, rt, hashing, &base, clients, dispatchers, keeps) {
         Ok(opened) => Ok(opened),
         Err(error) => Err(OpenError {
             fault: fault_of(error),
@@ -318,7 +326,8 @@ pub fn open<W: Threads + Sync + Wait + Drop>(
     }
 }
 
-/// Opens a server as `open` does, with who reads its log: at the table that is one dispatcher more, the last one.
+/// Opens a server as `open` does, with who reads its log: at the table that is one dispatcher more, the last one. Of
+/// the log stays in memory what it has yet to read.
 pub fn open_with_reader<W: Threads + Sync + Wait + Drop>(
     alloc: Global,
     rt: W,

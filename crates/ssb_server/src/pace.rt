@@ -1,7 +1,9 @@
-//! How far clients run ahead of a batch.
+//! How clients and dispatchers keep pace with one another.
 
 use crate::bells::Bells;
+use crate::lag::Lag;
 use crate::server::SharedTable;
+use crate::unneeded::Unneeded;
 use std::sync::Wait;
 use std::sync::atomic::{AtomicU64, Ordering};
 use std::time::Duration;
@@ -20,17 +22,23 @@ const LONGEST_WAIT: u64 = 2;
 /// pause leaves the row store home for moments only, a refresh waits while a dispatcher or who reads the log wants it.
 /// None waits for more than two milliseconds. No contract tells of it: it changes when a refresh returns, and never
 /// what it does.
+///
+/// Beside it lie how far the copies are behind, and which commits nobody reads again.
 #[derive(Drop)]
 pub(crate) struct Pace {
     // Refreshes up to this commit do not wait.
     limit: AtomicU64,
+    pub(crate) lag: Lag,
+    pub(crate) unneeded: Unneeded,
 }
 
 impl Pace {
-    /// No batch is being served.
-    pub(crate) fn new() -> Pace {
+    /// No batch is being served, and the copies have all commits.
+    pub(crate) fn new(lag: Lag, unneeded: Unneeded) -> Pace {
         Pace {
             limit: AtomicU64::new(u64::MAX),
+            lag,
+            unneeded,
         }
     }
 
@@ -58,8 +66,9 @@ impl Pace {
         bells.ring_clients();
     }
 
-    /// Lets the client wait that has made this commit, if the row store is wanted or it is far ahead of a batch.
-    /// Whoever waits for the row store then goes on, since nobody else would wake them.
+    /// Wakes the dispatcher that follows, if this commit is one for that, and lets the client wait that has made it, if
+    /// the row store is wanted or it is far ahead of a batch. Whoever waits for the row store then goes on, since nobody
+    /// else would wake them.
     pub(crate) fn keep<W: EndsCopies + Drop, R: Wait>(
         &self,
         rt: &R,
@@ -68,6 +77,9 @@ impl Pace {
         number: u32,
         commit: u64,
     ) {
+        if self.lag.wakes(commit) {
+            bells.ring_follower();
+        }
         if commit > self.limit.load(Ordering::Relaxed) {
             table.wake_waiting();
             bells.await_client_for(rt, number, Duration::from_millis(LONGEST_WAIT));

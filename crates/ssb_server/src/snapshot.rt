@@ -20,9 +20,9 @@ use twin_cell::{EndsCopies, Guard, TwinReader, TwinWriter};
 /// Why no copy was entered, with the reader.
 pub(crate) type Missed = (TwinReader<Columns>, Unserved);
 
-// Takes the rows, copies the commits that the writer lacks, and gives the rows back as they were. Clients let it go
-// first, and keep near to these commits from then on.
-fn fetch<W: EndsCopies + Drop, R: Wait>(
+/// Takes the rows, copies the commits that the writer lacks, lets the rows forget those before them that nobody else
+/// lacks, and gives the rows back as they were. Clients let it go first, and keep near to these commits from then on.
+pub(crate) fn fetch<W: EndsCopies + Drop, R: Wait>(
     rt: &R,
     alloc: Global,
     table: &SharedTable<W>,
@@ -43,7 +43,7 @@ fn fetch<W: EndsCopies + Drop, R: Wait>(
     let rows = table.take_rows(rt, token);
     pace.begin(rows.len() as u64);
     rows.soundness();
-    let commits = copy_and_put(alloc, table, token, rows, taken);
+    let commits = copy_and_put(alloc, table, token, rows, taken, pace.unneeded.count());
     bells.ring_clients();
     commits
 }
@@ -105,8 +105,8 @@ fn enter<W: EndsCopies + Drop, R: Wait>(
     Ok(guard)
 }
 
-// Appends the commits that the writer lacks, and publishes all.
-fn renew<W: Wait + Drop>(
+/// Appends the commits that the writer lacks, and publishes all.
+pub(crate) fn renew<W: Wait + Drop>(
     mut writer: TwinWriter<Columns, W>,
     commits: Vec<Commit>,
 ) -> (TwinWriter<Columns, W>, Result<(), AllocError>)

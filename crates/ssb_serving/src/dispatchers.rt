@@ -30,7 +30,9 @@ pub(crate) trait TakesTurns<W: Wait + Drop>: HasToken {
         requires table { (Self.token self.old).table ≡ server.now }
         ensures { IsStill (Self.token self.old) (Self.token self.new) };
 
-    fn pause<R: Wait>(&self, rt: &R, server: &Server<W>);
+    fn idle<R: Wait>(&mut self, rt: &R, server: &Server<W>)
+        requires { (Self.token self.old).table ≡ server.now }
+        ensures { IsStill (Self.token self.old) (Self.token self.new) };
 }
 
 impl<W: Wait + Drop> TakesTurns<W> for Dispatcher<W> {
@@ -38,8 +40,12 @@ impl<W: Wait + Drop> TakesTurns<W> for Dispatcher<W> {
         self.turn(rt, server, &OpenGate)
     }
 
-    fn pause<R: Wait>(&self, rt: &R, server: &Server<W>) {
-        self.rest(rt, server)
+    fn idle<R: Wait>(&mut self, rt: &R, server: &Server<W>) {
+        if self.lags(server) {
+            self.follow(rt, server);
+        } else {
+            self.rest(rt, server);
+        }
     }
 }
 
@@ -66,7 +72,8 @@ pub(crate) type Dispatching<W> = PromisedHandle<
     DispatchedBy<Dispatcher<W>>,
 >;
 
-// Takes turns until it is told to stop, and rests where nothing is asked. Who tells it sets the flag, and then rings.
+// Takes turns until it is told to stop. Where nothing is asked, it carries commits over to the copies if they lag, and
+// else rests. Who tells it to stop sets the flag, and then rings.
 fn dispatch<W: Wait + Drop, D: TakesTurns<W> + Drop, R: Wait + Threads + Sync>(
     rt: &R,
     server: &Server<W>,
@@ -86,7 +93,7 @@ fn dispatch<W: Wait + Drop, D: TakesTurns<W> + Drop, R: Wait + Threads + Sync>(
                         batches,
                     };
                 }
-                dispatcher.pause(rt, server);
+                dispatcher.idle(rt, server);
             }
             Turn::Answered { at: _, count } => batches.add(count),
             Turn::Unserved { count: _, cause: _ } => {}

@@ -15,7 +15,7 @@ use ssb_audit::{Told, Trace};
 use ssb_base::Base;
 use ssb_schema::Items;
 use ssb_script::Script;
-use ssb_server::{Client, Closed, Dispatcher, Opened, Server, open};
+use ssb_server::{Client, Closed, Dispatcher, Keeps, Opened, Server, open};
 use ssb_serving::{Batches, RunFault};
 use std::alloc::{AllocError, Global};
 use std::hash::RandomState;
@@ -209,7 +209,7 @@ pub fn serve_scripts<R: Wait + Threads + Sync + Clock>(
     ensures fault { IfErr result (λ fault. IsRunFault (vec_len scripts) dispatchers fault) }
 {
     let count = u32::try_from(scripts.len()).unwrap_or(u32::MAX);
-    match open(alloc, rt, hashing, base, count, dispatchers) {
+    match open(alloc, rt, hashing, base, count, dispatchers, Keeps::All) {
         Ok(opened) => Ok(serve(rt, alloc, opened, scripts, timed)?),
         Err(error) => Err(RunFault::from(error.fault)),
     }

@@ -1,0 +1,72 @@
+//! How the copies follow the commits, though nothing is asked.
+ghost use Rattle.std.specs.Prelude.{◌≡◌, ◌++◌, false};
+ghost use Rattle.history.specs.Tokens.{IsSound};
+ghost use Rattle.ssb_server.specs.Turns.{IsDispatcher, HoldsNothing, HasFetched, Fetches, HasTaken, Follows};
+
+use crate::server::{Server, Token};
+use crate::snapshot::{fetch, renew};
+use fact_columns::Columns;
+use row_store::{Commit, Follower};
+use std::alloc::AllocError;
+use std::sync::Wait;
+use twin_cell::TwinWriter;
+
+// Appends the commits that the writer lacks and publishes them, and once more, so that both copies have them.
+fn level<W: Wait + Drop>(
+    writer: TwinWriter<Columns, W>,
+    commits: Vec<Commit>,
+) -> (TwinWriter<Columns, W>, Result<(), AllocError>)
+    ensures { Follows writer.base (writer.published ++ writer.pending ++ commits.items) result.0 }
+{
+    let (writer, renewed) = renew(writer, commits);
+    match renewed {
+        Ok(()) => writer.publish(),
+        Err(error) => (writer, Err(error)),
+    }
+}
+
+// Fetches the commits that the writer lacks, and brings both copies up to them.
+fn carry_over<W: Wait + Drop, R: Wait>(
+    rt: &R,
+    server: &Server<W>,
+    token: &mut Token<W>,
+    writer: TwinWriter<Columns, W>,
+) -> (TwinWriter<Columns, W>, Result<(), AllocError>)
+    requires dispatcher { IsDispatcher server.now token.old }
+    requires free { token.old.has_rows ≡ false }
+    requires writer { HasTaken token.old writer }
+    ensures fetched { Fetches token.old token.new }
+    ensures sound { IsSound token.new }
+    ensures writer { Follows token.new.table.base token.new.seen result.0 }
+{
+    let taken = writer.taken();
+    match fetch(
+        rt,
+        server.alloc,
+        &server.table,
+        &server.pace,
+        &server.bells,
+        token,
+        taken,
+    ) {
+        Ok(commits) => level(writer, commits),
+        Err(error) => (writer, Err(error)),
+    }
+}
+
+/// Carries all commits so far over to both copies. Both parts are home afterwards.
+pub(crate) fn follow<W: Wait + Drop, R: Wait>(rt: &R, server: &Server<W>, token: &mut Token<W>)
+    requires dispatcher { IsDispatcher server.now token.old }
+    requires free { HoldsNothing token.old }
+    ensures followed { HasFetched token.old token.new }
+    ensures sound { IsSound token.new }
+{
+    server.pace.lag.begun();
+    let writer = server.table.take_writer(rt, token);
+    let (writer, carried) = carry_over(rt, server, token, writer);
+    server.table.put_writer(token, writer);
+    if carried.is_err() {
+        server.pace.lag.failed();
+    }
+    server.pace.end(&server.bells);
+}
