@@ -91,7 +91,7 @@ where
     requires durable { Only (D.seen disk) (D.may_leave disk) }
     requires few { vec_len speakers ≤ 16 }
     ensures served { IfOk result (λ run. IfSome run.log (λ log. GoesOn S.spoken base.value speakers.items run.left.items
-        log.items)) }
+        log)) }
     ensures left { IfOk result (λ run. vec_len run.left ≡ vec_len speakers) }
     ensures words { IfErr result (λ refusal. journal_status refusal ≢ 2) }
 {
@@ -137,7 +137,7 @@ where
     S::Left: Drop + Send,
     requires { vec_len speakers ≤ 16 }
     ensures served { IfOk result (λ run. IfSome run.log (λ log. (texts : Table → List ℕ)
-        → AreTexts I.remaining tables texts → GoesOnOver S.spoken texts speakers.items run.left.items log.items)) }
+        → AreTexts I.remaining tables texts → GoesOnOver S.spoken texts speakers.items run.left.items log)) }
     ensures left { IfOk result (λ run. vec_len run.left ≡ vec_len speakers) }
     ensures words { IfErr result (λ fault. job_status journal_status fault ≢ 2) }
 {

@@ -56,7 +56,7 @@ where
     R: Threads + Sync + Wait + Clock + AllocGlobal,
     S::Left: Drop + Send,
     ensures run { IfOk result (λ run. (texts : Table → List ℕ) → AreTexts I.remaining tables texts
-        → IsRunOver S.spoken texts speakers.items settings.dispatchers run.left.items run.log.items) }
+        → IsRunOver S.spoken texts speakers.items settings.dispatchers run.left.items run.log) }
     ensures left { IfOk result (λ run. vec_len run.left ≡ vec_len speakers) }
     ensures counts { OnOk result (AreCounts (vec_len speakers) settings.dispatchers) }
     ensures refused { IfErr result (λ fault. serving_status fault ≡ 1 → (texts : Table → List ℕ)
