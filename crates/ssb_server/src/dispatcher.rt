@@ -86,9 +86,7 @@ impl<W: EndsCopies + Drop> Dispatcher<W> {
     pub fn rest<R: Wait>(&self, rt: &R, server: &Server<W>) {
         if self.number == FOLLOWER && server.pace.lag.rests() {
             let longest = Duration::from_millis(LONGEST_REST);
-            server
-                .bells
-                .await_dispatcher_for(rt, self.number, longest);
+            server.bells.await_dispatcher_for(rt, self.number, longest);
         } else {
             server.bells.await_dispatcher(rt, self.number);
         }
