@@ -1,3 +1,5 @@
+mod closing;
+mod following;
 mod held;
 mod memory;
 mod opening;

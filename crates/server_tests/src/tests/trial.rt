@@ -8,6 +8,7 @@ use row_store::{Receipt, RefreshError};
 use ssb_answers::Answer;
 use ssb_report::{WriteFault, write_answers, write_reply};
 use ssb_schema::Refresh;
+use ssb_script::ScriptError;
 use ssb_server::{Client, Dispatcher, OpenGate, Opened, ScanGate, Server, Turn};
 use std::alloc::{AllocError, Global};
 use std::marker::Model;
@@ -15,13 +16,15 @@ use std::random::RandomSource;
 use std::sync::{Arc, Wait};
 use std::test::Fail;
 use std::thread::Threads;
-use test_fixtures::{adding, asking};
+use test_fixtures::{adding, asking, refresh};
 
 /// What a client does.
 #[derive(Clone, Copy, Debug)]
 pub enum TrialDeed {
     /// It adds the order of this key.
     Adds(u64),
+    /// It withdraws the order of this key.
+    Withdraws(u64),
     /// It asks the queries of these names, parted by spaces, in one request, with the benchmark's constants.
     Asks(&'static str),
     /// It polls.
@@ -41,6 +44,8 @@ pub enum TrialStep {
     Meeting,
     /// The dispatcher takes a turn.
     Turn,
+    /// The dispatcher carries the commits over, though nothing is asked.
+    Following,
 }
 
 /// Three clients and a dispatcher of a server, which is theirs.
@@ -103,19 +108,25 @@ fn refreshed<R: Wait, W: Wait + Drop>(
     client.refresh(rt, server, refresh)
 }
 
-// A client adds the order of this key, and what it is told.
-fn adds<R: Wait, W: Wait + Drop>(
+// A refresh that withdraws the order of this key.
+fn withdrawing(alloc: Global, key: u64) -> Result<Arc<Refresh>, ScriptError> {
+    let actions = format!(in alloc; "withdraw|{key}\n")?;
+    refresh(alloc, actions.as_str())
+}
+
+// A client refreshes, and what it is told.
+fn refreshes<R: Wait, W: Wait + Drop>(
     rt: &R,
     alloc: Global,
     server: &Server<W>,
     client: &mut Client<W>,
-    order: u64,
+    refresh: Result<Arc<Refresh>, ScriptError>,
 ) -> Result<String, AllocError>
     requires { IsOf server.now client.old }
     ensures { IsOf server.now client.new }
 {
     let mut told = room(alloc)?;
-    let refresh = adding(alloc, order).map_err(|_| AllocError)?;
+    let refresh = refresh.map_err(|_| AllocError)?;
     let written = write_reply(&mut told, &refreshed(rt, server, client, refresh));
     text(alloc, written, told)
 }
@@ -200,6 +211,15 @@ pub fn turns<W: Wait + Drop, R: Wait + Threads + Sync, G: ScanGate>(
     dispatcher.turn(rt, server, gate)
 }
 
+/// A dispatcher carries the commits over.
+#[tactic(auto, using(crate::proofs::PlaceLaws::fetched_stays))]
+pub fn follows<W: Wait + Drop, R: Wait>(rt: &R, server: &Server<W>, dispatcher: &mut Dispatcher<W>)
+    requires { IsOf server.now dispatcher.old }
+    ensures { IsOf server.now dispatcher.new }
+{
+    dispatcher.follow(rt, server);
+}
+
 // What a client does, and what it is told.
 fn does<R: Wait, W: Wait + Drop>(
     rt: &R,
@@ -212,7 +232,8 @@ fn does<R: Wait, W: Wait + Drop>(
     ensures { IsOf server.now client.new }
 {
     match deed {
-        TrialDeed::Adds(order) => adds(rt, alloc, server, client, order),
+        TrialDeed::Adds(key) => refreshes(rt, alloc, server, client, adding(alloc, key)),
+        TrialDeed::Withdraws(key) => refreshes(rt, alloc, server, client, withdrawing(alloc, key)),
         TrialDeed::Asks(queries) => asks(alloc, server, client, queries),
         TrialDeed::Polls => polls(alloc, server, client),
     }
@@ -261,6 +282,10 @@ impl<'s, W: Wait + Drop> Trial<'s, W> {
             TrialStep::Turn => {
                 let turn = turns(rt, self.server, &mut self.dispatcher, &OpenGate);
                 report(alloc, turn)
+            }
+            TrialStep::Following => {
+                follows(rt, self.server, &mut self.dispatcher);
+                String::from_str(alloc, "follows")
             }
         }
     }
