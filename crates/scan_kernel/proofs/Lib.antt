@@ -15,3 +15,4 @@ pub mod BatchLaws
 pub mod PartLaws
 pub mod SparseLaws
 pub mod DealtLaws
+pub mod QuestionLaws

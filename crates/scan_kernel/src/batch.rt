@@ -1,10 +1,9 @@
 //! The questions of a batch, chunk by chunk.
-ghost use Rattle.std.specs.Prelude.{◌≡◌, ◌<◌, ◌≤◌, ◌-◌, length, vec_len};
+ghost use Rattle.std.specs.Prelude.{◌≡◌, ◌≤◌, ◌-◌, length, vec_len};
 ghost use Rattle.std.specs.List.{range_with_len};
-ghost use Rattle.scan_kernel.specs.Dealt.{AreDealt, KeepRoom};
-ghost use Rattle.scan_kernel.specs.Places.{mask_at};
+ghost use Rattle.scan_kernel.specs.Dealt.{KeepRoom};
 ghost use Rattle.scan_kernel.specs.Room.{AreFound, HasDealtRoom};
-ghost use Rattle.scan_kernel.specs.Totals.{CanSum, CanSumAll, HaveSizes, AddsPlaces, AddsBatch, taken};
+ghost use Rattle.scan_kernel.specs.Totals.{CanSumAll, HaveSizes, AddsBatch};
 
 use crate::adding::add_places;
 use crate::columns::{Grouping, LineColumns};
@@ -27,33 +26,6 @@ pub struct Dealt {
     /// As many as a mask has bits.
     pub lists: Vec<Vec<u32>>,
     pub groups: Vec<u32>,
-}
-
-/// Adds to the totals of one question the places that were dealt to it.
-fn add_question(
-    lines: &LineColumns<'_>,
-    masks: &Masks,
-    grouping: &Grouping<'_>,
-    number: usize,
-    found: Found<'_>,
-    lists: &[Vec<u32>],
-    groups: &mut [u32],
-    totals: &mut Totals,
-)
-    requires few { number < 16 }
-    requires found { AreFound lines.now masks.now found }
-    requires all { length lists.now ≡ 16 }
-    requires dealt { AreDealt (mask_at lines.now masks.now) found.places.now lists.now }
-    requires room { length found.places.now ≤ length groups.old }
-    requires can_sum { CanSum lines.now masks.now number grouping.now }
-    requires size { vec_len totals.old.counts ≡ grouping.now.size }
-    ensures groups { length groups.new ≡ length groups.old }
-    ensures size { vec_len totals.new.counts ≡ vec_len totals.old.counts }
-    ensures added { AddsPlaces lines.now grouping.now (taken lines.now masks.now number
-        (range_with_len found.entry.from (found.entry.to - found.entry.from))) totals.old totals.new }
-{
-    let places = lists[number].as_slice();
-    add_places(lines, grouping, places, groups, totals);
 }
 
 /// Adds to the totals of each question the places that it takes of those that were found.
@@ -79,16 +51,9 @@ pub fn add_found(
     deal_places(found.places, found.masks, &mut dealt.lists);
     for number in 0..groupings.len() {
         let grouping = &groupings[number];
+        let list = &dealt.lists[number];
+        let places = list.as_slice();
         let sums = &mut totals[number];
-        add_question(
-            lines,
-            masks,
-            grouping,
-            number,
-            found,
-            &dealt.lists,
-            &mut dealt.groups,
-            sums,
-        );
+        add_places(lines, grouping, places, &mut dealt.groups, sums);
     }
 }
