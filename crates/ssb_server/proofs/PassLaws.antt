@@ -1,36 +1,11 @@
 -- The rows that passes find, question by question, are those of the requests.
-use Rattle.std.proofs.Common.{
-  ◌≡◌,
-  ℕ,
-  ◌+◌,
-  ◌-◌,
-  ◌<◌,
-  ◌≤◌,
-  List,
-  [],
-  ◌∷◌,
-  ◌++◌,
-  length,
-  map,
-  take,
-  drop,
-  get_or,
-  refl,
-  ap,
-  sym,
-  ◌∙◌,
-  arith,
-  append_assoc,
-  length-append,
-  length-drop,
-}
+use Rattle.std.proofs.Common.{◌≡◌, ℕ, ◌+◌, ◌<◌, List, [], ◌∷◌, ◌++◌, length, map, take, drop, get_or, refl, ap, sym, ◌∙◌, append_assoc, length-append}
 use Rattle.std.proofs.lemmas.List.{map-append, length-map, take_at, drop_at, drop_more, take-append-drop, append-nil, nil_from_length}
 use Rattle.ssb_schema.specs.Facts.{facts_of}
 use Rattle.ssb_base.specs.Base.{Tables}
 use Rattle.row_store.specs.History.{CommitRecord, lines_after}
 use Rattle.ssb_answers.specs.Answer.{answer_of}
 use Rattle.ssb_answers.specs.declared.answer.Rows.{Rows}
-use Rattle.ssb_answers.specs.declared.answer.ResultRow.{ResultRow}
 use Rattle.history_core.specs.Events.{Question, Questions}
 use Rattle.history_core.specs.World.{rows_after, all_rows_after}
 use Rattle.shared_scan.specs.Answers as scan

@@ -53,7 +53,7 @@ fn apply<W: EndsCopies + Drop, R: Wait>(
 {
     let mut rows = table.take_rows(rt, token);
     let reply = rows.refresh(number, refresh);
-    pace.lag.grows(rows.len() as u64);
+    pace.lag.grows(&reply);
     put_rows(table, token, rows);
     reply
 }

@@ -1,5 +1,6 @@
 //! Whether the copies lack commits, though nobody asks.
 
+use row_store::{Receipt, RefreshError};
 use std::sync::atomic::{AtomicU64, Ordering};
 
 /// How many commits are carried over together while nobody asks. A dispatcher takes that many into both copies in some
@@ -32,15 +33,15 @@ impl Lag {
         }
     }
 
-    /// There are so many commits now. Who calls it holds the row store: so a dispatcher that has `begun` and takes the
-    /// row store after that fetches this commit, or finds the state that is set here.
-    pub(crate) fn grows(&self, commits: u64) {
-        if !self.follows {
+    /// A refresh was answered so. Who calls it holds the row store: a dispatcher that has `begun` and takes the row store
+    /// after that fetches its commit, or finds the state that is set here.
+    pub(crate) fn grows(&self, reply: &Result<Receipt, RefreshError>) {
+        let Ok(receipt) = reply else {
             return;
-        }
-        if commits % TOGETHER == 0 {
+        };
+        if self.wakes(receipt.number) {
             self.state.store(FAR, Ordering::Relaxed);
-        } else if self.state.load(Ordering::Relaxed) < BEHIND {
+        } else if self.follows && self.state.load(Ordering::Relaxed) < BEHIND {
             self.state.store(BEHIND, Ordering::Relaxed);
         }
     }

@@ -1,4 +1,4 @@
-use Rattle.std.proofs.Common.{◌≡◌, ap, inl, ◌∙◌}
+use Rattle.std.proofs.Common.{ap, inl, ◌∙◌}
 use Rattle.row_store.specs.History.{Warehouse}
 use Rattle.ssb_server.proofs.copying.copy_and_put.Goals as goal
 

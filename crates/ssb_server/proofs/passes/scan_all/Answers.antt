@@ -1,4 +1,4 @@
-use Rattle.std.proofs.Common.{rules, ◌≡◌, length, arith}
+use Rattle.std.proofs.Common.{rules}
 use Rattle.ssb_server.proofs.PassLaws.{pass_next, pass_last}
 use Rattle.ssb_server.proofs.passes.scan_all.Goals as goal
 
