@@ -1,3 +1,4 @@
+use Rattle.stream_sessions.proofs.ConversationLaws.{in_part, still_held}
 use Rattle.stream_sessions.proofs.EndLaws.{broken, broken_twice, broken_writing}
 use Rattle.stream_sessions.proofs.session.break_off.Goals as goal
 
@@ -14,3 +15,19 @@ returns-in-Err-clause-broken g c = λ number old new unread left before ends.
     rw c.in-Err.ensures.handed.1
     (broken_twice c.args.error number old new unread left before _ _ _ c.in_default.not-Write ends
     c.in-Err.ensures.handed.0)
+
+pub returns-in-Write-clause-conversed : goal.returns-in-Write-clause-conversed
+returns-in-Write-clause-conversed g c = λ number first start went.
+    in_part c.args.error.fault number first c.args.client.now start _ _ went
+
+pub returns-in-Ok-clause-conversed : goal.returns-in-Ok-clause-conversed
+returns-in-Ok-clause-conversed g c = λ number first start went. (
+  c.hand_on.new.replies.items,
+  c.in-Ok.ensures.goes number first start (still_held c.args.error.fault number first
+      c.args.client.now start _ _ c.in_default.not-Write went),
+)
+
+pub returns-in-Err-clause-conversed : goal.returns-in-Err-clause-conversed
+returns-in-Err-clause-conversed g c = λ number first start went.
+    in_part c.in-Err.fault number first c.args.client.now start _ _ (c.in-Err.ensures.goes number first start
+    (still_held c.args.error.fault number first c.args.client.now start _ _ c.in_default.not-Write went))

@@ -1,3 +1,6 @@
+use Rattle.std.proofs.Common.{subst}
+use Rattle.stream_sessions.specs.Conversation.{Converses}
+use Rattle.stream_sessions.proofs.ConversationLaws.{in_part}
 use Rattle.stream_sessions.proofs.EndLaws.{serves, served_in_vain}
 use Rattle.stream_sessions.proofs.session.end.Goals as goal
 
@@ -9,3 +12,12 @@ pub returns-in-Err-clause-ended : goal.returns-in-Err-clause-ended
 returns-in-Err-clause-ended g c = λ number old new unread left before ends.
     rw c.in-Err.ensures.handed.1
     (served_in_vain c.args.served number old new unread left before _ _ _ ends c.in-Err.ensures.handed.0)
+
+pub returns-in-Ok-clause-conversed : goal.returns-in-Ok-clause-conversed
+returns-in-Ok-clause-conversed g c = λ number first start went.
+    subst (Converses number first c.args.client.now start c.hand_on.new.wire.events) c.in-Ok.ensures.handed.1
+    (c.in-Ok.ensures.goes number first start went)
+
+pub returns-in-Err-clause-conversed : goal.returns-in-Err-clause-conversed
+returns-in-Err-clause-conversed g c = λ number first start went.
+    in_part c.in-Err.fault number first c.args.client.now start _ _ (c.in-Err.ensures.goes number first start went)
