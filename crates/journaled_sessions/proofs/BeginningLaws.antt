@@ -61,16 +61,13 @@ run_fault clients dispatchers opening.OutOfMemory told same is =
     subst (IsRunFault clients dispatchers) (sym same) is
 
 -- the run of an opened server is one over its base
-pub run_over : {S L V E X : Type 0} (Spoken : S → TokenRecord → TokenRecord → L → Type 0) (left_in : X → List L)
-    (log_in : X → Option V) (items : V → List CommitRecord) (result : Result X E) (opened base : Tables)
+pub run_over : {S L E X : Type 0} (Spoken : S → TokenRecord → TokenRecord → L → Type 0) (left_in : X → List L)
+    (log_in : X → List CommitRecord) (result : Result X E) (opened base : Tables)
     (commits : List CommitRecord) (speakers : List S) → opened ≡ base
-    → IfOk result (λ run. IfSome (log_in run) (λ log. IsJournaledRun Spoken opened commits speakers (left_in run)
-    (items log)))
-    → IfOk result (λ run. IfSome (log_in run) (λ log. IsJournaledRun Spoken base commits speakers (left_in run)
-    (items log)))
-run_over {S} {L} {V} {E} {X} Spoken left_in log_in items result opened base commits speakers same run =
-    subst (λ b. IfOk result (λ run. IfSome (log_in run) (λ log. IsJournaledRun Spoken b commits speakers (left_in run)
-    (items log)))) same run
+    → IfOk result (λ run. IsJournaledRun Spoken opened commits speakers (left_in run) (log_in run))
+    → IfOk result (λ run. IsJournaledRun Spoken base commits speakers (left_in run) (log_in run))
+run_over {S} {L} {E} {X} Spoken left_in log_in result opened base commits speakers same run =
+    subst (λ b. IfOk result (λ run. IsJournaledRun Spoken b commits speakers (left_in run) (log_in run))) same run
 
 -- who reads the log has seen nothing yet
 abbrev pub IsUnread : TableRecord → TokenRecord → Type 0

@@ -64,6 +64,17 @@ get_set (x ∷ xs) (suc i) v (suc j) y here = elim (get_set xs i v j y here) [
   | inr other ↦ inr other
 ]
 
+-- one more of those before a place has it
+pub at_set : {X : Type 0} (P : X → Type 0) (xs : List X) (i : ℕ) (v : X) → P v
+    → ((j : ℕ) (y : X) → j < i → slice_get xs j ≡ Some y → P y) → (j : ℕ) (y : X) → j < i + 1
+    → slice_get (set xs i v) j ≡ Some y → P y
+at_set P [] i v holds before j y low here = absurd (none_is here)
+at_set P (x ∷ xs) zero v holds before zero y low here = subst P (some_is here) holds
+at_set P (x ∷ xs) zero v holds before (suc j) y low here = absurd (omega (arith, low))
+at_set P (x ∷ xs) (suc i) v holds before zero y low here = before 0 y (omega arith) here
+at_set P (x ∷ xs) (suc i) v holds before (suc j) y low here =
+    at_set P xs i v holds (λ k z less at. before (suc k) z (omega (arith, less)) at) j y (omega (arith, low)) here
+
 -- one client more has seen the longer history
 pub seated_set : (table : TableRecord) (history longer : List CommitRecord) (clients after : List TokenRecord)
     (place number : ℕ) (client : TokenRecord) → AreSeated table history clients → IsPrefix history longer

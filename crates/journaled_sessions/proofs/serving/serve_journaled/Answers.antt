@@ -3,7 +3,7 @@ use Rattle.journaled_sessions.proofs.serving.serve_journaled.Goals as goal
 
 pub returns-in-Ok-clause-served : goal.returns-in-Ok-clause-served
 returns-in-Ok-clause-served g c =
-    run_over g.S.Speaker.spoken (λ run. run.left.items) (λ run. run.log) (λ log. log) c.serve.result
+    run_over g.S.Speaker.spoken (λ run. run.left.items) (λ run. run.log) c.serve.result
     c.in-Ok.opened.server.base c.args.base.value c.args.recovered.opened.kept.commits.items c.args.speakers.items
     c.in-Ok.ensures.base c.serve.ensures.served
 
