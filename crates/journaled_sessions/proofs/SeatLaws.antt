@@ -1,5 +1,5 @@
 -- The clients of a server, place by place.
-use Rattle.std.proofs.Common.{◌≡◌, ◌⊎◌, ℕ, zero, suc, ◌+◌, ◌<◌, List, [], ◌∷◌, ◌++◌, length, map, set, get_or, Some, None}
+use Rattle.std.proofs.Common.{◌≡◌, ◌⊎◌, ℕ, zero, suc, ◌+◌, ◌<◌, ◌≤◌, List, [], ◌∷◌, ◌++◌, length, map, set, get_or, Some, None}
 use Rattle.std.proofs.Common.{refl, sym, ap, ◌∙◌, subst, inl, inr, arith}
 use Rattle.std.specs.Prelude.{All, slice_get}
 use Rattle.std.specs.List.{AllZip, range_with_len}
@@ -97,6 +97,16 @@ pub get_front : {X : Type 0} (front rest : List X) (i : ℕ) (x : X) → slice_g
 get_front [] rest i x here = absurd (none_is here)
 get_front (y ∷ front) rest zero x here = here
 get_front (y ∷ front) rest (suc i) x here = get_front front rest i x here
+
+-- what stands behind the front of a list does not hang on the front
+pub same_behind : {X : Type 0} (front other rest : List X) (i : ℕ) → length front ≡ length other → length front ≤ i
+    → slice_get (front ++ rest) i ≡ slice_get (other ++ rest) i
+same_behind [] [] rest i same behind = refl
+same_behind [] (y ∷ other) rest i same behind = absurd (omega (arith, same))
+same_behind (x ∷ front) [] rest i same behind = absurd (omega (arith, same))
+same_behind (x ∷ front) (y ∷ other) rest zero same behind = absurd (omega (arith, behind))
+same_behind (x ∷ front) (y ∷ other) rest (suc i) same behind =
+    same_behind front other rest i (omega (arith, same)) (omega (arith, behind))
 
 -- lists that are as long agree, where they agree at each place
 pub zip_of_places : {X Y : Type 0} (R : X → Y → Type 0) (xs : List X) (ys : List Y) → length ys ≡ length xs

@@ -12,7 +12,7 @@ use Rattle.history_core.specs.OwnCommits.{IsOfClients}
 use Rattle.row_store.specs.History.{CommitRecord, IsPrefix}
 use Rattle.row_store.proofs.PrefixLaws.{beginnings_chain}
 use Rattle.ssb_server.specs.Tickets.{IsQuiet}
-use Rattle.ssb_serving.proofs.PlaceLaws.{all_at, get_below}
+use Rattle.ssb_serving.proofs.PlaceLaws.{all_at, get_below, some_is}
 use Rattle.ssb_serving.proofs.MemberLaws.{ready_where, still_push}
 use Rattle.ssb_serving.specs.Members.{AreStill, IsReady, IsStill}
 use Rattle.ssb_serving.specs.Steps.{AreAlike}
@@ -22,6 +22,7 @@ use Rattle.journaled_sessions.proofs.SeatLaws.{
   alike_stand,
   get_front,
   new_are_seated,
+  same_behind,
   seated_stand,
   standing_numbers,
   standing_quiet,
@@ -29,7 +30,7 @@ use Rattle.journaled_sessions.proofs.SeatLaws.{
 }
 use Rattle.journaled_sessions.specs.Reading.{IsLater}
 use Rattle.journaled_sessions.specs.Seated.{AllHaveSeen, AreSeated}
-use Rattle.journaled_sessions.specs.Served.{IsJournaledRun, IsServedAfter}
+use Rattle.journaled_sessions.specs.Served.{HasRested, IsJournaledRun, IsServedAfter}
 use Rattle.ssb_journal.specs.Counts.{IsLeft}
 use Rattle.ssb_journal.proofs.CountLaws.{left_of_longer}
 
@@ -99,6 +100,22 @@ seated_quiet table recovered count seated resting parted =
     front_quiet (IsQuiet table) seated resting
     (standing_quiet table 1 (seated ++ resting) (parts_stand table recovered count seated resting parted))
 
+-- how many clients there are, with those that rested
+closed_count : (table : TableRecord) (recovered : List CommitRecord) (count : ℕ)
+    (seated resting closed : List TokenRecord) → AreParted table recovered count seated resting → length closed ≡ count
+    → length (closed ++ resting) ≡ table.clients
+closed_count table recovered count seated resting closed parted many =
+    let whole : length (seated ++ resting) ≡ length parted.all = ap length parted.parts in
+    omega (
+      arith,
+      length-append closed resting,
+      length-append seated resting,
+      whole,
+      parted.are.count,
+      parted.many,
+      many,
+    )
+
 -- the server can be closed with all that it was opened with
 pub ready_to_close : {S L : Type 0} (Spoken : S → TokenRecord → TokenRecord → L → Type 0) (table : TableRecord)
     (recovered : List CommitRecord) (speakers : List S) (seated resting closed : List TokenRecord) (left : List L)
@@ -112,18 +129,8 @@ ready_to_close Spoken table recovered speakers seated resting closed left dispat
     (alike_sessions Spoken speakers seated closed left parted.many spoken)
     (parts_stand table recovered (length speakers) seated resting parted) in
     let fresh = new_are_seated table (new_clients table) refl in
-    let whole : length (seated ++ resting) ≡ length parted.all = ap length parted.parts in
     let count : length (closed ++ resting) ≡ length (new_clients table) =
-    omega (
-      arith,
-      length-append closed resting,
-      length-append seated resting,
-      whole,
-      parted.are.count,
-      parted.many,
-      spoken.closed_each,
-      fresh.count,
-    ) in
+    closed_count table recovered (length speakers) seated resting closed parted spoken.closed_each ∙ sym fresh.count in
     ready_where table (closed ++ resting) (dispatchers ++ opened ∷ []) (ended ++ now ∷ [])
     (standing_quiet table 1 (closed ++ resting) stand)
     (standing_numbers table 1 (closed ++ resting) stand ∙ ap (range_with_len 1) count
@@ -148,50 +155,89 @@ reader_begins table clients ended now log closed_with =
 -- a session and its client
 served_after : {S L : Type 0} (Spoken : S → TokenRecord → TokenRecord → L → Type 0) (table : TableRecord)
     (recovered log : List CommitRecord) (speakers : List S) (seated resting closed : List TokenRecord) (left : List L)
-    (ended : List TokenRecord) (i : ℕ) (speaker : S) (one : L)
+    (ended : List TokenRecord) (i : ℕ) (speaker : S) (client : TokenRecord) (one : L)
     → AreParted table recovered (length speakers) seated resting → AreSpoken Spoken speakers seated closed left
     → IsClosedWith table (closed ++ resting) ended log → slice_get speakers i ≡ Some speaker
-    → slice_get left i ≡ Some one → IsServedAfter Spoken recovered log (i + 1) speaker one
-served_after Spoken table recovered log speakers seated resting closed left ended i speaker one parted spoken closed_with
-    at_speaker at_left =
+    → slice_get (closed ++ resting) i ≡ Some client → slice_get left i ≡ Some one
+    → IsServedAfter Spoken table recovered log (i + 1) speaker client one
+served_after Spoken table recovered log speakers seated resting closed left ended i speaker client one parted spoken
+    closed_with at_speaker at_client at_left =
     let within = slice_get_within speakers i speaker at_speaker in
-    let client = get_below seated i (omega (arith, within, parted.many)) in
+    let first = get_below seated i (omega (arith, within, parted.many)) in
     let after = get_below closed i (omega (arith, within, spoken.closed_each)) in
-    let is = spoken.each i speaker client.0 after.0 one at_speaker client.1 after.1 at_left in
-    let seat = parted.are.each i client.0
-    (ap (λ xs. slice_get xs i) (sym parted.parts) ∙ get_front seated resting i client.0 client.1) in
-    let there = get_front closed resting i after.0 after.1 in
+    let here : slice_get closed i ≡ Some client =
+    after.1 ∙ ap (λ (token : TokenRecord). Some token)
+    (some_is (sym (get_front closed resting i after.0 after.1) ∙ at_client)) in
+    let is = spoken.each i speaker first.0 client one at_speaker first.1 here at_left in
+    let place : slice_get parted.all i ≡ Some first.0 =
+    ap (λ xs. slice_get xs i) (sym parted.parts) ∙ get_front seated resting i first.0 first.1 in
+    let seat = parted.are.each i first.0 place in
     record {
-      client = client.0;
-      closed = after.0;
+      client = first.0;
+      table_is = seat.table_is;
       who_is = seat.who_is;
-      seen = parted.shown i client.0
-          (ap (λ xs. slice_get xs i) (sym parted.parts) ∙ get_front seated resting i client.0 client.1);
+      seen = parted.shown i first.0 place;
       spoken = is;
-      begins = all_at (λ (token : TokenRecord). IsPrefix token.seen log) (closed ++ resting) i after.0 closed_with.begin
-          there;
-      made = subst (λ who. Owns who after.0.mine log) (is.alike.who ∙ seat.who_is)
-          (all_at (λ (token : TokenRecord). Owns token.who token.mine log) (closed ++ resting) i after.0
-          closed_with.own there);
+      begins = all_at (λ (token : TokenRecord). IsPrefix token.seen log) (closed ++ resting) i client closed_with.begin
+          at_client;
+      made = subst (λ who. Owns who client.mine log) (is.alike.who ∙ seat.who_is)
+          (all_at (λ (token : TokenRecord). Owns token.who token.mine log) (closed ++ resting) i client closed_with.own
+          at_client);
+    }
+
+-- a client that had no session
+rested_after : (table : TableRecord) (recovered log : List CommitRecord) (count : ℕ)
+    (seated resting closed ended : List TokenRecord) (i : ℕ) (client : TokenRecord)
+    → AreParted table recovered count seated resting → length closed ≡ count
+    → IsClosedWith table (closed ++ resting) ended log → count ≤ i → slice_get (closed ++ resting) i ≡ Some client
+    → HasRested table recovered log (i + 1) client
+rested_after table recovered log count seated resting closed ended i client parted many closed_with behind at_client =
+    let there : slice_get parted.all i ≡ Some client =
+    ap (λ xs. slice_get xs i) (sym parted.parts)
+    ∙ (same_behind seated closed resting i (parted.many ∙ sym many) (omega (arith, parted.many, behind)) ∙ at_client) in
+    let seat = parted.are.each i client there in
+    record {
+      table_is = seat.table_is;
+      who_is = seat.who_is;
+      seen = parted.shown i client there;
+      made = subst (λ who. Owns who client.mine log) seat.who_is
+          (all_at (λ (token : TokenRecord). Owns token.who token.mine log) (closed ++ resting) i client closed_with.own
+          at_client);
     }
 
 pub journaled_run : {S L : Type 0} (Spoken : S → TokenRecord → TokenRecord → L → Type 0) (table : TableRecord)
     (recovered log : List CommitRecord) (speakers : List S) (seated resting closed : List TokenRecord)
-    (left all_left : List L) (ended : List TokenRecord) (begun now : TokenRecord)
+    (left all_left : List L) (dispatchers ended : List TokenRecord) (opened begun now : TokenRecord)
     → AreParted table recovered (length speakers) seated resting → AreSpoken Spoken speakers seated closed left
-    → table.clients ≡ 16 → begun.seen ≡ recovered → IsLater begun now
+    → table.clients ≡ 16 → begun.seen ≡ recovered → dispatchers ++ opened ∷ [] ≡ new_dispatchers table
+    → AreStill dispatchers ended → IsStill opened begun → IsLater begun now
     → all_left ≡ left → IsClosedWith table (closed ++ resting) (ended ++ now ∷ []) log
-    → IsJournaledRun Spoken table.base recovered speakers all_left log
-journaled_run Spoken table recovered log speakers seated resting closed left all_left ended begun now parted
-    spoken sixteen seen later same closed_with =
+    → IsJournaledRun Spoken table.base recovered speakers table.dispatchers all_left log
+journaled_run Spoken table recovered log speakers seated resting closed left all_left dispatchers ended opened begun now
+    parted spoken sixteen seen new still reader later same closed_with =
     let begins = reader_begins table (closed ++ resting) ended now log closed_with in
     record {
+      table = table;
+      base_is = refl;
+      clients_are = sixteen;
+      dispatchers_are = refl;
+      closed = closed ++ resting;
+      all_closed = closed_count table recovered (length speakers) seated resting closed parted spoken.closed_each
+          ∙ sixteen;
       one_left = ap length same ∙ spoken.left_each;
-      served = λ i speaker one at_speaker at_left.
-          served_after Spoken table recovered log speakers seated resting closed left (ended ++ now ∷ []) i speaker one
-          parted spoken closed_with at_speaker (ap (λ xs. slice_get xs i) (sym same) ∙ at_left);
+      served = λ i speaker client one at_speaker at_client at_left.
+          served_after Spoken table recovered log speakers seated resting closed left (ended ++ now ∷ []) i speaker client
+          one parted spoken closed_with at_speaker at_client (ap (λ xs. slice_get xs i) (sym same) ∙ at_left);
+      rested = λ i client behind at_client.
+          rested_after table recovered log (length speakers) seated resting closed (ended ++ now ∷ []) i client parted
+          spoken.closed_each closed_with behind at_client;
+      ended = ended ++ now ∷ [];
+      ended_are = subst (λ ts. AreStill ts (ended ++ now ∷ [])) new
+          (still_push dispatchers ended opened now still (still_later opened begun now reader later));
+      ended_begin = closed_with.ended_begin;
       goes_on = subst (λ list. IsPrefix list log) seen
           (beginnings_chain begun.seen now.seen log (later_begins begun now later) begins);
+      true_log = closed_with.true_log;
       legal = closed_with.legal;
       named = subst (λ n. IsOfClients n log) sixteen closed_with.named;
     }

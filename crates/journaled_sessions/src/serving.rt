@@ -1,6 +1,6 @@
 //! Sessions over a server with a journal, from its opening to its end.
 
-ghost use Rattle.std.specs.Prelude.{◌≡◌, ◌≤◌, ◌++◌, [], ◌∷◌, All, IfOk, IfErr, IfSome, OnOk, Some, map, true, vec_len};
+ghost use Rattle.std.specs.Prelude.{◌≡◌, ◌+◌, ◌≤◌, ◌++◌, [], ◌∷◌, All, IfOk, IfErr, IfSome, OnOk, Some, map, true, vec_len};
 ghost use Rattle.history.specs.Tokens.{new_clients, new_dispatchers};
 ghost use Rattle.journal.specs.Groups.{recovered as recovered_groups, AreTorn};
 ghost use Rattle.ssb_journal.specs.Counts.{IsLeft, KeepsFirst};
@@ -277,7 +277,7 @@ where
     requires sixteen { opened.server.clients ≡ 16 }
     requires dispatchers { opened.dispatchers.items ++ opened.reader ∷ [] ≡ new_dispatchers opened.server }
     ensures served { IfOk result (λ run. IsJournaledRun S.spoken opened.server.base
-        recovered.entry.opened.kept.commits.items speakers.items run.left.items run.log) }
+        recovered.entry.opened.kept.commits.items speakers.items opened.server.dispatchers run.left.items run.log) }
     ensures kept { IfOk result (λ run. IsLeft (D.may_leave run.disk) (D.seen run.disk) run.count run.log
         run.was_written) }
     ensures told { IfOk result (λ run. All (λ left. S.told left ≤ run.count) run.left.items) }
@@ -335,8 +335,9 @@ where
     requires few { vec_len speakers ≤ 16 }
     requires kept { IsKept recovered.sizes.now (recovered_groups (D.seen recovered.opened.found)) recovered.opened.kept }
     requires torn { AreTorn (D.seen recovered.opened.found) recovered.opened.torn.items }
+    // Who reads the log for the journal is one dispatcher more.
     ensures served { IfOk result (λ run. IsJournaledRun S.spoken base.value
-        recovered.entry.opened.kept.commits.items speakers.items run.left.items run.log) }
+        recovered.entry.opened.kept.commits.items speakers.items (dispatchers + 1) run.left.items run.log) }
     // Whatever crashes from now on leaves the first commits of the log, at least so many, ..
     ensures kept { IfOk result (λ run. IsLeft (D.may_leave run.disk) (D.seen run.disk) run.count run.log
         run.was_written) }

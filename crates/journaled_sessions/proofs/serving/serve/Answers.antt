@@ -88,8 +88,10 @@ returns-clause-served g c =
     c.in_ok-resting.ensures.items c.in_ok-resting.ensures.tail in
     journaled_run g.S.Speaker.spoken c.args.opened.server c.args.recovered.opened.kept.commits.items
     c.in_ok-close.field-0.log c.args.speakers.items c.split_off.new.self.items c.in_ok-resting.resting.items _ _
-    c.in_ok-close.field-0.left.items c.in_ok-ended.ended.dispatchers.items c.in_ok-begun.begun.reader
-    c.in-Some.left.reader parts c.in_ok-ended.ensures.served c.requires.sixteen c.in_ok-begun.ensures.seen
+    c.in_ok-close.field-0.left.items c.args.opened.dispatchers.items c.in_ok-ended.ended.dispatchers.items
+    c.args.opened.reader c.in_ok-begun.begun.reader c.in-Some.left.reader parts c.in_ok-ended.ensures.served
+    c.requires.sixteen c.in_ok-begun.ensures.seen c.requires.dispatchers c.in_ok-ended.ensures.dispatchers
+    c.in_ok-begun.ensures.reader
     (some_has c.in_ok-ended.left c.in-Some.left (λ left. IsLater c.in_ok-begun.begun.reader left.reader) c.in-Some.is
     c.in_ok-ended.ensures.reader)
     c.in_ok-close.ensures.left c.in_ok-close.ensures.closed
