@@ -68,7 +68,8 @@ pub run_over : {S L E X : Type 0} (Spoken : S → TokenRecord → TokenRecord �
     → IfOk result (λ run. IsJournaledRun Spoken base commits speakers dispatchers (left_in run) (log_in run))
 run_over {S} {L} {E} {X} Spoken left_in log_in result opened base commits speakers there dispatchers same as_many run =
     subst (λ n. IfOk result (λ run. IsJournaledRun Spoken base commits speakers n (left_in run) (log_in run))) as_many
-    (subst (λ b. IfOk result (λ run. IsJournaledRun Spoken b commits speakers there (left_in run) (log_in run))) same run)
+    (subst (λ b. IfOk result (λ run. IsJournaledRun Spoken b commits speakers there (left_in run) (log_in run)))
+    same run)
 
 -- who reads the log has seen nothing yet
 abbrev pub IsUnread : TableRecord → TokenRecord → Type 0

@@ -36,7 +36,8 @@ pub record Remade (table : TableRecord) (before : List CommitRecord) (commit : C
 -- who looked and then sees as many commits as the reader sees those
 shown_same : (before : List CommitRecord) (number : ℕ) (shown : TokenRecord) → number ≡ length before + 1
     → IsPrefix before shown.seen → length shown.seen + 1 ≡ number → shown.seen ≡ before
-shown_same before number shown numbered begins few = same_as_long before shown.seen begins (omega (arith, numbered, few))
+shown_same before number shown numbered begins few =
+    same_as_long before shown.seen begins (omega (arith, numbered, few))
 
 -- the history of the commit is that of before
 history_same : (before : List CommitRecord) (commit : CommitRecord) (number receipt : ℕ)

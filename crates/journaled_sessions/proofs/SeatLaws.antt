@@ -1,6 +1,6 @@
 -- The clients of a server, place by place.
-use Rattle.std.proofs.Common.{◌≡◌, ◌⊎◌, ℕ, zero, suc, ◌+◌, ◌<◌, ◌≤◌, List, [], ◌∷◌, ◌++◌, length, map, set, get_or, Some, None}
-use Rattle.std.proofs.Common.{refl, sym, ap, ◌∙◌, subst, inl, inr, arith}
+use Rattle.std.proofs.Common.{◌≡◌, ◌⊎◌, ℕ, zero, suc, ◌+◌, ◌<◌, ◌≤◌, List, [], ◌∷◌, ◌++◌, length, map, set, get_or}
+use Rattle.std.proofs.Common.{Some, None, refl, sym, ap, ◌∙◌, subst, inl, inr, arith}
 use Rattle.std.specs.Prelude.{All, slice_get}
 use Rattle.std.specs.List.{AllZip, range_with_len}
 use Rattle.std.proofs.Math.ListN.{length-set}
@@ -114,8 +114,10 @@ pub zip_of_places : {X Y : Type 0} (R : X → Y → Type 0) (xs : List X) (ys : 
 zip_of_places R [] [] same each = tt
 zip_of_places R [] (y ∷ ys) same each = absurd (omega (arith, same))
 zip_of_places R (x ∷ xs) [] same each = absurd (omega (arith, same))
-zip_of_places R (x ∷ xs) (y ∷ ys) same each =
-    (each 0 x y refl refl, zip_of_places R xs ys (omega (arith, same)) (λ i a b here there. each (suc i) a b here there))
+zip_of_places R (x ∷ xs) (y ∷ ys) same each = (
+  each 0 x y refl refl,
+  zip_of_places R xs ys (omega (arith, same)) (λ i a b here there. each (suc i) a b here there),
+)
 
 -- a client of this number at this table that asks nothing
 pub record IsStanding (table : TableRecord) (number : ℕ) (client : TokenRecord) : Type 0 where

@@ -123,8 +123,8 @@ pub ready_to_close : {S L : Type 0} (Spoken : S → TokenRecord → TokenRecord 
     → AreParted table recovered (length speakers) seated resting → AreSpoken Spoken speakers seated closed left
     → dispatchers ++ opened ∷ [] ≡ new_dispatchers table → AreStill dispatchers ended → IsStill opened begun
     → IsLater begun now → IsReady table (closed ++ resting) (ended ++ now ∷ [])
-ready_to_close Spoken table recovered speakers seated resting closed left dispatchers ended opened begun now parted spoken
-    new still reader later =
+ready_to_close Spoken table recovered speakers seated resting closed left dispatchers ended opened begun now parted
+    spoken new still reader later =
     let stand = alike_stand table 1 seated closed resting
     (alike_sessions Spoken speakers seated closed left parted.many spoken)
     (parts_stand table recovered (length speakers) seated resting parted) in
@@ -226,8 +226,8 @@ journaled_run Spoken table recovered log speakers seated resting closed left all
           ∙ sixteen;
       one_left = ap length same ∙ spoken.left_each;
       served = λ i speaker client one at_speaker at_client at_left.
-          served_after Spoken table recovered log speakers seated resting closed left (ended ++ now ∷ []) i speaker client
-          one parted spoken closed_with at_speaker at_client (ap (λ xs. slice_get xs i) (sym same) ∙ at_left);
+          served_after Spoken table recovered log speakers seated resting closed left (ended ++ now ∷ []) i speaker
+          client one parted spoken closed_with at_speaker at_client (ap (λ xs. slice_get xs i) (sym same) ∙ at_left);
       rested = λ i client behind at_client.
           rested_after table recovered log (length speakers) seated resting closed (ended ++ now ∷ []) i client parted
           spoken.closed_each closed_with behind at_client;

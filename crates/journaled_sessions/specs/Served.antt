@@ -15,8 +15,8 @@ use Rattle.journaled_sessions.specs.declared.fault.JournaledFault.{JournaledFaul
 use Rattle.journaled_sessions.specs.declared.fault.JournaledFault.TheVariants as fault
 
 -- the client of this number of the table, which had seen all that was recovered and no more, was served by its speaker,
--- which kept what it promises; what it sees at the end is a beginning of the log, and the commits that it made, those of
--- the journal among them, are those of its number in the log
+-- which kept what it promises; what it sees at the end is a beginning of the log, and the commits that it made, those
+-- of the journal among them, are those of its number in the log
 pub record IsServedAfter {S L : Type 0} (Spoken : S → TokenRecord → TokenRecord → L → Type 0) (table : TableRecord)
     (recovered log : List CommitRecord) (number : ℕ) (speaker : S) (closed : TokenRecord) (left : L) : Type 0 where
   pub client : TokenRecord
@@ -27,8 +27,8 @@ pub record IsServedAfter {S L : Type 0} (Spoken : S → TokenRecord → TokenRec
   pub begins : IsPrefix closed.seen log
   pub made : closed.mine ≡ commits_of number log
 
--- the client of this number of the table had no speaker: it saw what was recovered, and its commits in the log are those
--- that it made again
+-- the client of this number of the table had no speaker: it saw all that was recovered and no more, and the commits
+-- that it made are those of its number in the log
 pub record HasRested (table : TableRecord) (recovered log : List CommitRecord) (number : ℕ) (closed : TokenRecord)
     : Type 0 where
   pub table_is : closed.table ≡ table

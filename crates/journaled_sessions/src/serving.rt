@@ -1,6 +1,7 @@
 //! Sessions over a server with a journal, from its opening to its end.
 
-ghost use Rattle.std.specs.Prelude.{◌≡◌, ◌+◌, ◌≤◌, ◌++◌, [], ◌∷◌, All, IfOk, IfErr, IfSome, OnOk, Some, map, true, vec_len};
+ghost use Rattle.std.specs.Prelude.{◌≡◌, ◌+◌, ◌≤◌, ◌++◌, [], ◌∷◌, All, IfOk, IfErr, IfSome, OnOk};
+ghost use Rattle.std.specs.Prelude.{Some, map, true, vec_len};
 ghost use Rattle.history.specs.Tokens.{new_clients, new_dispatchers};
 ghost use Rattle.journal.specs.Groups.{recovered as recovered_groups, AreTorn};
 ghost use Rattle.ssb_journal.specs.Counts.{IsLeft, KeepsFirst};
@@ -44,8 +45,8 @@ pub struct Recovered<'a, D: Disk, T> {
     pub keeper: &'a T,
 }
 
-/// What the sessions of a server with a journal leave: what each speaker left, in their order, the log, and the journal's
-/// disk with how many commits of the log are on it. Batches are figures for a reader.
+/// What the sessions of a server with a journal leave: what each speaker left, in their order, the log, and the
+/// journal's disk with how many commits of the log are on it. Batches are figures for a reader.
 #[derive(Drop)]
 pub struct JournaledRun<D: Disk + Drop, L: Drop> {
     pub left: Vec<L>,
@@ -82,7 +83,8 @@ where
     R: Wait,
     requires clients { AreSeated server.now [] clients.old }
     requires reader { (reader.table ≡ server.now) × (reader.seen ≡ []) }
-    requires kept { IsKept recovered.sizes.now (recovered_groups (D.seen recovered.opened.found)) recovered.opened.kept }
+    requires kept { IsKept recovered.sizes.now (recovered_groups (D.seen recovered.opened.found))
+        recovered.opened.kept }
     requires torn { AreTorn (D.seen recovered.opened.found) recovered.opened.torn.items }
     ensures clients { OnOk result (AreSeated server.now recovered.entry.opened.kept.commits.items clients.new) }
     ensures shown { OnOk result (AllHaveSeen recovered.entry.opened.kept.commits.items clients.new) }
@@ -167,8 +169,8 @@ where
         (map (λ one. one.client) end.0.spoken.items) (map (λ one. one.left) end.0.spoken.items)) }
     ensures dispatchers { IfOk result (λ end. AreStill dispatchers.items end.0.dispatchers.items) }
     ensures reader { IfOk result (λ end. IfSome end.1 (λ left. IsLater begun.reader left.reader)) }
-    ensures left { IfOk result (λ end. IfSome end.1 (λ left. IsLeft (D.may_leave left.disk) (D.seen left.disk) left.count
-        left.reader.seen left.is_whole)) }
+    ensures left { IfOk result (λ end. IfSome end.1 (λ left. IsLeft (D.may_leave left.disk) (D.seen left.disk)
+        left.count left.reader.seen left.is_whole)) }
 {
     let Begun {
         journal,
@@ -212,8 +214,8 @@ fn close<D: Disk + Drop, W: Wait + Drop, L: Drop>(
     requires { IsReady server (map (λ one. one.client) ended.spoken.items ++ resting.items)
         (ended.dispatchers.items ++ left_journal.reader ∷ []) }
     ensures left { IfOk result (λ run. run.left.items ≡ map (λ one. one.left) ended.spoken.items) }
-    ensures closed { IfOk result (λ run. IsClosedWith server (map (λ one. one.client) ended.spoken.items ++ resting.items)
-        (ended.dispatchers.items ++ left_journal.reader ∷ []) run.log) }
+    ensures closed { IfOk result (λ run. IsClosedWith server (map (λ one. one.client) ended.spoken.items
+        ++ resting.items) (ended.dispatchers.items ++ left_journal.reader ∷ []) run.log) }
     ensures journal { IfOk result (λ run. (run.disk ≡ left_journal.disk) × (run.count ≡ left_journal.count)
         × (run.was_written ≡ left_journal.is_whole)) }
 {
@@ -271,7 +273,8 @@ where
     S: Speaks<R, Durable> + Drop + Send,
     S::Left: Drop + Send,
     requires few { vec_len speakers ≤ 16 }
-    requires kept { IsKept recovered.sizes.now (recovered_groups (D.seen recovered.opened.found)) recovered.opened.kept }
+    requires kept { IsKept recovered.sizes.now (recovered_groups (D.seen recovered.opened.found))
+        recovered.opened.kept }
     requires torn { AreTorn (D.seen recovered.opened.found) recovered.opened.torn.items }
     requires clients { opened.clients.items ≡ new_clients opened.server }
     requires sixteen { opened.server.clients ≡ 16 }
@@ -333,7 +336,8 @@ where
     S: Speaks<R, Durable> + Drop + Send,
     S::Left: Drop + Send,
     requires few { vec_len speakers ≤ 16 }
-    requires kept { IsKept recovered.sizes.now (recovered_groups (D.seen recovered.opened.found)) recovered.opened.kept }
+    requires kept { IsKept recovered.sizes.now (recovered_groups (D.seen recovered.opened.found))
+        recovered.opened.kept }
     requires torn { AreTorn (D.seen recovered.opened.found) recovered.opened.torn.items }
     // Who reads the log for the journal is one dispatcher more.
     ensures served { IfOk result (λ run. IsJournaledRun S.spoken base.value
