@@ -1,5 +1,5 @@
 -- One step of a session.
-use Rattle.std.proofs.Common.{◌≡◌, ℕ, List, ◌++◌, Option, Result, Ok, Err, refl, subst, sym, inl, inr}
+use Rattle.std.proofs.Common.{◌≡◌, ℕ, Bool, true, false, List, ◌++◌, Option, Result, Ok, Err, refl, subst, sym, ◌∙◌, inl, inr}
 use Rattle.std.specs.Prelude.{IfErr, IfOk, MatchResult}
 use Rattle.std.specs.Io.KnownBytes.{Consumes}
 use Rattle.history.specs.Tokens.{TokenRecord}
@@ -89,3 +89,9 @@ pub if_err : {T E : Type 0} (result : Result T E) (P : T → Type 0) (Q : E → 
     → IfErr result Q
 if_err (Ok value) P Q holds = tt
 if_err (Err error) P Q holds = holds
+
+no_is : false ≡ true → ⊥
+no_is e = cc
+
+pub not_both : (b : Bool) → b ≡ true → b ≡ false → ⊥
+not_both b one other = no_is (sym other ∙ one)

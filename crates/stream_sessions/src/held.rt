@@ -1,6 +1,6 @@
 //! The replies that are held until the server waits for its client.
 
-ghost use Rattle.std.specs.Prelude.{◌≡◌, [], ℕ, length, MatchResult};
+ghost use Rattle.std.specs.Prelude.{◌≡◌, Bool, [], ℕ, length, MatchResult};
 ghost use Rattle.std.specs.Io.KnownBytes.{Appends};
 ghost use Rattle.ssb_report.specs.Written.{AppendsPart};
 ghost use Rattle.stream_sessions.specs.Conversation.{GoesOn, GoesUntil};
@@ -28,10 +28,10 @@ fn pass_held<W: Wait + Drop, E: Evidence, I: Read + Drop, O: Write + Drop>(
     ensures at_hand { wire.new.at_hand ≡ wire.old.at_hand }
     ensures unread { wire.new.unread ≡ wire.old.unread }
     ensures goes { MatchResult result
-        (λ _. (number : ℕ) → GoesOn number client.now client.now wire.old.events wire.new.events replies.old.items
-        replies.new.items)
-        (λ fault. (number : ℕ) → GoesUntil fault number client.now client.now wire.old.events wire.new.events
-        replies.old.items replies.new.items) }
+        (λ _. (ended : Bool) (number : ℕ) → GoesOn ended ended number client.now client.now wire.old.events
+        wire.new.events replies.old.items replies.new.items)
+        (λ fault. (ended : Bool) (number : ℕ) → GoesUntil fault ended number client.now client.now wire.old.events
+        wire.new.events replies.old.items replies.new.items) }
 {
     if replies.is_empty() {
         return Ok(());
@@ -66,10 +66,10 @@ pub(crate) fn hand_on<
     ensures at_hand { wire.new.at_hand ≡ wire.old.at_hand }
     ensures unread { wire.new.unread ≡ wire.old.unread }
     ensures goes { MatchResult result
-        (λ _. (number : ℕ) → GoesOn number client.now client.now wire.old.events wire.new.events replies.old.items
-        replies.new.items)
-        (λ fault. (number : ℕ) → GoesUntil fault number client.now client.now wire.old.events wire.new.events
-        replies.old.items replies.new.items) }
+        (λ _. (ended : Bool) (number : ℕ) → GoesOn ended ended number client.now client.now wire.old.events
+        wire.new.events replies.old.items replies.new.items)
+        (λ fault. (ended : Bool) (number : ℕ) → GoesUntil fault ended number client.now client.now wire.old.events
+        wire.new.events replies.old.items replies.new.items) }
 {
     let acknowledger = service.acknowledger;
     match acknowledger.acknowledge(service.rt, service.alloc, client.seen()) {

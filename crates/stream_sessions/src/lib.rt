@@ -18,8 +18,8 @@
 //!
 //! Requests come and replies leave by a [`Wire`] alone, whose history contracts see (`specs/Conversation.antt`): a text
 //! is passed on with [`Evidence`] in hand, made by who [`Acknowledges`], of all commits that the client has seen then, so
-//! of all that a receipt or an answer tells of; and the session waits for its client only where nothing is held, or a
-//! whole request is at hand. A server without a journal tells at once ([`AtOnce`]), and pays nothing.
+//! of all that a receipt or an answer tells of; and the session looks for more, so that it may wait for its client, only
+//! where no reply is held. A server without a journal tells at once ([`AtOnce`]), and pays nothing.
 //!
 //! A law (`specs/WholeScripts.antt`): a legal script without lone CRs and byte order marks has the replies of the whole
 //! script though it is answered request by request.

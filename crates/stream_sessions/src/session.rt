@@ -1,6 +1,6 @@
 //! A live session, from its first request to its last.
 
-ghost use Rattle.std.specs.Prelude.{◌≡◌, ℕ, List, [], Option, false, Err, IfOk, IfErr, OnOk, MatchResult};
+ghost use Rattle.std.specs.Prelude.{◌≡◌, ℕ, List, [], Option, true, false, Err, IfOk, IfErr, OnOk, MatchResult};
 ghost use Rattle.std.specs.Option.{is_some};
 ghost use Rattle.history.specs.Tokens.{IsSound, TokenRecord};
 ghost use Rattle.history.specs.Members.{number_of};
@@ -42,7 +42,7 @@ fn answer_all<
     ensures held { EndsHeld result (number_of client.old.who) client.old client.new
         wire.old.unread wire.new.unread wire.old.written wire.new.written replies.new.items }
     ensures conversed { MatchResult result
-        (λ _. Converses (number_of client.old.who) client.old client.new wire.old.events wire.new.events
+        (λ _. Converses true (number_of client.old.who) client.old client.new wire.old.events wire.new.events
         replies.new.items)
         (λ error. ConversesUntil error.fault (number_of client.old.who) client.old client.new wire.old.events
         wire.new.events replies.new.items) }
@@ -96,11 +96,11 @@ fn end<W: Wait + Drop, R: Wait, E: Evidence, K: Acknowledges<E>, I: Read + Drop,
         (λ error. Breaks error number old new unread left before wire.new.written) }
     ensures conversed { MatchResult result
         (λ _. (number : ℕ) (first : TokenRecord) (start : List Event)
-        → Converses number first client.now start wire.old.events replies.old.items
-        → Converses number first client.now start wire.new.events [])
-        (λ _. (number : ℕ) (first : TokenRecord) (start : List Event)
-        → Converses number first client.now start wire.old.events replies.old.items
-        → ConversesInPart number first client.now start wire.new.events) }
+        → Converses true number first client.now start wire.old.events replies.old.items
+        → Converses true number first client.now start wire.new.events [])
+        (λ error. (number : ℕ) (first : TokenRecord) (start : List Event)
+        → Converses true number first client.now start wire.old.events replies.old.items
+        → ConversesUntil error.fault number first client.now start wire.new.events []) }
 {
     match hand_on(service, client, wire, replies) {
         Ok(()) => Ok(served),
@@ -132,7 +132,7 @@ fn break_off<
         → Breaks result number old new unread left before wire.new.written }
     ensures conversed { (number : ℕ) (first : TokenRecord) (start : List Event)
         → ConversesUntil error.fault number first client.now start wire.old.events replies.old.items
-        → ConversesInPart number first client.now start wire.new.events }
+        → ConversesUntil result.fault number first client.now start wire.new.events [] }
 {
     if let SessionFault::Write = error.fault {
         return error;
@@ -183,8 +183,10 @@ pub fn serve_session<
     ensures broken { IfErr result (λ error. Breaks error (number_of client.old.who) client.old client.new
         wire.old.unread wire.new.unread wire.old.written wire.new.written) }
     // What was read and what was passed on, in one order: evidence before each text, and no reply kept back at a wait.
-    ensures conversed { OnOk result (Converses (number_of client.old.who) client.old client.new wire.old.events
+    ensures conversed { OnOk result (Converses true (number_of client.old.who) client.old client.new wire.old.events
         wire.new.events []) }
+    ensures conversed_until { IfErr result (λ error. ConversesUntil error.fault (number_of client.old.who) client.old
+        client.new wire.old.events wire.new.events []) }
     ensures conversed_in_part { ConversesInPart (number_of client.old.who) client.old client.new wire.old.events
         wire.new.events }
     ensures same { AreAlike client.old client.new }

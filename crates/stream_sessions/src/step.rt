@@ -1,17 +1,16 @@
 //! One step of a session: the next request, answered.
 
-ghost use Rattle.std.specs.Prelude.{◌≡◌, ◌<◌, ℕ, [], ◌++◌, length, true, false, OnOk, MatchResult};
+ghost use Rattle.std.specs.Prelude.{◌≡◌, ◌<◌, ℕ, Bool, [], ◌++◌, length, true, false, OnOk, MatchResult};
 ghost use Rattle.std.specs.Option.{is_some};
 ghost use Rattle.history.specs.Tokens.{IsSound};
 ghost use Rattle.history.specs.Members.{number_of};
-ghost use Rattle.session_requests.specs.Ahead.{AskFirst, AsksFirst};
-ghost use Rattle.session_requests.specs.Requests.{BeginsWithRequest};
+ghost use Rattle.session_requests.specs.Ahead.{AskFirst, AsksFirst, IsWhole};
 ghost use Rattle.ssb_report.specs.Written.{AppendsPart};
 ghost use Rattle.ssb_script.specs.Requests.{request_of};
 ghost use Rattle.ssb_serving.specs.Steps.{AreAlike};
-ghost use Rattle.stream_sessions.specs.Conversation.{GoesOn, GoesUntil, MayWait, most_held};
+ghost use Rattle.stream_sessions.specs.Conversation.{GoesOn, GoesUntil, most_held};
 ghost use Rattle.stream_sessions.specs.FaultLine.{too_long_line};
-ghost use Rattle.stream_sessions.specs.Steps.{Fails, HandsOn, Steps, TakesRequest, asked_ahead};
+ghost use Rattle.stream_sessions.specs.Steps.{Fails, HandsOn, Steps, TakesRequest, asked_ahead, is_last};
 ghost use Rattle.stream_sessions.specs.declared.outcome.SessionFault.TheVariants.{OutOfMemory, Write as FailedWrite};
 ghost use Rattle.stream_sessions.specs.declared.step.Step.TheVariants.{TooLong};
 
@@ -22,7 +21,7 @@ use crate::held::hand_on;
 use crate::outcome::SessionFault;
 use crate::service::Service;
 use crate::wire::Wire;
-use session_requests::{Found, RequestError, has_request, request_length};
+use session_requests::{Found, RequestError, request_length};
 use ssb_report::{Piece, write_pieces};
 use ssb_script::Request;
 use ssb_server::Client;
@@ -45,7 +44,7 @@ pub(crate) enum Step {
     TooLong,
 }
 
-// Hands the replies on before the session waits for its client, or where many are held.
+// Hands the replies on where no request is at hand, before the session waits for its client, or where many are held.
 fn hand_on_in_time<
     W: Wait + Drop,
     R: Wait,
@@ -60,19 +59,18 @@ fn hand_on_in_time<
     is_at_hand: bool,
     replies: &mut Vec<u8>,
 ) -> Result<(), SessionFault>
-    requires at_hand { is_at_hand ≡ true → BeginsWithRequest wire.old.at_hand }
     ensures handed { MatchResult result
         (λ _. HandsOn wire.old.written wire.new.written replies.old.items replies.new.items)
         (λ fault. AppendsPart wire.old.written wire.new.written replies.old.items × (fault ≡ FailedWrite)) }
     ensures at_hand { wire.new.at_hand ≡ wire.old.at_hand }
     ensures unread { wire.new.unread ≡ wire.old.unread }
-    ensures in_time { OnOk result (MayWait wire.new.at_hand replies.new.items) }
+    ensures in_time { OnOk result (is_at_hand ≡ false → replies.new.items ≡ []) }
     ensures few { OnOk result (length replies.new.items < most_held) }
     ensures goes { MatchResult result
-        (λ _. (number : ℕ) → GoesOn number client.now client.now wire.old.events wire.new.events replies.old.items
-        replies.new.items)
-        (λ fault. (number : ℕ) → GoesUntil fault number client.now client.now wire.old.events wire.new.events
-        replies.old.items replies.new.items) }
+        (λ _. (ended : Bool) (number : ℕ) → GoesOn ended ended number client.now client.now wire.old.events
+        wire.new.events replies.old.items replies.new.items)
+        (λ fault. (ended : Bool) (number : ℕ) → GoesUntil fault ended number client.now client.now wire.old.events
+        wire.new.events replies.old.items replies.new.items) }
 {
     if replies.len() >= MOST_HELD || !is_at_hand {
         hand_on(service, client, wire, replies)?;
@@ -120,10 +118,10 @@ fn serve_ahead<
         (λ fault. Fails fault (number_of client.old.who) client.old client.new wire.old.unread wire.new.unread
         wire.old.written wire.new.written replies.old.items replies.new.items) }
     ensures goes { MatchResult result
-        (λ _. GoesOn (number_of client.old.who) client.old client.new wire.old.events wire.new.events replies.old.items
-        replies.new.items)
-        (λ fault. GoesUntil fault (number_of client.old.who) client.old client.new wire.old.events wire.new.events
-        replies.old.items replies.new.items) }
+        (λ step. GoesOn false (is_last step) (number_of client.old.who) client.old client.new wire.old.events
+        wire.new.events replies.old.items replies.new.items)
+        (λ fault. GoesUntil fault false (number_of client.old.who) client.old client.new wire.old.events
+        wire.new.events replies.old.items replies.new.items) }
     ensures taken { OnOk result (TakesRequest wire.old.at_hand wire.new.at_hand) }
     ensures same { AreAlike client.old client.new }
     ensures sound { IsSound client.old → IsSound client.new }
@@ -143,6 +141,107 @@ fn serve_ahead<
     wire.take(size);
     match answered {
         Ok(()) => Ok(Step::Request),
+        Err(_) => Err(SessionFault::OutOfMemory),
+    }
+}
+
+// Answers the request at the front of what is at hand, of so many bytes, read alone, and takes it.
+fn serve_at_hand<
+    W: Wait + Drop,
+    R: Wait,
+    E: Evidence,
+    K: Acknowledges<E>,
+    I: Read + Drop,
+    O: Write + Drop,
+>(
+    service: &Service<'_, W, R, K>,
+    client: &mut Client<W>,
+    wire: &mut Wire<I, O, E>,
+    count: usize,
+    replies: &mut Vec<u8>,
+) -> Result<Step, SessionFault>
+    requires table { client.old.table ≡ service.now.server.now }
+    requires quiet { is_some client.old.asked ≡ false }
+    requires whole { IsWhole count wire.old.at_hand }
+    ensures step { MatchResult result
+        (λ step. Steps step (number_of client.old.who) client.old client.new wire.old.unread wire.new.unread
+        wire.old.written wire.new.written replies.old.items replies.new.items)
+        (λ fault. Fails fault (number_of client.old.who) client.old client.new wire.old.unread wire.new.unread
+        wire.old.written wire.new.written replies.old.items replies.new.items) }
+    ensures goes { MatchResult result
+        (λ step. GoesOn false (is_last step) (number_of client.old.who) client.old client.new wire.old.events
+        wire.new.events replies.old.items replies.new.items)
+        (λ fault. GoesUntil fault false (number_of client.old.who) client.old client.new wire.old.events
+        wire.new.events replies.old.items replies.new.items) }
+    ensures same { AreAlike client.old client.new }
+    ensures sound { IsSound client.old → IsSound client.new }
+{
+    hand_on_in_time(service, client, wire, true, replies)?;
+    let (request, _) = wire.at_hand().split_at(count);
+    let answered = answer(
+        service.rt,
+        service.alloc,
+        service.server,
+        client,
+        request,
+        replies,
+    );
+    wire.take(count);
+    match answered {
+        Ok(()) => Ok(Step::Request),
+        Err(_) => Err(SessionFault::OutOfMemory),
+    }
+}
+
+// Takes the next request, for which the session may wait, and answers it. All replies are handed on before.
+fn serve_awaited<
+    W: Wait + Drop,
+    R: Wait,
+    E: Evidence,
+    K: Acknowledges<E>,
+    I: Read + Drop,
+    O: Write + Drop,
+>(
+    service: &Service<'_, W, R, K>,
+    client: &mut Client<W>,
+    wire: &mut Wire<I, O, E>,
+    request: &mut Vec<u8>,
+    replies: &mut Vec<u8>,
+) -> Result<Step, SessionFault>
+    requires table { client.old.table ≡ service.now.server.now }
+    requires quiet { is_some client.old.asked ≡ false }
+    ensures step { MatchResult result
+        (λ step. Steps step (number_of client.old.who) client.old client.new wire.old.unread wire.new.unread
+        wire.old.written wire.new.written replies.old.items replies.new.items)
+        (λ fault. Fails fault (number_of client.old.who) client.old client.new wire.old.unread wire.new.unread
+        wire.old.written wire.new.written replies.old.items replies.new.items) }
+    ensures goes { MatchResult result
+        (λ step. GoesOn false (is_last step) (number_of client.old.who) client.old client.new wire.old.events
+        wire.new.events replies.old.items replies.new.items)
+        (λ fault. GoesUntil fault false (number_of client.old.who) client.old client.new wire.old.events
+        wire.new.events replies.old.items replies.new.items) }
+    ensures same { AreAlike client.old client.new }
+    ensures sound { IsSound client.old → IsSound client.new }
+{
+    hand_on_in_time(service, client, wire, false, replies)?;
+    let step = match wire.next_request(request) {
+        Ok(Found::Request) => Step::Request,
+        Ok(Found::Rest) => Step::Rest,
+        Ok(Found::Nothing) => return Ok(Step::Nothing),
+        Err(RequestError::TooLong) => return tell_too_long(replies),
+        Err(RequestError::Read) => return Err(SessionFault::Read),
+        Err(RequestError::OutOfMemory) => return Err(SessionFault::OutOfMemory),
+    };
+    let answered = answer(
+        service.rt,
+        service.alloc,
+        service.server,
+        client,
+        request.as_slice(),
+        replies,
+    );
+    match answered {
+        Ok(()) => Ok(step),
         Err(_) => Err(SessionFault::OutOfMemory),
     }
 }
@@ -170,34 +269,16 @@ fn serve_alone<
         (λ fault. Fails fault (number_of client.old.who) client.old client.new wire.old.unread wire.new.unread
         wire.old.written wire.new.written replies.old.items replies.new.items) }
     ensures goes { MatchResult result
-        (λ _. GoesOn (number_of client.old.who) client.old client.new wire.old.events wire.new.events replies.old.items
-        replies.new.items)
-        (λ fault. GoesUntil fault (number_of client.old.who) client.old client.new wire.old.events wire.new.events
-        replies.old.items replies.new.items) }
+        (λ step. GoesOn false (is_last step) (number_of client.old.who) client.old client.new wire.old.events
+        wire.new.events replies.old.items replies.new.items)
+        (λ fault. GoesUntil fault false (number_of client.old.who) client.old client.new wire.old.events
+        wire.new.events replies.old.items replies.new.items) }
     ensures same { AreAlike client.old client.new }
     ensures sound { IsSound client.old → IsSound client.new }
 {
-    let is_at_hand = has_request(wire.at_hand());
-    hand_on_in_time(service, client, wire, is_at_hand, replies)?;
-    let step = match wire.next_request(request) {
-        Ok(Found::Request) => Step::Request,
-        Ok(Found::Rest) => Step::Rest,
-        Ok(Found::Nothing) => return Ok(Step::Nothing),
-        Err(RequestError::TooLong) => return tell_too_long(replies),
-        Err(RequestError::Read) => return Err(SessionFault::Read),
-        Err(RequestError::OutOfMemory) => return Err(SessionFault::OutOfMemory),
-    };
-    let answered = answer(
-        service.rt,
-        service.alloc,
-        service.server,
-        client,
-        request.as_slice(),
-        replies,
-    );
-    match answered {
-        Ok(()) => Ok(step),
-        Err(_) => Err(SessionFault::OutOfMemory),
+    match request_length(wire.at_hand()) {
+        Some(count) => serve_at_hand(service, client, wire, count, replies),
+        None => serve_awaited(service, client, wire, request, replies),
     }
 }
 
@@ -226,10 +307,10 @@ pub(crate) fn serve_next<
         (λ fault. Fails fault (number_of client.old.who) client.old client.new wire.old.unread wire.new.unread
         wire.old.written wire.new.written replies.old.items replies.new.items) }
     ensures goes { MatchResult result
-        (λ _. GoesOn (number_of client.old.who) client.old client.new wire.old.events wire.new.events replies.old.items
-        replies.new.items)
-        (λ fault. GoesUntil fault (number_of client.old.who) client.old client.new wire.old.events wire.new.events
-        replies.old.items replies.new.items) }
+        (λ step. GoesOn false (is_last step) (number_of client.old.who) client.old client.new wire.old.events
+        wire.new.events replies.old.items replies.new.items)
+        (λ fault. GoesUntil fault false (number_of client.old.who) client.old client.new wire.old.events
+        wire.new.events replies.old.items replies.new.items) }
     ensures ahead { OnOk result (AskFirst wire.new.at_hand (asked_ahead requests.new.ahead)) }
     ensures same { AreAlike client.old client.new }
     ensures sound { IsSound client.old → IsSound client.new }

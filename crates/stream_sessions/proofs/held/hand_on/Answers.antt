@@ -7,6 +7,6 @@ pub returns-in-Err-clause-handed : goal.returns-in-Err-clause-handed
 returns-in-Err-clause-handed g c = (none_written _ _, refl)
 
 pub returns-in-Err-clause-goes : goal.returns-in-Err-clause-goes
-returns-in-Err-clause-goes g c = λ number.
-    stops fault.Write number c.args.client.now c.args.wire.now.events c.args.wire.now.events c.args.replies.now.items
+returns-in-Err-clause-goes g c = λ ended number.
+    stops fault.Write ended number c.args.client.now c.args.wire.now.events c.args.wire.now.events c.args.replies.now.items
     c.args.replies.now.items c.args.replies.now.items refl (λ first start went. went)

@@ -1,4 +1,4 @@
-use Rattle.std.proofs.Common.{◌≡◌, ap, subst, sym, arith}
+use Rattle.std.proofs.Common.{◌≡◌, false, ap, subst, sym, arith}
 use Rattle.history.specs.Members.{number_of}
 use Rattle.session_requests.specs.Ahead.{AskFirst}
 use Rattle.session_requests.proofs.AheadLaws.{ask_nothing}
@@ -31,7 +31,7 @@ loop-answered-preserved g c =
     let arm = c.in-Ok-Request in record {
       through = through_next _ _ _ _ _ _ _ _ _ _ _ _ _ inv.through
           (steps_so _ step.Request _ _ _ _ _ _ _ _ _ _ arm.field-0-is (ap number_of inv.alike.who) arm.ensures.step);
-      conversed = goes_so _ _ _ _ _ _ _ _ _ _ (ap number_of inv.alike.who) arm.ensures.goes inv.conversed;
+      conversed = goes_so _ step.Request _ _ _ _ _ _ _ _ _ _ arm.field-0-is (ap number_of inv.alike.who) arm.ensures.goes inv.conversed;
       alike = alike_both _ _ _ inv.alike c.serve_next.ensures.same;
       sound = λ sound. c.serve_next.ensures.sound (inv.sound sound);
       ahead = arm.ensures.ahead;
@@ -73,17 +73,17 @@ returns-clause-held g c =
 pub returns-in-Ok-Rest-clause-conversed : goal.returns-in-Ok-Rest-clause-conversed
 returns-in-Ok-Rest-clause-conversed g c =
     let inv = c.loop-answered.invariant in
-    goes_so _ _ _ _ _ _ _ _ _ _ (ap number_of inv.alike.who) c.in-Ok-Rest.ensures.goes inv.conversed
+    goes_so _ step.Rest _ _ _ _ _ _ _ _ _ _ c.in-Ok-Rest.field-0-is (ap number_of inv.alike.who) c.in-Ok-Rest.ensures.goes inv.conversed
 
 pub returns-in-Ok-Nothing-clause-conversed : goal.returns-in-Ok-Nothing-clause-conversed
 returns-in-Ok-Nothing-clause-conversed g c =
     let inv = c.loop-answered.invariant in
-    goes_so _ _ _ _ _ _ _ _ _ _ (ap number_of inv.alike.who) c.in-Ok-Nothing.ensures.goes inv.conversed
+    goes_so _ step.Nothing _ _ _ _ _ _ _ _ _ _ c.in-Ok-Nothing.field-0-is (ap number_of inv.alike.who) c.in-Ok-Nothing.ensures.goes inv.conversed
 
 pub returns-in-Ok-TooLong-clause-conversed : goal.returns-in-Ok-TooLong-clause-conversed
 returns-in-Ok-TooLong-clause-conversed g c =
     let inv = c.loop-answered.invariant in
-    goes_so _ _ _ _ _ _ _ _ _ _ (ap number_of inv.alike.who) c.in-Ok-TooLong.ensures.goes inv.conversed
+    goes_so _ step.TooLong _ _ _ _ _ _ _ _ _ _ c.in-Ok-TooLong.field-0-is (ap number_of inv.alike.who) c.in-Ok-TooLong.ensures.goes inv.conversed
 
 pub returns-in-Err-clause-conversed : goal.returns-in-Err-clause-conversed
 returns-in-Err-clause-conversed g c =
@@ -91,4 +91,4 @@ returns-in-Err-clause-conversed g c =
     until_so _ _ _ _ _ _ _ _ _ _ _ (ap number_of inv.alike.who) c.in-Err.ensures.goes inv.conversed
 
 pub returns-clause-conversed : goal.returns-clause-conversed
-returns-clause-conversed g c = c.loop-answered.invariant.conversed
+returns-clause-conversed g c = (false, c.loop-answered.invariant.conversed)

@@ -1,3 +1,4 @@
+use Rattle.std.proofs.Common.{false}
 use Rattle.history.specs.Tokens.{IsSound}
 use Rattle.history.specs.Members.{number_of}
 use Rattle.session_requests.specs.Ahead.{AskFirst}
@@ -12,7 +13,7 @@ abbrev pub invariant-loop-answered : goal.invariant-loop-answered
 invariant-loop-answered g l = record {
   through : IsThrough (number_of l.fn.client.who) l.fn.client l.client
       l.fn.wire.unread l.wire.unread l.fn.wire.written l.wire.written l.replies.items l.answered;
-  conversed : Converses (number_of l.fn.client.who) l.fn.client l.client l.fn.wire.events l.wire.events l.replies.items;
+  conversed : Converses false (number_of l.fn.client.who) l.fn.client l.client l.fn.wire.events l.wire.events l.replies.items;
   alike : AreAlike l.fn.client l.client;
   sound : IsSound l.fn.client → IsSound l.client;
   ahead : AskFirst l.wire.at_hand (asked_ahead l.requests.ahead);

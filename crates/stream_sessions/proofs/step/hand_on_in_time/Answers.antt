@@ -1,7 +1,7 @@
-use Rattle.std.proofs.Common.{◌≡◌, [], Err, inl, inr, refl, rules, ap, length, arith}
-use Rattle.session_requests.specs.Requests.{BeginsWithRequest}
+use Rattle.std.proofs.Common.{◌≡◌, true, [], Err, refl, rules, ap, length, arith}
 use Rattle.ssb_report.proofs.WrittenLaws.{appends_none}
 use Rattle.stream_sessions.proofs.ConversationLaws.{err_is}
+use Rattle.stream_sessions.proofs.StepLaws.{not_both}
 use Rattle.stream_sessions.proofs.step.hand_on_in_time.Goals as goal
 
 pub returns-else-not-is_at_hand-clause-handed : goal.returns-else-not-is_at_hand-clause-handed
@@ -12,10 +12,14 @@ returns-else-not-is_at_hand-clause-handed g c = record {
 }
 
 pub returns-else-not-is_at_hand-clause-goes : goal.returns-else-not-is_at_hand-clause-goes
-returns-else-not-is_at_hand-clause-goes g c = λ number first start went. went
+returns-else-not-is_at_hand-clause-goes g c = λ ended number first start went. went
+
+pub returns-else-not-is_at_hand-clause-in_time : goal.returns-else-not-is_at_hand-clause-in_time
+returns-else-not-is_at_hand-clause-in_time g c = λ none.
+    let is : c.args.is_at_hand ≡ true = search rules in absurd (not_both c.args.is_at_hand is none)
 
 pub returns-in_ok-hand_on-clause-in_time : goal.returns-in_ok-hand_on-clause-in_time
-returns-in_ok-hand_on-clause-in_time g c = inl c.in_ok-hand_on.ensures.handed.1
+returns-in_ok-hand_on-clause-in_time g c = λ none. c.in_ok-hand_on.ensures.handed.1
 
 pub returns-in_ok-hand_on-clause-few : goal.returns-in_ok-hand_on-clause-few
 returns-in_ok-hand_on-clause-few g c = omega (arith, ap length c.in_ok-hand_on.ensures.handed.1)

@@ -1,4 +1,4 @@
-use Rattle.std.proofs.Common.{◌≡◌, ℕ, List, Option, Err, take, refl, sym, subst, inl, inr, rules, ◌∙◌}
+use Rattle.std.proofs.Common.{◌≡◌, ℕ, false, true, List, Option, Err, take, refl, sym, subst, inl, inr, rules, ◌∙◌}
 use Rattle.history.specs.Members.{number_of}
 use Rattle.session_requests.specs.Ahead.{AsksFirst, IsWhole}
 use Rattle.session_requests.proofs.AheadLaws.{asks_whole}
@@ -7,7 +7,7 @@ use Rattle.stream_sessions.specs.Steps.{Fails, Steps, TakesRequest}
 use Rattle.stream_sessions.specs.declared.outcome.SessionFault.TheVariants as fault
 use Rattle.stream_sessions.specs.declared.step.Step.TheVariants as step
 use Rattle.stream_sessions.proofs.AheadLaws.{takes_front}
-use Rattle.stream_sessions.proofs.ConversationLaws.{err_is, goes_both, takes}
+use Rattle.stream_sessions.proofs.ConversationLaws.{err_is, goes_both, memory_fails, takes}
 use Rattle.stream_sessions.proofs.StepLaws.{runs_out, where_known}
 use Rattle.stream_sessions.proofs.step.serve_ahead.Goals as goal
 
@@ -37,7 +37,7 @@ returns-in_err-hand_on_in_time-clause-goes g c =
     let failed = c.in_err-hand_on_in_time in
     let why = failed.field-0.0 in
     let is : c.from_residual.result ≡ Err why = search rules in
-    err_is c.from_residual.result why _ _ is (failed.ensures.goes (number_of c.args.client.now.who))
+    err_is c.from_residual.result why _ _ is (failed.ensures.goes false (number_of c.args.client.now.who))
 
 pub returns-in-Ok-clause-step : goal.returns-in-Ok-clause-step
 returns-in-Ok-clause-step g c =
@@ -80,12 +80,12 @@ returns-in-Ok-clause-goes g c =
     c.requires.first in
     let whole = subst (IsWhole size) c.at_hand.ensures c.in-Some.ensures.whole in
     let text = take size wire.at_hand in
-    goes_both (number_of c.args.client.now.who) c.args.client.now c.args.client.now c.answer_read-answered.new.client c.args.wire.now.events
+    goes_both false false false (number_of c.args.client.now.who) c.args.client.now c.args.client.now c.answer_read-answered.new.client c.args.wire.now.events
     wire.events c.take.new.self.events c.args.replies.now.items c.hand_on_in_time.new.replies.items c.answer_read-answered.new.replies.items
-    (c.in_ok-hand_on_in_time.ensures.goes (number_of c.args.client.now.who))
-    (takes (number_of c.args.client.now.who) c.args.client.now c.answer_read-answered.new.client wire.events c.take.new.self.events text c.hand_on_in_time.new.replies.items
+    (c.in_ok-hand_on_in_time.ensures.goes false (number_of c.args.client.now.who))
+    (takes false (number_of c.args.client.now.who) c.args.client.now c.answer_read-answered.new.client wire.events c.take.new.self.events text c.hand_on_in_time.new.replies.items
     c.answer_read-answered.new.replies.items c.take.ensures.events c.in_ok-hand_on_in_time.ensures.few
-    (inl (c.in-Ok.ensures.answered text (asks_whole wire.at_hand _ size first whole))))
+    (whole.1, c.in-Ok.ensures.answered text (asks_whole wire.at_hand _ size first whole)))
 
 pub returns-in-Err-clause-goes : goal.returns-in-Err-clause-goes
 returns-in-Err-clause-goes g c =
@@ -95,12 +95,14 @@ returns-in-Err-clause-goes g c =
     c.requires.first in
     let whole = subst (IsWhole size) c.at_hand.ensures c.in-Some.ensures.whole in
     let text = take size wire.at_hand in
-    goes_both (number_of c.args.client.now.who) c.args.client.now c.args.client.now c.answer_read-answered.new.client c.args.wire.now.events
+    memory_fails (number_of c.args.client.now.who) c.args.client.now c.answer_read-answered.new.client c.args.wire.now.events
+    c.take.new.self.events c.args.replies.now.items c.answer_read-answered.new.replies.items
+    (goes_both false false true (number_of c.args.client.now.who) c.args.client.now c.args.client.now c.answer_read-answered.new.client c.args.wire.now.events
     wire.events c.take.new.self.events c.args.replies.now.items c.hand_on_in_time.new.replies.items c.answer_read-answered.new.replies.items
-    (c.in_ok-hand_on_in_time.ensures.goes (number_of c.args.client.now.who))
-    (takes (number_of c.args.client.now.who) c.args.client.now c.answer_read-answered.new.client wire.events c.take.new.self.events text c.hand_on_in_time.new.replies.items
+    (c.in_ok-hand_on_in_time.ensures.goes false (number_of c.args.client.now.who))
+    (takes true (number_of c.args.client.now.who) c.args.client.now c.answer_read-answered.new.client wire.events c.take.new.self.events text c.hand_on_in_time.new.replies.items
     c.answer_read-answered.new.replies.items c.take.ensures.events c.in_ok-hand_on_in_time.ensures.few
-    (inr (inl (c.in-Err.ensures.answered text (asks_whole wire.at_hand _ size first whole)))))
+    (inr (inl (c.in-Err.ensures.answered text (asks_whole wire.at_hand _ size first whole))))))
 
 pub returns-in-Ok-clause-taken : goal.returns-in-Ok-clause-taken
 returns-in-Ok-clause-taken g c =

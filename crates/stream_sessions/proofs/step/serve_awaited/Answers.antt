@@ -1,15 +1,17 @@
-use Rattle.std.proofs.Common.{◌≡◌, ℕ, List, Option, Result, Err, refl, subst, inl, inr, rules}
+use Rattle.std.proofs.Common.{◌≡◌, ℕ, false, true, List, Option, Err, refl, subst, inl, inr, rules}
 use Rattle.std.specs.Prelude.{MatchResult}
 use Rattle.history.specs.Members.{number_of}
-use Rattle.stream_sessions.specs.Steps.{AddsAnswer, AddsNothing, Fails, IsText, Steps}
+use Rattle.session_requests.specs.Requests.{IsRequest}
+use Rattle.stream_sessions.specs.Conversation.{AddsReply}
+use Rattle.stream_sessions.specs.Steps.{AddsAnswer, AddsNothing, Fails, IsText, Steps, is_last}
 use Rattle.stream_sessions.specs.declared.outcome.SessionFault.{SessionFault}
 use Rattle.stream_sessions.specs.declared.outcome.SessionFault.TheVariants as fault
 use Rattle.stream_sessions.specs.declared.step.Step.{Step}
 use Rattle.stream_sessions.specs.declared.step.Step.TheVariants as step
-use Rattle.stream_sessions.proofs.ConversationLaws.{err_is, goes_both, looks_and_takes, too_long_goes}
+use Rattle.stream_sessions.proofs.ConversationLaws.{adds_last, adds_request, err_is, goes_both, looks_and_takes, memory_fails, read_fails, too_long_goes}
 use Rattle.stream_sessions.proofs.StepLaws.{runs_out, too_long_told, where_known}
-use Rattle.stream_sessions.proofs.step.serve_alone.Goals.{in-Ok-Request, in-Ok-Rest}
-use Rattle.stream_sessions.proofs.step.serve_alone.Goals as goal
+use Rattle.stream_sessions.proofs.step.serve_awaited.Goals.{in-Ok-Request, in-Ok-Rest}
+use Rattle.stream_sessions.proofs.step.serve_awaited.Goals as goal
 
 pub returns-in_err-hand_on_in_time-clause-step : goal.returns-in_err-hand_on_in_time-clause-step
 returns-in_err-hand_on_in_time-clause-step g c =
@@ -28,7 +30,7 @@ returns-in_err-hand_on_in_time-clause-goes g c =
     let failed = c.in_err-hand_on_in_time in
     let why = failed.field-0.0 in
     let is : c.from_residual.result ≡ Err why = search rules in
-    err_is c.from_residual.result why _ _ is (failed.ensures.goes (number_of c.args.client.now.who))
+    err_is c.from_residual.result why _ _ is (failed.ensures.goes false (number_of c.args.client.now.who))
 
 pub returns-in-Ok-Nothing-clause-step : goal.returns-in-Ok-Nothing-clause-step
 returns-in-Ok-Nothing-clause-step g c =
@@ -88,60 +90,80 @@ returns-in-Err-TooLong-clause-step g c =
 
 pub returns-in-Ok-Nothing-clause-goes : goal.returns-in-Ok-Nothing-clause-goes
 returns-in-Ok-Nothing-clause-goes g c =
-    goes_both (number_of c.args.client.now.who) c.args.client.now c.args.client.now c.args.client.now c.args.wire.now.events
+    goes_both false false true (number_of c.args.client.now.who) c.args.client.now c.args.client.now c.args.client.now c.args.wire.now.events
     c.hand_on_in_time.new.wire.events c.next_request.new.self.events c.args.replies.now.items c.hand_on_in_time.new.replies.items c.hand_on_in_time.new.replies.items
-    (c.in_ok-hand_on_in_time.ensures.goes (number_of c.args.client.now.who))
-    (looks_and_takes (number_of c.args.client.now.who) c.args.client.now c.args.client.now c.hand_on_in_time.new.wire.events
+    (c.in_ok-hand_on_in_time.ensures.goes false (number_of c.args.client.now.who))
+    (looks_and_takes true (number_of c.args.client.now.who) c.args.client.now c.args.client.now c.hand_on_in_time.new.wire.events
     c.next_request.new.self.events c.hand_on_in_time.new.wire.at_hand c.next_request.new.request.items c.hand_on_in_time.new.replies.items
-    c.hand_on_in_time.new.replies.items c.next_request.ensures.events c.in_ok-hand_on_in_time.ensures.in_time
+    c.hand_on_in_time.new.replies.items c.next_request.ensures.events (c.in_ok-hand_on_in_time.ensures.in_time refl)
     c.in_ok-hand_on_in_time.ensures.few (inr (inl (record { broken = inl refl; added = refl }))))
 
 pub returns-in-Err-Read-clause-goes : goal.returns-in-Err-Read-clause-goes
 returns-in-Err-Read-clause-goes g c =
-    goes_both (number_of c.args.client.now.who) c.args.client.now c.args.client.now c.args.client.now c.args.wire.now.events
+    read_fails (number_of c.args.client.now.who) c.args.client.now c.args.client.now c.args.wire.now.events
+    c.next_request.new.self.events c.args.replies.now.items c.hand_on_in_time.new.replies.items
+    (goes_both false false true (number_of c.args.client.now.who) c.args.client.now c.args.client.now c.args.client.now c.args.wire.now.events
     c.hand_on_in_time.new.wire.events c.next_request.new.self.events c.args.replies.now.items c.hand_on_in_time.new.replies.items c.hand_on_in_time.new.replies.items
-    (c.in_ok-hand_on_in_time.ensures.goes (number_of c.args.client.now.who))
-    (looks_and_takes (number_of c.args.client.now.who) c.args.client.now c.args.client.now c.hand_on_in_time.new.wire.events
+    (c.in_ok-hand_on_in_time.ensures.goes false (number_of c.args.client.now.who))
+    (looks_and_takes true (number_of c.args.client.now.who) c.args.client.now c.args.client.now c.hand_on_in_time.new.wire.events
     c.next_request.new.self.events c.hand_on_in_time.new.wire.at_hand c.next_request.new.request.items c.hand_on_in_time.new.replies.items
-    c.hand_on_in_time.new.replies.items c.next_request.ensures.events c.in_ok-hand_on_in_time.ensures.in_time
-    c.in_ok-hand_on_in_time.ensures.few (inr (inl (record { broken = inl refl; added = refl }))))
+    c.hand_on_in_time.new.replies.items c.next_request.ensures.events (c.in_ok-hand_on_in_time.ensures.in_time refl)
+    c.in_ok-hand_on_in_time.ensures.few (inr (inl (record { broken = inl refl; added = refl })))))
 
 pub returns-in-Err-OutOfMemory-clause-goes : goal.returns-in-Err-OutOfMemory-clause-goes
 returns-in-Err-OutOfMemory-clause-goes g c =
-    goes_both (number_of c.args.client.now.who) c.args.client.now c.args.client.now c.args.client.now c.args.wire.now.events
+    memory_fails (number_of c.args.client.now.who) c.args.client.now c.args.client.now c.args.wire.now.events
+    c.next_request.new.self.events c.args.replies.now.items c.hand_on_in_time.new.replies.items
+    (goes_both false false true (number_of c.args.client.now.who) c.args.client.now c.args.client.now c.args.client.now c.args.wire.now.events
     c.hand_on_in_time.new.wire.events c.next_request.new.self.events c.args.replies.now.items c.hand_on_in_time.new.replies.items c.hand_on_in_time.new.replies.items
-    (c.in_ok-hand_on_in_time.ensures.goes (number_of c.args.client.now.who))
-    (looks_and_takes (number_of c.args.client.now.who) c.args.client.now c.args.client.now c.hand_on_in_time.new.wire.events
+    (c.in_ok-hand_on_in_time.ensures.goes false (number_of c.args.client.now.who))
+    (looks_and_takes true (number_of c.args.client.now.who) c.args.client.now c.args.client.now c.hand_on_in_time.new.wire.events
     c.next_request.new.self.events c.hand_on_in_time.new.wire.at_hand c.next_request.new.request.items c.hand_on_in_time.new.replies.items
-    c.hand_on_in_time.new.replies.items c.next_request.ensures.events c.in_ok-hand_on_in_time.ensures.in_time
-    c.in_ok-hand_on_in_time.ensures.few (inr (inl (record { broken = inl refl; added = refl }))))
+    c.hand_on_in_time.new.replies.items c.next_request.ensures.events (c.in_ok-hand_on_in_time.ensures.in_time refl)
+    c.in_ok-hand_on_in_time.ensures.few (inr (inl (record { broken = inl refl; added = refl })))))
 
 pub returns-in-Err-TooLong-clause-goes : goal.returns-in-Err-TooLong-clause-goes
 returns-in-Err-TooLong-clause-goes g c =
     too_long_goes c.tell_too_long.result (number_of c.args.client.now.who) c.args.client.now c.args.wire.now.events
     c.hand_on_in_time.new.wire.events c.next_request.new.self.events c.hand_on_in_time.new.wire.at_hand
     c.next_request.new.request.items c.args.replies.now.items c.hand_on_in_time.new.replies.items c.tell_too_long.new.replies.items
-    (c.in_ok-hand_on_in_time.ensures.goes (number_of c.args.client.now.who)) c.next_request.ensures.events
-    c.in_ok-hand_on_in_time.ensures.in_time c.in_ok-hand_on_in_time.ensures.few c.tell_too_long.ensures
+    (c.in_ok-hand_on_in_time.ensures.goes false (number_of c.args.client.now.who)) c.next_request.ensures.events
+    (c.in_ok-hand_on_in_time.ensures.in_time refl) c.in_ok-hand_on_in_time.ensures.few c.tell_too_long.ensures
 
 pub returns-in-Ok-clause-goes : goal.returns-in-Ok-clause-goes
 returns-in-Ok-clause-goes g c =
-    goes_both (number_of c.args.client.now.who) c.args.client.now c.args.client.now c.answer-answered.new.client c.args.wire.now.events
+    let did = c.match-next_request-2.step in
+    let bytes = c.next_request.new.request.items in
+    let adds : AddsAnswer (number_of c.args.client.now.who) bytes c.args.client.now c.answer-answered.new.client
+    c.hand_on_in_time.new.replies.items c.answer-answered.new.replies.items =
+    subst (λ (text : List ℕ). AddsAnswer (number_of c.args.client.now.who) text c.args.client.now c.answer-answered.new.client
+    c.hand_on_in_time.new.replies.items c.answer-answered.new.replies.items) c.as_slice.ensures.value c.in-Ok.ensures.answered
+    in
+    let so : AddsReply (is_last did) (number_of c.args.client.now.who) bytes c.args.client.now c.answer-answered.new.client
+    c.hand_on_in_time.new.replies.items c.answer-answered.new.replies.items = elim c.match-next_request-2.branch [
+      | in-Ok-Request w ↦
+          let this : did ≡ step.Request = search rules in
+          let whole : IsRequest bytes = search rules in
+          adds_request did _ bytes _ _ _ _ this whole adds
+      | in-Ok-Rest w ↦ let this : did ≡ step.Rest = search rules in adds_last did _ bytes _ _ _ _ this adds
+    ] in
+    goes_both false false (is_last did) (number_of c.args.client.now.who) c.args.client.now c.args.client.now c.answer-answered.new.client c.args.wire.now.events
     c.hand_on_in_time.new.wire.events c.next_request.new.self.events c.args.replies.now.items c.hand_on_in_time.new.replies.items c.answer-answered.new.replies.items
-    (c.in_ok-hand_on_in_time.ensures.goes (number_of c.args.client.now.who))
-    (looks_and_takes (number_of c.args.client.now.who) c.args.client.now c.answer-answered.new.client c.hand_on_in_time.new.wire.events
+    (c.in_ok-hand_on_in_time.ensures.goes false (number_of c.args.client.now.who))
+    (looks_and_takes (is_last did) (number_of c.args.client.now.who) c.args.client.now c.answer-answered.new.client c.hand_on_in_time.new.wire.events
     c.next_request.new.self.events c.hand_on_in_time.new.wire.at_hand c.next_request.new.request.items c.hand_on_in_time.new.replies.items
-    c.answer-answered.new.replies.items c.next_request.ensures.events c.in_ok-hand_on_in_time.ensures.in_time
-    c.in_ok-hand_on_in_time.ensures.few (inl (subst (λ (bytes : List ℕ). AddsAnswer (number_of c.args.client.now.who) bytes c.args.client.now c.answer-answered.new.client
-    c.hand_on_in_time.new.replies.items c.answer-answered.new.replies.items) c.as_slice.ensures.value c.in-Ok.ensures.answered)))
+    c.answer-answered.new.replies.items c.next_request.ensures.events (c.in_ok-hand_on_in_time.ensures.in_time refl)
+    c.in_ok-hand_on_in_time.ensures.few so)
 
 pub returns-in-Err-clause-goes : goal.returns-in-Err-clause-goes
 returns-in-Err-clause-goes g c =
-    goes_both (number_of c.args.client.now.who) c.args.client.now c.args.client.now c.answer-answered.new.client c.args.wire.now.events
+    memory_fails (number_of c.args.client.now.who) c.args.client.now c.answer-answered.new.client c.args.wire.now.events
+    c.next_request.new.self.events c.args.replies.now.items c.answer-answered.new.replies.items
+    (goes_both false false true (number_of c.args.client.now.who) c.args.client.now c.args.client.now c.answer-answered.new.client c.args.wire.now.events
     c.hand_on_in_time.new.wire.events c.next_request.new.self.events c.args.replies.now.items c.hand_on_in_time.new.replies.items c.answer-answered.new.replies.items
-    (c.in_ok-hand_on_in_time.ensures.goes (number_of c.args.client.now.who))
-    (looks_and_takes (number_of c.args.client.now.who) c.args.client.now c.answer-answered.new.client c.hand_on_in_time.new.wire.events
+    (c.in_ok-hand_on_in_time.ensures.goes false (number_of c.args.client.now.who))
+    (looks_and_takes true (number_of c.args.client.now.who) c.args.client.now c.answer-answered.new.client c.hand_on_in_time.new.wire.events
     c.next_request.new.self.events c.hand_on_in_time.new.wire.at_hand c.next_request.new.request.items c.hand_on_in_time.new.replies.items
-    c.answer-answered.new.replies.items c.next_request.ensures.events c.in_ok-hand_on_in_time.ensures.in_time
+    c.answer-answered.new.replies.items c.next_request.ensures.events (c.in_ok-hand_on_in_time.ensures.in_time refl)
     c.in_ok-hand_on_in_time.ensures.few (inr (inl (subst (λ (bytes : List ℕ). AddsNothing (number_of c.args.client.now.who) bytes c.args.client.now c.answer-answered.new.client
-    c.hand_on_in_time.new.replies.items c.answer-answered.new.replies.items) c.as_slice.ensures.value c.in-Err.ensures.answered))))
+    c.hand_on_in_time.new.replies.items c.answer-answered.new.replies.items) c.as_slice.ensures.value c.in-Err.ensures.answered)))))
