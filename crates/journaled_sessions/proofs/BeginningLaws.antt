@@ -1,7 +1,7 @@
 -- A server with a journal begins where the journal ends, and is opened with quiet clients and a reader of its log.
-use Rattle.std.proofs.Common.{◌≡◌, ℕ, List, [], ◌∷◌, ◌++◌, length, Result, Ok, Err, Option, Some, refl, sym, ◌∙◌}
+use Rattle.std.proofs.Common.{◌≡◌, ℕ, List, [], ◌∷◌, ◌++◌, length, Result, Ok, Err, Some, refl, sym, ◌∙◌}
 use Rattle.std.proofs.Common.{subst}
-use Rattle.std.specs.Prelude.{All, IfErr, IfOk, IfSome}
+use Rattle.std.specs.Prelude.{All, IfErr, IfOk}
 use Rattle.std.specs.List.{range_with_len}
 use Rattle.std.proofs.lemmas.List.Elements.{All-map, All-pop}
 use Rattle.history.specs.Tokens.{TableRecord, TokenRecord, new_token, new_dispatchers}

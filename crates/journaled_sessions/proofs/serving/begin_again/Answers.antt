@@ -1,5 +1,4 @@
-use Rattle.std.proofs.Common.{◌≡◌, ◌∙◌, length, subst, sym, arith}
-use Rattle.journal.specs.Groups.{AreTorn}
+use Rattle.std.proofs.Common.{◌≡◌, ◌∙◌, length, arith}
 use Rattle.journaled_sessions.proofs.BeginningLaws.{keeps_first}
 use Rattle.journaled_sessions.proofs.serving.begin_again.Goals as goal
 
