@@ -1,7 +1,7 @@
 -- A server with a journal begins where the journal ends, and is opened with quiet clients and a reader of its log.
-use Rattle.std.proofs.Common.{◌≡◌, ℕ, List, [], ◌∷◌, ◌++◌, length, Result, Ok, Err, Option, Some, refl, sym, ◌∙◌}
+use Rattle.std.proofs.Common.{◌≡◌, ℕ, List, [], ◌∷◌, ◌++◌, length, Result, Ok, Err, Some, refl, sym, ◌∙◌}
 use Rattle.std.proofs.Common.{subst}
-use Rattle.std.specs.Prelude.{All, IfErr, IfOk, IfSome}
+use Rattle.std.specs.Prelude.{All, IfErr, IfOk}
 use Rattle.std.specs.List.{range_with_len}
 use Rattle.std.proofs.lemmas.List.Elements.{All-map, All-pop}
 use Rattle.history.specs.Tokens.{TableRecord, TokenRecord, new_token, new_dispatchers}
@@ -60,17 +60,16 @@ run_fault clients dispatchers opening.NoReader told same is =
 run_fault clients dispatchers opening.OutOfMemory told same is =
     subst (IsRunFault clients dispatchers) (sym same) is
 
--- the run of an opened server is one over its base
-pub run_over : {S L V E X : Type 0} (Spoken : S → TokenRecord → TokenRecord → L → Type 0) (left_in : X → List L)
-    (log_in : X → Option V) (items : V → List CommitRecord) (result : Result X E) (opened base : Tables)
-    (commits : List CommitRecord) (speakers : List S) → opened ≡ base
-    → IfOk result (λ run. IfSome (log_in run) (λ log. IsJournaledRun Spoken opened commits speakers (left_in run)
-    (items log)))
-    → IfOk result (λ run. IfSome (log_in run) (λ log. IsJournaledRun Spoken base commits speakers (left_in run)
-    (items log)))
-run_over {S} {L} {V} {E} {X} Spoken left_in log_in items result opened base commits speakers same run =
-    subst (λ b. IfOk result (λ run. IfSome (log_in run) (λ log. IsJournaledRun Spoken b commits speakers (left_in run)
-    (items log)))) same run
+-- the run of an opened server is one over its base, with its dispatchers
+pub run_over : {S L E X : Type 0} (Spoken : S → TokenRecord → TokenRecord → L → Type 0) (left_in : X → List L)
+    (log_in : X → List CommitRecord) (result : Result X E) (opened base : Tables)
+    (commits : List CommitRecord) (speakers : List S) (there dispatchers : ℕ) → opened ≡ base → there ≡ dispatchers
+    → IfOk result (λ run. IsJournaledRun Spoken opened commits speakers there (left_in run) (log_in run))
+    → IfOk result (λ run. IsJournaledRun Spoken base commits speakers dispatchers (left_in run) (log_in run))
+run_over {S} {L} {E} {X} Spoken left_in log_in result opened base commits speakers there dispatchers same as_many run =
+    subst (λ n. IfOk result (λ run. IsJournaledRun Spoken base commits speakers n (left_in run) (log_in run))) as_many
+    (subst (λ b. IfOk result (λ run. IsJournaledRun Spoken b commits speakers there (left_in run) (log_in run)))
+    same run)
 
 -- who reads the log has seen nothing yet
 abbrev pub IsUnread : TableRecord → TokenRecord → Type 0

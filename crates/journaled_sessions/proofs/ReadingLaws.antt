@@ -59,10 +59,12 @@ pub later_where : (first : Option TokenRecord) (before after : TokenRecord) → 
 later_where first before after fetched later = λ one is. later_fetched one before after fetched (later one is)
 
 -- so what comes back is a later one of the reader that was picked
-pub later_left : (first : Option TokenRecord) (reader : TokenRecord) (left : Option TokenRecord) → first ≡ Some reader
-    → IfSome left (λ now. ForSome first (λ one. IsLater one now)) → IfSome left (λ now. IsLater reader now)
-later_left first reader None is later = tt
-later_left first reader (Some now) is later = later reader is
+pub later_left : {X : Type 0} (reader_in : X → TokenRecord) (first : Option TokenRecord) (reader : TokenRecord)
+    (left : Option X) → first ≡ Some reader
+    → IfSome left (λ now. ForSome first (λ one. IsLater one (reader_in now)))
+    → IfSome left (λ now. IsLater reader (reader_in now))
+later_left reader_in first reader None is later = tt
+later_left reader_in first reader (Some now) is later = later reader is
 
 -- the table of who fetched
 pub fetched_table : (table : TableRecord) (before after : TokenRecord) → Fetches before after → before.table ≡ table

@@ -6,7 +6,7 @@ use Rattle.std.proofs.lemmas.List.{length_push, length-take-le, take_more}
 use Rattle.std.proofs.lemmas.Option.{slice_get_read}
 use Rattle.history.specs.Tokens.{TableRecord, TokenRecord}
 use Rattle.history_core.specs.declared.event.Who.TheVariants.{Client}
-use Rattle.row_store.proofs.PrefixLaws.{as_long_is_the_whole, beginnings_are_shorter, prefix_append}
+use Rattle.row_store.proofs.PrefixLaws.{as_long_is_the_whole, beginnings_are_shorter, begins_with_itself, prefix_append}
 use Rattle.row_store.specs.History.{CommitRecord, IsPrefix}
 use Rattle.row_store.specs.Legal.{IsLegal}
 use Rattle.row_store.specs.Refusals.{refusal_of}
@@ -23,7 +23,7 @@ use Rattle.journaled_sessions.specs.declared.fault.JournaledFault.{JournaledFaul
 use Rattle.journaled_sessions.specs.declared.fault.JournaledFault.TheVariants as fault
 
 -- what begins with a list and is as long is that list
-same_as_long : (first second : List CommitRecord) → IsPrefix first second → length first ≡ length second
+pub same_as_long : (first second : List CommitRecord) → IsPrefix first second → length first ≡ length second
     → second ≡ first
 same_as_long first second begins same = sym (as_long_is_the_whole first second begins same)
 
@@ -36,7 +36,8 @@ pub record Remade (table : TableRecord) (before : List CommitRecord) (commit : C
 -- who looked and then sees as many commits as the reader sees those
 shown_same : (before : List CommitRecord) (number : ℕ) (shown : TokenRecord) → number ≡ length before + 1
     → IsPrefix before shown.seen → length shown.seen + 1 ≡ number → shown.seen ≡ before
-shown_same before number shown numbered begins few = same_as_long before shown.seen begins (omega (arith, numbered, few))
+shown_same before number shown numbered begins few =
+    same_as_long before shown.seen begins (omega (arith, numbered, few))
 
 -- the history of the commit is that of before
 history_same : (before : List CommitRecord) (commit : CommitRecord) (number receipt : ℕ)
@@ -176,3 +177,32 @@ still_still first second third one two = record {
 pub fault_told : {X : Type 0} (P : JournaledFault → Type 0) (result : Result X JournaledFault) (why : JournaledFault)
     → result ≡ Err why → P why → IfErr result P
 fault_told P result why is so = subst (λ r. IfErr r P) (sym is) so
+
+-- a client that was shown just this history
+pub shown_seated : (table : TableRecord) (history : List CommitRecord) (number : ℕ) (client shown : TokenRecord)
+    → Looks client shown → shown.seen ≡ history → IsSeated table history number client
+    → IsSeated table history number shown
+shown_seated table history number client shown looked same seated = record {
+  table_is = ap (λ (t : TokenRecord). t.table) looked.now ∙ seated.table_is;
+  who_is = ap (λ (t : TokenRecord). t.who) looked.now ∙ seated.who_is;
+  quiet = ap (λ (t : TokenRecord). t.asked) looked.now ∙ seated.quiet;
+  begins = subst (λ l. IsPrefix l history) (sym same) (begins_with_itself history);
+}
+
+-- the client at a place is at the table
+pub table_at : (table : TableRecord) (history : List CommitRecord) (clients : List TokenRecord) (place : ℕ)
+    (client : TokenRecord) → AreSeated table history clients → place < length clients
+    → client ≡ get_or clients place client → client.table ≡ table
+table_at table history clients place client seated within here =
+    (seated_at table history clients place (place + 1) client seated (omega arith) within here).table_is
+
+-- one client more was shown the history
+pub next_shown : (table : TableRecord) (history : List CommitRecord) (clients : List TokenRecord) (place : ℕ)
+    (client shown : TokenRecord) → AreSeated table history clients → place < length clients
+    → client ≡ get_or clients place client
+    → ((number : ℕ) → IsSeated table history number client → IsSeated table history number shown)
+    → AreSeated table history (set clients place shown)
+next_shown table history clients place client shown seated within here still =
+    seated_set table history history clients (set clients place shown) place (place + 1) shown seated
+    (begins_with_itself history) refl (omega arith)
+    (still (place + 1) (seated_at table history clients place (place + 1) client seated (omega arith) within here))

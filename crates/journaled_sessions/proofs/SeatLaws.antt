@@ -1,6 +1,6 @@
 -- The clients of a server, place by place.
-use Rattle.std.proofs.Common.{◌≡◌, ◌⊎◌, ℕ, zero, suc, ◌+◌, ◌<◌, List, [], ◌∷◌, ◌++◌, length, map, set, get_or, Some, None}
-use Rattle.std.proofs.Common.{refl, sym, ap, ◌∙◌, subst, inl, inr, arith}
+use Rattle.std.proofs.Common.{◌≡◌, ◌⊎◌, ℕ, zero, suc, ◌+◌, ◌<◌, ◌≤◌, List, [], ◌∷◌, ◌++◌, length, map, set, get_or}
+use Rattle.std.proofs.Common.{Some, None, refl, sym, ap, ◌∙◌, subst, inl, inr, arith}
 use Rattle.std.specs.Prelude.{All, slice_get}
 use Rattle.std.specs.List.{AllZip, range_with_len}
 use Rattle.std.proofs.Math.ListN.{length-set}
@@ -64,6 +64,17 @@ get_set (x ∷ xs) (suc i) v (suc j) y here = elim (get_set xs i v j y here) [
   | inr other ↦ inr other
 ]
 
+-- one more of those before a place has it
+pub at_set : {X : Type 0} (P : X → Type 0) (xs : List X) (i : ℕ) (v : X) → P v
+    → ((j : ℕ) (y : X) → j < i → slice_get xs j ≡ Some y → P y) → (j : ℕ) (y : X) → j < i + 1
+    → slice_get (set xs i v) j ≡ Some y → P y
+at_set P [] i v holds before j y low here = absurd (none_is here)
+at_set P (x ∷ xs) zero v holds before zero y low here = subst P (some_is here) holds
+at_set P (x ∷ xs) zero v holds before (suc j) y low here = absurd (omega (arith, low))
+at_set P (x ∷ xs) (suc i) v holds before zero y low here = before 0 y (omega arith) here
+at_set P (x ∷ xs) (suc i) v holds before (suc j) y low here =
+    at_set P xs i v holds (λ k z less at. before (suc k) z (omega (arith, less)) at) j y (omega (arith, low)) here
+
 -- one client more has seen the longer history
 pub seated_set : (table : TableRecord) (history longer : List CommitRecord) (clients after : List TokenRecord)
     (place number : ℕ) (client : TokenRecord) → AreSeated table history clients → IsPrefix history longer
@@ -87,14 +98,26 @@ get_front [] rest i x here = absurd (none_is here)
 get_front (y ∷ front) rest zero x here = here
 get_front (y ∷ front) rest (suc i) x here = get_front front rest i x here
 
+-- what stands behind the front of a list does not hang on the front
+pub same_behind : {X : Type 0} (front other rest : List X) (i : ℕ) → length front ≡ length other → length front ≤ i
+    → slice_get (front ++ rest) i ≡ slice_get (other ++ rest) i
+same_behind [] [] rest i same behind = refl
+same_behind [] (y ∷ other) rest i same behind = absurd (omega (arith, same))
+same_behind (x ∷ front) [] rest i same behind = absurd (omega (arith, same))
+same_behind (x ∷ front) (y ∷ other) rest zero same behind = absurd (omega (arith, behind))
+same_behind (x ∷ front) (y ∷ other) rest (suc i) same behind =
+    same_behind front other rest i (omega (arith, same)) (omega (arith, behind))
+
 -- lists that are as long agree, where they agree at each place
 pub zip_of_places : {X Y : Type 0} (R : X → Y → Type 0) (xs : List X) (ys : List Y) → length ys ≡ length xs
     → ((i : ℕ) (x : X) (y : Y) → slice_get xs i ≡ Some x → slice_get ys i ≡ Some y → R x y) → AllZip R xs ys
 zip_of_places R [] [] same each = tt
 zip_of_places R [] (y ∷ ys) same each = absurd (omega (arith, same))
 zip_of_places R (x ∷ xs) [] same each = absurd (omega (arith, same))
-zip_of_places R (x ∷ xs) (y ∷ ys) same each =
-    (each 0 x y refl refl, zip_of_places R xs ys (omega (arith, same)) (λ i a b here there. each (suc i) a b here there))
+zip_of_places R (x ∷ xs) (y ∷ ys) same each = (
+  each 0 x y refl refl,
+  zip_of_places R xs ys (omega (arith, same)) (λ i a b here there. each (suc i) a b here there),
+)
 
 -- a client of this number at this table that asks nothing
 pub record IsStanding (table : TableRecord) (number : ℕ) (client : TokenRecord) : Type 0 where

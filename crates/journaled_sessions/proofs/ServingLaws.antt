@@ -1,18 +1,18 @@
 -- What the sessions of a server with a journal leave is as its definition says.
-use Rattle.std.proofs.Common.{◌≡◌, ℕ, ◌+◌, ◌≤◌, List, [], ◌∷◌, ◌++◌, length, take, drop, Option, Some, None}
+use Rattle.std.proofs.Common.{◌≡◌, ℕ, ◌+◌, ◌≤◌, Bool, List, [], ◌∷◌, ◌++◌, length, take, drop, map, Option, Some}
 use Rattle.std.proofs.Common.{refl, sym, ap, ◌∙◌, subst, arith, length-append}
 use Rattle.std.specs.Prelude.{All, IfSome, slice_get}
 use Rattle.std.specs.List.{AllZip, range_with_len}
 use Rattle.std.proofs.lemmas.List.{length-take-le, take-append-drop, take_at}
 use Rattle.std.proofs.lemmas.Option.{slice_get_within}
-use Rattle.std.proofs.lemmas.List.Elements.{All-nil, All-cons, All-head, All-tail, All-pop}
+use Rattle.std.proofs.lemmas.List.Elements.{All-nil, All-cons, All-head, All-tail, All-map, All-pop}
 use Rattle.history.specs.Tokens.{TableRecord, TokenRecord, new_clients, new_dispatchers}
 use Rattle.history.specs.Words.{Owns}
 use Rattle.history_core.specs.OwnCommits.{IsOfClients}
 use Rattle.row_store.specs.History.{CommitRecord, IsPrefix}
 use Rattle.row_store.proofs.PrefixLaws.{beginnings_chain}
 use Rattle.ssb_server.specs.Tickets.{IsQuiet}
-use Rattle.ssb_serving.proofs.PlaceLaws.{all_at, get_below}
+use Rattle.ssb_serving.proofs.PlaceLaws.{all_at, get_below, some_is}
 use Rattle.ssb_serving.proofs.MemberLaws.{ready_where, still_push}
 use Rattle.ssb_serving.specs.Members.{AreStill, IsReady, IsStill}
 use Rattle.ssb_serving.specs.Steps.{AreAlike}
@@ -22,14 +22,17 @@ use Rattle.journaled_sessions.proofs.SeatLaws.{
   alike_stand,
   get_front,
   new_are_seated,
+  same_behind,
   seated_stand,
   standing_numbers,
   standing_quiet,
   zip_of_places,
 }
 use Rattle.journaled_sessions.specs.Reading.{IsLater}
-use Rattle.journaled_sessions.specs.Seated.{AreSeated}
-use Rattle.journaled_sessions.specs.Served.{AreServedBehind, IsClosedBy, IsJournaledRun, IsServedAfter}
+use Rattle.journaled_sessions.specs.Seated.{AllHaveSeen, AreSeated}
+use Rattle.journaled_sessions.specs.Served.{HasRested, IsJournaledRun, IsServedAfter}
+use Rattle.ssb_journal.specs.Counts.{IsLeft}
+use Rattle.ssb_journal.proofs.CountLaws.{left_of_longer}
 
 -- the speakers gave back the clients that they were given
 alike_sessions : {S L : Type 0} (Spoken : S → TokenRecord → TokenRecord → L → Type 0) (speakers : List S)
@@ -55,27 +58,29 @@ pub record AreParted (table : TableRecord) (recovered : List CommitRecord) (coun
   pub all : List TokenRecord
   pub parts : seated ++ resting ≡ all
   pub are : AreSeated table recovered all
+  pub shown : AllHaveSeen recovered all
   pub many : length seated ≡ count
 
 parted : (table : TableRecord) (recovered : List CommitRecord) (count : ℕ) (all seated resting : List TokenRecord)
-    → AreSeated table recovered all → count ≤ length all → seated ≡ take count all → resting ≡ drop count all
-    → AreParted table recovered count seated resting
-parted table recovered count all seated resting are few front back = record {
+    → AreSeated table recovered all → AllHaveSeen recovered all → count ≤ length all → seated ≡ take count all
+    → resting ≡ drop count all → AreParted table recovered count seated resting
+parted table recovered count all seated resting are shown few front back = record {
   all = all;
   parts = ap (λ xs. xs ++ resting) front ∙ ap (λ xs. take count all ++ xs) back ∙ take-append-drop count all;
   are = are;
+  shown = shown;
   many = ap length front ∙ length-take-le count all few;
 }
 
 -- the same of clients that were lent and came back
 pub parted_again : (table : TableRecord) (recovered : List CommitRecord) (count n len : ℕ)
-    (old all seated resting : List TokenRecord) → AreSeated table recovered all → n ≡ count → count ≤ table.clients
-    → len ≡ table.clients → seated ≡ take n (take len (all ++ drop (length all) old))
+    (old all seated resting : List TokenRecord) → AreSeated table recovered all → AllHaveSeen recovered all → n ≡ count
+    → count ≤ table.clients → len ≡ table.clients → seated ≡ take n (take len (all ++ drop (length all) old))
     → resting ≡ drop n (take len (all ++ drop (length all) old)) → AreParted table recovered count seated resting
-parted_again table recovered count n len old all seated resting are same few whole front back =
+parted_again table recovered count n len old all seated resting are shown same few whole front back =
     let back_again : take len (all ++ drop (length all) old) ≡ all =
     take_at all (drop (length all) old) len (are.count ∙ sym whole) in
-    parted table recovered count all seated resting are (omega (arith, few, are.count))
+    parted table recovered count all seated resting are shown (omega (arith, few, are.count))
     (front ∙ (ap (λ xs. take n xs) back_again ∙ ap (λ k. take k all) same))
     (back ∙ (ap (λ xs. drop n xs) back_again ∙ ap (λ k. drop k all) same))
 
@@ -95,21 +100,12 @@ seated_quiet table recovered count seated resting parted =
     front_quiet (IsQuiet table) seated resting
     (standing_quiet table 1 (seated ++ resting) (parts_stand table recovered count seated resting parted))
 
--- the server can be closed with all that it was opened with
-ready_to_close : {S L : Type 0} (Spoken : S → TokenRecord → TokenRecord → L → Type 0) (table : TableRecord)
-    (recovered : List CommitRecord) (speakers : List S) (seated resting closed : List TokenRecord) (left : List L)
-    (dispatchers ended : List TokenRecord) (opened now : TokenRecord)
-    → AreParted table recovered (length speakers) seated resting → AreSpoken Spoken speakers seated closed left
-    → dispatchers ++ opened ∷ [] ≡ new_dispatchers table → AreStill dispatchers ended → IsStill opened now
-    → IsReady table (closed ++ resting) (ended ++ now ∷ [])
-ready_to_close Spoken table recovered speakers seated resting closed left dispatchers ended opened now parted spoken new
-    still reader =
-    let stand = alike_stand table 1 seated closed resting
-    (alike_sessions Spoken speakers seated closed left parted.many spoken)
-    (parts_stand table recovered (length speakers) seated resting parted) in
-    let fresh = new_are_seated table (new_clients table) refl in
+-- how many clients there are, with those that rested
+closed_count : (table : TableRecord) (recovered : List CommitRecord) (count : ℕ)
+    (seated resting closed : List TokenRecord) → AreParted table recovered count seated resting → length closed ≡ count
+    → length (closed ++ resting) ≡ table.clients
+closed_count table recovered count seated resting closed parted many =
     let whole : length (seated ++ resting) ≡ length parted.all = ap length parted.parts in
-    let count : length (closed ++ resting) ≡ length (new_clients table) =
     omega (
       arith,
       length-append closed resting,
@@ -117,28 +113,29 @@ ready_to_close Spoken table recovered speakers seated resting closed left dispat
       whole,
       parted.are.count,
       parted.many,
-      spoken.closed_each,
-      fresh.count,
-    ) in
+      many,
+    )
+
+-- the server can be closed with all that it was opened with
+pub ready_to_close : {S L : Type 0} (Spoken : S → TokenRecord → TokenRecord → L → Type 0) (table : TableRecord)
+    (recovered : List CommitRecord) (speakers : List S) (seated resting closed : List TokenRecord) (left : List L)
+    (dispatchers ended : List TokenRecord) (opened begun now : TokenRecord)
+    → AreParted table recovered (length speakers) seated resting → AreSpoken Spoken speakers seated closed left
+    → dispatchers ++ opened ∷ [] ≡ new_dispatchers table → AreStill dispatchers ended → IsStill opened begun
+    → IsLater begun now → IsReady table (closed ++ resting) (ended ++ now ∷ [])
+ready_to_close Spoken table recovered speakers seated resting closed left dispatchers ended opened begun now parted
+    spoken new still reader later =
+    let stand = alike_stand table 1 seated closed resting
+    (alike_sessions Spoken speakers seated closed left parted.many spoken)
+    (parts_stand table recovered (length speakers) seated resting parted) in
+    let fresh = new_are_seated table (new_clients table) refl in
+    let count : length (closed ++ resting) ≡ length (new_clients table) =
+    closed_count table recovered (length speakers) seated resting closed parted spoken.closed_each ∙ sym fresh.count in
     ready_where table (closed ++ resting) (dispatchers ++ opened ∷ []) (ended ++ now ∷ [])
     (standing_quiet table 1 (closed ++ resting) stand)
     (standing_numbers table 1 (closed ++ resting) stand ∙ ap (range_with_len 1) count
     ∙ sym (standing_numbers table 1 (new_clients table) (seated_stand table [] (new_clients table) fresh)))
-    new (still_push dispatchers ended opened now still reader)
-
-pub ready_where_left : {S L : Type 0} (Spoken : S → TokenRecord → TokenRecord → L → Type 0) (table : TableRecord)
-    (recovered : List CommitRecord) (speakers : List S) (seated resting closed : List TokenRecord) (left : List L)
-    (dispatchers ended : List TokenRecord) (opened begun : TokenRecord) (reader : Option TokenRecord)
-    → AreParted table recovered (length speakers) seated resting → AreSpoken Spoken speakers seated closed left
-    → dispatchers ++ opened ∷ [] ≡ new_dispatchers table → AreStill dispatchers ended → IsStill opened begun
-    → IfSome reader (λ one. IsLater begun one)
-    → IfSome reader (λ one. IsReady table (closed ++ resting) (ended ++ one ∷ []))
-ready_where_left Spoken table recovered speakers seated resting closed left dispatchers ended opened begun None parted
-    spoken new still reader later = tt
-ready_where_left Spoken table recovered speakers seated resting closed left dispatchers ended opened begun (Some now)
-    parted spoken new still reader later =
-    ready_to_close Spoken table recovered speakers seated resting closed left dispatchers ended opened now parted spoken
-    new still (still_later opened begun now reader later)
+    new (still_push dispatchers ended opened now still (still_later opened begun now reader later))
 
 -- what the reader sees at the end begins with what was recovered
 later_begins : (begun now : TokenRecord) → IsLater begun now → IsPrefix begun.seen now.seen
@@ -148,95 +145,118 @@ later_begins begun now later = record {
       ∙ ap (λ list. list ++ drop (length begun.seen) now.seen) later.begins;
 }
 
+-- it is a beginning of the log
+reader_begins : (table : TableRecord) (clients ended : List TokenRecord) (now : TokenRecord) (log : List CommitRecord)
+    → IsClosedWith table clients (ended ++ now ∷ []) log → IsPrefix now.seen log
+reader_begins table clients ended now log closed_with =
+    (All-pop (λ (token : TokenRecord). IsPrefix token.seen log) (ended ++ now ∷ []) ended (Some now) refl
+    closed_with.ended_begin).1
+
 -- a session and its client
 served_after : {S L : Type 0} (Spoken : S → TokenRecord → TokenRecord → L → Type 0) (table : TableRecord)
     (recovered log : List CommitRecord) (speakers : List S) (seated resting closed : List TokenRecord) (left : List L)
-    (ended : List TokenRecord) (i : ℕ) (speaker : S) (one : L)
+    (ended : List TokenRecord) (i : ℕ) (speaker : S) (client : TokenRecord) (one : L)
     → AreParted table recovered (length speakers) seated resting → AreSpoken Spoken speakers seated closed left
     → IsClosedWith table (closed ++ resting) ended log → slice_get speakers i ≡ Some speaker
-    → slice_get left i ≡ Some one → IsServedAfter Spoken recovered log (i + 1) speaker one
-served_after Spoken table recovered log speakers seated resting closed left ended i speaker one parted spoken closed_with
-    at_speaker at_left =
+    → slice_get (closed ++ resting) i ≡ Some client → slice_get left i ≡ Some one
+    → IsServedAfter Spoken table recovered log (i + 1) speaker client one
+served_after Spoken table recovered log speakers seated resting closed left ended i speaker client one parted spoken
+    closed_with at_speaker at_client at_left =
     let within = slice_get_within speakers i speaker at_speaker in
-    let client = get_below seated i (omega (arith, within, parted.many)) in
+    let first = get_below seated i (omega (arith, within, parted.many)) in
     let after = get_below closed i (omega (arith, within, spoken.closed_each)) in
-    let is = spoken.each i speaker client.0 after.0 one at_speaker client.1 after.1 at_left in
-    let seat = parted.are.each i client.0
-    (ap (λ xs. slice_get xs i) (sym parted.parts) ∙ get_front seated resting i client.0 client.1) in
-    let there = get_front closed resting i after.0 after.1 in
+    let here : slice_get closed i ≡ Some client =
+    after.1 ∙ ap (λ (token : TokenRecord). Some token)
+    (some_is (sym (get_front closed resting i after.0 after.1) ∙ at_client)) in
+    let is = spoken.each i speaker first.0 client one at_speaker first.1 here at_left in
+    let place : slice_get parted.all i ≡ Some first.0 =
+    ap (λ xs. slice_get xs i) (sym parted.parts) ∙ get_front seated resting i first.0 first.1 in
+    let seat = parted.are.each i first.0 place in
     record {
-      client = client.0;
-      closed = after.0;
+      client = first.0;
+      table_is = seat.table_is;
       who_is = seat.who_is;
-      seen = seat.begins;
+      seen = parted.shown i first.0 place;
       spoken = is;
-      begins = all_at (λ (token : TokenRecord). IsPrefix token.seen log) (closed ++ resting) i after.0 closed_with.begin
-          there;
-      made = subst (λ who. Owns who after.0.mine log) (is.alike.who ∙ seat.who_is)
-          (all_at (λ (token : TokenRecord). Owns token.who token.mine log) (closed ++ resting) i after.0
-          closed_with.own there);
+      begins = all_at (λ (token : TokenRecord). IsPrefix token.seen log) (closed ++ resting) i client closed_with.begin
+          at_client;
+      made = subst (λ who. Owns who client.mine log) (is.alike.who ∙ seat.who_is)
+          (all_at (λ (token : TokenRecord). Owns token.who token.mine log) (closed ++ resting) i client closed_with.own
+          at_client);
     }
 
--- the sessions, whether or not there is a log
-pub served_behind : {S L : Type 0} (Spoken : S → TokenRecord → TokenRecord → L → Type 0) (table : TableRecord)
-    (recovered : List CommitRecord) (speakers : List S) (seated resting closed : List TokenRecord)
-    (left all_left : List L) → AreParted table recovered (length speakers) seated resting
-    → AreSpoken Spoken speakers seated closed left → all_left ≡ left
-    → AreServedBehind Spoken recovered speakers all_left
-served_behind Spoken table recovered speakers seated resting closed left all_left parted spoken same = record {
-  one_left = ap length same ∙ spoken.left_each;
-  served = λ i speaker one at_speaker at_left.
-      let within = slice_get_within speakers i speaker at_speaker in
-      let client = get_below seated i (omega (arith, within, parted.many)) in
-      let after = get_below closed i (omega (arith, within, spoken.closed_each)) in
-      let seat = parted.are.each i client.0
-      (ap (λ xs. slice_get xs i) (sym parted.parts) ∙ get_front seated resting i client.0 client.1) in
-      record {
-        client = client.0;
-        closed = after.0;
-        who_is = seat.who_is;
-        seen = seat.begins;
-        spoken = spoken.each i speaker client.0 after.0 one at_speaker client.1 after.1
-            (ap (λ xs. slice_get xs i) (sym same) ∙ at_left);
-      };
-}
-
-journaled_run : {S L : Type 0} (Spoken : S → TokenRecord → TokenRecord → L → Type 0) (table : TableRecord)
-    (recovered log : List CommitRecord) (speakers : List S) (seated resting closed : List TokenRecord)
-    (left all_left : List L) (ended : List TokenRecord) (begun : TokenRecord) (reader : Option TokenRecord)
-    → AreParted table recovered (length speakers) seated resting → AreSpoken Spoken speakers seated closed left
-    → table.clients ≡ 16 → begun.seen ≡ recovered → IfSome reader (λ one. IsLater begun one)
-    → all_left ≡ left → IsClosedBy table (closed ++ resting) ended reader log
-    → IsJournaledRun Spoken table.base recovered speakers all_left log
-journaled_run Spoken table recovered log speakers seated resting closed left all_left ended begun None parted spoken
-    sixteen seen later same closed_with = absurd closed_with
-journaled_run Spoken table recovered log speakers seated resting closed left all_left ended begun (Some now) parted
-    spoken sixteen seen later same closed_with =
-    let begins = (All-pop (λ (token : TokenRecord). IsPrefix token.seen log) (ended ++ now ∷ []) ended (Some now) refl
-    closed_with.ended_begin).1 in
+-- a client that had no session
+rested_after : (table : TableRecord) (recovered log : List CommitRecord) (count : ℕ)
+    (seated resting closed ended : List TokenRecord) (i : ℕ) (client : TokenRecord)
+    → AreParted table recovered count seated resting → length closed ≡ count
+    → IsClosedWith table (closed ++ resting) ended log → count ≤ i → slice_get (closed ++ resting) i ≡ Some client
+    → HasRested table recovered log (i + 1) client
+rested_after table recovered log count seated resting closed ended i client parted many closed_with behind at_client =
+    let there : slice_get parted.all i ≡ Some client =
+    ap (λ xs. slice_get xs i) (sym parted.parts)
+    ∙ (same_behind seated closed resting i (parted.many ∙ sym many) (omega (arith, parted.many, behind)) ∙ at_client) in
+    let seat = parted.are.each i client there in
     record {
+      table_is = seat.table_is;
+      who_is = seat.who_is;
+      seen = parted.shown i client there;
+      made = subst (λ who. Owns who client.mine log) seat.who_is
+          (all_at (λ (token : TokenRecord). Owns token.who token.mine log) (closed ++ resting) i client closed_with.own
+          at_client);
+    }
+
+pub journaled_run : {S L : Type 0} (Spoken : S → TokenRecord → TokenRecord → L → Type 0) (table : TableRecord)
+    (recovered log : List CommitRecord) (speakers : List S) (seated resting closed : List TokenRecord)
+    (left all_left : List L) (dispatchers ended : List TokenRecord) (opened begun now : TokenRecord)
+    → AreParted table recovered (length speakers) seated resting → AreSpoken Spoken speakers seated closed left
+    → table.clients ≡ 16 → begun.seen ≡ recovered → dispatchers ++ opened ∷ [] ≡ new_dispatchers table
+    → AreStill dispatchers ended → IsStill opened begun → IsLater begun now
+    → all_left ≡ left → IsClosedWith table (closed ++ resting) (ended ++ now ∷ []) log
+    → IsJournaledRun Spoken table.base recovered speakers table.dispatchers all_left log
+journaled_run Spoken table recovered log speakers seated resting closed left all_left dispatchers ended opened begun now
+    parted spoken sixteen seen new still reader later same closed_with =
+    let begins = reader_begins table (closed ++ resting) ended now log closed_with in
+    record {
+      table = table;
+      base_is = refl;
+      clients_are = sixteen;
+      dispatchers_are = refl;
+      closed = closed ++ resting;
+      all_closed = closed_count table recovered (length speakers) seated resting closed parted spoken.closed_each
+          ∙ sixteen;
       one_left = ap length same ∙ spoken.left_each;
-      served = λ i speaker one at_speaker at_left.
-          served_after Spoken table recovered log speakers seated resting closed left (ended ++ now ∷ []) i speaker one
-          parted spoken closed_with at_speaker (ap (λ xs. slice_get xs i) (sym same) ∙ at_left);
+      served = λ i speaker client one at_speaker at_client at_left.
+          served_after Spoken table recovered log speakers seated resting closed left (ended ++ now ∷ []) i speaker
+          client one parted spoken closed_with at_speaker at_client (ap (λ xs. slice_get xs i) (sym same) ∙ at_left);
+      rested = λ i client behind at_client.
+          rested_after table recovered log (length speakers) seated resting closed (ended ++ now ∷ []) i client parted
+          spoken.closed_each closed_with behind at_client;
+      ended = ended ++ now ∷ [];
+      ended_are = subst (λ ts. AreStill ts (ended ++ now ∷ [])) new
+          (still_push dispatchers ended opened now still (still_later opened begun now reader later));
+      ended_begin = closed_with.ended_begin;
       goes_on = subst (λ list. IsPrefix list log) seen
           (beginnings_chain begun.seen now.seen log (later_begins begun now later) begins);
+      true_log = closed_with.true_log;
       legal = closed_with.legal;
       named = subst (λ n. IsOfClients n log) sixteen closed_with.named;
     }
 
--- the same, where there is a log
-pub run_where : {S L V : Type 0} (Spoken : S → TokenRecord → TokenRecord → L → Type 0) (items : V → List CommitRecord)
-    (table : TableRecord) (recovered : List CommitRecord) (speakers : List S) (seated resting closed : List TokenRecord)
-    (left all_left : List L) (ended : List TokenRecord) (begun : TokenRecord) (reader : Option TokenRecord)
-    (log : Option V)
-    → AreParted table recovered (length speakers) seated resting → AreSpoken Spoken speakers seated closed left
-    → table.clients ≡ 16 → begun.seen ≡ recovered → IfSome reader (λ one. IsLater begun one)
-    → all_left ≡ left → IfSome log (λ one. IsClosedBy table (closed ++ resting) ended reader (items one))
-    → IfSome log (λ one. IsJournaledRun Spoken table.base recovered speakers all_left (items one))
-run_where Spoken items table recovered speakers seated resting closed left all_left ended begun reader None parted spoken
-    sixteen seen later same closed_by = tt
-run_where Spoken items table recovered speakers seated resting closed left all_left ended begun reader (Some log) parted
-    spoken sixteen seen later same closed_by =
-    journaled_run Spoken table recovered (items log) speakers seated resting closed left all_left ended begun reader
-    parted spoken sixteen seen later same closed_by
+-- what is left of the journal is of the log
+pub left_of_log : (may_leave : List ℕ → Type 0) (seen : List ℕ) (table : TableRecord)
+    (clients ended : List TokenRecord) (now : TokenRecord) (log : List CommitRecord) (count : ℕ) (whole : Bool)
+    → IsClosedWith table clients (ended ++ now ∷ []) log → IsLeft may_leave seen count now.seen whole
+    → IsLeft may_leave seen count log whole
+left_of_log may_leave seen table clients ended now log count whole closed_with left =
+    left_of_longer may_leave seen count now.seen log whole (reader_begins table clients ended now log closed_with) left
+
+-- what holds of what is there
+pub some_has : {X : Type 0} (found : Option X) (one : X) (P : X → Type 0) → found ≡ Some one → IfSome found P → P one
+some_has found one P is has = subst (λ o. IfSome o P) is has
+
+-- what was left tells of no more than that, where nobody told of more
+pub told_each : {X A : Type 0} (xs seen : List X) (made : List A) (left_in : X → A) (told : A → ℕ) (count : ℕ)
+    → made ≡ map left_in xs → seen ≡ xs → All (λ x. told (left_in x) ≤ count) seen → All (λ a. told a ≤ count) made
+told_each xs seen made left_in told count is same all =
+    subst (All (λ a. told a ≤ count)) (sym is)
+    (All-map (λ a. told a ≤ count) left_in xs (subst (All (λ x. told (left_in x) ≤ count)) same all))

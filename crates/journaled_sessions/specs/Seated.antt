@@ -17,3 +17,8 @@ pub record AreSeated (table : TableRecord) (history : List CommitRecord) (client
   pub count : length clients ≡ table.clients
   pub each : (i : ℕ) (client : TokenRecord) → slice_get clients i ≡ Some client
       → IsSeated table history (i + 1) client
+
+-- each of them sees just this history
+abbrev pub AllHaveSeen : List CommitRecord → List TokenRecord → Type 0
+AllHaveSeen history clients =
+    (i : ℕ) (client : TokenRecord) → slice_get clients i ≡ Some client → client.seen ≡ history

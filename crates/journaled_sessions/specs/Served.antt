@@ -1,61 +1,65 @@
 -- What the sessions of a server with a journal leave.
-use Rattle.std.specs.Prelude.{◌≡◌, ℕ, ◌+◌, List, [], ◌∷◌, ◌++◌, length, Option, Some, None, slice_get}
-use Rattle.history.specs.Tokens.{TableRecord, TokenRecord}
+use Rattle.std.specs.Prelude.{◌≡◌, ℕ, ◌+◌, ◌≤◌, All, List, length, Some, slice_get}
+use Rattle.history.specs.Closing.{IsLogOf}
+use Rattle.history.specs.Tokens.{TableRecord, TokenRecord, new_dispatchers}
 use Rattle.history_core.specs.OwnCommits.{IsOfClients, commits_of}
 use Rattle.history_core.specs.declared.event.Who.TheVariants.{Client}
 use Rattle.row_store.specs.History.{CommitRecord, IsPrefix}
 use Rattle.row_store.specs.Legal.{IsLegal}
 use Rattle.ssb_base.specs.Base.{Tables}
 use Rattle.ssb_journal.specs.Replays.{IsReplayFault}
+use Rattle.ssb_serving.specs.Members.{AreStill}
 use Rattle.ssb_serving.specs.RunFaults.{IsRunFault}
-use Rattle.stream_sessions.specs.Streams.{IsClosedWith, IsSpoken}
+use Rattle.stream_sessions.specs.Streams.{IsSpoken}
 use Rattle.journaled_sessions.specs.declared.fault.JournaledFault.{JournaledFault}
 use Rattle.journaled_sessions.specs.declared.fault.JournaledFault.TheVariants as fault
 
--- the client of this number, which had seen all that was recovered or a part of it, was served by its speaker, which
--- kept what it promises
-pub record IsServedBehind {S L : Type 0} (Spoken : S → TokenRecord → TokenRecord → L → Type 0)
-    (recovered : List CommitRecord) (number : ℕ) (speaker : S) (left : L) : Type 0 where
+-- the client of this number of the table, which had seen all that was recovered and no more, was served by its speaker,
+-- which kept what it promises; what it sees at the end is a beginning of the log, and the commits that it made, those
+-- of the journal among them, are those of its number in the log
+pub record IsServedAfter {S L : Type 0} (Spoken : S → TokenRecord → TokenRecord → L → Type 0) (table : TableRecord)
+    (recovered log : List CommitRecord) (number : ℕ) (speaker : S) (closed : TokenRecord) (left : L) : Type 0 where
   pub client : TokenRecord
-  pub closed : TokenRecord
+  pub table_is : client.table ≡ table
   pub who_is : client.who ≡ Client number
-  pub seen : IsPrefix client.seen recovered
-  pub spoken : IsSpoken Spoken speaker client closed left
-
--- the speakers were served, each by a client of its own, the clients numbered from 1 in the order of the speakers: this
--- is what they left, in order
-pub record AreServedBehind {S L : Type 0} (Spoken : S → TokenRecord → TokenRecord → L → Type 0)
-    (recovered : List CommitRecord) (speakers : List S) (left : List L) : Type 0 where
-  pub one_left : length left ≡ length speakers
-  pub served : (i : ℕ) (speaker : S) (one : L) → slice_get speakers i ≡ Some speaker → slice_get left i ≡ Some one
-      → IsServedBehind Spoken recovered (i + 1) speaker one
-
--- the same client was served; what it sees at the end is a beginning of the log, and the commits that it made, those of
--- the journal among them, are those of its number in the log
-pub record IsServedAfter {S L : Type 0} (Spoken : S → TokenRecord → TokenRecord → L → Type 0)
-    (recovered log : List CommitRecord) (number : ℕ) (speaker : S) (left : L) : Type 0 where
-  pub client : TokenRecord
-  pub closed : TokenRecord
-  pub who_is : client.who ≡ Client number
-  pub seen : IsPrefix client.seen recovered
+  pub seen : client.seen ≡ recovered
   pub spoken : IsSpoken Spoken speaker client closed left
   pub begins : IsPrefix closed.seen log
   pub made : closed.mine ≡ commits_of number log
 
--- the log of a server that was closed with these clients, these dispatchers and the reader of the log, which was there
-abbrev pub IsClosedBy : TableRecord → List TokenRecord → List TokenRecord → Option TokenRecord → List CommitRecord
-    → Type 0
-IsClosedBy table clients dispatchers None log = ⊥
-IsClosedBy table clients dispatchers (Some reader) log = IsClosedWith table clients (dispatchers ++ reader ∷ []) log
+-- the client of this number of the table had no speaker: it saw all that was recovered and no more, and the commits
+-- that it made are those of its number in the log
+pub record HasRested (table : TableRecord) (recovered log : List CommitRecord) (number : ℕ) (closed : TokenRecord)
+    : Type 0 where
+  pub table_is : closed.table ≡ table
+  pub who_is : closed.who ≡ Client number
+  pub seen : closed.seen ≡ recovered
+  pub made : closed.mine ≡ commits_of number log
 
--- a server over the base, whose log began with the recovered commits, served these speakers, each by a client of its
--- own, the clients numbered from 1 in the order of the speakers: this is what they left, in order, and the log
+-- a server of sixteen clients over the base, whose log began with the recovered commits, had these speakers, each for a
+-- client of its own, the clients numbered from 1 in the order of the speakers, and was closed when all had been served:
+-- this is what they left, in order, and the log. The dispatchers that ended are those of the table, by number, the last
+-- of them who read the log for the journal, and what each saw is a beginning of the log
 pub record IsJournaledRun {S L : Type 0} (Spoken : S → TokenRecord → TokenRecord → L → Type 0) (base : Tables)
-    (recovered : List CommitRecord) (speakers : List S) (left : List L) (log : List CommitRecord) : Type 0 where
+    (recovered : List CommitRecord) (speakers : List S) (dispatchers : ℕ) (left : List L) (log : List CommitRecord)
+    : Type 0 where
+  pub table : TableRecord
+  pub base_is : table.base ≡ base
+  pub clients_are : table.clients ≡ 16
+  pub dispatchers_are : table.dispatchers ≡ dispatchers
+  pub closed : List TokenRecord
+  pub all_closed : length closed ≡ 16
   pub one_left : length left ≡ length speakers
-  pub served : (i : ℕ) (speaker : S) (one : L) → slice_get speakers i ≡ Some speaker → slice_get left i ≡ Some one
-      → IsServedAfter Spoken recovered log (i + 1) speaker one
+  pub served : (i : ℕ) (speaker : S) (client : TokenRecord) (one : L) → slice_get speakers i ≡ Some speaker
+      → slice_get closed i ≡ Some client → slice_get left i ≡ Some one
+      → IsServedAfter Spoken table recovered log (i + 1) speaker client one
+  pub rested : (i : ℕ) (client : TokenRecord) → length speakers ≤ i → slice_get closed i ≡ Some client
+      → HasRested table recovered log (i + 1) client
+  pub ended : List TokenRecord
+  pub ended_are : AreStill (new_dispatchers table) ended
+  pub ended_begin : All (λ (token : TokenRecord). IsPrefix token.seen log) ended
   pub goes_on : IsPrefix recovered log
+  pub true_log : IsLogOf table closed ended log
   pub legal : IsLegal base log
   pub named : IsOfClients 16 log
 

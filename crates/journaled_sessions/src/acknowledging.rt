@@ -1,13 +1,24 @@
 //! What a session waits for before it tells its client of commits.
 
-ghost use Rattle.std.specs.Prelude.{◌≤◌};
+ghost use Rattle.std.specs.Prelude.{◌≡◌, ◌≤◌};
 
 use journal::Disk;
 use ssb_journal::{LogSource, OnDisk, SharedJournal};
 use std::alloc::Global;
 use std::sync::Wait;
 use std::sync::atomic::{AtomicBool, Ordering};
-use stream_sessions::{Acknowledges, NotAcknowledged};
+use stream_sessions::{Acknowledges, Evidence, NotAcknowledged};
+
+/// The evidence that commits are on the disk: it is made of an [`OnDisk`] alone, and that of an open journal that keeps
+/// them.
+#[derive(Drop)]
+pub struct Durable {
+    on_disk: OnDisk,
+}
+
+impl Evidence for Durable {
+    ghost covers = { λ durable commits. commits ≤ durable.on_disk.commits };
+}
 
 /// A journal that sessions share. Its evidence is that commits are on the disk.
 #[derive(Drop)]
@@ -16,19 +27,15 @@ pub struct Journaled<D: Disk + Drop, L: LogSource + Drop> {
     pub(crate) failed: AtomicBool,
 }
 
-impl<D: Disk + Drop, L: LogSource + Drop> Acknowledges for Journaled<D, L> {
-    type Evidence = OnDisk;
-
-    ghost covers = { λ on_disk commits. commits ≤ on_disk.commits };
-
+impl<D: Disk + Drop, L: LogSource + Drop> Acknowledges<Durable> for Journaled<D, L> {
     fn acknowledge<R: Wait>(
         &self,
         rt: &R,
         alloc: Global,
         commits: u64,
-    ) -> Result<OnDisk, NotAcknowledged> {
+    ) -> Result<Durable, NotAcknowledged> {
         match self.journal.reach(rt, alloc, commits) {
-            Ok(on_disk) => Ok(on_disk),
+            Ok(on_disk) => Ok(Durable { on_disk }),
             Err(_) => {
                 self.failed.store(true, Ordering::SeqCst);
                 Err(NotAcknowledged)

@@ -12,9 +12,9 @@
 //! commits again, cuts off what a crash has torn, and serves the sessions. Clients without a session rest. Nothing is
 //! written before all commits are made again: the first that is refused is a fault.
 //!
-//! A session that is to tell its client something asks [`Journaled`] for the evidence of all commits that the client has
-//! seen: one session writes all new commits as a group, the others wait for it, and what comes meanwhile is the next
-//! group. No thread is the journal's own.
+//! A session that is to tell its client something asks [`Journaled`] for the evidence ([`Durable`]) of all commits that
+//! the client has seen: one session writes all new commits as a group, the others wait for it, and what comes meanwhile
+//! is the next group. No thread is the journal's own.
 //!
 //! ```text
 //! let recovered = Recovered { opened, sizes: &sizes, keeper: &keeper };
@@ -28,6 +28,6 @@ mod remaking;
 mod serving;
 mod source;
 
-pub use acknowledging::Journaled;
+pub use acknowledging::{Durable, Journaled};
 pub use fault::JournaledFault;
 pub use serving::{JournaledRun, Recovered, serve_journaled};

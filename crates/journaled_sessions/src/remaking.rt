@@ -1,9 +1,10 @@
 //! The commits of a journal, made again by their clients.
 
-ghost use Rattle.std.specs.Prelude.{◌≡◌, ◌+◌, ◌∷◌, ◌++◌, IfErr, OnOk, [], length};
+ghost use Rattle.std.specs.Prelude.{◌≡◌, ℕ, ◌+◌, ◌∷◌, ◌++◌, IfErr, OnOk, [], length};
 ghost use Rattle.ssb_serving.specs.Members.{IsStill};
-ghost use Rattle.journaled_sessions.specs.Seated.{AreSeated, IsSeated};
+ghost use Rattle.journaled_sessions.specs.Seated.{AllHaveSeen, AreSeated, IsSeated};
 ghost use Rattle.journaled_sessions.specs.Remade.{IsNotMade, IsRemakeFault};
+ghost use Rattle.journaled_sessions.specs.declared.fault.JournaledFault.TheVariants.{Disturbed};
 
 use crate::fault::JournaledFault;
 use row_store::{Commit, RefreshError};
@@ -75,6 +76,52 @@ pub(crate) fn remake<W: Wait + Drop, R: Wait>(
         }
         let client = &mut clients[number - 1];
         remake_one(rt, server, client, reader, commit, place as u64 + 1)?;
+    }
+    Ok(())
+}
+
+// Lets a client see all that the reader of the log has seen, so many commits.
+fn show_one<W: Wait + Drop>(
+    server: &Server<W>,
+    client: &mut Client<W>,
+    reader: &mut LogReader<W>,
+    count: u64,
+) -> Result<(), JournaledFault>
+    requires reader { reader.old.table ≡ server.now }
+    requires client { client.old.table ≡ server.now }
+    requires count { count ≡ length reader.old.seen }
+    ensures reader { OnOk result (IsStill reader.old reader.new) }
+    ensures same { OnOk result (reader.new.seen ≡ reader.old.seen) }
+    ensures client { OnOk result ((number : ℕ) → IsSeated server.now reader.old.seen number client.old
+        → IsSeated server.now reader.old.seen number client.new) }
+    ensures seen { OnOk result (client.new.seen ≡ reader.old.seen) }
+    ensures fault { IfErr result (λ fault. fault ≡ Disturbed) }
+{
+    if reader.show(server, client) != count || reader.seen() != count {
+        return Err(JournaledFault::Disturbed);
+    }
+    Ok(())
+}
+
+/// Lets each client see all that the reader of the log has seen, so many commits: no answer is older.
+pub(crate) fn show_all<W: Wait + Drop>(
+    server: &Server<W>,
+    clients: &mut [Client<W>],
+    reader: &mut LogReader<W>,
+    count: u64,
+) -> Result<(), JournaledFault>
+    requires reader { reader.old.table ≡ server.now }
+    requires clients { AreSeated server.now reader.old.seen clients.old }
+    requires count { count ≡ length reader.old.seen }
+    ensures reader { OnOk result (IsStill reader.old reader.new) }
+    ensures same { OnOk result (reader.new.seen ≡ reader.old.seen) }
+    ensures clients { OnOk result (AreSeated server.now reader.old.seen clients.new) }
+    ensures seen { OnOk result (AllHaveSeen reader.old.seen clients.new) }
+    ensures fault { IfErr result (λ fault. fault ≡ Disturbed) }
+{
+    for place in 0..clients.len() {
+        let client = &mut clients[place];
+        show_one(server, client, reader, count)?;
     }
     Ok(())
 }

@@ -1,21 +1,22 @@
 //! Sessions over a server with a journal, from its opening to its end.
 
-ghost use Rattle.std.specs.Prelude.{◌≡◌, ◌≤◌, ◌++◌, [], ◌∷◌, All, IfOk, IfErr, IfSome, OnOk, Some, map, vec_len};
+ghost use Rattle.std.specs.Prelude.{◌≡◌, ◌+◌, ◌≤◌, ◌++◌, [], ◌∷◌, All, IfOk, IfErr, IfSome, OnOk};
+ghost use Rattle.std.specs.Prelude.{Some, map, true, vec_len};
 ghost use Rattle.history.specs.Tokens.{new_clients, new_dispatchers};
 ghost use Rattle.journal.specs.Groups.{recovered as recovered_groups, AreTorn};
-ghost use Rattle.ssb_journal.specs.Counts.{KeepsFirst};
+ghost use Rattle.ssb_journal.specs.Counts.{IsLeft, KeepsFirst};
 ghost use Rattle.ssb_journal.specs.Opening.{IsKept};
 ghost use Rattle.ssb_server.specs.Tickets.{IsOf, IsQuiet};
 ghost use Rattle.ssb_serving.specs.Members.{AreStill, IsReady, IsStill};
 ghost use Rattle.stream_sessions.specs.Streams.{AreSpoken, IsClosedWith};
 ghost use Rattle.journaled_sessions.specs.Reading.{IsLater};
-ghost use Rattle.journaled_sessions.specs.Seated.{AreSeated};
-ghost use Rattle.journaled_sessions.specs.Served.{AreServedBehind, IsClosedBy, IsJournaledFault, IsJournaledRun, IsOpenedFault};
+ghost use Rattle.journaled_sessions.specs.Seated.{AllHaveSeen, AreSeated};
+ghost use Rattle.journaled_sessions.specs.Served.{IsJournaledFault, IsJournaledRun, IsOpenedFault};
 
-use crate::acknowledging::Journaled;
+use crate::acknowledging::{Durable, Journaled};
 use crate::fault::JournaledFault;
-use crate::remaking::remake;
-use crate::source::{Opening, ServerLog, reader_of};
+use crate::remaking::{remake, show_all};
+use crate::source::{JournalLeft, Opening, ServerLog, left_of};
 use journal::{Disk, Journal, KeepsTorn};
 use row_store::Log;
 use ssb_base::Base;
@@ -31,7 +32,7 @@ use std::marker::Brand;
 use std::sync::atomic::AtomicBool;
 use std::sync::{Arc, Wait};
 use std::thread::Threads;
-use stream_sessions::{Ended, Speaks, Spoken, serve_opened};
+use stream_sessions::{Ended, Speaker, Speaks, Spoken, serve_opened};
 
 /// How many clients a server with a journal has: its commits may be of any of them.
 const CLIENTS: u32 = 16;
@@ -44,14 +45,16 @@ pub struct Recovered<'a, D: Disk, T> {
     pub keeper: &'a T,
 }
 
-/// What the sessions of a server with a journal leave: what each speaker left, in their order, and the log. Batches are
-/// figures for a reader.
+/// What the sessions of a server with a journal leave: what each speaker left, in their order, the log, and the
+/// journal's disk with how many commits of the log are on it. Batches are figures for a reader.
 #[derive(Drop)]
-pub struct JournaledRun<L: Drop> {
+pub struct JournaledRun<D: Disk + Drop, L: Drop> {
     pub left: Vec<L>,
-    /// None where the journal could not be written: then the last commits were told to nobody, and need not be on the
-    /// disk.
-    pub log: Option<Log>,
+    pub log: Log,
+    pub disk: D,
+    pub count: u64,
+    /// Else it could not be written, and the last commits were told to nobody.
+    pub was_written: bool,
     pub batches: Batches,
 }
 
@@ -80,9 +83,11 @@ where
     R: Wait,
     requires clients { AreSeated server.now [] clients.old }
     requires reader { (reader.table ≡ server.now) × (reader.seen ≡ []) }
-    requires kept { IsKept recovered.sizes.now (recovered_groups (D.seen recovered.opened.found)) recovered.opened.kept }
+    requires kept { IsKept recovered.sizes.now (recovered_groups (D.seen recovered.opened.found))
+        recovered.opened.kept }
     requires torn { AreTorn (D.seen recovered.opened.found) recovered.opened.torn.items }
     ensures clients { OnOk result (AreSeated server.now recovered.entry.opened.kept.commits.items clients.new) }
+    ensures shown { OnOk result (AllHaveSeen recovered.entry.opened.kept.commits.items clients.new) }
     ensures reader { IfOk result (λ begun. IsStill reader begun.reader) }
     ensures seen { IfOk result (λ begun. begun.reader.seen ≡ recovered.entry.opened.kept.commits.items) }
     ensures kept { IfOk result (λ begun. KeepsFirst begun.count begun.reader.seen (D.seen begun.journal)) }
@@ -97,12 +102,13 @@ where
     let OpenedJournal { found, kept, torn } = opened;
     let KeptCommits { commits, is_new } = kept;
     remake(rt, server, clients, &mut reader, &commits)?;
+    let count = commits.len() as u64;
+    show_all(server, clients, &mut reader, count)?;
     let Ok(torn) = keeper.keep_torn(torn) else {
         return Err(JournaledFault::Write);
     };
     begun_journal_keeps();
     first_of_log();
-    let count = commits.len() as u64;
     match begin::<D, T>(alloc, sizes, found, is_new, &torn) {
         Ok(journal) => Ok(Begun {
             journal,
@@ -135,7 +141,7 @@ fn gather<W: Wait + Drop, L: Drop>(
     Ok((clients, all_left))
 }
 
-// Serves the sessions with the journal, and gives the reader of the log back, where the journal has not failed.
+// Serves the sessions with the journal, and gives back what is left of that.
 fn serve_sessions<D, W, R, S, K>(
     rt: &R,
     alloc: Global,
@@ -144,12 +150,12 @@ fn serve_sessions<D, W, R, S, K>(
     dispatchers: Vec<Dispatcher<W>>,
     speakers: Vec<S>,
     begun: Begun<D, W>,
-) -> Result<(Ended<W, Spoken<W, S::Left>>, Option<LogReader<W>>), AllocError>
+) -> Result<(Ended<W, Spoken<W, S::Left>>, Option<JournalLeft<D, W>>), AllocError>
 where
     D: Disk + Drop + Send,
     W: Wait + Drop + Send,
     R: Wait + Threads + Sync,
-    S: Speaks<R> + Drop + Send,
+    S: Speaks<R, Durable> + Drop + Send,
     S::Left: Drop + Send,
     K: Opening + Send + Sync,
     requires clients { All (IsQuiet server.now) seated.items }
@@ -162,7 +168,9 @@ where
     ensures served { IfOk result (λ end. AreSpoken S.spoken speakers.items seated.items
         (map (λ one. one.client) end.0.spoken.items) (map (λ one. one.left) end.0.spoken.items)) }
     ensures dispatchers { IfOk result (λ end. AreStill dispatchers.items end.0.dispatchers.items) }
-    ensures reader { IfOk result (λ end. IfSome end.1 (λ reader. IsLater begun.reader reader)) }
+    ensures reader { IfOk result (λ end. IfSome end.1 (λ left. IsLater begun.reader left.reader)) }
+    ensures left { IfOk result (λ end. IfSome end.1 (λ left. IsLeft (D.may_leave left.disk) (D.seen left.disk)
+        left.count left.reader.seen left.is_whole)) }
 {
     let Begun {
         journal,
@@ -176,7 +184,7 @@ where
     };
     let ended = serve_opened(rt, alloc, &journaled, server, seated, dispatchers, speakers)?;
     let Journaled { journal, failed: _ } = journaled;
-    Ok((ended, reader_of(journal)))
+    Ok((ended, left_of(journal)))
 }
 
 // The log of a server that is closed with all who took part.
@@ -195,31 +203,57 @@ fn log_of<W: Wait + Drop>(
     log
 }
 
-// Closes the server with all who took part, where the reader of the log is left.
-fn close<W: Wait + Drop, L: Drop>(
+// Closes the server with all who took part.
+fn close<D: Disk + Drop, W: Wait + Drop, L: Drop>(
     alloc: Global,
     server: Server<W>,
     ended: Ended<W, Spoken<W, L>>,
     resting: Vec<Client<W>>,
-    reader: Option<LogReader<W>>,
-) -> Result<JournaledRun<L>, AllocError>
-    requires { IfSome reader (λ reader. IsReady server (map (λ one. one.client) ended.spoken.items
-        ++ resting.items) (ended.dispatchers.items ++ reader ∷ [])) }
+    left_journal: JournalLeft<D, W>,
+) -> Result<JournaledRun<D, L>, AllocError>
+    requires { IsReady server (map (λ one. one.client) ended.spoken.items ++ resting.items)
+        (ended.dispatchers.items ++ left_journal.reader ∷ []) }
     ensures left { IfOk result (λ run. run.left.items ≡ map (λ one. one.left) ended.spoken.items) }
-    ensures closed { IfOk result (λ run. IfSome run.log (λ log. IsClosedBy server (map (λ one. one.client)
-        ended.spoken.items ++ resting.items) ended.dispatchers.items reader log)) }
+    ensures closed { IfOk result (λ run. IsClosedWith server (map (λ one. one.client) ended.spoken.items
+        ++ resting.items) (ended.dispatchers.items ++ left_journal.reader ∷ []) run.log) }
+    ensures journal { IfOk result (λ run. (run.disk ≡ left_journal.disk) × (run.count ≡ left_journal.count)
+        × (run.was_written ≡ left_journal.is_whole)) }
 {
     let Ended {
         spoken,
         dispatchers,
         batches,
     } = ended;
+    let JournalLeft {
+        disk,
+        reader,
+        count,
+        is_whole,
+    } = left_journal;
     let (clients, left) = gather(alloc, spoken, resting)?;
-    let log = match reader {
-        Some(reader) => Some(log_of(server, clients, reader, dispatchers)),
-        None => None,
-    };
-    Ok(JournaledRun { left, log, batches })
+    let log = log_of(server, clients, reader, dispatchers);
+    Ok(JournaledRun {
+        left,
+        log,
+        disk,
+        count,
+        was_written: is_whole,
+        batches,
+    })
+}
+
+// Whether none was told of more commits than are on the disk.
+fn all_are_kept<W: Wait + Drop, S: Speaker>(spoken: &[Spoken<W, S::Left>], count: u64) -> bool
+where
+    S::Left: Drop,
+    ensures { result ≡ true → All (λ one. S.told one.left ≤ count) spoken.now }
+{
+    for one in spoken {
+        if S::commits_told(&one.left) > count {
+            return false;
+        }
+    }
+    true
 }
 
 // Serves the speakers by an opened server.
@@ -229,25 +263,27 @@ fn serve<D, T, W, R, S>(
     opened: OpenedWithReader<W>,
     speakers: Vec<S>,
     recovered: Recovered<'_, D, T>,
-) -> Result<JournaledRun<S::Left>, JournaledFault>
+) -> Result<JournaledRun<D, S::Left>, JournaledFault>
 where
     D: Disk + Drop + Send,
     T: KeepsTorn,
     T::Kept: Drop,
     W: Wait + Drop + Send,
     R: Wait + Threads + Sync,
-    S: Speaks<R> + Drop + Send,
+    S: Speaks<R, Durable> + Drop + Send,
     S::Left: Drop + Send,
     requires few { vec_len speakers ≤ 16 }
-    requires kept { IsKept recovered.sizes.now (recovered_groups (D.seen recovered.opened.found)) recovered.opened.kept }
+    requires kept { IsKept recovered.sizes.now (recovered_groups (D.seen recovered.opened.found))
+        recovered.opened.kept }
     requires torn { AreTorn (D.seen recovered.opened.found) recovered.opened.torn.items }
     requires clients { opened.clients.items ≡ new_clients opened.server }
     requires sixteen { opened.server.clients ≡ 16 }
     requires dispatchers { opened.dispatchers.items ++ opened.reader ∷ [] ≡ new_dispatchers opened.server }
-    ensures served { IfOk result (λ run. IfSome run.log (λ log. IsJournaledRun S.spoken opened.server.base
-        recovered.entry.opened.kept.commits.items speakers.items run.left.items log)) }
-    ensures behind { IfOk result (λ run. AreServedBehind S.spoken recovered.entry.opened.kept.commits.items
-        speakers.items run.left.items) }
+    ensures served { IfOk result (λ run. IsJournaledRun S.spoken opened.server.base
+        recovered.entry.opened.kept.commits.items speakers.items opened.server.dispatchers run.left.items run.log) }
+    ensures kept { IfOk result (λ run. IsLeft (D.may_leave run.disk) (D.seen run.disk) run.count run.log
+        run.was_written) }
+    ensures told { IfOk result (λ run. All (λ left. S.told left ≤ run.count) run.left.items) }
     ensures left { IfOk result (λ run. vec_len run.left ≡ vec_len speakers) }
     ensures fault { IfErr result (IsOpenedFault opened.server.base recovered.entry.opened.kept.commits.items) }
 {
@@ -259,7 +295,7 @@ where
     } = opened;
     let begun = begin_again(rt, alloc, &server, &mut clients, reader, recovered)?;
     let resting = clients.split_off(speakers.len())?;
-    let (ended, reader) = serve_sessions::<D, W, R, S, Brand>(
+    let (ended, left) = serve_sessions::<D, W, R, S, Brand>(
         rt,
         alloc,
         &server,
@@ -268,7 +304,13 @@ where
         speakers,
         begun,
     )?;
-    Ok(close(alloc, server, ended, resting, reader)?)
+    let Some(left) = left else {
+        return Err(JournaledFault::Disturbed);
+    };
+    if !all_are_kept::<W, S>(&ended.spoken, left.count) {
+        return Err(JournaledFault::Disturbed);
+    }
+    Ok(close(alloc, server, ended, resting, left)?)
 }
 
 /// Serves 1 to 16 clients, one for each speaker, by 1 to 4 dispatchers over a base, behind the commits that a journal
@@ -285,21 +327,26 @@ pub fn serve_journaled<D, T, R, S>(
     speakers: Vec<S>,
     dispatchers: u32,
     recovered: Recovered<'_, D, T>,
-) -> Result<JournaledRun<S::Left>, JournaledFault>
+) -> Result<JournaledRun<D, S::Left>, JournaledFault>
 where
     D: Disk + Drop + Send,
     T: KeepsTorn,
     T::Kept: Drop,
     R: Wait + Threads + Sync,
-    S: Speaks<R> + Drop + Send,
+    S: Speaks<R, Durable> + Drop + Send,
     S::Left: Drop + Send,
     requires few { vec_len speakers ≤ 16 }
-    requires kept { IsKept recovered.sizes.now (recovered_groups (D.seen recovered.opened.found)) recovered.opened.kept }
+    requires kept { IsKept recovered.sizes.now (recovered_groups (D.seen recovered.opened.found))
+        recovered.opened.kept }
     requires torn { AreTorn (D.seen recovered.opened.found) recovered.opened.torn.items }
-    ensures served { IfOk result (λ run. IfSome run.log (λ log. IsJournaledRun S.spoken base.value
-        recovered.entry.opened.kept.commits.items speakers.items run.left.items log)) }
-    ensures behind { IfOk result (λ run. AreServedBehind S.spoken recovered.entry.opened.kept.commits.items
-        speakers.items run.left.items) }
+    // Who reads the log for the journal is one dispatcher more.
+    ensures served { IfOk result (λ run. IsJournaledRun S.spoken base.value
+        recovered.entry.opened.kept.commits.items speakers.items (dispatchers + 1) run.left.items run.log) }
+    // Whatever crashes from now on leaves the first commits of the log, at least so many, ..
+    ensures kept { IfOk result (λ run. IsLeft (D.may_leave run.disk) (D.seen run.disk) run.count run.log
+        run.was_written) }
+    // .. and no client was told of more.
+    ensures told { IfOk result (λ run. All (λ left. S.told left ≤ run.count) run.left.items) }
     ensures left { IfOk result (λ run. vec_len run.left ≡ vec_len speakers) }
     ensures fault { IfErr result (IsJournaledFault base.value recovered.entry.opened.kept.commits.items dispatchers) }
 {

@@ -3,6 +3,7 @@
 ghost use Rattle.std.specs.Prelude.{◌≡◌, ◌≤◌, None, Option, Some, IfSome};
 ghost use Rattle.std.specs.Option.{ForSome};
 ghost use Rattle.history.specs.Tokens.{TokenRecord};
+ghost use Rattle.ssb_journal.specs.Counts.{IsLeft};
 ghost use Rattle.journaled_sessions.specs.Reading.{IsLater};
 
 use journal::Disk;
@@ -65,12 +66,34 @@ impl<'a, W: Wait + Drop, K: Opening> LogSource for ServerLog<'a, W, K> {
     }
 }
 
-/// The reader of the log, where the journal has not failed.
-pub(crate) fn reader_of<D: Disk + Drop, W: Wait + Drop, K: Opening>(
+/// What is left of a journal that sessions shared: its disk, the reader of the log, how many of its commits are on the
+/// disk, and whether it was written to the end.
+#[derive(Drop)]
+pub(crate) struct JournalLeft<D: Disk + Drop, W: Wait + Drop> {
+    pub(crate) disk: D,
+    pub(crate) reader: LogReader<W>,
+    pub(crate) count: u64,
+    pub(crate) is_whole: bool,
+}
+
+/// What is left of the journal; none where one has it out.
+pub(crate) fn left_of<D: Disk + Drop, W: Wait + Drop, K: Opening>(
     journal: SharedJournal<D, ServerLog<'_, W, K>>,
-) -> Option<LogReader<W>>
-    ensures { IfSome result (λ reader. ForSome K.reader (λ first. IsLater first reader)) }
+) -> Option<JournalLeft<D, W>>
+    ensures later { IfSome result (λ left. ForSome K.reader (λ first. IsLater first left.reader)) }
+    ensures left { IfSome result (λ left. IsLeft (D.may_leave left.disk) (D.seen left.disk) left.count
+        left.reader.seen left.is_whole) }
 {
-    let (_disk, source, _count, is_whole) = journal.into_left()?.into_parts();
-    if is_whole { Some(source.reader) } else { None }
+    match journal.into_left() {
+        Some(left) => {
+            let (disk, source, count, is_whole) = left.into_parts();
+            Some(JournalLeft {
+                disk,
+                reader: source.reader,
+                count,
+                is_whole,
+            })
+        },
+        None => None,
+    }
 }

@@ -1,12 +1,11 @@
 -- What the run of a server with a journal says of its only client, and of all clients.
-use Rattle.std.proofs.Common.{◌≡◌, ℕ, List, [], ◌∷◌, Option, None, Some, Result, Ok, Err, refl, subst, sym}
-use Rattle.std.specs.Prelude.{IfSome, false, is_none, is_some, true}
+use Rattle.std.proofs.Common.{◌≡◌, ℕ, List, [], ◌∷◌, Option, Result, Ok, Err, refl, subst, sym}
 use Rattle.history.specs.Tokens.{TokenRecord}
 use Rattle.history.specs.Members.{number_of}
 use Rattle.history_core.specs.OwnCommits.{commits_of}
 use Rattle.history_core.specs.declared.event.Who.{Who}
 use Rattle.history_core.specs.declared.event.Who.TheVariants.{Client}
-use Rattle.journaled_sessions.specs.Served.{IsJournaledRun, IsServedAfter}
+use Rattle.journaled_sessions.specs.Served.{IsServedAfter}
 use Rattle.row_store.specs.History.{CommitRecord, IsPrefix}
 use Rattle.serve_command.specs.Journaled.{EndsAloneJournaled, GoesOn, GoesOnOver, ServesAloneJournaled, ServesJournaled}
 use Rattle.serve_command.specs.Sessions.{HasEnded}
@@ -17,30 +16,18 @@ use Rattle.ssb_schema.specs.declared.table.Table.{Table}
 use Rattle.stream_sessions.specs.declared.outcome.Served.{Served}
 use Rattle.stream_sessions.specs.declared.outcome.SessionError.{SessionError}
 
--- a run whose journal was written to the end goes on from what was kept
-pub run_goes_on : {S L V : Type 0} (items : V → List CommitRecord)
-    (Spoken : S → TokenRecord → TokenRecord → L → Type 0) (base : Tables) (kept : List CommitRecord)
-    (speakers : List S) (left : List L) (log : Option V)
-    → IfSome log (λ one. IsJournaledRun Spoken base kept speakers left (items one))
-    → IfSome log (λ one. GoesOn Spoken base speakers left (items one))
-run_goes_on items Spoken base kept speakers left None run = tt
-run_goes_on items Spoken base kept speakers left (Some log) run = record { kept = kept; run = run }
-
 -- the same over a base that texts spell
-pub goes_on_over : {S L V : Type 0} (items : V → List CommitRecord) (Are : (Table → List ℕ) → Type 0)
-    (Spoken : S → TokenRecord → TokenRecord → L → Type 0) (was base : Tables) (speakers : List S) (left : List L)
-    (log : Option V) → was ≡ base → ((texts : Table → List ℕ) → Are texts → IsLoadedToServe texts base)
-    → IfSome log (λ one. GoesOn Spoken was speakers left (items one))
-    → IfSome log (λ one. (texts : Table → List ℕ) → Are texts → GoesOnOver Spoken texts speakers left (items one))
-goes_on_over items Are Spoken was base speakers left None same loaded goes_on = tt
-goes_on_over items Are Spoken was base speakers left (Some log) same loaded goes_on = λ texts are. record {
+pub goes_on_over : {S L : Type 0} (Spoken : S → TokenRecord → TokenRecord → L → Type 0) (texts : Table → List ℕ)
+    (was base : Tables) (speakers : List S) (left : List L) (log : List CommitRecord) → was ≡ base
+    → IsLoadedToServe texts base → GoesOn Spoken was speakers left log → GoesOnOver Spoken texts speakers left log
+goes_on_over Spoken texts was base speakers left log same loaded goes_on = record {
   base = was;
-  loaded = subst (IsLoadedToServe texts) (sym same) (loaded texts are);
+  loaded = subst (IsLoadedToServe texts) (sym same) loaded;
   goes_on = goes_on;
 }
 
 -- the server of a run
-abbrev server_of : {S L : Type 0} (Spoken : S → TokenRecord → TokenRecord → L → Type 0) (texts : Table → List ℕ)
+abbrev pub server_of : {S L : Type 0} (Spoken : S → TokenRecord → TokenRecord → L → Type 0) (texts : Table → List ℕ)
     (speakers : List S) (left : List L) (log : List CommitRecord) → GoesOnOver Spoken texts speakers left log
     → ServesJournaled texts
 server_of Spoken texts speakers left log over = record {
@@ -52,15 +39,6 @@ server_of Spoken texts speakers left log over = record {
   legal = over.goes_on.run.legal;
   named = over.goes_on.run.named;
 }
-
--- where there is a log, there was such a server
-pub serves_journaled : {S L V : Type 0} (items : V → List CommitRecord) (Are : (Table → List ℕ) → Type 0)
-    (Spoken : S → TokenRecord → TokenRecord → L → Type 0) (speakers : List S) (left : List L) (log : Option V)
-    → IfSome log (λ one. (texts : Table → List ℕ) → Are texts → GoesOnOver Spoken texts speakers left (items one))
-    → is_none log ≡ false → (texts : Table → List ℕ) → Are texts → ServesJournaled texts
-serves_journaled items Are Spoken speakers left None over there = absurd cc
-serves_journaled items Are Spoken speakers left (Some log) over there = λ texts are.
-    server_of Spoken texts speakers left (items log) (over texts are)
 
 -- the only speaker of such a server had client 1
 pub record IsAloneJournaled {S L : Type 0} (Spoken : S → TokenRecord → TokenRecord → L → Type 0)
@@ -76,22 +54,19 @@ alone_of Spoken texts speaker one log over = record {
   after = over.goes_on.run.served 0 speaker one refl refl;
 }
 
-pub is_alone_journaled : {S L V : Type 0} (items : V → List CommitRecord) (Are : (Table → List ℕ) → Type 0)
-    (Spoken : S → TokenRecord → TokenRecord → L → Type 0) (speakers : List S) (speaker : S) (left : List L) (one : L)
-    (log : Option V)
-    → IfSome log (λ item. (texts : Table → List ℕ) → Are texts → GoesOnOver Spoken texts speakers left (items item))
-    → is_some log ≡ true → speakers ≡ speaker ∷ [] → left ≡ one ∷ []
-    → (texts : Table → List ℕ) → Are texts → IsAloneJournaled Spoken texts speaker one
-is_alone_journaled items Are Spoken speakers speaker left one None over there of_one left_one = absurd cc
-is_alone_journaled {L = L} items Are Spoken speakers speaker left one (Some log) over there of_one left_one =
-    λ texts are. alone_of Spoken texts speaker one (items log)
-    (subst (λ (ls : List L). GoesOnOver Spoken texts (speaker ∷ []) ls (items log)) left_one
-    (subst (λ xs. GoesOnOver Spoken texts xs left (items log)) of_one (over texts are)))
+pub is_alone_journaled : {S L : Type 0} (Spoken : S → TokenRecord → TokenRecord → L → Type 0) (texts : Table → List ℕ)
+    (speakers : List S) (speaker : S) (left : List L) (one : L) (log : List CommitRecord)
+    → GoesOnOver Spoken texts speakers left log → speakers ≡ speaker ∷ [] → left ≡ one ∷ []
+    → IsAloneJournaled Spoken texts speaker one
+is_alone_journaled {L = L} Spoken texts speakers speaker left one log over of_one left_one =
+    alone_of Spoken texts speaker one log
+    (subst (λ (ls : List L). GoesOnOver Spoken texts (speaker ∷ []) ls log) left_one
+    (subst (λ xs. GoesOnOver Spoken texts xs left log) of_one over))
 
 -- the session of client 1, by its number
 pub ends_alone_journaled : (outcome : Result Served SessionError) (texts : Table → List ℕ)
     (unread before after : Option (List ℕ)) (server : ServesJournaled texts) (client closed : TokenRecord)
-    → client.who ≡ Client 1 → IsPrefix client.seen server.kept
+    → client.who ≡ Client 1 → client.seen ≡ server.kept
     → HasEnded outcome (number_of client.who) client closed unread before after
     → IsPrefix closed.seen server.log → closed.mine ≡ commits_of 1 server.log
     → EndsAloneJournaled outcome texts unread before after

@@ -37,14 +37,14 @@ pub record ServesJournaled (texts : Table → List ℕ) : Type 0 where
   pub legal : IsLegal base log
   pub named : IsOfClients 16 log
 
--- of such a server client 1 had the only session, which ended so. It began with a beginning of what was kept in sight;
+-- of such a server client 1 had the only session, which ended so. It began with all that was kept in sight;
 -- what it sees at the end is a beginning of the log, and its commits, those kept among them, are those of the log
 pub record EndsAloneJournaled (outcome : Result Served SessionError) (texts : Table → List ℕ)
     (unread before after : Option (List ℕ)) : Type 0 where
   pub server : ServesJournaled texts
   pub client : TokenRecord
   pub closed : TokenRecord
-  pub seen : IsPrefix client.seen server.kept
+  pub seen : client.seen ≡ server.kept
   pub ended : HasEnded outcome 1 client closed unread before after
   pub begins : IsPrefix closed.seen server.log
   pub made : closed.mine ≡ commits_of 1 server.log

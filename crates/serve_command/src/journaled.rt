@@ -1,23 +1,24 @@
 //! The word `serve` with a journal: what clients are told is on the disk before.
 
-ghost use Rattle.std.specs.Prelude.{◌≡◌, ◌≢◌, ◌↔◌, ◌<◌, ◌≤◌, ℕ, List, true, IfOk, IfErr, IfSome, vec_len};
+ghost use Rattle.std.specs.Prelude.{◌≡◌, ◌≢◌, ◌↔◌, ◌<◌, ◌≤◌, ℕ, List, All, true, IfOk, IfErr, vec_len};
 ghost use Rattle.std.specs.Option.{option_and_then};
 ghost use Rattle.journal.specs.Disk.{Only};
 ghost use Rattle.serve_command.specs.Journaled.{EndsAloneJournaled, GoesOn, GoesOnOver};
 ghost use Rattle.serve_command.specs.Journaled.{ServesAloneJournaled, ServesJournaled};
 ghost use Rattle.serve_command.specs.Status.{journal_status, session_status};
 ghost use Rattle.ssb_files.specs.Status.{job_status};
+ghost use Rattle.ssb_journal.specs.Counts.{IsLeft};
 ghost use Rattle.ssb_schema.specs.declared.table.Table.{Table};
 ghost use Rattle.ssb_text.specs.Load.{AreTexts};
 
 use crate::ends::EndPaths;
 use crate::journal_fault::{JournalRefusal, JournalServingFault};
 use crate::serving::{MOST_CLIENTS, ServeSettings, StreamEnd, speakers_of, tell_ended};
-use crate::speakers::{StreamClient, StreamLeft};
+use crate::speakers::{StreamClient, StreamLeft, wire_over};
 use journal::{Disk, KeepsTorn};
 use journal_file::{FileDisk, JournalFile, TornFile, keep_torn};
 use journal_opening::{OpeningFault, table_sizes};
-use journaled_sessions::{JournaledRun, Recovered, serve_journaled};
+use journaled_sessions::{Durable, JournaledRun, Recovered, serve_journaled};
 use ssb_base::Base;
 use ssb_files::{Fault, TableBytes, base_to_serve};
 use ssb_journal::open;
@@ -84,19 +85,21 @@ fn serve_disk<R, F, D, S, E>(
     disk: D,
     speakers: Vec<S>,
     screen: &E,
-) -> Result<JournaledRun<S::Left>, JournalRefusal>
+) -> Result<JournaledRun<D, S::Left>, JournalRefusal>
 where
     R: Threads + Sync + Wait + Clock + AllocGlobal,
     F: Files,
     D: Disk + Drop + Send,
-    S: Speaks<R> + Drop + Send,
+    S: Speaks<R, Durable> + Drop + Send,
     S::Left: Drop + Send,
     E: Print,
     requires readable { D.is_readable disk }
     requires durable { Only (D.seen disk) (D.may_leave disk) }
     requires few { vec_len speakers ≤ 16 }
-    ensures served { IfOk result (λ run. IfSome run.log (λ log. GoesOn S.spoken base.value speakers.items run.left.items
-        log)) }
+    ensures served { IfOk result (λ run. GoesOn S.spoken base.value speakers.items run.left.items run.log) }
+    ensures kept { IfOk result (λ run. IsLeft (D.may_leave run.disk) (D.seen run.disk) run.count run.log
+        run.was_written) }
+    ensures told { IfOk result (λ run. All (λ left. S.told left ≤ run.count) run.left.items) }
     ensures left { IfOk result (λ run. vec_len run.left ≡ vec_len speakers) }
     ensures words { IfErr result (λ refusal. journal_status refusal ≢ 2) }
 {
@@ -128,21 +131,21 @@ where
 }
 
 // Serves clients at once over the base that the tables spell, behind the commits of the journal.
-fn serve<R, F: Files, I: Read + Drop, S: Speaks<R> + Drop + Send, E: Print>(
+fn serve<R, F: Files, I: Read + Drop, S: Speaks<R, Durable> + Drop + Send, E: Print>(
     rt: &R,
     settings: ServeSettings,
     tables: Tables<I>,
     place: &JournalPlace<'_, F>,
     speakers: Vec<S>,
     screen: &E,
-) -> Result<JournaledRun<S::Left>, JournalServingFault>
+) -> Result<JournaledRun<FileDisk<F::File>, S::Left>, JournalServingFault>
 where
     R: Threads + Sync + Wait + Clock + AllocGlobal,
     F::File: JournalFile + Send,
     S::Left: Drop + Send,
     requires { vec_len speakers ≤ 16 }
-    ensures served { IfOk result (λ run. IfSome run.log (λ log. (texts : Table → List ℕ)
-        → AreTexts I.remaining tables texts → GoesOnOver S.spoken texts speakers.items run.left.items log)) }
+    ensures served { IfOk result (λ run. (texts : Table → List ℕ) → AreTexts I.remaining tables texts
+        → GoesOnOver S.spoken texts speakers.items run.left.items run.log) }
     ensures left { IfOk result (λ run. vec_len run.left ≡ vec_len speakers) }
     ensures words { IfErr result (λ fault. job_status journal_status fault ≢ 2) }
 {
@@ -192,7 +195,7 @@ fn serve_one<R, F, I, J, O, E>(
     input: J,
     output: O,
     screen: &E,
-) -> Result<(StreamLeft<O>, bool), JournalServingFault>
+) -> Result<(StreamLeft<J, O, Durable>, bool), JournalServingFault>
 where
     R: Threads + Sync + Wait + Clock + AllocGlobal,
     F: Files,
@@ -202,21 +205,25 @@ where
     O: Write + Drop + Send,
     E: Print,
     ensures ended { IfOk result (λ end. end.1 ≡ true → (texts : Table → List ℕ) → AreTexts I.remaining tables texts
-        → EndsAloneJournaled end.0.ended texts (J.remaining input) (O.contents output) (O.contents end.0.output)) }
+        → EndsAloneJournaled end.0.ended texts (J.remaining input) (O.contents output) end.0.wire.written) }
     ensures words { IfErr result (λ fault. job_status journal_status fault ≢ 2) }
 {
     let mut speakers = Vec::new(rt.alloc());
-    speakers.push(StreamClient { input, output })?;
+    let wire = wire_over(rt.alloc(), input, output)?;
+    speakers.push(StreamClient { wire })?;
     let run = serve(rt, settings, tables, place, speakers, screen)?;
     let JournaledRun {
         mut left,
-        log,
+        was_written,
+        log: _,
+        disk: _,
+        count: _,
         batches: _,
     } = run;
     let Some(one) = left.pop() else {
         unreachable!()
     };
-    Ok((one, log.is_some()))
+    Ok((one, was_written))
 }
 
 /// Serves one client as [`serve_stream`](crate::serve_stream) does, behind the commits of a journal: it is told nothing
@@ -248,10 +255,10 @@ where
     let mut err = io::writer(screen);
     match serve_one(rt, settings, tables, place, input, output, screen) {
         Ok((left, was_written)) => {
-            let StreamLeft { output, ended } = left;
+            let StreamLeft { wire, ended } = left;
             StreamEnd {
                 status: tell_end(&ended, was_written, &mut err),
-                output: Some(output),
+                output: Some(wire.into_output()),
             }
         }
         Err(fault) => StreamEnd {
@@ -295,8 +302,8 @@ where
         return Fault::OutOfMemory.tell(&mut err);
     };
     match serve(rt, settings, tables, place, speakers, screen) {
-        Ok(run) if run.log.is_none() => tell_not_written(&mut err),
-        Ok(run) if run.left.iter().all(|was_served| *was_served) => 0,
+        Ok(run) if !run.was_written => tell_not_written(&mut err),
+        Ok(run) if run.left.iter().all(|left| left.was_served) => 0,
         Ok(_) => 4,
         Err(fault) => fault.tell(&mut err),
     }

@@ -11,7 +11,7 @@ ghost use Rattle.ssb_text.specs.Load.{AreTexts};
 
 use crate::ends::EndPaths;
 use crate::fault::{NotServed, ServingFault};
-use crate::speakers::{PathClient, StreamClient, StreamLeft};
+use crate::speakers::{PathClient, StreamClient, StreamLeft, wire_over};
 use ssb_files::base_to_serve;
 use ssb_text::Tables;
 use std::alloc::AllocError;
@@ -22,7 +22,7 @@ use std::rt::Files;
 use std::sync::{Arc, Wait};
 use std::thread::Threads;
 use std::time::Clock;
-use stream_sessions::{Served, SessionError, Speaks, StreamRun, serve_streams};
+use stream_sessions::{Nothing, Served, SessionError, Speaks, StreamRun, serve_streams};
 
 /// How many clients a server has.
 pub const MOST_CLIENTS: usize = 16;
@@ -46,7 +46,7 @@ pub struct StreamEnd<O: Drop> {
 }
 
 // Serves clients at once over the base that the tables spell.
-fn serve<R, I: Read + Drop, S: Speaks<R> + Drop + Send>(
+fn serve<R, I: Read + Drop, S: Speaks<R, Nothing> + Drop + Send>(
     rt: &R,
     settings: ServeSettings,
     tables: Tables<I>,
@@ -82,18 +82,19 @@ fn serve_one<R, I: Read + Drop, J: Read + Drop + Send, O: Write + Drop + Send>(
     tables: Tables<I>,
     input: J,
     output: O,
-) -> Result<StreamLeft<O>, ServingFault>
+) -> Result<StreamLeft<J, O, Nothing>, ServingFault>
 where
     R: Threads + Sync + Wait + Clock + AllocGlobal,
     ensures ended { IfOk result (λ left. (texts : Table → List ℕ) → AreTexts I.remaining tables texts
         → EndsAlone left.ended texts settings.dispatchers (J.remaining input) (O.contents output)
-        (O.contents left.output)) }
+        left.wire.written) }
     ensures refused { IfErr result (λ fault. serving_status fault ≡ 1 → (texts : Table → List ℕ)
         → AreTexts I.remaining tables texts → AreRefusedToServe texts) }
     ensures words { IfErr result (λ fault. serving_status fault ≢ 2) }
 {
     let mut speakers = Vec::new(rt.alloc());
-    speakers.push(StreamClient { input, output })?;
+    let wire = wire_over(rt.alloc(), input, output)?;
+    speakers.push(StreamClient { wire })?;
     let run = serve(rt, settings, tables, speakers)?;
     let mut left = run.left;
     let Some(one) = left.pop() else {
@@ -142,9 +143,9 @@ where
 {
     let mut err = io::writer(screen);
     match serve_one(rt, settings, tables, input, output) {
-        Ok(StreamLeft { output, ended }) => StreamEnd {
+        Ok(StreamLeft { wire, ended }) => StreamEnd {
             status: tell_ended(&ended, &mut err),
-            output: Some(output),
+            output: Some(wire.into_output()),
         },
         Err(fault) => StreamEnd {
             status: fault.tell(&mut err),
@@ -199,7 +200,7 @@ where
 {
     let speakers = speakers_of(files, clients, keeps, screen)?;
     let run = serve(rt, settings, tables, speakers)?;
-    Ok(run.left.iter().all(|was_served| *was_served))
+    Ok(run.left.iter().all(|left| left.was_served))
 }
 
 /// Serves 1 to 16 clients at once over the base that the tables spell, each over its own two ends, which its thread

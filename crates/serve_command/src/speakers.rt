@@ -1,21 +1,24 @@
 //! The clients: each opens its ends, is served its sessions, and tells what broke them.
 
-ghost use Rattle.std.specs.Prelude.{◌≡◌, false, IsTrue};
+ghost use Rattle.std.specs.Prelude.{◌≡◌, [], ℕ, false, IfOk, IsTrue};
 ghost use Rattle.std.specs.Option.{is_some};
 ghost use Rattle.history.specs.Members.{number_of};
 ghost use Rattle.serve_command.specs.Sessions.{HasEnded};
 ghost use Rattle.ssb_serving.specs.Steps.{AreAlike};
+ghost use Rattle.stream_sessions.specs.Conversation.{ConversesInPart};
+ghost use Rattle.stream_sessions.specs.Events.{most_covered};
 
 use crate::ends::{EndFault, EndPaths, Ends, open_ends};
 use ssb_server::{Client, Server};
-use std::alloc::Global;
+use std::alloc::{AllocError, Global};
 use std::io::{BufReader, Print, Read, Write};
 use std::rt::Files;
 use std::sync::Wait;
 use std::time::{Clock, Duration};
 use std::{fmt, io, thread};
 use stream_sessions::{
-    Acknowledges, Served, SessionError, SessionFault, Speaker, Speaks, serve_session,
+    Acknowledges, Evidence, Served, SessionError, SessionFault, Speaker, Speaks, Wire,
+    serve_session,
 };
 
 // How many bytes of a client's requests are read at once.
@@ -24,64 +27,62 @@ const READ_AHEAD: usize = 65_536;
 // How many milliseconds a client's pipes stay closed between two sessions, so that who read the first one sees its end.
 const BETWEEN_SESSIONS: u64 = 50;
 
-/// A client over a reader and a writer that are open.
+/// A client over a wire whose ends are open.
 #[derive(Drop)]
-pub struct StreamClient<I: Read + Drop, O: Write + Drop> {
-    pub input: I,
-    pub output: O,
+pub struct StreamClient<I: Read + Drop, O: Write + Drop, E> {
+    pub wire: Wire<I, O, E>,
 }
 
-/// What such a client leaves: the writer, and how its session ended.
+/// What such a client leaves: the wire, and how its session ended.
 #[derive(Drop)]
-pub struct StreamLeft<O: Write + Drop> {
-    pub output: O,
+pub struct StreamLeft<I: Read + Drop, O: Write + Drop, E> {
+    pub wire: Wire<I, O, E>,
     pub ended: Result<Served, SessionError>,
 }
 
-// A session over a reader and a writer.
-fn serve_over<W: Wait + Drop, R: Wait, K: Acknowledges, I: Read + Drop, O: Write>(
-    rt: &R,
+/// A wire over a reader and a writer, that nothing went over.
+pub(crate) fn wire_over<I: Read + Drop, O: Write + Drop, E: Evidence>(
     alloc: Global,
-    acknowledger: &K,
-    server: &Server<W>,
-    client: &mut Client<W>,
     input: I,
-    output: &mut O,
-) -> Result<Served, SessionError>
-    requires table { client.old.table ≡ server.now }
-    requires quiet { is_some client.old.asked ≡ false }
-    ensures ended { HasEnded result (number_of client.old.who) client.old client.new (I.remaining input)
-        (O.contents output.old) (O.contents output.new) }
-    ensures same { AreAlike client.old client.new }
+    output: O,
+) -> Result<Wire<I, O, E>, AllocError>
+    ensures unread { IfOk result (λ wire. wire.unread ≡ I.remaining input) }
+    ensures written { IfOk result (λ wire. wire.written ≡ O.contents output) }
+    ensures events { IfOk result (λ wire. wire.events ≡ []) }
 {
     match BufReader::with_capacity(alloc, READ_AHEAD, input) {
-        Ok(mut input) => serve_session(rt, alloc, acknowledger, server, client, &mut input, output),
-        Err(_) => Err(SessionError {
-            answered: 0,
-            fault: SessionFault::OutOfMemory,
-        }),
+        Ok(input) => Ok(Wire::new(input, output)),
+        Err(_) => Err(AllocError),
     }
 }
 
-impl<I: Read + Drop, O: Write + Drop> Speaker for StreamClient<I, O> {
-    type Left = StreamLeft<O>;
+impl<I: Read + Drop, O: Write + Drop, E: Evidence> Speaker for StreamClient<I, O, E> {
+    type Left = StreamLeft<I, O, E>;
 
-    ghost spoken = { λ speaker old new left. HasEnded left.ended (number_of old.who) old new
-        (I.remaining speaker.input) (O.contents speaker.output) (O.contents left.output) };
+    // How the session ended, and that what went over the wire is a conversation.
+    ghost spoken = { λ speaker old new left. HasEnded left.ended (number_of old.who) old new speaker.wire.unread
+        speaker.wire.written left.wire.written
+        × ConversesInPart (number_of old.who) old new speaker.wire.events left.wire.events };
+
+    ghost told = { λ left. most_covered left.wire.events };
+
+    fn commits_told(left: &StreamLeft<I, O, E>) -> u64 {
+        left.wire.told()
+    }
 }
 
-impl<R: Wait, I: Read + Drop, O: Write + Drop> Speaks<R> for StreamClient<I, O> {
-    fn speak<W: Wait + Drop, K: Acknowledges>(
+impl<R: Wait, I: Read + Drop, O: Write + Drop, E: Evidence> Speaks<R, E> for StreamClient<I, O, E> {
+    fn speak<W: Wait + Drop, K: Acknowledges<E>>(
         self,
         rt: &R,
         alloc: Global,
         acknowledger: &K,
         server: &Server<W>,
         client: &mut Client<W>,
-    ) -> StreamLeft<O> {
-        let StreamClient { input, mut output } = self;
-        let ended = serve_over(rt, alloc, acknowledger, server, client, input, &mut output);
-        StreamLeft { output, ended }
+    ) -> StreamLeft<I, O, E> {
+        let StreamClient { mut wire } = self;
+        let ended = serve_session(rt, alloc, acknowledger, server, client, &mut wire);
+        StreamLeft { wire, ended }
     }
 }
 
@@ -131,31 +132,44 @@ impl<'a, F: Files, E: Print> PathClient<'a, F, E> {
         let _ = writeln!(screen, "ssb_live: client {}: {fault}", self.number);
     }
 
-    // Opens the ends, and serves a session over them. The end that is read is closed first.
-    fn serve_once<W: Wait + Drop, R: Wait, K: Acknowledges>(
+    // Opens the ends, and serves a session over them. The end that is read is closed first. It tells of how many commits
+    // was told, too.
+    fn serve_once<W: Wait + Drop, R: Wait, Y: Evidence, K: Acknowledges<Y>>(
         &self,
         rt: &R,
         alloc: Global,
         acknowledger: &K,
         server: &Server<W>,
         client: &mut Client<W>,
-    ) -> SessionEnd
+    ) -> (SessionEnd, u64)
         requires table { client.old.table ≡ server.now }
         requires quiet { is_some client.old.asked ≡ false }
         ensures same { AreAlike client.old client.new }
-        ensures keeps { result ≡ SessionEnd.Again → IsTrue self.now.keeps }
+        ensures keeps { result.0 ≡ SessionEnd.Again → IsTrue self.now.keeps }
     {
         let ends = match open_ends(self.files, &self.paths) {
             Ok(ends) => ends,
             Err(fault) => {
                 self.tell(&ClientFault::End(fault));
-                return SessionEnd::Broken;
+                return (SessionEnd::Broken, 0);
             }
         };
         let comes_again = self.keeps && ends.are_named_pipes();
-        let Ends { input, mut output } = ends;
-        let ended = serve_over(rt, alloc, acknowledger, server, client, input, &mut output);
-        match ended {
+        let Ends { input, output } = ends;
+        let (ended, told) = match wire_over::<F::File, F::File, Y>(alloc, input, output) {
+            Ok(mut wire) => {
+                let ended = serve_session(rt, alloc, acknowledger, server, client, &mut wire);
+                (ended, wire.told())
+            }
+            Err(_) => (
+                Err(SessionError {
+                    answered: 0,
+                    fault: SessionFault::OutOfMemory,
+                }),
+                0,
+            ),
+        };
+        let end = match ended {
             Ok(_) if comes_again => SessionEnd::Again,
             Ok(_) => SessionEnd::Last,
             // It is told once, and not by each client.
@@ -168,33 +182,58 @@ impl<'a, F: Files, E: Print> PathClient<'a, F, E> {
                     SessionEnd::Broken
                 }
             }
-        }
+        };
+        (end, told)
     }
 }
 
+/// What such a client leaves: whether it was served to its end, and of how many commits its sessions told at most.
+#[derive(Clone, Copy, Debug, PartialEq, Eq)]
+pub struct PathLeft {
+    pub was_served: bool,
+    pub told: u64,
+}
+
 impl<'a, F: Files, E: Print> Speaker for PathClient<'a, F, E> {
-    type Left = bool;
+    type Left = PathLeft;
 
     // What the system opens, and so what was read and written, is in no contract.
     ghost spoken = { λ _ old new _. AreAlike old new };
+
+    ghost told = { λ left. left.told };
+
+    fn commits_told(left: &PathLeft) -> u64 {
+        left.told
+    }
 }
 
-impl<'a, R: Wait + Clock, F: Files, E: Print> Speaks<R> for PathClient<'a, F, E> {
-    fn speak<W: Wait + Drop, K: Acknowledges>(
+impl<'a, R: Wait + Clock, F: Files, E: Print, Y: Evidence> Speaks<R, Y> for PathClient<'a, F, E> {
+    fn speak<W: Wait + Drop, K: Acknowledges<Y>>(
         self,
         rt: &R,
         alloc: Global,
         acknowledger: &K,
         server: &Server<W>,
         client: &mut Client<W>,
-    ) -> bool {
+    ) -> PathLeft {
+        let mut told = 0;
         for _ in rt.forever() {
-            match self.serve_once(rt, alloc, acknowledger, server, client) {
+            let (end, now) = self.serve_once(rt, alloc, acknowledger, server, client);
+            if told < now {
+                told = now;
+            }
+            match end {
                 SessionEnd::Again => {
                     thread::sleep(rt, Duration::from_millis(BETWEEN_SESSIONS));
                 },
-                SessionEnd::Last => return true,
-                SessionEnd::Broken => return false,
+                SessionEnd::Last => return PathLeft {
+                    was_served: true,
+                    told,
+                },
+                SessionEnd::Broken => return PathLeft {
+                    was_served: false,
+                    told,
+                },
             }
         }
         unreachable!()

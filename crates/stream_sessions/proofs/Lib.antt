@@ -1,7 +1,7 @@
 mod AnswerLaws
 mod StepLaws
-mod ToldLaws
 mod SessionLaws
+mod ConversationLaws
 mod EndLaws
 mod WholeScriptLaws
 mod StreamLaws

@@ -1,6 +1,6 @@
 -- One step of a session.
-use Rattle.std.proofs.Common.{◌≡◌, ℕ, List, ◌++◌, Option, Result, Ok, Err, refl, subst, sym, inl, inr}
-use Rattle.std.specs.Prelude.{MatchResult}
+use Rattle.std.proofs.Common.{◌≡◌, ℕ, Bool, true, false, List, ◌++◌, Option, Result, Ok, Err, refl, subst, sym, ◌∙◌, inl, inr}
+use Rattle.std.specs.Prelude.{IfErr, IfOk, MatchResult}
 use Rattle.std.specs.Io.KnownBytes.{Consumes}
 use Rattle.history.specs.Tokens.{TokenRecord}
 use Rattle.session_requests.specs.Next.{IsRequestFault}
@@ -73,3 +73,25 @@ too_long_told (Err why) found number old unread left before after held kept now 
       read = taken;
       so = inl (so.0, refl);
     }))
+
+-- the same of the bytes as they were before, and as they are then
+pub where_known : (P : Option (List ℕ) → Option (List ℕ) → Type 0) (unread now written after : Option (List ℕ))
+    → now ≡ unread → after ≡ written → P now written → P unread after
+where_known P unread now written after same kept holds =
+    subst (λ (u : Option (List ℕ)). P u after) same (subst (P now) (sym kept) holds)
+
+-- what holds at success and at each failure, of each alone
+pub if_ok : {T E : Type 0} (result : Result T E) (P : T → Type 0) (Q : E → Type 0) → MatchResult result P Q → IfOk result P
+if_ok (Ok value) P Q holds = holds
+if_ok (Err error) P Q holds = tt
+
+pub if_err : {T E : Type 0} (result : Result T E) (P : T → Type 0) (Q : E → Type 0) → MatchResult result P Q
+    → IfErr result Q
+if_err (Ok value) P Q holds = tt
+if_err (Err error) P Q holds = holds
+
+no_is : false ≡ true → ⊥
+no_is e = cc
+
+pub not_both : (b : Bool) → b ≡ true → b ≡ false → ⊥
+not_both b one other = no_is (sym other ∙ one)

@@ -1,7 +1,8 @@
 pub mod FaultLine
-pub mod Told
+pub mod Events
 pub mod Answers
 pub mod Session
 pub mod Steps
+pub mod Conversation
 pub mod WholeScripts
 pub mod Streams

@@ -1,5 +1,5 @@
 -- The steps of a session.
-use Rattle.std.specs.Prelude.{◌≡◌, ℕ, List, [], ◌∷◌, ◌++◌, ◌⊎◌, length, map, MatchOption, Option, Result, Ok, Err}
+use Rattle.std.specs.Prelude.{◌≡◌, ℕ, Bool, true, false, List, [], ◌∷◌, ◌++◌, ◌⊎◌, length, map, MatchOption, Option, Result, Ok, Err}
 use Rattle.std.specs.Io.KnownBytes.{Appends, Consumes}
 use Rattle.std.specs.Vec.Iter.{into_iter_items}
 use Rattle.history.specs.Tokens.{TokenRecord}
@@ -51,6 +51,13 @@ pub record HandsOn (before after : Option (List ℕ)) (held kept : List ℕ) : T
   pub handed : List ℕ
   pub written : Appends before after handed
   pub whole : held ≡ handed ++ kept
+
+-- whether nothing is taken behind what a step took
+abbrev pub is_last : Step → Bool
+is_last step.Request = false
+is_last step.Rest = true
+is_last step.Nothing = true
+is_last step.TooLong = true
 
 -- what a step read and did
 abbrev pub StepsSo : Step → ℕ → TokenRecord → TokenRecord → Option (List ℕ) → List ℕ → List ℕ → List ℕ → Type 0

@@ -11,23 +11,23 @@ use thiserror::Error;
 #[error("not acknowledged")]
 pub struct NotAcknowledged;
 
-/// What has to be before a client is told of commits: as, that they are on the disk. Evidence is made by an
-/// implementation alone: whoever holds it has asked for it.
-pub trait Acknowledges {
-    /// The evidence that a client may be told of commits.
-    type Evidence: Drop;
-
+/// The evidence that a client may be told of commits: as, that they are on the disk. Who acknowledges makes it, and nobody
+/// else can: whoever holds it has asked for it.
+pub trait Evidence: Drop {
     /// It is the evidence of the first commits, so many of them.
-    ghost covers: { Self.Evidence → ℕ → Type 0 };
+    ghost covers: { Self → ℕ → Type 0 };
+}
 
+/// What has to be before a client is told of commits.
+pub trait Acknowledges<E: Evidence> {
     /// The evidence of so many commits, where need be after a wait.
     fn acknowledge<R: Wait>(
         &self,
         rt: &R,
         alloc: Global,
         commits: u64,
-    ) -> Result<Self::Evidence, NotAcknowledged>
-        ensures { IfOk result (λ evidence. covers evidence commits) };
+    ) -> Result<E, NotAcknowledged>
+        ensures { IfOk result (λ evidence. E.covers evidence commits) };
 
     /// Whether evidence was wanted and not got.
     fn has_failed(&self) -> bool;
@@ -41,11 +41,11 @@ pub struct AtOnce;
 #[derive(Clone, Copy, Debug, PartialEq, Eq)]
 pub struct Nothing;
 
-impl Acknowledges for AtOnce {
-    type Evidence = Nothing;
-
+impl Evidence for Nothing {
     ghost covers = { λ _ _. Unit {0} };
+}
 
+impl Acknowledges<Nothing> for AtOnce {
     fn acknowledge<R: Wait>(
         &self,
         _rt: &R,

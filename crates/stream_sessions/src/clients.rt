@@ -6,20 +6,22 @@ ghost use Rattle.history.specs.Tokens.{TokenRecord};
 ghost use Rattle.ssb_server.specs.Tickets.{IsQuiet};
 ghost use Rattle.stream_sessions.specs.Streams.{IsSpoken};
 
-use crate::acknowledges::Acknowledges;
+use crate::acknowledges::{Acknowledges, Evidence};
 use crate::speaks::{Speaker, Speaks};
 use ssb_server::{Client, Server};
 use std::alloc::{AllocError, Global};
+use std::marker::PhantomData;
 use std::snapshot::Snapshot;
 use std::sync::Wait;
 use std::thread::{Promise, PromisedHandle, Scope, Threads};
 
-/// A client, what is to serve it, and what has to be before it is told of commits.
+/// A client, what is to serve it, and who gives the evidence that it may be told of commits.
 #[derive(Drop)]
-pub(crate) struct Seat<'a, W: Wait + Drop, S: Drop, K> {
+pub(crate) struct Seat<'a, W: Wait + Drop, S: Drop, K, E> {
     pub(crate) client: Client<W>,
     pub(crate) speaker: S,
     pub(crate) acknowledger: &'a K,
+    pub(crate) evidence: PhantomData<E>,
 }
 
 /// A client that was served, and what was left.
@@ -36,7 +38,8 @@ pub(crate) trait Leaves<P> {
     ghost leaves: { Self → P → Type 0 };
 }
 
-impl<'a, W: Wait + Drop, S: Speaker + Drop, K> Leaves<Spoken<W, S::Left>> for Seat<'a, W, S, K>
+impl<'a, W: Wait + Drop, S: Speaker + Drop, K, E> Leaves<Spoken<W, S::Left>>
+    for Seat<'a, W, S, K, E>
 where
     S::Left: Drop,
 {
@@ -53,11 +56,12 @@ pub(crate) trait TakesSeat<W: Wait + Drop, R, P>: Leaves<P> {
         ensures { Self.leaves self result };
 }
 
-impl<'a, W, R, S, K> TakesSeat<W, R, Spoken<W, S::Left>> for Seat<'a, W, S, K>
+impl<'a, W, R, S, K, E> TakesSeat<W, R, Spoken<W, S::Left>> for Seat<'a, W, S, K, E>
 where
     W: Wait + Drop,
-    S: Speaks<R> + Drop,
-    K: Acknowledges,
+    E: Evidence,
+    S: Speaks<R, E> + Drop,
+    K: Acknowledges<E>,
     S::Left: Drop,
 {
     fn take(self, rt: &R, alloc: Global, server: &Server<W>) -> Spoken<W, S::Left> {
@@ -65,6 +69,7 @@ where
             mut client,
             speaker,
             acknowledger,
+            evidence: _,
         } = self;
         let left = speaker.speak(rt, alloc, acknowledger, server, &mut client);
         // Who waits for the row store was to be woken by one of the commits that this client makes no more.

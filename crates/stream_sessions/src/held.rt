@@ -1,41 +1,42 @@
 //! The replies that are held until the server waits for its client.
 
-ghost use Rattle.std.specs.Prelude.{◌≡◌, [], length, OnOk, MatchResult};
+ghost use Rattle.std.specs.Prelude.{◌≡◌, Bool, [], ℕ, length, MatchResult};
 ghost use Rattle.std.specs.Io.KnownBytes.{Appends};
 ghost use Rattle.ssb_report.specs.Written.{AppendsPart};
-ghost use Rattle.stream_sessions.specs.Told.{MayBeToldOf};
+ghost use Rattle.stream_sessions.specs.Conversation.{GoesOn, GoesUntil};
 ghost use Rattle.stream_sessions.specs.declared.outcome.SessionFault.TheVariants.{Write as FailedWrite};
 
-use crate::acknowledges::Acknowledges;
+use crate::acknowledges::{Acknowledges, Evidence};
 use crate::outcome::SessionFault;
 use crate::service::Service;
-use ssb_report::write_bytes;
+use crate::wire::Wire;
 use ssb_server::Client;
-use std::io::Write;
+use std::io::{Read, Write};
 use std::sync::Wait;
 
-// Writes the replies that are held, and has the writer hand them on: with the evidence in hand of all commits that the
-// client has seen.
-fn write_held<W: Wait + Drop, K: Acknowledges, O: Write>(
-    _acknowledger: &K,
-    _client: &Client<W>,
-    _evidence: K::Evidence,
-    output: &mut O,
+// Passes the replies that are held on, with the evidence of all commits that the client has seen.
+fn pass_held<W: Wait + Drop, E: Evidence, I: Read + Drop, O: Write + Drop>(
+    client: &Client<W>,
+    evidence: E,
+    wire: &mut Wire<I, O, E>,
     replies: &mut Vec<u8>,
 ) -> Result<(), SessionFault>
-    requires evidence { K.covers _evidence (length _client.now.seen) }
+    requires evidence { E.covers evidence (length client.now.seen) }
     ensures handed { MatchResult result
-        (λ _. Appends (O.contents output.old) (O.contents output.new) replies.old.items × (replies.new.items ≡ []))
-        (λ fault. AppendsPart (O.contents output.old) (O.contents output.new) replies.old.items
-        × (fault ≡ FailedWrite)) }
+        (λ _. Appends wire.old.written wire.new.written replies.old.items × (replies.new.items ≡ []))
+        (λ fault. AppendsPart wire.old.written wire.new.written replies.old.items × (fault ≡ FailedWrite)) }
+    ensures at_hand { wire.new.at_hand ≡ wire.old.at_hand }
+    ensures unread { wire.new.unread ≡ wire.old.unread }
+    ensures goes { MatchResult result
+        (λ _. (ended : Bool) (number : ℕ) → GoesOn ended ended number client.now client.now wire.old.events
+        wire.new.events replies.old.items replies.new.items)
+        (λ fault. (ended : Bool) (number : ℕ) → GoesUntil fault ended number client.now client.now wire.old.events
+        wire.new.events replies.old.items replies.new.items) }
 {
     if replies.is_empty() {
         return Ok(());
     }
-    if write_bytes(output, replies.as_slice()).is_err() {
-        return Err(SessionFault::Write);
-    }
-    match output.flush() {
+    match wire.pass_on(evidence, client.seen(), replies.as_slice()) {
         Ok(()) => {
             replies.clear();
             Ok(())
@@ -44,23 +45,35 @@ fn write_held<W: Wait + Drop, K: Acknowledges, O: Write>(
     }
 }
 
-/// Writes the replies that are held, once all commits that the client has seen may be told, and has the writer hand
-/// them on. Replies leave a session by this function alone.
-pub(crate) fn hand_on<W: Wait + Drop, R: Wait, K: Acknowledges, O: Write>(
+/// Passes the replies that are held on, once all commits that the client has seen may be told. Replies leave a session by
+/// this function alone.
+pub(crate) fn hand_on<
+    W: Wait + Drop,
+    R: Wait,
+    E: Evidence,
+    K: Acknowledges<E>,
+    I: Read + Drop,
+    O: Write + Drop,
+>(
     service: &Service<'_, W, R, K>,
     client: &Client<W>,
-    output: &mut O,
+    wire: &mut Wire<I, O, E>,
     replies: &mut Vec<u8>,
 ) -> Result<(), SessionFault>
     ensures handed { MatchResult result
-        (λ _. Appends (O.contents output.old) (O.contents output.new) replies.old.items × (replies.new.items ≡ []))
-        (λ fault. AppendsPart (O.contents output.old) (O.contents output.new) replies.old.items
-        × (fault ≡ FailedWrite)) }
-    ensures told { OnOk result (MayBeToldOf K.covers (length client.now.seen)) }
+        (λ _. Appends wire.old.written wire.new.written replies.old.items × (replies.new.items ≡ []))
+        (λ fault. AppendsPart wire.old.written wire.new.written replies.old.items × (fault ≡ FailedWrite)) }
+    ensures at_hand { wire.new.at_hand ≡ wire.old.at_hand }
+    ensures unread { wire.new.unread ≡ wire.old.unread }
+    ensures goes { MatchResult result
+        (λ _. (ended : Bool) (number : ℕ) → GoesOn ended ended number client.now client.now wire.old.events
+        wire.new.events replies.old.items replies.new.items)
+        (λ fault. (ended : Bool) (number : ℕ) → GoesUntil fault ended number client.now client.now wire.old.events
+        wire.new.events replies.old.items replies.new.items) }
 {
     let acknowledger = service.acknowledger;
     match acknowledger.acknowledge(service.rt, service.alloc, client.seen()) {
-        Ok(evidence) => write_held(acknowledger, client, evidence, output, replies),
+        Ok(evidence) => pass_held(client, evidence, wire, replies),
         Err(_) => Err(SessionFault::Write),
     }
 }

@@ -2,7 +2,7 @@
 //! come; and many such clients at once, each client and each dispatcher in a thread of its own.
 //!
 //! ```text
-//! input ── next request ── its script ── live server ── replies, held ── hand_on ──▶ output
+//! wire ── next request ── its script ── live server ── replies, held ── hand_on ──▶ wire
 //!     └── a fault: one line, `fault: 70 BadLine 2`, and nothing was done
 //!
 //! speaker 1 ── client 1 ─┐                    ┌─ dispatcher 1
@@ -16,8 +16,10 @@
 //! changed nothing (`specs/Answers.antt`); the client went through exactly those, in order; and this text was written.
 //! A session that breaks says how many requests were answered.
 //!
-//! Replies leave with evidence in hand ([`Acknowledges`]): of all commits that the client has seen then, so of all that a
-//! receipt or an answer tells of. A server without a journal tells at once ([`AtOnce`]), and pays nothing.
+//! Requests come and replies leave by a [`Wire`] alone, whose history contracts see (`specs/Conversation.antt`): a text
+//! is passed on with [`Evidence`] in hand, made by who [`Acknowledges`], of all commits that the client has seen then, so
+//! of all that a receipt or an answer tells of; and the session looks for more, so that it may wait for its client, only
+//! where no reply is held. A server without a journal tells at once ([`AtOnce`]), and pays nothing.
 //!
 //! A law (`specs/WholeScripts.antt`): a legal script without lone CRs and byte order marks has the replies of the whole
 //! script though it is answered request by request.
@@ -28,7 +30,8 @@
 //! claimed by no proof.
 //!
 //! ```text
-//! let served = serve_session(rt, alloc, &AtOnce, &server, &mut client, &mut input, &mut output)?;
+//! let mut wire = Wire::new(input, output);
+//! let served = serve_session(rt, alloc, &AtOnce, &server, &mut client, &mut wire)?;
 //! let run = serve_streams(&rt, rt.alloc(), hashing, base, speakers, 2)?;
 //! ```
 #![tactic(auto)]
@@ -37,6 +40,7 @@ mod acknowledges;
 mod ahead;
 mod answer;
 mod clients;
+mod events;
 mod fault_line;
 mod held;
 pub mod laws;
@@ -47,8 +51,9 @@ mod speaks;
 mod step;
 mod streams;
 mod threads;
+mod wire;
 
-pub use acknowledges::{Acknowledges, AtOnce, NotAcknowledged, Nothing};
+pub use acknowledges::{Acknowledges, AtOnce, Evidence, NotAcknowledged, Nothing};
 pub use clients::Spoken;
 pub use fault_line::write_fault_line;
 pub use outcome::{Ending, Served, SessionError, SessionFault};
@@ -56,3 +61,4 @@ pub use session::serve_session;
 pub use speaks::{Speaker, Speaks};
 pub use streams::{StreamRun, serve_opened, serve_streams};
 pub use threads::Ended;
+pub use wire::{NotPassed, Wire};

@@ -1,47 +1,57 @@
 //! A live session, from its first request to its last.
 
-ghost use Rattle.std.specs.Prelude.{◌≡◌, ◌≢◌, ℕ, List, [], length, Option, false, Err, IfOk, IfErr, OnOk, MatchResult};
+ghost use Rattle.std.specs.Prelude.{◌≡◌, ℕ, List, [], Option, true, false, Err, IfOk, IfErr, OnOk, MatchResult};
 ghost use Rattle.std.specs.Option.{is_some};
-ghost use Rattle.std.specs.Io.Buffered.{reader_remaining};
 ghost use Rattle.history.specs.Tokens.{IsSound, TokenRecord};
 ghost use Rattle.history.specs.Members.{number_of};
 ghost use Rattle.ssb_serving.specs.Steps.{AreAlike};
+ghost use Rattle.stream_sessions.specs.Conversation.{Converses, ConversesInPart, ConversesUntil};
+ghost use Rattle.stream_sessions.specs.Events.{Event};
 ghost use Rattle.stream_sessions.specs.Session.{Breaks, IsServed, Serves};
 ghost use Rattle.stream_sessions.specs.Steps.{EndsHeld, IsHeld};
-ghost use Rattle.stream_sessions.specs.Told.{MayBeToldOf};
-ghost use Rattle.stream_sessions.specs.declared.outcome.SessionFault.TheVariants.{Write as FailedWrite};
 
-use crate::acknowledges::Acknowledges;
+use crate::acknowledges::{Acknowledges, Evidence};
 use crate::ahead::Requests;
 use crate::held::hand_on;
 use crate::outcome::{Ending, Served, SessionError, SessionFault};
 use crate::service::Service;
 use crate::step::{Step, serve_next};
+use crate::wire::Wire;
 use ssb_server::{Client, Server};
 use std::alloc::Global;
-use std::io::{BufReader, Read, Write};
+use std::io::{Read, Write};
 use std::sync::Wait;
 
 // Answers requests until the session ends; the last replies are still held.
-fn answer_all<W: Wait + Drop, R: Wait, K: Acknowledges, I: Read, O: Write>(
+fn answer_all<
+    W: Wait + Drop,
+    R: Wait,
+    E: Evidence,
+    K: Acknowledges<E>,
+    I: Read + Drop,
+    O: Write + Drop,
+>(
     service: &Service<'_, W, R, K>,
     client: &mut Client<W>,
-    input: &mut BufReader<I>,
-    output: &mut O,
+    wire: &mut Wire<I, O, E>,
     replies: &mut Vec<u8>,
 ) -> Result<Served, SessionError>
     requires table { client.old.table ≡ service.now.server.now }
     requires quiet { is_some client.old.asked ≡ false }
     requires none_held { replies.old.items ≡ [] }
     ensures held { EndsHeld result (number_of client.old.who) client.old client.new
-        (reader_remaining I.remaining input.old) (reader_remaining I.remaining input.new)
-        (O.contents output.old) (O.contents output.new) replies.new.items }
+        wire.old.unread wire.new.unread wire.old.written wire.new.written replies.new.items }
+    ensures conversed { MatchResult result
+        (λ _. Converses true (number_of client.old.who) client.old client.new wire.old.events wire.new.events
+        replies.new.items)
+        (λ error. ConversesUntil error.fault (number_of client.old.who) client.old client.new wire.old.events
+        wire.new.events replies.new.items) }
     ensures same { AreAlike client.old client.new }
     ensures sound { IsSound client.old → IsSound client.new }
 {
     let mut requests = Requests::new(service.alloc);
     for answered in 0..u64::MAX {
-        match serve_next(service, client, input, output, &mut requests, replies) {
+        match serve_next(service, client, wire, &mut requests, replies) {
             Ok(Step::Request) => {}
             Ok(Step::Rest) => {
                 return Ok(Served {
@@ -72,21 +82,27 @@ fn answer_all<W: Wait + Drop, R: Wait, K: Acknowledges, I: Read, O: Write>(
 }
 
 // Hands on the last replies of a session that was served to its end.
-fn end<W: Wait + Drop, R: Wait, K: Acknowledges, O: Write>(
+fn end<W: Wait + Drop, R: Wait, E: Evidence, K: Acknowledges<E>, I: Read + Drop, O: Write + Drop>(
     service: &Service<'_, W, R, K>,
     client: &Client<W>,
-    output: &mut O,
+    wire: &mut Wire<I, O, E>,
     replies: &mut Vec<u8>,
     served: Served,
 ) -> Result<Served, SessionError>
+    ensures unread { wire.new.unread ≡ wire.old.unread }
     ensures ended { (number : ℕ) (old new : TokenRecord) (unread left before : Option (List ℕ))
-        → IsHeld before (O.contents output.old) replies.old.items (IsServed served number old new unread left)
-        → MatchResult result (λ served. Serves served number old new unread left before (O.contents output.new))
-        (λ error. Breaks error number old new unread left before (O.contents output.new)) }
-    ensures told { OnOk result (MayBeToldOf K.covers (length client.now.seen)) }
-    ensures not_told { IfErr result (λ error. error.fault ≡ FailedWrite) }
+        → IsHeld before wire.old.written replies.old.items (IsServed served number old new unread left)
+        → MatchResult result (λ served. Serves served number old new unread left before wire.new.written)
+        (λ error. Breaks error number old new unread left before wire.new.written) }
+    ensures conversed { MatchResult result
+        (λ _. (number : ℕ) (first : TokenRecord) (start : List Event)
+        → Converses true number first client.now start wire.old.events replies.old.items
+        → Converses true number first client.now start wire.new.events [])
+        (λ error. (number : ℕ) (first : TokenRecord) (start : List Event)
+        → Converses true number first client.now start wire.old.events replies.old.items
+        → ConversesUntil error.fault number first client.now start wire.new.events []) }
 {
-    match hand_on(service, client, output, replies) {
+    match hand_on(service, client, wire, replies) {
         Ok(()) => Ok(served),
         Err(fault) => Err(SessionError {
             answered: served.answered,
@@ -96,22 +112,32 @@ fn end<W: Wait + Drop, R: Wait, K: Acknowledges, O: Write>(
 }
 
 // Hands on the last replies of a session that broke. What was not written is not tried again.
-fn break_off<W: Wait + Drop, R: Wait, K: Acknowledges, O: Write>(
+fn break_off<
+    W: Wait + Drop,
+    R: Wait,
+    E: Evidence,
+    K: Acknowledges<E>,
+    I: Read + Drop,
+    O: Write + Drop,
+>(
     service: &Service<'_, W, R, K>,
     client: &Client<W>,
-    output: &mut O,
+    wire: &mut Wire<I, O, E>,
     replies: &mut Vec<u8>,
     error: SessionError,
 ) -> SessionError
+    ensures unread { wire.new.unread ≡ wire.old.unread }
     ensures broken { (number : ℕ) (old new : TokenRecord) (unread left before : Option (List ℕ))
-        → EndsHeld (Err error) number old new unread left before (O.contents output.old) replies.old.items
-        → Breaks result number old new unread left before (O.contents output.new) }
-    ensures told { result.fault ≢ FailedWrite → MayBeToldOf K.covers (length client.now.seen) }
+        → EndsHeld (Err error) number old new unread left before wire.old.written replies.old.items
+        → Breaks result number old new unread left before wire.new.written }
+    ensures conversed { (number : ℕ) (first : TokenRecord) (start : List Event)
+        → ConversesUntil error.fault number first client.now start wire.old.events replies.old.items
+        → ConversesUntil result.fault number first client.now start wire.new.events [] }
 {
     if let SessionFault::Write = error.fault {
         return error;
     }
-    match hand_on(service, client, output, replies) {
+    match hand_on(service, client, wire, replies) {
         Ok(()) => error,
         Err(fault) => SessionError {
             answered: error.answered,
@@ -120,7 +146,7 @@ fn break_off<W: Wait + Drop, R: Wait, K: Acknowledges, O: Write>(
     }
 }
 
-/// Serves a client whose requests are read from the input, and whose replies are written to the output, until the
+/// Serves a client whose requests are read from the wire's input, and whose replies are written to its output, until the
 /// input ends or a request is longer than 1 MiB.
 ///
 /// Each request is read as a script of its own, though many that are at hand are read together, and answered by its
@@ -135,26 +161,34 @@ fn break_off<W: Wait + Drop, R: Wait, K: Acknowledges, O: Write>(
 ///
 /// A failed read or write, or want of memory, breaks it, and so many requests were answered before. Evidence that is not
 /// got is a failed write: nothing more is written. In each case nothing is outstanding then.
-pub fn serve_session<W: Wait + Drop, R: Wait, K: Acknowledges, I: Read, O: Write>(
+pub fn serve_session<
+    W: Wait + Drop,
+    R: Wait,
+    E: Evidence,
+    K: Acknowledges<E>,
+    I: Read + Drop,
+    O: Write + Drop,
+>(
     rt: &R,
     alloc: Global,
     acknowledger: &K,
     server: &Server<W>,
     client: &mut Client<W>,
-    input: &mut BufReader<I>,
-    output: &mut O,
+    wire: &mut Wire<I, O, E>,
 ) -> Result<Served, SessionError>
     requires table { client.old.table ≡ server.now }
     requires quiet { is_some client.old.asked ≡ false }
     ensures served { IfOk result (λ served. Serves served (number_of client.old.who) client.old client.new
-        (reader_remaining I.remaining input.old) (reader_remaining I.remaining input.new)
-        (O.contents output.old) (O.contents output.new)) }
+        wire.old.unread wire.new.unread wire.old.written wire.new.written) }
     ensures broken { IfErr result (λ error. Breaks error (number_of client.old.who) client.old client.new
-        (reader_remaining I.remaining input.old) (reader_remaining I.remaining input.new)
-        (O.contents output.old) (O.contents output.new)) }
-    ensures told { OnOk result (MayBeToldOf K.covers (length client.new.seen)) }
-    ensures told_broken { IfErr result (λ error. error.fault ≢ FailedWrite
-        → MayBeToldOf K.covers (length client.new.seen)) }
+        wire.old.unread wire.new.unread wire.old.written wire.new.written) }
+    // What was read and what was passed on, in one order: evidence before each text, and no reply kept back at a wait.
+    ensures conversed { OnOk result (Converses true (number_of client.old.who) client.old client.new wire.old.events
+        wire.new.events []) }
+    ensures conversed_until { IfErr result (λ error. ConversesUntil error.fault (number_of client.old.who) client.old
+        client.new wire.old.events wire.new.events []) }
+    ensures conversed_in_part { ConversesInPart (number_of client.old.who) client.old client.new wire.old.events
+        wire.new.events }
     ensures same { AreAlike client.old client.new }
     ensures sound { IsSound client.old → IsSound client.new }
 {
@@ -165,8 +199,8 @@ pub fn serve_session<W: Wait + Drop, R: Wait, K: Acknowledges, I: Read, O: Write
         server,
     };
     let mut replies = Vec::new(alloc);
-    match answer_all(&service, client, input, output, &mut replies) {
-        Ok(served) => end(&service, client, output, &mut replies, served),
-        Err(error) => Err(break_off(&service, client, output, &mut replies, error)),
+    match answer_all(&service, client, wire, &mut replies) {
+        Ok(served) => end(&service, client, wire, &mut replies, served),
+        Err(error) => Err(break_off(&service, client, wire, &mut replies, error)),
     }
 }

@@ -1,11 +1,11 @@
 //! What serves a client over streams that it opens itself.
 
-ghost use Rattle.std.specs.Prelude.{◌≡◌, false};
+ghost use Rattle.std.specs.Prelude.{◌≡◌, ℕ, false};
 ghost use Rattle.std.specs.Option.{is_some};
 ghost use Rattle.history.specs.Tokens.{TokenRecord};
 ghost use Rattle.ssb_serving.specs.Steps.{AreAlike};
 
-use crate::acknowledges::Acknowledges;
+use crate::acknowledges::{Acknowledges, Evidence};
 use ssb_server::{Client, Server};
 use std::alloc::Global;
 use std::sync::Wait;
@@ -17,13 +17,20 @@ pub trait Speaker {
 
     /// What it promises: of the client before and after, and of what it leaves.
     ghost spoken: { Self → TokenRecord → TokenRecord → Self.Left → Type 0 };
+
+    /// Of how many commits it told its client.
+    ghost told: { Self.Left → ℕ };
+
+    /// Of how many commits it told its client.
+    fn commits_told(left: &Self::Left) -> u64
+        ensures { result ≡ told left.now };
 }
 
 /// Serves a client in the thread that is started for it: it opens the client's streams, serves one session over them or
 /// several, by [`serve_session`](crate::serve_session) with this acknowledger, and gives the client back, which asks
-/// nothing then.
-pub trait Speaks<R>: Speaker {
-    fn speak<W: Wait + Drop, K: Acknowledges>(
+/// nothing then. It tells its client of commits with this evidence.
+pub trait Speaks<R, E: Evidence>: Speaker {
+    fn speak<W: Wait + Drop, K: Acknowledges<E>>(
         self,
         rt: &R,
         alloc: Global,

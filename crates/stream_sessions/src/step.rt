@@ -1,33 +1,31 @@
 //! One step of a session: the next request, answered.
 
-ghost use Rattle.std.specs.Prelude.{◌≡◌, ◌⊎◌, [], ◌++◌, true, false, OnOk, MatchResult};
+ghost use Rattle.std.specs.Prelude.{◌≡◌, ◌<◌, ℕ, Bool, [], ◌++◌, length, true, false, OnOk, MatchResult};
 ghost use Rattle.std.specs.Option.{is_some};
-ghost use Rattle.std.specs.Io.Buffered.{reader_buffer, reader_remaining};
 ghost use Rattle.history.specs.Tokens.{IsSound};
 ghost use Rattle.history.specs.Members.{number_of};
-ghost use Rattle.session_requests.specs.Ahead.{AskFirst, AsksFirst};
-ghost use Rattle.session_requests.specs.Requests.{BeginsWithRequest};
+ghost use Rattle.session_requests.specs.Ahead.{AskFirst, AsksFirst, IsWhole};
 ghost use Rattle.ssb_report.specs.Written.{AppendsPart};
 ghost use Rattle.ssb_script.specs.Requests.{request_of};
 ghost use Rattle.ssb_serving.specs.Steps.{AreAlike};
+ghost use Rattle.stream_sessions.specs.Conversation.{GoesOn, GoesUntil, most_held};
 ghost use Rattle.stream_sessions.specs.FaultLine.{too_long_line};
-ghost use Rattle.stream_sessions.specs.Steps.{Fails, HandsOn, Steps, TakesRequest, asked_ahead};
+ghost use Rattle.stream_sessions.specs.Steps.{Fails, HandsOn, Steps, TakesRequest, asked_ahead, is_last};
 ghost use Rattle.stream_sessions.specs.declared.outcome.SessionFault.TheVariants.{OutOfMemory, Write as FailedWrite};
 ghost use Rattle.stream_sessions.specs.declared.step.Step.TheVariants.{TooLong};
 
-use crate::acknowledges::Acknowledges;
+use crate::acknowledges::{Acknowledges, Evidence};
 use crate::ahead::Requests;
 use crate::answer::{answer, answer_read};
 use crate::held::hand_on;
 use crate::outcome::SessionFault;
 use crate::service::Service;
-use session_requests::{
-    Found, MOST_BYTES, RequestError, has_request, next_request, request_length,
-};
+use crate::wire::Wire;
+use session_requests::{Found, RequestError, request_length};
 use ssb_report::{Piece, write_pieces};
 use ssb_script::Request;
 use ssb_server::Client;
-use std::io::{BufRead, BufReader, Read, Write};
+use std::io::{Read, Write};
 use std::sync::Wait;
 
 /// The most bytes of replies that are held while requests are at hand.
@@ -46,24 +44,36 @@ pub(crate) enum Step {
     TooLong,
 }
 
-// Hands the replies on before the session waits for its client, or where many are held.
-fn hand_on_in_time<W: Wait + Drop, R: Wait, K: Acknowledges, I: Read, O: Write>(
+// Hands the replies on where no request is at hand, before the session waits for its client, or where many are held.
+fn hand_on_in_time<
+    W: Wait + Drop,
+    R: Wait,
+    E: Evidence,
+    K: Acknowledges<E>,
+    I: Read + Drop,
+    O: Write + Drop,
+>(
     service: &Service<'_, W, R, K>,
     client: &Client<W>,
-    input: &BufReader<I>,
+    wire: &mut Wire<I, O, E>,
     is_at_hand: bool,
-    output: &mut O,
     replies: &mut Vec<u8>,
 ) -> Result<(), SessionFault>
-    requires at_hand { is_at_hand ≡ true → BeginsWithRequest (reader_buffer input.now) }
     ensures handed { MatchResult result
-        (λ _. HandsOn (O.contents output.old) (O.contents output.new) replies.old.items replies.new.items)
-        (λ fault. AppendsPart (O.contents output.old) (O.contents output.new) replies.old.items
-        × (fault ≡ FailedWrite)) }
-    ensures in_time { OnOk result ((replies.new.items ≡ []) ⊎ BeginsWithRequest (reader_buffer input.now)) }
+        (λ _. HandsOn wire.old.written wire.new.written replies.old.items replies.new.items)
+        (λ fault. AppendsPart wire.old.written wire.new.written replies.old.items × (fault ≡ FailedWrite)) }
+    ensures at_hand { wire.new.at_hand ≡ wire.old.at_hand }
+    ensures unread { wire.new.unread ≡ wire.old.unread }
+    ensures in_time { OnOk result (is_at_hand ≡ false → replies.new.items ≡ []) }
+    ensures few { OnOk result (length replies.new.items < most_held) }
+    ensures goes { MatchResult result
+        (λ _. (ended : Bool) (number : ℕ) → GoesOn ended ended number client.now client.now wire.old.events
+        wire.new.events replies.old.items replies.new.items)
+        (λ fault. (ended : Bool) (number : ℕ) → GoesUntil fault ended number client.now client.now wire.old.events
+        wire.new.events replies.old.items replies.new.items) }
 {
     if replies.len() >= MOST_HELD || !is_at_hand {
-        hand_on(service, client, output, replies)?;
+        hand_on(service, client, wire, replies)?;
     }
     Ok(())
 }
@@ -84,31 +94,40 @@ fn tell_too_long(replies: &mut Vec<u8>) -> Result<Step, SessionFault>
     }
 }
 
-// Answers the request at the front of the input's buffer, which was read before its turn, and takes it.
-fn serve_ahead<W: Wait + Drop, R: Wait, K: Acknowledges, I: Read, O: Write>(
+// Answers the request at the front of what is at hand, which was read before its turn, and takes it.
+fn serve_ahead<
+    W: Wait + Drop,
+    R: Wait,
+    E: Evidence,
+    K: Acknowledges<E>,
+    I: Read + Drop,
+    O: Write + Drop,
+>(
     service: &Service<'_, W, R, K>,
     client: &mut Client<W>,
-    input: &mut BufReader<I>,
-    output: &mut O,
+    wire: &mut Wire<I, O, E>,
     request: Request,
     replies: &mut Vec<u8>,
 ) -> Result<Step, SessionFault>
     requires table { client.old.table ≡ service.now.server.now }
     requires quiet { is_some client.old.asked ≡ false }
-    requires first { AsksFirst (reader_buffer input.old) (request_of request) }
+    requires first { AsksFirst wire.old.at_hand (request_of request) }
     ensures step { MatchResult result
-        (λ step. Steps step (number_of client.old.who) client.old client.new (reader_remaining I.remaining input.old)
-        (reader_remaining I.remaining input.new) (O.contents output.old) (O.contents output.new) replies.old.items
-        replies.new.items)
-        (λ fault. Fails fault (number_of client.old.who) client.old client.new (reader_remaining I.remaining input.old)
-        (reader_remaining I.remaining input.new) (O.contents output.old) (O.contents output.new) replies.old.items
-        replies.new.items) }
-    ensures taken { OnOk result (TakesRequest (reader_buffer input.old) (reader_buffer input.new)) }
+        (λ step. Steps step (number_of client.old.who) client.old client.new wire.old.unread wire.new.unread
+        wire.old.written wire.new.written replies.old.items replies.new.items)
+        (λ fault. Fails fault (number_of client.old.who) client.old client.new wire.old.unread wire.new.unread
+        wire.old.written wire.new.written replies.old.items replies.new.items) }
+    ensures goes { MatchResult result
+        (λ step. GoesOn false (is_last step) (number_of client.old.who) client.old client.new wire.old.events
+        wire.new.events replies.old.items replies.new.items)
+        (λ fault. GoesUntil fault false (number_of client.old.who) client.old client.new wire.old.events
+        wire.new.events replies.old.items replies.new.items) }
+    ensures taken { OnOk result (TakesRequest wire.old.at_hand wire.new.at_hand) }
     ensures same { AreAlike client.old client.new }
     ensures sound { IsSound client.old → IsSound client.new }
 {
-    hand_on_in_time(service, client, input, true, output, replies)?;
-    let Some(size) = request_length(input.buffer()) else {
+    hand_on_in_time(service, client, wire, true, replies)?;
+    let Some(size) = request_length(wire.at_hand()) else {
         unreachable!()
     };
     let answered = answer_read(
@@ -119,37 +138,93 @@ fn serve_ahead<W: Wait + Drop, R: Wait, K: Acknowledges, I: Read, O: Write>(
         request,
         replies,
     );
-    input.consume(size);
+    wire.take(size);
     match answered {
         Ok(()) => Ok(Step::Request),
         Err(_) => Err(SessionFault::OutOfMemory),
     }
 }
 
-// Takes the next request, reads it alone, answers it, and adds the reply to those that are held.
-fn serve_alone<W: Wait + Drop, R: Wait, K: Acknowledges, I: Read, O: Write>(
+// Answers the request at the front of what is at hand, of so many bytes, read alone, and takes it.
+fn serve_at_hand<
+    W: Wait + Drop,
+    R: Wait,
+    E: Evidence,
+    K: Acknowledges<E>,
+    I: Read + Drop,
+    O: Write + Drop,
+>(
     service: &Service<'_, W, R, K>,
     client: &mut Client<W>,
-    input: &mut BufReader<I>,
-    output: &mut O,
+    wire: &mut Wire<I, O, E>,
+    count: usize,
+    replies: &mut Vec<u8>,
+) -> Result<Step, SessionFault>
+    requires table { client.old.table ≡ service.now.server.now }
+    requires quiet { is_some client.old.asked ≡ false }
+    requires whole { IsWhole count wire.old.at_hand }
+    ensures step { MatchResult result
+        (λ step. Steps step (number_of client.old.who) client.old client.new wire.old.unread wire.new.unread
+        wire.old.written wire.new.written replies.old.items replies.new.items)
+        (λ fault. Fails fault (number_of client.old.who) client.old client.new wire.old.unread wire.new.unread
+        wire.old.written wire.new.written replies.old.items replies.new.items) }
+    ensures goes { MatchResult result
+        (λ step. GoesOn false (is_last step) (number_of client.old.who) client.old client.new wire.old.events
+        wire.new.events replies.old.items replies.new.items)
+        (λ fault. GoesUntil fault false (number_of client.old.who) client.old client.new wire.old.events
+        wire.new.events replies.old.items replies.new.items) }
+    ensures same { AreAlike client.old client.new }
+    ensures sound { IsSound client.old → IsSound client.new }
+{
+    hand_on_in_time(service, client, wire, true, replies)?;
+    let (request, _) = wire.at_hand().split_at(count);
+    let answered = answer(
+        service.rt,
+        service.alloc,
+        service.server,
+        client,
+        request,
+        replies,
+    );
+    wire.take(count);
+    match answered {
+        Ok(()) => Ok(Step::Request),
+        Err(_) => Err(SessionFault::OutOfMemory),
+    }
+}
+
+// Takes the next request, for which the session may wait, and answers it. All replies are handed on before.
+fn serve_awaited<
+    W: Wait + Drop,
+    R: Wait,
+    E: Evidence,
+    K: Acknowledges<E>,
+    I: Read + Drop,
+    O: Write + Drop,
+>(
+    service: &Service<'_, W, R, K>,
+    client: &mut Client<W>,
+    wire: &mut Wire<I, O, E>,
     request: &mut Vec<u8>,
     replies: &mut Vec<u8>,
 ) -> Result<Step, SessionFault>
     requires table { client.old.table ≡ service.now.server.now }
     requires quiet { is_some client.old.asked ≡ false }
     ensures step { MatchResult result
-        (λ step. Steps step (number_of client.old.who) client.old client.new (reader_remaining I.remaining input.old)
-        (reader_remaining I.remaining input.new) (O.contents output.old) (O.contents output.new) replies.old.items
-        replies.new.items)
-        (λ fault. Fails fault (number_of client.old.who) client.old client.new (reader_remaining I.remaining input.old)
-        (reader_remaining I.remaining input.new) (O.contents output.old) (O.contents output.new) replies.old.items
-        replies.new.items) }
+        (λ step. Steps step (number_of client.old.who) client.old client.new wire.old.unread wire.new.unread
+        wire.old.written wire.new.written replies.old.items replies.new.items)
+        (λ fault. Fails fault (number_of client.old.who) client.old client.new wire.old.unread wire.new.unread
+        wire.old.written wire.new.written replies.old.items replies.new.items) }
+    ensures goes { MatchResult result
+        (λ step. GoesOn false (is_last step) (number_of client.old.who) client.old client.new wire.old.events
+        wire.new.events replies.old.items replies.new.items)
+        (λ fault. GoesUntil fault false (number_of client.old.who) client.old client.new wire.old.events
+        wire.new.events replies.old.items replies.new.items) }
     ensures same { AreAlike client.old client.new }
     ensures sound { IsSound client.old → IsSound client.new }
 {
-    let is_at_hand = has_request(input.buffer());
-    hand_on_in_time(service, client, input, is_at_hand, output, replies)?;
-    let step = match next_request(input, request, MOST_BYTES) {
+    hand_on_in_time(service, client, wire, false, replies)?;
+    let step = match wire.next_request(request) {
         Ok(Found::Request) => Step::Request,
         Ok(Found::Rest) => Step::Rest,
         Ok(Found::Nothing) => return Ok(Step::Nothing),
@@ -171,33 +246,78 @@ fn serve_alone<W: Wait + Drop, R: Wait, K: Acknowledges, I: Read, O: Write>(
     }
 }
 
-/// Takes the next request, answers it, and adds the reply to those that are held. Where several stand whole in the
-/// input's buffer, they are read together, each before its turn.
-pub(crate) fn serve_next<W: Wait + Drop, R: Wait, K: Acknowledges, I: Read, O: Write>(
+// Takes the next request, reads it alone, answers it, and adds the reply to those that are held.
+fn serve_alone<
+    W: Wait + Drop,
+    R: Wait,
+    E: Evidence,
+    K: Acknowledges<E>,
+    I: Read + Drop,
+    O: Write + Drop,
+>(
     service: &Service<'_, W, R, K>,
     client: &mut Client<W>,
-    input: &mut BufReader<I>,
-    output: &mut O,
+    wire: &mut Wire<I, O, E>,
+    request: &mut Vec<u8>,
+    replies: &mut Vec<u8>,
+) -> Result<Step, SessionFault>
+    requires table { client.old.table ≡ service.now.server.now }
+    requires quiet { is_some client.old.asked ≡ false }
+    ensures step { MatchResult result
+        (λ step. Steps step (number_of client.old.who) client.old client.new wire.old.unread wire.new.unread
+        wire.old.written wire.new.written replies.old.items replies.new.items)
+        (λ fault. Fails fault (number_of client.old.who) client.old client.new wire.old.unread wire.new.unread
+        wire.old.written wire.new.written replies.old.items replies.new.items) }
+    ensures goes { MatchResult result
+        (λ step. GoesOn false (is_last step) (number_of client.old.who) client.old client.new wire.old.events
+        wire.new.events replies.old.items replies.new.items)
+        (λ fault. GoesUntil fault false (number_of client.old.who) client.old client.new wire.old.events
+        wire.new.events replies.old.items replies.new.items) }
+    ensures same { AreAlike client.old client.new }
+    ensures sound { IsSound client.old → IsSound client.new }
+{
+    match request_length(wire.at_hand()) {
+        Some(count) => serve_at_hand(service, client, wire, count, replies),
+        None => serve_awaited(service, client, wire, request, replies),
+    }
+}
+
+/// Takes the next request, answers it, and adds the reply to those that are held. Where several stand whole at hand, they
+/// are read together, each before its turn.
+pub(crate) fn serve_next<
+    W: Wait + Drop,
+    R: Wait,
+    E: Evidence,
+    K: Acknowledges<E>,
+    I: Read + Drop,
+    O: Write + Drop,
+>(
+    service: &Service<'_, W, R, K>,
+    client: &mut Client<W>,
+    wire: &mut Wire<I, O, E>,
     requests: &mut Requests,
     replies: &mut Vec<u8>,
 ) -> Result<Step, SessionFault>
     requires table { client.old.table ≡ service.now.server.now }
     requires quiet { is_some client.old.asked ≡ false }
-    requires ahead { AskFirst (reader_buffer input.old) (asked_ahead requests.old.ahead) }
+    requires ahead { AskFirst wire.old.at_hand (asked_ahead requests.old.ahead) }
     ensures step { MatchResult result
-        (λ step. Steps step (number_of client.old.who) client.old client.new (reader_remaining I.remaining input.old)
-        (reader_remaining I.remaining input.new) (O.contents output.old) (O.contents output.new) replies.old.items
-        replies.new.items)
-        (λ fault. Fails fault (number_of client.old.who) client.old client.new (reader_remaining I.remaining input.old)
-        (reader_remaining I.remaining input.new) (O.contents output.old) (O.contents output.new) replies.old.items
-        replies.new.items) }
-    ensures ahead { OnOk result (AskFirst (reader_buffer input.new) (asked_ahead requests.new.ahead)) }
+        (λ step. Steps step (number_of client.old.who) client.old client.new wire.old.unread wire.new.unread
+        wire.old.written wire.new.written replies.old.items replies.new.items)
+        (λ fault. Fails fault (number_of client.old.who) client.old client.new wire.old.unread wire.new.unread
+        wire.old.written wire.new.written replies.old.items replies.new.items) }
+    ensures goes { MatchResult result
+        (λ step. GoesOn false (is_last step) (number_of client.old.who) client.old client.new wire.old.events
+        wire.new.events replies.old.items replies.new.items)
+        (λ fault. GoesUntil fault false (number_of client.old.who) client.old client.new wire.old.events
+        wire.new.events replies.old.items replies.new.items) }
+    ensures ahead { OnOk result (AskFirst wire.new.at_hand (asked_ahead requests.new.ahead)) }
     ensures same { AreAlike client.old client.new }
     ensures sound { IsSound client.old → IsSound client.new }
 {
-    requests.ahead.look(service.alloc, input.buffer());
+    requests.ahead.look(service.alloc, wire.at_hand());
     match requests.ahead.next() {
-        Some(request) => serve_ahead(service, client, input, output, request, replies),
-        None => serve_alone(service, client, input, output, &mut requests.alone, replies),
+        Some(request) => serve_ahead(service, client, wire, request, replies),
+        None => serve_alone(service, client, wire, &mut requests.alone, replies),
     }
 }

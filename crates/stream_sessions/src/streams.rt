@@ -8,7 +8,7 @@ ghost use Rattle.ssb_serving.specs.RunFaults.{IsRunFault};
 ghost use Rattle.ssb_serving.specs.Members.{AreStill, IsReady};
 ghost use Rattle.stream_sessions.specs.Streams.{AreSpoken, IsClosedWith, IsStreamRun};
 
-use crate::acknowledges::{Acknowledges, AtOnce};
+use crate::acknowledges::{Acknowledges, AtOnce, Evidence, Nothing};
 use crate::clients::{Seat, Spoken};
 use crate::speaks::Speaks;
 use crate::threads::{Ended, run_threads};
@@ -18,6 +18,7 @@ use ssb_server::{Client, Closed, Dispatcher, Keeps, Opened, Server, open};
 use ssb_serving::{Batches, RunFault};
 use std::alloc::{AllocError, Global};
 use std::hash::RandomState;
+use std::marker::PhantomData;
 use std::sync::{Arc, Wait};
 use std::thread::Threads;
 
@@ -38,12 +39,12 @@ struct Gathered<W: Wait + Drop, L: Drop> {
 }
 
 // Each client with its speaker.
-fn seats_of<'a, W: Wait + Drop, S: Drop, K>(
+fn seats_of<'a, W: Wait + Drop, S: Drop, K, E>(
     alloc: Global,
     acknowledger: &'a K,
     clients: Vec<Client<W>>,
     speakers: Vec<S>,
-) -> Result<Vec<Seat<'a, W, S, K>>, AllocError>
+) -> Result<Vec<Seat<'a, W, S, K, E>>, AllocError>
     requires { vec_len clients ≡ vec_len speakers }
     ensures clients { IfOk result (λ seats. map (λ seat. seat.client) seats.items ≡ clients.items) }
     ensures speakers { IfOk result (λ seats. map (λ seat. seat.speaker) seats.items ≡ speakers.items) }
@@ -58,6 +59,7 @@ fn seats_of<'a, W: Wait + Drop, S: Drop, K>(
             client,
             speaker,
             acknowledger,
+            evidence: PhantomData,
         })?;
     }
     Ok(seats)
@@ -108,7 +110,7 @@ fn close<W: Wait + Drop, L: Drop>(
 }
 
 // Serves the client of each place by the speaker there.
-fn serve<W: Wait + Drop + Send, R: Wait + Threads + Sync, S: Speaks<R> + Drop + Send>(
+fn serve<W: Wait + Drop + Send, R: Wait + Threads + Sync, S: Speaks<R, Nothing> + Drop + Send>(
     rt: &R,
     alloc: Global,
     opened: Opened<W>,
@@ -128,14 +130,14 @@ where
         dispatchers,
     } = opened;
     let at_once = AtOnce;
-    let seats = seats_of(alloc, &at_once, clients, speakers)?;
+    let seats: Vec<Seat<'_, W, S, AtOnce, Nothing>> = seats_of(alloc, &at_once, clients, speakers)?;
     let ended = run_threads(rt, alloc, &server, seats, dispatchers)?;
     close(alloc, server, ended)
 }
 
 /// Serves quiet clients of a server that is open already, one for each speaker, each client and each dispatcher in a
 /// thread of its own, and waits until all of them have ended. Replies leave once there is the acknowledger's evidence.
-pub fn serve_opened<W, R, K, S>(
+pub fn serve_opened<W, R, E, K, S>(
     rt: &R,
     alloc: Global,
     acknowledger: &K,
@@ -147,9 +149,9 @@ pub fn serve_opened<W, R, K, S>(
 where
     W: Wait + Drop + Send,
     R: Wait + Threads + Sync,
-    K: Acknowledges + Sync,
-    K::Evidence: Send,
-    S: Speaks<R> + Drop + Send,
+    E: Evidence + Send,
+    K: Acknowledges<E> + Sync,
+    S: Speaks<R, E> + Drop + Send,
     S::Left: Drop + Send,
     requires clients { All (IsQuiet server.now) clients.items }
     requires dispatchers { All (IsOf server.now) dispatchers.items }
@@ -158,7 +160,7 @@ where
         (map (λ one. one.client) ended.spoken.items) (map (λ one. one.left) ended.spoken.items)) }
     ensures dispatchers { IfOk result (λ ended. AreStill dispatchers.items ended.dispatchers.items) }
 {
-    let seats = seats_of(alloc, acknowledger, clients, speakers)?;
+    let seats: Vec<Seat<'_, W, S, K, E>> = seats_of(alloc, acknowledger, clients, speakers)?;
     let ended = run_threads(rt, alloc, server, seats, dispatchers)?;
     Ok(ended)
 }
@@ -169,7 +171,7 @@ where
 /// The dispatchers' threads start first, then the clients' in the order of the speakers, and where one can't be
 /// started, no later one is. That, and a refused growth wherever it is met, is `OutOfMemory`; each thread that was
 /// started has ended then, too.
-pub fn serve_streams<R: Wait + Threads + Sync, S: Speaks<R> + Drop + Send>(
+pub fn serve_streams<R: Wait + Threads + Sync, S: Speaks<R, Nothing> + Drop + Send>(
     rt: &R,
     alloc: Global,
     hashing: RandomState,

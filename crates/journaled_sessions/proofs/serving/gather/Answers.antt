@@ -6,6 +6,7 @@ pub loop-one-preserved : goal.loop-one-preserved
 loop-one-preserved g c =
     let inv = c.loop-one.invariant in
     record {
-      clients = push_made _ c.loop-one.yielded _ _ c.in-Some.one _ inv.clients c.in_ok-push.ensures.items (search rules);
+      clients = push_made _ c.loop-one.yielded _ _ c.in-Some.one _ inv.clients c.in_ok-push.ensures.items
+          (search rules);
       left = push_made _ c.loop-one.yielded _ _ c.in-Some.one _ inv.left c.in_ok-push-2.ensures.items (search rules);
     }

@@ -2,7 +2,17 @@ use Rattle.std.proofs.Common.{◌≡◌, ◌≤◌, ◌∙◌, length, ap, arith
 use Rattle.std.proofs.lemmas.List.FromFn.{length-map-range_with_len}
 use Rattle.journaled_sessions.proofs.BeginningLaws.{begun_table, opened_dispatchers, opened_reader}
 use Rattle.journaled_sessions.proofs.SeatLaws.{new_are_seated}
-use Rattle.journaled_sessions.proofs.ServingLaws.{parted_again, ready_where_left, run_where, seated_quiet, served_behind}
+use Rattle.journaled_sessions.proofs.ServingLaws.{
+  journaled_run,
+  left_of_log,
+  parted_again,
+  ready_to_close,
+  seated_quiet,
+  some_has,
+  told_each,
+}
+use Rattle.ssb_journal.specs.Counts.{IsLeft}
+use Rattle.journaled_sessions.specs.Reading.{IsLater}
 use Rattle.journaled_sessions.proofs.serving.serve.Goals as goal
 
 pub begin_again-requires-clause-clients : goal.begin_again-requires-clause-clients
@@ -25,8 +35,8 @@ serve_sessions-requires-clause-clients g c κs within =
     let whole : clients.len ≡ c.args.opened.server.clients = omega (arith, each, clients.ok.0, clients.ok.1) in
     let parts = parted_again c.args.opened.server c.args.recovered.opened.kept.commits.items (length speakers.items)
     c.len.result clients.len clients.items c.begin_again.new.clients c.split_off.new.self.items
-    c.in_ok-resting.resting.items c.in_ok-begun.ensures.clients same few whole c.in_ok-resting.ensures.items
-    c.in_ok-resting.ensures.tail in
+    c.in_ok-resting.resting.items c.in_ok-begun.ensures.clients c.in_ok-begun.ensures.shown same few whole
+    c.in_ok-resting.ensures.items c.in_ok-resting.ensures.tail in
     seated_quiet c.args.opened.server c.args.recovered.opened.kept.commits.items (length c.args.speakers.items)
     c.split_off.new.self.items c.in_ok-resting.resting.items parts
 
@@ -52,13 +62,15 @@ close-requires g c =
     let whole : clients.len ≡ c.args.opened.server.clients = omega (arith, each, clients.ok.0, clients.ok.1) in
     let parts = parted_again c.args.opened.server c.args.recovered.opened.kept.commits.items (length speakers.items)
     c.len.result clients.len clients.items c.begin_again.new.clients c.split_off.new.self.items
-    c.in_ok-resting.resting.items c.in_ok-begun.ensures.clients same few whole c.in_ok-resting.ensures.items
-    c.in_ok-resting.ensures.tail in
-    ready_where_left g.S.Speaker.spoken c.args.opened.server c.args.recovered.opened.kept.commits.items
+    c.in_ok-resting.resting.items c.in_ok-begun.ensures.clients c.in_ok-begun.ensures.shown same few whole
+    c.in_ok-resting.ensures.items c.in_ok-resting.ensures.tail in
+    ready_to_close g.S.Speaker.spoken c.args.opened.server c.args.recovered.opened.kept.commits.items
     c.args.speakers.items c.split_off.new.self.items c.in_ok-resting.resting.items _ _ c.args.opened.dispatchers.items
-    c.in_ok-ended.ended.dispatchers.items c.args.opened.reader c.in_ok-begun.begun.reader c.in_ok-ended.reader parts
+    c.in_ok-ended.ended.dispatchers.items c.args.opened.reader c.in_ok-begun.begun.reader c.in-Some.left.reader parts
     c.in_ok-ended.ensures.served c.requires.dispatchers c.in_ok-ended.ensures.dispatchers
-    c.in_ok-begun.ensures.reader c.in_ok-ended.ensures.reader
+    c.in_ok-begun.ensures.reader
+    (some_has c.in_ok-ended.left c.in-Some.left (λ left. IsLater c.in_ok-begun.begun.reader left.reader) c.in-Some.is
+    c.in_ok-ended.ensures.reader)
 
 pub returns-clause-served : goal.returns-clause-served
 returns-clause-served g c =
@@ -72,28 +84,33 @@ returns-clause-served g c =
     let whole : clients.len ≡ c.args.opened.server.clients = omega (arith, each, clients.ok.0, clients.ok.1) in
     let parts = parted_again c.args.opened.server c.args.recovered.opened.kept.commits.items (length speakers.items)
     c.len.result clients.len clients.items c.begin_again.new.clients c.split_off.new.self.items
-    c.in_ok-resting.resting.items c.in_ok-begun.ensures.clients same few whole c.in_ok-resting.ensures.items
-    c.in_ok-resting.ensures.tail in
-    run_where g.S.Speaker.spoken (λ log. log) c.args.opened.server c.args.recovered.opened.kept.commits.items
-    c.args.speakers.items c.split_off.new.self.items c.in_ok-resting.resting.items _ _ c.in_ok-close.field-0.left.items
-    c.in_ok-ended.ended.dispatchers.items c.in_ok-begun.begun.reader c.in_ok-ended.reader c.in_ok-close.field-0.log
-    parts c.in_ok-ended.ensures.served c.requires.sixteen c.in_ok-begun.ensures.seen c.in_ok-ended.ensures.reader
+    c.in_ok-resting.resting.items c.in_ok-begun.ensures.clients c.in_ok-begun.ensures.shown same few whole
+    c.in_ok-resting.ensures.items c.in_ok-resting.ensures.tail in
+    journaled_run g.S.Speaker.spoken c.args.opened.server c.args.recovered.opened.kept.commits.items
+    c.in_ok-close.field-0.log c.args.speakers.items c.split_off.new.self.items c.in_ok-resting.resting.items _ _
+    c.in_ok-close.field-0.left.items c.args.opened.dispatchers.items c.in_ok-ended.ended.dispatchers.items
+    c.args.opened.reader c.in_ok-begun.begun.reader c.in-Some.left.reader parts c.in_ok-ended.ensures.served
+    c.requires.sixteen c.in_ok-begun.ensures.seen c.requires.dispatchers c.in_ok-ended.ensures.dispatchers
+    c.in_ok-begun.ensures.reader
+    (some_has c.in_ok-ended.left c.in-Some.left (λ left. IsLater c.in_ok-begun.begun.reader left.reader) c.in-Some.is
+    c.in_ok-ended.ensures.reader)
     c.in_ok-close.ensures.left c.in_ok-close.ensures.closed
 
-pub returns-clause-behind : goal.returns-clause-behind
-returns-clause-behind g c =
-    let speakers = c.args.speakers in
-    let clients = c.args.opened.clients in
-    let same : c.len.result ≡ length speakers.items = omega (arith, c.len.ensures, speakers.ok.0, speakers.ok.1) in
-    let each : length clients.items ≡ c.args.opened.server.clients =
-    ap length c.requires.clients ∙ length-map-range_with_len _ 1 c.args.opened.server.clients in
-    let few : length speakers.items ≤ c.args.opened.server.clients =
-    omega (arith, c.requires.few, c.requires.sixteen, speakers.ok.0, speakers.ok.1) in
-    let whole : clients.len ≡ c.args.opened.server.clients = omega (arith, each, clients.ok.0, clients.ok.1) in
-    let parts = parted_again c.args.opened.server c.args.recovered.opened.kept.commits.items (length speakers.items)
-    c.len.result clients.len clients.items c.begin_again.new.clients c.split_off.new.self.items
-    c.in_ok-resting.resting.items c.in_ok-begun.ensures.clients same few whole c.in_ok-resting.ensures.items
-    c.in_ok-resting.ensures.tail in
-    served_behind g.S.Speaker.spoken c.args.opened.server c.args.recovered.opened.kept.commits.items
-    c.args.speakers.items c.split_off.new.self.items c.in_ok-resting.resting.items _ _ c.in_ok-close.field-0.left.items
-    parts c.in_ok-ended.ensures.served c.in_ok-close.ensures.left
+pub returns-clause-kept : goal.returns-clause-kept
+returns-clause-kept g c =
+    let left = c.in-Some.left in
+    let same = c.in_ok-close.ensures.journal in
+    rw (same.0, same.1, same.2)
+    (left_of_log (g.D.Disk.may_leave left.disk) (g.D.Disk.seen left.disk) c.args.opened.server _
+    c.in_ok-ended.ended.dispatchers.items left.reader c.in_ok-close.field-0.log left.count left.is_whole
+    c.in_ok-close.ensures.closed
+    (some_has c.in_ok-ended.left left (λ l. IsLeft (g.D.Disk.may_leave l.disk) (g.D.Disk.seen l.disk) l.count
+    l.reader.seen l.is_whole) c.in-Some.is c.in_ok-ended.ensures.left))
+
+pub returns-clause-told : goal.returns-clause-told
+returns-clause-told g c =
+    let same = c.in_ok-close.ensures.journal in
+    rw same.1
+    (told_each c.in_ok-ended.ended.spoken.items c.deref.result.now c.in_ok-close.field-0.left.items
+    (λ one. one.left) g.S.Speaker.told c.in-Some.left.count c.in_ok-close.ensures.left c.deref.ensures.value
+    (c.all_are_kept.ensures c.if-not-all_are_kept.false))

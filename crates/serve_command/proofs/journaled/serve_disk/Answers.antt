@@ -1,7 +1,6 @@
 use Rattle.std.proofs.Common.{subst, sym}
 use Rattle.journal.specs.Groups.{recovered}
 use Rattle.ssb_journal.specs.Opening.{IsKept}
-use Rattle.serve_command.proofs.JournaledLaws.{run_goes_on}
 use Rattle.serve_command.proofs.journaled.serve_disk.Goals as goal
 
 -- the file was read, and is as it was
@@ -11,5 +10,4 @@ serve_journaled-requires-clause-kept g c κs within =
     c.in-Ok.ensures.kept
 
 pub returns-in-Ok-serve_journaled-clause-served : goal.returns-in-Ok-serve_journaled-clause-served
-returns-in-Ok-serve_journaled-clause-served g c =
-    run_goes_on _ g.S.Speaker.spoken _ _ _ _ _ c.in-Ok-serve_journaled.ensures.served
+returns-in-Ok-serve_journaled-clause-served g c = record { kept = _; run = c.in-Ok-serve_journaled.ensures.served }

@@ -6,10 +6,19 @@ use Rattle.ssb_schema.specs.declared.table.Table.{Table}
 use Rattle.ssb_text.specs.Load.{AreTexts}
 use Rattle.serve_command.specs.Status.{serving_status}
 use Rattle.serve_command.proofs.ServedLaws.{first_pushed, is_alone, only_popped}
+use Rattle.serve_command.proofs.SessionLaws.{ended_over}
 use Rattle.serve_command.proofs.serving.serve_one.Goals as goal
 
 pub returns-in_err-push-clause-refused : goal.returns-in_err-push-clause-refused
 returns-in_err-push-clause-refused g c =
+    let is : c.from_residual-in_err-push.result ≡ Err (Program common.OutOfMemory) = search rules in
+    let here : serving_status (Program common.OutOfMemory) ≡ 1 → (texts : Table → List ℕ)
+    → AreTexts g.I.Read.remaining c.args.tables texts → AreRefusedToServe texts
+    = λ status texts are. absurd (omega (arith, status)) in
+    rw is here
+
+pub returns-in_err-wire-clause-refused : goal.returns-in_err-wire-clause-refused
+returns-in_err-wire-clause-refused g c =
     let is : c.from_residual.result ≡ Err (Program common.OutOfMemory) = search rules in
     let here : serving_status (Program common.OutOfMemory) ≡ 1 → (texts : Table → List ℕ)
     → AreTexts g.I.Read.remaining c.args.tables texts → AreRefusedToServe texts
@@ -36,5 +45,5 @@ returns-clause-ended g c = λ texts are.
       table = alone.table;
       client = alone.client;
       only = alone.only;
-      ended = alone.spoken;
+      ended = ended_over _ _ _ _ _ _ _ _ _ c.in_ok-wire.ensures.unread c.in_ok-wire.ensures.written alone.spoken.0;
     }

@@ -1,8 +1,9 @@
-use Rattle.std.specs.Io.Buffered.{reader_buffer, reader_remaining}
+use Rattle.std.proofs.Common.{false}
 use Rattle.history.specs.Tokens.{IsSound}
 use Rattle.history.specs.Members.{number_of}
 use Rattle.session_requests.specs.Ahead.{AskFirst}
 use Rattle.ssb_serving.specs.Steps.{AreAlike}
+use Rattle.stream_sessions.specs.Conversation.{Converses}
 use Rattle.stream_sessions.specs.Steps.{asked_ahead}
 use Rattle.stream_sessions.proofs.SessionLaws.{IsThrough}
 use Rattle.stream_sessions.proofs.session.answer_all.Given as goal
@@ -11,9 +12,9 @@ use Rattle.stream_sessions.proofs.session.answer_all.Given as goal
 abbrev pub invariant-loop-answered : goal.invariant-loop-answered
 invariant-loop-answered g l = record {
   through : IsThrough (number_of l.fn.client.who) l.fn.client l.client
-      (reader_remaining g.I.Read.remaining l.fn.input) (reader_remaining g.I.Read.remaining l.input)
-      (g.O.Write.contents l.fn.output) (g.O.Write.contents l.output) l.replies.items l.answered;
+      l.fn.wire.unread l.wire.unread l.fn.wire.written l.wire.written l.replies.items l.answered;
+  conversed : Converses false (number_of l.fn.client.who) l.fn.client l.client l.fn.wire.events l.wire.events l.replies.items;
   alike : AreAlike l.fn.client l.client;
   sound : IsSound l.fn.client → IsSound l.client;
-  ahead : AskFirst (reader_buffer l.input) (asked_ahead l.requests.ahead);
+  ahead : AskFirst l.wire.at_hand (asked_ahead l.requests.ahead);
 }

@@ -1,5 +1,4 @@
 use Rattle.std.proofs.Common.{subst}
-use Rattle.std.specs.Io.Buffered.{reader_buffer}
 use Rattle.session_requests.specs.Ahead.{AskFirst}
 use Rattle.session_requests.proofs.AheadLaws.{asks_first}
 use Rattle.stream_sessions.proofs.AheadLaws.{ask_none_ok, ask_on_ok}
@@ -8,15 +7,15 @@ use Rattle.stream_sessions.proofs.step.serve_next.Goals as goal
 
 pub serve_ahead-requires-clause-first : goal.serve_ahead-requires-clause-first
 serve_ahead-requires-clause-first g c =
-    let looked = subst (λ bytes. AskFirst bytes (asked_ahead c.look.new.self)) c.buffer.ensures c.look.ensures in
+    let looked = subst (λ bytes. AskFirst bytes (asked_ahead c.look.new.self)) c.at_hand.ensures c.look.ensures in
     asks_first _ _ (asked_ahead c.next.new.self)
-    (subst (AskFirst (reader_buffer c.args.input.now)) c.in-Some.ensures looked)
+    (subst (AskFirst c.args.wire.now.at_hand) c.in-Some.ensures looked)
 
 pub returns-in-Some-clause-ahead : goal.returns-in-Some-clause-ahead
 returns-in-Some-clause-ahead g c =
-    let looked = subst (λ bytes. AskFirst bytes (asked_ahead c.look.new.self)) c.buffer.ensures c.look.ensures in
-    ask_on_ok c.serve_ahead.result (reader_buffer c.args.input.now) _ _ (asked_ahead c.next.new.self)
-    (subst (AskFirst (reader_buffer c.args.input.now)) c.in-Some.ensures looked) c.serve_ahead.ensures.taken
+    let looked = subst (λ bytes. AskFirst bytes (asked_ahead c.look.new.self)) c.at_hand.ensures c.look.ensures in
+    ask_on_ok c.serve_ahead.result c.args.wire.now.at_hand _ _ (asked_ahead c.next.new.self)
+    (subst (AskFirst c.args.wire.now.at_hand) c.in-Some.ensures looked) c.serve_ahead.ensures.taken
 
 pub returns-in-None-clause-ahead : goal.returns-in-None-clause-ahead
 returns-in-None-clause-ahead g c =
