@@ -7,11 +7,12 @@ use arguments::{
 use audit_command::run_audit;
 use export_command::{ExportPlace, run_export};
 use journal_file::{JournalFile, torn_path};
+use journal_opening::{JournalPath, ReadPath};
 use query_command::{Settings, run_all, run_query};
 use run_command::{RunSettings, demo, run_scripts};
 use serve_command::{
-    EndPaths, JournalPlace, MOST_CLIENTS, Prompted, ServeSettings, report_no_pipes, serve_clients,
-    serve_clients_journaled, serve_stream, serve_stream_journaled,
+    EndPaths, JournalPlace, MOST_CLIENTS, PathClients, Prompted, ServeSettings, report_no_pipes,
+    serve_clients, serve_clients_journaled, serve_stream, serve_stream_journaled,
 };
 use ssb_files::{
     Fault, InputSource, PathUse, Screen, TableBytes, UsedPath, check_paths, count_tables,
@@ -176,9 +177,9 @@ struct OpenedServer<O: Drop> {
 
 // Whom a live server serves.
 #[derive(Drop)]
-enum Served<I: Drop, O: Drop> {
-    // Clients, each over its own two ends, and whether these are opened again.
-    Paths(Vec<EndPaths>, bool),
+enum Served<'a, F: Files, I: Drop, O: Drop> {
+    // Clients, each over its own two ends.
+    Paths(PathClients<'a, F>),
     // One, over standard input and output.
     Streams(I, O),
 }
@@ -232,29 +233,25 @@ fn open_server<R: RandomSource, F: Files + AllocGlobal>(
     })
 }
 
-// The journal's place, where the words name one.
-fn journal_place<'a, F: Files>(
+// The journal's file, where the words name one.
+fn journal_path<'a, F: Files + AllocGlobal>(
     files: &'a F,
-    bytes: &'a TableBytes,
     path: Option<&'a String>,
-    quiet: bool,
-) -> Option<JournalPlace<'a, F>> {
-    Some(JournalPlace {
+) -> Option<JournalPath<'a, F>> {
+    Some(JournalPath {
         files,
+        alloc: files.alloc(),
         path: path?.as_str(),
-        bytes,
-        tells: !quiet,
     })
 }
 
 // Serves clients with a journal, or without one.
 fn serve_whom<R, F, T: Read + Drop, I: Read + Drop + Send, W: Write + Drop + Send, E: Print + Sync>(
     rt: &R,
-    files: &F,
-    journal: Option<&JournalPlace<'_, F>>,
+    journal: Option<&JournalPlace<'_, JournalPath<'_, F>>>,
     settings: ServeSettings,
     tables: Tables<T>,
-    whom: Served<I, W>,
+    whom: Served<'_, F, I, W>,
     errors: &E,
 ) -> u8
 where
@@ -264,17 +261,16 @@ where
     F::Dir: Send,
 {
     match (whom, journal) {
-        (Served::Paths(clients, keeps), None) => {
-            serve_clients(rt, settings, tables, files, clients, keeps, errors)
-        }
-        (Served::Paths(clients, keeps), Some(place)) => {
-            serve_clients_journaled(rt, settings, tables, place, clients, keeps, errors)
+        (Served::Paths(clients), None) => serve_clients(rt, settings, tables, clients, errors),
+        (Served::Paths(clients), Some(place)) => {
+            serve_clients_journaled(rt, settings, tables, place, clients, errors).status
         }
         (Served::Streams(input, output), None) => {
             serve_stream(rt, settings, tables, input, output, errors).status
         }
         (Served::Streams(input, output), Some(place)) => {
-            serve_stream_journaled(rt, settings, tables, place, input, output, errors).status
+            let ended = serve_stream_journaled(rt, settings, tables, place, input, output, errors);
+            ended.end.status
         }
     }
 }
@@ -310,19 +306,28 @@ where
     } = streams;
     let bytes = TableBytes::new();
     let tables = count_tables(&bytes, tables);
-    let place = journal_place(files, &bytes, journal.as_ref(), words.quiet);
+    let path = journal_path(files, journal.as_ref());
+    let place = path.as_ref().map(|file| JournalPlace {
+        file,
+        bytes: &bytes,
+        tells: !words.quiet,
+    });
     let journal = place.as_ref();
     if !clients.is_empty() {
-        let whom: Served<I, W> = Served::Paths(clients, words.keep);
-        return serve_whom(rt, files, journal, settings, tables, whom, errors);
+        let whom: Served<'_, F, I, W> = Served::Paths(PathClients {
+            files,
+            ends: clients,
+            keeps: words.keep,
+        });
+        return serve_whom(rt, journal, settings, tables, whom, errors);
     }
     if is_typed {
         let typed = Prompted::new(rt.alloc(), input, io::writer(errors), TERMINAL_HELP);
         let whom = Served::Streams(typed, output);
-        return serve_whom(rt, files, journal, settings, tables, whom, errors);
+        return serve_whom(rt, journal, settings, tables, whom, errors);
     }
     let whom = Served::Streams(input, output);
-    serve_whom(rt, files, journal, settings, tables, whom, errors)
+    serve_whom(rt, journal, settings, tables, whom, errors)
 }
 
 // Serves clients over the files of a folder.
@@ -415,9 +420,13 @@ where
     let tables = watch_tables(screen.as_ref(), tables);
     let bytes = TableBytes::new();
     let tables = count_tables(&bytes, tables);
-    let place = ExportPlace {
+    let journal = ReadPath {
         files,
-        journal: words.journal,
+        path: words.journal,
+    };
+    let place = ExportPlace {
+        journal: &journal,
+        files,
         folder: words.folder,
         bytes: &bytes,
         tells: !words.quiet,

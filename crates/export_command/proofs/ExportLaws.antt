@@ -6,6 +6,8 @@ use Rattle.ssb_files.specs.Loaded.{IsLoadedToServe}
 use Rattle.ssb_files.specs.declared.job.JobFault.{JobFault}
 use Rattle.ssb_files.specs.declared.job.JobFault.TheVariants as job
 use Rattle.journal.specs.Groups.{recovered}
+use Rattle.journal_opening.specs.Kept.{IsKnown}
+use Rattle.journal_opening.specs.Sizes.{AreSizes}
 use Rattle.journal_opening.specs.declared.fault.OpeningFault.TheVariants as opening
 use Rattle.ssb_journal.specs.Opening.{IsKept}
 use Rattle.ssb_journal.specs.Replays.{IsReplayFault}
@@ -64,12 +66,18 @@ tells_none base sizes file (job.Found (refusal.CannotWrite path)) none = tt
 tells_none base sizes file (job.Found (refusal.Journal why)) none = absurd none
 
 -- over the tables that were loaded
-exports-of : (texts : Table → List ℕ) (base : Tables) (sizes : List TableSize) (file : List ℕ) (calls : List FolderCall)
-    → IsLoadedToServe texts base → IsExport base sizes file calls → Exports texts
-exports-of texts base sizes file calls loaded is = record {
+exports-of : (texts : Table → List ℕ) (known : Option (List ℕ)) (base : Tables) (sizes : List TableSize) (file : List ℕ)
+    (calls : List FolderCall) → IsLoadedToServe texts base → AreSizes base sizes → IsKnown known file
+    → IsExport base sizes file calls → Exports texts known
+exports-of texts known base sizes file calls loaded sized is_file is = record {
   base = base;
   loaded = loaded;
+  sizes = sizes;
+  sized = sized;
+  file = file;
+  is_file = is_file;
   commits = is.after.commits;
+  has = is.after.has;
   legal = is.after.legal;
   read_back = subst (λ (now : Tables). AreReadBack (base_texts now) now) is.after.are (record {
     loaded = record {
@@ -80,10 +88,11 @@ exports-of texts base sizes file calls loaded is = record {
   });
 }
 
-pub exports : (texts : Table → List ℕ) (base held : Tables) (sizes : List TableSize) (file : List ℕ)
-    (calls : List FolderCall) → IsLoadedToServe texts base → held ≡ base → IsExport held sizes file calls → Exports texts
-exports texts base held sizes file calls loaded same is =
-    exports-of texts base sizes file calls loaded
+pub exports : (texts : Table → List ℕ) (known : Option (List ℕ)) (base held : Tables) (sizes : List TableSize)
+    (file : List ℕ) (calls : List FolderCall) → IsLoadedToServe texts base → AreSizes base sizes → IsKnown known file
+    → held ≡ base → IsExport held sizes file calls → Exports texts known
+exports texts known base held sizes file calls loaded sized is_file same is =
+    exports-of texts known base sizes file calls loaded sized is_file
     (subst (λ (b : Tables). IsExport b sizes file calls) same is)
 
 pub on_ok : {X E : Type 0} (P Q : Type 0) (result : Result X E) → (P → Q) → OnOk result P → OnOk result Q

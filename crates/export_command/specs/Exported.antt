@@ -1,9 +1,10 @@
 -- What an export leaves.
-use Rattle.std.specs.Prelude.{◌≡◌, ◌⊎◌, ℕ, List, [], Option, None}
+use Rattle.std.specs.Prelude.{◌≡◌, ◌⊎◌, ℕ, List, Option, None}
 use Rattle.export_command.specs.After.{tables_after}
 use Rattle.export_command.specs.declared.fault.ExportRefusal.{ExportRefusal}
 use Rattle.export_command.specs.declared.fault.ExportRefusal.TheVariants as refusal
-use Rattle.journal.specs.Groups.{recovered}
+use Rattle.journal_opening.specs.Kept.{HasCommits, IsKnown}
+use Rattle.journal_opening.specs.Sizes.{AreSizes}
 use Rattle.journal_opening.specs.declared.fault.OpeningFault.TheVariants as opening
 use Rattle.row_store.specs.History.{CommitRecord}
 use Rattle.row_store.specs.Legal.{IsLegal}
@@ -11,7 +12,6 @@ use Rattle.ssb_base.specs.Base.{Tables, IsSound}
 use Rattle.ssb_files.specs.Loaded.{IsLoadedToServe}
 use Rattle.ssb_files.specs.declared.job.JobFault.{JobFault}
 use Rattle.ssb_files.specs.declared.job.JobFault.TheVariants as job
-use Rattle.ssb_journal.specs.Kept.{KeepsCommits}
 use Rattle.ssb_journal.specs.Opening.{TellsOpenFault}
 use Rattle.ssb_journal.specs.Replays.{IsReplayFault}
 use Rattle.ssb_journal.specs.declared.head.TableSize.{TableSize}
@@ -21,10 +21,6 @@ use Rattle.ssb_text.specs.Load.{SpellsBase}
 use Rattle.table_folder.specs.Calls.{FolderCall, LeftAnyTime}
 use Rattle.table_folder.specs.Filled.{AreAll, HasAll}
 use Rattle.table_text.specs.TableText.{base_texts}
-
--- a file keeps these commits over tables of these sizes, or stands for no groups, and they are none
-abbrev pub HasCommits : List TableSize → List CommitRecord → List ℕ → Type 0
-HasCommits sizes commits file = KeepsCommits sizes commits file ⊎ ((recovered file ≡ []) × (commits ≡ []))
 
 -- the commits that a file has over tables of these sizes are a legal history over a base, and these are the tables
 -- after it
@@ -70,10 +66,16 @@ pub record AreReadBack (texts : Table → List ℕ) (tables : Tables) : Type 0 w
   pub loaded : IsLoadedToServe texts tables
   pub sound : IsSound tables
 
--- the five texts spell a base; the texts of the tables after a legal history over it are read back as these
-pub record Exports (texts : Table → List ℕ) : Type 0 where
+-- the five texts spell a base; the commits that the journal's file has are a legal history over it, and the texts of
+-- the tables after it are read back as these. The file is the known one, where one is known
+pub record Exports (texts : Table → List ℕ) (known : Option (List ℕ)) : Type 0 where
   pub base : Tables
   pub loaded : IsLoadedToServe texts base
+  pub sizes : List TableSize
+  pub sized : AreSizes base sizes
+  pub file : List ℕ
+  pub is_file : IsKnown known file
   pub commits : List CommitRecord
+  pub has : HasCommits sizes commits file
   pub legal : IsLegal base commits
   pub read_back : AreReadBack (base_texts (tables_after base commits)) (tables_after base commits)

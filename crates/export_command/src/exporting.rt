@@ -13,8 +13,7 @@ use crate::fault::ExportRefusal::Journal;
 use crate::fault::{ExportFault, ExportRefusal, NotEmpty};
 use crate::tables_after::TablesAfter;
 use journal::Disk;
-use journal_file::{FileDisk, JournalFile};
-use journal_opening::{OpeningFault, table_sizes};
+use journal_opening::{OpeningFault, OpensJournal, table_sizes};
 use ssb_base::Base;
 use ssb_files::JobFault::{Found, Program};
 use ssb_files::{Fault, TableBytes, base_to_serve};
@@ -31,10 +30,11 @@ use table_text::tables_are_read_back;
 
 /// Where the journal is, where the tables go, and what is told.
 #[derive(Drop)]
-pub struct ExportPlace<'a, F: Files> {
-    pub files: &'a F,
+pub struct ExportPlace<'a, F: Files, P> {
     /// The journal's file, which is there.
-    pub journal: &'a str,
+    pub journal: &'a P,
+    /// The files among which the folder is.
+    pub files: &'a F,
     /// The folder, which is not there or is empty.
     pub folder: &'a str,
     /// The bytes of the tables, which are counted while these are loaded.
@@ -131,7 +131,8 @@ fn not_filled(alloc: Global, path: &str, fault: &FillFault) -> ExportFault
 /// Writes the tables after a journal's commits into a folder on which no call was made, and tells on `told`, if it is
 /// given, how many commits these were. All of the journal is looked at before anything is made.
 ///
-/// At `Ok` the folder has the five texts, and each crash from then on leaves them. A crash at any moment, also before an
+/// At `Ok` the folder has the five texts, and each crash from then on leaves them. A crash at any moment, also before
+/// an
 /// `Err`, leaves no `lineorder`, or all five.
 pub fn export_into<D: Disk + Drop, T: TableFolder, E: Write>(
     alloc: Global,
@@ -184,16 +185,15 @@ fn find_folder<'a, F: Files>(
 
 /// Writes the tables as they are after a journal's commits into a folder, and tells on `err` how many commits these
 /// were. The folder is looked at first, then the tables are read, and then the journal, which is as it was.
-pub fn export<R: Threads + Sync + AllocGlobal, F: Files, I: Read + Drop, E: Write>(
+pub fn export<R: Threads + Sync + AllocGlobal, F: Files, P: OpensJournal, I: Read + Drop, E: Write>(
     rt: &R,
     hashing: RandomState,
     tables: Tables<I>,
-    place: &ExportPlace<'_, F>,
+    place: &ExportPlace<'_, F, P>,
     err: &mut E,
 ) -> Result<(), ExportFault>
-where
-    F::File: JournalFile,
-    ensures exported { OnOk result ((texts : Table → List ℕ) → AreTexts I.remaining tables texts → Exports texts) }
+    ensures exported { OnOk result ((texts : Table → List ℕ) → AreTexts I.remaining tables texts
+        → Exports texts (P.holds place.now.journal.now)) }
     ensures words { IfErr result (λ fault. export_status fault ≢ 2) }
     ensures trace { IfErr result (λ fault. export_status fault ≢ 3) }
 {
@@ -202,7 +202,7 @@ where
     let base = base_to_serve(rt, alloc, tables)?;
     let sizes = table_sizes(&base, place.bytes);
     let base = Arc::new(alloc, base)?;
-    let disk = match FileDisk::open_to_read(place.files, alloc, place.journal) {
+    let disk = match place.journal.open(alloc) {
         Ok(disk) => disk,
         Err(error) => return Err(Found(Journal(OpeningFault::File(error)))),
     };
@@ -219,16 +219,15 @@ where
 ///
 /// The result is the exit status: 0 where the folder has all tables, 1 where the folder, the data or the journal is
 /// refused and nothing was made, and else 4.
-pub fn run_export<R: Threads + Sync + AllocGlobal, F: Files, I: Read + Drop, E: Write>(
-    rt: &R,
-    hashing: RandomState,
-    tables: Tables<I>,
-    place: &ExportPlace<'_, F>,
-    err: &mut E,
-) -> u8
-where
-    F::File: JournalFile,
-    ensures exported { result ≡ 0 → (texts : Table → List ℕ) → AreTexts I.remaining tables texts → Exports texts }
+pub fn run_export<
+    R: Threads + Sync + AllocGlobal,
+    F: Files,
+    P: OpensJournal,
+    I: Read + Drop,
+    E: Write,
+>(rt: &R, hashing: RandomState, tables: Tables<I>, place: &ExportPlace<'_, F, P>, err: &mut E) -> u8
+    ensures exported { result ≡ 0 → (texts : Table → List ℕ) → AreTexts I.remaining tables texts
+        → Exports texts (P.holds place.now.journal.now) }
     ensures others { result ≢ 0 → result ≢ 1 → result ≡ 4 }
 {
     match export(rt, hashing, tables, place, err) {

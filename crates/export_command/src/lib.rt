@@ -14,7 +14,7 @@
 //! (`specs/Exported`), over a journal's disk and a folder as its model has it (`table_folder`): at `Ok` the folder has the
 //! five texts of the tables after the commits that the file keeps, each crash from then on leaves them, and a load of them
 //! gives these tables; a crash at any moment until then leaves no `lineorder`, or all five. [`run_export`] opens both: with
-//! status 0 the tables spell a base, and the texts of the tables after a legal history over it spell these, which are sound.
+//! status 0 the tables spell a base, and the texts of the tables after the commits of the file spell these, which are sound.
 //!
 //! ```text
 //! let source = ExportSource { base, sizes: &sizes, disk };

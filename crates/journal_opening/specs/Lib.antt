@@ -1,2 +1,3 @@
 pub mod Sizes
 pub mod Status
+pub mod Kept

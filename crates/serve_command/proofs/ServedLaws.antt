@@ -1,18 +1,27 @@
 -- What the run of a server says of its only client, and of all clients.
-use Rattle.std.proofs.Common.{◌≡◌, ◌∙◌, ℕ, List, [], ◌∷◌, ◌++◌, length, Option, Result, Ok, Err, refl, sym, ap, subst}
-use Rattle.std.proofs.Common.{arith, length-append}
-use Rattle.std.specs.Prelude.{◌≢◌, slice_get}
+use Rattle.std.proofs.Common.{◌≡◌, ◌∙◌, ℕ, ◌+◌, List, [], ◌∷◌, ◌++◌, length, Option, Result, Ok, Err, refl, sym, ap}
+use Rattle.std.proofs.Common.{Bool, arith, length-append, subst}
+use Rattle.std.specs.Prelude.{◌≢◌, All, IsTrue, slice_get}
+use Rattle.std.specs.List.{AllPass, list_all}
+use Rattle.std.proofs.lemmas.List.Sums.{AllPass-from_list_all}
+use Rattle.std.proofs.lemmas.Option.{slice_get_within}
 use Rattle.history.specs.Closing.{IsLogOf}
+use Rattle.history.specs.Members.{number_of}
 use Rattle.history.specs.Tokens.{TableRecord, TokenRecord, new_token}
+use Rattle.history_core.specs.OwnCommits.{IsOfClients}
 use Rattle.history_core.specs.declared.event.Who.TheVariants.{Client}
 use Rattle.row_store.specs.History.{CommitRecord}
 use Rattle.row_store.specs.Legal.{IsLegal}
-use Rattle.serve_command.specs.Served.{BreaksAlone, EndsAlone, IsOnlyClient, IsRunOver, ServesAlone, ServesClients}
+use Rattle.serve_command.specs.Served.{BreaksAlone, EndsAlone, IsOnlyClient, IsRunOver, IsServedToEnd, ServesAlone}
+use Rattle.serve_command.specs.Served.{ServesClients}
+use Rattle.serve_command.specs.Sessions.{HasLeft, HasStreamed}
 use Rattle.serve_command.specs.Status.{session_status}
 use Rattle.ssb_base.specs.Base.{Tables}
 use Rattle.ssb_files.specs.Loaded.{IsLoadedToServe}
 use Rattle.ssb_schema.specs.declared.table.Table.{Table}
-use Rattle.stream_sessions.specs.Streams.{IsStreamRun}
+use Rattle.ssb_serving.proofs.PlaceLaws.{all_at, get_below}
+use Rattle.serve_command.specs.declared.speakers.PathLeft.{PathLeft}
+use Rattle.stream_sessions.specs.Streams.{IsSpokenTo, IsStreamRun}
 use Rattle.stream_sessions.specs.declared.outcome.Served.{Served}
 use Rattle.stream_sessions.specs.declared.outcome.SessionError.{SessionError}
 
@@ -99,15 +108,64 @@ pub breaks_alone : (outcome : Result Served SessionError) (texts : Table → Lis
 breaks_alone (Ok served) texts dispatchers unread before after alone broke = absurd (broke refl)
 breaks_alone (Err error) texts dispatchers unread before after alone broke = record { error = error; alone = alone }
 
+-- the only session of a run
+pub ends_alone : (outcome : Result Served SessionError) (texts : Table → List ℕ) (dispatchers told : ℕ)
+    (unread before after : Option (List ℕ)) (table : TableRecord) (client : TokenRecord)
+    → IsOnlyClient texts dispatchers table client
+    → HasStreamed 1 (new_token table (Client 1)) client unread before after outcome told
+    → EndsAlone outcome texts dispatchers unread before after
+ends_alone outcome texts dispatchers told unread before after table client only streamed = record {
+  table = table;
+  client = client;
+  only = only;
+  ended = streamed.ended;
+  events = streamed.events;
+  conversed = streamed.conversed;
+}
+
+-- what is left of all clients says that they were served
+pub all_served : (shown all : List PathLeft) (result : Bool) → result ≡ list_all (λ left. left.was_served) shown
+    → IsTrue result → shown ≡ all → All (λ left. IsTrue left.was_served) all
+all_served shown all result is well same =
+    subst (λ (ls : List PathLeft). AllPass (λ left. left.was_served) ls) same
+    (AllPass-from_list_all (λ (left : PathLeft). left.was_served) shown (sym is ∙ well))
+
+-- one of the clients of a run, by its place
+served_at : {S : Type 0} (table : TableRecord) (log : List CommitRecord) (place : ℕ) (speaker : S)
+    (client : TokenRecord) (left : PathLeft)
+    → IsSpokenTo (λ (s : S) old new one. HasLeft (number_of old.who) old new one) table log (place + 1) speaker client left
+    → IsTrue left.was_served → IsServedToEnd table log (place + 1) client
+served_at table log place speaker client left to well = record {
+  sessions = to.spoken.sessions;
+  are = to.spoken.are;
+  well = to.spoken.ended well;
+  begins = to.begins;
+  made = to.made;
+}
+
 -- all clients of a run
-pub serves_clients : {S L : Type 0} (Spoken : S → TokenRecord → TokenRecord → L → Type 0) (texts : Table → List ℕ)
-    (speakers : List S) (clients dispatchers : ℕ) (left : List L) (log : List CommitRecord)
-    → IsRunOver Spoken texts speakers dispatchers left log → length speakers ≡ clients → ServesClients texts clients
-serves_clients Spoken texts speakers clients dispatchers left log over count =
-    subst (ServesClients texts) count (record {
-      base = over.base;
-      loaded = over.loaded;
+pub serves_clients : {S : Type 0} (texts : Table → List ℕ) (speakers : List S) (clients dispatchers : ℕ)
+    (left : List PathLeft) (log : List CommitRecord)
+    → IsRunOver (λ (s : S) old new one. HasLeft (number_of old.who) old new one) texts speakers dispatchers left log
+    → length speakers ≡ clients → All (λ one. IsTrue one.was_served) left → ServesClients texts clients dispatchers
+serves_clients texts speakers clients dispatchers left log over many well =
+    let run = over.run in record {
+      table = run.table;
+      loaded = subst (IsLoadedToServe texts) (sym run.base_is) over.loaded;
+      clients_are = run.clients_are ∙ many;
+      dispatchers_are = run.dispatchers_are;
       log = log;
-      legal = over.run.legal;
-      named = over.run.named;
-    })
+      closed = run.closed;
+      one_each = run.one_each ∙ many;
+      served = λ i client here.
+          let within = slice_get_within run.closed i client here in
+          let speaker = get_below speakers i (omega (arith, within, run.one_each)) in
+          let one = get_below left i (omega (arith, within, run.one_each, run.one_left)) in
+          served_at run.table log i speaker.0 client one.0
+          (run.served i speaker.0 client one.0 speaker.1 here one.1)
+          (all_at (λ (l : PathLeft). IsTrue l.was_served) left i one.0 well one.1);
+      legal = subst (λ (base : Tables). IsLegal base log) (sym run.base_is) run.legal;
+      named = subst (λ (n : ℕ). IsOfClients n log) many run.named;
+      ended = run.ended;
+      true_log = run.true_log;
+    }

@@ -1,14 +1,24 @@
--- A session over a wire that was made of a reader and a writer.
-use Rattle.std.proofs.Common.{◌≡◌, ℕ, List, [], Option, None, Some, Result, Ok, Err, refl, subst}
-use Rattle.std.specs.Prelude.{IfOk, IfErr}
+-- A session over a reader and a writer, one that was not begun, and sessions one after another.
+use Rattle.std.proofs.Common.{◌≡◌, ◌∙◌, ℕ, max, true, false, List, [], ◌∷◌, Option, None, Some, Result, Ok, Err}
+use Rattle.std.proofs.Common.{inl, inr, refl, sym, subst, ap, arith}
+use Rattle.std.proofs.Math.Nat.{max-zero}
+use Rattle.std.specs.Prelude.{IfOk, IfErr, OnOk, IsOk}
 use Rattle.std.specs.Io.Buffered.{reader_buffer, reader_capacity, reader_inner, reader_remaining}
-use Rattle.std.specs.Io.KnownBytes.{prepend_known}
+use Rattle.std.specs.Io.KnownBytes.{Consumes, prepend_known}
 use Rattle.std.specs.declared.io.buffered.BufReader.{BufReader}
 use Rattle.history.specs.Tokens.{TokenRecord}
-use Rattle.serve_command.specs.Sessions.{HasEnded}
+use Rattle.serve_command.specs.Sessions.{AreSessions, HasConversed, HasEnded, HasHad, HasLeft, HasServedOnce}
+use Rattle.serve_command.specs.Sessions.{HasStreamed, most_told}
+use Rattle.serve_command.specs.declared.speakers.SessionEnd.{SessionEnd}
+use Rattle.serve_command.specs.declared.speakers.SessionEnd.TheVariants.{Last}
+use Rattle.session_requests.proofs.RequestLaws.{nothing_is_unfinished}
+use Rattle.ssb_report.proofs.WrittenLaws.{appends_none}
+use Rattle.stream_sessions.specs.Conversation.{Converses, ConversesUntil}
+use Rattle.stream_sessions.specs.Events.{Event, most_covered}
 use Rattle.stream_sessions.specs.Session.{Serves, Breaks}
 use Rattle.stream_sessions.specs.declared.outcome.Served.{Served}
 use Rattle.stream_sessions.specs.declared.outcome.SessionError.{SessionError}
+use Rattle.stream_sessions.specs.declared.outcome.SessionFault.TheVariants as fault
 
 nothing_before : (known : Option (List ℕ)) → prepend_known [] known ≡ known
 nothing_before None = refl
@@ -21,19 +31,144 @@ pub fresh_reader : {T A : Type 0} (remaining : T → Option (List ℕ)) (reader 
 fresh_reader remaining reader input inner empty room =
     rw (room, empty, inner) (nothing_before (remaining input))
 
--- how a session ended over a wire
-pub has_ended : (outcome : Result Served SessionError) (number : ℕ) (old new : TokenRecord)
-    (unread rest before after : Option (List ℕ))
-    → IfOk outcome (λ served. Serves served number old new unread rest before after)
-    → IfErr outcome (λ error. Breaks error number old new unread rest before after)
-    → HasEnded outcome number old new unread before after
-has_ended (Ok served) number old new unread rest before after serves breaks = (rest, serves)
-has_ended (Err error) number old new unread rest before after serves breaks = (rest, breaks)
+nothing_read : (unread : Option (List ℕ)) → Consumes unread unread []
+nothing_read None = tt
+nothing_read (Some bytes) = refl
 
--- the same of what the wire was made of
-pub ended_over : (outcome : Result Served SessionError) (number : ℕ) (old new : TokenRecord)
-    (unread was before began after : Option (List ℕ)) → was ≡ unread → began ≡ before
-    → HasEnded outcome number old new was began after → HasEnded outcome number old new unread before after
-ended_over outcome number old new unread was before began after same same_too ended =
-    subst (λ (w : Option (List ℕ)). HasEnded outcome number old new unread w after) same_too
-    (subst (λ (u : Option (List ℕ)). HasEnded outcome number old new u began after) same ended)
+not_begun : (number : ℕ) (client : TokenRecord) (unread before : Option (List ℕ))
+    → HasEnded (Err (record { answered = 0; fault = fault.OutOfMemory })) number client client unread before before
+not_begun number client unread before = (
+  unread,
+  record {
+    text = [];
+    is = record {
+      bytes = [];
+      read = nothing_read unread;
+      requests = [];
+      rest = [];
+      cut = record { joined = refl; each = tt; unfinished = nothing_is_unfinished };
+      between = client;
+      replies = [];
+      answered = refl;
+      count = refl;
+      line = [];
+      breaks = (omega arith, inl refl, refl);
+      told = refl;
+    };
+    written = appends_none before;
+  },
+)
+
+-- nothing was read, written or done
+pub nothing_streamed : (number : ℕ) (client : TokenRecord) (unread before : Option (List ℕ))
+    → HasStreamed number client client unread before before
+    (Err (record { answered = 0; fault = fault.OutOfMemory })) 0
+nothing_streamed number client unread before = record {
+  ended = not_begun number client unread before;
+  events = [];
+  conversed = (false, record { more = []; behind = refl; is = (refl, refl, refl) });
+  told_is = refl;
+}
+
+-- how a session ended over a wire, of which the other bytes are known
+has_ended : (outcome : Result Served SessionError) (number : ℕ) (old new : TokenRecord)
+    (unread was rest before began after now : Option (List ℕ)) → was ≡ unread → began ≡ before → now ≡ after
+    → IfOk outcome (λ served. Serves served number old new was rest began now)
+    → IfErr outcome (λ error. Breaks error number old new was rest began now)
+    → HasEnded outcome number old new unread before after
+has_ended (Ok served) number old new unread was rest before began after now same same_too same_then serves breaks = (
+  rest,
+  subst (λ (w : Option (List ℕ)). Serves served number old new w rest before after) same
+      (subst (λ (w : Option (List ℕ)). Serves served number old new was rest w after) same_too
+      (subst (λ (w : Option (List ℕ)). Serves served number old new was rest began w) same_then serves)),
+)
+has_ended (Err error) number old new unread was rest before began after now same same_too same_then serves breaks = (
+  rest,
+  subst (λ (w : Option (List ℕ)). Breaks error number old new w rest before after) same
+      (subst (λ (w : Option (List ℕ)). Breaks error number old new was rest w after) same_too
+      (subst (λ (w : Option (List ℕ)). Breaks error number old new was rest began w) same_then breaks)),
+)
+
+-- and what went over it
+has_conversed : (outcome : Result Served SessionError) (number : ℕ) (old new : TokenRecord) (before after : List Event)
+    → before ≡ [] → OnOk outcome (Converses true number old new before after [])
+    → IfErr outcome (λ error. ConversesUntil error.fault number old new before after [])
+    → HasConversed outcome number old new [] after
+has_conversed (Ok served) number old new before after none whole part =
+    subst (λ (es : List Event). Converses true number old new es after []) none whole
+has_conversed (Err error) number old new before after none whole part =
+    subst (λ (es : List Event). ConversesUntil error.fault number old new es after []) none part
+
+-- a session over a wire that was made of a reader and a writer
+pub has_streamed : (outcome : Result Served SessionError) (number told : ℕ) (old new : TokenRecord)
+    (unread before after was rest began now : Option (List ℕ)) (start events : List Event) → was ≡ unread
+    → began ≡ before → start ≡ [] → after ≡ now
+    → IfOk outcome (λ served. Serves served number old new was rest began now)
+    → IfErr outcome (λ error. Breaks error number old new was rest began now)
+    → OnOk outcome (Converses true number old new start events [])
+    → IfErr outcome (λ error. ConversesUntil error.fault number old new start events [])
+    → told ≡ most_covered events → HasStreamed number old new unread before after outcome told
+has_streamed outcome number told old new unread before after was rest began now start events same same_too none same_then
+    serves breaks whole part told_is = record {
+      ended = has_ended outcome number old new unread was rest before began after now same same_too (sym same_then) serves
+          breaks;
+      events = events;
+      conversed = has_conversed outcome number old new start events none whole part;
+      told_is = told_is;
+    }
+
+-- and what follows it
+pub served_once : (outcome : Result Served SessionError) (number told : ℕ) (old new : TokenRecord)
+    (unread before after : Option (List ℕ)) (end : SessionEnd)
+    → HasStreamed number old new unread before after outcome told → (end ≡ Last → IsOk outcome)
+    → HasServedOnce number old new end told
+served_once outcome number told old new unread before after end streamed last = inl (
+  record { outcome = outcome; unread = unread; before = before; after = after; events = streamed.events },
+  record { ended = streamed.ended; conversed = streamed.conversed },
+  last,
+  streamed.told_is,
+)
+
+-- the same of the same number
+pub of_number : (was number told : ℕ) (old new : TokenRecord) (end : SessionEnd) → was ≡ number
+    → HasServedOnce was old new end told → HasServedOnce number old new end told
+of_number was number told old new end same once = subst (λ (n : ℕ). HasServedOnce n old new end told) same once
+
+-- no session so far
+pub none_had : (number : ℕ) (old : TokenRecord) → HasHad number old old 0
+none_had number old = record { sessions = []; are = refl; told_is = refl }
+
+-- one more, or none
+pub one_more : (number told more most : ℕ) (old between new : TokenRecord) (end : SessionEnd) → most ≡ max told more
+    → HasHad number old between told → HasServedOnce number between new end more → HasHad number old new most
+one_more number told more most old between new end is had (inl one) = record {
+  sessions = one.0 ∷ had.sessions;
+  are = (between, had.are, one.1);
+  told_is = is ∙ ap (λ (n : ℕ). max n more) had.told_is ∙ ap (λ (n : ℕ). max (most_told had.sessions) n) one.3;
+}
+one_more number told more most old between new end is had (inr none) = record {
+  sessions = had.sessions;
+  are = subst (λ (now : TokenRecord). AreSessions number old had.sessions now) (sym none.1) had.are;
+  told_is = is ∙ ap (λ (n : ℕ). max told n) none.2 ∙ max-zero told ∙ had.told_is;
+}
+
+-- the last of them
+pub left_at_last : (number told more most : ℕ) (old between new : TokenRecord) (end : SessionEnd) → most ≡ max told more
+    → HasHad number old between told → HasServedOnce number between new end more → end ≡ Last
+    → HasLeft number old new (record { was_served = true; told = most })
+left_at_last number told more most old between new end is had (inl one) last = record {
+  sessions = one.0 ∷ had.sessions;
+  are = (between, had.are, one.1);
+  told_is = is ∙ ap (λ (n : ℕ). max n more) had.told_is ∙ ap (λ (n : ℕ). max (most_told had.sessions) n) one.3;
+  ended = λ yes. one.2 last;
+}
+left_at_last number told more most old between new end is had (inr none) last = absurd (none.0 last)
+
+pub left_broken : (number told : ℕ) (old new : TokenRecord) → HasHad number old new told
+    → HasLeft number old new (record { was_served = false; told = told })
+left_broken number told old new had = record {
+  sessions = had.sessions;
+  are = had.are;
+  told_is = had.told_is;
+  ended = λ is. absurd cc;
+}

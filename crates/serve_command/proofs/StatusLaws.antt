@@ -135,6 +135,11 @@ no_words : (status : ℕ) → IsJournalStatus status → status ≢ 2
 no_words status (inl is) two = omega (arith, is, two)
 no_words status (inr is) two = omega (arith, is, two)
 
+-- of the files that are not opened, those that another has are refused alone
+pub is_in_use : (why : OpenError) → file_status why ≡ 1 → why ≡ file.InUse
+is_in_use file.InUse is = refl
+is_in_use (file.Io error) is = absurd (omega (arith, is))
+
 -- what is wrong with a journal is no wrong word
 pub opening_no_words : (why : OpeningFault) → opening_status why ≢ 2
 opening_no_words why = no_words (opening_status why) (of_opening why)

@@ -2,8 +2,9 @@
 //!
 //! ```text
 //! tables ── base_to_serve ─▶ base ── serve_streams ─┬─ one client: standard input and output   (serve_stream)
-//!                                             └─ 1 to 16, each with a thread that opens  (serve_clients)
-//!                                                its OUT and then its IN, again and again where they are kept
+//!                             │               └─ 1 to 16, each with a thread that opens  (serve_clients)
+//!                             │                  its OUT and then its IN, again and again where they are kept
+//! journal's file ── open ─▶ commits ── serve_journaled ── the same clients                 (serve_source)
 //! terminal ── Prompted ─▶ its bytes; a prompt before each wait, and help where it is asked for
 //! ```
 //!
@@ -11,12 +12,17 @@
 //! server, over the base that the texts spell, was served to its end, and the output has all that was told; where the
 //! session broke, what was told before, or a part of that where writing failed (`specs/Sessions.antt`). The server's
 //! history is legal, and all its commits are this client's. That of [`serve_clients`]: with status 0 there was such a
-//! server, and it was closed when all clients had ended. 1 tells of refused data alone, 2 of too many clients alone.
+//! server, each of whose clients had sessions, one after another, the last of which was served to its end; the history
+//! has the commits of these clients and no others. 1 tells of refused data alone, 2 of too many clients alone.
+//!
+//! With a journal (`specs/Journaled.antt`) the history begins with the commits that the journal's file keeps, and each
+//! client has seen them before its first session; and whatever crashes after the run leaves at least as many commits as
+//! any client was told of. That is what its wires passed on, with evidence in hand, and no number of its own.
 //!
 //! What the system opens, and what a terminal shows, is in no contract.
 //!
 //! ```text
-//! let status = serve_clients(rt, settings, tables, files, clients, false, screen);
+//! let status = serve_clients(rt, settings, tables, clients, screen);
 //! ```
 #![tactic(auto)]
 
@@ -30,6 +36,11 @@ mod speakers;
 
 pub use ends::{EndFault, EndPaths, Ends, open_ends, report_no_pipes};
 pub use journal_fault::JournalRefusal;
-pub use journaled::{JournalPlace, serve_clients_journaled, serve_stream_journaled};
+pub use journaled::{
+    ClientsEnd, JournalPlace, JournalSource, JournaledEnd, serve_clients_journaled, serve_source,
+    serve_stream_journaled,
+};
 pub use prompted::Prompted;
-pub use serving::{MOST_CLIENTS, ServeSettings, StreamEnd, serve_clients, serve_stream};
+pub use serving::{
+    MOST_CLIENTS, PathClients, ServeSettings, StreamEnd, serve_clients, serve_stream,
+};

@@ -1,6 +1,7 @@
 //! The word `serve`: clients over the base of five table files.
 
-ghost use Rattle.std.specs.Prelude.{◌≡◌, ◌≢◌, ◌⊎◌, ◌↔◌, ◌<◌, ℕ, List, IfOk, IfErr, OnOk, vec_len};
+ghost use Rattle.std.specs.Prelude.{◌≡◌, ◌≢◌, ◌⊎◌, ◌↔◌, ◌<◌, ℕ, List, IfOk, IfErr, OnOk, IsTrue, vec_len};
+ghost use Rattle.std.specs.List.{list_all};
 ghost use Rattle.std.specs.Option.{option_and_then};
 ghost use Rattle.serve_command.specs.Served.{BreaksAlone, EndsAlone, IsRunOver, ServesAlone, ServesClients};
 ghost use Rattle.serve_command.specs.Status.{serving_status, session_status};
@@ -11,7 +12,7 @@ ghost use Rattle.ssb_text.specs.Load.{AreTexts};
 
 use crate::ends::EndPaths;
 use crate::fault::{NotServed, ServingFault};
-use crate::speakers::{PathClient, StreamClient, StreamLeft, wire_over};
+use crate::speakers::{PathClient, PathLeft, StreamClient, StreamLeft};
 use ssb_files::base_to_serve;
 use ssb_text::Tables;
 use std::alloc::AllocError;
@@ -82,19 +83,18 @@ fn serve_one<R, I: Read + Drop, J: Read + Drop + Send, O: Write + Drop + Send>(
     tables: Tables<I>,
     input: J,
     output: O,
-) -> Result<StreamLeft<J, O, Nothing>, ServingFault>
+) -> Result<StreamLeft<O>, ServingFault>
 where
     R: Threads + Sync + Wait + Clock + AllocGlobal,
     ensures ended { IfOk result (λ left. (texts : Table → List ℕ) → AreTexts I.remaining tables texts
         → EndsAlone left.ended texts settings.dispatchers (J.remaining input) (O.contents output)
-        left.wire.written) }
+        (O.contents left.output)) }
     ensures refused { IfErr result (λ fault. serving_status fault ≡ 1 → (texts : Table → List ℕ)
         → AreTexts I.remaining tables texts → AreRefusedToServe texts) }
     ensures words { IfErr result (λ fault. serving_status fault ≢ 2) }
 {
     let mut speakers = Vec::new(rt.alloc());
-    let wire = wire_over(rt.alloc(), input, output)?;
-    speakers.push(StreamClient { wire })?;
+    speakers.push(StreamClient { input, output })?;
     let run = serve(rt, settings, tables, speakers)?;
     let mut left = run.left;
     let Some(one) = left.pop() else {
@@ -143,9 +143,15 @@ where
 {
     let mut err = io::writer(screen);
     match serve_one(rt, settings, tables, input, output) {
-        Ok(StreamLeft { wire, ended }) => StreamEnd {
+        Ok(
+            StreamLeft {
+                output,
+                ended,
+                told: _,
+            },
+        ) => StreamEnd {
             status: tell_ended(&ended, &mut err),
-            output: Some(wire.into_output()),
+            output: Some(output),
         },
         Err(fault) => StreamEnd {
             status: fault.tell(&mut err),
@@ -154,17 +160,26 @@ where
     }
 }
 
+/// Clients that open their own ends.
+#[derive(Drop)]
+pub struct PathClients<'a, F: Files> {
+    pub files: &'a F,
+    /// Where their ends are.
+    pub ends: Vec<EndPaths>,
+    /// Whether named pipes are opened again for another session.
+    pub keeps: bool,
+}
+
 /// The clients of these ends, numbered from 1.
 pub(crate) fn speakers_of<'a, F: Files + AllocGlobal, E: Print>(
-    files: &'a F,
-    clients: Vec<EndPaths>,
-    keeps: bool,
+    clients: PathClients<'a, F>,
     screen: &'a E,
 ) -> Result<Vec<PathClient<'a, F, E>>, AllocError>
-    ensures { IfOk result (λ speakers. vec_len speakers ≡ vec_len clients) }
+    ensures { IfOk result (λ speakers. vec_len speakers ≡ vec_len clients.entry.ends) }
 {
+    let PathClients { files, ends, keeps } = clients;
     let mut speakers = Vec::new(files.alloc());
-    for paths in clients {
+    for paths in ends {
         let number = speakers.len() as u64 + 1;
         speakers.push(PathClient {
             files,
@@ -177,34 +192,47 @@ pub(crate) fn speakers_of<'a, F: Files + AllocGlobal, E: Print>(
     Ok(speakers)
 }
 
-// Serves the clients to their ends: whether none broke.
+/// Whether each of the clients was served to its end.
+pub(crate) fn were_served(all_left: &[PathLeft]) -> bool
+    ensures { result ≡ list_all (λ left. left.was_served) all_left.now }
+{
+    all_left.iter().all(|left| left.was_served)
+}
+
+/// The exit status of clients, each of whom was served to its end, or not.
+pub(crate) fn clients_status(all_served: bool) -> u8
+    ensures served { result ≡ 0 → IsTrue all_served }
+    ensures others { result ≢ 0 → result ≡ 4 }
+{
+    if all_served { 0 } else { 4 }
+}
+
+// Serves the clients: whether each was served to its end.
 fn serve_all<R, F: Files + Sync + AllocGlobal, I: Read + Drop, E: Print + Sync>(
     rt: &R,
     settings: ServeSettings,
     tables: Tables<I>,
-    files: &F,
-    clients: Vec<EndPaths>,
-    keeps: bool,
+    clients: PathClients<'_, F>,
     screen: &E,
 ) -> Result<bool, ServingFault>
 where
     R: Threads + Sync + Wait + Clock + AllocGlobal,
     F::File: Send,
     F::Dir: Send,
-    ensures served { OnOk result ((texts : Table → List ℕ) → AreTexts I.remaining tables texts
-        → ServesClients texts (vec_len clients)) }
-    ensures counts { OnOk result (AreCounts (vec_len clients) settings.dispatchers) }
+    ensures served { IfOk result (λ were_served. IsTrue were_served → (texts : Table → List ℕ)
+        → AreTexts I.remaining tables texts → ServesClients texts (vec_len clients.entry.ends) settings.dispatchers) }
+    ensures counts { OnOk result (AreCounts (vec_len clients.entry.ends) settings.dispatchers) }
     ensures refused { IfErr result (λ fault. serving_status fault ≡ 1 → (texts : Table → List ℕ)
         → AreTexts I.remaining tables texts → AreRefusedToServe texts) }
     ensures words { IfErr result (λ fault. serving_status fault ≢ 2) }
 {
-    let speakers = speakers_of(files, clients, keeps, screen)?;
+    let speakers = speakers_of(clients, screen)?;
     let run = serve(rt, settings, tables, speakers)?;
-    Ok(run.left.iter().all(|left| left.was_served))
+    Ok(were_served(&run.left))
 }
 
 /// Serves 1 to 16 clients at once over the base that the tables spell, each over its own two ends, which its thread
-/// opens. A client's faults are lines to the screen when they come, and end that client alone. Where `keeps` says so, a
+/// opens. A client's faults are lines to the screen when they come, and end that client alone. Where they are kept, a
 /// client's named pipes are opened again for its next session.
 ///
 /// The result is the exit status: 0 where all clients were served to their ends, 1 where the data is refused, 2 where
@@ -213,9 +241,7 @@ pub fn serve_clients<R, F: Files + Sync + AllocGlobal, I: Read + Drop, E: Print 
     rt: &R,
     settings: ServeSettings,
     tables: Tables<I>,
-    files: &F,
-    clients: Vec<EndPaths>,
-    keeps: bool,
+    clients: PathClients<'_, F>,
     screen: &E,
 ) -> u8
 where
@@ -223,20 +249,19 @@ where
     F::File: Send,
     F::Dir: Send,
     ensures served { result ≡ 0 → (texts : Table → List ℕ) → AreTexts I.remaining tables texts
-        → ServesClients texts (vec_len clients) }
-    ensures counts { result ≡ 0 → AreCounts (vec_len clients) settings.dispatchers }
+        → ServesClients texts (vec_len clients.entry.ends) settings.dispatchers }
+    ensures counts { result ≡ 0 → AreCounts (vec_len clients.entry.ends) settings.dispatchers }
     ensures refused { result ≡ 1 → (texts : Table → List ℕ) → AreTexts I.remaining tables texts
         → AreRefusedToServe texts }
-    ensures many { (result ≡ 2) ↔ (16 < vec_len clients) }
+    ensures many { (result ≡ 2) ↔ (16 < vec_len clients.entry.ends) }
     ensures others { result ≢ 0 → result ≢ 1 → result ≢ 2 → result ≡ 4 }
 {
     let mut err = io::writer(screen);
-    if clients.len() > MOST_CLIENTS {
+    if clients.ends.len() > MOST_CLIENTS {
         return ServingFault::Found(NotServed::TooManyClients).tell(&mut err);
     }
-    match serve_all(rt, settings, tables, files, clients, keeps, screen) {
-        Ok(true) => 0,
-        Ok(false) => 4,
+    match serve_all(rt, settings, tables, clients, screen) {
+        Ok(all_served) => clients_status(all_served),
         Err(fault) => fault.tell(&mut err),
     }
 }

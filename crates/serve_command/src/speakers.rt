@@ -1,16 +1,14 @@
 //! The clients: each opens its ends, is served its sessions, and tells what broke them.
 
-ghost use Rattle.std.specs.Prelude.{◌≡◌, [], ℕ, false, IfOk, IsTrue};
+ghost use Rattle.std.specs.Prelude.{◌≡◌, ℕ, false, IsOk, IsTrue};
 ghost use Rattle.std.specs.Option.{is_some};
 ghost use Rattle.history.specs.Members.{number_of};
-ghost use Rattle.serve_command.specs.Sessions.{HasEnded};
+ghost use Rattle.serve_command.specs.Sessions.{HasLeft, HasServedOnce, HasStreamed};
 ghost use Rattle.ssb_serving.specs.Steps.{AreAlike};
-ghost use Rattle.stream_sessions.specs.Conversation.{ConversesInPart};
-ghost use Rattle.stream_sessions.specs.Events.{most_covered};
 
 use crate::ends::{EndFault, EndPaths, Ends, open_ends};
 use ssb_server::{Client, Server};
-use std::alloc::{AllocError, Global};
+use std::alloc::Global;
 use std::io::{BufReader, Print, Read, Write};
 use std::rt::Files;
 use std::sync::Wait;
@@ -27,62 +25,92 @@ const READ_AHEAD: usize = 65_536;
 // How many milliseconds a client's pipes stay closed between two sessions, so that who read the first one sees its end.
 const BETWEEN_SESSIONS: u64 = 50;
 
-/// A client over a wire whose ends are open.
+/// A client whose ends are open: what it is read from, and what it is answered to.
 #[derive(Drop)]
-pub struct StreamClient<I: Read + Drop, O: Write + Drop, E> {
-    pub wire: Wire<I, O, E>,
+pub struct StreamClient<I: Read + Drop, O: Write + Drop> {
+    pub input: I,
+    pub output: O,
 }
 
-/// What such a client leaves: the wire, and how its session ended.
+/// What such a client leaves: what it was answered to, how its session ended, and of how many commits that told at
+/// most.
 #[derive(Drop)]
-pub struct StreamLeft<I: Read + Drop, O: Write + Drop, E> {
-    pub wire: Wire<I, O, E>,
+pub struct StreamLeft<O: Write + Drop> {
+    pub output: O,
     pub ended: Result<Served, SessionError>,
+    pub told: u64,
 }
 
-/// A wire over a reader and a writer, that nothing went over.
-pub(crate) fn wire_over<I: Read + Drop, O: Write + Drop, E: Evidence>(
+// Serves a session to a client whose ends are open, and closes the one that is read.
+fn serve_over<
+    W: Wait + Drop,
+    R: Wait,
+    I: Read + Drop,
+    O: Write + Drop,
+    Y: Evidence,
+    K: Acknowledges<Y>,
+>(
+    rt: &R,
     alloc: Global,
-    input: I,
-    output: O,
-) -> Result<Wire<I, O, E>, AllocError>
-    ensures unread { IfOk result (λ wire. wire.unread ≡ I.remaining input) }
-    ensures written { IfOk result (λ wire. wire.written ≡ O.contents output) }
-    ensures events { IfOk result (λ wire. wire.events ≡ []) }
+    acknowledger: &K,
+    server: &Server<W>,
+    client: &mut Client<W>,
+    ends: StreamClient<I, O>,
+) -> StreamLeft<O>
+    requires table { client.old.table ≡ server.now }
+    requires quiet { is_some client.old.asked ≡ false }
+    ensures same { AreAlike client.old client.new }
+    ensures streamed { HasStreamed (number_of client.old.who) client.old client.new (I.remaining ends.input)
+        (O.contents ends.output) (O.contents result.output) result.ended result.told }
 {
-    match BufReader::with_capacity(alloc, READ_AHEAD, input) {
-        Ok(input) => Ok(Wire::new(input, output)),
-        Err(_) => Err(AllocError),
+    let StreamClient { input, output } = ends;
+    let input = match BufReader::with_capacity(alloc, READ_AHEAD, input) {
+        Ok(input) => input,
+        Err(_) => {
+            return StreamLeft {
+                output,
+                ended: Err(SessionError {
+                    answered: 0,
+                    fault: SessionFault::OutOfMemory,
+                }),
+                told: 0,
+            };
+        }
+    };
+    let mut wire: Wire<I, O, Y> = Wire::new(input, output);
+    let ended = serve_session(rt, alloc, acknowledger, server, client, &mut wire);
+    let told = wire.told();
+    let output = wire.into_output();
+    StreamLeft {
+        output,
+        ended,
+        told,
     }
 }
 
-impl<I: Read + Drop, O: Write + Drop, E: Evidence> Speaker for StreamClient<I, O, E> {
-    type Left = StreamLeft<I, O, E>;
+impl<I: Read + Drop, O: Write + Drop> Speaker for StreamClient<I, O> {
+    type Left = StreamLeft<O>;
 
-    // How the session ended, and that what went over the wire is a conversation.
-    ghost spoken = { λ speaker old new left. HasEnded left.ended (number_of old.who) old new speaker.wire.unread
-        speaker.wire.written left.wire.written
-        × ConversesInPart (number_of old.who) old new speaker.wire.events left.wire.events };
+    ghost spoken = { λ speaker old new left. HasStreamed (number_of old.who) old new (I.remaining speaker.input)
+        (O.contents speaker.output) (O.contents left.output) left.ended left.told };
 
-    ghost told = { λ left. most_covered left.wire.events };
+    ghost told = { λ left. left.told };
 
-    fn commits_told(left: &StreamLeft<I, O, E>) -> u64 {
-        left.wire.told()
+    fn commits_told(left: &StreamLeft<O>) -> u64 {
+        left.told
     }
 }
 
-impl<R: Wait, I: Read + Drop, O: Write + Drop, E: Evidence> Speaks<R, E> for StreamClient<I, O, E> {
-    fn speak<W: Wait + Drop, K: Acknowledges<E>>(
+impl<R: Wait, I: Read + Drop, O: Write + Drop, Y: Evidence> Speaks<R, Y> for StreamClient<I, O> {
+    fn speak<W: Wait + Drop, K: Acknowledges<Y>>(
         self,
         rt: &R,
         alloc: Global,
         acknowledger: &K,
         server: &Server<W>,
         client: &mut Client<W>,
-    ) -> StreamLeft<I, O, E> {
-        let StreamClient { mut wire } = self;
-        let ended = serve_session(rt, alloc, acknowledger, server, client, &mut wire);
-        StreamLeft { wire, ended }
+    ) -> StreamLeft<O> {
+        serve_over::<W, R, I, O, Y, K>(rt, alloc, acknowledger, server, client, self)
     }
 }
 
@@ -132,8 +160,34 @@ impl<'a, F: Files, E: Print> PathClient<'a, F, E> {
         let _ = writeln!(screen, "ssb_live: client {}: {fault}", self.number);
     }
 
-    // Opens the ends, and serves a session over them. The end that is read is closed first. It tells of how many commits
-    // was told, too.
+    // What follows a session that ended so. Its fault is told, but for that of a journal: it is told once, and not by
+    // each client.
+    fn end_of(
+        &self,
+        ended: Result<Served, SessionError>,
+        comes_again: bool,
+        has_failed: bool,
+    ) -> SessionEnd
+        ensures last { result ≡ SessionEnd.Last → IsOk ended }
+        ensures again { result ≡ SessionEnd.Again → IsTrue comes_again }
+    {
+        match ended {
+            Ok(_) if comes_again => SessionEnd::Again,
+            Ok(_) => SessionEnd::Last,
+            Err(_) if has_failed => SessionEnd::Broken,
+            Err(error) => {
+                self.tell(&ClientFault::Session(error.fault));
+                if comes_again {
+                    SessionEnd::Again
+                } else {
+                    SessionEnd::Broken
+                }
+            }
+        }
+    }
+
+    // Opens the ends, and serves a session over them. The end that is read is closed first. It tells of how many
+    // commits was told, too.
     fn serve_once<W: Wait + Drop, R: Wait, Y: Evidence, K: Acknowledges<Y>>(
         &self,
         rt: &R,
@@ -145,6 +199,7 @@ impl<'a, F: Files, E: Print> PathClient<'a, F, E> {
         requires table { client.old.table ≡ server.now }
         requires quiet { is_some client.old.asked ≡ false }
         ensures same { AreAlike client.old client.new }
+        ensures served { HasServedOnce (number_of client.old.who) client.old client.new result.0 result.1 }
         ensures keeps { result.0 ≡ SessionEnd.Again → IsTrue self.now.keeps }
     {
         let ends = match open_ends(self.files, &self.paths) {
@@ -156,38 +211,26 @@ impl<'a, F: Files, E: Print> PathClient<'a, F, E> {
         };
         let comes_again = self.keeps && ends.are_named_pipes();
         let Ends { input, output } = ends;
-        let (ended, told) = match wire_over::<F::File, F::File, Y>(alloc, input, output) {
-            Ok(mut wire) => {
-                let ended = serve_session(rt, alloc, acknowledger, server, client, &mut wire);
-                (ended, wire.told())
-            }
-            Err(_) => (
-                Err(SessionError {
-                    answered: 0,
-                    fault: SessionFault::OutOfMemory,
-                }),
-                0,
-            ),
-        };
-        let end = match ended {
-            Ok(_) if comes_again => SessionEnd::Again,
-            Ok(_) => SessionEnd::Last,
-            // It is told once, and not by each client.
-            Err(_) if acknowledger.has_failed() => SessionEnd::Broken,
-            Err(error) => {
-                self.tell(&ClientFault::Session(error.fault));
-                if comes_again {
-                    SessionEnd::Again
-                } else {
-                    SessionEnd::Broken
-                }
-            }
-        };
+        let ends = StreamClient { input, output };
+        let StreamLeft {
+            output: _,
+            ended,
+            told,
+        } = serve_over::<W, R, F::File, F::File, Y, K>(
+            rt,
+            alloc,
+            acknowledger,
+            server,
+            client,
+            ends,
+        );
+        let end = self.end_of(ended, comes_again, acknowledger.has_failed());
         (end, told)
     }
 }
 
-/// What such a client leaves: whether it was served to its end, and of how many commits its sessions told at most.
+/// What such a client leaves: whether its last session was served to its end, and of how many commits its sessions told
+/// at most.
 #[derive(Clone, Copy, Debug, PartialEq, Eq)]
 pub struct PathLeft {
     pub was_served: bool,
@@ -197,8 +240,8 @@ pub struct PathLeft {
 impl<'a, F: Files, E: Print> Speaker for PathClient<'a, F, E> {
     type Left = PathLeft;
 
-    // What the system opens, and so what was read and written, is in no contract.
-    ghost spoken = { λ _ old new _. AreAlike old new };
+    // The sessions that the client had, over whatever ends the system opened.
+    ghost spoken = { λ _ old new left. HasLeft (number_of old.who) old new left };
 
     ghost told = { λ left. left.told };
 
@@ -216,24 +259,26 @@ impl<'a, R: Wait + Clock, F: Files, E: Print, Y: Evidence> Speaks<R, Y> for Path
         server: &Server<W>,
         client: &mut Client<W>,
     ) -> PathLeft {
-        let mut told = 0;
+        let mut told: u64 = 0;
         for _ in rt.forever() {
             let (end, now) = self.serve_once(rt, alloc, acknowledger, server, client);
-            if told < now {
-                told = now;
-            }
+            told = told.max(now);
             match end {
                 SessionEnd::Again => {
                     thread::sleep(rt, Duration::from_millis(BETWEEN_SESSIONS));
-                },
-                SessionEnd::Last => return PathLeft {
-                    was_served: true,
-                    told,
-                },
-                SessionEnd::Broken => return PathLeft {
-                    was_served: false,
-                    told,
-                },
+                }
+                SessionEnd::Last => {
+                    return PathLeft {
+                        was_served: true,
+                        told,
+                    };
+                }
+                SessionEnd::Broken => {
+                    return PathLeft {
+                        was_served: false,
+                        told,
+                    };
+                }
             }
         }
         unreachable!()

@@ -1,9 +1,52 @@
-use Rattle.std.proofs.Common.{◌≡◌, rules}
-use Rattle.serve_command.proofs.JournaledLaws.{goes_on_over}
+use Rattle.std.proofs.Common.{◌≡◌, Err, List, ℕ, arith, inl, inr, rules}
+use Rattle.serve_command.proofs.JournaledLaws.{goes_on_over, refuses_journal}
+use Rattle.serve_command.specs.Journaled.{AreRefusedJournaled}
+use Rattle.serve_command.specs.Status.{journal_status}
+use Rattle.ssb_files.specs.Status.{job_status}
+use Rattle.ssb_files.specs.declared.fault.Fault.TheVariants as common
+use Rattle.ssb_files.specs.declared.job.JobFault.TheVariants.{Program}
+use Rattle.ssb_schema.specs.declared.table.Table.{Table}
+use Rattle.ssb_text.specs.Load.{AreTexts}
 use Rattle.serve_command.proofs.journaled.serve.Goals as goal
 
-pub returns-in-Ok-serve_disk-clause-served : goal.returns-in-Ok-serve_disk-clause-served
-returns-in-Ok-serve_disk-clause-served g c = λ texts are.
+pub returns-in_err-base-clause-refused : goal.returns-in_err-base-clause-refused
+returns-in_err-base-clause-refused g c =
+    let is : c.from_residual.result ≡ Err (Program c.in_err-base.field-0.0) = search rules in
+    let here : job_status journal_status (Program c.in_err-base.field-0.0) ≡ 1 → (texts : Table → List ℕ)
+    → AreTexts g.I.Read.remaining c.args.tables texts
+    → AreRefusedJournaled texts (g.P.OpensJournal.holds c.args.place.now.file.now)
+    (g.P.OpensJournal.is_taken c.args.place.now.file.now)
+    = λ status texts are. inl (c.in_err-base.ensures.data status texts are) in
+    rw is here
+
+pub returns-in_err-base-2-clause-refused : goal.returns-in_err-base-2-clause-refused
+returns-in_err-base-2-clause-refused g c =
+    let is : c.from_residual-in_err-base-2.result ≡ Err (Program common.OutOfMemory) = search rules in
+    let here : job_status journal_status (Program common.OutOfMemory) ≡ 1 → (texts : Table → List ℕ)
+    → AreTexts g.I.Read.remaining c.args.tables texts
+    → AreRefusedJournaled texts (g.P.OpensJournal.holds c.args.place.now.file.now)
+    (g.P.OpensJournal.is_taken c.args.place.now.file.now)
+    = λ status texts are. absurd (omega (arith, status)) in
+    rw is here
+
+pub returns-in_err-disk-clause-refused : goal.returns-in_err-disk-clause-refused
+returns-in_err-disk-clause-refused g c =
+    let is : c.from_residual-in_err-disk.result ≡ Err c.in_err-disk.field-0.0 = search rules in
+    let here : job_status journal_status c.in_err-disk.field-0.0 ≡ 1 → (texts : Table → List ℕ)
+    → AreTexts g.I.Read.remaining c.args.tables texts
+    → AreRefusedJournaled texts (g.P.OpensJournal.holds c.args.place.now.file.now)
+    (g.P.OpensJournal.is_taken c.args.place.now.file.now)
+    = λ status texts are. inr (inl (c.in_err-disk.ensures.taken status)) in
+    rw is here
+
+pub returns-in-Ok-clause-served : goal.returns-in-Ok-clause-served
+returns-in-Ok-clause-served g c = λ texts are.
     let same : c.in_ok-base-2.base.value ≡ c.in_ok-base.base = search rules in
-    goes_on_over g.S.Speaker.spoken texts _ _ _ _ _ same (c.in_ok-base.ensures.base texts are)
-    c.in-Ok-serve_disk.ensures.served
+    goes_on_over g.S.Speaker.spoken texts _ _ _ _ _ _ _ _ _ same (c.in_ok-base.ensures.base texts are)
+    c.table_sizes-sizes.ensures c.in_ok-disk.ensures.held c.in-Ok.ensures.served
+
+pub returns-in-Err-clause-refused : goal.returns-in-Err-clause-refused
+returns-in-Err-clause-refused g c = λ status texts are.
+    let same : c.in_ok-base-2.base.value ≡ c.in_ok-base.base = search rules in
+    inr (inr (refuses_journal texts _ _ _ _ _ same (c.in_ok-base.ensures.base texts are) c.table_sizes-sizes.ensures
+    c.in_ok-disk.ensures.held (c.in-Err.ensures.refused status)))

@@ -2,6 +2,10 @@ use Rattle.std.proofs.Common.{◌∙◌, sym}
 use Rattle.serve_command.proofs.StatusLaws.{serving_failed, serving_told}
 use Rattle.serve_command.proofs.serving.serve_clients.Goals as goal
 
+pub returns-in-Ok-clause-served : goal.returns-in-Ok-clause-served
+returns-in-Ok-clause-served g c = λ status texts are.
+    c.in-Ok.ensures.served (c.clients_status.ensures.served status) texts are
+
 pub returns-in-Err-clause-served : goal.returns-in-Err-clause-served
 returns-in-Err-clause-served g c = λ status. absurd (serving_told _ (sym c.tell-in-Err.ensures ∙ status))
 

@@ -5,20 +5,11 @@ use Rattle.ssb_files.specs.declared.job.JobFault.TheVariants.{Program}
 use Rattle.ssb_schema.specs.declared.table.Table.{Table}
 use Rattle.ssb_text.specs.Load.{AreTexts}
 use Rattle.serve_command.specs.Status.{serving_status}
-use Rattle.serve_command.proofs.ServedLaws.{first_pushed, is_alone, only_popped}
-use Rattle.serve_command.proofs.SessionLaws.{ended_over}
+use Rattle.serve_command.proofs.ServedLaws.{ends_alone, first_pushed, is_alone, only_popped}
 use Rattle.serve_command.proofs.serving.serve_one.Goals as goal
 
 pub returns-in_err-push-clause-refused : goal.returns-in_err-push-clause-refused
 returns-in_err-push-clause-refused g c =
-    let is : c.from_residual-in_err-push.result ≡ Err (Program common.OutOfMemory) = search rules in
-    let here : serving_status (Program common.OutOfMemory) ≡ 1 → (texts : Table → List ℕ)
-    → AreTexts g.I.Read.remaining c.args.tables texts → AreRefusedToServe texts
-    = λ status texts are. absurd (omega (arith, status)) in
-    rw is here
-
-pub returns-in_err-wire-clause-refused : goal.returns-in_err-wire-clause-refused
-returns-in_err-wire-clause-refused g c =
     let is : c.from_residual.result ≡ Err (Program common.OutOfMemory) = search rules in
     let here : serving_status (Program common.OutOfMemory) ≡ 1 → (texts : Table → List ℕ)
     → AreTexts g.I.Read.remaining c.args.tables texts → AreRefusedToServe texts
@@ -41,9 +32,5 @@ returns-clause-ended g c = λ texts are.
       c.new-speakers.ensures.len,
     ) in
     let popped = only_popped _ _ _ c.in-Some.ensures.items count in
-    let alone = is_alone _ texts _ _ _ _ _ _ (c.in_ok-run.ensures.run texts are) pushed popped in record {
-      table = alone.table;
-      client = alone.client;
-      only = alone.only;
-      ended = ended_over _ _ _ _ _ _ _ _ _ c.in_ok-wire.ensures.unread c.in_ok-wire.ensures.written alone.spoken.0;
-    }
+    let alone = is_alone _ texts _ _ _ _ _ _ (c.in_ok-run.ensures.run texts are) pushed popped in
+    ends_alone _ texts _ _ _ _ _ alone.table alone.client alone.only alone.spoken
