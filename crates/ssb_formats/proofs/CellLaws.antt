@@ -1,27 +1,6 @@
 -- Items with that of the sum at its place, and lists that grow by one item.
-use Rattle.std.proofs.Common.{
-  ◌≡◌,
-  ℕ,
-  ◌+◌,
-  ◌<◌,
-  Bool,
-  true,
-  false,
-  List,
-  [],
-  ◌∷◌,
-  ◌++◌,
-  length,
-  take,
-  get_or,
-  map,
-  refl,
-  sym,
-  ◌∙◌,
-  ap,
-  if◌then◌else◌,
-}
-use Rattle.std.proofs.lemmas.List.{map-append, take_more}
+use Rattle.std.proofs.Common.{◌≡◌, Bool, true, false, List, [], ◌∷◌, ◌++◌, map, refl, if◌then◌else◌}
+use Rattle.std.proofs.lemmas.List.{map-append}
 use Rattle.ssb_formats.specs.Cells.{in_place}
 use Rattle.ssb_questions.specs.Query.{sum_first}
 use Rattle.ssb_questions.specs.declared.query.Query.{Query}
@@ -37,10 +16,6 @@ pub map_in_place : {X Y : Type 0} (f : X → Y) (query : Query) (sum : X) (items
     → map f (in_place query sum items) ≡ in_place query (f sum) (map f items)
 map_in_place f query sum items = map_placed f (sum_first query) sum items
 
--- a list that is made of the first items of another, and the next
-pub map_more : {X Y Z : Type 0} (f : X → Z) (g : Y → Z) (xs : List X) (x : X) (ys : List Y) (i : ℕ) (d : Y)
-    → i < length ys → map f xs ≡ map g (take i ys) → f x ≡ g (get_or ys i d)
-    → map f (xs ++ x ∷ []) ≡ map g (take (i + 1) ys)
-map_more f g xs x ys i d within so_far one =
-    map-append f xs (x ∷ []) ∙ ap (λ t. t ++ f x ∷ []) so_far ∙ ap (λ z. map g (take i ys) ++ z ∷ []) one
-    ∙ sym (ap (map g) (take_more ys i d within) ∙ map-append g (take i ys) (get_or ys i d ∷ []))
+-- what is made of a list and one item more
+pub map_push : {X Y : Type 0} (f : X → Y) (xs : List X) (x : X) → map f (xs ++ x ∷ []) ≡ map f xs ++ f x ∷ []
+map_push f xs x = map-append f xs (x ∷ [])

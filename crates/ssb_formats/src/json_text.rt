@@ -33,6 +33,7 @@ fn sum_json(sum: Option<i64>) -> Json
     }
 }
 
+#[tactic(auto, using(crate::proofs::CellLaws::map_push))]
 fn values_json(alloc: Global, values: &[Value]) -> Result<Vec<Json>, AllocError>
     ensures { IfOk result (λ list. map view list.items ≡ map value_data values.now) }
 {
@@ -43,6 +44,7 @@ fn values_json(alloc: Global, values: &[Value]) -> Result<Vec<Json>, AllocError>
     Ok(list)
 }
 
+#[tactic(auto, using(crate::proofs::CellLaws::map_push))]
 fn texts_json(alloc: Global, texts: &[Text]) -> Result<Vec<Json>, AllocError>
     ensures { IfOk result (λ list. map view list.items ≡ map text_data texts.now) }
 {
@@ -56,10 +58,14 @@ fn texts_json(alloc: Global, texts: &[Text]) -> Result<Vec<Json>, AllocError>
 fn row_json(alloc: Global, query: Query, row: &ResultRow) -> Result<Json, AllocError>
     ensures { IfOk result (λ json. view json ≡ row_data query row.now) }
 {
-    let values = values_json(alloc, row.groups.as_slice())?;
-    Ok(Json::Array(with_sum(query, sum_json(row.sum), values)?))
+    let groups = row.groups.as_slice();
+    let values = values_json(alloc, groups)?;
+    let sum = sum_json(row.sum);
+    let list = with_sum(query, sum, values)?;
+    Ok(Json::Array(list))
 }
 
+#[tactic(auto, using(crate::proofs::CellLaws::map_push))]
 fn rows_json(alloc: Global, query: Query, rows: &[ResultRow]) -> Result<Vec<Json>, AllocError>
     ensures { IfOk result (λ list. map view list.items ≡ map (row_data query) rows.now) }
 {
@@ -128,7 +134,8 @@ fn answer_json(alloc: Global, answer: &Answer) -> Result<Json, AllocError>
 pub(crate) fn json_text(alloc: Global, answer: &Answer) -> Result<Vec<u8>, AllocError>
     ensures { IfOk result (λ text. text.items ≡ json_text answer.now) }
 {
-    let mut text = answer_json(alloc, answer)?.to_vec(alloc)?;
+    let json = answer_json(alloc, answer)?;
+    let mut text = json.to_vec(alloc)?;
     text.push(b'\n')?;
     Ok(text)
 }
