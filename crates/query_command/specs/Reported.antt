@@ -50,8 +50,8 @@ pub record HaveAnswers (texts : Table → List ℕ) (questions : List (Query × 
   pub spelled : SpellsBase texts base
   pub are : answers ≡ map (λ question. opening_answer base question) questions
 
--- known bytes grow by the answer to the question that the name and the words ask, over the base that the texts spell, in
--- the format
+-- known bytes grow by the answer to the question that the name and the words ask, over the base that the texts spell,
+-- in the format
 pub record Reports (format : Format) (texts : Table → List ℕ) (name : List ℕ) (words : List (List ℕ))
     (old new : Option (List ℕ)) : Type 0 where
   pub question : Query × List Value

@@ -1,6 +1,6 @@
 -- An answer as a JSON object on a line.
 use Rattle.std.specs.Prelude.{ℕ, ℤ, List, ◌++◌, map, codes, Option, Some, None}
-use Rattle.serde_json.specs.Data.{Data, null, number, unsigned, string, array, object, Items, member, no_members}
+use Rattle.serde_json.specs.Data.{Data, null, number, unsigned, string, array, object, member, no_members}
 use Rattle.serde_json.specs.Find.{of_integer}
 use Rattle.serde_json.specs.View.{items_of}
 use Rattle.serde_json.specs.Written.{compact_text}
@@ -36,15 +36,23 @@ list_data list = array (items_of list)
 abbrev pub row_data : Query → ResultRow → Data
 row_data query row = list_data (in_place query (sum_data row.sum) (map value_data row.groups))
 
+-- the members of an answer with rows, in the order of their names
+abbrev pub served_data : List ℕ → ℕ → Data → Data → Data → Data
+served_data name at columns constants rows =
+    object
+    (member (codes "at") (number (unsigned at))
+    (member (codes "columns") columns
+    (member (codes "constants") constants
+    (member (codes "query") (text_data name)
+    (member (codes "rows") rows no_members)))))
+
 -- the rows that answer a question after so many commits, with the heads of their columns
 abbrev pub rows_data : Query × List Value → ℕ → List ResultRow → Data
 rows_data question at rows =
-    object
-    (member (codes "at") (number (unsigned at))
-    (member (codes "columns") (list_data (map text_data (heads_of question.0 (plan_over question.0 question.1))))
-    (member (codes "constants") (list_data (map value_data question.1))
-    (member (codes "query") (text_data (name_of question.0))
-    (member (codes "rows") (list_data (map (row_data question.0) rows)) no_members)))))
+    served_data (name_of question.0) at
+    (list_data (map text_data (heads_of question.0 (plan_over question.0 question.1))))
+    (list_data (map value_data question.1))
+    (list_data (map (row_data question.0) rows))
 
 -- why there are no rows
 abbrev pub cause_name : Unserved → List ℕ

@@ -1,6 +1,6 @@
 //! Answers, written in a format.
 
-ghost use Rattle.std.specs.Prelude.{◌≡◌, IfOk, MatchOption, MatchResult, flat_map, is_err};
+ghost use Rattle.std.specs.Prelude.{◌≡◌, ◌∷◌, IfOk, MatchOption, MatchResult, flat_map, is_err};
 ghost use Rattle.std.specs.Io.KnownBytes.{Appends};
 ghost use Rattle.ssb_formats.specs.Formats.{Shows, answers_shown, next_shown, parting, shown};
 ghost use Rattle.ssb_report.specs.AnswerText.{answer_text};
@@ -69,6 +69,12 @@ fn outcome(written: Result<(), WriteFault>) -> Result<(), FormatFault>
     }
 }
 
+fn write_text<W: Write>(writer: &mut W, text: &[u8]) -> Result<(), FormatFault>
+    ensures { Shows (W.contents writer.old) (W.contents writer.new) result text.now }
+{
+    outcome(write_bytes(writer, text))
+}
+
 fn write_shown<W: Write>(
     alloc: Global,
     writer: &mut W,
@@ -78,10 +84,16 @@ fn write_shown<W: Write>(
     ensures { Shows (W.contents writer.old) (W.contents writer.new) result (shown format answer.now) }
 {
     match text_of(alloc, format, answer) {
-        Ok(Some(text)) => outcome(write_bytes(writer, text.as_slice())),
+        Ok(Some(text)) => write_text(writer, text.as_slice()),
         Ok(None) => outcome(write_answer(writer, answer)),
         Err(_) => Err(FormatFault::OutOfMemory),
     }
+}
+
+fn write_parting<W: Write>(writer: &mut W, format: Format) -> Result<(), FormatFault>
+    ensures { Shows (W.contents writer.old) (W.contents writer.new) result (parting format) }
+{
+    write_text(writer, format.parting().as_bytes())
 }
 
 // An answer behind another.
@@ -93,7 +105,7 @@ fn write_next<W: Write>(
 ) -> Result<(), FormatFault>
     ensures { Shows (W.contents writer.old) (W.contents writer.new) result (next_shown format answer.now) }
 {
-    outcome(write_bytes(writer, format.parting().as_bytes()))?;
+    write_parting(writer, format)?;
     write_shown(alloc, writer, format, answer)
 }
 
@@ -112,6 +124,20 @@ fn write_others<W: Write>(
     Ok(())
 }
 
+fn write_first_and_others<W: Write>(
+    alloc: Global,
+    writer: &mut W,
+    format: Format,
+    first: &Answer,
+    others: &[Answer],
+) -> Result<(), FormatFault>
+    ensures { Shows (W.contents writer.old) (W.contents writer.new) result
+        (answers_shown format (first.now ∷ others.now)) }
+{
+    write_shown(alloc, writer, format, first)?;
+    write_others(alloc, writer, format, others)
+}
+
 /// Writes answers in a format, one after another. The memory that it takes is that of the text of one answer; the
 /// report takes none.
 pub fn write_formatted<W: Write>(
@@ -126,9 +152,6 @@ pub fn write_formatted<W: Write>(
 {
     match answers {
         [] => Ok(()),
-        [first, others @ ..] => {
-            write_shown(alloc, writer, format, first)?;
-            write_others(alloc, writer, format, others)
-        }
+        [first, others @ ..] => write_first_and_others(alloc, writer, format, first, others),
     }
 }

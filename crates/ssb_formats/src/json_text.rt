@@ -1,15 +1,12 @@
 //! An answer as a JSON object on a line.
 
-ghost use Rattle.std.specs.Prelude.{◌≡◌, ◌++◌, IfOk, map, string_bytes};
+ghost use Rattle.std.specs.Prelude.{◌≡◌, IfOk, map};
 ghost use Rattle.serde_json.specs.View.{view};
-ghost use Rattle.ssb_formats.specs.Cells.{heads_of, in_place};
-ghost use Rattle.ssb_formats.specs.JsonText.{answer_data, cause_name, json_text, list_data, row_data, rows_data};
+ghost use Rattle.ssb_formats.specs.JsonText.{answer_data, cause_name, json_text, row_data, rows_data, served_data};
 ghost use Rattle.ssb_formats.specs.JsonText.{sum_data, text_data, unserved_data, value_data};
-ghost use Rattle.ssb_questions.specs.Queries.{plan_over};
-ghost use Rattle.ssb_schema.specs.Columns.{column_name};
 
 use crate::cells::{head_cells, with_sum};
-use serde_json::{Value as Json, json};
+use serde_json::{Map, Value as Json, json, put};
 use ssb_answers::{Answer, ResultRow, Unserved};
 use ssb_questions::{Query, Question, Value, question};
 use ssb_schema::Text;
@@ -62,7 +59,8 @@ fn row_json(alloc: Global, query: Query, row: &ResultRow) -> Result<Json, AllocE
     let values = values_json(alloc, groups)?;
     let sum = sum_json(row.sum);
     let list = with_sum(query, sum, values)?;
-    Ok(Json::Array(list))
+    let json = Json::from(list);
+    Ok(json)
 }
 
 #[tactic(auto, using(crate::proofs::CellLaws::map_push))]
@@ -74,6 +72,32 @@ fn rows_json(alloc: Global, query: Query, rows: &[ResultRow]) -> Result<Vec<Json
         list.push(row_json(alloc, query, row)?)?;
     }
     Ok(list)
+}
+
+// The members of an answer with rows.
+fn served_object(
+    alloc: Global,
+    name: &str,
+    at: u64,
+    columns: Json,
+    constants: Json,
+    rows: Json,
+) -> Result<Json, AllocError>
+    ensures { IfOk result (λ json. view json
+        ≡ served_data name.now at (view columns) (view constants) (view rows)) }
+{
+    let mut members = Map::new(alloc);
+    put(&mut members, alloc, "at", Json::from(at))?;
+    put(&mut members, alloc, "columns", columns)?;
+    put(&mut members, alloc, "constants", constants)?;
+    put(
+        &mut members,
+        alloc,
+        "query",
+        Json::try_from_str(alloc, name)?,
+    )?;
+    put(&mut members, alloc, "rows", rows)?;
+    Ok(Json::from(members))
 }
 
 // An answer with rows.
@@ -88,16 +112,10 @@ fn served_json(
     let query = question.query();
     let plan = question::plan(alloc, question)?;
     let heads = head_cells(alloc, query, &plan)?;
-    let columns = Json::Array(texts_json(alloc, heads.as_slice())?);
-    let constants = Json::Array(values_json(alloc, question.constants())?);
-    let rows = Json::Array(rows_json(alloc, query, rows)?);
-    json!(in alloc; {
-        "at": at,
-        "columns": columns,
-        "constants": constants,
-        "query": query.name(),
-        "rows": rows,
-    })
+    let columns = Json::from(texts_json(alloc, heads.as_slice())?);
+    let constants = Json::from(values_json(alloc, question.constants())?);
+    let rows = Json::from(rows_json(alloc, query, rows)?);
+    served_object(alloc, query.name(), at, columns, constants, rows)
 }
 
 fn cause_name(cause: Unserved) -> &'static str
@@ -113,7 +131,7 @@ fn cause_name(cause: Unserved) -> &'static str
 fn unserved_json(alloc: Global, question: &Question, cause: Unserved) -> Result<Json, AllocError>
     ensures { IfOk result (λ json. view json ≡ unserved_data question.now cause) }
 {
-    let constants = Json::Array(values_json(alloc, question.constants())?);
+    let constants = Json::from(values_json(alloc, question.constants())?);
     json!(in alloc; {
         "constants": constants,
         "query": question.query().name(),

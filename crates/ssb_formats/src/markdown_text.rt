@@ -1,6 +1,6 @@
 //! An answer as a table of Markdown, numbers to the right.
 
-ghost use Rattle.std.specs.Prelude.{◌≡◌, ◌++◌, IfOk, OnOk, map};
+ghost use Rattle.std.specs.Prelude.{◌≡◌, ◌++◌, IfOk, OnOk};
 ghost use Rattle.ssb_formats.specs.Cells.{are_numbers};
 ghost use Rattle.ssb_formats.specs.MarkdownText.{byte_text, cell_text, line_text, markdown_text, rule_cell};
 ghost use Rattle.ssb_formats.specs.MarkdownText.{rule_text};
