@@ -1,4 +1,4 @@
-//! `query`: the reports of one question or of all thirteen queries over five table files.
+//! `query`: the answers to one question or to all thirteen queries over five table files.
 
 ghost use Rattle.std.specs.Prelude.{◌≡◌, ◌≢◌, ◌⊎◌, ◌≤◌, ℕ, List, false, IfOk, IfErr, OnOk, OnErr, MatchResult};
 ghost use Rattle.std.specs.Prelude.{length, map};
