@@ -1,6 +1,7 @@
 //! Which words there are, as clap takes them.
 
 use crate::help::{AUDIT_HELP, EXPORT_HELP, QUERY_HELP, RUN_HELP, SERVE_HELP};
+use clap::builder::ValueParser;
 use clap::{Arg, ArgAction, Command, value_parser};
 use std::alloc::{AllocError, Global};
 
@@ -90,6 +91,17 @@ fn constants_argument<'a>(alloc: Global) -> Arg<'a> {
         .action(ArgAction::Append)
 }
 
+// How the answers are written.
+fn format_argument<'a>(alloc: Global) -> Arg<'a> {
+    Arg::new(alloc, "format")
+        .long("format")
+        .value_name("FORMAT")
+        .help("How the answers are written")
+        .value_parser(ValueParser::Names(&["report", "csv", "json", "markdown"]))
+        .default_value("report")
+        .action(ArgAction::Set)
+}
+
 // The words of `query`.
 fn query_command<'a>(alloc: Global) -> Result<Command<'a>, AllocError> {
     let command = over_tables(
@@ -104,6 +116,7 @@ fn query_command<'a>(alloc: Global) -> Result<Command<'a>, AllocError> {
             "all",
             "All thirteen queries with the benchmark's constants, in place of one",
         ))?
+        .arg(format_argument(alloc))?
         .arg(times_argument(
             alloc,
             "Reports on standard error how many seconds each step took",

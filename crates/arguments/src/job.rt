@@ -22,11 +22,21 @@ pub enum Job<'a> {
     Export(ExportWords<'a>),
 }
 
+/// How answers are written.
+#[derive(Clone, Copy)]
+pub enum FormatWord {
+    Report,
+    Csv,
+    Json,
+    Markdown,
+}
+
 /// The words of `query`.
 #[derive(Drop)]
 pub struct QueryWords<'a> {
     pub data: &'a str,
     pub all: bool,
+    pub format: FormatWord,
     /// Empty where all are asked.
     pub name: &'a str,
     pub constants: Vec<&'a str>,
@@ -88,10 +98,21 @@ fn words_of<'a>(
     matches.get_strs(id).unwrap_or(&[]).to_vec(alloc)
 }
 
+// The format that the words name; without the word it is the report.
+fn format_of(matches: &ArgMatches<'_>) -> FormatWord {
+    match word_of(matches, "format") {
+        "csv" => FormatWord::Csv,
+        "json" => FormatWord::Json,
+        "markdown" => FormatWord::Markdown,
+        _ => FormatWord::Report,
+    }
+}
+
 fn query_words<'a>(alloc: Global, matches: &ArgMatches<'a>) -> Result<QueryWords<'a>, AllocError> {
     Ok(QueryWords {
         data: word_of(matches, "data"),
         all: matches.get_flag("all"),
+        format: format_of(matches),
         name: word_of(matches, "name"),
         constants: words_of(alloc, matches, "constants")?,
         times: matches.get_flag("times"),

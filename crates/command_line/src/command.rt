@@ -2,7 +2,8 @@
 
 use crate::streams::{Streams, tell};
 use arguments::{
-    AuditWords, ExportWords, Job, QueryWords, RunWords, ServeWords, TERMINAL_HELP, job_of,
+    AuditWords, ExportWords, FormatWord, Job, QueryWords, RunWords, ServeWords, TERMINAL_HELP,
+    job_of,
 };
 use audit_command::run_audit;
 use export_command::{ExportPlace, run_export};
@@ -18,6 +19,7 @@ use ssb_files::{
     Fault, InputSource, PathUse, Screen, TableBytes, UsedPath, check_paths, count_tables,
     find_tables, make_file, open_file, open_files, open_tables, watch, watch_scripts, watch_tables,
 };
+use ssb_formats::Format;
 use ssb_text::Tables;
 use std::alloc::Global;
 use std::hash::RandomState;
@@ -41,6 +43,15 @@ fn screen_of<'a, C: Clock, P: Print>(
     Screen::start(clock, terminal)
 }
 
+fn format_of(word: FormatWord) -> Format {
+    match word {
+        FormatWord::Report => Format::Report,
+        FormatWord::Csv => Format::Csv,
+        FormatWord::Json => Format::Json,
+        FormatWord::Markdown => Format::Markdown,
+    }
+}
+
 // Answers one question, or all, over the files of a folder.
 fn answer_query<R, F: Files + AllocGlobal, P: Print, W: Write, E: Write>(
     rt: &R,
@@ -62,8 +73,11 @@ where
     };
     let screen = screen_of(rt, words.quiet, terminal);
     let tables = watch_tables(screen.as_ref(), tables);
-    let times = words.times;
-    let settings = Settings { hashing, times };
+    let settings = Settings {
+        hashing,
+        times: words.times,
+        format: format_of(words.format),
+    };
     if words.all {
         return run_all(rt, settings, tables, out, err);
     }

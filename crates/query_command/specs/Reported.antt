@@ -1,5 +1,5 @@
 -- What the reports of questions over table files are.
-use Rattle.std.specs.Prelude.{◌≡◌, ℕ, List, map, flat_map, Option}
+use Rattle.std.specs.Prelude.{◌≡◌, ℕ, List, map, Option}
 use Rattle.std.specs.Io.KnownBytes.{Appends}
 use Rattle.query_command.specs.Asked.{IsAsked, standard_questions}
 use Rattle.ssb_text.specs.Load.{SpellsBase}
@@ -9,7 +9,8 @@ use Rattle.ssb_answers.specs.Answer.{answer_of}
 use Rattle.ssb_answers.specs.declared.answer.Answer.{Answer}
 use Rattle.ssb_answers.specs.declared.answer.Answer.TheVariants as answer
 use Rattle.ssb_answers.specs.declared.answer.Rows.{Rows}
-use Rattle.ssb_report.specs.AnswerText.{answer_text}
+use Rattle.ssb_formats.specs.Formats.{shown, answers_shown}
+use Rattle.ssb_formats.specs.declared.format.Format.{Format}
 use Rattle.ssb_report.specs.Written.{AppendsPart}
 use Rattle.ssb_base.specs.Base.{Tables}
 use Rattle.ssb_schema.specs.Facts.{facts_of}
@@ -24,20 +25,22 @@ opening_answer base question = answer.Rows question 0 (answer_of question base.d
 abbrev pub opened : Rows → Answer
 opened rows = answer.Rows rows.query 0 rows.list
 
--- the five texts spell a base, within the greatest limits, whose answer to the question has this report
-pub record HasReport (texts : Table → List ℕ) (question : Query × List Value) (report : List ℕ) : Type 0 where
+-- the five texts spell a base, within the greatest limits, whose answer to the question is this text in the format
+pub record HasReport (format : Format) (texts : Table → List ℕ) (question : Query × List Value) (report : List ℕ)
+    : Type 0 where
   pub base : Tables
   pub limited : limits_of base.limits ≡ (1048576, 33554432, 1000000)
   pub spelled : SpellsBase texts base
-  pub is : report ≡ answer_text (opening_answer base question)
+  pub is : report ≡ shown format (opening_answer base question)
 
--- the five texts spell a base, within the greatest limits, whose answers to the questions, one after another, have
--- this report
-pub record HaveReport (texts : Table → List ℕ) (questions : List (Query × List Value)) (report : List ℕ) : Type 0 where
+-- the five texts spell a base, within the greatest limits, whose answers to the questions, one after another, are this
+-- text in the format
+pub record HaveReport (format : Format) (texts : Table → List ℕ) (questions : List (Query × List Value))
+    (report : List ℕ) : Type 0 where
   pub base : Tables
   pub limited : limits_of base.limits ≡ (1048576, 33554432, 1000000)
   pub spelled : SpellsBase texts base
-  pub is : report ≡ flat_map (λ question. answer_text (opening_answer base question)) questions
+  pub is : report ≡ answers_shown format (map (λ question. opening_answer base question) questions)
 
 -- the five texts spell a base, within the greatest limits, and these are its answers to the questions
 pub record HaveAnswers (texts : Table → List ℕ) (questions : List (Query × List Value)) (answers : List Answer)
@@ -47,33 +50,34 @@ pub record HaveAnswers (texts : Table → List ℕ) (questions : List (Query × 
   pub spelled : SpellsBase texts base
   pub are : answers ≡ map (λ question. opening_answer base question) questions
 
--- known bytes grow by the report of the question that the name and the words ask, over the base that the texts spell
-pub record Reports (texts : Table → List ℕ) (name : List ℕ) (words : List (List ℕ)) (old new : Option (List ℕ))
-    : Type 0 where
+-- known bytes grow by the answer to the question that the name and the words ask, over the base that the texts spell,
+-- in the format
+pub record Reports (format : Format) (texts : Table → List ℕ) (name : List ℕ) (words : List (List ℕ))
+    (old new : Option (List ℕ)) : Type 0 where
   pub question : Query × List Value
   pub asked : IsAsked name words question
   pub report : List ℕ
-  pub of_base : HasReport texts question report
+  pub of_base : HasReport format texts question report
   pub appends : Appends old new report
 
--- known bytes grow by a part of that report from its beginning on
-pub record ReportsPart (texts : Table → List ℕ) (name : List ℕ) (words : List (List ℕ)) (old new : Option (List ℕ))
-    : Type 0 where
+-- known bytes grow by a part of that text from its beginning on
+pub record ReportsPart (format : Format) (texts : Table → List ℕ) (name : List ℕ) (words : List (List ℕ))
+    (old new : Option (List ℕ)) : Type 0 where
   pub question : Query × List Value
   pub asked : IsAsked name words question
   pub report : List ℕ
-  pub of_base : HasReport texts question report
+  pub of_base : HasReport format texts question report
   pub appends : AppendsPart old new report
 
--- known bytes grow by the reports of the thirteen queries with the benchmark's constants, in order, over the base
--- that the texts spell
-pub record ReportsAll (texts : Table → List ℕ) (old new : Option (List ℕ)) : Type 0 where
+-- known bytes grow by the answers to the thirteen queries with the benchmark's constants, in order, over the base that
+-- the texts spell, in the format
+pub record ReportsAll (format : Format) (texts : Table → List ℕ) (old new : Option (List ℕ)) : Type 0 where
   pub report : List ℕ
-  pub of_base : HaveReport texts standard_questions report
+  pub of_base : HaveReport format texts standard_questions report
   pub appends : Appends old new report
 
--- known bytes grow by a part of these reports from their beginning on
-pub record ReportsAllPart (texts : Table → List ℕ) (old new : Option (List ℕ)) : Type 0 where
+-- known bytes grow by a part of that text from its beginning on
+pub record ReportsAllPart (format : Format) (texts : Table → List ℕ) (old new : Option (List ℕ)) : Type 0 where
   pub report : List ℕ
-  pub of_base : HaveReport texts standard_questions report
+  pub of_base : HaveReport format texts standard_questions report
   pub appends : AppendsPart old new report

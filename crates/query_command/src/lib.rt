@@ -1,14 +1,14 @@
-//! The word `query`: the reports of one question, or of all thirteen queries, over five table files.
+//! The word `query`: the answers to one question, or to all thirteen queries, over five table files, in a format.
 //!
 //! ```text
-//! five texts ── load ─▶ base ── index, columns ─▶ one pass of the scan ─▶ answers ─▶ reports
+//! five texts ── load ─▶ base ── index, columns ─▶ one pass of the scan ─▶ answers ─▶ text of the format
 //! name and constants ── ask ─▶ question ─────────────┘
 //! ```
 //!
 //! The contracts of [`run_query`] and [`run_all`] (`specs/Asked.antt`, `specs/Reported.antt`): with status 0 they have
-//! written exactly the report of the answers, as the benchmark defines them, over the base that the texts spell; else
-//! nothing, or a part of that report from its beginning; and status 1 tells of refused data alone, 2 of words that ask
-//! no question.
+//! written exactly the text of the answers in the format, as the benchmark defines them, over the base that the texts
+//! spell; else nothing, or a part of that text from its beginning; and status 1 tells of refused data alone, 2 of words
+//! that ask no question.
 //!
 //! ```text
 //! let status = run_query(rt, settings, tables, "Q2.1", &["MFGR#12", "EUROPE"], &mut out, &mut err);

@@ -1,25 +1,26 @@
-//! `query`: the reports of one question or of all thirteen queries over five table files.
+//! `query`: the answers to one question or to all thirteen queries over five table files.
 
 ghost use Rattle.std.specs.Prelude.{◌≡◌, ◌≢◌, ◌⊎◌, ◌≤◌, ℕ, List, false, IfOk, IfErr, OnOk, OnErr, MatchResult};
-ghost use Rattle.std.specs.Prelude.{flat_map, length, map};
+ghost use Rattle.std.specs.Prelude.{length, map};
 ghost use Rattle.query_command.specs.Asked.{AskNothing};
 ghost use Rattle.query_command.specs.Reported.{HaveAnswers, HaveReport, Reports, ReportsPart, ReportsAll, ReportsAllPart};
 ghost use Rattle.ssb_files.specs.Loaded.{AreRefused};
 ghost use Rattle.ssb_files.specs.Status.{status_of};
 ghost use Rattle.ssb_text.specs.Load.{AreTexts};
-ghost use Rattle.ssb_report.specs.AnswerText.{answer_text};
+ghost use Rattle.ssb_formats.specs.Formats.{answers_shown};
 ghost use Rattle.ssb_report.specs.Written.{AppendsPart};
 ghost use Rattle.ssb_schema.specs.declared.table.Table.{Table};
-ghost use Rattle.std.specs.Io.KnownBytes.{Appends};
+ghost use Rattle.std.specs.Io.KnownBytes.{Appends, Keeps};
 
 use crate::asked::{ask, standard_questions};
 use crate::opening::opening_answers;
 use crate::stopwatch::{Stopwatch, TimedStep};
 use ssb_answers::Answer;
 use ssb_files::{Fault, base_of};
+use ssb_formats::{Format, FormatFault, write_formatted};
 use ssb_questions::Question;
-use ssb_report::write_answers;
 use ssb_text::Tables;
+use std::alloc::Global;
 use std::hash::RandomState;
 use std::io::{Read, Write};
 use std::thread::Threads;
@@ -32,6 +33,8 @@ pub struct Settings {
     pub hashing: RandomState,
     /// Whether the times of the steps are told on standard error.
     pub times: bool,
+    /// How the answers are written.
+    pub format: Format,
 }
 
 // The answers to the questions over the base that the tables spell.
@@ -55,26 +58,48 @@ fn answers<R: Threads + Sync + Clock + AllocGlobal, I: Read + Drop>(
     Ok(answers)
 }
 
-// Writes the reports of answers, and has the writer hand on what it holds.
-fn write<W: Write>(out: &mut W, answers: &[Answer]) -> Result<(), Fault>
-    ensures written { MatchResult result
-        (λ _. Appends (W.contents out.old) (W.contents out.new) (flat_map answer_text answers.now))
-        (λ _. AppendsPart (W.contents out.old) (W.contents out.new) (flat_map answer_text answers.now)) }
+fn fault_of(fault: FormatFault) -> Fault
+    ensures { status_of result ≡ 4 }
+{
+    match fault {
+        FormatFault::OutOfMemory => Fault::OutOfMemory,
+        FormatFault::WriteFailed => Fault::WriteFailed,
+    }
+}
+
+// Has a writer hand on what it holds.
+fn hand_on<W: Write>(out: &mut W) -> Result<(), Fault>
+    ensures kept { Keeps (W.contents out.old) (W.contents out.new) }
     ensures fault { IfErr result (λ fault. status_of fault ≡ 4) }
 {
-    if write_answers(out, answers).is_err() {
-        return Err(Fault::WriteFailed);
-    }
     match out.flush() {
         Ok(()) => Ok(()),
         Err(_) => Err(Fault::WriteFailed),
     }
 }
 
-// Writes the reports of the questions over the tables.
+// Writes answers, and has the writer hand on what it holds.
+fn write<W: Write>(
+    alloc: Global,
+    format: Format,
+    answers: &[Answer],
+    out: &mut W,
+) -> Result<(), Fault>
+    ensures written { MatchResult result
+        (λ _. Appends (W.contents out.old) (W.contents out.new) (answers_shown format answers.now))
+        (λ _. AppendsPart (W.contents out.old) (W.contents out.new) (answers_shown format answers.now)) }
+    ensures fault { IfErr result (λ fault. status_of fault ≡ 4) }
+{
+    match write_formatted(alloc, out, format, answers) {
+        Ok(()) => hand_on(out),
+        Err(fault) => Err(fault_of(fault)),
+    }
+}
+
+// Writes the answers to the questions over the tables.
 fn report<R: Threads + Sync + Clock + AllocGlobal, I: Read + Drop, W: Write>(
     rt: &R,
-    hashing: RandomState,
+    settings: Settings,
     tables: Tables<I>,
     questions: &[Question],
     watch: &mut Stopwatch,
@@ -82,18 +107,18 @@ fn report<R: Threads + Sync + Clock + AllocGlobal, I: Read + Drop, W: Write>(
 ) -> Result<(), Fault>
     requires { length questions.now ≤ 16 }
     ensures report { OnOk result ((texts : Table → List ℕ) → AreTexts I.remaining tables texts
-        → (report : List ℕ) × HaveReport texts questions.now report × Appends (W.contents out.old)
+        → (report : List ℕ) × HaveReport settings.format texts questions.now report × Appends (W.contents out.old)
         (W.contents out.new) report) }
     ensures fault { OnErr result ((W.contents out.new ≡ W.contents out.old)
         ⊎ ((texts : Table → List ℕ) → AreTexts I.remaining tables texts
-        → (report : List ℕ) × HaveReport texts questions.now report × AppendsPart (W.contents out.old)
+        → (report : List ℕ) × HaveReport settings.format texts questions.now report × AppendsPart (W.contents out.old)
         (W.contents out.new) report)) }
     ensures data { IfErr result (λ fault. status_of fault ≡ 1 → (texts : Table → List ℕ)
         → AreTexts I.remaining tables texts → AreRefused texts) }
     ensures later { IfErr result (λ fault. status_of fault ≢ 2) }
 {
-    let answers = answers(rt, hashing, tables, questions, watch)?;
-    write(out, answers.as_slice())
+    let answers = answers(rt, settings.hashing, tables, questions, watch)?;
+    write(rt.alloc(), settings.format, answers.as_slice(), out)
 }
 
 // Tells the times where they are asked for.
@@ -106,7 +131,7 @@ fn tell_times<E: Write>(watch: &Stopwatch, times: bool, err: &mut E)
     watch.tell(err);
 }
 
-// Writes the reports of the questions over the tables, and tells the times or a fault. The result is the exit status.
+// Writes the answers to the questions over the tables, and tells the times or a fault. The result is the exit status.
 fn run<R: Threads + Sync + Clock + AllocGlobal, I: Read + Drop, W: Write, E: Write>(
     rt: &R,
     settings: Settings,
@@ -117,11 +142,11 @@ fn run<R: Threads + Sync + Clock + AllocGlobal, I: Read + Drop, W: Write, E: Wri
 ) -> u8
     requires { length questions.now ≤ 16 }
     ensures report { result ≡ 0 → (texts : Table → List ℕ) → AreTexts I.remaining tables texts
-        → (report : List ℕ) × HaveReport texts questions.now report × Appends (W.contents out.old)
+        → (report : List ℕ) × HaveReport settings.format texts questions.now report × Appends (W.contents out.old)
         (W.contents out.new) report }
     ensures fault { result ≢ 0 → (W.contents out.new ≡ W.contents out.old)
         ⊎ ((texts : Table → List ℕ) → AreTexts I.remaining tables texts
-        → (report : List ℕ) × HaveReport texts questions.now report × AppendsPart (W.contents out.old)
+        → (report : List ℕ) × HaveReport settings.format texts questions.now report × AppendsPart (W.contents out.old)
         (W.contents out.new) report) }
     ensures quiet { result ≡ 0 → settings.times ≡ false → err.new ≡ err.old }
     ensures data { result ≡ 1 → (texts : Table → List ℕ) → AreTexts I.remaining tables texts → AreRefused texts }
@@ -129,7 +154,7 @@ fn run<R: Threads + Sync + Clock + AllocGlobal, I: Read + Drop, W: Write, E: Wri
 {
     let times = settings.times;
     let mut watch = Stopwatch::start(rt, times);
-    match report(rt, settings.hashing, tables, questions, &mut watch, out) {
+    match report(rt, settings, tables, questions, &mut watch, out) {
         Ok(()) => {
             tell_times(&watch, times, err);
             0
@@ -138,7 +163,7 @@ fn run<R: Threads + Sync + Clock + AllocGlobal, I: Read + Drop, W: Write, E: Wri
     }
 }
 
-/// Writes the report of the question of this name and these constants (without constants, the benchmark's) over the
+/// Writes the answer to the question of this name and these constants (without constants, the benchmark's) over the
 /// base that the tables spell; or a fault line to `err`. The question is looked at first. The result is the exit
 /// status: 0 with nothing written to `err` but the times, where they are asked for; 1 where the data is refused, 2
 /// where the question is, and else 4.
@@ -152,10 +177,12 @@ pub fn run_query<R: Threads + Sync + Clock + AllocGlobal, I: Read + Drop, W: Wri
     err: &mut E,
 ) -> u8
     ensures report { result ≡ 0 → (texts : Table → List ℕ) → AreTexts I.remaining tables texts
-        → Reports texts name.now (map (λ word. word.now) constants.now) (W.contents out.old) (W.contents out.new) }
+        → Reports settings.format texts name.now (map (λ word. word.now) constants.now) (W.contents out.old)
+        (W.contents out.new) }
     ensures fault { result ≢ 0 → (W.contents out.new ≡ W.contents out.old)
         ⊎ ((texts : Table → List ℕ) → AreTexts I.remaining tables texts
-        → ReportsPart texts name.now (map (λ word. word.now) constants.now) (W.contents out.old) (W.contents out.new)) }
+        → ReportsPart settings.format texts name.now (map (λ word. word.now) constants.now) (W.contents out.old)
+        (W.contents out.new)) }
     ensures quiet { result ≡ 0 → settings.times ≡ false → err.new ≡ err.old }
     ensures data { result ≡ 1 → (texts : Table → List ℕ) → AreTexts I.remaining tables texts → AreRefused texts }
     ensures words { result ≡ 2 → AskNothing name.now (map (λ word. word.now) constants.now) }
@@ -167,7 +194,7 @@ pub fn run_query<R: Threads + Sync + Clock + AllocGlobal, I: Read + Drop, W: Wri
     run(rt, settings, tables, &[question], out, err)
 }
 
-/// Writes the reports of the thirteen queries with the benchmark's constants, in order, over the base that the tables
+/// Writes the answers to the thirteen queries with the benchmark's constants, in order, over the base that the tables
 /// spell, from one pass over its lines; or a fault line to `err`. The result is the exit status, as of `run_query`, and
 /// never 2.
 pub fn run_all<R: Threads + Sync + Clock + AllocGlobal, I: Read + Drop, W: Write, E: Write>(
@@ -178,10 +205,10 @@ pub fn run_all<R: Threads + Sync + Clock + AllocGlobal, I: Read + Drop, W: Write
     err: &mut E,
 ) -> u8
     ensures report { result ≡ 0 → (texts : Table → List ℕ) → AreTexts I.remaining tables texts
-        → ReportsAll texts (W.contents out.old) (W.contents out.new) }
+        → ReportsAll settings.format texts (W.contents out.old) (W.contents out.new) }
     ensures fault { result ≢ 0 → (W.contents out.new ≡ W.contents out.old)
-        ⊎ ((texts : Table → List ℕ) → AreTexts I.remaining tables texts → ReportsAllPart texts (W.contents out.old)
-        (W.contents out.new)) }
+        ⊎ ((texts : Table → List ℕ) → AreTexts I.remaining tables texts
+        → ReportsAllPart settings.format texts (W.contents out.old) (W.contents out.new)) }
     ensures quiet { result ≡ 0 → settings.times ≡ false → err.new ≡ err.old }
     ensures data { result ≡ 1 → (texts : Table → List ℕ) → AreTexts I.remaining tables texts → AreRefused texts }
     ensures words { result ≢ 2 }

@@ -1,6 +1,6 @@
-use Rattle.std.proofs.Common.{◌≡◌, Err, flat_map, inr, rules}
+use Rattle.std.proofs.Common.{◌≡◌, Err, inr, rules}
 use Rattle.query_command.specs.Reported.{HaveReport}
-use Rattle.ssb_report.specs.AnswerText.{answer_text}
+use Rattle.ssb_formats.specs.Formats.{answers_shown}
 use Rattle.query_command.proofs.ReportLaws.{report_of_answers}
 use Rattle.ssb_files.proofs.ResultLaws.{on_ok_from, on_err_from, is_no_refusal, is_no_word}
 use Rattle.query_command.proofs.query.report.Goals as goal
@@ -8,18 +8,22 @@ use Rattle.query_command.proofs.query.report.Goals as goal
 pub returns-clause-report : goal.returns-clause-report
 returns-clause-report g c =
     on_ok_from c.write.result _ _ _ c.write.ensures.written (λ written texts are.
-    let has : HaveReport texts c.args.questions.now (flat_map answer_text c.as_slice.result.now) = rw
-    c.as_slice.ensures.value (report_of_answers texts c.args.questions.now c.in_ok-answers.answers.items
+    let format = c.args.settings.format in
+    let questions = c.args.questions.now in
+    let has : HaveReport format texts questions (answers_shown format c.as_slice.result.now) = rw
+    c.as_slice.ensures.value (report_of_answers format texts questions c.in_ok-answers.answers.items
     (c.in_ok-answers.ensures.answers texts are)) in
-    (flat_map answer_text c.as_slice.result.now, has, written))
+    (answers_shown format c.as_slice.result.now, has, written))
 
 pub returns-clause-fault : goal.returns-clause-fault
 returns-clause-fault g c =
     on_err_from c.write.result _ _ _ c.write.ensures.written (λ written. inr (λ texts are.
-    let has : HaveReport texts c.args.questions.now (flat_map answer_text c.as_slice.result.now) = rw
-    c.as_slice.ensures.value (report_of_answers texts c.args.questions.now c.in_ok-answers.answers.items
+    let format = c.args.settings.format in
+    let questions = c.args.questions.now in
+    let has : HaveReport format texts questions (answers_shown format c.as_slice.result.now) = rw
+    c.as_slice.ensures.value (report_of_answers format texts questions c.in_ok-answers.answers.items
     (c.in_ok-answers.ensures.answers texts are)) in
-    (flat_map answer_text c.as_slice.result.now, has, written)))
+    (answers_shown format c.as_slice.result.now, has, written)))
 
 pub returns-clause-data : goal.returns-clause-data
 returns-clause-data g c = is_no_refusal c.write.result _ c.write.ensures.fault

@@ -18,7 +18,7 @@ returns-clause-report g c = λ status texts are.
     let has = c.run.ensures.report status texts are in
     record {
       report = has.0;
-      of_base = subst (λ questions. HaveReport texts questions has.0) same has.1;
+      of_base = subst (λ questions. HaveReport c.args.settings.format texts questions has.0) same has.1;
       appends
           = has.2;
     }
@@ -32,7 +32,7 @@ returns-clause-fault g c = λ status.
           let has = part texts are in
           record {
             report = has.0;
-            of_base = subst (λ questions. HaveReport texts questions has.0) same has.1;
+            of_base = subst (λ questions. HaveReport c.args.settings.format texts questions has.0) same has.1;
             appends = has.2;
           })
     ]

@@ -9,7 +9,7 @@ returns-clause-report g c = λ status texts are.
       question = c.in-Ok.question;
       asked = c.in-Ok.ensures.question;
       report = has.0;
-      of_base = report_of_one
+      of_base = report_of_one c.args.settings.format
           texts c.in-Ok.question has.0 has.1;
       appends = has.2;
     }
@@ -25,7 +25,7 @@ returns-clause-fault g c = λ status.
             asked = c.in-Ok.ensures.question;
             report = has.0;
             of_base
-                = report_of_one texts c.in-Ok.question has.0 has.1;
+                = report_of_one c.args.settings.format texts c.in-Ok.question has.0 has.1;
             appends = has.2;
           })
     ]

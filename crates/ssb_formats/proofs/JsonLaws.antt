@@ -1,0 +1,51 @@
+-- No answer has a float.
+use Rattle.std.proofs.Common.{◌≡◌, ℤ, pos, negsuc, Bool, true, false, List, [], ◌∷◌, ◌++◌, map, Option, Some, None}
+use Rattle.std.proofs.Common.{refl, if◌then◌else◌}
+use Rattle.serde_json.specs.Data.{Data}
+use Rattle.serde_json.specs.View.{items_of}
+use Rattle.serde_json.specs.Written.{has_float, items_have_float}
+use Rattle.ssb_answers.specs.declared.answer.Answer.{Answer}
+use Rattle.ssb_answers.specs.declared.answer.Answer.TheVariants.{Rows, Unserved}
+use Rattle.ssb_answers.specs.declared.answer.ResultRow.{ResultRow}
+use Rattle.ssb_formats.specs.Cells.{heads_of}
+use Rattle.ssb_formats.specs.JsonText.{answer_data, row_data, sum_data, text_data, value_data}
+use Rattle.ssb_questions.specs.Queries.{plan_over}
+use Rattle.ssb_questions.specs.Query.{sum_first}
+use Rattle.ssb_questions.specs.declared.query.Query.{Query}
+use Rattle.ssb_questions.specs.declared.value.Value.{Value}
+use Rattle.ssb_questions.specs.declared.value.Value.TheVariants.{Text, Number}
+
+value_exact : (value : Value) → has_float (value_data value) ≡ false
+value_exact (Text text) = refl
+value_exact (Number n) = refl
+
+sum_exact : (sum : Option ℤ) → has_float (sum_data sum) ≡ false
+sum_exact None = refl
+sum_exact (Some (pos n)) = refl
+sum_exact (Some (negsuc n)) = refl
+
+items_exact : {X : Type 0} (f : X → Data) (xs : List X) → ((x : X) → has_float (f x) ≡ false)
+    → items_have_float (items_of (map f xs)) ≡ false
+items_exact f [] each = refl
+items_exact f (x ∷ xs) each = rw (each x) (items_exact f xs each)
+
+more_exact : {X : Type 0} (f : X → Data) (xs : List X) (last : Data) → ((x : X) → has_float (f x) ≡ false)
+    → has_float last ≡ false → items_have_float (items_of (map f xs ++ last ∷ [])) ≡ false
+more_exact f [] last each is = rw is refl
+more_exact f (x ∷ xs) last each is = rw (each x) (more_exact f xs last each is)
+
+placed_exact : (first : Bool) (sum : Data) (values : List Value) → has_float sum ≡ false
+    → items_have_float (items_of (if first then sum ∷ map value_data values else map value_data values ++ sum ∷ []))
+    ≡ false
+placed_exact true sum values is = rw is (items_exact value_data values value_exact)
+placed_exact false sum values is = more_exact value_data values sum value_exact is
+
+row_exact : (query : Query) (row : ResultRow) → has_float (row_data query row) ≡ false
+row_exact query row = placed_exact (sum_first query) (sum_data row.sum) row.groups (sum_exact row.sum)
+
+pub answer_exact : (answer : Answer) → has_float (answer_data answer) ≡ false
+answer_exact (Rows question at rows) =
+    rw (items_exact text_data (heads_of question.0 (plan_over question.0 question.1)) (λ text. refl))
+    (rw (items_exact value_data question.1 value_exact)
+    (rw (items_exact (row_data question.0) rows (row_exact question.0)) refl))
+answer_exact (Unserved question cause) = rw (items_exact value_data question.1 value_exact) refl

@@ -1,0 +1,25 @@
+-- An answer as CSV, as the kit's writer quotes it.
+use Rattle.std.specs.Prelude.{◌≡◌, ℕ, List, ◌++◌, true, false, flat_map}
+use Rattle.csv.specs.Writing.{default_writer, with_flexible, row_text, writer_setup, fields_written, has_written}
+use Rattle.csv.specs.declared.writer.Writer.{Writer}
+use Rattle.csv.specs.declared.writer.WriterBuilder.{WriterBuilder}
+use Rattle.ssb_questions.specs.declared.plan.Plan.{Plan}
+use Rattle.ssb_questions.specs.declared.query.Query.{Query}
+use Rattle.ssb_answers.specs.declared.answer.ResultRow.{ResultRow}
+use Rattle.ssb_report.specs.AnswerText.{columns_of}
+use Rattle.ssb_formats.specs.Cells.{heads_of}
+
+-- fields with commas between them, in double quotes where they need it; a line feed ends a record
+abbrev pub csv_setup : WriterBuilder
+csv_setup = with_flexible default_writer true
+
+-- a record of the heads, and one for each row
+abbrev pub csv_text : Query → Plan → List ResultRow → List ℕ
+csv_text query plan rows =
+    row_text csv_setup (heads_of query plan) ++ flat_map (λ row. row_text csv_setup (columns_of query row)) rows
+
+-- a writer that has ended its last record
+pub record IsBetween {W : Type 0} (writer : Writer W) : Type 0 where
+  pub setup : writer_setup writer ≡ csv_setup
+  pub fields : fields_written writer ≡ 0
+  pub wrote : has_written writer ≡ false

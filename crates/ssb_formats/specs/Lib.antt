@@ -1,0 +1,5 @@
+pub mod Cells
+pub mod CsvText
+pub mod MarkdownText
+pub mod JsonText
+pub mod Formats

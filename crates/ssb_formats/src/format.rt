@@ -1,0 +1,157 @@
+//! Answers, written in a format.
+
+ghost use Rattle.std.specs.Prelude.{◌≡◌, ◌∷◌, IfOk, MatchOption, MatchResult, flat_map, is_err};
+ghost use Rattle.std.specs.Io.KnownBytes.{Appends};
+ghost use Rattle.ssb_formats.specs.Formats.{Shows, answers_shown, next_shown, parting, shown};
+ghost use Rattle.ssb_report.specs.AnswerText.{answer_text};
+ghost use Rattle.ssb_report.specs.Written.{AppendsPart};
+
+use crate::csv_text::csv_text;
+use crate::fault::FormatFault;
+use crate::json_text::json_text;
+use crate::markdown_text::markdown_text;
+use ssb_answers::Answer;
+use ssb_questions::question::plan;
+use ssb_report::{WriteFault, write_answer, write_bytes};
+use std::alloc::{AllocError, Global};
+use std::io::Write;
+
+/// How answers are written.
+#[derive(Clone, Copy, Debug, PartialEq, Eq)]
+pub enum Format {
+    /// The report.
+    Report,
+    /// Comma-separated values, below the names of the columns.
+    Csv,
+    /// An object a line.
+    Json,
+    /// A table of Markdown.
+    Markdown,
+}
+
+impl Format {
+    // What parts an answer from the next.
+    fn parting(self) -> &'static str
+        ensures { result.now ≡ parting self }
+    {
+        match self {
+            Format::Report | Format::Json => "",
+            Format::Csv | Format::Markdown => "\n",
+        }
+    }
+}
+
+// The text of an answer; none where it is that of the report.
+fn text_of(alloc: Global, format: Format, answer: &Answer) -> Result<Option<Vec<u8>>, AllocError>
+    ensures { IfOk result (λ text. MatchOption text (shown format answer.now ≡ answer_text answer.now)
+        (λ text. text.items ≡ shown format answer.now)) }
+{
+    match (format, answer) {
+        (Format::Json, _) => Ok(Some(json_text(alloc, answer)?)),
+        (Format::Csv, Answer::Rows { query, rows, .. }) => {
+            let plan = plan(alloc, query)?;
+            Ok(Some(csv_text(alloc, query.query(), &plan, rows.as_slice())?))
+        }
+        (Format::Markdown, Answer::Rows { query, rows, .. }) => {
+            let plan = plan(alloc, query)?;
+            Ok(Some(markdown_text(alloc, query.query(), &plan, rows.as_slice())?))
+        }
+        _ => Ok(None),
+    }
+}
+
+fn outcome(written: Result<(), WriteFault>) -> Result<(), FormatFault>
+    ensures { is_err result ≡ is_err written }
+{
+    match written {
+        Ok(()) => Ok(()),
+        Err(_) => Err(FormatFault::WriteFailed),
+    }
+}
+
+fn write_text<W: Write>(writer: &mut W, text: &[u8]) -> Result<(), FormatFault>
+    ensures { Shows (W.contents writer.old) (W.contents writer.new) result text.now }
+{
+    outcome(write_bytes(writer, text))
+}
+
+fn write_shown<W: Write>(
+    alloc: Global,
+    writer: &mut W,
+    format: Format,
+    answer: &Answer,
+) -> Result<(), FormatFault>
+    ensures { Shows (W.contents writer.old) (W.contents writer.new) result (shown format answer.now) }
+{
+    match text_of(alloc, format, answer) {
+        Ok(Some(text)) => write_text(writer, text.as_slice()),
+        Ok(None) => outcome(write_answer(writer, answer)),
+        Err(_) => Err(FormatFault::OutOfMemory),
+    }
+}
+
+fn write_parting<W: Write>(writer: &mut W, format: Format) -> Result<(), FormatFault>
+    ensures { Shows (W.contents writer.old) (W.contents writer.new) result (parting format) }
+{
+    write_text(writer, format.parting().as_bytes())
+}
+
+// An answer behind another.
+fn write_next<W: Write>(
+    alloc: Global,
+    writer: &mut W,
+    format: Format,
+    answer: &Answer,
+) -> Result<(), FormatFault>
+    ensures { Shows (W.contents writer.old) (W.contents writer.new) result (next_shown format answer.now) }
+{
+    write_parting(writer, format)?;
+    write_shown(alloc, writer, format, answer)
+}
+
+fn write_others<W: Write>(
+    alloc: Global,
+    writer: &mut W,
+    format: Format,
+    answers: &[Answer],
+) -> Result<(), FormatFault>
+    ensures { Shows (W.contents writer.old) (W.contents writer.new) result
+        (flat_map (next_shown format) answers.now) }
+{
+    for answer in answers {
+        write_next(alloc, writer, format, answer)?;
+    }
+    Ok(())
+}
+
+fn write_first_and_others<W: Write>(
+    alloc: Global,
+    writer: &mut W,
+    format: Format,
+    first: &Answer,
+    others: &[Answer],
+) -> Result<(), FormatFault>
+    ensures { Shows (W.contents writer.old) (W.contents writer.new) result
+        (answers_shown format (first.now ∷ others.now)) }
+{
+    write_shown(alloc, writer, format, first)?;
+    write_others(alloc, writer, format, others)
+}
+
+/// Writes answers in a format, one after another. The memory that it takes is that of the text of one answer; the
+/// report takes none.
+pub fn write_formatted<W: Write>(
+    alloc: Global,
+    writer: &mut W,
+    format: Format,
+    answers: &[Answer],
+) -> Result<(), FormatFault>
+    ensures text { MatchResult result
+        (λ _. Appends (W.contents writer.old) (W.contents writer.new) (answers_shown format answers.now))
+        (λ _. AppendsPart (W.contents writer.old) (W.contents writer.new) (answers_shown format answers.now)) }
+{
+    match answers {
+        [] => Ok(()),
+        [first, others @ ..] => write_first_and_others(alloc, writer, format, first, others),
+    }
+}

@@ -1,0 +1,21 @@
+//! Answers in formats that other programs, and people, read: CSV, JSON, Markdown.
+//!
+//! The one contract, of [`write_formatted`]: what is written is the text of the answers in the format, byte by byte;
+//! where a write fails or memory runs out, a part of it from its beginning. The definitions stand in `specs/`: `Cells`
+//! (the heads and the cells of a row), `CsvText`, `JsonText`, `MarkdownText`, and `Formats`, which has them all.
+//!
+//! ```text
+//! write_formatted(alloc, &mut output, Format::Csv, answers)?;             // D_YEAR,C_NATION,LO_REVENUE-LO_SUPPLYCOST
+//!                                                                         // 1997,UNITED STATES,-1330
+//! ```
+#![tactic(auto)]
+
+mod cells;
+mod csv_text;
+mod fault;
+mod format;
+mod json_text;
+mod markdown_text;
+
+pub use fault::FormatFault;
+pub use format::{Format, write_formatted};
