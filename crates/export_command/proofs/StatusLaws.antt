@@ -1,5 +1,5 @@
 -- The exit statuses that an export has.
-use Rattle.std.proofs.Common.{◌≡◌, arith}
+use Rattle.std.proofs.Common.{arith}
 use Rattle.std.specs.Prelude.{◌≢◌}
 use Rattle.journal_opening.specs.Status.{opening_status}
 use Rattle.journal_opening.specs.declared.fault.OpeningFault.{OpeningFault}

@@ -59,8 +59,8 @@ refused_open base sizes file (kept.Journal fault) (inr is) status = inl (fault, 
 pub refused_replay : (base : Tables) (sizes : List TableSize) (file : List ℕ) (commits : List CommitRecord)
     (dispatchers : ℕ) (why : JournaledFault) → HasCommits sizes commits file
     → IsJournaledFault base commits dispatchers why → journaled_status why ≡ 1 → IsRefusedFile base sizes file
-refused_replay base sizes file commits dispatchers (journaled.Replay (replay.Refused number action cause)) has is status =
-    inr (record { commits = commits; has = has; number = number; action = action; cause = cause; first = is })
+refused_replay base sizes file commits dispatchers (journaled.Replay (replay.Refused number action cause)) has is
+    status = inr (record { commits = commits; has = has; number = number; action = action; cause = cause; first = is })
 refused_replay base sizes file commits dispatchers (journaled.Replay replay.OutOfMemory) has is status =
     absurd (omega (arith, status))
 refused_replay base sizes file commits dispatchers (journaled.NotRun why) has is status = absurd (omega (arith, status))
@@ -74,15 +74,16 @@ pub goes_on_over : {S L : Type 0} (Spoken : S → TokenRecord → TokenRecord �
     (dispatchers : ℕ) (left : List L) (log : List CommitRecord) → was ≡ base → IsLoadedToServe texts base
     → AreSizes base sizes → IsKnown known file → GoesOn Spoken was sizes file speakers dispatchers left log
     → GoesOnOver Spoken texts known speakers dispatchers left log
-goes_on_over Spoken texts known was base sizes file speakers dispatchers left log same loaded sized is_file goes_on = record {
-  base = was;
-  loaded = subst (IsLoadedToServe texts) (sym same) loaded;
-  sizes = sizes;
-  sized = subst (λ (b : Tables). AreSizes b sizes) (sym same) sized;
-  file = file;
-  is_file = is_file;
-  goes_on = goes_on;
-}
+goes_on_over Spoken texts known was base sizes file speakers dispatchers left log same loaded sized is_file
+    goes_on = record {
+      base = was;
+      loaded = subst (IsLoadedToServe texts) (sym same) loaded;
+      sizes = sizes;
+      sized = subst (λ (b : Tables). AreSizes b sizes) (sym same) sized;
+      file = file;
+      is_file = is_file;
+      goes_on = goes_on;
+    }
 
 pub refuses_journal : (texts : Table → List ℕ) (known : Option (List ℕ)) (was base : Tables) (sizes : List TableSize)
     (file : List ℕ) → was ≡ base → IsLoadedToServe texts base → AreSizes base sizes → IsKnown known file
@@ -184,8 +185,8 @@ pub ends_alone_journaled : {S L : Type 0} (Spoken : S → TokenRecord → TokenR
     → HasStreamed (number_of alone.after.client.who) alone.after.client alone.closed unread before after outcome told
     → IsLeft may_leave file count log whole → told ≤ count
     → EndsAloneJournaled outcome texts known dispatchers unread before after may_leave file whole
-ends_alone_journaled Spoken outcome texts known dispatchers told unread before after may_leave file count whole log speaker
-    one alone had is_left enough =
+ends_alone_journaled Spoken outcome texts known dispatchers told unread before after may_leave file count whole log
+    speaker one alone had is_left enough =
     let client = alone.after.client in
     let closed = alone.closed in
     let left = subst (λ (l : List CommitRecord). IsLeft may_leave file count l whole) alone.log_is is_left in
@@ -214,12 +215,13 @@ pub serves_alone_journaled : (outcome : Result Served SessionError) (texts : Tab
     (whole : Bool) → EndsAloneJournaled outcome texts known dispatchers unread before after may_leave file whole
     → session_status outcome ≡ 0 → IsTrue whole
     → ServesAloneJournaled texts known dispatchers unread before after may_leave file
-serves_alone_journaled (Ok served) texts known dispatchers unread before after may_leave file whole alone is written = record {
-  served = served;
-  alone = subst
-      (λ (w : Bool). EndsAloneJournaled (Ok served) texts known dispatchers unread before after may_leave file w) written
-      alone;
-}
+serves_alone_journaled (Ok served) texts known dispatchers unread before after may_leave file whole alone is
+    written = record {
+      served = served;
+      alone = subst
+          (λ (w : Bool). EndsAloneJournaled (Ok served) texts known dispatchers unread before after may_leave file w)
+          written alone;
+    }
 serves_alone_journaled (Err error) texts known dispatchers unread before after may_leave file whole alone is written =
     absurd cc
 
@@ -231,7 +233,8 @@ served_at : {S : Type 0} (table : TableRecord) (kept log : List CommitRecord) (m
     → (status ≡ 0 → IsTrue left.was_served)
     → IsServedJournaled table kept log may_leave file status (place + 1) closed
 served_at table kept log may_leave file status count place whole speaker closed left after is_left enough written well =
-    let had = subst (λ (one : Who). HasLeft (number_of one) after.client closed left) after.who_is after.spoken.spoken in
+    let had =
+    subst (λ (one : Who). HasLeft (number_of one) after.client closed left) after.who_is after.spoken.spoken in
     let few : most_told had.sessions ≤ count = omega (arith, enough, had.told_is) in record {
       client = after.client;
       table_is = after.table_is;
@@ -262,6 +265,7 @@ serves_clients_journaled texts known speakers clients dispatchers left log may_l
           let speaker = get_below speakers i (omega (arith, within, many)) in
           let one = get_below left i (omega (arith, within, many, run.one_left)) in
           served_at run.table over.goes_on.kept log may_leave file status count i whole speaker.0 client one.0
-          (run.served i speaker.0 client one.0 speaker.1 here one.1) is_left (all_at (λ (l : PathLeft). l.told ≤ count) left i one.0 enough one.1)
+          (run.served i speaker.0 client one.0 speaker.1 here one.1) is_left
+          (all_at (λ (l : PathLeft). l.told ≤ count) left i one.0 enough one.1)
           written (λ zero. all_at (λ (l : PathLeft). IsTrue l.was_served) left i one.0 (well zero) one.1);
     }

@@ -133,7 +133,8 @@ all_served shown all result is well same =
 -- one of the clients of a run, by its place
 served_at : {S : Type 0} (table : TableRecord) (log : List CommitRecord) (place : ℕ) (speaker : S)
     (client : TokenRecord) (left : PathLeft)
-    → IsSpokenTo (λ (s : S) old new one. HasLeft (number_of old.who) old new one) table log (place + 1) speaker client left
+    → IsSpokenTo (λ (s : S) old new one. HasLeft (number_of old.who) old new one) table log (place + 1) speaker client
+    left
     → IsTrue left.was_served → IsServedToEnd table log (place + 1) client
 served_at table log place speaker client left to well = record {
   sessions = to.spoken.sessions;

@@ -108,10 +108,10 @@ pub has_streamed : (outcome : Result Served SessionError) (number told : ℕ) (o
     → OnOk outcome (Converses true number old new start events [])
     → IfErr outcome (λ error. ConversesUntil error.fault number old new start events [])
     → told ≡ most_covered events → HasStreamed number old new unread before after outcome told
-has_streamed outcome number told old new unread before after was rest began now start events same same_too none same_then
-    serves breaks whole part told_is = record {
-      ended = has_ended outcome number old new unread was rest before began after now same same_too (sym same_then) serves
-          breaks;
+has_streamed outcome number told old new unread before after was rest began now start events same same_too none
+    same_then serves breaks whole part told_is = record {
+      ended = has_ended outcome number old new unread was rest before began after now same same_too (sym same_then)
+          serves breaks;
       events = events;
       conversed = has_conversed outcome number old new start events none whole part;
       told_is = told_is;

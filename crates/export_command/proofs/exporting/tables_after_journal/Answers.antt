@@ -1,4 +1,4 @@
-use Rattle.std.proofs.Common.{◌≡◌, ◌∙◌, ap, subst}
+use Rattle.std.proofs.Common.{◌∙◌, ap, subst}
 use Rattle.row_store.specs.Legal.{IsLegal}
 use Rattle.ssb_journal.specs.Replays.{IsReplayFault}
 use Rattle.export_command.specs.After.{tables_after}

@@ -9,7 +9,8 @@ returns-in-Ok-serve-clause-served g c = λ texts are.
     serves_clients_journaled texts _ _ _ _ _ _ _ _ _ _ _ (c.in-Ok-serve.ensures.served texts are)
     (sym c.in-Ok.speakers.ok.0 ∙ c.in-Ok.ensures)
     c.in-Ok-serve.ensures.kept c.in-Ok-serve.ensures.told (λ zero. c.tell_clients.ensures.written zero)
-    (λ zero. all_served _ _ _ c.were_served-all_served.ensures (c.tell_clients.ensures.served zero) c.deref.ensures.value)
+    (λ zero.
+    all_served _ _ _ c.were_served-all_served.ensures (c.tell_clients.ensures.served zero) c.deref.ensures.value)
 
 pub returns-in-Err-clause-closed : goal.returns-in-Err-clause-closed
 returns-in-Err-clause-closed g c = λ status. absurd (journal_told _ (sym c.tell-in-Err.ensures ∙ status))

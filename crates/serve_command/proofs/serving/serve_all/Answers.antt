@@ -10,4 +10,5 @@ returns-in_err-run-clause-refused g c =
 pub returns-clause-served : goal.returns-clause-served
 returns-clause-served g c = λ well texts are.
     serves_clients texts _ _ _ _ _ (c.in_ok-run.ensures.run texts are)
-    (sym c.in_ok-speakers.speakers.ok.0 ∙ c.in_ok-speakers.ensures) (all_served _ _ _ c.were_served.ensures well c.deref.ensures.value)
+    (sym c.in_ok-speakers.speakers.ok.0 ∙ c.in_ok-speakers.ensures)
+    (all_served _ _ _ c.were_served.ensures well c.deref.ensures.value)
