@@ -64,8 +64,16 @@ use Rattle.ssb_report.specs.Replies.{warehouse_answer}
 use Rattle.ssb_report.specs.Report.{AreReplies, committed}
 use Rattle.ssb_report.proofs.CommitLaws.{with_none, with_both}
 use Rattle.ssb_server.specs.Clients as client
-use Rattle.ssb_sessions.specs.Alone.{IsAlone, own, may_be_told, OneClientIsOneThread}
+use Rattle.ssb_sessions.specs.Alone.{
+  IsAlone,
+  own,
+  may_be_told,
+  OneClientIsOneThread,
+  AloneIsOneThread,
+  AloneEndsAsOneThread,
+}
 use Rattle.ssb_serving.specs.Served.{AreServed}
+use Rattle.ssb_serving.specs.declared.serve_error.ServeError.TheVariants as error
 use Rattle.ssb_serving.specs.Steps.{AreAlike}
 use Rattle.ssb_serving.proofs.RequestLaws.{refreshed_alike, answered_alike, asked_nothing}
 
@@ -282,13 +290,40 @@ are_one_threads old new (Ask asking ∷ requests) (Aborted ∷ replies) served a
 are_one_threads old new (Abort ∷ requests) (Refreshed reply ∷ replies) served alone quiet = absurd served.1
 are_one_threads old new (Abort ∷ requests) (Answered answers ∷ replies) served alone quiet = absurd served.1
 
-pub one_client_is_one_thread : OneClientIsOneThread
-one_client_is_one_thread table after requests told was is one served =
-    let all = are_one_threads (new_token table (Client 1)) after requests served.replies served.served
-    (record { who = refl; clients = one }) refl in
+pub alone_is_one_thread : AloneIsOneThread
+alone_is_one_thread before after requests told_old told_new was is alone quiet served =
+    let all = are_one_threads before after requests served.replies served.served alone (asked_nothing before.asked quiet)
+    in
     record {
       replies = served.replies;
       answered = all.answered;
       grown = all.grown;
       written = served.written;
     }
+
+pub alone_ends_as_one_thread : AloneEndsAsOneThread
+alone_ends_as_one_thread (error.Write done) before after requests told_old told_new was is alone quiet ends =
+    let all = are_one_threads before after (take (done + 1) requests) (ends.replies ++ ends.last ∷ []) ends.served alone
+    (asked_nothing before.asked quiet) in
+    record {
+      replies = ends.replies;
+      last = ends.last;
+      count = ends.count;
+      answered = all.answered;
+      grown = all.grown;
+      part = ends.part;
+      rest = ends.rest;
+      begins = ends.begins;
+      left = ends.left;
+      written = ends.written;
+    }
+alone_ends_as_one_thread (error.OutOfMemory done) before after requests told_old told_new was is alone quiet ends = (
+  ends.0,
+  alone_is_one_thread before after (take done requests) told_old told_new was is alone quiet ends.1,
+)
+
+-- a new token asks nothing
+pub one_client_is_one_thread : OneClientIsOneThread
+one_client_is_one_thread table after requests told was is one served =
+    alone_is_one_thread (new_token table (Client 1)) after requests [] told was is (record { who = refl; clients = one })
+    refl served

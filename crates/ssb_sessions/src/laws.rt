@@ -1,5 +1,5 @@
 //! What follows of what clients are served: each law is the contract of a function that does nothing.
-ghost use Rattle.ssb_sessions.specs.Alone.{OneClientIsOneThread};
+ghost use Rattle.ssb_sessions.specs.Alone.{OneClientIsOneThread, AloneIsOneThread, AloneEndsAsOneThread};
 ghost use Rattle.ssb_sessions.specs.Traces.{RunsAreLegal};
 
 /// The log of a closed server and what each of its clients was told, in any order of the clients, are a legal trace:
@@ -11,4 +11,11 @@ pub fn runs_are_legal()
 /// What the only client of a server is served from the beginning on is what the one-thread warehouse serves.
 pub fn one_client_is_one_thread()
     ensures { OneClientIsOneThread }
+{}
+
+/// What the only client of a server is served, from any state on in which it asks nothing, is what the one-thread
+/// warehouse serves after the commits that the client has made; and so it is where serving ends early.
+pub fn alone_is_one_thread()
+    ensures whole { AloneIsOneThread }
+    ensures broken { AloneEndsAsOneThread }
 {}

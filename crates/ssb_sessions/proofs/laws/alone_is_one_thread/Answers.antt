@@ -1,0 +1,8 @@
+use Rattle.ssb_sessions.proofs.AloneLaws as law
+use Rattle.ssb_sessions.proofs.laws.alone_is_one_thread.Goals as goal
+
+pub returns-clause-whole : goal.returns-clause-whole
+returns-clause-whole c = law.alone_is_one_thread
+
+pub returns-clause-broken : goal.returns-clause-broken
+returns-clause-broken c = law.alone_ends_as_one_thread
