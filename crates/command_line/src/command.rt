@@ -259,6 +259,19 @@ fn journal_path<'a, F: Files + AllocGlobal>(
     })
 }
 
+// The journal's place, where there is a file.
+fn journal_place<'a, 'f, F: Files + AllocGlobal>(
+    file: Option<&'a JournalPath<'f, F>>,
+    bytes: &'a TableBytes,
+    quiet: bool,
+) -> Option<JournalPlace<'a, JournalPath<'f, F>>> {
+    Some(JournalPlace {
+        file: file?,
+        bytes,
+        tells: !quiet,
+    })
+}
+
 // Serves clients with a journal, or without one.
 fn serve_whom<R, F, T: Read + Drop, I: Read + Drop + Send, W: Write + Drop + Send, E: Print + Sync>(
     rt: &R,
@@ -321,11 +334,7 @@ where
     let bytes = TableBytes::new();
     let tables = count_tables(&bytes, tables);
     let path = journal_path(files, journal.as_ref());
-    let place = path.as_ref().map(|file| JournalPlace {
-        file,
-        bytes: &bytes,
-        tells: !words.quiet,
-    });
+    let place = journal_place(path.as_ref(), &bytes, words.quiet);
     let journal = place.as_ref();
     if !clients.is_empty() {
         let whom: Served<'_, F, I, W> = Served::Paths(PathClients {
