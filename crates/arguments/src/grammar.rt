@@ -6,6 +6,9 @@ use std::alloc::{AllocError, Global};
 
 const VERSION: &str = "0.1.0";
 
+// The systems whose SQL explains a question.
+static SYSTEMS: [&str; 3] = ["sqlite", "postgresql", "clickhouse"];
+
 // The folder of the five table files.
 fn data_argument<'a>(alloc: Global) -> Arg<'a> {
     Arg::new(alloc, "data")
@@ -90,15 +93,40 @@ fn constants_argument<'a>(alloc: Global) -> Arg<'a> {
         .action(ArgAction::Append)
 }
 
+// Whether a question is explained, for which no tables are needed.
+fn explain_argument<'a>(alloc: Global) -> Result<Arg<'a>, AllocError> {
+    flag(
+        alloc,
+        "explain",
+        "Explains the question in place of asking it: as a request of star, its columns, its order; reads no tables",
+    )
+    .conflicts_with("all")?
+    .conflicts_with("data")
+}
+
+// The system for which a question is explained.
+fn sql_argument<'a>(alloc: Global) -> Result<Arg<'a>, AllocError> {
+    Arg::new(alloc, "sql")
+        .long("sql")
+        .value_name("SYSTEM")
+        .help("With --explain: as one statement of the SQL of this system")
+        .value_parser(SYSTEMS.as_slice())
+        .action(ArgAction::Set)
+        .requires_arg("explain")
+}
+
 // The words of `query`.
 fn query_command<'a>(alloc: Global) -> Result<Command<'a>, AllocError> {
-    let command = over_tables(
-        alloc,
-        "query",
-        "Prints the report of one question, or of all, over table files",
-        QUERY_HELP,
-    )?;
+    let data = data_argument(alloc)
+        .required(false)
+        .required_unless_present("explain")?;
+    let command = Command::new(alloc, "query")
+        .about("Prints the report of one question, or of all, over table files")
+        .long_about(QUERY_HELP)
+        .arg(data)?;
     command
+        .arg(explain_argument(alloc)?)?
+        .arg(sql_argument(alloc)?)?
         .arg(flag(
             alloc,
             "all",

@@ -39,11 +39,16 @@ The query star is a question of your own. Its constants, at most 64, are a measu
 COLUMN is C_CITY, C_NATION, C_REGION, S_CITY, S_NATION, S_REGION, P_MFGR, P_CATEGORY, P_BRAND1, D_YEAR, D_YEARMONTHNUM,
 D_YEARMONTH or D_WEEKNUMINYEAR.
 
+With --explain it reads no tables, and prints what is asked: a request of star that asks the same, the printed columns,
+and what the rows are ordered by. With --sql it is one statement for that system, over the benchmark's tables.
+
 Examples:
   ssb_live query --data tables Q4.1
   ssb_live query --data tables Q2.1 'MFGR#12' EUROPE
   ssb_live query --data tables star LO_REVENUE D_YEAR P_BRAND1 'P_CATEGORY=MFGR#12' 'S_REGION=AMERICA'
-  ssb_live query --data tables --all --times";
+  ssb_live query --data tables --all --times
+  ssb_live query --explain Q2.1
+  ssb_live query --explain --sql postgresql star COUNT C_REGION";
 
 /// What `run --help` shows.
 pub const RUN_HELP: &str = "\

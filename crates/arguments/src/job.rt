@@ -3,6 +3,7 @@
 use crate::grammar::command;
 use crate::notice::Notice;
 use clap::ArgMatches;
+use ssb_explain::System;
 use std::alloc::{AllocError, Global};
 
 /// What the words ask for.
@@ -12,6 +13,8 @@ pub enum Job<'a> {
     Script,
     /// The report of one question, or of all.
     Query(QueryWords<'a>),
+    /// One question explained, with no tables.
+    Explain(ExplainWords<'a>),
     /// Scripts at once, and their reports.
     Run(RunWords<'a>),
     /// Clients, as their requests come.
@@ -32,6 +35,15 @@ pub struct QueryWords<'a> {
     pub constants: Vec<&'a str>,
     pub times: bool,
     pub quiet: bool,
+}
+
+/// The words of `query --explain`.
+#[derive(Drop)]
+pub struct ExplainWords<'a> {
+    pub name: &'a str,
+    pub constants: Vec<&'a str>,
+    /// The system whose SQL is written; none where words are.
+    pub sql: Option<System>,
 }
 
 /// The words of `run`.
@@ -99,6 +111,33 @@ fn query_words<'a>(alloc: Global, matches: &ArgMatches<'a>) -> Result<QueryWords
     })
 }
 
+// The system whose SQL is asked for; the grammar lets no other name through.
+fn system_of(matches: &ArgMatches<'_>) -> Option<System> {
+    match matches.get_str("sql") {
+        Some(name) => System::by_name(name).ok(),
+        None => None,
+    }
+}
+
+fn explain_words<'a>(
+    alloc: Global,
+    matches: &ArgMatches<'a>,
+) -> Result<ExplainWords<'a>, AllocError> {
+    Ok(ExplainWords {
+        name: word_of(matches, "name"),
+        constants: words_of(alloc, matches, "constants")?,
+        sql: system_of(matches),
+    })
+}
+
+fn query_job<'a>(alloc: Global, matches: &ArgMatches<'a>) -> Result<Job<'a>, AllocError> {
+    if matches.get_flag("explain") {
+        Ok(Job::Explain(explain_words(alloc, matches)?))
+    } else {
+        Ok(Job::Query(query_words(alloc, matches)?))
+    }
+}
+
 fn run_words<'a>(alloc: Global, matches: &ArgMatches<'a>) -> Result<RunWords<'a>, AllocError> {
     Ok(RunWords {
         data: word_of(matches, "data"),
@@ -146,7 +185,7 @@ pub fn job_of<'a>(alloc: Global, words: &'a [String]) -> Result<Job<'a>, Notice>
         Some(("serve", words)) => Job::Serve(serve_words(alloc, words)?),
         Some(("audit", words)) => Job::Audit(audit_words(words)),
         Some(("export", words)) => Job::Export(export_words(words)),
-        Some((_, words)) => Job::Query(query_words(alloc, words)?),
+        Some((_, words)) => query_job(alloc, words)?,
         None => Job::Script,
     })
 }

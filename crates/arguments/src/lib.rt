@@ -1,11 +1,11 @@
 //! The words of the program's command line, and what they ask for.
 //!
 //! ```text
-//! words ── job_of ─┬─ Job: query, run, serve, audit, export, each with its words; or none: a script
+//! words ── job_of ─┬─ Job: query (or its explanation), run, serve, audit, export, each with its words; or none: a script
 //!                  └─ Notice: help, the version, or why the words are wrong
 //! ```
 //!
-//! It stands on `clap` and on no job, and promises no more than safety: which words are taken, and what the help says, is
+//! It stands on `clap` and on no job (`ssb_explain` names the systems), and promises no more than safety: which words are taken, and what the help says, is
 //! shown by the cases of the program `cases`.
 //!
 //! ```text
@@ -22,5 +22,7 @@ mod job;
 mod notice;
 
 pub use help::TERMINAL_HELP;
-pub use job::{AuditWords, ExportWords, Job, QueryWords, RunWords, ServeWords, job_of};
+pub use job::{
+    AuditWords, ExplainWords, ExportWords, Job, QueryWords, RunWords, ServeWords, job_of,
+};
 pub use notice::Notice;

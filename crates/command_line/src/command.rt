@@ -7,7 +7,7 @@ use arguments::{
 use audit_command::run_audit;
 use export_command::{ExportPlace, run_export};
 use journal_file::{JournalFile, torn_path};
-use query_command::{Settings, run_all, run_query};
+use query_command::{Settings, run_all, run_explain, run_query};
 use run_command::{RunSettings, demo, run_scripts};
 use serve_command::{
     EndPaths, JournalPlace, MOST_CLIENTS, Prompted, ServeSettings, report_no_pipes, serve_clients,
@@ -474,6 +474,17 @@ where
     match job {
         Job::Script => serve_script(rt, input, &mut output, err),
         Job::Query(words) => answer_query(rt, files, &words, terminal, &mut output, err),
+        Job::Explain(words) => {
+            let constants = words.constants.as_slice();
+            run_explain(
+                rt.alloc(),
+                words.name,
+                constants,
+                words.sql,
+                &mut output,
+                err,
+            )
+        }
         Job::Run(words) => serve_scripts(rt, files, &words, terminal, &mut output, err),
         Job::Serve(words) => {
             let streams = Streams {
