@@ -138,7 +138,7 @@ ready_to_close Spoken table recovered speakers seated resting closed left dispat
     new (still_push dispatchers ended opened now still (still_later opened begun now reader later))
 
 -- what the reader sees at the end begins with what was recovered
-later_begins : (begun now : TokenRecord) → IsLater begun now → IsPrefix begun.seen now.seen
+pub later_begins : (begun now : TokenRecord) → IsLater begun now → IsPrefix begun.seen now.seen
 later_begins begun now later = record {
   rest = drop (length begun.seen) now.seen;
   whole = sym (take-append-drop (length begun.seen) now.seen)
@@ -146,7 +146,7 @@ later_begins begun now later = record {
 }
 
 -- it is a beginning of the log
-reader_begins : (table : TableRecord) (clients ended : List TokenRecord) (now : TokenRecord) (log : List CommitRecord)
+pub reader_begins : (table : TableRecord) (clients ended : List TokenRecord) (now : TokenRecord) (log : List CommitRecord)
     → IsClosedWith table clients (ended ++ now ∷ []) log → IsPrefix now.seen log
 reader_begins table clients ended now log closed_with =
     (All-pop (λ (token : TokenRecord). IsPrefix token.seen log) (ended ++ now ∷ []) ended (Some now) refl

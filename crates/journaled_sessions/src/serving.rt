@@ -4,7 +4,9 @@ ghost use Rattle.std.specs.Prelude.{◌≡◌, ◌+◌, ◌≤◌, ◌++◌, [],
 ghost use Rattle.std.specs.Prelude.{Some, map, true, vec_len};
 ghost use Rattle.history.specs.Tokens.{new_clients, new_dispatchers};
 ghost use Rattle.journal.specs.Groups.{recovered as recovered_groups, AreTorn};
-ghost use Rattle.ssb_journal.specs.Counts.{IsLeft, KeepsFirst};
+ghost use Rattle.journal.specs.Disk.{LeavesOnly};
+ghost use Rattle.ssb_journal.specs.Counts.{IsLeft, KeepsFirst, KeepsSince};
+ghost use Rattle.ssb_journal.specs.Kept.{IsAsItWasOrNew};
 ghost use Rattle.ssb_journal.specs.Opening.{IsKept};
 ghost use Rattle.ssb_server.specs.Tickets.{IsOf, IsQuiet};
 ghost use Rattle.ssb_serving.specs.Members.{AreStill, IsReady, IsStill};
@@ -12,6 +14,7 @@ ghost use Rattle.stream_sessions.specs.Streams.{AreSpoken, IsClosedWith};
 ghost use Rattle.journaled_sessions.specs.Reading.{IsLater};
 ghost use Rattle.journaled_sessions.specs.Seated.{AllHaveSeen, AreSeated};
 ghost use Rattle.journaled_sessions.specs.Served.{IsJournaledFault, IsJournaledRun, IsOpenedFault};
+ghost use Rattle.journaled_sessions.specs.Served.{IsBegunOn, KeepsRecovered, begun_on};
 
 use crate::acknowledging::{Durable, Journaled};
 use crate::fault::JournaledFault;
@@ -91,6 +94,9 @@ where
     ensures reader { IfOk result (λ begun. IsStill reader begun.reader) }
     ensures seen { IfOk result (λ begun. begun.reader.seen ≡ recovered.entry.opened.kept.commits.items) }
     ensures kept { IfOk result (λ begun. KeepsFirst begun.count begun.reader.seen (D.seen begun.journal)) }
+    ensures count { IfOk result (λ begun. begun.count ≡ vec_len recovered.entry.opened.kept.commits) }
+    ensures any_moment { IfOk result (λ begun. LeavesOnly D.moment D.left_since recovered.entry.opened.found begun.journal
+        (IsAsItWasOrNew recovered.entry.sizes.now (recovered_groups (D.seen recovered.entry.opened.found)))) }
     ensures fault { IfErr result (IsOpenedFault server.now.base recovered.entry.opened.kept.commits.items) }
 {
     let mut reader = reader;
@@ -164,6 +170,7 @@ where
     requires few { server.now.clients ≤ 16 }
     requires reader { begun.reader.table ≡ server.now }
     requires picked { K.reader ≡ Some begun.reader }
+    requires begun { IsBegunOn D.moment D.left_since K.begun begun.journal begun.count }
     requires kept { KeepsFirst begun.count begun.reader.seen (D.seen begun.journal) }
     ensures served { IfOk result (λ end. AreSpoken S.spoken speakers.items seated.items
         (map (λ one. one.client) end.0.spoken.items) (map (λ one. one.left) end.0.spoken.items)) }
@@ -171,6 +178,9 @@ where
     ensures reader { IfOk result (λ end. IfSome end.1 (λ left. IsLater begun.reader left.reader)) }
     ensures left { IfOk result (λ end. IfSome end.1 (λ left. IsLeft (D.may_leave left.disk) (D.seen left.disk)
         left.count left.reader.seen left.is_whole)) }
+    ensures since { IfOk result (λ end. IfSome end.1 (λ left. KeepsSince
+        (begun_on D.moment D.left_since begun.journal begun.count) (D.moment left.disk) (D.left_since left.disk)
+        left.count left.reader.seen)) }
 {
     let Begun {
         journal,
@@ -283,6 +293,8 @@ where
         recovered.entry.opened.kept.commits.items speakers.items opened.server.dispatchers run.left.items run.log) }
     ensures kept { IfOk result (λ run. IsLeft (D.may_leave run.disk) (D.seen run.disk) run.count run.log
         run.was_written) }
+    ensures any_moment { IfOk result (λ run. LeavesOnly D.moment D.left_since recovered.entry.opened.found run.disk
+        (KeepsRecovered recovered.entry.opened.kept.commits.items run.log)) }
     ensures told { IfOk result (λ run. All (λ left. S.told left ≤ run.count) run.left.items) }
     ensures left { IfOk result (λ run. vec_len run.left ≡ vec_len speakers) }
     ensures fault { IfErr result (IsOpenedFault opened.server.base recovered.entry.opened.kept.commits.items) }
@@ -307,6 +319,7 @@ where
     let Some(left) = left else {
         return Err(JournaledFault::Disturbed);
     };
+    first_of_log();
     if !all_are_kept::<W, S>(&ended.spoken, left.count) {
         return Err(JournaledFault::Disturbed);
     }
@@ -342,6 +355,9 @@ where
     // Who reads the log for the journal is one dispatcher more.
     ensures served { IfOk result (λ run. IsJournaledRun S.spoken base.value
         recovered.entry.opened.kept.commits.items speakers.items (dispatchers + 1) run.left.items run.log) }
+    // A crash at any moment of the run leaves the first commits of the log, all that were recovered among them.
+    ensures any_moment { IfOk result (λ run. LeavesOnly D.moment D.left_since recovered.entry.opened.found run.disk
+        (KeepsRecovered recovered.entry.opened.kept.commits.items run.log)) }
     // Whatever crashes from now on leaves the first commits of the log, at least so many, ..
     ensures kept { IfOk result (λ run. IsLeft (D.may_leave run.disk) (D.seen run.disk) run.count run.log
         run.was_written) }

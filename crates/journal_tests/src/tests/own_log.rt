@@ -51,6 +51,8 @@ pub(crate) fn own_commits(
 impl<'a> LogSource for OwnLog<'a> {
     ghost log = { λ l. map (λ refresh. own refresh.value) (take l.seen l.refreshes.now) };
 
+    ghost begun = { nothing_said };
+
     #[tactic(auto, using(crate::proofs::OwnLaws::seen_grows))]
     fn commits_from<R: Wait>(
         &mut self,

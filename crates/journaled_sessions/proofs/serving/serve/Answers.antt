@@ -1,17 +1,24 @@
-use Rattle.std.proofs.Common.{◌≡◌, ◌≤◌, ◌∙◌, length, ap, arith}
+use Rattle.std.proofs.Common.{◌≡◌, ◌≤◌, ◌∙◌, List, length, ap, refl, subst, arith}
 use Rattle.std.proofs.lemmas.List.FromFn.{length-map-range_with_len}
-use Rattle.journaled_sessions.proofs.BeginningLaws.{begun_table, opened_dispatchers, opened_reader}
+use Rattle.journal.specs.Groups.{recovered as recovered_groups}
+use Rattle.row_store.proofs.PrefixLaws.{beginnings_chain}
+use Rattle.row_store.specs.History.{CommitRecord, IsPrefix}
+use Rattle.journaled_sessions.proofs.BeginningLaws.{as_it_was, begun_table, kept_throughout, opened_dispatchers, opened_reader}
 use Rattle.journaled_sessions.proofs.SeatLaws.{new_are_seated}
 use Rattle.journaled_sessions.proofs.ServingLaws.{
   journaled_run,
+  later_begins,
   left_of_log,
   parted_again,
+  reader_begins,
   ready_to_close,
   seated_quiet,
   some_has,
   told_each,
 }
-use Rattle.ssb_journal.specs.Counts.{IsLeft}
+use Rattle.ssb_journal.specs.Counts.{IsLeft, KeepsSince}
+use Rattle.ssb_journal.specs.Kept.{IsAsItWasOrNew}
+use Rattle.journaled_sessions.specs.Served.{begun_on}
 use Rattle.journaled_sessions.specs.Reading.{IsLater}
 use Rattle.journaled_sessions.proofs.serving.serve.Goals as goal
 
@@ -49,6 +56,10 @@ serve_sessions-requires-clause-reader g c κs within =
     begun_table c.args.opened.server c.args.opened.reader c.in_ok-begun.begun.reader
     (opened_reader c.args.opened.server c.args.opened.dispatchers.items c.args.opened.reader c.requires.dispatchers).1.0
     c.in_ok-begun.ensures.reader
+
+pub serve_sessions-requires-clause-begun : goal.serve_sessions-requires-clause-begun
+serve_sessions-requires-clause-begun g c κs within =
+    record { moment_is = refl; count_is = refl; past_is = λ t file. (λ was. was, λ left. left) }
 
 pub close-requires : goal.close-requires
 close-requires g c =
@@ -114,3 +125,31 @@ returns-clause-told g c =
     (told_each c.in_ok-ended.ended.spoken.items c.deref.result.now c.in_ok-close.field-0.left.items
     (λ one. one.left) g.S.Speaker.told c.in-Some.left.count c.in_ok-close.ensures.left c.deref.ensures.value
     (c.all_are_kept.ensures c.if-not-all_are_kept.false))
+
+pub returns-clause-any_moment : goal.returns-clause-any_moment
+returns-clause-any_moment g c =
+    let kept = c.args.recovered.opened.kept in
+    let groups = recovered_groups (g.D.Disk.seen c.args.recovered.opened.found) in
+    let found = c.args.recovered.opened.found in
+    let now = c.in-Some.left in
+    let log = c.in_ok-close.field-0.log in
+    let begins = reader_begins c.args.opened.server _ c.in_ok-ended.ended.dispatchers.items now.reader log
+    c.in_ok-close.ensures.closed in
+    let later : IsLater c.in_ok-begun.begun.reader now.reader =
+    some_has c.in_ok-ended.left now (λ left. IsLater c.in_ok-begun.begun.reader left.reader) c.in-Some.is
+    c.in_ok-ended.ensures.reader in
+    let goes_on : IsPrefix kept.commits.items log =
+    subst (λ (l : List CommitRecord). IsPrefix l log) c.in_ok-begun.ensures.seen
+    (beginnings_chain c.in_ok-begun.begun.reader.seen now.reader.seen log
+    (later_begins c.in_ok-begun.begun.reader now.reader later) begins) in
+    rw c.in_ok-close.ensures.journal.0
+    (kept_throughout g.D.Disk.moment g.D.Disk.left_since found c.in_ok-begun.begun.journal now.disk
+    (IsAsItWasOrNew c.args.recovered.sizes.now groups) c.in_ok-begun.begun.count now.count kept.commits.items
+    now.reader.seen log c.in_ok-begun.ensures.any_moment
+    (omega (arith, c.in_ok-begun.ensures.count, kept.commits.ok.0, kept.commits.ok.1))
+    (some_has c.in_ok-ended.left now (λ left. KeepsSince
+    (begun_on g.D.Disk.moment g.D.Disk.left_since c.in_ok-begun.begun.journal c.in_ok-begun.begun.count)
+    (g.D.Disk.moment left.disk) (g.D.Disk.left_since left.disk) left.count left.reader.seen) c.in-Some.is
+    c.in_ok-ended.ensures.since) begins
+    (λ file left. as_it_was c.args.recovered.sizes.now kept groups log file c.first_of_log.ensures c.requires.kept goes_on
+    left))
