@@ -1,5 +1,6 @@
 -- A server with a journal begins where the journal ends, and is opened with quiet clients and a reader of its log.
-use Rattle.std.proofs.Common.{◌≡◌, ◌≤◌, inl, inr, ⊎_elim, arith, ℕ, List, [], ◌∷◌, ◌++◌, length, Result, Ok, Err, Option, Some, None, refl, sym, ◌∙◌}
+use Rattle.std.proofs.Common.{◌≡◌, ◌≤◌, inl, inr, ⊎_elim, ℕ, List, [], ◌∷◌, ◌++◌, length, Result, Ok, Err, Option}
+use Rattle.std.proofs.Common.{Some, None, refl, sym, ◌∙◌, arith}
 use Rattle.std.proofs.Common.{subst}
 use Rattle.std.specs.Prelude.{All, IfErr, IfOk, IfSome}
 use Rattle.std.specs.List.{range_with_len}
@@ -25,7 +26,8 @@ use Rattle.ssb_server.specs.declared.opening.OpenFault.TheVariants as opening
 use Rattle.ssb_serving.specs.RunFaults.{IsRunFault, fault_of}
 use Rattle.ssb_serving.specs.Members.{IsStill}
 use Rattle.ssb_serving.specs.declared.run_fault.RunFault.{RunFault}
-use Rattle.journaled_sessions.specs.Served.{IsJournaledFault, IsJournaledRun, IsOpenedFault, IsBegunOn, KeepsRecovered, begun_on}
+use Rattle.journaled_sessions.specs.Served.{IsBegunOn, IsJournaledFault, IsJournaledRun, IsOpenedFault}
+use Rattle.journaled_sessions.specs.Served.{KeepsRecovered, begun_on}
 use Rattle.journaled_sessions.specs.declared.fault.JournaledFault.{JournaledFault}
 use Rattle.journaled_sessions.specs.declared.fault.JournaledFault.TheVariants as fault
 
@@ -83,7 +85,8 @@ pub kept_throughout : {D : Type 0} (moment : D → ℕ) (left_since : D → ℕ 
     → LeavesOnly moment left_since found now (KeepsRecovered recovered log)
 kept_throughout moment left_since found begun now P least count recovered seen log first many since begins means =
     let longer : (file : List ℕ) → KeepsBeginning least seen file → KeepsRecovered recovered log file =
-    λ file kept. inl (subst (λ n. KeepsBeginning n log file) many (beginning_of_longer least seen log file begins kept)) in
+    λ file kept. inl (subst (λ n. KeepsBeginning n log file) many
+    (beginning_of_longer least seen log file begins kept)) in
     record {
       later = omega (arith, first.later, since.later);
       each = λ file left. ⊎_elim (λ was. means file (first.each file was)) (longer file)

@@ -146,8 +146,8 @@ later_begins begun now later = record {
 }
 
 -- it is a beginning of the log
-pub reader_begins : (table : TableRecord) (clients ended : List TokenRecord) (now : TokenRecord) (log : List CommitRecord)
-    → IsClosedWith table clients (ended ++ now ∷ []) log → IsPrefix now.seen log
+pub reader_begins : (table : TableRecord) (clients ended : List TokenRecord) (now : TokenRecord)
+    (log : List CommitRecord) → IsClosedWith table clients (ended ++ now ∷ []) log → IsPrefix now.seen log
 reader_begins table clients ended now log closed_with =
     (All-pop (λ (token : TokenRecord). IsPrefix token.seen log) (ended ++ now ∷ []) ended (Some now) refl
     closed_with.ended_begin).1

@@ -28,7 +28,8 @@ pub record IsBegunOn {D : Type 0} (moment : D → ℕ) (left_since : D → ℕ �
   pub count_is : begun.count ≡ count
   pub past_is : (t : ℕ) (file : List ℕ) → begun.past t file ↔ left_since disk t file
 
--- a file is a journal of the first commits of a log, at least all that were recovered; or none were, and it has no groups
+-- a file is a journal of the first commits of a log, at least all that were recovered; or none were, and it has no
+-- groups
 abbrev pub KeepsRecovered : List CommitRecord → List CommitRecord → List ℕ → Type 0
 KeepsRecovered recovered log file =
     KeepsBeginning (length recovered) log file ⊎ ((recovered ≡ []) × (recovered_groups file ≡ []))

@@ -95,7 +95,8 @@ where
     ensures seen { IfOk result (λ begun. begun.reader.seen ≡ recovered.entry.opened.kept.commits.items) }
     ensures kept { IfOk result (λ begun. KeepsFirst begun.count begun.reader.seen (D.seen begun.journal)) }
     ensures count { IfOk result (λ begun. begun.count ≡ vec_len recovered.entry.opened.kept.commits) }
-    ensures any_moment { IfOk result (λ begun. LeavesOnly D.moment D.left_since recovered.entry.opened.found begun.journal
+    ensures any_moment { IfOk result (λ begun. LeavesOnly D.moment D.left_since recovered.entry.opened.found
+        begun.journal
         (IsAsItWasOrNew recovered.entry.sizes.now (recovered_groups (D.seen recovered.entry.opened.found)))) }
     ensures fault { IfErr result (IsOpenedFault server.now.base recovered.entry.opened.kept.commits.items) }
 {

@@ -3,7 +3,8 @@ use Rattle.std.proofs.lemmas.List.FromFn.{length-map-range_with_len}
 use Rattle.journal.specs.Groups.{recovered as recovered_groups}
 use Rattle.row_store.proofs.PrefixLaws.{beginnings_chain}
 use Rattle.row_store.specs.History.{CommitRecord, IsPrefix}
-use Rattle.journaled_sessions.proofs.BeginningLaws.{as_it_was, begun_table, kept_throughout, opened_dispatchers, opened_reader}
+use Rattle.journaled_sessions.proofs.BeginningLaws.{as_it_was, begun_table, kept_throughout, opened_dispatchers}
+use Rattle.journaled_sessions.proofs.BeginningLaws.{opened_reader}
 use Rattle.journaled_sessions.proofs.SeatLaws.{new_are_seated}
 use Rattle.journaled_sessions.proofs.ServingLaws.{
   journaled_run,
@@ -151,5 +152,5 @@ returns-clause-any_moment g c =
     (begun_on g.D.Disk.moment g.D.Disk.left_since c.in_ok-begun.begun.journal c.in_ok-begun.begun.count)
     (g.D.Disk.moment left.disk) (g.D.Disk.left_since left.disk) left.count left.reader.seen) c.in-Some.is
     c.in_ok-ended.ensures.since) begins
-    (λ file left. as_it_was c.args.recovered.sizes.now kept groups log file c.first_of_log.ensures c.requires.kept goes_on
-    left))
+    (λ file left. as_it_was c.args.recovered.sizes.now kept groups log file c.first_of_log.ensures c.requires.kept
+    goes_on left))

@@ -10,11 +10,11 @@ pub returns-in-Err-clause-any_moment_err : goal.returns-in-Err-clause-any_moment
 returns-in-Err-clause-any_moment_err g c =
     leaves_beginning g.D.Disk.moment g.D.Disk.left_since g.D.Disk.seen c.args.count (g.L.LogSource.log c.args.source) c.args.commits.items c.args.journal c.in-Err.disk c.requires.given c.requires.kept c.in-Err.ensures.any_moment_err
 
-pub invariant_of-result-in-Ok : goal.invariant_of-result-in-Ok
-invariant_of-result-in-Ok g c = (
+pub invariant_of-result : goal.invariant_of-result
+invariant_of-result g c = (
   search rules,
   since_goes_on g.D.Disk.moment g.D.Disk.left_since g.D.Disk.seen g.L.LogSource.begun c.args.count _ (g.L.LogSource.log c.args.source) c.args.journal c.in-Ok.journal (omega arith) c.requires.since
-  (leaves_beginning g.D.Disk.moment g.D.Disk.left_since g.D.Disk.seen c.args.count (g.L.LogSource.log c.args.source) c.args.commits.items c.args.journal c.in-Ok.journal c.requires.given c.requires.kept c.in-Ok.ensures.any_moment),
+      (leaves_beginning g.D.Disk.moment g.D.Disk.left_since g.D.Disk.seen c.args.count (g.L.LogSource.log c.args.source) c.args.commits.items c.args.journal c.in-Ok.journal c.requires.given c.requires.kept c.in-Ok.ensures.any_moment),
 )
 
 pub invariant_of-result-in-Err : goal.invariant_of-result-in-Err

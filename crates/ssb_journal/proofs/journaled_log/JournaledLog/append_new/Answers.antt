@@ -37,12 +37,11 @@ invariant_of-result-in-Err g c =
     let log = g.L.LogSource.log in
     let all = log c.commits_from.new.self in
     let disk = c.into_disk.result in
-    let first : KeepsFirst c.self.inside.count all (g.D.Disk.seen c.self.inside.journal) = keeps_of_longer c.self.inside.count (log c.self.inside.source) all (g.D.Disk.seen c.self.inside.journal) c.commits_from.ensures.grown c.self.invariant.0 in
-    (
+    let first : KeepsFirst c.self.inside.count all (g.D.Disk.seen c.self.inside.journal) = keeps_of_longer c.self.inside.count (log c.self.inside.source) all (g.D.Disk.seen c.self.inside.journal) c.commits_from.ensures.grown c.self.invariant.0 in (
       left_whole (g.D.Disk.may_leave disk) (g.D.Disk.seen disk) c.self.inside.count all false c.into_disk.ensures.durable
-      (subst (λ (d : g.row.D.Denot). KeepsFirst c.self.inside.count all (g.D.Disk.seen d)) (sym c.into_disk.ensures.same) first),
+          (subst (λ (d : g.row.D.Denot). KeepsFirst c.self.inside.count all (g.D.Disk.seen d)) (sym c.into_disk.ensures.same) first),
       subst (λ (d : g.row.D.Denot). KeepsSince g.L.LogSource.begun (g.D.Disk.moment d) (g.D.Disk.left_since d) c.self.inside.count all) (sym c.into_disk.ensures.same)
-      (since_of_longer g.L.LogSource.begun (g.D.Disk.moment c.self.inside.journal) (g.D.Disk.left_since c.self.inside.journal) c.self.inside.count (log c.self.inside.source) all c.commits_from.ensures.grown c.self.invariant.1),
+          (since_of_longer g.L.LogSource.begun (g.D.Disk.moment c.self.inside.journal) (g.D.Disk.left_since c.self.inside.journal) c.self.inside.count (log c.self.inside.source) all c.commits_from.ensures.grown c.self.invariant.1),
     )
 
 pub returns-in-Ok-2-clause-failed : goal.returns-in-Ok-2-clause-failed
@@ -63,3 +62,10 @@ returns-in-Ok-2-clause-full g c =
     (λ e full same is. subst (λ (self : Journaled g.row.D.Denot g.row.L.Denot). HasNoRoom (seen self.disk) (drop self.count (log e.1.source))) c.self.view_is
     (subst (HasNoRoom (seen before.disk))
     (c.in-Ok.ensures.commits ∙ ap (λ (source : g.row.L.Denot). drop before.count (log source)) (sym same.0)) (full is)))
+
+pub append_given-requires-clause-since : goal.append_given-requires-clause-since
+append_given-requires-clause-since g c =
+    let log = g.L.LogSource.log in
+    since_of_longer g.L.LogSource.begun (g.D.Disk.moment c.self.inside.journal) (g.D.Disk.left_since c.self.inside.journal)
+    c.self.inside.count (log c.self.inside.source) (log c.commits_from.new.self) c.commits_from.ensures.grown
+    c.self.invariant.1
