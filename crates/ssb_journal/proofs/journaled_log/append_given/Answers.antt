@@ -1,5 +1,6 @@
-use Rattle.std.proofs.Common.{arith, rules}
-use Rattle.ssb_journal.proofs.CountLaws.{leaves_beginning, left_failed, since_goes_on}
+use Rattle.std.proofs.Common.{arith, subst}
+use Rattle.ssb_journal.specs.Counts.{KeepsFirst}
+use Rattle.ssb_journal.proofs.CountLaws.{counted, keeps_whole, leaves_beginning, left_failed, since_goes_on}
 use Rattle.ssb_journal.proofs.journaled_log.append_given.Goals as goal
 
 pub returns-in-Ok-clause-any_moment : goal.returns-in-Ok-clause-any_moment
@@ -12,7 +13,9 @@ returns-in-Err-clause-any_moment_err g c =
 
 pub invariant_of-result : goal.invariant_of-result
 invariant_of-result g c = (
-  search rules,
+  subst (λ n. KeepsFirst n (g.L.LogSource.log c.args.source) (g.D.Disk.seen c.in-Ok.journal))
+      (omega (arith, c.len-more.ensures, c.args.commits.ok.0, c.args.commits.ok.1, counted c.args.count (g.L.LogSource.log c.args.source) c.args.commits.items c.requires.given c.requires.kept.inside))
+      (keeps_whole c.args.count (g.L.LogSource.log c.args.source) c.args.commits.items (g.D.Disk.seen c.args.journal) (g.D.Disk.seen c.in-Ok.journal) c.requires.given c.requires.kept c.in-Ok.ensures.acknowledged),
   since_goes_on g.D.Disk.moment g.D.Disk.left_since g.D.Disk.seen g.L.LogSource.begun c.args.count _ (g.L.LogSource.log c.args.source) c.args.journal c.in-Ok.journal (omega arith) c.requires.since
       (leaves_beginning g.D.Disk.moment g.D.Disk.left_since g.D.Disk.seen c.args.count (g.L.LogSource.log c.args.source) c.args.commits.items c.args.journal c.in-Ok.journal c.requires.given c.requires.kept c.in-Ok.ensures.any_moment),
 )
