@@ -5,6 +5,7 @@ pub mod JoinLaws
 pub mod ColumnLaws
 pub mod SumLaws
 pub mod PassingLaws
+pub mod TestedLaws
 pub mod PermutationLaws
 pub mod TotalLaws
 pub mod RowLaws

@@ -1,5 +1,6 @@
 pub mod RowValues
 pub mod Combination
+pub mod Passing
 pub mod Joined
 pub mod ColumnValues
 pub mod Ordered

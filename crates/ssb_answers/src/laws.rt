@@ -3,12 +3,20 @@
 //! Each is the contract of a function that does nothing.
 ghost use Rattle.ssb_answers.specs.Laws.{RowsListGroups, RowsHaveDistinctGroups, RowsHaveTheirSums, TotalIsOneRow};
 ghost use Rattle.ssb_answers.specs.Laws.{AnswersIgnoreOrder, QuestionsIgnoreOrder, CombinationsAppend};
+ghost use Rattle.ssb_answers.specs.Passing.{PlansPass, StarClausesPass};
 ghost use Rattle.ssb_answers.specs.Sums.{EverySumFits};
 ghost use Rattle.ssb_answers.specs.ColumnValues.{ColumnsHaveTheirValues};
 
 /// What queries read in a column is what the row has at the column's place.
 pub fn columns_have_their_values()
     ensures { ColumnsHaveTheirValues }
+{}
+
+/// A combination passes exactly where the plan's tests hold of what it has in their columns and its numbers lie in the
+/// ranges; of `star`, exactly where its clauses let it pass.
+pub fn plans_pass()
+    ensures plans { PlansPass }
+    ensures clauses { StarClausesPass }
 {}
 
 /// With group columns the rows are one for each group among the combinations, strictly in the
