@@ -297,6 +297,9 @@ fn fault_of(error: TwinError) -> OpenFault
 /// Opens a server over a base, for 1 to 16 clients and 1 to 4 dispatchers. `rt` is the handle by which the writer of
 /// the columns waits, `hashing` keys the map of orders, and `keeps` says which part of the log stays in memory. The
 /// client count is looked at first, then the dispatcher count; any fault hands the base back.
+///
+/// It is not proved to return, since it makes the two copies of the columns (`twin`), whose writer publishes once, and
+/// may wait for readers then. Here nobody reads yet.
 pub fn open<W: Threads + Sync + Wait + Drop>(
     alloc: Global,
     rt: W,

@@ -90,6 +90,9 @@ fn new_readers<R: Replica + Drop, W: EndsCopies + Drop>(
 /// Two copies of the replica, which has no commits, with a writer and so many readers. `NoReader` where no place is
 /// free for one of them; then, and where memory runs out, `first` is dropped. Each reader and each note has a place of
 /// its own, and there are twice as many places as readers.
+///
+/// It is not proved to return, since the writer publishes once, so that it knows the base, and `publish` may wait for
+/// readers. Here there are none yet.
 pub fn twin<R: Replica + Drop, W: Wait + Drop>(
     alloc: Global,
     rt: W,

@@ -127,7 +127,9 @@ impl<R: Replica + Drop, W: EndsCopies + Drop> TwinWriter<R, W> {
         self.copies.published().replica.commits()
     }
 
-    /// Tells what is published. It is refused where no place for a reader is free.
+    /// Tells what is published. It is refused where each place for a reader is in use: each reader has one, and each
+    /// note that is not learned or dropped. It may find none while other threads leave theirs: then it can be tried
+    /// again.
     pub fn tell(&mut self) -> Result<Note<R>, AllocError>
         ensures kept { self.new ≡ self.old }
         ensures told { IfOk result (λ note. note ≡ record { base = self.old.base; told = self.old.published }) }
