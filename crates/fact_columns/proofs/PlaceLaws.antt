@@ -35,6 +35,7 @@ use Rattle.std.proofs.Common.{
   set,
   get_or,
   length-append,
+  append-nil,
   inl,
   inr,
   ⊎_elim,
@@ -58,14 +59,13 @@ use Rattle.fact_columns.specs.Classed.{IsPlaceOf}
 use Rattle.fact_columns.specs.Spans.{if_live, live_at, live_count, kept, is_of_other, Covers, Spanned}
 use Rattle.fact_columns.specs.Coded.{counts_at, with_places}
 use Rattle.fact_columns.specs.declared.span.Span.{Span}
+use Rattle.fact_columns.specs.declared.scanned_line.ScannedLine.{ScannedLine}
+use Rattle.fact_columns.specs.Watching.{IsOneMore, live_places, live_lines, scanned_line}
 use Rattle.row_store.proofs.FactCountLaws.{counted_last}
 use Rattle.fact_columns.proofs.FactCountLaws.{counts_without_order}
 
-abbrev lives : List Place → List Place
-lives places = filter is_live places
-
 -- the live lines, from the first on
-abbrev front : Option Place → List Place → List Place
+abbrev pub front : Option Place → List Place → List Place
 front None lines = lines
 front (Some line) lines = line ∷ lines
 
@@ -74,10 +74,11 @@ filter_front : (b : Bool) (line : Place) (lines : List Place)
 filter_front true line lines = refl
 filter_front false line lines = refl
 
-live_front : (line : Place) (lines : List Place) → lives (line ∷ lines) ≡ front (if_live line) (lives lines)
-live_front line lines = filter_front (is_live line) line (lives lines)
+pub live_front : (line : Place) (lines : List Place)
+    → live_places (line ∷ lines) ≡ front (if_live line) (live_places lines)
+live_front line lines = filter_front (is_live line) line (live_places lines)
 
-if_live-true : (line : Place) → is_live line ≡ true → if_live line ≡ Some line
+pub if_live-true : (line : Place) → is_live line ≡ true → if_live line ≡ Some line
 if_live-true line live = ap (λ b. cond b (Some line) None) live
 
 module _ (dimensions : Dimensions) where
@@ -94,20 +95,20 @@ module _ (dimensions : Dimensions) where
 
   counts_written : (counts : Counts) (places : List Place) (place : ℕ) (line : Place) → place < length places
       → live_at places place ≡ None → is_live line ≡ true
-      → fold with_fact counts (map (fact_at dimensions) (lives (set places place line))) ≡ with_fact
-      (fold with_fact counts (map (fact_at dimensions) (lives places))) (fact_at dimensions line)
+      → fold with_fact counts (map (fact_at dimensions) (live_places (set places place line))) ≡ with_fact
+      (fold with_fact counts (map (fact_at dimensions) (live_places places))) (fact_at dimensions line)
   counts_written counts [] place line within free live = absurd (omega (arith, within))
   counts_written counts (first ∷ places) zero line within free live =
       ap (λ ls. fold with_fact counts (map (fact_at dimensions) ls))
-      (live_front line places ∙ ap (λ o. front o (lives places)) (if_live-true line live))
-      ∙ counted_last counts (fact_at dimensions line) (map (fact_at dimensions) (lives places))
-      ∙ ap (λ o. with_fact (fold with_fact counts (map (fact_at dimensions) (front o (lives places))))
+      (live_front line places ∙ ap (λ o. front o (live_places places)) (if_live-true line live))
+      ∙ counted_last counts (fact_at dimensions line) (map (fact_at dimensions) (live_places places))
+      ∙ ap (λ o. with_fact (fold with_fact counts (map (fact_at dimensions) (front o (live_places places))))
       (fact_at dimensions line)) (sym free)
       ∙ ap (λ ls. with_fact (fold with_fact counts (map (fact_at dimensions) ls)) (fact_at dimensions line))
       (sym (live_front first places))
   counts_written counts (first ∷ places) (suc place) line within free live =
       ap (λ ls. fold with_fact counts (map (fact_at dimensions) ls)) (live_front first (set places place line))
-      ∙ after_front (if_live first) counts (lives (set places place line)) (lives places) line
+      ∙ after_front (if_live first) counts (live_places (set places place line)) (live_places places) line
       (λ m. counts_written m places place line (omega (arith, within)) free live)
       ∙ ap (λ ls. with_fact (fold with_fact counts (map (fact_at dimensions) ls)) (fact_at dimensions line))
       (sym (live_front first places))
@@ -119,18 +120,18 @@ pub written : (dimensions : Dimensions) (places : List Place) (place : ℕ) (lin
 written dimensions = counts_written dimensions finite.empty
 
 -- the live lines with one more at the end
-lives_pushed : (places : List Place) (line : Place) → is_live line ≡ true → lives (places ++ line ∷ []) ≡ lives places
-    ++ line ∷ []
+pub lives_pushed : (places : List Place) (line : Place) → is_live line ≡ true
+    → live_places (places ++ line ∷ []) ≡ live_places places ++ line ∷ []
 lives_pushed places line live = filter-append is_live places (line ∷ [])
-    ∙ ap (λ ls. lives places ++ ls) (live_front line [] ∙ ap (λ o. front o []) (if_live-true line live))
+    ∙ ap (λ ls. live_places places ++ ls) (live_front line [] ∙ ap (λ o. front o []) (if_live-true line live))
 
 -- a line in a new place is counted
 pub pushed : (dimensions : Dimensions) (places : List Place) (line : Place) → is_live line ≡ true
     → counts_at dimensions (places ++ line ∷ []) ≡ with_fact (counts_at dimensions places) (fact_at dimensions line)
 pushed dimensions places line live =
     ap (λ ls. fact_counts (map (fact_at dimensions) ls)) (lives_pushed places line live)
-    ∙ ap fact_counts (map-append (fact_at dimensions) (lives places) (line ∷ []))
-    ∙ fold-append with_fact finite.empty (map (fact_at dimensions) (lives places)) (fact_at dimensions line ∷ [])
+    ∙ ap fact_counts (map-append (fact_at dimensions) (live_places places) (line ∷ []))
+    ∙ fold-append with_fact finite.empty (map (fact_at dimensions) (live_places places)) (fact_at dimensions line ∷ [])
 
 length_front : (o : Option Place) (later lines : List Place) → length later ≡ length lines + 1
     → length (front o later) ≡ length (front o lines) + 1
@@ -139,22 +140,23 @@ length_front (Some first) later lines is = omega (arith, is)
 
 pub count_pushed : (places : List Place) (line : Place) → is_live line ≡ true
     → live_count (places ++ line ∷ []) ≡ live_count places + 1
-count_pushed places line live = ap length (lives_pushed places line live) ∙ length-append (lives places) (line ∷ [])
+count_pushed places line live =
+    ap length (lives_pushed places line live) ∙ length-append (live_places places) (line ∷ [])
 
 pub count_written : (places : List Place) (place : ℕ) (line : Place) → place < length places
     → live_at places place ≡ None → is_live line ≡ true → live_count (set places place line) ≡ live_count places + 1
 count_written [] place line within free live = absurd (omega (arith, within))
 count_written (first ∷ places) zero line within free live =
-    ap length (live_front line places ∙ ap (λ o. front o (lives places)) (if_live-true line live))
-    ∙ one (length (lives places))
-    ∙ ap (λ o. length (front o (lives places)) + 1) (sym free)
+    ap length (live_front line places ∙ ap (λ o. front o (live_places places)) (if_live-true line live))
+    ∙ one (length (live_places places))
+    ∙ ap (λ o. length (front o (live_places places)) + 1) (sym free)
     ∙ ap (λ ls. length ls + 1) (sym (live_front first places))
   where
     one : (n : ℕ) → suc n ≡ n + 1
     one n = omega arith
 count_written (first ∷ places) (suc place) line within free live =
     ap length (live_front first (set places place line))
-    ∙ length_front (if_live first) (lives (set places place line)) (lives places)
+    ∙ length_front (if_live first) (live_places (set places place line)) (live_places places)
     (count_written places place line (omega (arith, within)) free live)
     ∙ ap (λ ls. length ls + 1) (sym (live_front first places))
 
@@ -166,7 +168,7 @@ cond_length false line lines n few = omega (arith, few)
 -- no more lines are live than there are places
 pub live_few : (places : List Place) → live_count places ≤ length places
 live_few [] = omega arith
-live_few (first ∷ places) = cond_length (is_live first) first (lives places) (length places) (live_few places)
+live_few (first ∷ places) = cond_length (is_live first) first (live_places places) (length places) (live_few places)
 
 -- a freed place
 freed_dead : (line : Place) → if_live (freed line) ≡ None
@@ -177,15 +179,15 @@ pub count_freed : (places : List Place) (place : ℕ) (d line : Place) → live_
 count_freed [] place d line live = absurd (cc)
 count_freed (first ∷ places) zero d line live =
     ap length (live_front first places)
-    ∙ ap (λ o. length (front o (lives places))) live
-    ∙ one (length (lives places))
+    ∙ ap (λ o. length (front o (live_places places))) live
+    ∙ one (length (live_places places))
     ∙ ap (λ ls. length ls + 1) (sym (live_front (freed first) places))
   where
     one : (n : ℕ) → suc n ≡ n + 1
     one n = omega arith
 count_freed (first ∷ places) (suc place) d line live =
     ap length (live_front first places)
-    ∙ length_front (if_live first) (lives places) (lives (set places place (freed (get_or places place d))))
+    ∙ length_front (if_live first) (live_places places) (live_places (set places place (freed (get_or places place d))))
     (count_freed places place d line live)
     ∙ ap (λ ls. length ls + 1) (sym (live_front first (set places place (freed (get_or places place d)))))
 
@@ -197,15 +199,15 @@ kept_front test (Some line) lines = filter_front (test line) line (filter test l
 -- where each place keeps its line or loses it by a test, the live lines are those that pass
 kept_all : (test : Place → Bool) (places later : List Place) → length later ≡ length places
     → ((place : ℕ) → live_at later place ≡ kept test (live_at places place))
-    → lives later ≡ filter test (lives places)
+    → live_places later ≡ filter test (live_places places)
 kept_all test [] [] same each = refl
 kept_all test [] (l ∷ later) same each = absurd (cc)
 kept_all test (p ∷ places) [] same each = absurd (cc)
 kept_all test (p ∷ places) (l ∷ later) same each =
     live_front l later
     ∙ ap (front (if_live l)) (kept_all test places later (omega (arith, same)) (λ place. each (suc place)))
-    ∙ ap (λ o. front o (filter test (lives places))) (each 0)
-    ∙ sym (kept_front test (if_live p) (lives places))
+    ∙ ap (λ o. front o (filter test (live_places places))) (each 0)
+    ∙ sym (kept_front test (if_live p) (live_places places))
     ∙ ap (filter test) (sym (live_front p places))
 
 others_read : (dimensions : Dimensions) (key : ℕ) (lines : List Place)
@@ -227,7 +229,7 @@ pub withdrawn : (dimensions : Dimensions) (key : ℕ) (places later : List Place
     → counts_at dimensions later ≡ counts_after_action (counts_at dimensions places) (Withdraw key)
 withdrawn dimensions key places later same each =
     ap (λ ls. fact_counts (map (fact_at dimensions) ls)) (kept_all (is_of_other key) places later same each)
-    ∙ ap fact_counts (others_read dimensions key (lives places))
+    ∙ ap fact_counts (others_read dimensions key (live_places places))
     ∙ sym (counts_without_order key (live_facts dimensions places))
 
 pub live_at_written : (places : List Place) (place : ℕ) (line : Place) → place < length places → is_live line ≡ true
@@ -263,8 +265,102 @@ live_at_pushed_other (first ∷ places) line zero differ = refl
 live_at_pushed_other (first ∷ places) line (suc other) differ =
     live_at_pushed_other places line other (λ e. differ (ap suc e))
 
+-- a list with a line more, behind another that is live or not
+more_behind : (o : Option Place) (line : Place) (fewer more : List Place) → IsOneMore line fewer more
+    → IsOneMore line (front o fewer) (front o more)
+more_behind None line fewer more one = one
+more_behind (Some first) line fewer more one = record {
+  before = first ∷ one.before;
+  after = one.after;
+  fewer_is = ap (λ l. first ∷ l) one.fewer_is;
+  more_is = ap (λ l. first ∷ l) one.more_is;
+}
+
+more_at : (line : Place) (fewer more few many : List Place) → few ≡ fewer → many ≡ more → IsOneMore line fewer more
+    → IsOneMore line few many
+more_at line fewer more few many less full one = record {
+  before = one.before;
+  after = one.after;
+  fewer_is = less ∙ one.fewer_is;
+  more_is = full ∙ one.more_is;
+}
+
+-- a line that is written into a free place is one more
+pub one_written : (places : List Place) (place : ℕ) (line : Place) → place < length places
+    → live_at places place ≡ None → is_live line ≡ true
+    → IsOneMore line (live_places places) (live_places (set places place line))
+one_written [] place line within free live = absurd (omega (arith, within))
+one_written (first ∷ places) zero line within free live = record {
+  before = [];
+  after = live_places places;
+  fewer_is = live_front first places ∙ ap (λ o. front o (live_places places)) free;
+  more_is = live_front line places ∙ ap (λ o. front o (live_places places)) (if_live-true line live);
+}
+one_written (first ∷ places) (suc place) line within free live =
+    more_at line _ _ _ _ (live_front first places) (live_front first (set places place line))
+    (more_behind (if_live first) line _ _ (one_written places place line (omega (arith, within)) free live))
+
+-- and so is one in a new place
+pub one_pushed : (places : List Place) (line : Place) → is_live line ≡ true
+    → IsOneMore line (live_places places) (live_places (places ++ line ∷ []))
+one_pushed places line live = record {
+  before = live_places places;
+  after = [];
+  fewer_is = sym (append-nil (live_places places));
+  more_is = lives_pushed places line live;
+}
+
+-- a line that is freed was one more
+pub one_freed : (places : List Place) (place : ℕ) (d line : Place) → live_at places place ≡ Some line
+    → IsOneMore line (live_places (set places place (freed (get_or places place d)))) (live_places places)
+one_freed [] place d line live = absurd (cc)
+one_freed (first ∷ places) zero d line live = record {
+  before = [];
+  after = live_places places;
+  fewer_is = live_front (freed first) places;
+  more_is = live_front first places ∙ ap (λ o. front o (live_places places)) live;
+}
+one_freed (first ∷ places) (suc place) d line live =
+    more_at line _ _ _ _ (live_front first (set places place (freed (get_or places place d)))) (live_front first places)
+    (more_behind (if_live first) line _ _ (one_freed places place d line live))
+
+-- a live line is what stands at its place
+pub live_line : (places : List Place) (place : ℕ) (d line : Place) → live_at places place ≡ Some line
+    → get_or places place d ≡ line
+live_line [] place d line live = absurd (cc)
+live_line (first ∷ places) zero d line live = (cond_some (is_live first) first line live).1
+live_line (first ∷ places) (suc place) d line live = live_line places place d line live
+
+-- a list whose items are read otherwise has one more too
+pub more_read : {A B : Type 0} (f : A → B) (item : A) (fewer more : List A) → IsOneMore item fewer more
+    → IsOneMore (f item) (map f fewer) (map f more)
+more_read f item fewer more one = record {
+  before = map f one.before;
+  after = map f one.after;
+  fewer_is = ap (map f) one.fewer_is ∙ map-append f one.before one.after;
+  more_is = ap (map f) one.more_is ∙ map-append f one.before (item ∷ one.after);
+}
+
+-- so has one of places, as queries read their lines
+pub one_read : (fewer more : List Place) (place : Place) (line : ScannedLine) → line ≡ scanned_line place
+    → IsOneMore place (live_places fewer) (live_places more) → IsOneMore line (live_lines fewer) (live_lines more)
+one_read fewer more place line is one =
+    subst (λ (l : ScannedLine). IsOneMore l (live_lines fewer) (live_lines more)) (sym is)
+    (more_read scanned_line place (live_places fewer) (live_places more) one)
+
+-- the line that is read and then freed was one more
+pub one_taken : (places later : List Place) (place : ℕ) (line : ScannedLine) (d : Place)
+    → live_at places place ≡ Some d → line ≡ scanned_line (get_or places place d)
+    → later ≡ set places place (freed (get_or places place d)) → IsOneMore line (live_lines later) (live_lines places)
+one_taken places later place line d live is later_is =
+    one_read later places d line (is ∙ ap scanned_line (live_line places place d d live))
+    (subst (λ (ps : List Place). IsOneMore d (live_places ps) (live_places places)) (sym later_is)
+    (one_freed places place d d live))
+
 -- what a line that is put into a place changes, and what it leaves
 pub ruleset putting = (
+  one_written,
+  one_pushed,
   pushed,
   written,
   count_pushed,

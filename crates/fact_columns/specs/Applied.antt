@@ -1,19 +1,21 @@
 -- What adding orders, withdrawing them and applying actions do to the table and the spans.
 use Rattle.std.specs.Prelude.{◌≡◌, ℕ, ◌+◌, ◌<◌, ◌≤◌, ◌^◌, nat_eq, true, All, List, length, flat_map, fold}
 use Rattle.std.specs.HashMap.{HashMap, get, spare}
-use Rattle.ssb_base.specs.Base.{Dimensions}
+use Rattle.ssb_base.specs.Base.{Dimensions, Tables}
 use Rattle.ssb_schema.specs.declared.refresh.Action.{Action}
 use Rattle.ssb_schema.specs.declared.refresh.Action.TheVariants.{Withdraw}
 use Rattle.ssb_schema.specs.Facts.{facts_of}
 use Rattle.row_store.specs.Lines.{added_by}
 use Rattle.row_store.specs.State.{counts_after_action}
 use Rattle.fact_columns.specs.declared.place.Place.{Place}
+use Rattle.fact_columns.specs.declared.scanned_line.ScannedLine.{ScannedLine}
 use Rattle.fact_columns.specs.declared.span.Span.{Span}
 use Rattle.fact_columns.specs.Places.{is_live}
 use Rattle.fact_columns.specs.Classed.{IsPlaceOf}
 use Rattle.fact_columns.specs.Coded.{AreCodesOf, counts_at, with_places, key_of}
 use Rattle.fact_columns.specs.Columns.{Held}
 use Rattle.fact_columns.specs.Spans.{Spanned, live_count}
+use Rattle.fact_columns.specs.Watching.{FollowsOn}
 
 -- there is room for the lines and for their span, and each is a live line of the order
 pub record CanAdd {S : Type 0} (table : Held) (spans : HashMap ℕ Span S) (key : ℕ) (lines : List Place) : Type 0 where
@@ -25,9 +27,11 @@ pub record CanAdd {S : Type 0} (table : Held) (spans : HashMap ℕ Span S) (key 
   pub spanned : Spanned (get nat_eq spans) table.places
 
 -- the lines stand in the table, in the span of their order, and all others as before
-pub record Added {S : Type 0} (old new : Held) (old_spans new_spans : HashMap ℕ Span S)
+pub record Added {S W : Type 0} (follows : W → Tables → List ScannedLine → Type 0) (was is : W)
+    (old new : Held) (old_spans new_spans : HashMap ℕ Span S)
     (lines : List Place) : Type 0 where
   pub spanned : Spanned (get nat_eq new_spans) new.places
+  pub watched : FollowsOn follows was is old.places new.places
   pub counts : (dimensions : Dimensions)
       → counts_at dimensions new.places ≡ with_places dimensions (counts_at dimensions old.places) lines
   pub count : live_count new.places ≡ live_count old.places + length lines
@@ -38,9 +42,11 @@ pub record Added {S : Type 0} (old new : Held) (old_spans new_spans : HashMap �
   pub spare : spare old_spans ≤ spare new_spans + 1
 
 -- the lines of the order, so many, are gone from the table, and all others stand as before
-pub record Withdrawn {S : Type 0} (old new : Held) (old_spans new_spans : HashMap ℕ Span S)
+pub record Withdrawn {S W : Type 0} (follows : W → Tables → List ScannedLine → Type 0) (was is : W)
+    (old new : Held) (old_spans new_spans : HashMap ℕ Span S)
     (key freed : ℕ) : Type 0 where
   pub spanned : Spanned (get nat_eq new_spans) new.places
+  pub watched : FollowsOn follows was is old.places new.places
   pub counts : (dimensions : Dimensions)
       → counts_at dimensions new.places ≡ counts_after_action (counts_at dimensions old.places) (Withdraw key)
   pub count : live_count old.places ≡ live_count new.places + freed
@@ -62,9 +68,11 @@ pub record CanApply {S : Type 0} (table : Held) (spans : HashMap ℕ Span S) (ac
   pub spanned : Spanned (get nat_eq spans) table.places
 
 -- the action has added these lines and taken so many
-pub record Applied {S : Type 0} (old new : Held) (old_spans new_spans : HashMap ℕ Span S) (action : Action)
+pub record Applied {S W : Type 0} (follows : W → Tables → List ScannedLine → Type 0) (was is : W)
+    (old new : Held) (old_spans new_spans : HashMap ℕ Span S) (action : Action)
     (lines : List Place) (freed : ℕ) : Type 0 where
   pub spanned : Spanned (get nat_eq new_spans) new.places
+  pub watched : FollowsOn follows was is old.places new.places
   pub counts : (dimensions : Dimensions) → AreCodesOf dimensions (facts_of (added_by action)) lines
       → counts_at dimensions new.places ≡ counts_after_action (counts_at dimensions old.places) action
   pub count : live_count new.places + freed ≡ live_count old.places + length lines
@@ -85,9 +93,11 @@ pub record CanApplyAll {S : Type 0} (table : Held) (spans : HashMap ℕ Span S) 
   pub spanned : Spanned (get nat_eq spans) table.places
 
 -- the actions, one after another, have added these lines and taken so many
-pub record AppliedAll {S : Type 0} (old new : Held) (spans : HashMap ℕ Span S) (actions : List Action)
+pub record AppliedAll {S W : Type 0} (follows : W → Tables → List ScannedLine → Type 0) (was is : W)
+    (old new : Held) (spans : HashMap ℕ Span S) (actions : List Action)
     (lines : List Place) (freed : ℕ) : Type 0 where
   pub spanned : Spanned (get nat_eq spans) new.places
+  pub watched : FollowsOn follows was is old.places new.places
   pub counts : (dimensions : Dimensions) → AreCodesOf dimensions (facts_of (flat_map added_by actions)) lines
       → counts_at dimensions new.places ≡ fold counts_after_action (counts_at dimensions old.places) actions
   pub count : live_count new.places + freed ≡ live_count old.places + length lines

@@ -6,5 +6,6 @@ pub mod Stored
 pub mod Spans
 pub mod Coded
 pub mod Kept
+pub mod Watching
 pub mod Laws
 pub mod Applied

@@ -1,5 +1,6 @@
 //! The columns as a replica.
-ghost use Rattle.std.specs.Prelude.{◌≡◌, ◌<◌, ◌^◌, [], ℕ, List, length, nat_eq, slice_index_or, IfOk, MatchResult, OnErr};
+ghost use Rattle.std.specs.Prelude.{◌≡◌, ◌<◌, ◌^◌, [], ℕ, List, length, nat_eq, slice_index_or, IfOk, MatchResult};
+ghost use Rattle.std.specs.Prelude.{OnErr, OnOk};
 ghost use Rattle.std.specs.HashMap.{get};
 ghost use Rattle.ssb_schema.specs.Facts.{facts_of};
 ghost use Rattle.ssb_schema.specs.declared.line.LineFields.{LineFields};
@@ -10,6 +11,7 @@ ghost use Rattle.fact_columns.specs.Coded.{AreCodesOf};
 ghost use Rattle.fact_columns.specs.Columns.{AreColumnsOf};
 ghost use Rattle.fact_columns.specs.Spans.{Covers};
 ghost use Rattle.fact_columns.specs.Stored.{Stored, IsRead, columns_state};
+ghost use Rattle.fact_columns.specs.Watching.{FollowsOn};
 
 use crate::coding::coded_actions;
 use crate::fact_table::FactTable;
@@ -18,6 +20,7 @@ use crate::loading::{spans_of, table_of};
 use crate::orders::apply_actions;
 use crate::place::Place;
 use crate::span::Spans;
+use crate::watch::{Nobody, Watch};
 use dimension_index::DimIndex;
 use row_store::{Commit, Replica};
 use scan_kernel::LineColumns;
@@ -140,16 +143,21 @@ impl Columns {
     {
         &self.index
     }
-}
 
-impl Replica for Columns {
-    ghost state = { columns_state };
-
-    fn absorb(&mut self, commit: &Commit) -> Result<(), AllocError>
+    /// Takes in a commit, as `absorb` does, and tells a watch of each line that goes and each that comes. After an
+    /// error it was told nothing.
+    pub fn absorb_watched<W: Watch>(
+        &mut self,
+        commit: &Commit,
+        watch: &mut W,
+    ) -> Result<(), AllocError>
         ensures state { MatchResult result
             (λ _. columns_state self.new ≡ state_after (columns_state self.old) commit.now)
             (λ _. columns_state self.new ≡ columns_state self.old) }
         ensures unchanged { OnErr result (self.new ≡ self.old) }
+        ensures base { self.new.base ≡ self.old.base }
+        ensures watched { OnOk result (FollowsOn W.follows watch.old watch.new self.old.places self.new.places) }
+        ensures unwatched { OnErr result (watch.new ≡ watch.old) }
     {
         let Some(commits) = self.commits.checked_add(1) else {
             return Err(AllocError);
@@ -167,6 +175,7 @@ impl Replica for Columns {
             &mut self.table,
             &mut self.spans,
             &mut self.hints,
+            watch,
             actions,
             fresh.as_slice(),
         );
@@ -174,12 +183,28 @@ impl Replica for Columns {
         self.commits = commits;
         Ok(())
     }
+}
+
+impl Replica for Columns {
+    ghost state = { columns_state };
+
+    fn absorb(&mut self, commit: &Commit) -> Result<(), AllocError>
+        ensures state { MatchResult result
+            (λ _. columns_state self.new ≡ state_after (columns_state self.old) commit.now)
+            (λ _. columns_state self.new ≡ columns_state self.old) }
+        ensures unchanged { OnErr result (self.new ≡ self.old) }
+    {
+        self.absorb_watched(commit, &mut Nobody)
+    }
 
     fn commits(&self) -> u64 {
         self.commits
     }
 
-    fn copy(&self) -> Result<Columns, AllocError> {
+    fn copy(&self) -> Result<Columns, AllocError>
+        ensures state { IfOk result (λ copy. columns_state copy ≡ columns_state self.now) }
+        ensures same { IfOk result (λ copy. copy ≡ self.now) }
+    {
         Ok(Columns {
             index: Arc::try_clone(&self.index)?,
             table: self.table.copy()?,

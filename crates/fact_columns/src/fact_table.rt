@@ -4,8 +4,10 @@ ghost use Rattle.std.specs.Prelude.{ℕ, vec_len, vec_capacity};
 ghost use Rattle.fact_columns.specs.declared.place.Place.{Place as PlainPlace};
 ghost use Rattle.fact_columns.specs.Columns.{Held, AreColumnsOf};
 ghost use Rattle.fact_columns.specs.Places.{freed};
+ghost use Rattle.fact_columns.specs.Watching.{scanned_line};
 
 use crate::place::Place;
+use crate::scanned_line::ScannedLine;
 use scan_kernel::LineColumns;
 use std::alloc::{AllocError, Global};
 use std::marker::Model;
@@ -124,6 +126,24 @@ impl FactTable {
             supplier_class: self.supplier_class[place],
             part_class: self.part_class[place],
             date_class: self.date_class[place],
+        }
+    }
+
+    /// The line at a place, as queries read it.
+    #[inline(always)]
+    pub fn scanned_line(&self, place: usize) -> ScannedLine
+        requires { place < length self.now.places }
+        ensures { (other : PlainPlace) → result ≡ scanned_line (slice_index_or self.now.places place other) }
+    {
+        ScannedLine {
+            customer: self.customer_class[place],
+            supplier: self.supplier_class[place],
+            part: self.part_class[place],
+            date: self.date_class[place],
+            terms: self.terms[place],
+            price: self.price[place],
+            revenue: self.revenue[place],
+            cost: self.cost[place],
         }
     }
 

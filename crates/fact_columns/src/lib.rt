@@ -21,6 +21,9 @@
 //! (`specs/Columns.antt`). A test that a free place fails leaves the live lines that pass (`filters`), so a scan may go
 //! over all places.
 //!
+//! `absorb_watched` tells a `Watch` of each line that goes and each that comes, as queries read it. What it follows, as
+//! totals of these lines, it follows after the commit too (`specs/Watching.antt`).
+//!
 //! ```text
 //! let mut columns = Columns::new(&rt, alloc, index, RandomState::new(&rt)?)?;
 //! columns.absorb(&commit)?;
@@ -38,8 +41,12 @@ mod loading;
 mod orders;
 mod place;
 mod placing;
+mod scanned_line;
 mod span;
+mod watch;
 
 pub use columns::Columns;
 pub use fact_table::FactTable;
 pub use place::{Place, terms};
+pub use scanned_line::ScannedLine;
+pub use watch::{Nobody, Watch};

@@ -10,17 +10,25 @@ use crate::hints::Hints;
 use crate::place::Place;
 use crate::placing::{are_free, free_order, put_all};
 use crate::span::{Span, Spans, take_span, widen};
+use crate::watch::Watch;
 use ssb_schema::Action;
 
 // Puts the lines of an order into places from the first on, and has its span cover them.
-fn put_order(table: &mut FactTable, spans: &mut Spans, first: usize, key: u64, lines: &[Place])
+fn put_order<W: Watch>(
+    table: &mut FactTable,
+    spans: &mut Spans,
+    watch: &mut W,
+    first: usize,
+    key: u64,
+    lines: &[Place],
+)
     requires can { CanAdd table.old spans.old key lines.now }
     requires within { first ≤ length table.old.places }
     requires small { first + length lines.now < 2 ^ 32 }
     requires free { AreFree table.old.places first (length lines.now) }
-    ensures { Added table.old table.new spans.old spans.new lines.now }
+    ensures { Added W.follows watch.old watch.new table.old table.new spans.old spans.new lines.now }
 {
-    put_all(table, first, lines);
+    put_all(table, watch, first, lines);
     widen(
         spans,
         key,
@@ -32,12 +40,17 @@ fn put_order(table: &mut FactTable, spans: &mut Spans, first: usize, key: u64, l
 }
 
 // Frees the places of an order. It answers where they may be, and how many lines went.
-fn take_order(table: &mut FactTable, spans: &mut Spans, key: u64) -> (Span, usize)
+fn take_order<W: Watch>(
+    table: &mut FactTable,
+    spans: &mut Spans,
+    watch: &mut W,
+    key: u64,
+) -> (Span, usize)
     requires { Spanned (get nat_eq spans.old) table.old.places }
-    ensures { Withdrawn table.old table.new spans.old spans.new key result.1 }
+    ensures { Withdrawn W.follows watch.old watch.new table.old table.new spans.old spans.new key result.1 }
 {
     let span = take_span(spans, key);
-    let freed = free_order(table, key, span);
+    let freed = free_order(table, watch, key, span);
     (span, freed)
 }
 
@@ -54,20 +67,33 @@ fn wanted(table: &FactTable, hints: &mut Hints, count: usize) -> usize
 }
 
 // Puts an order where there is room for it.
-fn add(table: &mut FactTable, spans: &mut Spans, hints: &mut Hints, key: u64, lines: &[Place])
+fn add<W: Watch>(
+    table: &mut FactTable,
+    spans: &mut Spans,
+    hints: &mut Hints,
+    watch: &mut W,
+    key: u64,
+    lines: &[Place],
+)
     requires { CanAdd table.old spans.old key lines.now }
-    ensures { Added table.old table.new spans.old spans.new lines.now }
+    ensures { Added W.follows watch.old watch.new table.old table.new spans.old spans.new lines.now }
 {
     let first = wanted(table, hints, lines.len());
-    put_order(table, spans, first, key, lines);
+    put_order(table, spans, watch, first, key, lines);
 }
 
 // Takes an order out, and answers how many lines it had.
-fn withdraw(table: &mut FactTable, spans: &mut Spans, hints: &mut Hints, key: u64) -> usize
+fn withdraw<W: Watch>(
+    table: &mut FactTable,
+    spans: &mut Spans,
+    hints: &mut Hints,
+    watch: &mut W,
+    key: u64,
+) -> usize
     requires { Spanned (get nat_eq spans.old) table.old.places }
-    ensures { Withdrawn table.old table.new spans.old spans.new key result }
+    ensures { Withdrawn W.follows watch.old watch.new table.old table.new spans.old spans.new key result }
 {
-    let (span, freed) = take_order(table, spans, key);
+    let (span, freed) = take_order(table, spans, watch, key);
     // Loaded lines of an order may lie apart, with those of others between them: such a span is not free.
     if span.end.saturating_sub(span.first) as usize == freed {
         hints.offer(span);
@@ -76,46 +102,49 @@ fn withdraw(table: &mut FactTable, spans: &mut Spans, hints: &mut Hints, key: u6
 }
 
 // Does what the action says; these are the lines that it adds, in codes. It answers how many lines went.
-fn apply_action(
+fn apply_action<W: Watch>(
     table: &mut FactTable,
     spans: &mut Spans,
     hints: &mut Hints,
+    watch: &mut W,
     action: &Action,
     lines: &[Place],
 ) -> usize
     requires { CanApply table.old spans.old action.now lines.now }
-    ensures { Applied table.old table.new spans.old spans.new action.now lines.now result }
+    ensures { Applied W.follows watch.old watch.new table.old table.new spans.old spans.new action.now lines.now
+        result }
 {
     match action {
         Action::Add(order) => {
-            add(table, spans, hints, order.key(), lines);
+            add(table, spans, hints, watch, order.key(), lines);
             0
         }
         Action::Amend(order) => {
-            let freed = withdraw(table, spans, hints, order.key());
-            add(table, spans, hints, order.key(), lines);
+            let freed = withdraw(table, spans, hints, watch, order.key());
+            add(table, spans, hints, watch, order.key(), lines);
             freed
         }
-        Action::Withdraw(key) => withdraw(table, spans, hints, *key),
+        Action::Withdraw(key) => withdraw(table, spans, hints, watch, *key),
     }
 }
 
 /// Does what the actions say; these are the lines that they add, in codes. It answers how many lines went.
-pub fn apply_actions(
+pub fn apply_actions<W: Watch>(
     table: &mut FactTable,
     spans: &mut Spans,
     hints: &mut Hints,
+    watch: &mut W,
     actions: &[Action],
     fresh: &[Place],
 ) -> usize
     requires { CanApplyAll table.old spans.old actions.now fresh.now }
-    ensures { AppliedAll table.old table.new spans.new actions.now fresh.now result }
+    ensures { AppliedAll W.follows watch.old watch.new table.old table.new spans.new actions.now fresh.now result }
 {
     let mut rest = fresh;
     let mut freed = 0;
     for action in actions {
         let (lines, later) = rest.split_at(added(action).len());
-        freed += apply_action(table, spans, hints, action, lines);
+        freed += apply_action(table, spans, hints, watch, action, lines);
         rest = later;
     }
     freed

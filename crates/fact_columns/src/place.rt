@@ -1,6 +1,9 @@
 //! What one place of the columns holds.
 ghost use Rattle.std.specs.Prelude.{◌≡◌, ◌<◌};
 ghost use Rattle.fact_columns.specs.Places.{terms_of, quantity_in, discount_in, is_live};
+ghost use Rattle.fact_columns.specs.Watching.{scanned_line};
+
+use crate::scanned_line::ScannedLine;
 
 /// A line as the columns have it: its rows by position, counted from 0 in the lists of the dimensions.
 #[derive(Clone, Copy, Debug, PartialEq, Eq)]
@@ -56,5 +59,22 @@ impl Place {
         ensures { result ≡ discount_in self.now.terms }
     {
         (self.terms % 16) as u8
+    }
+
+    /// The line as queries read it.
+    #[inline(always)]
+    pub fn scanned_line(&self) -> ScannedLine
+        ensures { result ≡ scanned_line self.now }
+    {
+        ScannedLine {
+            customer: self.customer_class,
+            supplier: self.supplier_class,
+            part: self.part_class,
+            date: self.date_class,
+            terms: self.terms,
+            price: self.price,
+            revenue: self.revenue,
+            cost: self.cost,
+        }
     }
 }

@@ -8,10 +8,12 @@ ghost use Rattle.fact_columns.specs.Places.{is_live, fact_at};
 ghost use Rattle.fact_columns.specs.Classed.{IsPlaceOf};
 ghost use Rattle.fact_columns.specs.Spans.{live_at, live_count, kept, is_of_other, AreFree};
 ghost use Rattle.fact_columns.specs.Coded.{counts_at, with_places};
+ghost use Rattle.fact_columns.specs.Watching.{IsOneMore, FollowsOn, live_places};
 
 use crate::fact_table::FactTable;
 use crate::place::Place;
 use crate::span::Span;
+use crate::watch::Watch;
 
 // The order key of the live line at a place; None where the place is free, or there is none.
 fn live_order(table: &FactTable, place: usize) -> Option<u64>
@@ -62,6 +64,7 @@ fn put(table: &mut FactTable, place: usize, line: Place)
         → All (IsPlaceOf dimensions) table.new.places }
     ensures len { (length table.old.places ≤ length table.new.places)
         × (length table.new.places ≤ length table.old.places + 1) }
+    ensures one { IsOneMore line (live_places table.old.places) (live_places table.new.places) }
     ensures reach { place < length table.new.places }
     ensures room { table.old.room ≤ table.new.room + 1 }
 {
@@ -73,7 +76,7 @@ fn put(table: &mut FactTable, place: usize, line: Place)
 }
 
 /// Puts lines into free or new places, from the first on.
-pub fn put_all(table: &mut FactTable, first: usize, lines: &[Place])
+pub fn put_all<W: Watch>(table: &mut FactTable, watch: &mut W, first: usize, lines: &[Place])
     requires within { first ≤ length table.old.places }
     requires small { first + length lines.now < 2 ^ 63 }
     requires free { AreFree table.old.places first (length lines.now) }
@@ -93,14 +96,16 @@ pub fn put_all(table: &mut FactTable, first: usize, lines: &[Place])
     ensures len { (length table.old.places ≤ length table.new.places)
         × (length table.new.places ≤ length table.old.places + length lines.now) }
     ensures room { table.old.room ≤ table.new.room + length lines.now }
+    ensures watched { FollowsOn W.follows watch.old watch.new table.old.places table.new.places }
 {
     for (i, line) in lines.iter().enumerate() {
+        watch.come(&line.scanned_line());
         put(table, first + i, *line);
     }
 }
 
 // Frees a place that holds a live line.
-fn free(table: &mut FactTable, place: usize)
+fn free<W: Watch>(table: &mut FactTable, watch: &mut W, place: usize)
     requires live { (line : PlainPlace) × (live_at table.old.places place ≡ Some line) }
     ensures here { live_at table.new.places place ≡ None }
     ensures others { (other : ℕ) → other ≢ place → live_at table.new.places other ≡ live_at table.old.places other }
@@ -109,12 +114,15 @@ fn free(table: &mut FactTable, place: usize)
         → All (IsPlaceOf dimensions) table.new.places }
     ensures len { length table.new.places ≡ length table.old.places }
     ensures room { table.new.room ≡ table.old.room }
+    ensures watched { FollowsOn W.follows watch.old watch.new table.old.places table.new.places }
 {
+    let line = table.scanned_line(place);
+    watch.go(&line);
     table.free(place);
 }
 
 /// Frees the places of a span that hold live lines of an order, and answers how many they were.
-pub fn free_order(table: &mut FactTable, key: u64, span: Span) -> usize
+pub fn free_order<W: Watch>(table: &mut FactTable, watch: &mut W, key: u64, span: Span) -> usize
     requires { (place : ℕ) (line : PlainPlace) → live_at table.old.places place ≡ Some line → line.order ≡ key
         → (span.first ≤ place) × (place < span.end) }
     ensures gone { (place : ℕ)
@@ -124,11 +132,12 @@ pub fn free_order(table: &mut FactTable, key: u64, span: Span) -> usize
         → All (IsPlaceOf dimensions) table.new.places }
     ensures len { length table.new.places ≡ length table.old.places }
     ensures room { table.new.room ≡ table.old.room }
+    ensures watched { FollowsOn W.follows watch.old watch.new table.old.places table.new.places }
 {
     let mut freed = 0;
     for place in span.first as usize..span.end as usize {
         if live_order(table, place) == Some(key) {
-            free(table, place);
+            free(table, watch, place);
             freed += 1;
         }
     }

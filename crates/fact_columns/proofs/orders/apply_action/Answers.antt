@@ -10,7 +10,7 @@ use Rattle.fact_columns.proofs.CodingLaws.{codes_own}
 use Rattle.fact_columns.proofs.orders.apply_action.Goals as goal
 
 pub add-requires : goal.add-requires
-add-requires c =
+add-requires g c =
     let action = c.args.action.now in
     record {
       room = c.requires.room;
@@ -23,7 +23,7 @@ add-requires c =
     }
 
 pub add-requires-in-Amend : goal.add-requires-in-Amend
-add-requires-in-Amend c =
+add-requires-in-Amend g c =
     let action = c.args.action.now in
     record {
       room = omega (arith, c.withdraw-freed.ensures.room, c.requires.room);
@@ -36,8 +36,9 @@ add-requires-in-Amend c =
     }
 
 pub returns-in-Amend : goal.returns-in-Amend
-returns-in-Amend c = record {
+returns-in-Amend g c = record {
   spanned = c.add-in-Amend.ensures.spanned;
+  watched = λ base follows. c.add-in-Amend.ensures.watched base (c.withdraw-freed.ensures.watched base follows);
   counts = λ dimensions codes. grind (
     arith,
     common_steps,
@@ -54,12 +55,13 @@ returns-in-Amend c = record {
 }
 
 pub returns-in-Withdraw : goal.returns-in-Withdraw
-returns-in-Withdraw c =
+returns-in-Withdraw g c =
     let lines = c.args.lines.now in
     let none : length lines ≡ 0 = sym (length-map lines (fact_at c.requires.dimensions))
     ∙ ap length c.requires.coded.read ∙ ap (λ (a : Action). length (facts_of (added_by a))) c.in-Withdraw.is in
     record {
       spanned = c.withdraw.ensures.spanned;
+      watched = c.withdraw.ensures.watched;
       counts = λ dimensions codes. grind (arith, common_steps, c.withdraw.ensures.counts dimensions);
       count = omega (arith, none, c.withdraw.ensures.count);
       inside = λ dimensions fresh all. c.withdraw.ensures.inside dimensions all;

@@ -12,7 +12,7 @@ use Rattle.fact_columns.proofs.CodingLaws.{codes_cut}
 use Rattle.fact_columns.proofs.orders.apply_actions.Goals as goal
 
 pub apply_action-freed-requires : goal.apply_action-freed-requires
-apply_action-freed-requires c =
+apply_action-freed-requires g c =
     let so_far = c.loop-action.invariant in
     let dimensions = c.requires.dimensions in
     record {
@@ -30,7 +30,7 @@ apply_action-freed-requires c =
     }
 
 pub overflow_add-freed : goal.overflow_add-freed
-overflow_add-freed c = omega (
+overflow_add-freed g c = omega (
   arith,
   c.apply_action-freed.ensures.count,
   c.loop-action.invariant.count,
@@ -41,7 +41,7 @@ overflow_add-freed c = omega (
 )
 
 pub loop-action-preserved : goal.loop-action-preserved
-loop-action-preserved c =
+loop-action-preserved g c =
     let so_far = c.loop-action.invariant in
     let i : ℕ = c.loop-action.action-index in
     let actions : List Action = c.args.actions.now in
@@ -69,6 +69,7 @@ loop-action-preserved c =
       left = λ dimensions fresh. All-same (IsPlaceOf dimensions) _ _ c.split_at.ensures.back
           (All-drop (IsPlaceOf dimensions) n c.loop-action.rest.now (so_far.left dimensions fresh));
       spanned = c.apply_action-freed.ensures.spanned;
+      watched = λ base follows. c.apply_action-freed.ensures.watched base (so_far.watched base follows);
       count = omega (
         arith,
         c.apply_action-freed.ensures.count,

@@ -6,12 +6,13 @@ use Rattle.ssb_schema.specs.Facts.{facts_of}
 use Rattle.row_store.specs.Lines.{added_by}
 use Rattle.row_store.specs.State.{counts_after_action}
 use Rattle.fact_columns.specs.Classed.{IsPlaceOf}
+use Rattle.fact_columns.specs.Watching.{FollowsOn}
 use Rattle.fact_columns.specs.Spans.{Spanned, live_count}
 use Rattle.fact_columns.specs.Coded.{AreCodesOf, counts_at}
 use Rattle.fact_columns.proofs.orders.apply_actions.Given as goal
 
 abbrev pub invariant-loop-action : goal.invariant-loop-action
-invariant-loop-action l = record {
+invariant-loop-action g l = record {
   coded : (dimensions : Dimensions) → AreCodesOf dimensions (facts_of (flat_map added_by l.actions)) l.fresh
       → AreCodesOf dimensions (facts_of (flat_map added_by (drop l.action-index l.actions))) l.rest;
   counts : (dimensions : Dimensions) → AreCodesOf dimensions (facts_of (flat_map added_by l.actions)) l.fresh
@@ -25,4 +26,5 @@ invariant-loop-action l = record {
   room : length l.rest ≤ l.table.room;
   len : length l.table.places + length l.rest ≤ length l.initial.table.places + length l.fresh;
   spare : length l.actions ≤ spare l.spans + l.action-index;
+  watched : FollowsOn g.W.Watch.follows l.initial.watch l.watch l.initial.table.places l.table.places;
 }

@@ -4,10 +4,11 @@ use Rattle.fact_columns.proofs.PlaceLaws.{spanned_put}
 use Rattle.fact_columns.proofs.orders.put_order.Goals as goal
 
 pub returns : goal.returns
-returns c = record {
+returns g c = record {
   spanned = spanned_put (get nat_eq c.args.spans.now) (get nat_eq c.widen.new.spans) c.args.table.now.places
       c.put_all.new.table.places c.args.first c.args.key c.args.lines.now c.put_all.ensures.mine c.requires.can.own
       c.put_all.ensures.below c.put_all.ensures.above c.widen.ensures.own c.widen.ensures.grows c.requires.can.spanned;
+  watched = c.put_all.ensures.watched;
   counts = c.put_all.ensures.counts;
   count = c.put_all.ensures.count;
   inside = c.put_all.ensures.inside;

@@ -7,7 +7,7 @@ use Rattle.fact_columns.proofs.placing.free_order.Goals as goal
 use Rattle.fact_columns.proofs.placing.free_order.Goals.{then-eq, else-eq}
 
 pub loop-place-preserved : goal.loop-place-preserved
-loop-place-preserved c =
+loop-place-preserved g c =
     let key = c.args.key in
     let old = c.args.table.now.places in
     let mid = c.loop-place.table.places in
@@ -21,7 +21,7 @@ loop-place-preserved c =
           let here : live_at later place ≡ kept (is_of_other key) (live_at mid place) =
           w.free.ensures.here ∙ sym (goes key (live_at mid place)
           (is_of_key key (live_at mid place) (asked ∙ w.if-eq.true))) in
-          rw (w.table-is, w.freed-is) (record {
+          rw (w.table-is, w.watch-is, w.freed-is) (record {
             done = gone_more key place old mid later so_far.done so_far.left here w.free.ensures.others;
             left = λ other le. w.free.ensures.others other (λ e. omega (arith, le, e))
                 ∙ so_far.left other (omega (arith, le));
@@ -30,11 +30,12 @@ loop-place-preserved c =
             inside = λ dimensions all. w.free.ensures.inside dimensions (so_far.inside dimensions all);
             len = w.free.ensures.len ∙ so_far.len;
             room = w.free.ensures.room ∙ so_far.room;
+            watched = λ base follows. w.free.ensures.watched base (so_far.watched base follows);
           })
       | else-eq w ↦
           let here : live_at mid place ≡ kept (is_of_other key) (live_at mid place) =
           sym (stays key (live_at mid place) (is_of_none key (live_at mid place) (asked ∙ w.if-eq.false))) in
-          rw (w.table-is, w.freed-is) (record {
+          rw (w.table-is, w.watch-is, w.freed-is) (record {
             done = gone_more key place old mid mid so_far.done so_far.left here (λ k differ. refl);
             left = λ other le. so_far.left other (omega (arith, le));
             count = so_far.count;
@@ -42,5 +43,6 @@ loop-place-preserved c =
             inside = so_far.inside;
             len = so_far.len;
             room = so_far.room;
+            watched = so_far.watched;
           })
     ]

@@ -2,11 +2,12 @@ use Rattle.std.proofs.Common.{◌≡◌, ◌+◌, ◌≤◌, ◌<◌, ℕ, lengt
 use Rattle.std.specs.List.{All}
 use Rattle.ssb_base.specs.Base.{Dimensions}
 use Rattle.fact_columns.specs.Classed.{IsPlaceOf}
+use Rattle.fact_columns.specs.Watching.{FollowsOn}
 use Rattle.fact_columns.specs.Spans.{live_at, live_count, kept, is_of_other}
 use Rattle.fact_columns.proofs.placing.free_order.Given as goal
 
 abbrev pub invariant-loop-place : goal.invariant-loop-place
-invariant-loop-place l = record {
+invariant-loop-place g l = record {
   done : (place : ℕ) → place < l.place → live_at l.table.places place ≡ kept (is_of_other l.key)
       (live_at l.initial.table.places place);
   left : (place : ℕ) → l.place ≤ place → live_at l.table.places place ≡ live_at l.initial.table.places place;
@@ -16,4 +17,5 @@ invariant-loop-place l = record {
       → All (IsPlaceOf dimensions) l.table.places;
   len : length l.table.places ≡ length l.initial.table.places;
   room : l.table.room ≡ l.initial.table.room;
+  watched : FollowsOn g.W.Watch.follows l.initial.watch l.watch l.initial.table.places l.table.places;
 }

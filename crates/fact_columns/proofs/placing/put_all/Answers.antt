@@ -1,7 +1,7 @@
 use Rattle.std.proofs.Common.{arith, ◌∙◌}
 use Rattle.fact_columns.specs.declared.place.Place.{Place}
 use Rattle.fact_columns.specs.Coded.{counts_at}
-use Rattle.fact_columns.proofs.PlaceLaws.{mine_more, with_more}
+use Rattle.fact_columns.proofs.PlaceLaws.{mine_more, with_more, one_read}
 use Rattle.fact_columns.proofs.placing.put_all.Goals as goal
 
 -- what is read past the end
@@ -23,7 +23,7 @@ none = record {
 }
 
 pub loop-i-preserved : goal.loop-i-preserved
-loop-i-preserved c =
+loop-i-preserved g c =
     let old = c.args.table.now.places in
     let mid = c.loop-i.table.places in
     let later = c.put.new.table.places in
@@ -46,4 +46,6 @@ loop-i-preserved c =
       most = omega (arith, c.put.ensures.len, so_far.most);
       reach = omega (arith, c.put.ensures.reach);
       room = omega (arith, c.put.ensures.room, so_far.room);
+      watched = λ base follows. c.come.ensures base _ _ (one_read mid later _ c.scanned_line.result
+          c.scanned_line.ensures c.put.ensures.one) (so_far.watched base follows);
     }

@@ -3,12 +3,13 @@ use Rattle.std.specs.List.{All}
 use Rattle.ssb_base.specs.Base.{Dimensions}
 use Rattle.fact_columns.specs.declared.place.Place.{Place}
 use Rattle.fact_columns.specs.Classed.{IsPlaceOf}
+use Rattle.fact_columns.specs.Watching.{FollowsOn}
 use Rattle.fact_columns.specs.Spans.{live_at, live_count}
 use Rattle.fact_columns.specs.Coded.{counts_at, with_places}
 use Rattle.fact_columns.proofs.placing.put_all.Given as goal
 
 abbrev pub invariant-loop-i : goal.invariant-loop-i
-invariant-loop-i l = record {
+invariant-loop-i g l = record {
   mine : (i : ℕ) (other : Place) → i < l.i → live_at l.table.places (l.first + i) ≡ Some (get_or l.lines i other);
   below : (place : ℕ) → place < l.first → live_at l.table.places place ≡ live_at l.initial.table.places place;
   above : (place : ℕ) → l.first + l.i ≤ place → live_at l.table.places place ≡ live_at l.initial.table.places place;
@@ -21,4 +22,5 @@ invariant-loop-i l = record {
   most : length l.table.places ≤ length l.initial.table.places + l.i;
   reach : l.first + l.i ≤ length l.table.places;
   room : l.initial.table.room ≤ l.table.room + l.i;
+  watched : FollowsOn g.W.Watch.follows l.initial.watch l.watch l.initial.table.places l.table.places;
 }

@@ -4,6 +4,8 @@ use Rattle.std.specs.Map.{lookup}
 use Rattle.std.proofs.lemmas.Map.Entries.{entries_from_clone}
 use Rattle.ssb_base.specs.Base.{Tables}
 use Rattle.fact_columns.specs.declared.place.Place.{Place}
+use Rattle.fact_columns.specs.Places.{live_facts}
+use Rattle.fact_columns.specs.Stored.{columns_state}
 use Rattle.fact_columns.specs.Classed.{IsPlaceOf}
 use Rattle.fact_columns.specs.declared.span.Span.{Span}
 use Rattle.fact_columns.specs.Spans.{Spanned, live_count}
@@ -24,3 +26,27 @@ invariant_of-result c =
           c.self.invariant.within;
       few = omega (arith, c.self.invariant.few, ap length places);
     }
+
+pub returns-clause-same : goal.returns-clause-same
+returns-clause-same c =
+    let inside = c.self.inside in
+    let places : c.in_ok-copy.field-0.places ≡ inside.table.places = search rules in
+    let base : c.in_ok-try_clone.field-0.value ≡ inside.index.value = search rules in
+    (λ i. record {
+      base = base i;
+      commits = inside.commits;
+      places = places i;
+      facts = live_facts (base i).dimensions (places i);
+    }) ∙ c.self.view_is
+
+pub returns-clause-state : goal.returns-clause-state
+returns-clause-state c =
+    let inside = c.self.inside in
+    let places : c.in_ok-copy.field-0.places ≡ inside.table.places = search rules in
+    let base : c.in_ok-try_clone.field-0.value ≡ inside.index.value = search rules in
+    ap columns_state ((λ i. record {
+      base = base i;
+      commits = inside.commits;
+      places = places i;
+      facts = live_facts (base i).dimensions (places i);
+    }) ∙ c.self.view_is)

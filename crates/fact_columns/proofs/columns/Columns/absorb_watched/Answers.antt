@@ -5,13 +5,14 @@ use Rattle.ssb_base.specs.Base.{Dimensions}
 use Rattle.fact_columns.specs.Classed.{IsPlaceOf}
 use Rattle.fact_columns.specs.Spans.{live_count}
 use Rattle.fact_columns.proofs.PlaceLaws.{live_few}
-use Rattle.fact_columns.proofs.columns.ColumnsReplica.absorb.Goals as goal
+use Rattle.fact_columns.proofs.columns.Columns.absorb_watched.Goals as goal
 
 pub overflow_add-self : goal.overflow_add-self
-overflow_add-self c = omega (arith, c.self.invariant.counted, c.self.invariant.few, live_few c.self.inside.table.places)
+overflow_add-self g c =
+    omega (arith, c.self.invariant.counted, c.self.invariant.few, live_few c.self.inside.table.places)
 
 pub invariant_of-self-2 : goal.invariant_of-self-2
-invariant_of-self-2 c =
+invariant_of-self-2 g c =
     let dimensions : Dimensions = c.self.inside.index.value.dimensions in
     let before : live_count c.reserve.new.self.places ≡ live_count c.self.inside.table.places =
     ap live_count c.reserve.ensures.places in
