@@ -200,7 +200,7 @@ found_by_class plan base places sound_first own =
     ∙ map_twice (combined_at d) classed (filter (λ place. test (classed place)) live)
 
 -- the answer to a question over the rows that begin a class is that over all rows
-answer_classed : (base : Tables) (question : Query × List Value) (places : List Place) → IsSound base
+pub answer_classed : (base : Tables) (question : Query × List Value) (places : List Place) → IsSound base
     → IsSound (reduced base) → All (IsPlaceOf base.dimensions) places
     → answer_of question (reduced base).dimensions (live_facts (reduced base).dimensions (map classed places)) ≡
     answer_of question base.dimensions (live_facts base.dimensions places)

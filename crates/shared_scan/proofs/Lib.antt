@@ -22,3 +22,9 @@ pub mod EachLaws
 pub mod ScanLaws
 pub mod HistoryLaws
 pub mod SparseLaws
+pub mod StandingLaws
+pub mod FollowLaws
+pub mod StandingScanLaws
+pub mod StandingAnswerLaws
+pub mod LoadedLaws
+pub mod FoundLaws

@@ -60,7 +60,7 @@ use Rattle.shared_scan.specs.Laws.{AreLinesOf}
 use Rattle.shared_scan.specs.Grouped.{ArePrepared}
 use Rattle.shared_scan.specs.Batch.{IsReady, AreReady, plans_of, questions_of}
 use Rattle.shared_scan.specs.Groupings.{HasParts, IsDenseGrouping, IsGroupingWith, AreReadyGroupings}
-use Rattle.shared_scan.specs.TotalRows.{FitsWith, CanAnswerAll, AreRowsWith, AreBatchRows}
+use Rattle.shared_scan.specs.TotalRows.{FitsWith, CanAnswer, CanAnswerAll, AreRowsWith, AreBatchRows}
 use Rattle.shared_scan.specs.declared.ready.Ready.{Ready}
 use Rattle.shared_scan.proofs.EachLaws.{item_of}
 use Rattle.shared_scan.proofs.GroupLaws.{dimensions_alone}
@@ -122,13 +122,11 @@ module _ (base : Tables) (masks : Masks) (all : List Ready) (ready : AreReady ba
         few = one.few;
       }
 
+-- of one question
 module _ (base : Tables) (places : List Place) (lines : LineColumns) (masks : Masks) (all : List Ready)
-    (groupings : List Grouping)
     (sound : IsSound base) (within : All (IsWithin base.dimensions) places) (are : AreLinesOf places lines)
-    (tell : AreMasksOf (plans_of (questions_of all)) base.dimensions masks)
-    (ready : AreReady base masks (questions_of all) all)
-    (grouped : AreReadyGroupings base lines all groupings) where
-  can_sum_with : (k : ℕ) (r : Ready) (g : Grouping) → slice_get (plans_of (questions_of all)) k ≡ Some
+    (tell : AreMasksOf (plans_of (questions_of all)) base.dimensions masks) where
+  pub can_sum_with : (k : ℕ) (r : Ready) (g : Grouping) → slice_get (plans_of (questions_of all)) k ≡ Some
       (plan_over r.question.0 r.question.1) → IsReady base masks k r.question r
       → (parts : Parts) → r.groups.parts ≡ parts → IsGroupingWith base lines r parts g → CanSum lines masks k g
   can_sum_with k r g at_k is (Narrow parts) e one =
@@ -149,16 +147,7 @@ module _ (base : Tables) (places : List Place) (lines : LineColumns) (masks : Ma
     few = omega (arith, one.one);
   }
 
-  pub can_sum_all : CanSumAll lines masks groupings
-  can_sum_all k g below =
-      let inside : k < length all = omega (arith, below, grouped.len) in
-      let r : Ready = item_of all k inside in
-      let this = get_or all k r in
-      can_sum_with k this (get_or groupings k g) (plan_at base masks all ready k r inside)
-      (ready_at base masks all ready k r inside) this.groups.parts refl (grouped.each k r g inside)
-
-  module _ (totals : List Totals) (summed : AreBatchTotals lines masks groupings (range_with_len 0 (length places))
-      totals) (few : length (live_facts base.dimensions places) ≤ 33554432) where
+  module _ (few : length (live_facts base.dimensions places) ≤ 33554432) where
     grouping_of : (k : ℕ) (r : Ready) (g : Grouping) (parts : Vec (List ℕ) Global) → IsReady base masks k r.question r
         → r.groups.parts ≡ Narrow parts → IsDenseGrouping base lines r parts.items g
         → IsGroupingOf base masks k lines (plan_over r.question.0 r.question.1) r.groups.columns.items g
@@ -172,7 +161,7 @@ module _ (base : Tables) (places : List Place) (lines : LineColumns) (masks : Ma
         g.columns.items n in
         subst M (sym one.measure_is) (subst N (sym one.size_is) own)
 
-    fits_with : (k : ℕ) (r : Ready) (g : Grouping) (t : Totals)
+    pub fits_with : (k : ℕ) (r : Ready) (g : Grouping) (t : Totals)
         → slice_get (plans_of (questions_of all)) k ≡ Some (plan_over r.question.0 r.question.1)
         → IsReady base masks k r.question r
         → AreTotals lines masks k g (range_with_len 0 (length places)) t → (parts : Parts) → r.groups.parts ≡ parts
@@ -199,17 +188,15 @@ module _ (base : Tables) (places : List Place) (lines : LineColumns) (masks : Ma
         }
     fits_with k r g t at_k is sums (Wide parts) e one = tt
 
-    pub can_answer_all : CanAnswerAll base lines masks all totals
-    can_answer_all k r t below =
-        let this = get_or all k r in
-        let one = ready_at base masks all ready k r below in
-        let of_groupings : k < length groupings = omega (arith, below, grouped.len) in
-        let g : Grouping = item_of groupings k of_groupings in
-        let at_k = plan_at base masks all ready k r below in
-        let lengths = prepared_lengths base masks k this.plan.groups this.groups.columns.items 1
-        (parts_in this.groups.parts) one.prepared in
+    pub can_answer_one : (k : ℕ) (r : Ready) (g : Grouping) (t : Totals)
+        → slice_get (plans_of (questions_of all)) k ≡ Some (plan_over r.question.0 r.question.1)
+        → IsReady base masks k r.question r → AreTotals lines masks k g (range_with_len 0 (length places)) t
+        → IsGroupingWith base lines r r.groups.parts g → CanAnswer base lines masks k r t
+    can_answer_one k r g t at_k is sums one =
+        let lengths = prepared_lengths base masks k r.plan.groups r.groups.columns.items 1 (parts_in r.groups.parts)
+        is.prepared in
         record {
-          columns = lengths.0 ∙ ap (λ (plan : Plan). length plan.groups) one.plan_is;
+          columns = lengths.0 ∙ ap (λ (plan : Plan). length plan.groups) is.plan_is;
           scanned = record {
             plans = plans_of (questions_of all);
             places = places;
@@ -219,37 +206,61 @@ module _ (base : Tables) (places : List Place) (lines : LineColumns) (masks : Ma
             are = are;
             at_k = at_k;
             tell = tell;
-            is_ready = one;
+            is_ready = is;
           };
-          fit = fits_with k this (get_or groupings k g) (get_or totals k t) at_k one (summed.each k g t of_groupings)
-              this.groups.parts refl (grouped.each k r g below);
+          fit = fits_with k r g t at_k is sums r.groups.parts refl one;
         }
 
-    module _ (list : List Rows) (right : AreBatchRows base lines masks all totals list) where
-      answer_with : (k : ℕ) (r : Ready) (g : Grouping) (t : Totals) (rows : List ResultRow)
-          → slice_get (plans_of (questions_of all)) k ≡ Some (plan_over r.question.0 r.question.1)
-          → IsReady base masks k r.question r
-          → AreTotals lines masks k g (range_with_len 0 (length places)) t → (parts : Parts) → r.groups.parts ≡ parts
-          → IsGroupingWith base lines r parts g → AreRowsWith base lines masks k r parts t rows
-          → rows ≡ answer_of r.question base.dimensions (live_facts base.dimensions places)
-      answer_with k r g t rows at_k is sums (Narrow parts) e one found =
-          let own = grouping_of k r g parts is e one in
-          let dims = dimensions_alone r.question.0 r.question.1 in
-          let count : ℕ → ℕ = λ n. get_or t.counts.items n 0 in
-          let gain : ℕ → ℕ = λ n. get_or t.gains.items n 0 in
-          let loss : ℕ → ℕ = λ n. get_or t.losses.items n 0 in
-          summed_answer base r.question (plans_of (questions_of all)) k places lines masks r.groups.columns.items
-          g.measure g.columns.items g.size sound within are at_k tell own dims count gain loss few
-          (summed_totals lines masks k g (range_with_len 0 (length places)) t sums found.fits.counts found.fits.gains
-          found.fits.losses) rows found.right
-      answer_with k r g t rows at_k is sums (Wide parts) e one found =
-          let dims = dimensions_alone r.question.0 r.question.1 in
-          let R : ℕ → Type 0 = λ n. AreSummed lines masks k r.plan.measure found.groups r.groups.size
-          (range_with_len 0 n) found.count found.gain found.loss in
-          summed_answer base r.question (plans_of (questions_of all)) k places lines masks r.groups.columns.items
-          r.plan.measure found.groups r.groups.size sound within are at_k tell found.grouped dims
-          found.count found.gain found.loss few (subst R (line_count places lines are) found.summed) rows found.right
+    pub answer_with : (k : ℕ) (r : Ready) (g : Grouping) (t : Totals) (rows : List ResultRow)
+        → slice_get (plans_of (questions_of all)) k ≡ Some (plan_over r.question.0 r.question.1)
+        → IsReady base masks k r.question r
+        → AreTotals lines masks k g (range_with_len 0 (length places)) t → (parts : Parts) → r.groups.parts ≡ parts
+        → IsGroupingWith base lines r parts g → AreRowsWith base lines masks k r parts t rows
+        → rows ≡ answer_of r.question base.dimensions (live_facts base.dimensions places)
+    answer_with k r g t rows at_k is sums (Narrow parts) e one found =
+        let own = grouping_of k r g parts is e one in
+        let dims = dimensions_alone r.question.0 r.question.1 in
+        let count : ℕ → ℕ = λ n. get_or t.counts.items n 0 in
+        let gain : ℕ → ℕ = λ n. get_or t.gains.items n 0 in
+        let loss : ℕ → ℕ = λ n. get_or t.losses.items n 0 in
+        summed_answer base r.question (plans_of (questions_of all)) k places lines masks r.groups.columns.items
+        g.measure g.columns.items g.size sound within are at_k tell own dims count gain loss few
+        (summed_totals lines masks k g (range_with_len 0 (length places)) t sums found.fits.counts found.fits.gains
+        found.fits.losses) rows found.right
+    answer_with k r g t rows at_k is sums (Wide parts) e one found =
+        let dims = dimensions_alone r.question.0 r.question.1 in
+        let R : ℕ → Type 0 = λ n. AreSummed lines masks k r.plan.measure found.groups r.groups.size
+        (range_with_len 0 n) found.count found.gain found.loss in
+        summed_answer base r.question (plans_of (questions_of all)) k places lines masks r.groups.columns.items
+        r.plan.measure found.groups r.groups.size sound within are at_k tell found.grouped dims
+        found.count found.gain found.loss few (subst R (line_count places lines are) found.summed) rows found.right
 
+module _ (base : Tables) (places : List Place) (lines : LineColumns) (masks : Masks) (all : List Ready)
+    (groupings : List Grouping)
+    (sound : IsSound base) (within : All (IsWithin base.dimensions) places) (are : AreLinesOf places lines)
+    (tell : AreMasksOf (plans_of (questions_of all)) base.dimensions masks)
+    (ready : AreReady base masks (questions_of all) all)
+    (grouped : AreReadyGroupings base lines all groupings) where
+  pub can_sum_all : CanSumAll lines masks groupings
+  can_sum_all k g below =
+      let inside : k < length all = omega (arith, below, grouped.len) in
+      let r : Ready = item_of all k inside in
+      let this = get_or all k r in
+      can_sum_with base places lines masks all sound within are tell k this (get_or groupings k g)
+      (plan_at base masks all ready k r inside) (ready_at base masks all ready k r inside) this.groups.parts refl
+      (grouped.each k r g inside)
+
+  module _ (totals : List Totals) (summed : AreBatchTotals lines masks groupings (range_with_len 0 (length places))
+      totals) (few : length (live_facts base.dimensions places) ≤ 33554432) where
+    pub can_answer_all : CanAnswerAll base lines masks all totals
+    can_answer_all k r t below =
+        let of_groupings : k < length groupings = omega (arith, below, grouped.len) in
+        let g : Grouping = item_of groupings k of_groupings in
+        can_answer_one base places lines masks all sound within are tell few k (get_or all k r) (get_or groupings k g)
+        (get_or totals k t) (plan_at base masks all ready k r below) (ready_at base masks all ready k r below)
+        (summed.each k g t of_groupings) (grouped.each k r g below)
+
+    module _ (list : List Rows) (right : AreBatchRows base lines masks all totals list) where
       rows_at : (k : ℕ) (r : Ready) (t : Totals) (rows : Rows) → k < length all
           → get_or list k rows ≡ record {
             query = (get_or all k r).question;
@@ -260,7 +271,8 @@ module _ (base : Tables) (places : List Place) (lines : LineColumns) (masks : Ma
           let of_groupings : k < length groupings = omega (arith, below, grouped.len) in
           let g : Grouping = item_of groupings k of_groupings in
           let one = right.each k r t rows below in
-          let answer = answer_with k this (get_or groupings k g) (get_or totals k t) (get_or list k rows).list
+          let answer = answer_with base places lines masks all sound within are tell few k this (get_or groupings k g)
+          (get_or totals k t) (get_or list k rows).list
           (plan_at base masks all ready k r below) (ready_at base masks all ready k r below)
           (summed.each k g t of_groupings)
           this.groups.parts refl (grouped.each k r g below) one.right in

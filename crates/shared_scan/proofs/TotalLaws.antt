@@ -126,7 +126,7 @@ bit_of_test true = refl
 bit_of_test false = refl
 
 -- what a place adds and takes away
-gain_is : (dimensions : Dimensions) (places : List Place) (lines : LineColumns) (measure : Measure) (i : ℕ)
+pub gain_is : (dimensions : Dimensions) (places : List Place) (lines : LineColumns) (measure : Measure) (i : ℕ)
     → AreLinesOf places lines → gain_at lines measure i ≡ gain_of measure (fact_at dimensions (get_or places i nowhere))
 gain_is dimensions places lines PriceTimesDiscount i are =
     let price = ap (λ (xs : List ℕ). get_or xs i 0) are.prices_are
@@ -144,7 +144,7 @@ gain_is dimensions places lines Quantity i are =
     λ j. terms j / 16
 gain_is dimensions places lines Lines i are = refl
 
-loss_is : (dimensions : Dimensions) (places : List Place) (lines : LineColumns) (measure : Measure) (i : ℕ)
+pub loss_is : (dimensions : Dimensions) (places : List Place) (lines : LineColumns) (measure : Measure) (i : ℕ)
     → AreLinesOf places lines → loss_at lines measure i ≡ loss_of measure (fact_at dimensions (get_or places i nowhere))
 loss_is dimensions places lines PriceTimesDiscount i are = refl
 loss_is dimensions places lines Revenue i are = refl

@@ -22,13 +22,14 @@ pub record IsDenseGrouping (base : Tables) (lines : LineColumns) (ready : Ready)
   pub size_is : grouping.size ≡ ready.groups.size
 
 -- one group stands for all
-pub record IsOneGroup (grouping : Grouping) : Type 0 where
+pub record IsOneGroup (ready : Ready) (grouping : Grouping) : Type 0 where
+  pub measure_is : grouping.measure ≡ ready.plan.measure
   pub ungrouped : grouping.columns.items ≡ []
   pub one : grouping.size ≡ 1
 
 abbrev pub IsGroupingWith : Tables → LineColumns → Ready → Parts → Grouping → Type 0
 IsGroupingWith base lines ready (Narrow parts) grouping = IsDenseGrouping base lines ready parts.items grouping
-IsGroupingWith base lines ready (Wide parts) grouping = IsOneGroup grouping
+IsGroupingWith base lines ready (Wide parts) grouping = IsOneGroup ready grouping
 
 -- the question's grouping; one group where its groups are summed up apart
 abbrev pub IsReadyGrouping : Tables → LineColumns → Ready → Grouping → Type 0

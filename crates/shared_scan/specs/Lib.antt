@@ -16,3 +16,5 @@ pub mod Lines
 pub mod Parts
 pub mod Summed
 pub mod Scanned
+pub mod Standing
+pub mod Follows

@@ -81,7 +81,7 @@ fn dense_grouping<'a>(
 }
 
 /// The grouping of a question as the loops read it. Where its groups are summed up apart, one stands for all.
-fn grouping<'a>(
+pub fn grouping<'a>(
     alloc: Global,
     index: &'a FirstRows,
     lines: &LineColumns<'a>,

@@ -46,7 +46,7 @@ fn number_code(numbering: &mut Numbering, code: u32) -> Result<(), AllocError>
 }
 
 /// Whether a mask has the bit of a question.
-fn has_bit(mask: u16, question: usize) -> bool
+pub fn has_bit(mask: u16, question: usize) -> bool
     requires { question < 16 }
     ensures { result ≡ nat_eq (bit_at mask question) 1 }
 {

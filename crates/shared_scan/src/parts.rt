@@ -7,7 +7,7 @@ use std::alloc::{AllocError, Global};
 
 /// How many groups a question may have and still be summed up with a number for each of them. The totals of a batch of
 /// sixteen such questions then take 25 MB at most for each thread, and as much where they are joined.
-const MOST_DENSE: u128 = 65_536;
+pub const MOST_DENSE: u128 = 65_536;
 
 /// By group column, what each code adds to the number of a group: in 32 bits where a number is kept for each group, and
 /// in 128 where only the groups that lines have are kept.

@@ -87,7 +87,7 @@ pub struct Scan<'a> {
 }
 
 /// A question that is made ready, with its rows.
-fn question_rows(
+pub fn question_rows(
     alloc: Global,
     scan: Scan<'_>,
     ready: &Ready,
