@@ -3,6 +3,7 @@ mod StepLaws
 mod SessionLaws
 mod ConversationLaws
 mod EndLaws
+mod ExchangeLaws
 mod WholeScriptLaws
 mod StreamLaws
 mod AheadLaws

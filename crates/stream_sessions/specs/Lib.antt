@@ -4,5 +4,6 @@ pub mod Answers
 pub mod Session
 pub mod Steps
 pub mod Conversation
+pub mod Exchange
 pub mod WholeScripts
 pub mod Streams

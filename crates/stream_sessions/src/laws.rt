@@ -1,8 +1,16 @@
-//! What holds of every session: the law is the contract of a function that does nothing.
+//! What holds of every session: each law is the contract of a function that does nothing.
 ghost use Rattle.std.specs.Prelude.{ℕ, List};
+ghost use Rattle.stream_sessions.specs.Events.{Event};
+ghost use Rattle.stream_sessions.specs.Exchange.{TellsReplies};
 ghost use Rattle.stream_sessions.specs.WholeScripts.{HasRepliesOfScript};
 
 /// A legal script that is answered request by request, as it comes, has the replies of the whole script.
 pub fn replies_of_script()
     ensures { (text : List ℕ) → HasRepliesOfScript text }
+{}
+
+/// What was told in a conversation is the replies to the requests that were taken, one after another, whatever is known of
+/// the streams.
+pub fn conversation_tells_replies()
+    ensures { (events : List Event) → TellsReplies events }
 {}

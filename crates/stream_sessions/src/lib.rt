@@ -21,8 +21,9 @@
 //! of all that a receipt or an answer tells of; and the session looks for more, so that it may wait for its client, only
 //! where no reply is held. A server without a journal tells at once ([`AtOnce`]), and pays nothing.
 //!
-//! A law (`specs/WholeScripts.antt`): a legal script without lone CRs and byte order marks has the replies of the whole
-//! script though it is answered request by request.
+//! Two laws: what is told in such a conversation is the replies to the requests that were taken, in order, and nothing
+//! else (`specs/Exchange.antt`); a legal script without lone CRs and byte order marks has the replies of the whole script
+//! though it is answered request by request (`specs/WholeScripts.antt`).
 //!
 //! That of [`serve_streams`] (`specs/Streams.antt`): each speaker, in order, was given a new client of its own, and kept
 //! what it promises of it and of what it left; what a client saw at the end is a beginning of the log, and its own commits
