@@ -4,12 +4,15 @@ import queue
 import random
 import select
 import subprocess
+import sys
 import threading
 import time
 
 from common import HERE, LIVE
 from judge import Disagreement, Lines, read_replies
 from traffic import Refresh, Traffic
+sys.path.insert(0, str(HERE.parent / "clients/python"))
+import ssb_live
 
 PATIENCE = 120          # seconds after which a reply counts as lost
 SETTLING = 0.5          # seconds in which the server notices that a client has gone
@@ -114,39 +117,22 @@ class Client:
 
 
 class Asker:
-    """A client that has one request under way, and reads with no thread between."""
+    """A client that has one request under way, through the client of clients/python."""
 
     def __init__(self, ends):
-        into, out = ends
-        self.out = os.open(out, os.O_RDONLY)
-        self.into = os.open(into, os.O_WRONLY)
+        self.live = ssb_live.connect(*ends, timeout=PATIENCE)
 
     def ask(self, request, answers=1):
         """Sends a request, and gives the seconds until its reply was read: so many answers, or one line."""
         start = time.perf_counter()
-        os.write(self.into, request)
-        reply = os.read(self.out, 1 << 20)
-        while not self.is_whole(reply, answers):
-            part = os.read(self.out, 1 << 20)
-            if not part:
-                raise Disagreement("the session ended")
-            reply += part
-        self.reply = reply
+        try:
+            self.reply = self.live.exchange(request, answers)
+        except ssb_live.Error as fault:
+            raise Disagreement(str(fault)) from None
         return time.perf_counter() - start
 
-    @staticmethod
-    def is_whole(reply, answers):
-        for _ in range(answers - 1):
-            head, _, reply = reply.partition(b"\n")
-            if b" rows " in head:
-                reply = reply.split(b"\n", int(head.rpartition(b" rows ")[2]))[-1]
-        head, end, rows = reply.partition(b"\n")
-        wanted = int(head.rpartition(b" rows ")[2]) if b" rows " in head else 0
-        return bool(end) and rows.count(b"\n") == wanted and (not rows or rows.endswith(b"\n"))
-
     def close(self):
-        os.close(self.into)
-        os.close(self.out)
+        self.live.close()
 
 
 def line_end(tables):

@@ -167,6 +167,7 @@ class Tree:
     def _read_bench(self):
         self.scripts = {name[6:]: text for name, text in self.sources.items() if name.startswith("bench/")}
         others = [text for name, text in self.scripts.items() if name not in ("check_docs", "README.md", "expected-0.01.txt")]
+        others += [text for name, text in self.sources.items() if name.startswith("clients/") and name.endswith(".py")]
         self.words.update(word for text in others for word in WORD.findall(text))
 
     def _words_of_the_program(self):

@@ -1,0 +1,518 @@
+"""A client of `ssb_live serve`, over its two named pipes.
+
+    import ssb_live
+
+    with ssb_live.connect("in-1", "out-1") as live:
+        for nation, year, revenue in live.ask("star", "LO_REVENUE", "C_NATION", "D_YEAR", "C_REGION=ASIA"):
+            print(nation, year, revenue)
+        first, second = live.ask_together(["Q1.1", ("Q2.1", "MFGR#12", "AMERICA")])
+        assert first.at == second.at                # both are of one moment
+        with live.refresh() as refresh:             # committed at the end of the block, or Refused
+            refresh.withdraw(7)
+        print("commit", refresh.committed)
+
+No call waits longer than the connection's `timeout`. What goes wrong is an exception:
+
+    Error
+      InterfaceError          the client is used in a wrong way: no pipe, a pair in use, a connection that is closed
+      DatabaseError
+        ProgrammingError      a question or a refresh that cannot be sent as it is
+          Fault               .. or that the server found a fault in: nothing was done
+        IntegrityError
+          Refused             a refresh that was refused: nothing was changed
+        OperationalError
+          Unserved            the server lacked memory for it: nothing was done
+          Ended               the server ended the session, or died; the connection is closed
+          TimedOut            there was no reply in time; the connection is closed
+
+One file, over the standard library of Python 3.8 or later. It is tested (tests.py), not proved.
+"""
+import collections.abc
+import contextlib
+import errno
+import fcntl
+import math
+import os
+import re
+import secrets
+import select
+import stat
+import threading
+import time
+
+threadsafety = 2            # threads may share a connection: it has one request under way, and the others wait
+TIMEOUT = 60.0              # seconds
+MOST_BYTES = 1 << 20        # of a request
+TICK = 0.002                # seconds between two looks for a server that opens its end
+PART = 1 << 16              # bytes that are read at once: as many as a pipe holds
+
+LINEORDER = ("LO_ORDERKEY", "LO_LINENUMBER", "LO_CUSTKEY", "LO_PARTKEY", "LO_SUPPKEY", "LO_ORDERDATE",
+             "LO_ORDERPRIORITY", "LO_SHIPPRIORITY", "LO_QUANTITY", "LO_EXTENDEDPRICE", "LO_ORDTOTALPRICE",
+             "LO_DISCOUNT", "LO_REVENUE", "LO_SUPPLYCOST", "LO_TAX", "LO_COMMITDATE", "LO_SHIPMODE")
+MEASURES = ("LO_REVENUE", "LO_REVENUE-LO_SUPPLYCOST", "LO_EXTENDEDPRICE*LO_DISCOUNT", "LO_QUANTITY", "COUNT")
+NUMBERS = {"D_YEAR", "D_YEARMONTHNUM", "D_WEEKNUMINYEAR", *MEASURES}
+# The printed columns of the thirteen; those of star stand in its constants.
+COLUMNS = {
+    "Q1": ("LO_EXTENDEDPRICE*LO_DISCOUNT",), "Q2": ("LO_REVENUE", "D_YEAR", "P_BRAND1"),
+    "Q3.1": ("C_NATION", "S_NATION", "D_YEAR", "LO_REVENUE"), "Q3": ("C_CITY", "S_CITY", "D_YEAR", "LO_REVENUE"),
+    "Q4.1": ("D_YEAR", "C_NATION", "LO_REVENUE-LO_SUPPLYCOST"),
+    "Q4.2": ("D_YEAR", "S_NATION", "P_CATEGORY", "LO_REVENUE-LO_SUPPLYCOST"),
+    "Q4.3": ("D_YEAR", "S_CITY", "P_BRAND1", "LO_REVENUE-LO_SUPPLYCOST")}
+
+
+# ---- what goes wrong ----
+
+class Error(Exception):
+    """All that this client raises."""
+
+
+class InterfaceError(Error):
+    """The client is used in a wrong way."""
+
+
+class DatabaseError(Error):
+    """What comes of the server, or of what it is sent."""
+
+
+class ProgrammingError(DatabaseError):
+    """A question or a refresh that cannot be sent as it is."""
+
+
+class IntegrityError(DatabaseError):
+    """What the orders do not allow."""
+
+
+class OperationalError(DatabaseError):
+    """The server could not do it."""
+
+
+class Fault(ProgrammingError):
+    """The server found a fault in the request, and did nothing: its `number`, and its `text`, as `70 BadLine 1`."""
+
+    def __init__(self, text):
+        super().__init__(text)
+        self.text, self.number = text, int(text.split(" ", 1)[0])
+
+
+class Refused(IntegrityError):
+    """The refresh was refused after `at` commits, for its action `action` (from 1), and changed nothing. The cause has
+    a `number` and a `text`, as `47 Absent 77`."""
+
+    def __init__(self, at, action, text):
+        super().__init__(f"action {action}: {text}")
+        self.at, self.action, self.text, self.number = at, action, text, int(text.split(" ", 1)[0])
+
+
+class Unserved(OperationalError):
+    """The server lacked memory for the request, and did nothing; the connection can be used."""
+
+
+class Ended(OperationalError):
+    """The server ended the session, or died. Whether a refresh that was under way was committed is not known."""
+
+
+class TimedOut(OperationalError):
+    """There was no reply in time. Whether a refresh that was under way was committed is not known."""
+
+
+# ---- questions and their answers ----
+
+class Answer(collections.abc.Sequence):
+    """The answer to a question after the first `at` commits: `columns` are the names of its columns, `rows` are tuples
+    of numbers and texts. It is the sequence of its rows. A sum of no lines is None."""
+
+    def __init__(self, name, constants, at, columns, rows):
+        self.name, self.constants, self.at, self.columns, self.rows = name, constants, at, columns, rows
+
+    def __len__(self):
+        return len(self.rows)
+
+    def __getitem__(self, place):
+        return self.rows[place]
+
+    def __repr__(self):
+        return f"<{self.name} at {self.at}: {len(self.rows)} rows of {', '.join(self.columns)}>"
+
+
+def columns_of(name, constants=()):
+    """The names of the columns that the answer to a question has."""
+    if name == "star":
+        groups = tuple(it for it in constants[1:] if "=" not in it)
+        return (*groups, *constants[:1])
+    return COLUMNS.get(name) or COLUMNS.get(name[:2], ())
+
+
+def field_of(value):
+    """A value as a field of a record."""
+    text = str(value)
+    if re.search(r"[|\r\n]", text) or text.endswith(" "):
+        raise ProgrammingError(f"{text!r} has a bar, an end of a line, or a space at its end")
+    return text
+
+
+def question_of(question):
+    """The name and the constants of a question, which is a name, or a name with constants."""
+    name, *constants = (question,) if isinstance(question, str) else question
+    constants = tuple(map(field_of, constants))
+    if constants and not constants[-1] and (name == "star" or len(constants) == 1):
+        raise ProgrammingError(f"an empty constant of {name} cannot be sent")
+    return field_of(name), constants
+
+
+def record_of(question):
+    """The record that asks a question."""
+    name, constants = question
+    return "|".join(("query", name, *constants))
+
+
+def value_of(column, field):
+    if column not in NUMBERS:
+        return field
+    return None if field == "NULL" else int(field)
+
+
+# ---- replies as they come ----
+
+class Replies:
+    """The bytes of so many replies as they come. A head with `rows R` has R lines behind it; another reply is a line."""
+
+    def __init__(self, count, is_block):
+        self.text, self.place, self.is_block = bytearray(), 0, is_block
+        self.left, self.rows = count, 0         # replies whose head did not come; rows of the one before that did not
+
+    def take(self, part):
+        """Takes what was read; whether the replies are whole."""
+        self.text += part
+        while (self.rows or self.left) and (self.pass_rows() if self.rows else self.pass_head()):
+            pass
+        if not (self.rows or self.left) and self.place < len(self.text):
+            raise OperationalError(f"not asked for: {bytes(self.text[self.place:self.place + 80])!r}")
+        return not (self.rows or self.left)
+
+    def pass_head(self):
+        end = self.text.find(b"\n", self.place)
+        if end < 0:
+            return False
+        head, self.place = self.text[self.place:end], end + 1
+        before, is_answer, rows = head.rpartition(b" rows ")
+        self.rows = int(rows) if is_answer and rows.isdigit() and b" at " in before else 0
+        self.left = 0 if self.is_block and head.startswith(b"fault: ") else self.left - 1
+        return True
+
+    def pass_rows(self):
+        """Passes over whole lines, as many as there are of those that are wanted."""
+        there = self.text.count(b"\n", self.place)
+        if there <= self.rows:
+            self.rows, self.place = self.rows - there, self.text.rfind(b"\n") + 1 if there else self.place
+            return not self.rows
+        rest = self.text[self.place:].split(b"\n", self.rows)[-1]
+        self.rows, self.place = 0, len(self.text) - len(rest)
+        return True
+
+
+# ---- a refresh ----
+
+class Refresh:
+    """Changes of whole orders, which are sent at the end of a `with` block: all are done, or none. Where the block is
+    left by an exception, or after `abort`, nothing is sent."""
+
+    def __init__(self, connection):
+        self.connection, self.records, self.committed, self.is_aborted = connection, [], None, False
+
+    def add(self, *lines):
+        """Adds an order of these lines: each has the seventeen values of LINEORDER, in this order or by their names."""
+        self._order("add", lines)
+
+    def amend(self, *lines):
+        """Puts an order of these lines in the place of the one with its key."""
+        self._order("amend", lines)
+
+    def withdraw(self, key):
+        """Removes all lines of the order with this key."""
+        self.records.append(f"withdraw|{field_of(key)}")
+
+    def abort(self):
+        """Drops the refresh."""
+        self.is_aborted = True
+
+    def _order(self, word, lines):
+        self.records += [word, *map(self._line, lines)]
+
+    @staticmethod
+    def _line(line):
+        if isinstance(line, collections.abc.Mapping):
+            if set(line) != set(LINEORDER):
+                odd = ", ".join(sorted(map(str, set(line) ^ set(LINEORDER))))
+                raise ProgrammingError(f"a line has the columns of LINEORDER, each once: {odd}")
+            line = [line[column] for column in LINEORDER]
+        return "line|" + "|".join(map(field_of, line))
+
+    def __enter__(self):
+        return self
+
+    def __exit__(self, kind, *_):
+        if kind is None and not self.is_aborted:
+            self.committed = self.connection._commit(self.records)
+
+
+# ---- a connection ----
+
+def seconds_until(deadline):
+    """How many seconds are left; at most some days, as the system cannot wait for ever."""
+    return max(0, min(deadline - time.monotonic(), 10**6))
+
+
+def connect(into, out, timeout=TIMEOUT):
+    """Connects with a server through a client's two pipes, named as behind its word `--client`. It waits for the server
+    to open them, and raises TimedOut where it does not."""
+    return Connection(into, out, timeout)
+
+
+class Connection:
+    """A session of a client. Each call returns or raises within `timeout` seconds, which can be set at any time."""
+
+    def __init__(self, into, out, timeout=TIMEOUT):
+        self.into = self.out = None
+        self.paths, self.timeout = (os.fspath(into), os.fspath(out)), timeout
+        self._turn, self._seen = threading.Lock(), 0
+        self._connect(time.monotonic() + timeout)
+
+    # what a user calls
+
+    def ask(self, name, *constants):
+        """The answer to a question: one of the thirteen, with all its constants or none, or `star` with its own."""
+        question = question_of((name, *constants))
+        return self._request([record_of(question)], 1, lambda text: self._answers([question], text))[0]
+
+    def ask_together(self, questions):
+        """The answers to 1 to 16 questions, all after the same commits. Each question is a name, or a name with its
+        constants, as ("star", "COUNT", "C_REGION")."""
+        questions = list(map(question_of, questions))
+        if not questions:
+            raise ProgrammingError("nothing is asked")
+        records = ["ask", *map(record_of, questions), "answer"]
+        return self._request(records, len(questions), lambda text: self._answers(questions, text))
+
+    def refresh(self):
+        """A refresh, for a `with` block: it is committed at the block's end, or Refused is raised there."""
+        return Refresh(self)
+
+    def exchange(self, request, replies=1):
+        """Sends requests, and gives the bytes of so many replies, as they came: what the other calls are made of."""
+        return self._exchange(request, replies, bytes)
+
+    def close(self):
+        """Ends the session, and waits until the server has ended it too, so that another one can begin."""
+        if self.into is None:
+            return
+        deadline = time.monotonic() + self.timeout
+        self._take_turn(deadline)
+        try:
+            os.close(self.into)
+            self.into = None
+            with contextlib.suppress(OperationalError):
+                while True:
+                    self._read(deadline)
+        finally:
+            self._drop()
+            self._turn.release()
+
+    def __enter__(self):
+        return self
+
+    def __exit__(self, *_):
+        self.close()
+
+    def __del__(self):
+        self._drop()
+
+    # requests and their replies
+
+    def _request(self, records, replies, read):
+        """Sends the records of a request, and gives what `read` makes of its replies."""
+        request = "".join(f"{record}\n" for record in records).encode(errors="surrogatepass")
+        if len(request) > MOST_BYTES:
+            raise ProgrammingError(f"a request has at most {MOST_BYTES:,} bytes, and this one has {len(request):,}")
+        return self._exchange(request, replies, lambda text: read(text.decode(errors="surrogateescape")))
+
+    def _exchange(self, request, replies, read):
+        deadline, expected = time.monotonic() + self.timeout, Replies(replies, request.startswith(b"ask\n"))
+        self._take_turn(deadline)
+        try:
+            self._send_and_read(request, expected.take, deadline)
+            return read(expected.text)
+        finally:
+            self._turn.release()
+
+    def _answers(self, questions, text):
+        lines = iter(text.split("\n"))
+        answers = []
+        for name, constants in questions:
+            head = next(lines)
+            found = re.fullmatch(r"(\S+) at (\d+) rows (\d+)", head)
+            if not found or found[1] != name:
+                self._raise(head)
+            at = self._seen_now(int(found[2]))
+            columns = columns_of(name, constants)
+            rows = [self._row(columns, next(lines)) for _ in range(int(found[3]))]
+            answers.append(Answer(name, constants, at, columns, rows))
+        return answers
+
+    def _row(self, columns, line):
+        fields = line.split("|")
+        if len(fields) == len(columns):
+            with contextlib.suppress(ValueError):
+                return tuple(map(value_of, columns, fields))
+        return self._raise(line)
+
+    def _commit(self, records):
+        return self._request(["begin", *records, "commit"], 1, self._receipt)
+
+    def _receipt(self, text):
+        reply = text.rstrip("\n")
+        found = re.fullmatch(r"committed (\d+)", reply)
+        if not found:
+            self._raise(reply)
+        return self._seen_now(int(found[1]))
+
+    def _seen_now(self, at):
+        """After how many commits a reply is: never fewer than this client has seen."""
+        if at < self._seen:
+            self._drop()
+            raise Ended(f"another server is at the pipes: it has {at} commits, and {self._seen} were seen")
+        self._seen = at
+        return at
+
+    def _raise(self, reply):
+        """Raises what a reply says that is no answer and no receipt."""
+        fault = re.fullmatch(r"fault: (\d+ .+)", reply)
+        if fault:
+            raise Fault(fault[1])
+        refused = re.fullmatch(r"refused at (\d+) action (\d+): (\d+ .+)", reply)
+        if refused:
+            raise Refused(int(refused[1]), int(refused[2]), refused[3])
+        if re.match(r"\S+ unserved: |refresh: out of memory$", reply):
+            raise Unserved(reply)
+        self._drop()
+        raise OperationalError(f"not a reply of ssb_live: {reply[:80]!r}")
+
+    # pipes
+
+    def _connect(self, deadline):
+        """Opens the ends, again where the session before this one ends just then."""
+        while True:
+            try:
+                self._open(deadline)
+                return self._greet(deadline)
+            except Ended:
+                time.sleep(TICK)
+
+    def _open(self, deadline):
+        """Opens OUT, which does not wait, and then IN, as soon as the server has opened it."""
+        try:
+            self.out = self._open_pipe(self.paths[1], os.O_RDONLY)
+            try:
+                fcntl.flock(self.out, fcntl.LOCK_EX | fcntl.LOCK_NB)
+            except BlockingIOError:
+                raise InterfaceError(f"{self.paths[1]} is in use by another client") from None
+            while self.into is None:
+                self.into = self._open_pipe(self.paths[0], os.O_WRONLY)
+                if self.into is None:
+                    if time.monotonic() > deadline:
+                        raise TimedOut(f"no server has opened {self.paths[0]} in {self.timeout} s")
+                    time.sleep(TICK)
+        except BaseException:
+            self._drop()
+            raise
+        self._reading, self._both = select.poll(), select.poll()
+        self._reading.register(self.out, select.POLLIN)
+        self._both.register(self.out, select.POLLIN)
+        self._both.register(self.into, select.POLLOUT)
+
+    @staticmethod
+    def _open_pipe(path, way):
+        """An end that never waits; None where it is to be written to and no one reads from it."""
+        try:
+            end = os.open(path, way | os.O_NONBLOCK)
+        except OSError as fault:
+            if fault.errno == errno.ENXIO:
+                return None
+            raise InterfaceError(f"{path}: {fault.strerror}") from None
+        if not stat.S_ISFIFO(os.fstat(end).st_mode):
+            os.close(end)
+            raise InterfaceError(f"{path} is no named pipe")
+        return end
+
+    def _greet(self, deadline):
+        """Sends a refresh that is always refused, by a key that nobody else can have named. All that comes before its
+        refusal was for a client before this one, which may have left the session in mid-request."""
+        key = secrets.randbits(63)
+        refusal = re.compile(rb"(?:^|\n)refused at \d+ action [12]: 47 Absent %d\n\Z" % key)
+        text = bytearray()
+
+        def is_greeted(part):
+            text.extend(part)
+            return refusal.search(text, max(0, len(text) - 200))
+        self._send_and_read(b"\nabort\nbegin\nwithdraw|%d\nwithdraw|%d\ncommit\n" % (key, key), is_greeted, deadline)
+
+    def _take_turn(self, deadline):
+        """Waits for the turn of a request, where other threads have one under way."""
+        if not self._turn.acquire(timeout=seconds_until(deadline)):
+            raise TimedOut(f"a request of another thread is still under way after {self.timeout} s")
+        if self.into is None:
+            self._turn.release()
+            raise InterfaceError("the connection is closed")
+
+    def _send_and_read(self, request, is_whole, deadline):
+        """Sends a request, and reads until `is_whole` says so of what was read; reads while it sends, so that neither
+        side waits for the other. Where that does not come to its end, the connection is closed."""
+        try:
+            left = self._write(memoryview(request))
+            while True:
+                if left and self._is_ready(deadline, is_sending=True):
+                    left = self._write(left)
+                elif is_whole(self._read(deadline)):
+                    return
+        except OSError as fault:
+            self._drop()
+            raise OperationalError(f"{self.paths[1]}: {fault.strerror}") from None
+        except BaseException:
+            self._drop()
+            raise
+
+    def _write(self, left):
+        """Writes what the pipe takes, and gives the rest."""
+        try:
+            while left:
+                left = left[os.write(self.into, left):]
+        except BlockingIOError:
+            pass
+        except BrokenPipeError:
+            raise Ended(self._ended()) from None
+        return left
+
+    def _read(self, deadline):
+        """The next bytes."""
+        self._is_ready(deadline)
+        part = os.read(self.out, PART)
+        if not part:
+            raise Ended(self._ended())
+        return part
+
+    def _is_ready(self, deadline, is_sending=False):
+        """Waits until something can be read, or, while sending, written too; whether it can only be written."""
+        waiting, seconds = self._both if is_sending else self._reading, seconds_until(deadline)
+        ready = dict(waiting.poll(math.ceil(1000 * seconds))) if seconds else {}
+        if not ready:
+            raise TimedOut(f"the server has not replied in {self.timeout} s")
+        return self.out not in ready
+
+    def _ended(self):
+        return f"the server has ended the session at {self.paths[1]}"
+
+    def _drop(self):
+        """Closes both ends, at once."""
+        for end in (self.into, self.out):
+            if end is not None:
+                os.close(end)
+        self.into = self.out = None

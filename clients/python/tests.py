@@ -1,0 +1,479 @@
+#!/usr/bin/env python3
+"""tests.py [PROGRAM] [WORD..]: tries the client with the real program, and with servers that break.
+
+PROGRAM is ssb_live (by default out/start/ssb_live, which `./start` makes); the other words are unittest's. The tables
+are small, and what is asked of them was reckoned by hand. It takes some seconds; the status is 1 where a test fails.
+"""
+import contextlib
+import json
+import os
+import pathlib
+import signal
+import subprocess
+import sys
+import tempfile
+import threading
+import time
+import unittest
+
+sys.dont_write_bytecode = True
+HERE = pathlib.Path(__file__).resolve().parent
+sys.path.insert(0, str(HERE))
+import ssb_live
+
+PROGRAM = HERE.parent.parent / "out/start/ssb_live"
+PATIENCE = 30
+SOON = 5                # seconds in which what cannot be is told, with the short timeouts below
+TABLES = {
+    "customer": ["1|Ann|street 1|CHINA    0|CHINA|ASIA|1|BUILDING",
+                 "2|Bo|street 2|UNITED ST1|UNITED STATES|AMERICA|2|FOOD"],
+    "supplier": ["1|Cy|street 3|JAPAN    1|JAPAN|ASIA|3"],
+    "part": ["1|nut|MFGR#1|MFGR#12|MFGR#1201|red|STEEL|10|BOX", "2|bolt|MFGR#2|MFGR#21|MFGR#2101|blue|STEEL|10|BOX"],
+    "date": ["19930615|a|b|c|1993|199306|Jun1993|d|e|f|g|24|h|i|j|k|l",
+             "19940101|a|b|c|1994|199401|Jan1994|d|e|f|g|1|h|i|j|k|l"],
+    "lineorder": ["7|1|1|1|1|19930615|5-LOW|0|10|1000|4000|2|980|600|0|19930615|AIR",
+                  "7|2|2|2|1|19930615|5-LOW|0|20|3000|4000|3|2910|1800|0|19930615|AIR",
+                  "8|1|1|2|1|19940101|5-LOW|0|5|500|500|1|495|300|0|19940101|RAIL"]}
+Q1_1 = 1000 * 2 + 3000 * 3          # of the lines of 1993 with a discount of 1 to 3, and fewer than 25 pieces
+BY_NATION = ("star", "LO_REVENUE", "C_NATION", "D_YEAR")
+
+
+def line(key, number=1, price=100, discount=2, date=19930615):
+    """A line of an order, whose price times discount Q1.1 counts."""
+    return (key, number, 1, 1, 1, date, "5-LOW", 0, 10, price, price, discount, price, 60, 0, date, "AIR")
+
+
+class Trial(unittest.TestCase):
+    """A folder with the tables and some clients' pipes."""
+
+    def setUp(self):
+        folder = tempfile.TemporaryDirectory(prefix="ssb_live-")
+        self.addCleanup(folder.cleanup)
+        self.folder, self.process = pathlib.Path(folder.name), None
+        self.ends = [(self.folder / f"in-{number}", self.folder / f"out-{number}") for number in (1, 2)]
+        for name, rows in TABLES.items():
+            (self.folder / f"{name}.tbl").write_text("".join(f"{row}\n" for row in rows))
+        for end in sum(self.ends, ()):
+            os.mkfifo(end)
+
+    def serve(self, *words, clients=1):
+        """Starts the program."""
+        words = [*words, *(word for ends in self.ends[:clients] for word in ("--client", *ends))]
+        self.process = subprocess.Popen([PROGRAM, "serve", "--data", self.folder, "--quiet", *words],
+                                        stdin=subprocess.DEVNULL)
+        self.addCleanup(self.stop, self.process)
+
+    @staticmethod
+    def stop(process):
+        if process.poll() is None:
+            process.send_signal(signal.SIGCONT)
+            process.kill()
+        process.wait(PATIENCE)
+
+    def connect(self, client=0, timeout=PATIENCE):
+        live = ssb_live.connect(*self.ends[client], timeout=timeout)
+        self.addCleanup(live.close)
+        return live
+
+    def raises(self, kind, text=""):
+        return self.assertRaisesRegex(kind, text)
+
+    @contextlib.contextmanager
+    def soon(self):
+        start = time.monotonic()
+        yield
+        self.assertLess(time.monotonic() - start, SOON)
+
+    def later(self, work):
+        """Runs this in a thread; gives a call that waits for its end, and raises what it raised."""
+        told = []
+
+        def run():
+            try:
+                told.append((work(), None))
+            except Exception as fault:
+                told.append((None, fault))
+        thread = threading.Thread(target=run, daemon=True)
+        thread.start()
+
+        def end():
+            thread.join(PATIENCE)
+            self.assertTrue(told, "it hangs")
+            value, fault = told[0]
+            if fault:
+                raise fault
+            return value
+        return end
+
+
+class Answers(Trial):
+    def setUp(self):
+        super().setUp()
+        self.serve()
+        self.live = self.connect()
+
+    def test_an_answer_has_its_commits_its_columns_and_its_rows(self):
+        answer = self.live.ask("Q1.1")
+        self.assertEqual((answer.at, answer.columns, answer.rows), (0, ("LO_EXTENDEDPRICE*LO_DISCOUNT",), [(Q1_1,)]))
+
+    def test_an_answer_is_the_sequence_of_its_rows(self):
+        answer = self.live.ask(*BY_NATION)
+        rows = [("CHINA", 1993, 980), ("CHINA", 1994, 495), ("UNITED STATES", 1993, 2910)]
+        self.assertEqual((answer.columns, list(answer)), (("C_NATION", "D_YEAR", "LO_REVENUE"), rows))
+        self.assertEqual((len(answer), answer[-1]), (3, rows[2]))
+
+    def test_constants_are_sent_as_they_are(self):
+        self.assertEqual(self.live.ask("Q1.1", 1994, 1, 1, 0, 24).rows, [(500,)])
+        self.assertEqual(self.live.ask("star", "COUNT", "C_CITY=CHINA    0", "ORDER=SUM").rows, [(2,)])
+
+    def test_a_sum_of_no_lines_is_none(self):
+        self.assertEqual(self.live.ask("Q1.1", 1995, 1, 3, 0, 24).rows, [(None,)])
+        self.assertEqual(self.live.ask("star", "COUNT", "D_YEAR", "D_YEAR=1995").rows, [])
+
+    def test_columns_and_rows_are_those_of_the_program_itself(self):
+        questions = [(f"Q{name}",) for name in "1.1 1.2 1.3 2.1 2.2 2.3 3.1 3.2 3.3 3.4 4.1 4.2 4.3".split()]
+        for question in [*questions, ("Q3.1", "ASIA", "ASIA", 1992, 1994), BY_NATION, (*BY_NATION, "ORDER=SUM")]:
+            words = [PROGRAM, "query", "--data", self.folder, "--format", "json", *map(str, question)]
+            told = json.loads(subprocess.check_output(words))
+            answer = self.live.ask(*question)
+            self.assertEqual([list(answer.columns), list(map(list, answer))], [told["columns"], told["rows"]], question)
+
+    def test_a_fault_is_raised_and_the_connection_goes_on(self):
+        for question, number in [(("Q9.9",), 70), (("star",), 70), (("Q1.1", 1993), 70)]:
+            with self.raises(ssb_live.Fault, "70 BadLine 1") as told:
+                self.live.ask(*question)
+            self.assertEqual(told.exception.number, number)
+        self.assertEqual(self.live.ask("Q1.1").rows, [(Q1_1,)])
+
+    def test_what_would_be_another_request_is_not_sent(self):
+        for text in ("ASIA|ASIA", "ASIA\nquery", "ASIA\r", "ASIA "):
+            with self.raises(ssb_live.ProgrammingError, "has a bar"):
+                self.live.ask("Q2.1", "MFGR#12", text)
+        for question in (("star", "COUNT", ""), ("Q1.1", "")):
+            with self.raises(ssb_live.ProgrammingError, "empty constant"):
+                self.live.ask(*question)
+        with self.raises(ssb_live.ProgrammingError, "at most 1,048,576 bytes"):
+            self.live.ask("star", "COUNT", "C_CITY=" + "x" * 2**20)
+        self.assertEqual(self.live.ask("Q1.1").rows, [(Q1_1,)])
+
+    def test_an_empty_last_constant_is_a_constant(self):
+        with self.raises(ssb_live.Fault, "70 BadLine 1"):
+            self.live.ask("Q1.1", 1993, 1, 3, 0, "")
+        self.assertEqual(self.live.ask("Q2.1", "MFGR#12", "").rows, [])
+
+    def test_a_connection_that_is_closed_says_so(self):
+        self.live.close()
+        self.live.close()
+        with self.raises(ssb_live.InterfaceError, "is closed"):
+            self.live.ask("Q1.1")
+        self.assertEqual(self.process.wait(PATIENCE), 0)
+
+
+class Together(Trial):
+    def setUp(self):
+        super().setUp()
+        self.serve(clients=2)
+        self.live, self.other = self.connect(0), self.connect(1)
+
+    def test_questions_that_are_asked_together_are_of_one_moment(self):
+        is_over = threading.Event()
+
+        def refresh():
+            key = 100
+            while not is_over.is_set():
+                with self.other.refresh() as it:
+                    it.add(line(key))
+                key += 1
+        end, moments = self.later(refresh), set()
+        for _ in range(200):
+            sums, counts = self.live.ask_together(["Q1.1", ("star", "COUNT")])
+            self.assertEqual((sums.at, sums.rows), (counts.at, [(Q1_1 + 200 * sums.at,)]))
+            self.assertEqual(counts.rows, [(3 + counts.at,)])
+            moments.add(sums.at)
+        is_over.set()
+        end()
+        self.assertGreater(len(moments), 1)
+
+    def test_sixteen_may_be_asked_together(self):
+        answers = self.live.ask_together([("star", "COUNT", f"LO_QUANTITY={number}") for number in range(1, 17)])
+        counts = [1 if number in (5, 10) else None for number in range(1, 17)]
+        self.assertEqual([answer.rows for answer in answers], [[(count,)] for count in counts])
+
+    def test_a_fault_is_that_of_all(self):
+        with self.raises(ssb_live.Fault, "70 BadLine 3"):
+            self.live.ask_together(["Q1.1", "Q9.9", "Q1.1"])
+        with self.raises(ssb_live.Fault, "78 TooManyQuestions 18"):
+            self.live.ask_together(["Q1.1"] * 17)
+        with self.raises(ssb_live.ProgrammingError, "nothing is asked"):
+            self.live.ask_together([])
+        self.assertEqual(self.live.ask("Q1.1").rows, [(Q1_1,)])
+
+    def test_two_clients_at_once_see_their_own_commits_and_never_go_back(self):
+        def work(live, first):
+            seen = 0
+            for key in range(first, first + 200):
+                with live.refresh() as refresh:
+                    refresh.add(line(key))
+                answer = live.ask("star", "COUNT")
+                self.assertGreater(refresh.committed, seen)
+                self.assertGreaterEqual(answer.at, refresh.committed)
+                self.assertEqual(answer.rows, [(3 + answer.at,)])
+                seen = answer.at
+        for end in [self.later(lambda it=it: work(*it)) for it in ((self.live, 1000), (self.other, 2000))]:
+            end()
+        self.assertEqual(self.live.ask("star", "COUNT").rows, [(403,)])
+
+    def test_threads_may_share_a_connection(self):
+        def work(year, lines):
+            for _ in range(100):
+                self.assertEqual(self.live.ask("star", "COUNT", f"D_YEAR={year}").rows, [(lines,)])
+        for end in [self.later(lambda it=it: work(*it)) for it in ((1993, 2), (1994, 1), (1995, None))]:
+            end()
+
+    def test_a_pair_of_pipes_has_one_client(self):
+        with self.soon(), self.raises(ssb_live.InterfaceError, "in use by another client"):
+            self.connect(0, timeout=1)
+        self.assertEqual(self.live.ask("Q1.1").rows, [(Q1_1,)])
+
+
+class Refreshes(Trial):
+    def setUp(self):
+        super().setUp()
+        self.serve()
+        self.live = self.connect()
+
+    def test_a_refresh_is_committed_at_the_end_of_its_block(self):
+        with self.live.refresh() as refresh:
+            refresh.add(line(9, 1, 100), line(9, 2, 1000))
+            refresh.amend(line(8, 1, 10))
+            refresh.withdraw(7)
+            self.assertEqual((self.live.ask("Q1.1").at, refresh.committed), (0, None))
+        answer = self.live.ask("Q1.1")
+        self.assertEqual((refresh.committed, answer.at, answer.rows), (1, 1, [(200 + 2000 + 20,)]))
+
+    def test_a_line_can_be_given_by_names(self):
+        named = dict(zip(ssb_live.LINEORDER, line(9)))
+        with self.live.refresh() as refresh:
+            refresh.add(named)
+        self.assertEqual(self.live.ask("Q1.1").rows, [(Q1_1 + 200,)])
+        del named["LO_TAX"]
+        with self.raises(ssb_live.ProgrammingError, "LO_TAX"), self.live.refresh() as refresh:
+            refresh.add(named)
+
+    def test_a_refusal_is_raised_and_changes_nothing(self):
+        with self.raises(ssb_live.Refused, "action 2: 47 Absent 77") as told, self.live.refresh() as refresh:
+            refresh.add(line(9))
+            refresh.withdraw(77)
+        refused = told.exception
+        self.assertEqual((refused.at, refused.action, refused.number, refused.text), (0, 2, 47, "47 Absent 77"))
+        self.assertIsNone(refresh.committed)
+        self.assertEqual(self.live.ask("Q1.1").rows, [(Q1_1,)])
+
+    def test_a_fault_of_a_refresh_is_raised(self):
+        cases = [(lambda it: None, "72 EmptyBlock 2"), (lambda it: it.withdraw("x"), "70 BadLine 2"),
+                 (lambda it: it.add(), "73 Row 2 1 NoLines"), (lambda it: it.add((1, 2)), "70 BadLine 3")]
+        for work, text in cases:
+            with self.raises(ssb_live.Fault, text), self.live.refresh() as refresh:
+                work(refresh)
+        self.assertEqual(self.live.ask("Q1.1").at, 0)
+
+    def test_a_block_that_is_left_by_an_exception_sends_nothing(self):
+        with self.raises(KeyError), self.live.refresh() as refresh:
+            refresh.withdraw(7)
+            raise KeyError
+        self.assertEqual(self.live.ask("Q1.1").rows, [(Q1_1,)])
+
+    def test_an_abort_drops_the_refresh(self):
+        with self.live.refresh() as refresh:
+            refresh.withdraw(7)
+            refresh.abort()
+        answer = self.live.ask("Q1.1")
+        self.assertEqual((refresh.committed, answer.at, answer.rows), (None, 0, [(Q1_1,)]))
+
+    def test_a_journal_keeps_the_commits_for_the_next_server(self):
+        self.live.close()
+        for commits in (1, 2):
+            self.serve("--journal", self.folder / "journal")
+            with self.connect() as live:
+                with live.refresh() as refresh:
+                    refresh.add(line(100 + commits))
+                self.assertEqual((refresh.committed, live.ask("star", "COUNT").rows), (commits, [(3 + commits,)]))
+            self.assertEqual(self.process.wait(PATIENCE), 0)
+
+
+class BrokenServers(Trial):
+    def test_a_server_that_never_opens_its_ends(self):
+        with self.soon(), self.raises(ssb_live.TimedOut, "no server has opened"):
+            self.connect(timeout=0.3)
+
+    def test_ends_that_are_no_pipes(self):
+        (self.folder / "plain").write_text("")
+        into, out = self.ends[0]
+        for ends, text in [((self.folder / "none", out), "No such file"), ((into, "/"), "no named pipe"),
+                           ((self.folder / "plain", out), "no named pipe")]:
+            with self.soon(), self.raises(ssb_live.InterfaceError, text):
+                ssb_live.connect(*ends, timeout=1)
+
+    def test_a_server_that_starts_later_is_waited_for(self):
+        end = self.later(self.connect)
+        time.sleep(0.3)
+        self.serve()
+        self.assertEqual(end().ask("Q1.1").rows, [(Q1_1,)])
+
+    def test_a_server_that_is_killed_in_mid_request(self):
+        self.serve()
+        live = self.connect()
+        self.process.send_signal(signal.SIGSTOP)
+        end = self.later(lambda: live.ask("Q1.1"))
+        time.sleep(0.2)
+        self.process.kill()
+        with self.soon(), self.raises(ssb_live.Ended, "has ended the session"):
+            end()
+        with self.raises(ssb_live.InterfaceError, "is closed"):
+            live.ask("Q1.1")
+
+    def test_a_server_that_is_killed_between_requests(self):
+        self.serve()
+        live = self.connect()
+        self.process.kill()
+        self.process.wait()
+        with self.soon(), self.raises(ssb_live.Ended), live.refresh() as refresh:
+            refresh.withdraw(7)
+        self.assertIsNone(refresh.committed)
+
+    def test_a_server_that_stands_still(self):
+        self.serve("--keep")
+        live = self.connect(timeout=0.5)
+        self.process.send_signal(signal.SIGSTOP)
+        with self.soon(), self.raises(ssb_live.TimedOut, "has not replied in 0.5 s"):
+            live.ask("Q1.1")
+        with self.soon(), self.raises(ssb_live.Error):
+            self.connect(timeout=0.5)
+        # What it replies later to the question above is not taken for the answer to this one.
+        self.process.send_signal(signal.SIGCONT)
+        self.assertEqual(self.connect().ask("Q1.1", 1994, 1, 1, 0, 24).rows, [(500,)])
+
+    def test_a_server_that_stands_still_beside_a_thread_that_waits(self):
+        self.serve()
+        live = self.connect(timeout=0.5)
+        self.process.send_signal(signal.SIGSTOP)
+        ends = [self.later(lambda: live.ask("Q1.1")) for _ in range(2)]
+        for end in ends:
+            with self.soon(), self.raises((ssb_live.TimedOut, ssb_live.InterfaceError)):
+                end()
+        with self.soon():
+            live.close()
+
+    def test_a_client_that_left_in_mid_request_leaves_nothing_to_the_next(self):
+        self.serve("--keep")
+        for left in (b"begin\nadd\nline|9|1", b"begin\nwithdraw|7\n", b"ask\nquery|Q1.1\n", b"query|Q1.1\nquery|Q1"):
+            out, into = os.open(self.ends[0][1], os.O_RDONLY), os.open(self.ends[0][0], os.O_WRONLY)
+            os.write(into, left)
+            time.sleep(0.1)
+            live = self.connect()               # the session before it is still there, and goes on
+            os.close(into)
+            os.close(out)
+            self.assertEqual(live.ask("Q1.1").rows, [(Q1_1,)])
+            live.close()
+
+    def test_sessions_one_behind_another(self):
+        self.serve("--keep")
+        for number in range(1, 21):
+            with self.connect() as live:
+                with live.refresh() as refresh:
+                    refresh.add(line(100 + number))
+                self.assertEqual(refresh.committed, number)
+
+    def test_a_connection_that_is_forgotten_is_ended(self):
+        self.serve()
+        ssb_live.connect(*self.ends[0]).ask("Q1.1")
+        self.assertEqual(self.process.wait(PATIENCE), 0)
+
+
+class OtherServers(Trial):
+    """What this sends in the server's place: from the greeting on, a reply to each request."""
+
+    def stand_in(self, *replies):
+        def work():
+            out, into = os.open(self.ends[0][1], os.O_WRONLY), os.open(self.ends[0][0], os.O_RDONLY)
+            with open(into) as requests, open(out, "wb", buffering=0) as answers:
+                for reply in (None, *replies):
+                    for record in requests:
+                        if record.startswith("withdraw|"):
+                            key = record[9:-1]
+                        if record == "commit\n" or record.startswith("query|"):
+                            break
+                    answers.write(reply or b"refused at 0 action 1: 47 Absent %s\n" % key.encode())
+        end = self.later(work)
+        live = self.connect(timeout=2)
+        self.addCleanup(end)
+        return live
+
+    def test_no_memory(self):
+        live = self.stand_in(b"Q1.1 unserved: out of memory\n", b"refresh: out of memory\n", b"Q1.1 at 0 rows 0\n")
+        with self.raises(ssb_live.Unserved, "Q1.1 unserved"):
+            live.ask("Q1.1")
+        with self.raises(ssb_live.Unserved, "refresh: out of memory"), live.refresh() as refresh:
+            refresh.withdraw(1)
+        self.assertEqual(live.ask("Q1.1").rows, [])
+
+    def test_a_reply_that_is_cut(self):
+        live = self.stand_in(b"Q2.1 at 0 rows 2\n1|2|3\n4|")
+        with self.soon(), self.raises(ssb_live.Ended):
+            live.ask("Q2.1")
+
+    def test_what_is_no_reply(self):
+        for reply in (b"hello\n", b"Q2.1 at 0 rows 0\n", b"Q1.1 at 0 rows 1\nx\n", b"Q1.1 at 0 rows 1\n1|2\n",
+                      b"committed 1\n", b"Q1.1 at 0 rows 0\nmore\n", b"\xff\xfe\n", b"Q1.1 at 0 rows 1\n\n"):
+            with self.subTest(reply=reply), self.soon():
+                live = self.stand_in(reply)
+                with self.raises(ssb_live.OperationalError, "not a reply|not asked for"):
+                    live.ask("Q1.1")
+
+    def test_another_server_with_fewer_commits(self):
+        live = self.stand_in(b"Q1.1 at 5 rows 0\n", b"Q1.1 at 4 rows 0\n")
+        live.ask("Q1.1")
+        with self.raises(ssb_live.Ended, "another server"):
+            live.ask("Q1.1")
+
+    def test_a_reply_that_comes_drop_by_drop(self):
+        live = self.stand_in(b"Q2.1 at 0 rows 1000000\n")
+        out, is_over = os.open(self.ends[0][1], os.O_WRONLY), threading.Event()
+
+        def drop():
+            with contextlib.suppress(BrokenPipeError):
+                while not is_over.wait(0.01):
+                    os.write(out, b"1|2|3\n")
+        end, live.timeout = self.later(drop), 0.5
+        with self.soon(), self.raises(ssb_live.TimedOut):
+            live.ask("Q2.1")
+        is_over.set()
+        end()
+        os.close(out)
+
+    def test_both_sides_write_at_once(self):
+        """More than both pipes hold, in both directions."""
+        count = 20_000
+
+        def work():
+            out, into = os.open(self.ends[0][1], os.O_WRONLY), os.open(self.ends[0][0], os.O_RDONLY)
+            with open(into) as requests, open(out, "w", buffering=1) as answers:
+                for request in requests:
+                    if request.startswith("withdraw|"):
+                        key = request[9:-1]
+                    if request == "commit\n":
+                        answers.write(f"refused at 0 action 1: 47 Absent {key}\n")
+                    elif request.startswith("query|"):
+                        answers.write("Q1.1 at 0 rows 1\n7\n")
+        end = self.later(work)
+        with self.connect() as live:
+            self.assertEqual(live.exchange(b"query|Q1.1\n" * count, count), b"Q1.1 at 0 rows 1\n7\n" * count)
+        end()
+
+
+if __name__ == "__main__":
+    if sys.argv[1:] and os.path.exists(sys.argv[1]):
+        PROGRAM = pathlib.Path(sys.argv.pop(1)).absolute()
+    if not PROGRAM.exists():
+        sys.exit(f"tests.py: there is no {PROGRAM}: ./start makes it, or name another")
+    unittest.main()
