@@ -7,6 +7,11 @@ use std::alloc::{AllocError, Global};
 
 const VERSION: &str = "0.2.0";
 
+/// How many columns the lines of bars may take at least.
+pub const LEAST_WIDTH: u32 = 40;
+/// How many they may take at most.
+pub const MOST_WIDTH: u32 = 1000;
+
 // The folder of the five table files.
 fn data_argument<'a>(alloc: Global) -> Arg<'a> {
     Arg::new(alloc, "data")
@@ -97,8 +102,20 @@ fn format_argument<'a>(alloc: Global) -> Arg<'a> {
         .long("format")
         .value_name("FORMAT")
         .help("How the answers are written")
-        .value_parser(ValueParser::Names(&["report", "csv", "json", "markdown"]))
+        .value_parser(ValueParser::Names(&[
+            "report", "table", "csv", "json", "markdown", "bars",
+        ]))
         .default_value("report")
+        .action(ArgAction::Set)
+}
+
+// How wide the lines of bars may be.
+fn width_argument<'a>(alloc: Global) -> Arg<'a> {
+    Arg::new(alloc, "width")
+        .long("width")
+        .value_name("N")
+        .help("With --format bars: how many columns a line may take, 40 to 1000; else as COLUMNS says, or 80")
+        .value_parser(value_parser!(u32).range(LEAST_WIDTH..MOST_WIDTH + 1))
         .action(ArgAction::Set)
 }
 
@@ -117,6 +134,7 @@ fn query_command<'a>(alloc: Global) -> Result<Command<'a>, AllocError> {
             "All thirteen queries with the benchmark's constants, in place of one",
         ))?
         .arg(format_argument(alloc))?
+        .arg(width_argument(alloc))?
         .arg(times_argument(
             alloc,
             "Reports on standard error how many seconds each step took",

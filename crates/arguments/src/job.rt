@@ -3,6 +3,7 @@
 use crate::grammar::command;
 use crate::notice::Notice;
 use clap::ArgMatches;
+use clap::error::ErrorKind;
 use std::alloc::{AllocError, Global};
 
 /// What the words ask for.
@@ -29,6 +30,9 @@ pub enum FormatWord {
     Csv,
     Json,
     Markdown,
+    Table,
+    /// Bars, and how wide their lines may be, where the words say so.
+    Bars(Option<u32>),
 }
 
 /// The words of `query`.
@@ -104,8 +108,20 @@ fn format_of(matches: &ArgMatches<'_>) -> FormatWord {
         "csv" => FormatWord::Csv,
         "json" => FormatWord::Json,
         "markdown" => FormatWord::Markdown,
+        "table" => FormatWord::Table,
+        "bars" => FormatWord::Bars(matches.get_one::<u32>("width")),
         _ => FormatWord::Report,
     }
+}
+
+// Looks whether a width is given without bars.
+fn check_width(alloc: Global, matches: &ArgMatches<'_>) -> Result<(), Notice> {
+    if !matches.contains_id("width") || word_of(matches, "format") == "bars" {
+        return Ok(());
+    }
+    let told = "the argument '--width <N>' cannot be used without '--format bars'";
+    let fault = command(alloc)?.error(ErrorKind::ArgumentConflict, told)?;
+    Err(Notice::from(fault))
 }
 
 fn query_words<'a>(alloc: Global, matches: &ArgMatches<'a>) -> Result<QueryWords<'a>, AllocError> {
@@ -167,7 +183,10 @@ pub fn job_of<'a>(alloc: Global, words: &'a [String]) -> Result<Job<'a>, Notice>
         Some(("serve", words)) => Job::Serve(serve_words(alloc, words)?),
         Some(("audit", words)) => Job::Audit(audit_words(words)),
         Some(("export", words)) => Job::Export(export_words(words)),
-        Some((_, words)) => Job::Query(query_words(alloc, words)?),
+        Some((_, words)) => {
+            check_width(alloc, words)?;
+            Job::Query(query_words(alloc, words)?)
+        }
         None => Job::Script,
     })
 }

@@ -21,6 +21,7 @@ mod help;
 mod job;
 mod notice;
 
+pub use grammar::{LEAST_WIDTH, MOST_WIDTH};
 pub use help::TERMINAL_HELP;
 pub use job::{AuditWords, ExportWords, FormatWord, Job, QueryWords, RunWords, ServeWords, job_of};
 pub use notice::Notice;

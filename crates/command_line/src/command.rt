@@ -43,12 +43,19 @@ fn screen_of<'a, C: Clock, P: Print>(
     Screen::start(clock, terminal)
 }
 
-fn format_of(word: FormatWord) -> Format {
+// How wide bars are where neither the words nor the environment say so.
+const WIDTH: u32 = 80;
+
+fn format_of(word: FormatWord, columns: Option<u32>) -> Format {
     match word {
         FormatWord::Report => Format::Report,
         FormatWord::Csv => Format::Csv,
         FormatWord::Json => Format::Json,
         FormatWord::Markdown => Format::Markdown,
+        FormatWord::Table => Format::Table,
+        FormatWord::Bars(width) => Format::Bars {
+            width: width.or(columns).unwrap_or(WIDTH) as usize,
+        },
     }
 }
 
@@ -57,6 +64,7 @@ fn answer_query<R, F: Files + AllocGlobal, P: Print, W: Write, E: Write>(
     rt: &R,
     files: &F,
     words: &QueryWords<'_>,
+    format: Format,
     terminal: Option<&P>,
     out: &mut W,
     err: &mut E,
@@ -76,7 +84,7 @@ where
     let settings = Settings {
         hashing,
         times: words.times,
-        format: format_of(words.format),
+        format,
     };
     if words.all {
         return run_all(rt, settings, tables, out, err);
@@ -330,6 +338,7 @@ where
         output,
         errors,
         shows_progress: _,
+        columns: _,
     } = streams;
     let bytes = TableBytes::new();
     let tables = count_tables(&bytes, tables);
@@ -500,12 +509,16 @@ where
         mut output,
         errors,
         shows_progress,
+        columns,
     } = streams;
     let err = &mut io::writer(errors);
     let terminal = if shows_progress { Some(errors) } else { None };
     match job {
         Job::Script => serve_script(rt, input, &mut output, err),
-        Job::Query(words) => answer_query(rt, files, &words, terminal, &mut output, err),
+        Job::Query(words) => {
+            let format = format_of(words.format, columns);
+            answer_query(rt, files, &words, format, terminal, &mut output, err)
+        }
         Job::Run(words) => serve_scripts(rt, files, &words, terminal, &mut output, err),
         Job::Serve(words) => {
             let streams = Streams {
@@ -514,6 +527,7 @@ where
                 output,
                 errors,
                 shows_progress,
+                columns,
             };
             serve_live(rt, files, &words, streams)
         }

@@ -8,10 +8,12 @@ use Rattle.ssb_report.specs.AnswerText.{answer_text}
 use Rattle.ssb_report.specs.Numbers.{line_feed}
 use Rattle.ssb_report.specs.Written.{AppendsPart}
 use Rattle.ssb_formats.specs.declared.format.Format.{Format}
-use Rattle.ssb_formats.specs.declared.format.Format.TheVariants.{Report, Csv, Json, Markdown}
+use Rattle.ssb_formats.specs.declared.format.Format.TheVariants.{Report, Csv, Json, Markdown, Table, Bars}
+use Rattle.ssb_formats.specs.BarsText.{bars_text}
 use Rattle.ssb_formats.specs.CsvText.{csv_text}
 use Rattle.ssb_formats.specs.JsonText.{json_text}
 use Rattle.ssb_formats.specs.MarkdownText.{markdown_text}
+use Rattle.ssb_formats.specs.TableText.{table_text}
 
 -- an answer in a format; one without rows as the report has it, but for JSON
 abbrev pub shown : Format → Answer → List ℕ
@@ -21,6 +23,10 @@ shown Csv (Rows question at rows) = csv_text question.0 (plan_over question.0 qu
 shown Csv (Unserved question cause) = answer_text (Unserved question cause)
 shown Markdown (Rows question at rows) = markdown_text question.0 (plan_over question.0 question.1) rows
 shown Markdown (Unserved question cause) = answer_text (Unserved question cause)
+shown Table (Rows question at rows) = table_text question.0 (plan_over question.0 question.1) at rows
+shown Table (Unserved question cause) = answer_text (Unserved question cause)
+shown (Bars width) (Rows question at rows) = bars_text width question.0 (plan_over question.0 question.1) at rows
+shown (Bars width) (Unserved question cause) = answer_text (Unserved question cause)
 
 -- what parts an answer from the next
 abbrev pub parting : Format → List ℕ
@@ -28,6 +34,8 @@ parting Report = []
 parting Json = []
 parting Csv = line_feed
 parting Markdown = line_feed
+parting Table = line_feed
+parting (Bars width) = line_feed
 
 -- an answer behind another
 abbrev pub next_shown : Format → Answer → List ℕ

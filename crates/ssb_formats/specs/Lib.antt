@@ -2,4 +2,8 @@ pub mod Cells
 pub mod CsvText
 pub mod MarkdownText
 pub mod JsonText
+pub mod Title
+pub mod Alignment
+pub mod TableText
+pub mod BarsText
 pub mod Formats

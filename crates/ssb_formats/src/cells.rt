@@ -22,7 +22,7 @@ fn value_cell(alloc: Global, value: &Value) -> Result<Text, AllocError>
     }
 }
 
-fn sum_cell(alloc: Global, sum: Option<i64>) -> Result<Text, AllocError>
+pub(crate) fn sum_cell(alloc: Global, sum: Option<i64>) -> Result<Text, AllocError>
     ensures { IfOk result (λ cell. cell ≡ sum_text sum) }
 {
     match sum {
@@ -47,7 +47,7 @@ pub(crate) fn with_sum<T: Drop>(
     Ok(items)
 }
 
-fn value_cells(alloc: Global, values: &[Value]) -> Result<Vec<Text>, AllocError>
+pub(crate) fn value_cells(alloc: Global, values: &[Value]) -> Result<Vec<Text>, AllocError>
     ensures { IfOk result (λ cells. cells.items ≡ map value_text values.now) }
 {
     let mut cells = Vec::new(alloc);
@@ -57,7 +57,7 @@ fn value_cells(alloc: Global, values: &[Value]) -> Result<Vec<Text>, AllocError>
     Ok(cells)
 }
 
-fn name_cells(alloc: Global, columns: &[Column]) -> Result<Vec<Text>, AllocError>
+pub(crate) fn name_cells(alloc: Global, columns: &[Column]) -> Result<Vec<Text>, AllocError>
     ensures { IfOk result (λ cells. cells.items ≡ map column_name columns.now) }
 {
     let mut cells = Vec::new(alloc);
@@ -87,7 +87,7 @@ pub(crate) fn row_cells(
     with_sum(query, sum, value_cells(alloc, row.groups.as_slice())?)
 }
 
-fn number_flags(alloc: Global, columns: &[Column]) -> Result<Vec<bool>, AllocError>
+pub(crate) fn number_flags(alloc: Global, columns: &[Column]) -> Result<Vec<bool>, AllocError>
     ensures { IfOk result (λ flags. flags.items ≡ map takes_numbers columns.now) }
 {
     let mut flags = Vec::new(alloc);

@@ -6,10 +6,12 @@ ghost use Rattle.ssb_formats.specs.Formats.{Shows, answers_shown, next_shown, pa
 ghost use Rattle.ssb_report.specs.AnswerText.{answer_text};
 ghost use Rattle.ssb_report.specs.Written.{AppendsPart};
 
+use crate::bars_text::bars_text;
 use crate::csv_text::csv_text;
 use crate::fault::FormatFault;
 use crate::json_text::json_text;
 use crate::markdown_text::markdown_text;
+use crate::table_text::table_text;
 use ssb_answers::Answer;
 use ssb_questions::question::plan;
 use ssb_report::{WriteFault, write_answer, write_bytes};
@@ -27,6 +29,13 @@ pub enum Format {
     Json,
     /// A table of Markdown.
     Markdown,
+    /// A table whose columns stand below one another.
+    Table,
+    /// Bars, beside the group columns and the sums.
+    Bars {
+        /// The columns of a terminal that a line may take.
+        width: usize,
+    },
 }
 
 impl Format {
@@ -36,7 +45,7 @@ impl Format {
     {
         match self {
             Format::Report | Format::Json => "",
-            Format::Csv | Format::Markdown => "\n",
+            Format::Csv | Format::Markdown | Format::Table | Format::Bars { .. } => "\n",
         }
     }
 }
@@ -55,6 +64,16 @@ fn text_of(alloc: Global, format: Format, answer: &Answer) -> Result<Option<Vec<
         (Format::Markdown, Answer::Rows { query, rows, .. }) => {
             let plan = plan(alloc, query)?;
             Ok(Some(markdown_text(alloc, query.query(), &plan, rows.as_slice())?))
+        }
+        (Format::Table, Answer::Rows { query, at, rows }) => {
+            let plan = plan(alloc, query)?;
+            let text = table_text(alloc, query.query(), &plan, *at, rows.as_slice())?;
+            Ok(Some(text))
+        }
+        (Format::Bars { width }, Answer::Rows { query, at, rows }) => {
+            let plan = plan(alloc, query)?;
+            let text = bars_text(alloc, width, query.query(), &plan, *at, rows.as_slice())?;
+            Ok(Some(text))
         }
         _ => Ok(None),
     }

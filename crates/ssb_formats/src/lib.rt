@@ -10,12 +10,17 @@
 //! ```
 #![tactic(auto)]
 
+mod alignment;
+mod bar;
+mod bars_text;
 mod cells;
 mod csv_text;
 mod fault;
 mod format;
 mod json_text;
 mod markdown_text;
+mod table_text;
+mod title;
 
 pub use fault::FormatFault;
 pub use format::{Format, write_formatted};
