@@ -7,10 +7,9 @@ use std::alloc::{AllocError, Global};
 
 const VERSION: &str = "0.2.0";
 
-/// How many columns the lines of bars may take at least.
-pub const LEAST_WIDTH: u32 = 40;
-/// How many they may take at most.
-pub const MOST_WIDTH: u32 = 1000;
+// How many columns a line of bars may be allowed to take: at least, and at most.
+const LEAST_WIDTH: u32 = 40;
+const MOST_WIDTH: u32 = 1000;
 
 // The folder of the five table files.
 fn data_argument<'a>(alloc: Global) -> Arg<'a> {
@@ -109,12 +108,21 @@ fn format_argument<'a>(alloc: Global) -> Arg<'a> {
         .action(ArgAction::Set)
 }
 
-// How wide the lines of bars may be.
+/// The width that a text spells, where `--width` takes it.
+pub fn width_of(text: &str) -> Option<u32> {
+    let width = text.parse::<u32>().ok()?;
+    if width < LEAST_WIDTH || width > MOST_WIDTH {
+        return None;
+    }
+    Some(width)
+}
+
+// How many columns a line of bars may take.
 fn width_argument<'a>(alloc: Global) -> Arg<'a> {
     Arg::new(alloc, "width")
         .long("width")
         .value_name("N")
-        .help("With --format bars: how many columns a line may take, 40 to 1000; else as COLUMNS says, or 80")
+        .help("How many columns a line of bars may take, 40 to 1000; without it the variable COLUMNS, or 80")
         .value_parser(value_parser!(u32).range(LEAST_WIDTH..MOST_WIDTH + 1))
         .action(ArgAction::Set)
 }

@@ -39,14 +39,16 @@ The query star is a question of your own. Its constants, at most 64, are a measu
 COLUMN is C_CITY, C_NATION, C_REGION, S_CITY, S_NATION, S_REGION, P_MFGR, P_CATEGORY, P_BRAND1, D_YEAR, D_YEARMONTHNUM,
 D_YEARMONTH or D_WEEKNUMINYEAR.
 
-With --format csv, json or markdown the columns have heads: the names of the group columns, and the measure as star
-spells it. JSON has one object a line. An empty line parts the answers of CSV and Markdown.
+With any other --format than report the columns have heads: the names of the group columns, and the measure as star
+spells it. JSON has one object a line. An empty line parts the answers, but not those of JSON. Bars are drawn beside the
+sums, each as long as its sum is great; that of a negative sum is drawn with another sign.
 
 Examples:
   ssb_live query --data tables Q4.1
   ssb_live query --data tables Q2.1 'MFGR#12' EUROPE
   ssb_live query --data tables star LO_REVENUE D_YEAR P_BRAND1 'P_CATEGORY=MFGR#12' 'S_REGION=AMERICA'
   ssb_live query --data tables --format csv Q4.1
+  ssb_live query --data tables --format bars star LO_REVENUE D_YEAR C_REGION=ASIA
   ssb_live query --data tables --all --times";
 
 /// What `run --help` shows.

@@ -1,10 +1,13 @@
 //! What the words ask for.
 
-use crate::grammar::command;
+use crate::grammar::{command, width_of};
 use crate::notice::Notice;
 use clap::ArgMatches;
 use clap::error::ErrorKind;
 use std::alloc::{AllocError, Global};
+
+// How many columns a line of bars may take where nothing says so.
+const WIDTH: u32 = 80;
 
 /// What the words ask for.
 #[derive(Drop)]
@@ -31,8 +34,8 @@ pub enum FormatWord {
     Json,
     Markdown,
     Table,
-    /// Bars, and how wide their lines may be, where the words say so.
-    Bars(Option<u32>),
+    /// Bars, and how many columns a line may take.
+    Bars(u32),
 }
 
 /// The words of `query`.
@@ -102,14 +105,25 @@ fn words_of<'a>(
     matches.get_strs(id).unwrap_or(&[]).to_vec(alloc)
 }
 
+// How many columns a line of bars may take: as the words say, else as the variable COLUMNS does.
+fn bars_width(matches: &ArgMatches<'_>, columns: Option<&str>) -> u32 {
+    if let Some(width) = matches.get_one::<u32>("width") {
+        return width;
+    }
+    match columns {
+        Some(text) => width_of(text).unwrap_or(WIDTH),
+        None => WIDTH,
+    }
+}
+
 // The format that the words name; without the word it is the report.
-fn format_of(matches: &ArgMatches<'_>) -> FormatWord {
+fn format_of(matches: &ArgMatches<'_>, columns: Option<&str>) -> FormatWord {
     match word_of(matches, "format") {
         "csv" => FormatWord::Csv,
         "json" => FormatWord::Json,
         "markdown" => FormatWord::Markdown,
         "table" => FormatWord::Table,
-        "bars" => FormatWord::Bars(matches.get_one::<u32>("width")),
+        "bars" => FormatWord::Bars(bars_width(matches, columns)),
         _ => FormatWord::Report,
     }
 }
@@ -124,11 +138,15 @@ fn check_width(alloc: Global, matches: &ArgMatches<'_>) -> Result<(), Notice> {
     Err(Notice::from(fault))
 }
 
-fn query_words<'a>(alloc: Global, matches: &ArgMatches<'a>) -> Result<QueryWords<'a>, AllocError> {
+fn query_words<'a>(
+    alloc: Global,
+    matches: &ArgMatches<'a>,
+    columns: Option<&str>,
+) -> Result<QueryWords<'a>, AllocError> {
     Ok(QueryWords {
         data: word_of(matches, "data"),
         all: matches.get_flag("all"),
-        format: format_of(matches),
+        format: format_of(matches, columns),
         name: word_of(matches, "name"),
         constants: words_of(alloc, matches, "constants")?,
         times: matches.get_flag("times"),
@@ -175,8 +193,13 @@ fn export_words<'a>(matches: &ArgMatches<'a>) -> ExportWords<'a> {
     }
 }
 
-/// What these words ask for, the program's name first; else what is told in place of that.
-pub fn job_of<'a>(alloc: Global, words: &'a [String]) -> Result<Job<'a>, Notice> {
+/// What these words ask for, the program's name first, where the environment has this variable COLUMNS, or none; else
+/// what is told in place of that.
+pub fn job_of<'a>(
+    alloc: Global,
+    words: &'a [String],
+    columns: Option<&str>,
+) -> Result<Job<'a>, Notice> {
     let matched = command(alloc)?.try_get_matches_from(words)?;
     Ok(match matched.subcommand() {
         Some(("run", words)) => Job::Run(run_words(alloc, words)?),
@@ -185,7 +208,7 @@ pub fn job_of<'a>(alloc: Global, words: &'a [String]) -> Result<Job<'a>, Notice>
         Some(("export", words)) => Job::Export(export_words(words)),
         Some((_, words)) => {
             check_width(alloc, words)?;
-            Job::Query(query_words(alloc, words)?)
+            Job::Query(query_words(alloc, words, columns)?)
         }
         None => Job::Script,
     })

@@ -9,7 +9,7 @@
 //! shown by the cases of the program `cases`.
 //!
 //! ```text
-//! match job_of(alloc, words.as_slice()) {             // ssb_live query --data tables Q4.1
+//! match job_of(alloc, words.as_slice(), None) {             // ssb_live query --data tables Q4.1
 //!     Ok(Job::Query(words)) => ..                     // words.data: tables, words.name: Q4.1
 //!     Err(notice) => write!(err, "{notice}")
 //! }
@@ -21,7 +21,6 @@ mod help;
 mod job;
 mod notice;
 
-pub use grammar::{LEAST_WIDTH, MOST_WIDTH};
 pub use help::TERMINAL_HELP;
 pub use job::{AuditWords, ExportWords, FormatWord, Job, QueryWords, RunWords, ServeWords, job_of};
 pub use notice::Notice;

@@ -10,6 +10,16 @@ use std::sync::Wait;
 use std::thread::Threads;
 use std::time::Clock;
 
+// The variable COLUMNS, where a command's first word gives it, and its words.
+fn columns_and_words(words: &[String]) -> (Option<&str>, &[String]) {
+    if let [first, words @ ..] = words {
+        if let Some(columns) = first.strip_prefix("COLUMNS=") {
+            return (Some(columns), words);
+        }
+    }
+    (None, words)
+}
+
 // Runs a command over these files.
 fn run_command<R>(rt: &R, files: &MemoryFiles, command: &Command) -> io::Result<CommandEnd>
 where
@@ -18,14 +28,16 @@ where
     let output = Stream::new(rt.alloc(), command.break_of("output"))?;
     let errors = Stream::new(rt.alloc(), command.break_of("errors"))?;
     let screen = ErrorScreen::new(errors.writer()?);
+    let (columns, words) = columns_and_words(command.words.as_slice());
     let streams = Streams {
         input: Breaking::new(command.input.as_slice(), command.break_of("input")),
         is_typed: false,
         output: output.writer()?,
         errors: &screen,
         shows_progress: false,
+        columns,
     };
-    let status = run_command_line(rt, files, command.words.as_slice(), streams);
+    let status = run_command_line(rt, files, words, streams);
     Ok(CommandEnd {
         output: output.bytes()?,
         errors: errors.bytes()?,

@@ -43,10 +43,7 @@ fn screen_of<'a, C: Clock, P: Print>(
     Screen::start(clock, terminal)
 }
 
-// How wide bars are where neither the words nor the environment say so.
-const WIDTH: u32 = 80;
-
-fn format_of(word: FormatWord, columns: Option<u32>) -> Format {
+fn format_of(word: FormatWord) -> Format {
     match word {
         FormatWord::Report => Format::Report,
         FormatWord::Csv => Format::Csv,
@@ -54,7 +51,7 @@ fn format_of(word: FormatWord, columns: Option<u32>) -> Format {
         FormatWord::Markdown => Format::Markdown,
         FormatWord::Table => Format::Table,
         FormatWord::Bars(width) => Format::Bars {
-            width: width.or(columns).unwrap_or(WIDTH) as usize,
+            width: width as usize,
         },
     }
 }
@@ -64,7 +61,6 @@ fn answer_query<R, F: Files + AllocGlobal, P: Print, W: Write, E: Write>(
     rt: &R,
     files: &F,
     words: &QueryWords<'_>,
-    format: Format,
     terminal: Option<&P>,
     out: &mut W,
     err: &mut E,
@@ -84,7 +80,7 @@ where
     let settings = Settings {
         hashing,
         times: words.times,
-        format,
+        format: format_of(words.format),
     };
     if words.all {
         return run_all(rt, settings, tables, out, err);
@@ -499,7 +495,7 @@ where
     F::File: JournalFile + Send,
     F::Dir: Send,
 {
-    let job = match job_of(rt.alloc(), words) {
+    let job = match job_of(rt.alloc(), words, streams.columns) {
         Ok(job) => job,
         Err(notice) => return tell(&notice, streams),
     };
@@ -515,10 +511,7 @@ where
     let terminal = if shows_progress { Some(errors) } else { None };
     match job {
         Job::Script => serve_script(rt, input, &mut output, err),
-        Job::Query(words) => {
-            let format = format_of(words.format, columns);
-            answer_query(rt, files, &words, format, terminal, &mut output, err)
-        }
+        Job::Query(words) => answer_query(rt, files, &words, terminal, &mut output, err),
         Job::Run(words) => serve_scripts(rt, files, &words, terminal, &mut output, err),
         Job::Serve(words) => {
             let streams = Streams {

@@ -20,4 +20,4 @@ mod command;
 mod streams;
 
 pub use command::run_command_line;
-pub use streams::{Streams, words};
+pub use streams::{Streams, columns, words};

@@ -1,6 +1,6 @@
 //! The words and the standard streams, as a command line gets them.
 
-use arguments::{LEAST_WIDTH, MOST_WIDTH, Notice};
+use arguments::Notice;
 use ssb_files::Fault;
 use std::env::{Env, VarError};
 use std::io;
@@ -16,8 +16,8 @@ pub struct Streams<'a, I: Drop, O: Drop, E: Print> {
     pub errors: &'a E,
     /// Whether a person sees the errors, and so the progress of a long load.
     pub shows_progress: bool,
-    /// How many columns a line of bars may take, where the environment says so.
-    pub columns: Option<u32>,
+    /// The variable COLUMNS, where the environment has it: how many columns a line of bars may take.
+    pub columns: Option<&'a str>,
 }
 
 /// The words of the command line, the program's name first.
@@ -31,22 +31,13 @@ pub fn words<R: Env + AllocGlobal>(rt: &R) -> Result<Vec<String>, Fault> {
     }
 }
 
-/// How many columns a line of bars may take: the variable COLUMNS, where it is a number that `--width` takes.
-pub fn columns<R: Env + AllocGlobal>(rt: &R) -> Result<Option<u32>, Fault> {
+/// The variable COLUMNS, where the environment has it as a text.
+pub fn columns<R: Env + AllocGlobal>(rt: &R) -> Result<Option<String>, Fault> {
     match std::env::var(rt, "COLUMNS") {
-        Ok(text) => Ok(width_of(text.as_str())),
+        Ok(text) => Ok(Some(text)),
         Err(VarError::OutOfMemory) => Err(Fault::OutOfMemory),
         Err(_) => Ok(None),
     }
-}
-
-/// The width that a text spells, where `--width` takes it.
-pub fn width_of(text: &str) -> Option<u32> {
-    let width = text.parse::<u32>().ok()?;
-    if width < LEAST_WIDTH || width > MOST_WIDTH {
-        return None;
-    }
-    Some(width)
 }
 
 /// Writes what is told in place of a job, and gives the exit status. A fault of the words goes to the errors, with

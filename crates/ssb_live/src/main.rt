@@ -11,7 +11,7 @@
 //! `command_line` finds what the words ask, and this file ends with a status.
 #![tactic(auto)]
 
-use command_line::{Streams, run_command_line, words};
+use command_line::{Streams, columns, run_command_line, words};
 use ssb_files::Fault;
 use std::io::{BufWriter, IsTerminal};
 use std::process::ExitCode;
@@ -22,6 +22,10 @@ fn main(rt: HostRuntime) -> ExitCode {
     let Ok(output) = BufWriter::new(rt.alloc(), rt.stdout()) else {
         return ExitCode::from(Fault::OutOfMemory.tell(&mut err));
     };
+    let columns = match columns(&rt) {
+        Ok(columns) => columns,
+        Err(fault) => return ExitCode::from(fault.tell(&mut err)),
+    };
     let input = rt.stdin();
     let streams = Streams {
         input,
@@ -29,6 +33,7 @@ fn main(rt: HostRuntime) -> ExitCode {
         output,
         errors: &errors,
         shows_progress: errors.is_terminal(),
+        columns: columns.as_deref(),
     };
     ExitCode::from(match words(&rt) {
         Ok(words) => run_command_line(&rt, &rt, words.as_slice(), streams),
