@@ -9,6 +9,7 @@ const VERSION: &str = "0.2.0";
 
 // How many columns a line of bars may be allowed to take: at least, and at most.
 const LEAST_WIDTH: u32 = 40;
+
 const MOST_WIDTH: u32 = 1000;
 
 // The folder of the five table files.
@@ -101,9 +102,7 @@ fn format_argument<'a>(alloc: Global) -> Arg<'a> {
         .long("format")
         .value_name("FORMAT")
         .help("How the answers are written")
-        .value_parser(ValueParser::Names(&[
-            "report", "table", "csv", "json", "markdown", "bars",
-        ]))
+        .value_parser(ValueParser::Names(&["report", "table", "csv", "json", "markdown", "bars"]))
         .default_value("report")
         .action(ArgAction::Set)
 }
@@ -122,7 +121,9 @@ fn width_argument<'a>(alloc: Global) -> Arg<'a> {
     Arg::new(alloc, "width")
         .long("width")
         .value_name("N")
-        .help("How many columns a line of bars may take, 40 to 1000; without it the variable COLUMNS, or 80")
+        .help(
+            "How many columns a line of bars may take, 40 to 1000; without it the variable COLUMNS, or 80",
+        )
         .value_parser(value_parser!(u32).range(LEAST_WIDTH..MOST_WIDTH + 1))
         .action(ArgAction::Set)
 }

@@ -11,13 +11,13 @@ width_of text = str_width false (chars text)
 
 -- a column in which no cell stands yet
 abbrev pub narrow : Bool → Alignment
-narrow is_number = record { width = 0; is_number = is_number; }
+narrow is_number = record { width = 0; is_number = is_number }
 
 -- a column that is wide enough for a cell too, where there is one
 abbrev pub wider : Alignment → Option (List ℕ) → Alignment
 wider alignment None = alignment
 wider alignment (Some cell) =
-    record { width = max alignment.width (width_of cell); is_number = alignment.is_number; }
+    record { width = max alignment.width (width_of cell); is_number = alignment.is_number }
 
 -- columns that are wide enough for the cells of this line too, each for the cell in its place
 abbrev pub widened : List Alignment → List (List ℕ) → List Alignment

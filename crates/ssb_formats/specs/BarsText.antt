@@ -47,7 +47,7 @@ greatest_of rows = fold (λ greatest row. max greatest (size_of row.sum)) 0 rows
 
 -- the greatest sum has a bar that takes all the room
 abbrev pub scale_of : ℕ → List Alignment → List ResultRow → Scale
-scale_of width alignments rows = record { room = room_beside width alignments; greatest = greatest_of rows; }
+scale_of width alignments rows = record { room = room_beside width alignments; greatest = greatest_of rows }
 
 -- the length of a bar: that part of the room which the sum is of the greatest, rounded down
 abbrev pub bar_length : Scale → ℕ → ℕ

@@ -81,11 +81,7 @@ fn mark_of(sum: Option<i64>) -> u8
 }
 
 /// Adds the bar of a sum, behind two spaces; nothing where it has no length.
-pub(crate) fn push_bar(
-    text: &mut Vec<u8>,
-    scale: Scale,
-    sum: Option<i64>,
-) -> Result<(), AllocError>
+pub(crate) fn push_bar(text: &mut Vec<u8>, scale: Scale, sum: Option<i64>) -> Result<(), AllocError>
     ensures { OnOk result (text.new.items ≡ text.old.items ++ bar_text scale sum) }
 {
     let length = bar_length(scale, size_of(sum));

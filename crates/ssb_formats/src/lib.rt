@@ -1,8 +1,9 @@
-//! Answers in formats that other programs, and people, read: CSV, JSON, Markdown.
+//! Answers in formats that people, and other programs, read: tables, bars, CSV, JSON, Markdown.
 //!
 //! The one contract, of [`write_formatted`]: what is written is the text of the answers in the format, byte by byte;
 //! where a write fails or memory runs out, a part of it from its beginning. The definitions stand in `specs/`: `Cells`
-//! (the heads and the cells of a row), `CsvText`, `JsonText`, `MarkdownText`, and `Formats`, which has them all.
+//! (the heads and the cells of a row), `Alignment` (cells below one another), `TableText`, `BarsText`, `CsvText`,
+//! `JsonText`, `MarkdownText`, and `Formats`, which has them all.
 //!
 //! ```text
 //! write_formatted(alloc, &mut output, Format::Csv, answers)?;             // D_YEAR,C_NATION,LO_REVENUE-LO_SUPPLYCOST
