@@ -8,9 +8,9 @@ use std::alloc::{AllocError, Global};
 const VERSION: &str = "0.2.0";
 
 // How many columns a line of bars may be allowed to take: at least, and at most.
-const LEAST_WIDTH: u32 = 40;
+const LEAST_WIDTH: i64 = 40;
 
-const MOST_WIDTH: u32 = 1000;
+const MOST_WIDTH: i64 = 1000;
 
 // The folder of the five table files.
 fn data_argument<'a>(alloc: Global) -> Arg<'a> {
@@ -110,7 +110,7 @@ fn format_argument<'a>(alloc: Global) -> Arg<'a> {
 /// The width that a text spells, where `--width` takes it.
 pub fn width_of(text: &str) -> Option<u32> {
     let width = text.parse::<u32>().ok()?;
-    if width < LEAST_WIDTH || width > MOST_WIDTH {
+    if i64::from(width) < LEAST_WIDTH || i64::from(width) > MOST_WIDTH {
         return None;
     }
     Some(width)

@@ -1,17 +1,28 @@
 //! The line above the rows of an answer that people read.
 
 ghost use Rattle.std.specs.Prelude.{◌≡◌, ◌++◌, OnOk};
-ghost use Rattle.ssb_formats.specs.Title.{rows_word, title_text};
+ghost use Rattle.ssb_formats.specs.Title.{commit_text, count_text, title_text};
 
 use itoa::Buffer;
 use ssb_questions::Query;
 use std::alloc::AllocError;
 
-// What rows are called, after their number.
-fn rows_word(count: usize) -> &'static str
-    ensures { result.now ≡ rows_word count }
+// Adds how many rows there are.
+fn push_count(text: &mut Vec<u8>, count: usize) -> Result<(), AllocError>
+    ensures { OnOk result (text.new.items ≡ text.old.items ++ count_text count) }
 {
-    if count == 1 { " row" } else { " rows" }
+    let word = if count == 1 { " row" } else { " rows" };
+    text.extend_from_slice(Buffer::new().format(count).as_bytes())?;
+    text.extend_from_slice(word.as_bytes())
+}
+
+// Adds after how many commits the rows are so.
+fn push_commit(text: &mut Vec<u8>, at: u64) -> Result<(), AllocError>
+    ensures { OnOk result (text.new.items ≡ text.old.items ++ commit_text at) }
+{
+    text.extend_from_slice(b", as of commit ")?;
+    text.extend_from_slice(Buffer::new().format(at).as_bytes())?;
+    Ok(text.push(b'\n')?)
 }
 
 /// Adds the title: the query, how many rows there are, and after how many commits.
@@ -25,9 +36,6 @@ pub(crate) fn push_title(
 {
     text.extend_from_slice(query.name().as_bytes())?;
     text.extend_from_slice(b": ")?;
-    text.extend_from_slice(Buffer::new().format(count).as_bytes())?;
-    text.extend_from_slice(rows_word(count).as_bytes())?;
-    text.extend_from_slice(b", as of commit ")?;
-    text.extend_from_slice(Buffer::new().format(at).as_bytes())?;
-    Ok(text.push(b'\n')?)
+    push_count(text, count)?;
+    push_commit(text, at)
 }
