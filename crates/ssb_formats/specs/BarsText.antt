@@ -76,7 +76,7 @@ chart_text alignments scale plan rows =
     aligned_line alignments (label_heads plan) ++ flat_map (bar_line alignments scale) rows
 
 -- the title, and that
-abbrev pub bars_text : ℕ → Query → Plan → ℕ → List ResultRow → List ℕ
+unfoldable pub bars_text : ℕ → Query → Plan → ℕ → List ResultRow → List ℕ
 bars_text width query plan at rows =
     title_text query at (length rows)
     ++ chart_text (label_alignments plan rows) (scale_of width (label_alignments plan rows) rows) plan rows

@@ -33,6 +33,6 @@ grid_text alignments query plan rows =
     ++ flat_map (λ row. aligned_line alignments (columns_of query row)) rows
 
 -- the title, and that
-abbrev pub table_text : Query → Plan → ℕ → List ResultRow → List ℕ
+unfoldable pub table_text : Query → Plan → ℕ → List ResultRow → List ℕ
 table_text query plan at rows =
     title_text query at (length rows) ++ grid_text (table_alignments query plan rows) query plan rows

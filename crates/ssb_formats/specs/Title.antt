@@ -9,8 +9,11 @@ abbrev pub count_text : ℕ → List ℕ
 count_text count = decimal count ++ (if count == 1 then codes " row" else codes " rows")
 
 -- after how many commits
+unfoldable pub as_of : List ℕ
+as_of = codes ", as of commit "
+
 abbrev pub commit_text : ℕ → List ℕ
-commit_text at = codes ", as of commit " ++ decimal at ++ line_feed
+commit_text at = as_of ++ decimal at ++ line_feed
 
 -- the query, and these
 abbrev pub title_text : Query → ℕ → ℕ → List ℕ

@@ -106,13 +106,16 @@ pub(crate) fn push_cells(
 ) -> Result<(), AllocError>
     ensures { OnOk result (text.new.items ≡ text.old.items ++ aligned_cells alignments.now cells.now) }
 {
-    match (alignments, cells) {
-        ([alignment, ..], [cell]) => push_last(text, *alignment, cell.as_str()),
-        ([alignment, alignments @ ..], [cell, cells @ ..]) => {
-            push_cell(text, *alignment, cell.as_str())?;
-            push_cells(text, alignments, cells)
-        }
-        _ => Ok(()),
+    match alignments {
+        [] => Ok(()),
+        [alignment, alignments @ ..] => match cells {
+            [] => Ok(()),
+            [cell] => push_last(text, *alignment, cell.as_str()),
+            [cell, cells @ ..] => {
+                push_cell(text, *alignment, cell.as_str())?;
+                push_cells(text, alignments, cells)
+            }
+        },
     }
 }
 

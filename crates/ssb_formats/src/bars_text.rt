@@ -87,6 +87,7 @@ fn push_chart(
 }
 
 /// The text of rows as bars, in a width.
+#[tactic(auto, unfolding(crate::specs::BarsText::bars_text))]
 pub(crate) fn bars_text(
     alloc: Global,
     width: usize,

@@ -71,6 +71,7 @@ fn push_grid(
 }
 
 /// The text of rows as a table.
+#[tactic(auto, unfolding(crate::specs::TableText::table_text))]
 pub(crate) fn table_text(
     alloc: Global,
     query: Query,

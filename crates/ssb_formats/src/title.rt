@@ -1,7 +1,7 @@
 //! The line above the rows of an answer that people read.
 
 ghost use Rattle.std.specs.Prelude.{◌≡◌, ◌++◌, OnOk};
-ghost use Rattle.ssb_formats.specs.Title.{commit_text, count_text, title_text};
+ghost use Rattle.ssb_formats.specs.Title.{as_of, commit_text, count_text, title_text};
 
 use itoa::Buffer;
 use ssb_questions::Query;
@@ -16,11 +16,19 @@ fn push_count(text: &mut Vec<u8>, count: usize) -> Result<(), AllocError>
     text.extend_from_slice(word.as_bytes())
 }
 
+// What stands before the number of commits.
+#[tactic(auto, unfolding(crate::specs::Title::as_of))]
+fn as_of() -> &'static str
+    ensures { result.now ≡ as_of }
+{
+    ", as of commit "
+}
+
 // Adds after how many commits the rows are so.
 fn push_commit(text: &mut Vec<u8>, at: u64) -> Result<(), AllocError>
     ensures { OnOk result (text.new.items ≡ text.old.items ++ commit_text at) }
 {
-    text.extend_from_slice(b", as of commit ")?;
+    text.extend_from_slice(as_of().as_bytes())?;
     text.extend_from_slice(Buffer::new().format(at).as_bytes())?;
     Ok(text.push(b'\n')?)
 }
