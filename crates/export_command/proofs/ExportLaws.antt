@@ -23,7 +23,7 @@ use Rattle.table_text.specs.TableText.{base_texts}
 use Rattle.row_store.specs.Legal.{IsLegal}
 use Rattle.export_command.specs.After.{tables_after}
 use Rattle.export_command.specs.Exported.{AreReadBack, AreTablesAfter, Exports, IsExport, IsNoneOrExport}
-use Rattle.export_command.specs.Exported.{LeftNoneOrExport, TellsJournalFault, TellsNoJournal}
+use Rattle.export_command.specs.Exported.{LeftNoneOrExport, TellsJournalFault}
 use Rattle.export_command.specs.declared.fault.ExportRefusal.{ExportRefusal}
 use Rattle.export_command.specs.declared.fault.ExportRefusal.TheVariants as refusal
 
@@ -56,14 +56,6 @@ pub left_export : (base : Tables) (sizes : List TableSize) (file : List ℕ) (ta
     → LeftNoneOrExport base sizes file calls
 left_export base sizes file tables calls after all left any =
     none_or_export base sizes file tables after left (all left any)
-
--- what tells nothing of a journal
-pub tells_none : (base : Tables) (sizes : List TableSize) (file : List ℕ) (fault : JobFault ExportRefusal)
-    → TellsNoJournal fault → TellsJournalFault base sizes file fault
-tells_none base sizes file (job.Program why) none = tt
-tells_none base sizes file (job.Found (refusal.Folder why)) none = tt
-tells_none base sizes file (job.Found (refusal.CannotWrite path)) none = tt
-tells_none base sizes file (job.Found (refusal.Journal why)) none = absurd none
 
 -- over the tables that were loaded
 exports-of : (texts : Table → List ℕ) (known : Option (List ℕ)) (base : Tables) (sizes : List TableSize) (file : List ℕ)
