@@ -1,10 +1,12 @@
 use std::fmt::Debug;
 use std::process::Abort;
 
+mod codes;
 mod columns;
 mod copies;
 mod definition;
 mod machine;
+mod reading;
 mod rows;
 
 // What was found is what is wanted. Tests call this: each assertion in a body makes the proof of that body longer.
