@@ -13,7 +13,7 @@ fn told(alloc: Global, index: &DimIndex, column: Column) -> Result<String, Fail>
     for code in index.codes_of(column) {
         write!(told, "{code} ")?;
     }
-    for code in 0..index.codes(column) as u32 {
+    for code in 0..u32::try_from(index.codes(column)).unwrap_or(0) {
         let (text, number) = (index.text(column, code), index.number(column, code));
         write!(told, "{text}:{number} ")?;
     }

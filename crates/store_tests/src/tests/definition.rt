@@ -102,25 +102,46 @@ const NO_LINES: &str = "star at 0 rows 1\nNULL\nstar at 0 rows 0\nQ4.1 at 0 rows
 
 const ONE_LINE: &str = "star at 0 rows 1\n1\nstar at 0 rows 1\n1993|2\nQ4.1 at 0 rows 0\n";
 
-// Lines, and what SQLite gives over them and after every third order was withdrawn: how many lines there are, and the
-// quantity of 1993. What else it gives is the same over 63 lines and over a few more.
-const OVER_LINES: &[(usize, (u32, u32), (u32, u32))] = &[
-    (63, (63, 371), (42, 245)),
-    (64, (64, 386), (43, 260)),
-    (65, (65, 402), (44, 276)),
+// How many lines there are, and the quantities of 1993, 1994 and 1997.
+type Counts = (u32, u32, u32, u32);
+
+// Lines, and what SQLite gives: over them, after every third order was withdrawn, and for Q4.1 in both.
+const OVER_LINES: &[(usize, Counts, Counts, (u32, u32, u32))] = &[
+    (
+        63,
+        (63, 371, 640, 368),
+        (42, 245, 415, 255),
+        (102, 636, 249),
+    ),
+    (
+        64,
+        (64, 386, 640, 368),
+        (43, 260, 415, 255),
+        (102, 636, 249),
+    ),
+    (
+        65,
+        (65, 402, 640, 368),
+        (44, 276, 415, 255),
+        (102, 636, 249),
+    ),
+    (
+        4099,
+        (4099, 26186, 52227, 26136),
+        (2733, 17426, 34851, 17423),
+        (925110, 1874844, 933321),
+    ),
 ];
 
 // What is told of so many lines.
-fn told(
-    alloc: Global,
-    (count, quantity): (u32, u32),
-    quantities: (u32, u32),
-) -> Result<String, Fail> {
-    let (in_1994, in_1997) = quantities;
+fn told(alloc: Global, counts: Counts, profits: (u32, u32, u32)) -> Result<String, Fail> {
+    let (count, in_1993, in_1994, in_1997) = counts;
+    let (of_1993, of_1994, of_1997) = profits;
     Ok(format!(in alloc;
         "star at 0 rows 1\n{count}\n\
-         star at 0 rows 3\n1993|{quantity}\n1994|{in_1994}\n1997|{in_1997}\n\
-         Q4.1 at 0 rows 3\n1993|UNITED STATES|102\n1994|UNITED STATES|636\n1997|UNITED STATES|249\n"
+         star at 0 rows 3\n1993|{in_1993}\n1994|{in_1994}\n1997|{in_1997}\n\
+         Q4.1 at 0 rows 3\n1993|UNITED STATES|{of_1993}\n1994|UNITED STATES|{of_1994}\n\
+         1997|UNITED STATES|{of_1997}\n"
     )?)
 }
 
@@ -146,9 +167,9 @@ fn the_definition_gives_what_sqlite_gives(rt: HostRuntime) -> Result<(), Fail> {
     let base = standard_base(&rt, alloc)?;
     gives(&rt, alloc, &base, 0, NO_LINES, NO_LINES)?;
     gives(&rt, alloc, &base, 1, ONE_LINE, ONE_LINE)?;
-    for (count, all, left) in OVER_LINES {
-        let all = told(alloc, *all, (640, 368))?;
-        let left = told(alloc, *left, (415, 255))?;
+    for (count, all, left, profits) in OVER_LINES {
+        let all = told(alloc, *all, *profits)?;
+        let left = told(alloc, *left, *profits)?;
         gives(&rt, alloc, &base, *count, &all, &left)?;
     }
     Ok(())
