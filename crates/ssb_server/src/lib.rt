@@ -22,7 +22,8 @@
 //! - who keeps a journal: `LogReader::commits_from`, clauses `commits` (all of the log behind those that it has taken)
 //!   and `reads`;
 //! - the beginning and the end: `open`, clauses `clients` and `dispatchers`; `Server::close`, clauses `whole`, `legal`,
-//!   `seen`; the same with a reader of the log: `open_with_reader`, `Server::close_with_reader`.
+//!   `seen`; the same with a reader of the log: `open_with_reader`, `Server::close_with_reader`; with questions that
+//!   stand: `Loaded::new`, and `open_loaded` in place of `open`.
 //!
 //! ```text
 //! client ── refresh ─▶ row store ── log ─▶ copies of the columns ── scan ─▶ dispatcher ── answer ─▶ client
@@ -44,6 +45,7 @@ mod dispatcher;
 mod following;
 mod grabbing;
 mod lag;
+mod loaded;
 mod log_reader;
 mod opening;
 mod pace;
@@ -58,9 +60,11 @@ mod unneeded;
 pub use client::Client;
 pub use closing::{CloseError, CloseWithReaderError, Closed};
 pub use dispatcher::Dispatcher;
+pub use loaded::Loaded;
 pub use log_reader::LogReader;
 pub use opening::{
-    MOST_DISPATCHERS, OpenError, OpenFault, Opened, OpenedWithReader, open, open_with_reader,
+    MOST_DISPATCHERS, OpenError, OpenFault, Opened, OpenedWithReader, open, open_loaded,
+    open_loaded_with_reader, open_with_reader,
 };
 pub use server::Server;
 pub use turn::{OpenGate, ScanGate, Turn};

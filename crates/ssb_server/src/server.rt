@@ -6,7 +6,7 @@ ghost use Rattle.history.specs.Tokens.{IsSound, IsDispatcher, Saw, MayAnswer, An
 use crate::bells::Bells;
 use crate::pace::Pace;
 use crate::room::ClosingRoom;
-use fact_columns::Columns;
+use standing_columns::StandingColumns;
 use history_core::Response;
 use row_store::RowStore;
 use std::alloc::Global;
@@ -15,10 +15,10 @@ use std::sync::Mutex;
 use twin_cell::{EndsCopies, TwinWriter};
 
 /// The table of a server: its two parts are the row store, and the writer of the columns.
-pub(crate) type SharedTable<W> = history::SharedTable<TwinWriter<Columns, W>>;
+pub(crate) type SharedTable<W> = history::SharedTable<TwinWriter<StandingColumns, W>>;
 
 /// The token of a client or dispatcher to that table.
-pub(crate) type Token<W> = history::Token<TwinWriter<Columns, W>>;
+pub(crate) type Token<W> = history::Token<TwinWriter<StandingColumns, W>>;
 
 // A proof about a call of the table goes through the whole type of its writer, and takes long: what several call is
 // called here.

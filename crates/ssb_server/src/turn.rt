@@ -12,7 +12,7 @@ use crate::grabbing::grab_all;
 use crate::passes::{RequestRows, answer_all};
 use crate::server::{Server, Token};
 use crate::snapshot::snapshot;
-use fact_columns::Columns;
+use standing_columns::StandingColumns;
 use ssb_answers::Unserved;
 use std::alloc::AllocError;
 use std::sync::Wait;
@@ -84,8 +84,8 @@ fn serve<W: Wait + Drop, R: Wait + Threads + Sync, G: ScanGate>(
     gate: &G,
     token: &mut Token<W>,
     batch: &mut Batch,
-    reader: TwinReader<Columns>,
-) -> (TwinReader<Columns>, Turn)
+    reader: TwinReader<StandingColumns>,
+) -> (TwinReader<StandingColumns>, Turn)
     requires dispatcher { IsDispatcher server.now token.old }
     requires free { HoldsNothing token.old }
     requires hand { Keeps batch.old token.old.grabbed }
@@ -130,8 +130,8 @@ pub(crate) fn take_turn<W: Wait + Drop, R: Wait + Threads + Sync, G: ScanGate>(
     gate: &G,
     token: &mut Token<W>,
     batch: &mut Batch,
-    reader: TwinReader<Columns>,
-) -> (TwinReader<Columns>, Turn)
+    reader: TwinReader<StandingColumns>,
+) -> (TwinReader<StandingColumns>, Turn)
     requires dispatcher { IsDispatcher server.now token.old }
     requires free { HoldsNothing token.old }
     requires hand { token.old.grabbed ≡ [] }
