@@ -16,10 +16,9 @@ use crate::server::{Server, SharedTable, Token};
 use crate::tickets::clients_of;
 use crate::unneeded::{Keeps, Unneeded};
 use standing_columns::StandingColumns;
-use ssb_base::Base;
 use std::alloc::{AllocError, Global};
-use std::hash::RandomState;
-use std::sync::{Arc, Mutex, Wait};
+use std::sync::atomic::AtomicU64;
+use std::sync::{Mutex, Wait};
 use std::thread::Threads;
 use thiserror::Error;
 use twin_cell::{EndsCopies, TwinError, TwinReader, twin};
@@ -42,13 +41,6 @@ pub enum OpenFault {
     /// Memory ran out.
     #[error("out of memory")]
     OutOfMemory,
-}
-
-/// Why no server was opened, and the base that was handed in.
-#[derive(Drop)]
-pub struct OpenError {
-    pub fault: OpenFault,
-    pub back: Arc<Base>,
 }
 
 /// A new server, with its clients and its dispatchers, each by number from 1.
@@ -106,6 +98,7 @@ fn server_over<W: EndsCopies + Drop>(
         dispatchers,
         bells: Bells::new(alloc, clients, dispatchers)?,
         pace,
+        by_totals: AtomicU64::new(0),
         alloc,
         room: Mutex::new(ClosingRoom::new(alloc)?),
     })
@@ -240,8 +233,9 @@ fn build_with_reader<W: Threads + Sync + Wait + Drop>(
     })
 }
 
-// Which count is out of its range, if one is.
-fn count_fault(clients: u32, dispatchers: u32) -> Option<OpenFault>
+/// Which count is out of its range, if one is. `open` looks itself; who is to tell it before a base is loaded, asks
+/// here.
+pub fn count_fault(clients: u32, dispatchers: u32) -> Option<OpenFault>
     ensures { MatchOption result (AreCounts clients dispatchers) (IsOpenFault clients dispatchers) }
 {
     if clients == 0 || clients as usize > MOST_CLIENTS {
@@ -263,47 +257,13 @@ fn fault_of(error: TwinError) -> OpenFault
     }
 }
 
-/// Opens a server over a base, for 1 to 16 clients and 1 to 4 dispatchers. `rt` is the handle by which the writer of
-/// the columns waits, `hashing` keys the map of orders, and `keeps` says which part of the log stays in memory. The
-/// client count is looked at first, then the dispatcher count; any fault hands the base back.
+/// Opens a server over a loaded base, for 1 to 16 clients and 1 to 4 dispatchers. `rt` is the handle by which the writer
+/// of the columns waits, and `keeps` says which part of the log stays in memory. The client count is looked at first,
+/// then the dispatcher count.
 ///
 /// It is not proved to return, since it makes the two copies of the columns (`twin`), whose writer publishes once, and
 /// may wait for readers then. Here nobody reads yet.
 pub fn open<W: Threads + Sync + Wait + Drop>(
-    alloc: Global,
-    rt: W,
-    hashing: RandomState,
-    base: Arc<Base>,
-    clients: u32,
-    dispatchers: u32,
-    keeps: Keeps,
-) -> Result<Opened<W>, OpenError>
-    ensures range { OnOk result (AreCounts clients dispatchers) }
-    ensures base { IfOk result (λ made. made.server.base ≡ base.value) }
-    ensures counts { IfOk result (λ made. (made.server.clients ≡ clients) × (made.server.dispatchers ≡ dispatchers)) }
-    ensures clients { IfOk result (λ made. made.clients.items ≡ new_clients made.server) }
-    ensures dispatchers { IfOk result (λ made. made.dispatchers.items ≡ new_dispatchers made.server) }
-    ensures fault { IfErr result (λ error. IsOpenFault clients dispatchers error.fault) }
-    ensures back { IfErr result (λ error. error.back ≡ base) }
-{
-    if let Some(fault) = count_fault(clients, dispatchers) {
-        return Err(OpenError { fault, back: base });
-    }
-    let Ok(loaded) = Loaded::new(&rt, alloc, hashing, &base, &[]) else {
-        let fault = OpenFault::OutOfMemory;
-        return Err(OpenError { fault, back: base });
-    };
-    match build(alloc, rt, loaded, clients, dispatchers, keeps) {
-        Ok(opened) => Ok(opened),
-        Err(error) => Err(OpenError {
-            fault: fault_of(error),
-            back: base,
-        }),
-    }
-}
-
-/// Opens a server as `open` does over a base that is loaded, with the questions that stand there.
-pub fn open_loaded<W: Threads + Sync + Wait + Drop>(
     alloc: Global,
     rt: W,
     loaded: Loaded,
@@ -330,41 +290,6 @@ pub fn open_loaded<W: Threads + Sync + Wait + Drop>(
 /// Opens a server as `open` does, with who reads its log: at the table that is one dispatcher more, the last one. Of
 /// the log stays in memory what it has yet to read.
 pub fn open_with_reader<W: Threads + Sync + Wait + Drop>(
-    alloc: Global,
-    rt: W,
-    hashing: RandomState,
-    base: Arc<Base>,
-    clients: u32,
-    dispatchers: u32,
-) -> Result<OpenedWithReader<W>, OpenError>
-    ensures range { OnOk result (AreCounts clients dispatchers) }
-    ensures base { IfOk result (λ made. made.server.base ≡ base.value) }
-    ensures counts { IfOk result (λ made. (made.server.clients ≡ clients)
-        × (made.server.dispatchers ≡ dispatchers + 1)) }
-    ensures clients { IfOk result (λ made. made.clients.items ≡ new_clients made.server) }
-    ensures dispatchers { IfOk result (λ made. made.dispatchers.items ++ made.reader ∷ []
-        ≡ new_dispatchers made.server) }
-    ensures fault { IfErr result (λ error. IsOpenFault clients dispatchers error.fault) }
-    ensures back { IfErr result (λ error. error.back ≡ base) }
-{
-    if let Some(fault) = count_fault(clients, dispatchers) {
-        return Err(OpenError { fault, back: base });
-    }
-    let Ok(loaded) = Loaded::new(&rt, alloc, hashing, &base, &[]) else {
-        let fault = OpenFault::OutOfMemory;
-        return Err(OpenError { fault, back: base });
-    };
-    match build_with_reader(alloc, rt, loaded, clients, dispatchers) {
-        Ok(opened) => Ok(opened),
-        Err(error) => Err(OpenError {
-            fault: fault_of(error),
-            back: base,
-        }),
-    }
-}
-
-/// Opens a server as `open_with_reader` does over a base that is loaded, with the questions that stand there.
-pub fn open_loaded_with_reader<W: Threads + Sync + Wait + Drop>(
     alloc: Global,
     rt: W,
     loaded: Loaded,
