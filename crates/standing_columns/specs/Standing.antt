@@ -1,5 +1,6 @@
 -- Questions that stand.
-use Rattle.std.specs.Prelude.{◌++◌, ◌∷◌, [], Bool, List, All, flat_map, fold, list_any, is_some, if◌then◌else◌}
+use Rattle.std.specs.Prelude.{◌++◌, ◌∷◌, [], ℕ, Bool, List, All, Option, flat_map, fold, list_any, is_some, position}
+use Rattle.std.specs.Prelude.{if◌then◌else◌}
 use Rattle.ssb_base.specs.Base.{Tables}
 use Rattle.ssb_questions.specs.QuestionEq.{question_eq}
 use Rattle.ssb_questions.specs.declared.query.Query.{Query}
@@ -13,6 +14,10 @@ use Rattle.standing_columns.specs.declared.questions.StandingQuestions.{Standing
 -- whether an equal question is among these
 abbrev pub is_among : List (Query × List Value) → Query × List Value → Bool
 is_among questions question = list_any (λ other. question_eq other question) questions
+
+-- the first place of an equal question
+abbrev pub place_of : List (Query × List Value) → Query × List Value → Option ℕ
+place_of questions question = position (λ other. question_eq other question) questions
 
 -- these questions with one more, unless an equal one is among them
 abbrev pub with_question : List (Query × List Value) → Query × List Value → List (Query × List Value)

@@ -1,12 +1,9 @@
 //! The columns with their standing questions, as a replica.
-ghost use Rattle.std.specs.Prelude.{◌≡◌, ℕ, [], List, Err, IfOk, MatchResult, OnErr, Some, slice_get};
-ghost use Rattle.ssb_questions.specs.declared.query.Query.{Query as Asked};
-ghost use Rattle.ssb_questions.specs.declared.value.Value.{Value as Constant};
+ghost use Rattle.std.specs.Prelude.{◌≡◌, ◌≤◌, ℕ, [], All, Err, IfOk, MatchResult, OnErr, length};
 ghost use Rattle.row_store.specs.State.{state_after, state_of};
-ghost use Rattle.dimension_index.specs.Classes.{reduced};
 ghost use Rattle.fact_columns.specs.Stored.{columns_state};
 ghost use Rattle.shared_scan.specs.Answers.{AreSnapshot};
-ghost use Rattle.shared_scan.specs.Standing.{HasManyGroups};
+ghost use Rattle.shared_scan.specs.GroupCounts.{HasFewGroups, IsFirstOfMany};
 ghost use Rattle.shared_scan.specs.declared.standing_error.StandingError.TheVariants.{TooManyGroups};
 
 use crate::questions::StandingQuestions;
@@ -52,8 +49,9 @@ impl StandingColumns {
         questions: &[Question],
     ) -> Result<StandingColumns, StandingError>
         ensures columns { IfOk result (λ standing. columns_state standing ≡ state_of index.value []) }
-        ensures too_many { (place : ℕ) → result ≡ Err (TooManyGroups place) → (question : Asked × List Constant)
-            × (slice_get questions.now place ≡ Some question) × HasManyGroups (reduced index.value) question }
+        ensures few_groups { IfOk result (λ _. All (HasFewGroups index.value) questions.now) }
+        ensures too_many { (place : ℕ) → result ≡ Err (TooManyGroups place)
+            → IsFirstOfMany index.value questions.now place }
     {
         index.base().soundness();
         let columns = Columns::new(rt, alloc, Arc::try_clone(&index)?, hashing)?;
@@ -72,8 +70,9 @@ impl StandingColumns {
         requires base { index.now.value ≡ columns.base }
         requires snapshot { AreSnapshot columns }
         ensures columns { IfOk result (λ standing. standing ≡ columns) }
-        ensures too_many { (place : ℕ) → result ≡ Err (TooManyGroups place) → (question : Asked × List Constant)
-            × (slice_get questions.now place ≡ Some question) × HasManyGroups (reduced columns.base) question }
+        ensures few_groups { IfOk result (λ _. All (HasFewGroups columns.base) questions.now) }
+        ensures too_many { (place : ℕ) → result ≡ Err (TooManyGroups place)
+            → IsFirstOfMany columns.base questions.now place }
     {
         let standing = StandingQuestions::new(rt, alloc, index, &columns, questions)?;
         Ok(StandingColumns {
@@ -81,6 +80,13 @@ impl StandingColumns {
             standing,
             alloc,
         })
+    }
+
+    /// How many of these questions are answered from totals. Which stand is no part of what contracts see of a replica.
+    pub fn count_standing(&self, questions: &[Question]) -> usize
+        ensures { result ≤ length questions.now }
+    {
+        self.standing.count(questions)
     }
 
     /// The columns.

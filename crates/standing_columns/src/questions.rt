@@ -1,9 +1,6 @@
 //! Standing questions, in batches of at most sixteen.
-ghost use Rattle.std.specs.Prelude.{◌≡◌, ℕ, ◌<◌, ◌==◌, true, List, All, Err, IfOk, IfSome, Some, is_some, length};
-ghost use Rattle.std.specs.Prelude.{slice_get, vec_len};
+ghost use Rattle.std.specs.Prelude.{◌≡◌, ℕ, ◌==◌, true, List, All, Err, IfOk, IfSome, Some, count_by, is_some, vec_len};
 ghost use Rattle.ssb_base.specs.Base.{Tables};
-ghost use Rattle.ssb_questions.specs.declared.query.Query.{Query as Asked};
-ghost use Rattle.ssb_questions.specs.declared.value.Value.{Value as Constant};
 ghost use Rattle.ssb_schema.specs.Facts.{facts_of};
 ghost use Rattle.ssb_answers.specs.Answer.{answer_of};
 ghost use Rattle.row_store.specs.History.{CommitRecord, lines_after};
@@ -11,13 +8,12 @@ ghost use Rattle.row_store.specs.State.{StandsFor};
 ghost use Rattle.fact_columns.specs.declared.scanned_line.ScannedLine.{ScannedLine as PlainLine};
 ghost use Rattle.fact_columns.specs.Stored.{columns_state};
 ghost use Rattle.fact_columns.specs.Watching.{IsOneMore, live_lines};
-ghost use Rattle.dimension_index.specs.Classes.{reduced};
 ghost use Rattle.shared_scan.specs.Answers.{AreSnapshot};
 ghost use Rattle.shared_scan.specs.Follows.{FollowsOver};
-ghost use Rattle.shared_scan.specs.Standing.{HasManyGroups};
+ghost use Rattle.shared_scan.specs.GroupCounts.{HasFewGroups, IsFirstOfMany};
 ghost use Rattle.shared_scan.specs.declared.standing.Standing.{Standing as Follower};
 ghost use Rattle.shared_scan.specs.declared.standing_error.StandingError.TheVariants.{TooManyGroups};
-ghost use Rattle.standing_columns.specs.Standing.{AllFollow, each_once, is_among, questions_in, stands};
+ghost use Rattle.standing_columns.specs.Standing.{AllFollow, each_once, is_among, place_of, questions_in, stands};
 
 use crate::once::each_once;
 use dimension_index::DimIndex;
@@ -37,22 +33,14 @@ pub struct StandingQuestions {
     batches: Vec<Standing>,
 }
 
-// The error of a batch, with the place that the question has among all that were asked for.
-fn place_among(error: StandingError, batch: &[Question], asked: &[Question]) -> StandingError
-    requires among { All (λ question. is_among asked.now question ≡ true) batch.now }
-    requires within { (number : ℕ) → error ≡ TooManyGroups number → number < length batch.now }
-    ensures { (place : ℕ) → result ≡ TooManyGroups place → (number : ℕ) × (error ≡ TooManyGroups number)
-        × (slice_get asked.now place ≡ slice_get batch.now number) }
+// The first place of a question that is equal.
+fn place_of(asked: &[Question], question: &Question) -> usize
+    requires { is_among asked.now question.now ≡ true }
+    ensures { place_of asked.now question.now ≡ Some result }
 {
-    match error {
-        StandingError::OutOfMemory => StandingError::OutOfMemory,
-        StandingError::TooManyGroups(number) => {
-            let refused = &batch[number];
-            match asked.iter().position(|question| *question == *refused) {
-                Some(place) => StandingError::TooManyGroups(place),
-                None => unreachable!(),
-            }
-        }
+    match asked.iter().position(|other| *other == *question) {
+        Some(place) => place,
+        None => unreachable!(),
     }
 }
 
@@ -70,8 +58,9 @@ impl StandingQuestions {
         requires snapshot { AreSnapshot columns.now }
         ensures questions { IfOk result (λ standing. questions_in standing.batches.items ≡ each_once questions.now) }
         ensures follow { IfOk result (λ standing. AllFollow standing columns.now.base (live_lines columns.now.places)) }
-        ensures too_many { (place : ℕ) → result ≡ Err (TooManyGroups place) → (question : Asked × List Constant)
-            × (slice_get questions.now place ≡ Some question) × HasManyGroups (reduced columns.now.base) question }
+        ensures few_groups { IfOk result (λ _. All (HasFewGroups columns.now.base) questions.now) }
+        ensures too_many { (place : ℕ) → result ≡ Err (TooManyGroups place)
+            → IsFirstOfMany columns.now.base questions.now place }
     {
         let once = each_once(alloc, questions)?;
         let mut batches = Vec::new(alloc);
@@ -80,7 +69,11 @@ impl StandingQuestions {
             let (batch, later) = rest.split_at(rest.len().min(QUESTIONS_A_PASS));
             match Standing::new(rt, alloc, Arc::try_clone(index)?, columns, batch) {
                 Ok(standing) => batches.push(standing)?,
-                Err(error) => return Err(place_among(error, batch, questions)),
+                Err(StandingError::OutOfMemory) => return Err(StandingError::OutOfMemory),
+                Err(StandingError::TooManyGroups(number)) => {
+                    let place = place_of(questions, &batch[number]);
+                    return Err(StandingError::TooManyGroups(place));
+                }
             }
             rest = later;
         }
@@ -113,6 +106,16 @@ impl StandingQuestions {
         self.batches
             .iter()
             .any(|batch| batch.position(question).is_some())
+    }
+
+    /// How many of these questions stand.
+    pub fn count(&self, questions: &[Question]) -> usize
+        ensures { result ≡ count_by (stands self.now) questions.now }
+    {
+        questions
+            .iter()
+            .filter(|question| self.stands(question))
+            .count()
     }
 
     /// The rows of a question by its totals, which follow the live lines of columns; None where it does not stand.
