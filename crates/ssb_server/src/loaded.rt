@@ -1,9 +1,6 @@
 //! A base as a server takes it: its rows by order, and its columns with the questions that stand.
-ghost use Rattle.std.specs.Prelude.{◌≡◌, ℕ, List, Err, IfOk, Some, slice_get};
-ghost use Rattle.ssb_questions.specs.declared.query.Query.{Query as Asked};
-ghost use Rattle.ssb_questions.specs.declared.value.Value.{Value as Constant};
-ghost use Rattle.dimension_index.specs.Classes.{reduced};
-ghost use Rattle.shared_scan.specs.Standing.{HasManyGroups};
+ghost use Rattle.std.specs.Prelude.{◌≡◌, ℕ, All, Err, IfOk};
+ghost use Rattle.shared_scan.specs.GroupCounts.{HasFewGroups, IsFirstOfMany};
 ghost use Rattle.shared_scan.specs.declared.standing_error.StandingError.TheVariants.{TooManyGroups};
 
 use dimension_index::index_of;
@@ -47,8 +44,9 @@ impl Loaded {
         standing: &[Question],
     ) -> Result<Loaded, StandingError>
         ensures base { IfOk result (λ loaded. loaded ≡ base.now.value) }
-        ensures too_many { (place : ℕ) → result ≡ Err (TooManyGroups place) → (question : Asked × List Constant)
-            × (slice_get standing.now place ≡ Some question) × HasManyGroups (reduced base.now.value) question }
+        ensures few_groups { IfOk result (λ _. All (HasFewGroups base.now.value) standing.now) }
+        ensures too_many { (place : ℕ) → result ≡ Err (TooManyGroups place)
+            → IsFirstOfMany base.now.value standing.now place }
     {
         let index = index_of(alloc, base)?;
         let rows = RowStore::new(alloc, Arc::try_clone(base)?, hashing)?;

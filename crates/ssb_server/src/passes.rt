@@ -97,3 +97,12 @@ pub(crate) fn answer_all<R: Threads + Sync>(
     let found = group(alloc, requests, rows)?;
     Ok(found)
 }
+
+/// How many of the requests' questions are answered from totals: a figure for a reader.
+pub(crate) fn count_standing(columns: &StandingColumns, requests: &[Items<Question>]) -> u64 {
+    let mut count = 0u64;
+    for request in requests {
+        count = count.wrapping_add(columns.count_standing(request.as_slice()) as u64);
+    }
+    count
+}

@@ -122,4 +122,9 @@ impl<W: EndsCopies + Drop> Server<W> {
     pub fn answered_by_totals(&self) -> u64 {
         self.by_totals.load(Ordering::Relaxed)
     }
+
+    /// So many questions more were answered from totals.
+    pub(crate) fn count_by_totals(&self, questions: u64) {
+        let _ = self.by_totals.fetch_add(questions, Ordering::Relaxed);
+    }
 }

@@ -1,6 +1,7 @@
 -- Of questions that are kept once, the first that passes a test is the first of all that were asked for.
 use Rattle.std.proofs.Common.{
   ℕ,
+  zero,
   suc,
   ◌≡◌,
   ◌+◌,
@@ -108,7 +109,7 @@ module _ (test : Query × List Value → Bool) where
           → (first questions ≡ None → All (λ one. test one ≡ false) questions) → (k : ℕ)
           → k < length (question ∷ questions) → test (get_or (question ∷ questions) k d) ≡ false
       step true is found rest k below = absurd (cc)
-      step false is found rest 0 below = is
+      step false is found rest zero below = is
       step false is found rest (suc k) below = rest found k d (omega (arith, below))
 
   pub first_behind : (kept rest : List (Query × List Value)) → All (λ question. test question ≡ false) kept
@@ -123,7 +124,7 @@ module _ (test : Query × List Value → Bool) where
       → test (get_or questions n d) ≡ true → ((k : ℕ) → k < n → test (get_or questions k d) ≡ false)
       → first (questions ++ rest) ≡ Some (get_or questions n d)
   first_at [] rest n d below passes before = absurd (omega (arith, below))
-  first_at (question ∷ questions) rest 0 d below passes before =
+  first_at (question ∷ questions) rest zero d below passes before =
       ap (λ (b : Bool). cond b (Some question) (first (questions ++ rest))) passes
   first_at (question ∷ questions) rest (suc n) d below passes before =
       ap (λ (b : Bool). cond b (Some question) (first (questions ++ rest))) (before 0 (omega arith))
