@@ -4,6 +4,9 @@ use Rattle.std.proofs.Common.{
   ◌≡◌,
   ◌+◌,
   ◌<◌,
+  Option,
+  Some,
+  None,
   Bool,
   true,
   false,
@@ -21,8 +24,10 @@ use Rattle.std.proofs.Common.{
   sym,
   ap,
   ◌∙◌,
+  arith,
 }
 use Rattle.std.specs.List.{filter}
+use Rattle.std.specs.Prelude.{IfSome, MatchOption, is_some}
 use Rattle.std.proofs.lemmas.List.{drop_more, take_more, map-append}
 
 module _ {Q R : Type 0} (stands : Q → Bool) (row : Q → R) (questions : List Q) (i : ℕ) (d : Q)
@@ -53,3 +58,29 @@ module _ {Q R : Type 0} (stands : Q → Bool) (row : Q → R) (questions : List 
       grown ∙ (λ j. before j ++ is j ∷ [])
       ∙ sym (map-append row (take i questions) (get_or questions i d ∷ []))
       ∙ ap (map row) (sym (take_more questions i d below))
+
+  -- so with a question's rows by its totals, or the next that were found
+  pub merged_more : (own : Option R) (made : R) (left after rows more : List R)
+      → is_some own ≡ stands (get_or questions i d) → IfSome own (λ r. r ≡ row (get_or questions i d))
+      → MatchOption own (left ≡ made ∷ after) (λ r. (made ≡ r) × (after ≡ left)) → more ≡ rows ++ made ∷ []
+      → rows ≡ map row (take i questions) → left ≡ map row (others (drop i questions))
+      → (more ≡ map row (take (i + 1) questions)) × (after ≡ map row (others (drop (i + 1) questions)))
+  merged_more (Some own) made left after rows more there is taken grown before found = (
+    row_more rows more made before (taken.0 ∙ is) grown,
+    taken.1 ∙ found ∙ ap (map row) (left_own (sym there)),
+  )
+  merged_more None made left after rows more there is taken grown before found =
+      let all : made ∷ after ≡ row (get_or questions i d) ∷ map row (others (drop (i + 1) questions)) =
+      sym taken ∙ found ∙ ap (map row) (left_other (sym there)) in
+      let here : made ≡ row (get_or questions i d) = cc in
+      let rest : after ≡ map row (others (drop (i + 1) questions)) = cc in
+      (row_more rows more made before here grown, rest)
+
+  -- where a question does not stand, rows were found for it
+  pub some_left : (own : Option R) (left : List R) → is_some own ≡ stands (get_or questions i d) → own ≡ None
+      → left ≡ map row (others (drop i questions)) → 0 < length left
+  some_left own left there none found =
+      let out : stands (get_or questions i d) ≡ false = sym there ∙ ap is_some none in
+      let all : left ≡ row (get_or questions i d) ∷ map row (others (drop (i + 1) questions)) =
+      found ∙ ap (map row) (left_other out) in
+      omega (arith, ap length all)

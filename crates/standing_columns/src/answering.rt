@@ -1,5 +1,6 @@
 //! The answers to questions: those that stand by their totals, the others by passes over the columns.
-ghost use Rattle.std.specs.Prelude.{◌≡◌, List, IfOk, filter, not};
+ghost use Rattle.std.specs.Prelude.{◌≡◌, ◌<◌, ◌∷◌, List, IfOk, MatchOption, None, filter, not};
+ghost use Rattle.std.specs.Vec.Iter.{into_iter_items, into_iter_len};
 ghost use Rattle.row_store.specs.History.{CommitRecord};
 ghost use Rattle.row_store.specs.State.{StandsFor};
 ghost use Rattle.fact_columns.specs.Stored.{columns_state};
@@ -13,6 +14,7 @@ use fact_columns::Columns;
 use ssb_answers::{Question, Rows};
 use std::alloc::{AllocError, Global};
 use std::thread::Threads;
+use std::vec::IntoIter;
 
 // The questions that do not stand.
 fn others_of(
@@ -55,6 +57,21 @@ fn scan_all<R: Threads + Sync>(
     Ok(rows)
 }
 
+// The rows of a question by its totals, or the next that were found for the others.
+fn own_or_next(own: Option<Rows>, found: &mut IntoIter<Rows>) -> Rows
+    requires { own ≡ None → 0 < into_iter_len found.old }
+    ensures { MatchOption own (into_iter_items found.old ≡ result ∷ into_iter_items found.new)
+        (λ rows. (result ≡ rows) × (found.new ≡ found.old)) }
+{
+    if let Some(rows) = own {
+        return rows;
+    }
+    match found.next() {
+        Some(rows) => rows,
+        None => unreachable!(),
+    }
+}
+
 // For each question, in order, its rows by its totals, or the next that were found for the others.
 fn merged(
     alloc: Global,
@@ -74,15 +91,8 @@ fn merged(
     let mut rows = Vec::with_capacity(alloc, questions.len())?;
     let mut found = found.into_iter();
     for question in questions {
-        match standing.rows(alloc, columns, question)? {
-            Some(own) => rows.push(own)?,
-            None => {
-                let Some(own) = found.next() else {
-                    unreachable!()
-                };
-                rows.push(own)?;
-            }
-        }
+        let own = standing.rows(alloc, columns, question)?;
+        rows.push(own_or_next(own, &mut found))?;
     }
     Ok(rows)
 }
