@@ -1,6 +1,5 @@
 -- Two lists that have no value twice, and the same values, are equally long.
 use Rattle.std.proofs.Common.{
-  ℕ,
   suc,
   ◌≡◌,
   ◌<◌,
@@ -14,7 +13,6 @@ use Rattle.std.proofs.Common.{
   [],
   ◌∷◌,
   length,
-  get_or,
   refl,
   sym,
   ap,

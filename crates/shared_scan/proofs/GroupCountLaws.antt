@@ -1,10 +1,7 @@
 -- The groups that a question was made ready with are as many as it may have.
 use Rattle.std.proofs.Common.{
   ℕ,
-  zero,
-  suc,
   ◌≡◌,
-  ◌<◌,
   ◌*◌,
   Bool,
   true,
@@ -31,12 +28,16 @@ use Rattle.std.specs.Prelude.{slice_get}
 use Rattle.std.specs.List.{filter}
 use Rattle.std.specs.Option.{option_map}
 use Rattle.std.specs.Int.{bit_at}
-use Rattle.std.proofs.lemmas.Option.{slice_get-map, slice_get-get_or, slice_get_within, get_or_from_slice_get}
+use Rattle.std.proofs.lemmas.Option.{slice_get-map, slice_get-get_or, slice_get_within}
 use Rattle.ssb_base.specs.Base.{Dimensions, Tables}
 use Rattle.ssb_schema.specs.declared.column.Column.{Column}
+use Rattle.ssb_schema.specs.declared.customer.CustomerFields.{CustomerFields}
+use Rattle.ssb_schema.specs.declared.supplier.SupplierFields.{SupplierFields}
+use Rattle.ssb_schema.specs.declared.part.PartFields.{PartFields}
+use Rattle.ssb_schema.specs.declared.date.DateFields.{DateFields}
 use Rattle.ssb_schema.specs.declared.table.Table.{Table}
 use Rattle.ssb_schema.specs.declared.table.Table.TheVariants as table
-use Rattle.ssb_questions.specs.Members.{Has, HaveSameMembers}
+use Rattle.ssb_questions.specs.Members.{Has}
 use Rattle.ssb_questions.specs.declared.cond.Test.{Test}
 use Rattle.ssb_questions.specs.declared.plan.Plan.{Plan}
 use Rattle.ssb_questions.specs.declared.query.Query.{Query}
@@ -48,7 +49,7 @@ use Rattle.dimension_index.specs.Codes.{distinct}
 use Rattle.dimension_index.specs.Classes.{read_columns, classes_of, extent_of, reduced}
 use Rattle.dimension_index.specs.Values.{values_at}
 use Rattle.dimension_index.proofs.AlikeLaws.{same_customers, same_suppliers, same_parts, same_dates}
-use Rattle.scan_kernel.specs.Groups.{size_of, counts_of}
+use Rattle.scan_kernel.specs.Groups.{code_in, size_of, counts_of}
 use Rattle.scan_kernel.specs.Masks.{IsMask}
 use Rattle.scan_kernel.specs.Places.{mask_in}
 use Rattle.scan_kernel.specs.declared.masks.Masks.{Masks}
@@ -75,7 +76,7 @@ mapped_row : {R : Type 0} (f : R → Value) (o : Option R) (v : Value) → optio
 mapped_row f None v e = absurd (cc)
 mapped_row f (Some row) v e = let same : f row ≡ v = cc in (row, refl, same)
 
-passes_by : (b : Bool) → cond b 1 0 ≡ 1 → b ≡ true
+passes_by : (b : Bool) → ◌≡◌ {A = ℕ} (cond b 1 0) 1 → b ≡ true
 passes_by true e = refl
 passes_by false e = absurd (omega (arith, e))
 
@@ -142,7 +143,7 @@ module _ {R : Type 0} (value : ℕ → R → Value) (rows : List R) (tests : Pla
       slice_get-map (value place) rows found.0 ∙ ap (option_map (value place)) found.2 in
       let bit : bit_at (mask_in masks found.0) k ≡ 1 = tell found.0 found.1 found.2 k plan asked
       ∙ ap (λ (b : Bool). cond b 1 0) found.3 in
-      subst (Has values) (sym found.4) (has_at values _ (value place found.1)
+      subst (Has values) (sym found.4) (has_at values (code_in values (value place found.1)) (value place found.1)
       (made.adds found.0 (value place found.1) at bit).0)
 
   counted : length values ≡ length (distinct (values_passing (tests plan) value rows place))
@@ -198,7 +199,7 @@ module _ (base : Tables) (masks : Masks) (plans : List Plan) (tell : AreMasksOf 
 
 -- each row has its like among the rows that begin a class
 module _ (d : Dimensions) (p : ℕ) where
-  like_customer : (row : _) → slice_get d.customers p ≡ Some row → (q : ℕ) × (first : _)
+  like_customer : (row : CustomerFields) → slice_get d.customers p ≡ Some row → (q : ℕ) × (first : CustomerFields)
       × (slice_get (take (extent_of (classes_of d table.Customer)) d.customers) q ≡ Some first)
       × ((own : ℕ) → customer_value own row ≡ customer_value own first)
   unfolding classes_of
@@ -211,7 +212,7 @@ module _ (d : Dimensions) (p : ℕ) where
       (q, get_or firsts q row, at_q, same_customers d p q row (get_or firsts q row) at refl
       (among_all _ d.customers q (get_or firsts q row) at_q))
 
-  like_supplier : (row : _) → slice_get d.suppliers p ≡ Some row → (q : ℕ) × (first : _)
+  like_supplier : (row : SupplierFields) → slice_get d.suppliers p ≡ Some row → (q : ℕ) × (first : SupplierFields)
       × (slice_get (take (extent_of (classes_of d table.Supplier)) d.suppliers) q ≡ Some first)
       × ((own : ℕ) → supplier_value own row ≡ supplier_value own first)
   unfolding classes_of
@@ -224,7 +225,7 @@ module _ (d : Dimensions) (p : ℕ) where
       (q, get_or firsts q row, at_q, same_suppliers d p q row (get_or firsts q row) at refl
       (among_all _ d.suppliers q (get_or firsts q row) at_q))
 
-  like_part : (row : _) → slice_get d.parts p ≡ Some row → (q : ℕ) × (first : _)
+  like_part : (row : PartFields) → slice_get d.parts p ≡ Some row → (q : ℕ) × (first : PartFields)
       × (slice_get (take (extent_of (classes_of d table.Part)) d.parts) q ≡ Some first)
       × ((own : ℕ) → part_value own row ≡ part_value own first)
   unfolding classes_of
@@ -237,7 +238,7 @@ module _ (d : Dimensions) (p : ℕ) where
       (q, get_or firsts q row, at_q, same_parts d p q row (get_or firsts q row) at refl
       (among_all _ d.parts q (get_or firsts q row) at_q))
 
-  like_date : (row : _) → slice_get d.dates p ≡ Some row → (q : ℕ) × (first : _)
+  like_date : (row : DateFields) → slice_get d.dates p ≡ Some row → (q : ℕ) × (first : DateFields)
       × (slice_get (take (extent_of (classes_of d table.Date)) d.dates) q ≡ Some first)
       × ((own : ℕ) → date_value own row ≡ date_value own first)
   unfolding classes_of

@@ -143,5 +143,6 @@ pub fn number_codes(
         → IsTaken codes.now masks.now question (slice_index numbering.kept.items number)) }
 {
     let seen = seen_by(alloc, codes, count, masks)?;
-    number_seen(alloc, &seen, question)
+    let numbering = number_seen(alloc, &seen, question)?;
+    Ok(numbering)
 }

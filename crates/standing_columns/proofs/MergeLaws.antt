@@ -84,3 +84,10 @@ module _ {Q R : Type 0} (stands : Q → Bool) (row : Q → R) (questions : List 
       let all : left ≡ row (get_or questions i d) ∷ map row (others (drop (i + 1) questions)) =
       found ∙ ap (map row) (left_other out) in
       omega (arith, ap length all)
+
+-- as many are left
+pub len_more : {R : Type 0} (own : Option R) (made : R) (left after : List R) (m n : ℕ)
+    → MatchOption own (left ≡ made ∷ after) (λ r. (made ≡ r) × (after ≡ left))
+    → MatchOption own (n + 1 ≡ m) (λ _. n ≡ m) → m ≡ length left → n ≡ length after
+len_more (Some own) made left after m n taken count len = count ∙ len ∙ ap length (sym taken.1)
+len_more None made left after m n taken count len = omega (arith, ap length taken, count, len)

@@ -6,7 +6,6 @@ use Rattle.std.proofs.Common.{
   ◌≡◌,
   ◌+◌,
   ◌<◌,
-  ◌≤◌,
   Bool,
   true,
   false,
@@ -26,15 +25,14 @@ use Rattle.std.proofs.Common.{
   refl,
   sym,
   ap,
-  subst,
   ◌∙◌,
 }
-use Rattle.std.specs.Prelude.{position, fold, list_any, nat_lt, ◌||◌}
+use Rattle.std.specs.Prelude.{position, fold, nat_lt, ◌||◌}
 use Rattle.std.specs.List.{All, position_or_len}
 use Rattle.std.proofs.lemmas.Bool.{ltb-false, le-ltb}
 use Rattle.std.proofs.lemmas.List.{append-nil}
 use Rattle.std.proofs.lemmas.List.Quantifiers.{position-Some}
-use Rattle.std.proofs.lemmas.Option.{none-some, same_Some}
+use Rattle.std.proofs.lemmas.Option.{same_Some}
 use Rattle.ssb_base.specs.Base.{Tables}
 use Rattle.ssb_questions.specs.QuestionEq.{question_eq}
 use Rattle.ssb_questions.specs.declared.query.Query.{Query}
@@ -43,8 +41,8 @@ use Rattle.ssb_questions.proofs.QuestionLaws.{question_Decides}
 use Rattle.shared_scan.specs.GroupCounts.{HasFewGroups, IsFirstOfMany, has_many_groups, most_groups}
 use Rattle.standing_columns.specs.Standing.{is_among, with_question, each_once, place_of}
 
-no : {X : Type 0} → true ≡ false → X
-no e = absurd (cc)
+never : {X : Type 0} → true ≡ false → X
+never e = absurd (cc)
 
 equal : (q : Query × List Value) → question_eq q q ≡ true
 equal q = (question_Decides q q).1 refl
@@ -68,7 +66,7 @@ module _ (test : Query × List Value → Bool) where
   -- nor does one that is equal to one before it
   repeated : (kept rest : List (Query × List Value)) (question : Query × List Value) → is_among kept question ≡ true
       → first (kept ++ rest) ≡ first (kept ++ question ∷ rest)
-  repeated [] rest question among = no (sym among)
+  repeated [] rest question among = never (sym among)
   repeated (one ∷ kept) rest question among =
       step (question_eq one question) (test one) refl refl among (λ later. repeated kept rest question later)
     where
@@ -146,6 +144,10 @@ module _ (test : Query × List Value → Bool) where
   first_among [] question is = absurd (cc)
   first_among (one ∷ questions) question is = step (test one) refl is (first_among questions question)
     where
+      either : (a b : Bool) → b ≡ true → (a || b) ≡ true
+      either true b said = refl
+      either false b said = said
+
       step : (b : Bool) → test one ≡ b → cond b (Some one) (first questions) ≡ Some question
           → (first questions ≡ Some question → is_among questions question ≡ true)
           → (question_eq one question || is_among questions question) ≡ true
@@ -153,10 +155,6 @@ module _ (test : Query × List Value → Bool) where
           ap (λ (b : Bool). b || is_among questions question)
           (ap (λ (q : Query × List Value). question_eq q question) (same_Some one question found) ∙ equal question)
       step false passes found rest = either (question_eq one question) (is_among questions question) (rest found)
-
-      either : (a b : Bool) → b ≡ true → (a || b) ≡ true
-      either true b is = refl
-      either false b is = is
 
   -- the first place of an equal one is the first place of one that passes
   places : (questions : List (Query × List Value)) (question : Query × List Value) → first questions ≡ Some question
@@ -177,10 +175,10 @@ module _ (test : Query × List Value → Bool) where
           ap (λ (b : Bool). cond (not b) (1 + rest_of (λ other. question_eq other question)) 0) is
           ∙ ap (λ (b : Bool). cond (not b) (1 + rest_of test) 0) (sym passes)
       step true false passes is found rest =
-          no (sym (ap (λ (q : Query × List Value). question_eq q question) (same_Some one question found)
+          never (sym (ap (λ (q : Query × List Value). question_eq q question) (same_Some one question found)
           ∙ equal question) ∙ is)
       step false true passes is found rest =
-          no (sym (first_passes questions question found) ∙ ap test (sym (same one question is)) ∙ passes)
+          never (sym (first_passes questions question found) ∙ ap test (sym (same one question is)) ∙ passes)
       step false false passes is found rest =
           ap (λ (b : Bool). cond (not b) (1 + rest_of (λ other. question_eq other question)) 0) is
           ∙ ap (λ (n : ℕ). 1 + n) (rest found)

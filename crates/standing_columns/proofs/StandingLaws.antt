@@ -2,6 +2,7 @@
 use Rattle.std.proofs.Common.{ℕ, ◌≡◌, ◌<◌, List, [], ◌∷◌, ◌++◌, length, get_or, ap, sym, ◌∙◌, arith, append_assoc}
 use Rattle.std.specs.List.{All}
 use Rattle.std.proofs.lemmas.List.{append-nil}
+use Rattle.std.proofs.lemmas.List.Elements.{All-append, All-same}
 use Rattle.std.proofs.lemmas.Grind.{flat_map-append}
 use Rattle.ssb_base.specs.Base.{Tables}
 use Rattle.ssb_questions.specs.declared.query.Query.{Query}
@@ -10,6 +11,7 @@ use Rattle.fact_columns.specs.declared.scanned_line.ScannedLine.{ScannedLine}
 use Rattle.fact_columns.specs.Watching.{IsOneMore}
 use Rattle.shared_scan.specs.Follows.{FollowsOver}
 use Rattle.shared_scan.specs.Batch.{questions_of}
+use Rattle.shared_scan.specs.GroupCounts.{HasFewGroups}
 use Rattle.shared_scan.specs.declared.standing.Standing.{Standing}
 use Rattle.standing_columns.specs.Standing.{questions_in}
 
@@ -68,3 +70,17 @@ questions_more batches more one rest batch later asked grown is parted before =
     ∙ ap (λ l. first ++ l) (append-nil own) in
     ap (λ l. l ++ later) all ∙ append_assoc first own later ∙ ap (λ l. first ++ (l ++ later)) is
     ∙ ap (λ l. first ++ l) (sym parted) ∙ before
+
+-- one batch more, in which no question has many groups
+pub few_more : (base : Tables) (batches more : List Standing) (one : Standing) (batch : List (Query × List Value))
+    → more ≡ batches ++ one ∷ [] → questions_of one.batch.value.questions.items ≡ batch
+    → All (HasFewGroups base) (questions_in batches) → All (HasFewGroups base) batch
+    → All (HasFewGroups base) (questions_in more)
+few_more base batches more one batch grown is few here =
+    let own : List (Query × List Value) = questions_of one.batch.value.questions.items in
+    let first : List (Query × List Value) = questions_in batches in
+    let all : questions_in more ≡ first ++ batch = ap questions_in grown
+    ∙ flat_map-append (λ (b : Standing). questions_of b.batch.value.questions.items) batches (one ∷ [])
+    ∙ ap (λ l. first ++ l) (append-nil own ∙ is) in
+    All-same (HasFewGroups base) (questions_in more) (first ++ batch) all
+    (All-append (HasFewGroups base) first batch few here)

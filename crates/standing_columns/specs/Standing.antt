@@ -1,6 +1,7 @@
 -- Questions that stand.
-use Rattle.std.specs.Prelude.{◌++◌, ◌∷◌, [], ℕ, Bool, List, All, Option, flat_map, fold, list_any, is_some, position}
+use Rattle.std.specs.Prelude.{◌++◌, ◌∷◌, [], ℕ, Bool, List, All, Option, flat_map, fold, is_some, position}
 use Rattle.std.specs.Prelude.{if◌then◌else◌}
+use Rattle.std.specs.List.{list_any}
 use Rattle.ssb_base.specs.Base.{Tables}
 use Rattle.ssb_questions.specs.QuestionEq.{question_eq}
 use Rattle.ssb_questions.specs.declared.query.Query.{Query}

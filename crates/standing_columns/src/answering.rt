@@ -1,5 +1,5 @@
 //! The answers to questions: those that stand by their totals, the others by passes over the columns.
-ghost use Rattle.std.specs.Prelude.{◌≡◌, ◌<◌, ◌∷◌, List, IfOk, MatchOption, None, filter, not};
+ghost use Rattle.std.specs.Prelude.{◌≡◌, ◌+◌, ◌<◌, ◌∷◌, List, IfOk, MatchOption, filter, not};
 ghost use Rattle.std.specs.Vec.Iter.{into_iter_items, into_iter_len};
 ghost use Rattle.row_store.specs.History.{CommitRecord};
 ghost use Rattle.row_store.specs.State.{StandsFor};
@@ -60,8 +60,10 @@ fn scan_all<R: Threads + Sync>(
 // The rows of a question by its totals, or the next that were found for the others.
 fn own_or_next(own: Option<Rows>, found: &mut IntoIter<Rows>) -> Rows
     requires { own ≡ None → 0 < into_iter_len found.old }
-    ensures { MatchOption own (into_iter_items found.old ≡ result ∷ into_iter_items found.new)
-        (λ rows. (result ≡ rows) × (found.new ≡ found.old)) }
+    ensures rows { MatchOption own (into_iter_items found.old ≡ result ∷ into_iter_items found.new)
+        (λ rows. (result ≡ rows) × (into_iter_items found.new ≡ into_iter_items found.old)) }
+    ensures len { MatchOption own (into_iter_len found.new + 1 ≡ into_iter_len found.old)
+        (λ _. into_iter_len found.new ≡ into_iter_len found.old) }
 {
     if let Some(rows) = own {
         return rows;

@@ -1,5 +1,6 @@
 use Rattle.std.proofs.Common.{◌≡◌, false, take}
-use Rattle.std.specs.Prelude.{list_any, is_some}
+use Rattle.std.specs.Prelude.{is_some}
+use Rattle.std.specs.List.{list_any}
 use Rattle.shared_scan.specs.Follows.{position_in}
 use Rattle.shared_scan.specs.declared.standing.Standing.{Standing}
 use Rattle.standing_columns.proofs.questions.StandingQuestions.rows.Given as goal
