@@ -106,17 +106,17 @@ module _ {R : Type 0} (value : ℕ → R → Value) (tests : List Test) (place :
       ≡ length (distinct (values_passing tests value rows place))
   alike_many rows n like = distinct_many (values_passing tests value (take n rows) place)
       (values_passing tests value rows place) (record {
-    forth = λ v h.
-        let found = passing_row (take n rows) v h in
-        subst (Has (values_passing tests value rows place)) (sym found.4)
-        (passing_has rows found.0 found.1 (among_all n rows found.0 found.1 found.2) found.3);
-    back = λ v h.
-        let found = passing_row rows v h in
-        let first = like found.0 found.1 found.2 in
-        let same : passes found.1 ≡ passes first.1 = λ i. pass tests (λ own. first.3 own i) in
-        subst (Has (values_passing tests value (take n rows) place)) (sym (found.4 ∙ first.3 place))
-        (passing_has (take n rows) first.0 first.1 first.2 (sym same ∙ found.3));
-  })
+        forth = λ v h.
+            let found = passing_row (take n rows) v h in
+            subst (Has (values_passing tests value rows place)) (sym found.4)
+            (passing_has rows found.0 found.1 (among_all n rows found.0 found.1 found.2) found.3);
+        back = λ v h.
+            let found = passing_row rows v h in
+            let first = like found.0 found.1 found.2 in
+            let same : passes found.1 ≡ passes first.1 = λ i. pass tests (λ own. first.3 own i) in
+            subst (Has (values_passing tests value (take n rows) place)) (sym (found.4 ∙ first.3 place))
+            (passing_has (take n rows) first.0 first.1 first.2 (sym same ∙ found.3));
+      })
 
 -- the values of a group column of one dimension
 module _ {R : Type 0} (value : ℕ → R → Value) (rows : List R) (tests : Plan → List Test) (plans : List Plan)
@@ -149,9 +149,9 @@ module _ {R : Type 0} (value : ℕ → R → Value) (rows : List R) (tests : Pla
   counted : length values ≡ length (distinct (values_passing (tests plan) value rows place))
   counted = equally_many values (distinct (values_passing (tests plan) value rows place)) made.apart
       (distinct_apart (values_passing (tests plan) value rows place)) (record {
-    forth = λ v h. distinct_has (values_passing (tests plan) value rows place) v (taken_pass v h);
-    back = λ v h. passing_taken v (distinct_only (values_passing (tests plan) value rows place) v h);
-  })
+        forth = λ v h. distinct_has (values_passing (tests plan) value rows place) v (taken_pass v h);
+        back = λ v h. passing_taken v (distinct_only (values_passing (tests plan) value rows place) v h);
+      })
 
 -- a column of the fact table has no values
 unread : (masks : Option (List ℕ)) (k step : ℕ) (values : List Value) (parts : List ℕ)
@@ -208,9 +208,13 @@ module _ (d : Dimensions) (p : ℕ) where
       let firsts = take (extent_of (classes_of d table.Customer)) d.customers in
       let there = class_there (read_columns d table.Customer) d.customers p q
       (slice_get_within d.customers p row at) refl in
-      let at_q = slice_get-get_or firsts q row there in
-      (q, get_or firsts q row, at_q, same_customers d p q row (get_or firsts q row) at refl
-      (among_all _ d.customers q (get_or firsts q row) at_q))
+      let at_q = slice_get-get_or firsts q row there in (
+        q,
+        get_or firsts q row,
+        at_q,
+        same_customers d p q row (get_or firsts q row) at refl
+            (among_all _ d.customers q (get_or firsts q row) at_q),
+      )
 
   like_supplier : (row : SupplierFields) → slice_get d.suppliers p ≡ Some row → (q : ℕ) × (first : SupplierFields)
       × (slice_get (take (extent_of (classes_of d table.Supplier)) d.suppliers) q ≡ Some first)
@@ -221,9 +225,13 @@ module _ (d : Dimensions) (p : ℕ) where
       let firsts = take (extent_of (classes_of d table.Supplier)) d.suppliers in
       let there = class_there (read_columns d table.Supplier) d.suppliers p q
       (slice_get_within d.suppliers p row at) refl in
-      let at_q = slice_get-get_or firsts q row there in
-      (q, get_or firsts q row, at_q, same_suppliers d p q row (get_or firsts q row) at refl
-      (among_all _ d.suppliers q (get_or firsts q row) at_q))
+      let at_q = slice_get-get_or firsts q row there in (
+        q,
+        get_or firsts q row,
+        at_q,
+        same_suppliers d p q row (get_or firsts q row) at refl
+            (among_all _ d.suppliers q (get_or firsts q row) at_q),
+      )
 
   like_part : (row : PartFields) → slice_get d.parts p ≡ Some row → (q : ℕ) × (first : PartFields)
       × (slice_get (take (extent_of (classes_of d table.Part)) d.parts) q ≡ Some first)
@@ -234,9 +242,13 @@ module _ (d : Dimensions) (p : ℕ) where
       let firsts = take (extent_of (classes_of d table.Part)) d.parts in
       let there = class_there (read_columns d table.Part) d.parts p q
       (slice_get_within d.parts p row at) refl in
-      let at_q = slice_get-get_or firsts q row there in
-      (q, get_or firsts q row, at_q, same_parts d p q row (get_or firsts q row) at refl
-      (among_all _ d.parts q (get_or firsts q row) at_q))
+      let at_q = slice_get-get_or firsts q row there in (
+        q,
+        get_or firsts q row,
+        at_q,
+        same_parts d p q row (get_or firsts q row) at refl
+            (among_all _ d.parts q (get_or firsts q row) at_q),
+      )
 
   like_date : (row : DateFields) → slice_get d.dates p ≡ Some row → (q : ℕ) × (first : DateFields)
       × (slice_get (take (extent_of (classes_of d table.Date)) d.dates) q ≡ Some first)
@@ -247,9 +259,13 @@ module _ (d : Dimensions) (p : ℕ) where
       let firsts = take (extent_of (classes_of d table.Date)) d.dates in
       let there = class_there (read_columns d table.Date) d.dates p q
       (slice_get_within d.dates p row at) refl in
-      let at_q = slice_get-get_or firsts q row there in
-      (q, get_or firsts q row, at_q, same_dates d p q row (get_or firsts q row) at refl
-      (among_all _ d.dates q (get_or firsts q row) at_q))
+      let at_q = slice_get-get_or firsts q row there in (
+        q,
+        get_or firsts q row,
+        at_q,
+        same_dates d p q row (get_or firsts q row) at refl
+            (among_all _ d.dates q (get_or firsts q row) at_q),
+      )
 
 count_reduced : (base : Tables) (plan : Plan) (t : Table) (place : ℕ)
     → length (distinct (passing_values (reduced base).dimensions plan t place))

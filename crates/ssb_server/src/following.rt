@@ -5,8 +5,8 @@ ghost use Rattle.ssb_server.specs.Turns.{IsDispatcher, HoldsNothing, HasFetched,
 
 use crate::server::{Server, Token};
 use crate::snapshot::{fetch, renew};
-use standing_columns::StandingColumns;
 use row_store::{Commit, Follower};
+use standing_columns::StandingColumns;
 use std::alloc::AllocError;
 use std::sync::Wait;
 use twin_cell::TwinWriter;

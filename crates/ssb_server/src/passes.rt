@@ -8,10 +8,10 @@ ghost use Rattle.shared_scan.specs.Answers.{AreSnapshot};
 ghost use Rattle.ssb_server.specs.Passes.{all_questions, joined, grouped};
 ghost use Rattle.ssb_server.specs.Turns.{answers_after};
 
-use standing_columns::{StandingColumns, answer};
 use ssb_answers::{ResultRow, Rows};
 use ssb_questions::Question;
 use ssb_schema::Items;
+use standing_columns::{StandingColumns, answer};
 use std::alloc::{AllocError, Global};
 use std::mem;
 use std::thread::Threads;

@@ -10,9 +10,9 @@ use crate::bells::Bells;
 use crate::copying::copy_and_put;
 use crate::pace::Pace;
 use crate::server::{SharedTable, Token};
-use standing_columns::StandingColumns;
 use row_store::{Commit, Follower, Replica};
 use ssb_answers::Unserved;
+use standing_columns::StandingColumns;
 use std::alloc::{AllocError, Global};
 use std::sync::Wait;
 use twin_cell::{EndsCopies, Guard, TwinReader, TwinWriter};
@@ -126,7 +126,10 @@ fn catch_up<W: Wait + Drop, R: Wait>(
     writer: TwinWriter<StandingColumns, W>,
     commits: Vec<Commit>,
     reader: TwinReader<StandingColumns>,
-) -> (TwinWriter<StandingColumns, W>, Result<Guard<StandingColumns>, Missed>)
+) -> (
+    TwinWriter<StandingColumns, W>,
+    Result<Guard<StandingColumns>, Missed>,
+)
     requires { Knows writer.base (writer.published ++ writer.pending ++ commits.items) reader }
     ensures writer { Follows writer.base (writer.published ++ writer.pending ++ commits.items) result.0 }
     ensures entered { let all = writer.published ++ writer.pending ++ commits.items in
@@ -150,7 +153,10 @@ fn bring_up<W: Wait + Drop, R: Wait>(
     token: &mut Token<W>,
     writer: TwinWriter<StandingColumns, W>,
     reader: TwinReader<StandingColumns>,
-) -> (TwinWriter<StandingColumns, W>, Result<Guard<StandingColumns>, Missed>)
+) -> (
+    TwinWriter<StandingColumns, W>,
+    Result<Guard<StandingColumns>, Missed>,
+)
     requires dispatcher { IsDispatcher table.now token.old }
     requires free { token.old.has_rows ≡ false }
     requires writer { HasTaken token.old writer }
