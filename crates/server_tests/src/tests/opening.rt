@@ -10,12 +10,26 @@ use std::test::Fail;
 use std::thread::Threads;
 use test_fixtures::standard_base;
 
-/// A server over the small data set, for so many clients and dispatchers.
-#[tactic(auto, using(crate::proofs::PlaceLaws::new_are_its_own))]
+/// A server over the small data set, for so many clients and dispatchers, which keeps of its log what somebody has yet
+/// to read.
 pub fn opened<R: Threads + Sync + Wait + AllocGlobal + RandomSource>(
     rt: &R,
     clients: u32,
     dispatchers: u32,
+) -> Result<Opened<&R>, Fail>
+    ensures clients { IfOk result (λ made. All (IsQuiet made.server) made.clients.items) }
+    ensures dispatchers { IfOk result (λ made. All (IsOf made.server) made.dispatchers.items) }
+{
+    opened_keeping(rt, clients, dispatchers, Keeps::Recent)
+}
+
+/// The same, which keeps this part of its log.
+#[tactic(auto, using(crate::proofs::PlaceLaws::new_are_its_own))]
+pub fn opened_keeping<R: Threads + Sync + Wait + AllocGlobal + RandomSource>(
+    rt: &R,
+    clients: u32,
+    dispatchers: u32,
+    keeps: Keeps,
 ) -> Result<Opened<&R>, Fail>
     ensures clients { IfOk result (λ made. All (IsQuiet made.server) made.clients.items) }
     ensures dispatchers { IfOk result (λ made. All (IsOf made.server) made.dispatchers.items) }
@@ -29,7 +43,7 @@ pub fn opened<R: Threads + Sync + Wait + AllocGlobal + RandomSource>(
         base,
         clients,
         dispatchers,
-        Keeps::All,
+        keeps,
     ) {
         Ok(made) => Ok(made),
         Err(error) => Err(error.fault)?,
