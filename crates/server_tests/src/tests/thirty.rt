@@ -58,7 +58,7 @@ impl<'s, W: Wait + Drop> Maker<'s, W> {
     }
 
     fn into_client(self) -> Client<W>
-        ensures { IsQuiet self result }
+        ensures { IsQuiet self.entry result }
     {
         let Maker {
             server: _,
