@@ -24,7 +24,7 @@ const REFRESHES: u64 = 10;
 fn adding_behind(alloc: Global, key: u64) -> Result<Vec<Arc<Refresh>>, Fail> {
     let mut all = Vec::new(alloc);
     for k in 0..REFRESHES {
-        all.push(adding(alloc, key + k)?)?;
+        all.push(adding(alloc, key.wrapping_add(k))?)?;
     }
     Ok(all)
 }
