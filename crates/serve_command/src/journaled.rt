@@ -149,7 +149,7 @@ where
         recovered,
     ) {
         Ok(run) => Ok(run),
-        Err(fault) => Err(JournalRefusal::NotServed(fault)),
+        Err(unserved) => Err(JournalRefusal::NotServed(unserved.fault)),
     }
 }
 
