@@ -1,0 +1,11 @@
+use Rattle.std.proofs.Common.{◌∙◌, ap}
+use Rattle.dimension_index.specs.Codes.{distinct}
+use Rattle.query_command.proofs.SizeLaws.{values_more, values_few}
+use Rattle.query_command.proofs.sizes.distinct_values.Goals as goal
+
+pub loop-row-init : goal.loop-row-init
+unfolding distinct
+loop-row-init g c = c.new-dictionary.ensures
+
+pub loop-row-preserved : goal.loop-row-preserved
+loop-row-preserved g c = ?
