@@ -1,5 +1,9 @@
 //! A turn, over the parts of a dispatcher.
-ghost use Rattle.std.specs.Prelude.{◌≡◌, ◌<◌, [], length, Some, IfOk};
+ghost use Rattle.std.specs.Prelude.{◌≡◌, ◌<◌, [], List, length, Some, IfOk};
+ghost use Rattle.row_store.specs.History.{CommitRecord};
+ghost use Rattle.row_store.specs.State.{StandsFor};
+ghost use Rattle.fact_columns.specs.Stored.{columns_state};
+ghost use Rattle.shared_scan.specs.Answers.{AreSnapshot};
 ghost use Rattle.history.specs.Tokens.{IsSound};
 ghost use Rattle.twin_cell.specs.Twin.{Reading};
 ghost use Rattle.ssb_server.specs.Hand.{Keeps, no_hand};
@@ -9,11 +13,13 @@ ghost use Rattle.ssb_server.specs.Ends.{Finishes, Ends, Turned, TellsFound};
 use crate::answers::{give_up_all, serve_all};
 use crate::batch::Batch;
 use crate::grabbing::grab_all;
-use crate::passes::{RequestRows, answer_all};
+use crate::passes::{RequestRows, answer_all, count_standing};
 use crate::server::{Server, Token};
 use crate::snapshot::snapshot;
-use fact_columns::Columns;
 use ssb_answers::Unserved;
+use ssb_questions::Question;
+use ssb_schema::Items;
+use standing_columns::StandingColumns;
 use std::alloc::AllocError;
 use std::sync::Wait;
 use std::thread::Threads;
@@ -77,6 +83,22 @@ fn finish<W: EndsCopies + Drop>(
     }
 }
 
+// The rows of each request in hand, over this copy; the questions that totals answered are counted.
+fn answer_batch<W: EndsCopies + Drop, R: Threads + Sync>(
+    rt: &R,
+    server: &Server<W>,
+    columns: &StandingColumns,
+    requests: &[Items<Question>],
+) -> Result<Vec<RequestRows>, AllocError>
+    requires snapshot { AreSnapshot columns.now }
+    ensures { (history : List CommitRecord) → StandsFor (columns_state columns.now) history
+        → IfOk result (λ rows. rows.items ≡ answers_after columns.now.base history requests.now) }
+{
+    let rows = answer_all(rt, server.alloc, columns, requests)?;
+    server.count_by_totals(count_standing(columns, requests));
+    Ok(rows)
+}
+
 // Serves the requests in hand.
 fn serve<W: Wait + Drop, R: Wait + Threads + Sync, G: ScanGate>(
     rt: &R,
@@ -84,8 +106,8 @@ fn serve<W: Wait + Drop, R: Wait + Threads + Sync, G: ScanGate>(
     gate: &G,
     token: &mut Token<W>,
     batch: &mut Batch,
-    reader: TwinReader<Columns>,
-) -> (TwinReader<Columns>, Turn)
+    reader: TwinReader<StandingColumns>,
+) -> (TwinReader<StandingColumns>, Turn)
     requires dispatcher { IsDispatcher server.now token.old }
     requires free { HoldsNothing token.old }
     requires hand { Keeps batch.old token.old.grabbed }
@@ -110,7 +132,7 @@ fn serve<W: Wait + Drop, R: Wait + Threads + Sync, G: ScanGate>(
         Ok(guard) => {
             let at = token.seen_len();
             gate.scanning(at);
-            let scanned = answer_all(rt, server.alloc, guard.replica(), batch.requests());
+            let scanned = answer_batch(rt, server, guard.replica(), batch.requests());
             let reader = guard.leave();
             let turn = finish(server, token, batch, at, scanned);
             (reader, turn)
@@ -130,8 +152,8 @@ pub(crate) fn take_turn<W: Wait + Drop, R: Wait + Threads + Sync, G: ScanGate>(
     gate: &G,
     token: &mut Token<W>,
     batch: &mut Batch,
-    reader: TwinReader<Columns>,
-) -> (TwinReader<Columns>, Turn)
+    reader: TwinReader<StandingColumns>,
+) -> (TwinReader<StandingColumns>, Turn)
     requires dispatcher { IsDispatcher server.now token.old }
     requires free { HoldsNothing token.old }
     requires hand { token.old.grabbed ≡ [] }
