@@ -18,7 +18,7 @@
 //!
 //! ```text
 //! let recovered = Recovered { opened, sizes: &sizes, keeper: &keeper };
-//! let run = serve_journaled(rt, alloc, hashing, base, speakers, 1, recovered)?;
+//! let run = serve_journaled(rt, alloc, loaded, speakers, 1, recovered)?;
 //! ```
 #![tactic(auto)]
 
@@ -29,5 +29,5 @@ mod serving;
 mod source;
 
 pub use acknowledging::{Durable, Journaled};
-pub use fault::JournaledFault;
+pub use fault::{JournaledFault, Unserved};
 pub use serving::{JournaledRun, Recovered, serve_journaled};
