@@ -15,13 +15,15 @@ use std::random::RandomSource;
 use std::sync::{Arc, Wait};
 use std::test::Fail;
 use std::thread::Threads;
-use test_fixtures::{adding, asking};
+use test_fixtures::{adding, asking, refresh};
 
 /// What a client does.
 #[derive(Clone, Copy, Debug)]
 pub enum TrialDeed {
     /// It adds the order of this key.
     Adds(u64),
+    /// It withdraws the order of this key.
+    Withdraws(u64),
     /// It asks the queries of these names, parted by spaces, in one request, with the benchmark's constants.
     Asks(&'static str),
     /// It polls.
@@ -41,6 +43,8 @@ pub enum TrialStep {
     Meeting,
     /// The dispatcher takes a turn.
     Turn,
+    /// The dispatcher carries the commits over, though nothing is asked.
+    Following,
 }
 
 /// Three clients and a dispatcher of a server, which is theirs.
@@ -103,19 +107,43 @@ fn refreshed<R: Wait, W: Wait + Drop>(
     client.refresh(rt, server, refresh)
 }
 
-// A client adds the order of this key, and what it is told.
-fn adds<R: Wait, W: Wait + Drop>(
+/// The refresh of a client that asks nothing.
+pub fn refreshes_quiet<R: Wait, W: Wait + Drop>(
+    rt: &R,
+    server: &Server<W>,
+    client: &mut Client<W>,
+    refresh: Arc<Refresh>,
+) -> Result<Receipt, RefreshError>
+    requires { IsQuiet server.now client.old }
+    ensures { IsQuiet server.now client.new }
+{
+    let _ = client.number();
+    client.refresh(rt, server, refresh)
+}
+
+// A refresh that withdraws the order of this key.
+fn withdrawing(alloc: Global, key: u64) -> Result<Arc<Refresh>, AllocError> {
+    let actions = format!(in alloc; "withdraw|{key}\n")?;
+    refresh(alloc, actions.as_str()).map_err(|_| AllocError)
+}
+
+// A refresh that adds the order of this key.
+fn adding_one(alloc: Global, key: u64) -> Result<Arc<Refresh>, AllocError> {
+    adding(alloc, key).map_err(|_| AllocError)
+}
+
+// A client refreshes, and what it is told.
+fn refreshes<R: Wait, W: Wait + Drop>(
     rt: &R,
     alloc: Global,
     server: &Server<W>,
     client: &mut Client<W>,
-    order: u64,
+    refresh: Arc<Refresh>,
 ) -> Result<String, AllocError>
     requires { IsOf server.now client.old }
     ensures { IsOf server.now client.new }
 {
     let mut told = room(alloc)?;
-    let refresh = adding(alloc, order).map_err(|_| AllocError)?;
     let written = write_reply(&mut told, &refreshed(rt, server, client, refresh));
     text(alloc, written, told)
 }
@@ -186,6 +214,21 @@ fn meets<W: Wait + Drop>(
     format!(in alloc; "sees {seen}")
 }
 
+/// A client meets another one, and both ask nothing: how many commits it then sees.
+#[tactic(auto, using(ssb_server::proofs::StayingLaws::looks_stays))]
+pub fn meets_quiet<W: Wait + Drop>(
+    server: &Server<W>,
+    client: &mut Client<W>,
+    other: &mut Client<W>,
+) -> u64
+    requires client { IsQuiet server.now client.old }
+    requires other { IsQuiet server.now other.old }
+    ensures client { IsQuiet server.now client.new }
+    ensures other { IsQuiet server.now other.new }
+{
+    client.meet(server, other)
+}
+
 /// A turn of a dispatcher.
 #[tactic(auto, using(ssb_server::proofs::StayingLaws::turned_stays))]
 pub fn turns<W: Wait + Drop, R: Wait + Threads + Sync, G: ScanGate>(
@@ -200,6 +243,15 @@ pub fn turns<W: Wait + Drop, R: Wait + Threads + Sync, G: ScanGate>(
     dispatcher.turn(rt, server, gate)
 }
 
+/// A dispatcher carries the commits over.
+#[tactic(auto, using(crate::proofs::PlaceLaws::fetched_stays))]
+pub fn follows<W: Wait + Drop, R: Wait>(rt: &R, server: &Server<W>, dispatcher: &mut Dispatcher<W>)
+    requires { IsOf server.now dispatcher.old }
+    ensures { IsOf server.now dispatcher.new }
+{
+    dispatcher.follow(rt, server);
+}
+
 // What a client does, and what it is told.
 fn does<R: Wait, W: Wait + Drop>(
     rt: &R,
@@ -212,7 +264,8 @@ fn does<R: Wait, W: Wait + Drop>(
     ensures { IsOf server.now client.new }
 {
     match deed {
-        TrialDeed::Adds(order) => adds(rt, alloc, server, client, order),
+        TrialDeed::Adds(key) => refreshes(rt, alloc, server, client, adding_one(alloc, key)?),
+        TrialDeed::Withdraws(key) => refreshes(rt, alloc, server, client, withdrawing(alloc, key)?),
         TrialDeed::Asks(queries) => asks(alloc, server, client, queries),
         TrialDeed::Polls => polls(alloc, server, client),
     }
@@ -262,6 +315,10 @@ impl<'s, W: Wait + Drop> Trial<'s, W> {
                 let turn = turns(rt, self.server, &mut self.dispatcher, &OpenGate);
                 report(alloc, turn)
             }
+            TrialStep::Following => {
+                follows(rt, self.server, &mut self.dispatcher);
+                String::from_str(alloc, "follows")
+            }
         }
     }
 
@@ -295,22 +352,59 @@ impl<'s, W: Wait + Drop> Trial<'s, W> {
     }
 }
 
+// Takes the steps over a server that was opened for three clients and a dispatcher.
+fn played_over<W: Wait + Drop, R: Wait + Threads + Sync>(
+    rt: &R,
+    alloc: Global,
+    made: Opened<W>,
+    steps: &[(TrialStep, &str)],
+) -> Result<(), Fail>
+    requires clients { All (IsQuiet made.server) made.clients.items }
+    requires dispatchers { All (IsOf made.server) made.dispatchers.items }
+{
+    let Opened {
+        server,
+        mut clients,
+        mut dispatchers,
+    } = made;
+    let mut trial = Trial::new(&server, &mut clients, &mut dispatchers)?;
+    trial.plays(rt, alloc, steps)
+}
+
 /// Opens a server over the small data set, and takes the steps.
 pub fn played<R: Wait + Threads + Sync + AllocGlobal + RandomSource>(
     rt: &R,
     steps: &[(TrialStep, &str)],
 ) -> Result<(), Fail> {
+    let made = opened(rt, 3, 1)?;
+    played_over(rt, rt.alloc(), made, steps)
+}
+
+// The same of steps of which one may lack memory.
+fn played_at_last_over<W: Wait + Drop, R: Wait + Threads + Sync + AllocGlobal>(
+    rt: &R,
+    made: Opened<W>,
+    before: &[(TrialStep, &str)],
+    step: (TrialStep, &str),
+    lacking: (&str, &[(TrialStep, &str)]),
+    after: &[(TrialStep, &str)],
+) -> Result<(), Fail>
+    requires clients { All (IsQuiet made.server) made.clients.items }
+    requires dispatchers { All (IsOf made.server) made.dispatchers.items }
+{
     let Opened {
         server,
         mut clients,
         mut dispatchers,
-    } = opened(rt, 3, 1)?;
+    } = made;
     let mut trial = Trial::new(&server, &mut clients, &mut dispatchers)?;
-    trial.plays(rt, rt.alloc(), steps)
+    trial.plays(rt, rt.alloc(), before)?;
+    trial.plays_at_last(rt, rt.alloc(), step, lacking)?;
+    trial.plays(rt, rt.alloc(), after)
 }
 
-/// The same of steps of which one may lack memory. Where that step is told so, the steps that come with it are taken
-/// too, and then those after it.
+/// Opens a server over the small data set, and takes steps of which one may lack memory. Where that step is told so, the
+/// steps that come with it are taken too, and then those after it.
 pub fn played_at_last<R: Wait + Threads + Sync + AllocGlobal + RandomSource>(
     rt: &R,
     before: &[(TrialStep, &str)],
@@ -318,13 +412,6 @@ pub fn played_at_last<R: Wait + Threads + Sync + AllocGlobal + RandomSource>(
     lacking: (&str, &[(TrialStep, &str)]),
     after: &[(TrialStep, &str)],
 ) -> Result<(), Fail> {
-    let Opened {
-        server,
-        mut clients,
-        mut dispatchers,
-    } = opened(rt, 3, 1)?;
-    let mut trial = Trial::new(&server, &mut clients, &mut dispatchers)?;
-    trial.plays(rt, rt.alloc(), before)?;
-    trial.plays_at_last(rt, rt.alloc(), step, lacking)?;
-    trial.plays(rt, rt.alloc(), after)
+    let made = opened(rt, 3, 1)?;
+    played_at_last_over(rt, made, before, step, lacking, after)
 }
