@@ -43,13 +43,18 @@ With any other --format than report the columns have heads: the names of the gro
 spells it. JSON has one object a line. An empty line parts the answers, but not those of JSON. Bars are drawn beside the
 sums, each as long as its sum is great; that of a negative sum is drawn with another sign.
 
+With --explain it prints what is asked, and needs no tables: a request of star that asks the same, the printed columns,
+and what the rows are ordered by. With --sql it is one statement for that system, over the benchmark's tables.
+
 Examples:
   ssb_live query --data tables Q4.1
   ssb_live query --data tables Q2.1 'MFGR#12' EUROPE
   ssb_live query --data tables star LO_REVENUE D_YEAR P_BRAND1 'P_CATEGORY=MFGR#12' 'S_REGION=AMERICA'
   ssb_live query --data tables --format csv Q4.1
   ssb_live query --data tables --format bars star LO_REVENUE D_YEAR C_REGION=ASIA
-  ssb_live query --data tables --all --times";
+  ssb_live query --data tables --all --times
+  ssb_live query --explain Q2.1
+  ssb_live query --explain --sql postgresql star COUNT C_REGION";
 
 /// What `run --help` shows.
 pub const RUN_HELP: &str = "\
@@ -62,9 +67,13 @@ A script has one record on a line. 'query|NAME' or 'query|NAME|CONSTANT..' asks.
 'answer' asks them together: all are answered after the same commits. 'begin', then 'add' or 'amend' with 'line|..'
 records, and 'withdraw|KEY', then 'commit' is one refresh, which is accepted whole or refused whole.
 
+With --standing the questions of FILE stand: each keeps totals that follow the commits, and is answered from these. The
+reports are the same without it.
+
 Examples:
   ssb_live run --data tables morning.txt
-  ssb_live run --data tables --dispatchers 2 --trace run.trace orders.txt questions.txt";
+  ssb_live run --data tables --dispatchers 2 --trace run.trace orders.txt questions.txt
+  ssb_live run --data tables --standing benchmark --times morning.txt";
 
 /// What `audit --help` shows.
 pub const AUDIT_HELP: &str = "\
@@ -93,9 +102,13 @@ With --journal the commits are kept in FILE, which is created if it does not exi
 is on the disk; an answer is sent when all commits that it contains are. The next server with this FILE and the same
 tables goes on from there, whatever has ended this one.
 
+With --standing the questions of FILE stand: each keeps totals that follow the commits, and is answered from these, so
+that a report which is asked again and again takes no pass over the lines. Replies are the same without it.
+
 Examples:
   ssb_live serve --data tables
   ssb_live serve --data tables --journal orders.journal
+  ssb_live serve --data tables --standing reports.txt
   mkfifo in out; ssb_live serve --data tables --keep --client in out";
 
 /// What `export --help` shows.

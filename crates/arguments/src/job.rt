@@ -4,6 +4,7 @@ use crate::grammar::{command, width_of};
 use crate::notice::Notice;
 use clap::ArgMatches;
 use clap::error::ErrorKind;
+use ssb_explain::System;
 use std::alloc::{AllocError, Global};
 
 // How many columns a line of bars may take where nothing says so.
@@ -16,6 +17,8 @@ pub enum Job<'a> {
     Script,
     /// The report of one question, or of all.
     Query(QueryWords<'a>),
+    /// One question explained.
+    Explain(ExplainWords<'a>),
     /// Scripts at once, and their reports.
     Run(RunWords<'a>),
     /// Clients, as their requests come.
@@ -38,6 +41,15 @@ pub enum FormatWord {
     Bars(u32),
 }
 
+/// Which questions stand.
+#[derive(Clone, Copy)]
+pub enum StandingWord<'a> {
+    /// The thirteen, with the benchmark's constants.
+    Benchmark,
+    /// Those of the script at this path.
+    File(&'a str),
+}
+
 /// The words of `query`.
 #[derive(Drop)]
 pub struct QueryWords<'a> {
@@ -51,12 +63,22 @@ pub struct QueryWords<'a> {
     pub quiet: bool,
 }
 
+/// The words of `query --explain`.
+#[derive(Drop)]
+pub struct ExplainWords<'a> {
+    pub name: &'a str,
+    pub constants: Vec<&'a str>,
+    /// The system whose SQL is written; none where words are.
+    pub sql: Option<System>,
+}
+
 /// The words of `run`.
 #[derive(Drop)]
 pub struct RunWords<'a> {
     pub data: &'a str,
     pub scripts: Vec<&'a str>,
     pub trace: Option<&'a str>,
+    pub standing: Option<StandingWord<'a>>,
     pub dispatchers: u32,
     pub times: bool,
     pub quiet: bool,
@@ -70,6 +92,7 @@ pub struct ServeWords<'a> {
     pub clients: Vec<&'a str>,
     pub keep: bool,
     pub journal: Option<&'a str>,
+    pub standing: Option<StandingWord<'a>>,
     pub dispatchers: u32,
     pub quiet: bool,
 }
@@ -128,6 +151,14 @@ fn format_of(matches: &ArgMatches<'_>, columns: Option<&str>) -> FormatWord {
     }
 }
 
+// Which questions the words let stand, if they let any.
+fn standing_of<'a>(matches: &ArgMatches<'a>) -> Option<StandingWord<'a>> {
+    match matches.get_str("standing")? {
+        "benchmark" => Some(StandingWord::Benchmark),
+        path => Some(StandingWord::File(path)),
+    }
+}
+
 // Looks whether a width is given without bars.
 fn check_width(alloc: Global, matches: &ArgMatches<'_>) -> Result<(), Notice> {
     if !matches.contains_id("width") || word_of(matches, "format") == "bars" {
@@ -154,11 +185,44 @@ fn query_words<'a>(
     })
 }
 
+// The system whose SQL is asked for; the grammar lets no other name through.
+fn system_of(matches: &ArgMatches<'_>) -> Option<System> {
+    match matches.get_str("sql") {
+        Some(name) => System::by_name(name).ok(),
+        None => None,
+    }
+}
+
+fn explain_words<'a>(
+    alloc: Global,
+    matches: &ArgMatches<'a>,
+) -> Result<ExplainWords<'a>, AllocError> {
+    Ok(ExplainWords {
+        name: word_of(matches, "name"),
+        constants: words_of(alloc, matches, "constants")?,
+        sql: system_of(matches),
+    })
+}
+
+fn query_job<'a>(
+    alloc: Global,
+    matches: &ArgMatches<'a>,
+    columns: Option<&str>,
+) -> Result<Job<'a>, Notice> {
+    check_width(alloc, matches)?;
+    if matches.get_flag("explain") {
+        Ok(Job::Explain(explain_words(alloc, matches)?))
+    } else {
+        Ok(Job::Query(query_words(alloc, matches, columns)?))
+    }
+}
+
 fn run_words<'a>(alloc: Global, matches: &ArgMatches<'a>) -> Result<RunWords<'a>, AllocError> {
     Ok(RunWords {
         data: word_of(matches, "data"),
         scripts: words_of(alloc, matches, "scripts")?,
         trace: matches.get_str("trace"),
+        standing: standing_of(matches),
         dispatchers: matches.get_one::<u32>("dispatchers").unwrap_or(1),
         times: matches.get_flag("times"),
         quiet: matches.get_flag("quiet"),
@@ -171,6 +235,7 @@ fn serve_words<'a>(alloc: Global, matches: &ArgMatches<'a>) -> Result<ServeWords
         clients: words_of(alloc, matches, "clients")?,
         keep: matches.get_flag("keep"),
         journal: matches.get_str("journal"),
+        standing: standing_of(matches),
         dispatchers: matches.get_one::<u32>("dispatchers").unwrap_or(1),
         quiet: matches.get_flag("quiet"),
     })
@@ -206,10 +271,7 @@ pub fn job_of<'a>(
         Some(("serve", words)) => Job::Serve(serve_words(alloc, words)?),
         Some(("audit", words)) => Job::Audit(audit_words(words)),
         Some(("export", words)) => Job::Export(export_words(words)),
-        Some((_, words)) => {
-            check_width(alloc, words)?;
-            Job::Query(query_words(alloc, words, columns)?)
-        }
+        Some((_, words)) => query_job(alloc, words, columns)?,
         None => Job::Script,
     })
 }
