@@ -1,10 +1,13 @@
-// Clients of `ssb_live serve` over named pipes, for bench/serve: they take less time than the server that they measure.
+// Clients of `ssb_live serve` over named pipes, for bench/serve and bench/standing: they take less time than the server that they measure.
 //
 //   flood ahead TEXT IN OUT [TEXT IN OUT ..]   sends each text over its pipe without waiting, and reads all replies:
 //                                              prints how many lines the replies had, and the seconds from the first
 //                                              byte that a client sent to the last that one read
 //   flood wait SECONDS TEXT IN OUT             sends the refreshes of the text one by one, each after the receipt of
 //                                              the one before, at most so many seconds: prints the nanoseconds of each
+//   flood ask SECONDS TEXT IN OUT [..]         asks the questions of each text, one a line, again and again for so many
+//                                              seconds, each once the answer to the one before was read: prints of each
+//                                              answer its client, its line in the text (both from 0) and its nanoseconds
 //
 // TEXT is a file. OUT is opened before IN: the server opens its ends in that order.
 #define _GNU_SOURCE
@@ -21,7 +24,7 @@
 #include <time.h>
 #include <unistd.h>
 
-enum { MOST_CLIENTS = 16, READ_SIZE = 1 << 20 };
+enum { MOST_CLIENTS = 16, READ_SIZE = 1 << 20, MOST_ANSWERS = 1 << 22 };
 
 typedef struct {
     const char *text;
@@ -164,10 +167,91 @@ static int wait_for_each(double seconds, char **words) {
     return 0;
 }
 
+// ---- questions without a pause ----
+
+typedef struct {
+    Client client;
+    uint64_t end;               // when no question is begun any more, in nanoseconds
+    double seconds;
+    size_t answers;
+    uint32_t *lines, *times;    // of each answer: which line asked, and the nanoseconds
+    pthread_t thread;
+} Asker;
+
+// Reads one answer: the line that ends in ` rows R`, and R lines. Any other line is an answer by itself.
+static void read_answer(int out, char *reply) {
+    size_t size = 0, seen = 0, wanted = 1;
+    for (int has_head = 0; seen < wanted;) {
+        size_t count = read_some(out, reply + size, READ_SIZE - size);
+        if (count == 0)
+            errx(1, "the session ended");
+        seen += line_feeds(reply + size, count);
+        size += count;
+        if (!has_head && seen > 0) {
+            char *end = memchr(reply, '\n', size), *rows = memmem(reply, (size_t)(end - reply), " rows ", 6);
+            wanted = 1 + (rows ? strtoul(rows + 6, NULL, 10) : 0);
+            has_head = 1;
+        }
+    }
+}
+
+static void *asks(void *of) {
+    Asker *asker = of;
+    Client *client = &asker->client;
+    char *reply = malloc(READ_SIZE);
+    if (!reply)
+        err(1, "malloc");
+    pthread_barrier_wait(&all_open);
+    asker->end = now() + (uint64_t)(asker->seconds * 1e9);
+    uint32_t line = 0;
+    for (size_t at = 0; asker->answers < MOST_ANSWERS; line++) {
+        if (at == client->size)
+            at = line = 0;
+        const char *feed = memchr(client->text + at, '\n', client->size - at);
+        size_t size = feed ? (size_t)(feed + 1 - client->text) - at : 0;
+        uint64_t start = now();
+        if (size == 0 || start >= asker->end)
+            break;
+        send_all(client->into, client->text + at, size);
+        read_answer(client->out, reply);
+        asker->lines[asker->answers] = line;
+        asker->times[asker->answers++] = (uint32_t)(now() - start);
+        at += size;
+    }
+    close(client->into);
+    while (read_some(client->out, reply, READ_SIZE) > 0) {}
+    free(reply);
+    return NULL;
+}
+
+static int ask(double seconds, int count, char **words) {
+    static Asker askers[MOST_CLIENTS];
+    for (int i = 0; i < count; i++) {
+        askers[i].client = client_of(words[3 * i], words[3 * i + 1], words[3 * i + 2]);
+        askers[i].seconds = seconds;
+        askers[i].lines = malloc(MOST_ANSWERS * sizeof *askers[i].lines);
+        askers[i].times = malloc(MOST_ANSWERS * sizeof *askers[i].times);
+        if (!askers[i].lines || !askers[i].times)
+            err(1, "malloc");
+    }
+    pthread_barrier_init(&all_open, NULL, (unsigned)count);
+    for (int i = 0; i < count; i++)
+        if (pthread_create(&askers[i].thread, NULL, asks, &askers[i]))
+            errx(1, "no thread");
+    for (int i = 0; i < count; i++)
+        pthread_join(askers[i].thread, NULL);
+    for (int i = 0; i < count; i++)
+        for (size_t answer = 0; answer < askers[i].answers; answer++)
+            printf("%d %u %u\n", i, askers[i].lines[answer], askers[i].times[answer]);
+    return 0;
+}
+
 int main(int count, char **words) {
     if (count > 3 && count % 3 == 2 && count <= 2 + 3 * MOST_CLIENTS && !strcmp(words[1], "ahead"))
         return ahead((count - 2) / 3, words + 2);
     if (count == 6 && !strcmp(words[1], "wait"))
         return wait_for_each(atof(words[2]), words + 3);
-    errx(2, "ahead TEXT IN OUT .. | wait SECONDS TEXT IN OUT");
+    if (count > 3 && count % 3 == 0 && count <= 3 + 3 * MOST_CLIENTS && !strcmp(words[1], "ask"))
+        return ask(atof(words[2]), (count - 3) / 3, words + 3);
+    errx(2, "ahead TEXT IN OUT .. | wait SECONDS TEXT IN OUT | ask SECONDS TEXT IN OUT ..");
 }

@@ -189,6 +189,18 @@ class Flood:
         return [int(nanoseconds) / 1e6 for nanoseconds in done.stdout.split()]
 
 
+    def ask(self, ends, text, seconds):
+        """The milliseconds of each answer, by the place of its question in the text, of clients that ask these without a
+        pause, and how many answers there were a second."""
+        done = subprocess.run([self.program, "ask", str(seconds), *self.words(ends, [text] * len(ends))], check=True,
+                              text=True, stdout=subprocess.PIPE, timeout=seconds + PATIENCE)
+        times = {}
+        for line in done.stdout.splitlines():
+            _, place, nanoseconds = map(int, line.split())
+            times.setdefault(place, []).append(nanoseconds / 1e6)
+        return times, sum(map(len, times.values())) / seconds
+
+
 class Told(Lines):
     """The lines of a session, as `read_reply` reads them."""
 
@@ -226,9 +238,10 @@ def text_of(request):
 class Sessions:
     """The random sessions of one client, one behind another, from its own source of random numbers."""
 
-    def __init__(self, tables, number, ends, seed):
+    def __init__(self, tables, number, ends, seed, standing=()):
         self.number, self.ends, self.random = number, ends, random.Random(seed)
-        self.traffic = Traffic(tables, number - 1, random.Random(self.random.random()), has_blocks=True)
+        self.traffic = Traffic(tables, number - 1, random.Random(self.random.random()), has_blocks=True,
+                               standing=standing)
         self.replies, self.seen = [], 0
         self.counts = {"sessions": 0, "broken": 0, "faults": 0}
 

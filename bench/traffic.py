@@ -3,8 +3,9 @@
 Clients share a few keys of orders, so that they get into each other's way: what one adds, another finds there. Some
 lines name a customer, supplier, part or date that is not there, and some constants no value that is there.
 
-Words in the environment: STARS, the share of star questions in all (by default 0.2); BLOCKS, the share of questions that
-stand in blocks, where a script asks for blocks (by default a third)."""
+Words in the environment: STARS, the share of star questions in all (by default 0.2); BLOCKS, the share of questions
+that are asked in blocks, where a script asks for blocks (by default a third); STANDING, the share of questions that stand,
+where a server has some (by default a half)."""
 import os
 
 from stars import Stars
@@ -16,6 +17,7 @@ COMMON_KEYS = 64
 STAR_ROWS = 5000                # that a star question may have groups for
 STARS = float(os.environ.get("STARS", 0.2))
 BLOCKS = float(os.environ.get("BLOCKS", 1 / 3))
+STANDING = float(os.environ.get("STANDING", 1 / 2))
 SIZES = [1, 2, 3, 5, 13, 16]    # of blocks, each as often as another
 TEXTS = ["1-URGENT", "5-LOW", "AIR", "", " leading", "Überlänge ✓", "x" * 64, 'a "quoted" word', "NULL", "-0"]
 
@@ -105,15 +107,24 @@ class Block:
         return ["ask", *(record for question in self.questions for record in question.records()), "answer"]
 
 
+def make_standing(tables, random, count, file):
+    """So many random questions that stand, and the file that a server takes them from. No star question of these has
+    more groups than may stand."""
+    traffic = Traffic(tables, 0, random)
+    standing = [traffic.question() for _ in range(count)]
+    file.write_text("".join(f"{record}\n" for question in standing for record in question.records()), encoding="utf-8")
+    return standing
+
+
 class Traffic:
     """The requests of one client, in order, from its own source of random numbers. Where it has blocks, a share BLOCKS
-    of its questions stands in them."""
+    of its questions is asked in them; where questions stand, a share STANDING of its questions is of these."""
 
-    def __init__(self, tables, client, random, has_blocks=False):
+    def __init__(self, tables, client, random, has_blocks=False, standing=()):
         share, size = BLOCKS if has_blocks else 0, sum(SIZES) / len(SIZES)
         self.blocks = share / (share + size * (1 - share))        # their share in the requests that ask
         self.tables, self.client, self.random = tables, client, random
-        self.stars = Stars(tables, random)
+        self.stars, self.standing = Stars(tables, random), standing
         self.questions = random.choice([0.05, 0.2, 0.5, 0.9])     # their share in all requests
         self.fresh = 0
         self.own = []           # keys of orders that this client has added, if nobody withdrew them
@@ -188,6 +199,8 @@ class Traffic:
         return Block([self.question() for _ in range(self.random.choice(SIZES))])
 
     def question(self):
+        if self.standing and self.chance(STANDING):
+            return self.random.choice(self.standing)
         if self.chance(STARS):
             return Question("star", self.stars.constants(STAR_ROWS))
         name = self.random.choice(list(CONSTANTS))

@@ -64,6 +64,16 @@ fn dispatchers_argument<'a>(alloc: Global) -> Arg<'a> {
         .action(ArgAction::Set)
 }
 
+// The questions that stand.
+fn standing_argument<'a>(alloc: Global) -> Arg<'a> {
+    path_argument(
+        alloc,
+        "standing",
+        "FILE",
+        "The questions that stand: a script of 1 to 64 'query' records, or the word benchmark, for the thirteen",
+    )
+}
+
 // A command whose first word is the folder of the tables.
 fn over_tables<'a>(
     alloc: Global,
@@ -179,6 +189,7 @@ fn run_command<'a>(alloc: Global) -> Result<Command<'a>, AllocError> {
             "FILE",
             "Where the commits and the answers are written; what the file had before is deleted",
         ))?
+        .arg(standing_argument(alloc))?
         .arg(times_argument(
             alloc,
             "Reports on standard error how many seconds loading and serving took, how much was served in a second, \
@@ -220,6 +231,7 @@ fn serve_command<'a>(alloc: Global) -> Result<Command<'a>, AllocError> {
             "FILE",
             "Where the commits are kept; replies wait for the disk; the next server goes on from there",
         ))?
+        .arg(standing_argument(alloc))?
         .arg(quiet_argument(alloc))
 }
 

@@ -62,9 +62,13 @@ A script has one record on a line. 'query|NAME' or 'query|NAME|CONSTANT..' asks.
 'answer' asks them together: all are answered after the same commits. 'begin', then 'add' or 'amend' with 'line|..'
 records, and 'withdraw|KEY', then 'commit' is one refresh, which is accepted whole or refused whole.
 
+With --standing the questions of FILE stand: each keeps totals that follow the commits, and is answered from these. The
+reports are the same without it.
+
 Examples:
   ssb_live run --data tables morning.txt
-  ssb_live run --data tables --dispatchers 2 --trace run.trace orders.txt questions.txt";
+  ssb_live run --data tables --dispatchers 2 --trace run.trace orders.txt questions.txt
+  ssb_live run --data tables --standing benchmark --times morning.txt";
 
 /// What `audit --help` shows.
 pub const AUDIT_HELP: &str = "\
@@ -93,9 +97,13 @@ With --journal the commits are kept in FILE, which is created if it does not exi
 is on the disk; an answer is sent when all commits that it contains are. The next server with this FILE and the same
 tables goes on from there, whatever has ended this one.
 
+With --standing the questions of FILE stand: each keeps totals that follow the commits, and is answered from these, so
+that a report which is asked again and again takes no pass over the lines. Replies are the same without it.
+
 Examples:
   ssb_live serve --data tables
   ssb_live serve --data tables --journal orders.journal
+  ssb_live serve --data tables --standing reports.txt
   mkfifo in out; ssb_live serve --data tables --keep --client in out";
 
 /// What `export --help` shows.

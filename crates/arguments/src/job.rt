@@ -38,6 +38,15 @@ pub enum FormatWord {
     Bars(u32),
 }
 
+/// Which questions stand.
+#[derive(Clone, Copy)]
+pub enum StandingWord<'a> {
+    /// The thirteen, with the benchmark's constants.
+    Benchmark,
+    /// Those of the script at this path.
+    File(&'a str),
+}
+
 /// The words of `query`.
 #[derive(Drop)]
 pub struct QueryWords<'a> {
@@ -57,6 +66,7 @@ pub struct RunWords<'a> {
     pub data: &'a str,
     pub scripts: Vec<&'a str>,
     pub trace: Option<&'a str>,
+    pub standing: Option<StandingWord<'a>>,
     pub dispatchers: u32,
     pub times: bool,
     pub quiet: bool,
@@ -70,6 +80,7 @@ pub struct ServeWords<'a> {
     pub clients: Vec<&'a str>,
     pub keep: bool,
     pub journal: Option<&'a str>,
+    pub standing: Option<StandingWord<'a>>,
     pub dispatchers: u32,
     pub quiet: bool,
 }
@@ -128,6 +139,14 @@ fn format_of(matches: &ArgMatches<'_>, columns: Option<&str>) -> FormatWord {
     }
 }
 
+// Which questions the words let stand, if they let any.
+fn standing_of<'a>(matches: &ArgMatches<'a>) -> Option<StandingWord<'a>> {
+    match matches.get_str("standing")? {
+        "benchmark" => Some(StandingWord::Benchmark),
+        path => Some(StandingWord::File(path)),
+    }
+}
+
 // Looks whether a width is given without bars.
 fn check_width(alloc: Global, matches: &ArgMatches<'_>) -> Result<(), Notice> {
     if !matches.contains_id("width") || word_of(matches, "format") == "bars" {
@@ -159,6 +178,7 @@ fn run_words<'a>(alloc: Global, matches: &ArgMatches<'a>) -> Result<RunWords<'a>
         data: word_of(matches, "data"),
         scripts: words_of(alloc, matches, "scripts")?,
         trace: matches.get_str("trace"),
+        standing: standing_of(matches),
         dispatchers: matches.get_one::<u32>("dispatchers").unwrap_or(1),
         times: matches.get_flag("times"),
         quiet: matches.get_flag("quiet"),
@@ -171,6 +191,7 @@ fn serve_words<'a>(alloc: Global, matches: &ArgMatches<'a>) -> Result<ServeWords
         clients: words_of(alloc, matches, "clients")?,
         keep: matches.get_flag("keep"),
         journal: matches.get_str("journal"),
+        standing: standing_of(matches),
         dispatchers: matches.get_one::<u32>("dispatchers").unwrap_or(1),
         quiet: matches.get_flag("quiet"),
     })

@@ -22,5 +22,8 @@ mod job;
 mod notice;
 
 pub use help::TERMINAL_HELP;
-pub use job::{AuditWords, ExportWords, FormatWord, Job, QueryWords, RunWords, ServeWords, job_of};
+pub use job::{
+    AuditWords, ExportWords, FormatWord, Job, QueryWords, RunWords, ServeWords, StandingWord,
+    job_of,
+};
 pub use notice::Notice;

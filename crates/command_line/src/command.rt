@@ -2,14 +2,14 @@
 
 use crate::streams::{Streams, tell};
 use arguments::{
-    AuditWords, ExportWords, FormatWord, Job, QueryWords, RunWords, ServeWords, TERMINAL_HELP,
-    job_of,
+    AuditWords, ExportWords, FormatWord, Job, QueryWords, RunWords, ServeWords, StandingWord,
+    TERMINAL_HELP, job_of,
 };
 use audit_command::run_audit;
 use export_command::{ExportPlace, run_export};
 use journal_file::{JournalFile, torn_path};
 use journal_opening::{JournalPath, ReadPath};
-use query_command::{Settings, run_all, run_query};
+use query_command::{Settings, run_all, run_query, standard_questions};
 use run_command::{RunSettings, demo, run_scripts};
 use serve_command::{
     EndPaths, JournalPlace, MOST_CLIENTS, PathClients, Prompted, ServeSettings, report_no_pipes,
@@ -17,9 +17,11 @@ use serve_command::{
 };
 use ssb_files::{
     Fault, InputSource, PathUse, Screen, TableBytes, UsedPath, check_paths, count_tables,
-    find_tables, make_file, open_file, open_files, open_tables, watch, watch_scripts, watch_tables,
+    find_tables, make_file, open_file, open_files, open_tables, read_standing, watch,
+    watch_scripts, watch_tables,
 };
 use ssb_formats::Format;
+use ssb_questions::Question;
 use ssb_text::Tables;
 use std::alloc::Global;
 use std::hash::RandomState;
@@ -89,6 +91,53 @@ where
     run_query(rt, settings, tables, words.name, constants, out, err)
 }
 
+// Where the questions that are to stand come from.
+#[derive(Drop)]
+enum StandingSource<I: Drop> {
+    // None stands.
+    Nowhere,
+    // The thirteen, with the benchmark's constants.
+    Benchmark,
+    // An opened script of questions alone.
+    File(I),
+}
+
+// Opens the file of the questions that are to stand, where the words name one.
+fn open_standing<F: Files + AllocGlobal>(
+    files: &F,
+    word: Option<StandingWord<'_>>,
+) -> Result<StandingSource<F::File>, Fault> {
+    match word {
+        None => Ok(StandingSource::Nowhere),
+        Some(StandingWord::Benchmark) => Ok(StandingSource::Benchmark),
+        Some(StandingWord::File(path)) => Ok(StandingSource::File(open_file(files, path)?)),
+    }
+}
+
+// Puts the path of that file to those that a command reads.
+fn push_standing<F: Files + AllocGlobal>(
+    files: &F,
+    word: Option<StandingWord<'_>>,
+    paths: &mut Vec<UsedPath>,
+) -> Result<(), Fault> {
+    if let Some(StandingWord::File(path)) = word {
+        paths.push(UsedPath::find(files, path, PathUse::Read)?)?;
+    }
+    Ok(())
+}
+
+// The questions that are to stand.
+fn questions_of<I: Read + Drop>(
+    alloc: Global,
+    source: StandingSource<I>,
+) -> Result<Vec<Question>, Fault> {
+    match source {
+        StandingSource::Nowhere => Ok(Vec::new(alloc)),
+        StandingSource::Benchmark => Ok(standard_questions(alloc)?),
+        StandingSource::File(file) => read_standing(alloc, file),
+    }
+}
+
 // The files of a run, opened, and how its scripts are served.
 #[derive(Drop)]
 struct OpenedRun<O: Write + Drop> {
@@ -108,11 +157,13 @@ fn check_trace_path<F: Files + AllocGlobal>(
     for script in &words.scripts {
         paths.push(UsedPath::find(files, script, PathUse::Read)?)?;
     }
+    push_standing(files, words.standing, &mut paths)?;
     paths.push(UsedPath::find(files, trace, PathUse::Write)?)?;
     check_paths(paths.as_slice())
 }
 
-// Opens the files of a run. The trace is made once the others could be opened, and where it is none of them.
+// Opens the files of a run, and reads the questions that are to stand. The trace is made after that, and where it is
+// none of the other files.
 fn open_run<R: RandomSource, F: Files + AllocGlobal>(
     rt: &R,
     files: &F,
@@ -120,11 +171,13 @@ fn open_run<R: RandomSource, F: Files + AllocGlobal>(
 ) -> Result<OpenedRun<F::File>, Fault> {
     let tables = open_tables(files, words.data)?;
     let scripts = open_files(files, words.scripts.as_slice())?;
+    let source = open_standing(files, words.standing)?;
+    if let Some(path) = words.trace {
+        check_trace_path(files, words, path)?;
+    }
+    let standing = questions_of(files.alloc(), source)?;
     let trace = match words.trace {
-        Some(path) => {
-            check_trace_path(files, words, path)?;
-            Some(make_file(files, path)?)
-        }
+        Some(path) => Some(make_file(files, path)?),
         None => None,
     };
     let Ok(hashing) = RandomState::new(rt) else {
@@ -133,6 +186,7 @@ fn open_run<R: RandomSource, F: Files + AllocGlobal>(
     let settings = RunSettings {
         hashing,
         dispatchers: words.dispatchers,
+        standing,
         times: words.times,
     };
     Ok(OpenedRun {
@@ -208,6 +262,7 @@ fn check_server_paths<F: Files + AllocGlobal>(
     words: &ServeWords<'_>,
 ) -> Result<(), Fault> {
     let mut paths = find_tables(files, words.data)?;
+    push_standing(files, words.standing, &mut paths)?;
     for ends in words.clients.chunks_exact(2) {
         paths.push(UsedPath::find(files, ends[0], PathUse::Input)?)?;
         paths.push(UsedPath::find(files, ends[1], PathUse::Output)?)?;
@@ -220,18 +275,23 @@ fn check_server_paths<F: Files + AllocGlobal>(
     check_paths(paths.as_slice())
 }
 
-// Opens the tables of a live server. Its clients open their own ends. Where there are too many of them, that is told,
-// and nothing is opened: so their paths are not looked at.
+// Opens the tables of a live server, and reads the questions that are to stand. Its clients open their own ends. Where
+// there are too many of them, that is told, and nothing is opened: so neither their paths nor the questions are looked
+// at.
 fn open_server<R: RandomSource, F: Files + AllocGlobal>(
     rt: &R,
     files: &F,
     words: &ServeWords<'_>,
 ) -> Result<OpenedServer<F::File>, Fault> {
     let tables = open_tables(files, words.data)?;
+    let source = open_standing(files, words.standing)?;
     let clients = clients_of(files.alloc(), words.clients.as_slice())?;
-    if clients.len() <= MOST_CLIENTS {
+    let standing = if clients.len() <= MOST_CLIENTS {
         check_server_paths(files, words)?;
-    }
+        questions_of(files.alloc(), source)?
+    } else {
+        Vec::new(files.alloc())
+    };
     let journal = match words.journal {
         Some(path) => Some(String::from_str(files.alloc(), path)?),
         None => None,
@@ -242,6 +302,7 @@ fn open_server<R: RandomSource, F: Files + AllocGlobal>(
     let settings = ServeSettings {
         hashing,
         dispatchers: words.dispatchers,
+        standing,
     };
     Ok(OpenedServer {
         settings,

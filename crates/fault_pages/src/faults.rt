@@ -5,11 +5,11 @@ use journal_file::OpenError;
 use row_store::Cause;
 use session_requests::RequestError;
 use ssb_audit::AuditFault;
-use ssb_files::PathFault;
+use ssb_files::{PathFault, TooManyGroups};
 use ssb_journal::{JournalFault, ReplayFault};
 use ssb_questions::{ConstantsFault, NoSuchQuery, Query};
 use ssb_schema::{C_CITY, SchemaFault, Table};
-use ssb_script::ScriptError;
+use ssb_script::{QuestionsError, ScriptError};
 use ssb_server::OpenFault;
 use ssb_text::LoadError;
 use std::alloc::{AllocError, Global};
@@ -231,6 +231,30 @@ impl ListsFaults for PathFault<&'static str> {
     }
 }
 
+impl ListsFaults for QuestionsError {
+    fn first() -> QuestionsError {
+        QuestionsError::NotAQuestion(3)
+    }
+
+    // A failed read has the number that it has in any script.
+    fn next(&self) -> Option<QuestionsError> {
+        match self {
+            QuestionsError::NotAQuestion(_) | QuestionsError::Read | QuestionsError::OutOfMemory =>
+                { None }
+        }
+    }
+}
+
+impl ListsFaults for TooManyGroups {
+    fn first() -> TooManyGroups {
+        TooManyGroups(3)
+    }
+
+    fn next(&self) -> Option<TooManyGroups> {
+        None
+    }
+}
+
 // Adds the line that each fault of a type prints.
 fn push_lines<F: ListsFaults>(alloc: Global, lines: &mut Vec<String>) -> Result<(), AllocError> {
     let mut fault = F::first();
@@ -261,5 +285,7 @@ pub fn all_lines(alloc: Global) -> Result<Vec<String>, AllocError> {
     push_lines::<OpenError>(alloc, &mut lines)?;
     push_lines::<NotEmpty>(alloc, &mut lines)?;
     push_lines::<PathFault<&'static str>>(alloc, &mut lines)?;
+    push_lines::<QuestionsError>(alloc, &mut lines)?;
+    push_lines::<TooManyGroups>(alloc, &mut lines)?;
     Ok(lines)
 }

@@ -18,7 +18,7 @@
 //!
 //! ```text
 //! let recovered = Recovered { opened, sizes: &sizes, keeper: &keeper };
-//! let run = serve_journaled(rt, alloc, hashing, base, speakers, 1, recovered)?;
+//! let run = serve_journaled(rt, alloc, loaded, speakers, 1, recovered)?;
 //! ```
 #![tactic(auto)]
 

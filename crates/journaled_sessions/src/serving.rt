@@ -19,18 +19,16 @@ use crate::remaking::{remake, show_all};
 use crate::source::{JournalLeft, Opening, ServerLog, left_of};
 use journal::{Disk, Journal, KeepsTorn};
 use row_store::Log;
-use ssb_base::Base;
 use ssb_journal::laws::{begun_journal_keeps, first_of_log};
 use ssb_journal::{JournaledLog, KeptCommits, OpenedJournal, SharedJournal, TableSize, begin};
 use ssb_server::{
-    Client, Closed, Dispatcher, LogReader, OpenedWithReader, Server, open_with_reader,
+    Client, Closed, Dispatcher, Loaded, LogReader, OpenedWithReader, Server, open_with_reader,
 };
 use ssb_serving::{Batches, RunFault};
 use std::alloc::{AllocError, Global};
-use std::hash::RandomState;
 use std::marker::Brand;
+use std::sync::Wait;
 use std::sync::atomic::AtomicBool;
-use std::sync::{Arc, Wait};
 use std::thread::Threads;
 use stream_sessions::{Ended, Speaker, Speaks, Spoken, serve_opened};
 
@@ -313,17 +311,16 @@ where
     Ok(close(alloc, server, ended, resting, left)?)
 }
 
-/// Serves 1 to 16 clients, one for each speaker, by 1 to 4 dispatchers over a base, behind the commits that a journal
-/// keeps; each client and each dispatcher in a thread of its own. The journal's commits are the beginning of the log,
-/// and what is told to a client is on the disk before. It waits until all of them have ended.
+/// Serves 1 to 16 clients, one for each speaker, by 1 to 4 dispatchers over a loaded base, behind the commits that a
+/// journal keeps; each client and each dispatcher in a thread of its own. The journal's commits are the beginning of
+/// the log, and what is told to a client is on the disk before. It waits until all of them have ended.
 ///
 /// The first commit that is refused over the base is `Replay`, and the journal's file is as it was then. A journal that
 /// could not be begun is `Write`.
 pub fn serve_journaled<D, T, R, S>(
     rt: &R,
     alloc: Global,
-    hashing: RandomState,
-    base: Arc<Base>,
+    loaded: Loaded,
     speakers: Vec<S>,
     dispatchers: u32,
     recovered: Recovered<'_, D, T>,
@@ -340,7 +337,7 @@ where
         recovered.opened.kept }
     requires torn { AreTorn (D.seen recovered.opened.found) recovered.opened.torn.items }
     // Who reads the log for the journal is one dispatcher more.
-    ensures served { IfOk result (λ run. IsJournaledRun S.spoken base.value
+    ensures served { IfOk result (λ run. IsJournaledRun S.spoken loaded
         recovered.entry.opened.kept.commits.items speakers.items (dispatchers + 1) run.left.items run.log) }
     // Whatever crashes from now on leaves the first commits of the log, at least so many, ..
     ensures kept { IfOk result (λ run. IsLeft (D.may_leave run.disk) (D.seen run.disk) run.count run.log
@@ -348,10 +345,10 @@ where
     // .. and no client was told of more.
     ensures told { IfOk result (λ run. All (λ left. S.told left ≤ run.count) run.left.items) }
     ensures left { IfOk result (λ run. vec_len run.left ≡ vec_len speakers) }
-    ensures fault { IfErr result (IsJournaledFault base.value recovered.entry.opened.kept.commits.items dispatchers) }
+    ensures fault { IfErr result (IsJournaledFault loaded recovered.entry.opened.kept.commits.items dispatchers) }
 {
-    match open_with_reader(alloc, rt, hashing, base, CLIENTS, dispatchers) {
+    match open_with_reader(alloc, rt, loaded, CLIENTS, dispatchers) {
         Ok(opened) => serve(rt, alloc, opened, speakers, recovered),
-        Err(error) => Err(JournaledFault::NotRun(RunFault::from(error.fault))),
+        Err(fault) => Err(JournaledFault::NotRun(RunFault::from(fault))),
     }
 }

@@ -20,4 +20,5 @@ mod opening;
 mod query;
 mod stopwatch;
 
+pub use asked::standard_questions;
 pub use query::{Settings, run_all, run_query};

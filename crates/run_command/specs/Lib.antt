@@ -1,3 +1,4 @@
 pub mod Served
+pub mod Standing
 pub mod Status
 pub mod Demo

@@ -22,6 +22,6 @@ impl fmt::Display for NotRun {
     }
 }
 
-/// Why scripts were not served, or what they left was not written. The exit status is 1 where the data or a script was
-/// refused, 2 for too many scripts, and else 4.
+/// Why scripts were not served, or what they left was not written. The exit status is 1 where the data, a script or a
+/// question that is to stand was refused, 2 for too many scripts, and else 4.
 pub type RunCommandFault = JobFault<NotRun>;

@@ -8,13 +8,13 @@
 //!
 //! The contract of [`run_scripts`] (`specs/Served.antt`): with status 0 it has printed the reports of one run of the
 //! live server over the base that the texts spell, script by script, and the number of commits, and kept that run's
-//! trace, which is legal; else nothing, or parts of these from their beginnings. How fast the run was is told on
-//! standard error, in no contract. That of [`demo`] (`specs/Demo.antt`): with status 0 it has written the report of the
-//! script, as the one-thread warehouse gives it over the small data set from no commit on, and nothing on standard
-//! error; else nothing, or a part of that report from its beginning.
+//! trace, which is legal; else nothing, or parts of these from their beginnings. Which questions stand changes nothing
+//! of it. How fast the run was is told on standard error, in no contract. That of [`demo`] (`specs/Demo.antt`): with
+//! status 0 it has written the report of the script, as the one-thread warehouse gives it over the small data set from
+//! no commit on, and nothing on standard error; else nothing, or a part of that report from its beginning.
 //!
 //! ```text
-//! let settings = RunSettings { hashing, dispatchers: 2, times: false };
+//! let settings = RunSettings { hashing, dispatchers: 2, standing, times: false };
 //! let status = run_scripts(rt, settings, tables, scripts, &mut out, &mut Some(trace), &mut err);
 //! ```
 #![tactic(auto)]

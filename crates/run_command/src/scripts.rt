@@ -8,6 +8,7 @@ ghost use Rattle.ssb_files.specs.Loaded.{AreRefused};
 ghost use Rattle.ssb_files.specs.Scripts.{HasRefused};
 ghost use Rattle.ssb_audit.specs.Legal.{IsLegalTrace};
 ghost use Rattle.run_command.specs.Served.{AreTold, AreToldInPart, IsServed, Serves, ServesPart, run_text};
+ghost use Rattle.run_command.specs.Standing.{HasTooManyGroups, MayNotStand};
 ghost use Rattle.run_command.specs.Status.{serving_status};
 ghost use Rattle.ssb_text.specs.Load.{AreTexts};
 ghost use Rattle.ssb_report.specs.Written.{AppendsPart};
@@ -20,7 +21,9 @@ use crate::printing::write_run;
 use crate::times::RunTimes;
 use ssb_base::Base;
 use ssb_files::{Fault, base_of, read_scripts};
+use ssb_questions::Question;
 use ssb_script::Script;
+use ssb_server::{Loaded, StandingError};
 use ssb_sessions::{Run, serve_scripts};
 use ssb_text::Tables;
 use ssb_trace::write_trace;
@@ -40,26 +43,48 @@ pub struct RunSettings {
     pub hashing: RandomState,
     /// 1 to 4, else no server is opened.
     pub dispatchers: u32,
+    /// The questions that stand: their totals follow the commits. Which they are changes no report.
+    pub standing: Vec<Question>,
     /// Whether the times are told on standard error.
     pub times: bool,
 }
 
-// Serves scripts at once over a base.
-fn serve<R: Threads + Sync + Wait + Clock + AllocGlobal>(
+// A base with these questions, which stand from then on. The first of them that has too many groups is refused.
+fn load<R: Threads + Sync + AllocGlobal>(
     rt: &R,
     hashing: RandomState,
-    dispatchers: u32,
-    timed: bool,
     base: Base,
-    scripts: Vec<Script>,
-) -> Result<Run, RunCommandFault>
-    ensures run { IfOk result (λ run. IsRun base scripts.items dispatchers
-        (map (λ report. report.items) run.reports.items) run.trace) }
-    ensures legal { IfOk result (λ run. IsLegalTrace base run.trace) }
-    ensures fault { IfErr result (λ fault. serving_status fault ≡ 4) }
+    standing: &[Question],
+) -> Result<Loaded, RunCommandFault>
+    ensures base { IfOk result (λ loaded. loaded ≡ base) }
+    ensures refused { IfErr result (λ fault. serving_status fault ≡ 1 → HasTooManyGroups base standing.now) }
+    ensures words { IfErr result (λ fault. serving_status fault ≢ 2) }
+    ensures trace { IfErr result (λ fault. serving_status fault ≢ 3) }
 {
     let base = Arc::new(rt.alloc(), base)?;
-    match serve_scripts(rt, rt.alloc(), hashing, base, scripts, dispatchers, timed) {
+    match Loaded::new(rt, rt.alloc(), hashing, &base, standing) {
+        Ok(loaded) => Ok(loaded),
+        Err(StandingError::OutOfMemory) => Err(RunCommandFault::Program(Fault::OutOfMemory)),
+        Err(StandingError::TooManyGroups(place)) => {
+            Err(RunCommandFault::Program(Fault::too_many_groups(place)))
+        }
+    }
+}
+
+// Serves scripts at once over a loaded base.
+fn serve<R: Threads + Sync + Wait + Clock + AllocGlobal>(
+    rt: &R,
+    dispatchers: u32,
+    timed: bool,
+    loaded: Loaded,
+    scripts: Vec<Script>,
+) -> Result<Run, RunCommandFault>
+    ensures run { IfOk result (λ run. IsRun loaded scripts.items dispatchers
+        (map (λ report. report.items) run.reports.items) run.trace) }
+    ensures legal { IfOk result (λ run. IsLegalTrace loaded run.trace) }
+    ensures fault { IfErr result (λ fault. serving_status fault ≡ 4) }
+{
+    match serve_scripts(rt, rt.alloc(), loaded, scripts, dispatchers, timed) {
         Ok(run) => Ok(run),
         Err(fault) => Err(RunCommandFault::Found(NotRun(fault))),
     }
@@ -79,7 +104,7 @@ fn run_of<R: Threads + Sync + Wait + Clock + AllocGlobal, I: Read + Drop>(
         (map (λ report. report.items) run.reports.items) run.trace) }
     ensures refused { IfErr result (λ fault. serving_status fault ≡ 1 → (texts : Table → List ℕ)
         → AreTexts I.remaining tables texts
-        → AreRefused texts ⊎ HasRefused (map I.remaining sources.items)) }
+        → AreRefused texts ⊎ HasRefused (map I.remaining sources.items) ⊎ MayNotStand texts settings.standing.items) }
     ensures words { IfErr result (λ fault. serving_status fault ≢ 2) }
     ensures trace { IfErr result (λ fault. serving_status fault ≢ 3) }
 {
@@ -89,10 +114,12 @@ fn run_of<R: Threads + Sync + Wait + Clock + AllocGlobal, I: Read + Drop>(
     let RunSettings {
         hashing,
         dispatchers,
+        standing,
         times,
     } = settings;
-    let run = serve(rt, hashing, dispatchers, times, base, scripts)?;
-    pace.end_serving(rt, &run);
+    let loaded = load(rt, hashing, base, &standing)?;
+    let run = serve(rt, dispatchers, times, loaded, scripts)?;
+    pace.end_serving(rt, &run, !standing.is_empty());
     Ok(run)
 }
 
@@ -182,7 +209,7 @@ fn report<R: Threads + Sync + Wait + Clock + AllocGlobal, I: Read + Drop, W: Wri
         (W.contents out.new) (option_and_then T.contents file.old) (option_and_then T.contents file.new))) }
     ensures refused { IfErr result (λ fault. serving_status fault ≡ 1 → (texts : Table → List ℕ)
         → AreTexts I.remaining tables texts
-        → AreRefused texts ⊎ HasRefused (map I.remaining sources.items)) }
+        → AreRefused texts ⊎ HasRefused (map I.remaining sources.items) ⊎ MayNotStand texts settings.standing.items) }
     ensures words { IfErr result (λ fault. serving_status fault ≢ 2) }
     ensures trace { IfErr result (λ fault. serving_status fault ≢ 3) }
 {
@@ -204,9 +231,10 @@ fn tell_times<E: Write>(pace: &RunTimes, times: bool, err: &mut E)
 /// live server. When all have ended it writes for each client, in order, the line `client K` and its report, and then
 /// the line `commits C`; and into the file, where there is one, the trace of the run. A fault is a line to `err`.
 ///
-/// The tables are read first, then the scripts in order, and then the server is opened. The result is the exit status:
-/// 0 with nothing written to `err` but the times, where they are asked for; 1 where the data or a script is refused, 2
-/// where there are more than 16 scripts, and else 4. Where `out` or the file fails, what was written before stands.
+/// The tables are read first, then the scripts in order, then the questions that stand get their totals, and then the
+/// server is opened. The result is the exit status: 0 with nothing written to `err` but the times, where they are asked
+/// for; 1 where the data, a script or a question that is to stand is refused, 2 where there are more than 16 scripts,
+/// and else 4. Where `out` or the file fails, what was written before stands.
 pub fn run_scripts<
     R: Threads + Sync + Wait + Clock + AllocGlobal,
     I: Read + Drop,
@@ -231,7 +259,7 @@ pub fn run_scripts<
         (W.contents out.new) (option_and_then T.contents file.old) (option_and_then T.contents file.new)) }
     ensures quiet { result ≡ 0 → settings.times ≡ false → err.new ≡ err.old }
     ensures refused { result ≡ 1 → (texts : Table → List ℕ) → AreTexts I.remaining tables texts
-        → AreRefused texts ⊎ HasRefused (map I.remaining sources.items) }
+        → AreRefused texts ⊎ HasRefused (map I.remaining sources.items) ⊎ MayNotStand texts settings.standing.items }
     ensures many { (result ≡ 2) ↔ (16 < vec_len sources) }
     ensures trace { result ≢ 3 }
 {

@@ -15,6 +15,7 @@ use ssb_base::Base;
 use ssb_files::{Fault, base_of};
 use ssb_report::write_bytes;
 use ssb_script::{MOST_RECORDS, Script, read_script};
+use ssb_server::Loaded;
 use ssb_sessions::serve_scripts;
 use std::alloc::Global;
 use std::hash::RandomState;
@@ -54,9 +55,12 @@ fn report_over<R: Threads + Sync + Wait + Clock + AllocGlobal>(
     ensures fault { IfErr result (λ fault. serving_status fault ≡ 4) }
 {
     let base = Arc::new(rt.alloc(), base)?;
+    let Ok(loaded) = Loaded::new(rt, rt.alloc(), hashing, &base, &[]) else {
+        return Err(RunCommandFault::Program(Fault::OutOfMemory));
+    };
     let mut scripts = Vec::new(rt.alloc());
     scripts.push(script)?;
-    match serve_scripts(rt, rt.alloc(), hashing, base, scripts, 1, false) {
+    match serve_scripts(rt, rt.alloc(), loaded, scripts, 1, false) {
         Ok(run) => Ok(only(run.reports)),
         Err(fault) => Err(RunCommandFault::Found(NotRun(fault))),
     }

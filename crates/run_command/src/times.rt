@@ -18,6 +18,8 @@ pub struct RunTimes {
     commits: u64,
     answers: u64,
     batches: Batches,
+    // Of the answers, those from totals, where questions stand.
+    by_totals: Option<u64>,
     latencies: Latencies,
 }
 
@@ -74,6 +76,7 @@ impl RunTimes {
             commits: 0,
             answers: 0,
             batches: Batches::default(),
+            by_totals: None,
             latencies: Latencies::default(),
         }
     }
@@ -91,19 +94,20 @@ impl RunTimes {
         self.load = self.lap(clock);
     }
 
-    /// The server is closed, and left this run.
-    pub fn end_serving<C: Clock>(&mut self, clock: &C, run: &Run) {
+    /// The server is closed, and left this run; whether questions stood.
+    pub fn end_serving<C: Clock>(&mut self, clock: &C, run: &Run, stood: bool) {
         self.serving = self.lap(clock);
         self.threads = run.threads;
         self.commits = run.trace.commits.as_slice().len() as u64;
         self.answers = run.trace.answers.as_slice().len() as u64;
         self.batches = run.batches;
+        self.by_totals = if stood { Some(run.by_totals) } else { None };
         self.latencies = run.latencies;
     }
 
     /// Writes the seconds of both steps and of the threads, the commits and the answers with how many there were a
-    /// second of the threads, the batches with the mean number of questions in one, and the times of a refresh and of
-    /// a question, as far as the writer takes them.
+    /// second of the threads, the batches with the mean number of questions in one, how many answers came from totals
+    /// where questions stood, and the times of a refresh and of a question, as far as the writer takes them.
     pub fn tell<E: Write>(&self, err: &mut E) {
         for (name, time) in [
             ("load", self.load),
@@ -121,6 +125,9 @@ impl RunTimes {
             }
         }
         self.tell_batches(err);
+        if let Some(count) = self.by_totals {
+            let _ = writeln!(err, "ssb_live: totals {count} answers");
+        }
         tell_latency(err, "refreshes", self.latencies.refreshes);
         tell_latency(err, "questions", self.latencies.answers);
     }

@@ -1,3 +1,4 @@
+pub mod StandingLaws
 pub mod StatusLaws
 pub mod SessionLaws
 pub mod ServedLaws

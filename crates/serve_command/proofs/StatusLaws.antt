@@ -1,13 +1,15 @@
 -- The exit statuses that there are.
 use Rattle.std.proofs.Common.{◌≡◌, ℕ, ◌⊎◌, inl, inr, Result, Ok, Err, refl, arith}
 use Rattle.std.specs.Prelude.{◌≢◌}
-use Rattle.ssb_files.specs.Status.{data_status, job_status, script_status, status_of}
+use Rattle.ssb_files.specs.Status.{data_status, job_status, questions_status, script_status, status_of}
 use Rattle.ssb_files.specs.declared.fault.Fault.{Fault}
 use Rattle.ssb_files.specs.declared.fault.Fault.TheVariants as fault
 use Rattle.ssb_files.specs.declared.job.JobFault.{JobFault}
 use Rattle.ssb_files.specs.declared.job.JobFault.TheVariants as job
 use Rattle.ssb_script.specs.declared.error.ScriptError.{ScriptError}
 use Rattle.ssb_script.specs.declared.error.ScriptError.TheVariants as script
+use Rattle.ssb_script.specs.declared.questions.QuestionsError.{QuestionsError}
+use Rattle.ssb_script.specs.declared.questions.QuestionsError.TheVariants as questions
 use Rattle.ssb_text.specs.declared.error.LoadError.{LoadError}
 use Rattle.ssb_text.specs.declared.error.LoadError.TheVariants as load
 use Rattle.journal_file.specs.declared.file_disk.OpenError.{OpenError}
@@ -53,6 +55,11 @@ of_script script.TooLong = inl refl
 of_script script.Read = inr (inr refl)
 of_script script.OutOfMemory = inr (inr refl)
 
+of_questions : (why : QuestionsError) → IsFaultStatus (questions_status why)
+of_questions (questions.NotAQuestion number) = inl refl
+of_questions questions.Read = inr (inr refl)
+of_questions questions.OutOfMemory = inr (inr refl)
+
 of_program : (why : Fault) → IsFaultStatus (status_of why)
 of_program (fault.CannotRead path) = inr (inr refl)
 of_program (fault.Paths why) = inl refl
@@ -63,6 +70,8 @@ of_program (fault.Constants why) = inr (inl refl)
 of_program fault.TooManyScripts = inr (inl refl)
 of_program (fault.Data why) = of_data why
 of_program (fault.Script number why) = of_script why
+of_program (fault.Standing why) = of_questions why
+of_program (fault.TooManyGroups why) = inl refl
 of_program (fault.Trace why) = of_script why
 of_program fault.WriteFailed = inr (inr refl)
 of_program fault.OutOfMemory = inr (inr refl)

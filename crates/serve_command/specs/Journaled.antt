@@ -13,6 +13,7 @@ use Rattle.row_store.specs.History.{CommitRecord, IsPrefix}
 use Rattle.row_store.specs.Legal.{IsLegal}
 use Rattle.row_store.specs.declared.refusal.Cause.{Cause}
 use Rattle.serve_command.specs.Sessions.{AreSessions, EndWell, HasConversed, HasEnded, SessionRecord, most_told}
+use Rattle.serve_command.specs.Standing.{MayNotStand}
 use Rattle.ssb_base.specs.Base.{Tables}
 use Rattle.ssb_files.specs.Loaded.{AreRefusedToServe, IsLoadedToServe}
 use Rattle.ssb_journal.specs.Counts.{KeepsBeginning}
@@ -20,6 +21,8 @@ use Rattle.ssb_journal.specs.Opening.{IsOpenFault}
 use Rattle.ssb_journal.specs.Replays.{IsFirstRefused}
 use Rattle.ssb_journal.specs.declared.fault.JournalFault.{JournalFault}
 use Rattle.ssb_journal.specs.declared.head.TableSize.{TableSize}
+use Rattle.ssb_questions.specs.declared.query.Query.{Query}
+use Rattle.ssb_questions.specs.declared.value.Value.{Value}
 use Rattle.ssb_schema.specs.declared.table.Table.{Table}
 use Rattle.stream_sessions.specs.Events.{Event, most_covered}
 use Rattle.stream_sessions.specs.declared.outcome.Served.{Served}
@@ -160,6 +163,8 @@ pub record RefusesJournal (texts : Table → List ℕ) (known : Option (List ℕ
   pub is_file : IsKnown known file
   pub refused : IsRefusedFile base sizes file
 
--- what is refused: the five texts; the journal's file, which another has; or what it holds
-abbrev pub AreRefusedJournaled : (Table → List ℕ) → Option (List ℕ) → Type 0 → Type 0
-AreRefusedJournaled texts known Taken = AreRefusedToServe texts ⊎ (Taken ⊎ RefusesJournal texts known)
+-- what is refused: the five texts; one of the questions that are to stand; the journal's file, which another has; or
+-- what it holds
+abbrev pub AreRefusedJournaled : (Table → List ℕ) → List (Query × List Value) → Option (List ℕ) → Type 0 → Type 0
+AreRefusedJournaled texts standing known Taken =
+    AreRefusedToServe texts ⊎ (MayNotStand texts standing ⊎ (Taken ⊎ RefusesJournal texts known))

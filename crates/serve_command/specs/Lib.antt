@@ -1,3 +1,4 @@
+pub mod Standing
 pub mod Status
 pub mod Sessions
 pub mod Served

@@ -36,5 +36,6 @@ impl fmt::Display for NotServed {
     }
 }
 
-/// Why clients were not served. The exit status is 1 where the data is refused, 2 for too many clients, and else 4.
+/// Why clients were not served. The exit status is 1 where the data or a question that is to stand is refused, 2 for
+/// too many clients, and else 4.
 pub type ServingFault = JobFault<NotServed>;

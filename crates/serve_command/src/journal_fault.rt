@@ -44,6 +44,6 @@ impl fmt::Display for JournalRefusal {
     }
 }
 
-/// Why clients were not served with a journal. The exit status is 1 where the data or the journal is refused, 2 for too
-/// many clients, and else 4.
+/// Why clients were not served with a journal. The exit status is 1 where the data, a question that is to stand or the
+/// journal is refused, 2 for too many clients, and else 4.
 pub type JournalServingFault = JobFault<JournalRefusal>;

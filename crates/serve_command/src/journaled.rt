@@ -15,6 +15,7 @@ ghost use Rattle.ssb_schema.specs.declared.table.Table.{Table};
 ghost use Rattle.ssb_text.specs.Load.{AreTexts};
 
 use crate::journal_fault::{JournalRefusal, JournalServingFault};
+use crate::loading::load;
 use crate::serving::{
     MOST_CLIENTS, PathClients, ServeSettings, StreamEnd, clients_status, speakers_of, tell_ended,
     were_served,
@@ -23,9 +24,9 @@ use crate::speakers::{StreamClient, StreamLeft};
 use journal::{Disk, KeepsTorn};
 use journal_opening::{OpeningFault, OpensJournal, table_sizes};
 use journaled_sessions::{Durable, JournaledRun, Recovered, serve_journaled};
-use ssb_base::Base;
 use ssb_files::{Fault, TableBytes, base_to_serve};
 use ssb_journal::{TableSize, open};
+use ssb_server::Loaded;
 use ssb_text::Tables;
 use std::alloc::Global;
 use std::io;
@@ -46,10 +47,10 @@ pub struct JournalPlace<'a, P> {
     pub tells: bool,
 }
 
-/// Loaded tables, and a journal's file over them that was just opened.
+/// A loaded base, and a journal's file over its tables that was just opened.
 #[derive(Drop)]
 pub struct JournalSource<'a, D: Disk + Drop> {
-    pub base: Arc<Base>,
+    pub loaded: Loaded,
     /// How large the tables are, as the journal's head tells it.
     pub sizes: &'a [TableSize],
     pub disk: D,
@@ -86,12 +87,12 @@ impl<'a, P: KeepsTorn, E: Print> KeepsTorn for TornKeeper<'a, P, E> {
     }
 }
 
-/// Serves clients at once, one for each speaker, over loaded tables, behind the commits of a journal's file that was
-/// just opened. All of it is looked at before anything is written; what a crash has torn is kept at the place before it
-/// is cut off.
+/// Serves clients at once, one for each speaker, by 1 to 4 dispatchers over a loaded base, behind the commits of a
+/// journal's file that was just opened. All of it is looked at before anything is written; what a crash has torn is
+/// kept at the place before it is cut off.
 pub fn serve_source<R, P, D, S, E>(
     rt: &R,
-    settings: ServeSettings,
+    dispatchers: u32,
     place: &JournalPlace<'_, P>,
     source: JournalSource<'_, D>,
     speakers: Vec<S>,
@@ -108,19 +109,23 @@ where
     requires readable { D.is_readable source.disk }
     requires durable { Only (D.seen source.disk) (D.may_leave source.disk) }
     requires few { vec_len speakers ≤ 16 }
-    ensures served { IfOk result (λ run. GoesOn S.spoken source.entry.base.value source.entry.sizes.now
-        (D.seen source.entry.disk) speakers.items settings.dispatchers run.left.items run.log) }
+    ensures served { IfOk result (λ run. GoesOn S.spoken source.entry.loaded source.entry.sizes.now
+        (D.seen source.entry.disk) speakers.items dispatchers run.left.items run.log) }
     // Whatever crashes from now on leaves the first commits of the log, at least so many, ..
     ensures kept { IfOk result (λ run. IsLeft (D.may_leave run.disk) (D.seen run.disk) run.count run.log
         run.was_written) }
     // .. and no client was told of more.
     ensures told { IfOk result (λ run. All (λ left. S.told left ≤ run.count) run.left.items) }
     ensures left { IfOk result (λ run. vec_len run.left ≡ vec_len speakers) }
-    ensures refused { IfErr result (λ refusal. journal_status refusal ≡ 1 → IsRefusedFile source.entry.base.value
+    ensures refused { IfErr result (λ refusal. journal_status refusal ≡ 1 → IsRefusedFile source.entry.loaded
         source.entry.sizes.now (D.seen source.entry.disk)) }
     ensures words { IfErr result (λ refusal. journal_status refusal ≢ 2) }
 {
-    let JournalSource { base, sizes, disk } = source;
+    let JournalSource {
+        loaded,
+        sizes,
+        disk,
+    } = source;
     let opened = match open(rt.alloc(), sizes, disk) {
         Ok(opened) => opened,
         Err((fault, _)) => return Err(JournalRefusal::Journal(OpeningFault::Kept(fault))),
@@ -135,19 +140,7 @@ where
         sizes,
         keeper: &keeper,
     };
-    let ServeSettings {
-        hashing,
-        dispatchers,
-    } = settings;
-    match serve_journaled(
-        rt,
-        rt.alloc(),
-        hashing,
-        base,
-        speakers,
-        dispatchers,
-        recovered,
-    ) {
+    match serve_journaled(rt, rt.alloc(), loaded, speakers, dispatchers, recovered) {
         Ok(run) => Ok(run),
         Err(fault) => Err(JournalRefusal::NotServed(fault)),
     }
@@ -195,19 +188,26 @@ where
     ensures left { IfOk result (λ run. vec_len run.left ≡ vec_len speakers) }
     ensures refused { IfErr result (λ fault. job_status journal_status fault ≡ 1 → (texts : Table → List ℕ)
         → AreTexts I.remaining tables texts
-        → AreRefusedJournaled texts (P.holds place.now.file.now) (P.is_taken place.now.file.now)) }
+        → AreRefusedJournaled texts settings.standing.items (P.holds place.now.file.now)
+        (P.is_taken place.now.file.now)) }
     ensures words { IfErr result (λ fault. job_status journal_status fault ≢ 2) }
 {
     let base = base_to_serve(rt, rt.alloc(), tables)?;
     let sizes = table_sizes(&base, place.bytes);
     let base = Arc::new(rt.alloc(), base)?;
+    let ServeSettings {
+        hashing,
+        dispatchers,
+        standing,
+    } = settings;
+    let loaded = load(rt, hashing, &base, &standing)?;
     let disk = open_file(rt.alloc(), place.file)?;
     let source = JournalSource {
-        base,
+        loaded,
         sizes: &sizes,
         disk,
     };
-    match serve_source(rt, settings, place, source, speakers, screen) {
+    match serve_source(rt, dispatchers, place, source, speakers, screen) {
         Ok(run) => Ok(run),
         Err(refusal) => Err(JournalServingFault::Found(refusal)),
     }
@@ -267,7 +267,8 @@ where
         (P.Opened.may_leave left.disk) (P.Opened.seen left.disk) left.was_written) }
     ensures refused { IfErr result (λ fault. job_status journal_status fault ≡ 1 → (texts : Table → List ℕ)
         → AreTexts I.remaining tables texts
-        → AreRefusedJournaled texts (P.holds place.now.file.now) (P.is_taken place.now.file.now)) }
+        → AreRefusedJournaled texts settings.standing.items (P.holds place.now.file.now)
+        (P.is_taken place.now.file.now)) }
     ensures words { IfErr result (λ fault. job_status journal_status fault ≢ 2) }
 {
     let mut speakers = Vec::new(rt.alloc());
@@ -302,7 +303,8 @@ pub struct JournaledEnd<O: Drop, D: Drop> {
 /// Serves one client as [`serve_stream`](crate::serve_stream) does, behind the commits of a journal: it is told nothing
 /// before it is on the disk.
 ///
-/// The exit status is 0 where all was answered, 1 where the data or the journal is refused, and else 4.
+/// The exit status is 0 where all was answered, 1 where the data, a question that is to stand or the journal is
+/// refused, and else 4.
 pub fn serve_stream_journaled<R, P, I, J, O, E>(
     rt: &R,
     settings: ServeSettings,
@@ -332,7 +334,8 @@ where
         (J.remaining input) (O.contents output) (option_and_then O.contents result.end.output)
         (P.Opened.may_leave disk) (P.Opened.seen disk)) }
     ensures refused { result.end.status ≡ 1 → (texts : Table → List ℕ) → AreTexts I.remaining tables texts
-        → AreRefusedJournaled texts (P.holds place.now.file.now) (P.is_taken place.now.file.now) }
+        → AreRefusedJournaled texts settings.standing.items (P.holds place.now.file.now)
+        (P.is_taken place.now.file.now) }
     ensures others { result.end.status ≢ 0 → result.end.status ≢ 1 → result.end.status ≡ 4 }
 {
     let mut err = io::writer(screen);
@@ -391,8 +394,8 @@ fn tell_clients<E: Write>(was_written: bool, all_served: bool, err: &mut E) -> u
 /// Serves 1 to 16 clients at once as [`serve_clients`](crate::serve_clients) does, behind the commits of a journal:
 /// they are told nothing before it is on the disk.
 ///
-/// The exit status is 0 where all clients were served to their ends, 1 where the data or the journal is refused, 2
-/// where there are more than 16 clients, and else 4.
+/// The exit status is 0 where all clients were served to their ends, 1 where the data, a question that is to stand or
+/// the journal is refused, 2 where there are more than 16 clients, and else 4.
 pub fn serve_clients_journaled<R, F, P, I, E>(
     rt: &R,
     settings: ServeSettings,
@@ -416,7 +419,8 @@ where
         → ServesClientsJournaled result.status texts (P.holds place.now.file.now) (vec_len clients.entry.ends)
         settings.dispatchers (P.Opened.may_leave disk) (P.Opened.seen disk)) }
     ensures refused { result.status ≡ 1 → (texts : Table → List ℕ) → AreTexts I.remaining tables texts
-        → AreRefusedJournaled texts (P.holds place.now.file.now) (P.is_taken place.now.file.now) }
+        → AreRefusedJournaled texts settings.standing.items (P.holds place.now.file.now)
+        (P.is_taken place.now.file.now) }
     ensures many { (result.status ≡ 2) ↔ (16 < vec_len clients.entry.ends) }
     ensures others { result.status ≢ 0 → result.status ≢ 1 → result.status ≢ 2 → result.status ≡ 4 }
 {

@@ -13,7 +13,8 @@
 //! session broke, what was told before, or a part of that where writing failed (`specs/Sessions.antt`). The server's
 //! history is legal, and all its commits are this client's. That of [`serve_clients`]: with status 0 there was such a
 //! server, each of whose clients had sessions, one after another, the last of which was served to its end; the history
-//! has the commits of these clients and no others. 1 tells of refused data alone, 2 of too many clients alone.
+//! has the commits of these clients and no others. 1 tells of refused data, or of a question that may not stand, 2 of
+//! too many clients alone. Which questions stand changes nothing else of it.
 //!
 //! With a journal (`specs/Journaled.antt`) the history begins with the commits that the journal's file keeps, and each
 //! client has seen them before its first session; and whatever crashes after the run leaves at least as many commits as
@@ -30,6 +31,7 @@ mod ends;
 mod fault;
 mod journal_fault;
 mod journaled;
+mod loading;
 mod prompted;
 mod serving;
 mod speakers;

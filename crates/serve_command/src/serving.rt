@@ -4,6 +4,7 @@ ghost use Rattle.std.specs.Prelude.{◌≡◌, ◌≢◌, ◌⊎◌, ◌↔◌, 
 ghost use Rattle.std.specs.List.{list_all};
 ghost use Rattle.std.specs.Option.{option_and_then};
 ghost use Rattle.serve_command.specs.Served.{BreaksAlone, EndsAlone, IsRunOver, ServesAlone, ServesClients};
+ghost use Rattle.serve_command.specs.Standing.{MayNotStand};
 ghost use Rattle.serve_command.specs.Status.{serving_status, session_status};
 ghost use Rattle.ssb_files.specs.Loaded.{AreRefusedToServe};
 ghost use Rattle.ssb_schema.specs.declared.table.Table.{Table};
@@ -12,8 +13,10 @@ ghost use Rattle.ssb_text.specs.Load.{AreTexts};
 
 use crate::ends::EndPaths;
 use crate::fault::{NotServed, ServingFault};
+use crate::loading::load;
 use crate::speakers::{PathClient, PathLeft, StreamClient, StreamLeft};
 use ssb_files::base_to_serve;
+use ssb_questions::Question;
 use ssb_text::Tables;
 use std::alloc::AllocError;
 use std::hash::RandomState;
@@ -35,6 +38,8 @@ pub struct ServeSettings {
     pub hashing: RandomState,
     /// 1 to 4, else no server is opened.
     pub dispatchers: u32,
+    /// The questions that stand: their totals follow the commits. Which they are changes no reply.
+    pub standing: Vec<Question>,
 }
 
 /// How serving one client ended.
@@ -61,7 +66,8 @@ where
     ensures left { IfOk result (λ run. vec_len run.left ≡ vec_len speakers) }
     ensures counts { OnOk result (AreCounts (vec_len speakers) settings.dispatchers) }
     ensures refused { IfErr result (λ fault. serving_status fault ≡ 1 → (texts : Table → List ℕ)
-        → AreTexts I.remaining tables texts → AreRefusedToServe texts) }
+        → AreTexts I.remaining tables texts
+        → AreRefusedToServe texts ⊎ MayNotStand texts settings.standing.items) }
     ensures words { IfErr result (λ fault. serving_status fault ≢ 2) }
 {
     let base = base_to_serve(rt, rt.alloc(), tables)?;
@@ -69,8 +75,10 @@ where
     let ServeSettings {
         hashing,
         dispatchers,
+        standing,
     } = settings;
-    match serve_streams(rt, rt.alloc(), hashing, base, speakers, dispatchers) {
+    let loaded = load(rt, hashing, &base, &standing)?;
+    match serve_streams(rt, rt.alloc(), loaded, speakers, dispatchers) {
         Ok(run) => Ok(run),
         Err(fault) => Err(ServingFault::Found(NotServed::NotRun(fault))),
     }
@@ -90,7 +98,8 @@ where
         → EndsAlone left.ended texts settings.dispatchers (J.remaining input) (O.contents output)
         (O.contents left.output)) }
     ensures refused { IfErr result (λ fault. serving_status fault ≡ 1 → (texts : Table → List ℕ)
-        → AreTexts I.remaining tables texts → AreRefusedToServe texts) }
+        → AreTexts I.remaining tables texts
+        → AreRefusedToServe texts ⊎ MayNotStand texts settings.standing.items) }
     ensures words { IfErr result (λ fault. serving_status fault ≢ 2) }
 {
     let mut speakers = Vec::new(rt.alloc());
@@ -119,7 +128,7 @@ pub(crate) fn tell_ended<E: Write>(ended: &Result<Served, SessionError>, err: &m
 /// Serves one client over the base that the tables spell: its requests are read from the input as they come, and
 /// answered to the output, until the input ends. A fault is a line to the screen.
 ///
-/// The exit status is 0 where all was answered, 1 where the data is refused, and else 4.
+/// The exit status is 0 where all was answered, 1 where the data or a question that is to stand is refused, and else 4.
 pub fn serve_stream<R, I: Read + Drop, J: Read + Drop + Send, O: Write + Drop + Send, E: Print>(
     rt: &R,
     settings: ServeSettings,
@@ -138,7 +147,7 @@ where
         → BreaksAlone texts settings.dispatchers (J.remaining input) (O.contents output)
         (option_and_then O.contents result.output)) }
     ensures refused { result.status ≡ 1 → (texts : Table → List ℕ) → AreTexts I.remaining tables texts
-        → AreRefusedToServe texts }
+        → AreRefusedToServe texts ⊎ MayNotStand texts settings.standing.items }
     ensures others { result.status ≢ 0 → result.status ≢ 1 → result.status ≡ 4 }
 {
     let mut err = io::writer(screen);
@@ -223,7 +232,8 @@ where
         → AreTexts I.remaining tables texts → ServesClients texts (vec_len clients.entry.ends) settings.dispatchers) }
     ensures counts { OnOk result (AreCounts (vec_len clients.entry.ends) settings.dispatchers) }
     ensures refused { IfErr result (λ fault. serving_status fault ≡ 1 → (texts : Table → List ℕ)
-        → AreTexts I.remaining tables texts → AreRefusedToServe texts) }
+        → AreTexts I.remaining tables texts
+        → AreRefusedToServe texts ⊎ MayNotStand texts settings.standing.items) }
     ensures words { IfErr result (λ fault. serving_status fault ≢ 2) }
 {
     let speakers = speakers_of(clients, screen)?;
@@ -235,8 +245,8 @@ where
 /// opens. A client's faults are lines to the screen when they come, and end that client alone. Where they are kept, a
 /// client's named pipes are opened again for its next session.
 ///
-/// The result is the exit status: 0 where all clients were served to their ends, 1 where the data is refused, 2 where
-/// there are more than 16 clients, and else 4.
+/// The result is the exit status: 0 where all clients were served to their ends, 1 where the data or a question that is
+/// to stand is refused, 2 where there are more than 16 clients, and else 4.
 pub fn serve_clients<R, F: Files + Sync + AllocGlobal, I: Read + Drop, E: Print + Sync>(
     rt: &R,
     settings: ServeSettings,
@@ -252,7 +262,7 @@ where
         → ServesClients texts (vec_len clients.entry.ends) settings.dispatchers }
     ensures counts { result ≡ 0 → AreCounts (vec_len clients.entry.ends) settings.dispatchers }
     ensures refused { result ≡ 1 → (texts : Table → List ℕ) → AreTexts I.remaining tables texts
-        → AreRefusedToServe texts }
+        → AreRefusedToServe texts ⊎ MayNotStand texts settings.standing.items }
     ensures many { (result ≡ 2) ↔ (16 < vec_len clients.entry.ends) }
     ensures others { result ≢ 0 → result ≢ 1 → result ≢ 2 → result ≡ 4 }
 {

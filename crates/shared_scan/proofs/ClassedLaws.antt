@@ -50,7 +50,7 @@ lines_classed places lines are = record {
 }
 
 -- a row among the first ones stands at the same position among all
-among_all : {R : Type 0} (n : ℕ) (rows : List R) (p : ℕ) (row : R) → slice_get (take n rows) p ≡ Some row
+pub among_all : {R : Type 0} (n : ℕ) (rows : List R) (p : ℕ) (row : R) → slice_get (take n rows) p ≡ Some row
     → slice_get rows p ≡ Some row
 among_all zero rows p row at = absurd (cc)
 among_all (suc n) [] p row at = at
@@ -111,7 +111,7 @@ below_taken (suc n) (r ∷ rows) (suc i) some there = omega
     (arith, below_taken n rows i (omega (arith, some)) (omega (arith, there)))
 
 -- a row's class is the position of one of the first rows
-class_there : {R : Type 0} (columns : List (List Value)) (rows : List R) (p class : ℕ) → p < length rows
+pub class_there : {R : Type 0} (columns : List (List Value)) (rows : List R) (p class : ℕ) → p < length rows
     → class ≡ get_or (classes_by columns (length rows)) p 0
     → class < length (take (extent_of (classes_by columns (length rows))) rows)
 class_there columns rows p class within is =

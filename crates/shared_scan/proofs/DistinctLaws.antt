@@ -41,14 +41,15 @@ use Rattle.ssb_answers.proofs.MemberLaws.{has_filter}
 use Rattle.std.proofs.lemmas.List.{get_or-map, length-map}
 use Rattle.dimension_index.specs.Codes.{is_same, distinct, codes_of}
 use Rattle.scan_kernel.specs.Groups.{code_in, AreApart}
+use Rattle.shared_scan.specs.Numbering.{IsUsed}
 
-same_self : (v : Value) → is_same v v ≡ true
+pub same_self : (v : Value) → is_same v v ≡ true
 same_self v = (value_Decides v v).1 refl
 
 same_only : (v w : Value) → is_same v w ≡ true → v ≡ w
 same_only v w e = (value_Decides v w).0 e
 
-not_same : (v w : Value) → (v ≡ w → ⊥) → is_same v w ≡ false
+pub not_same : (v w : Value) → (v ≡ w → ⊥) → is_same v w ≡ false
 not_same v w differs = go (is_same v w) refl where
   go : (b : Bool) → is_same v w ≡ b → b ≡ false
   go true e = absurd (differs (same_only v w e))
@@ -57,12 +58,12 @@ not_same v w differs = go (is_same v w) refl where
 differs_from : (v w : Value) → is_same v w ≡ false → v ≡ w → ⊥
 differs_from v w e same = let t : is_same v w ≡ true = (value_Decides v w).1 same in cc
 
-pub has_at : (xs : List Value) (i : ℕ) (v : Value) → slice_get xs i ≡ Some v → Has xs v
+pub has_at : {X : Type 0} (xs : List X) (i : ℕ) (v : X) → slice_get xs i ≡ Some v → Has xs v
 has_at [] i v e = cc
 has_at (x ∷ xs) zero v e = inl (let same : x ≡ v = cc in sym same)
 has_at (x ∷ xs) (suc i) v e = inr (has_at xs i v e)
 
-pub has_index : (xs : List Value) (v : Value) → Has xs v → (i : ℕ) × (slice_get xs i ≡ Some v)
+pub has_index : {X : Type 0} (xs : List X) (v : X) → Has xs v → (i : ℕ) × (slice_get xs i ≡ Some v)
 has_index [] v h = absurd h
 has_index (x ∷ xs) v (inl e) = (0, ap Some (sym e))
 has_index (x ∷ xs) v (inr h) = let rest = has_index xs v h in (suc rest.0, rest.1)
@@ -153,6 +154,39 @@ distinct_has (x ∷ vals) v (inr h) =
       | false ↦ λ e. inr (has_filter (λ other. not (is_same x other)) (distinct vals) v (ap not e)
           (distinct_has vals v h))
     ] refl
+
+-- what a filter keeps is in the list, and passes
+pub kept_has : {X : Type 0} (p : X → Bool) (xs : List X) (v : X) → Has (filter p xs) v → Has xs v × (p v ≡ true)
+kept_has p [] v h = absurd h
+kept_has p (x ∷ xs) v h = go (p x) refl h (kept_has p xs v)
+  where
+    go : (b : Bool) → p x ≡ b → Has (cond b (x ∷ filter p xs) (filter p xs)) v
+        → (Has (filter p xs) v → Has xs v × (p v ≡ true)) → Has (x ∷ xs) v × (p v ≡ true)
+    go true e (inl same) rest = (inl same, ap p same ∙ e)
+    go true e (inr later) rest = (inr (rest later).0, (rest later).1)
+    go false e later rest = (inr (rest later).0, (rest later).1)
+
+pub distinct_only : (vals : List Value) (v : Value) → Has (distinct vals) v → Has vals v
+unfolding distinct
+distinct_only [] v h = absurd h
+distinct_only (x ∷ vals) v (inl e) = inl e
+distinct_only (x ∷ vals) v (inr h) = inr (distinct_only vals v
+    (kept_has (λ other. not (is_same x other)) (distinct vals) v h).0)
+
+-- each of the distinct values is that of a row
+pub distinct_used : (rows : List Value) (code : ℕ) → code < length (distinct rows) → IsUsed (codes_of rows) code
+distinct_used rows code below =
+    let value = get_or (distinct rows) code (Number 0) in
+    let at : slice_get (distinct rows) code ≡ Some value = slice_get-get_or (distinct rows) code (Number 0) below in
+    let found = has_index rows value (distinct_only rows value (has_at (distinct rows) code value at)) in
+    let inside : found.0 < length rows = slice_get_within rows found.0 value found.1 in
+    record {
+      row = found.0;
+      there = omega (arith, inside, length-map rows (code_in (distinct rows)));
+      own = get_or-map (code_in (distinct rows)) rows found.0 (Number 0) 0 inside
+          ∙ ap (code_in (distinct rows)) (get_or_from_slice_get rows found.0 value (Number 0) found.1)
+          ∙ code_is (distinct rows) code value (distinct_apart rows) at;
+    }
 
 -- a row's code is that of its value
 pub code_reads : (vals : List Value) (p : ℕ) (v : Value) → slice_get vals p ≡ Some v

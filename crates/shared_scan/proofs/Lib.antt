@@ -28,3 +28,5 @@ pub mod StandingScanLaws
 pub mod StandingAnswerLaws
 pub mod LoadedLaws
 pub mod FoundLaws
+pub mod CountLaws
+pub mod GroupCountLaws

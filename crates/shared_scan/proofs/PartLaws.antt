@@ -9,7 +9,7 @@ use Rattle.ssb_questions.specs.declared.value.Value.TheVariants.{Number}
 use Rattle.dimension_index.specs.Codes.{distinct, codes_of}
 use Rattle.scan_kernel.specs.Places.{mask_in}
 use Rattle.scan_kernel.specs.Groups.{AreApart, code_in}
-use Rattle.shared_scan.specs.Numbering.{AreNumbered, IsPreparedColumn}
+use Rattle.shared_scan.specs.Numbering.{AreNumbered, IsPreparedColumn, IsTaken, IsTakenValue}
 use Rattle.shared_scan.proofs.DistinctLaws.{code_is, distinct_apart, code_reads}
 
 module _ (rows : List Value) (masks : Option (List ℕ)) (k step : ℕ) (numbers kept parts : List ℕ)
@@ -18,7 +18,8 @@ module _ (rows : List Value) (masks : Option (List ℕ)) (k step : ℕ) (numbers
     (each : (p : ℕ) → p < length rows → bit_at (mask_in masks p) k ≡ 1
     → get_or numbers (get_or (codes_of rows) p 0) 0 ≢ 4294967295)
     (times : (code : ℕ) → code < length numbers → get_or numbers code 0 ≢ 4294967295
-    → get_or parts code 0 ≡ get_or numbers code 0 * step) where
+    → get_or parts code 0 ≡ get_or numbers code 0 * step)
+    (taken : (n : ℕ) → n < length kept → IsTaken (codes_of rows) masks k (get_or kept n 0)) where
   abbrev pub kept_values : List Value
   kept_values = map (λ code. get_or (distinct rows) code (Number 0)) kept
 
@@ -44,6 +45,28 @@ module _ (rows : List Value) (masks : Option (List ℕ)) (k step : ℕ) (numbers
       distinct_apart rows (get_or kept i 0) (get_or kept j 0) (omega (arith, i_back.0, len))
       (omega (arith, j_back.0, len)) (sym (value_at i i_in) ∙ same ∙ value_at j j_in) in
       sym i_back.1 ∙ ap (λ (c : ℕ). get_or numbers c 0) codes ∙ j_back.1
+
+  -- the value of a code that is kept is that of a row that the question takes
+  kept_taken : (n : ℕ) (value : Value) → slice_get kept_values n ≡ Some value → IsTakenValue rows masks k value
+  kept_taken n value at =
+      let inside : n < length kept = omega (
+        arith,
+        slice_get_within kept_values n value at,
+        length-map kept (λ code. get_or (distinct rows) code (Number 0)),
+      ) in
+      let row = taken n inside in
+      let there : row.row < length rows = omega (arith, row.there, length-map rows (code_in (distinct rows))) in
+      let own : Value = get_or rows row.row (Number 0) in
+      let at_row : slice_get rows row.row ≡ Some own = slice_get-get_or rows row.row (Number 0) there in
+      let code : code_in (distinct rows) own ≡ get_or kept n 0 =
+      sym (get_or-map (code_in (distinct rows)) rows row.row (Number 0) 0 there) ∙ row.own in
+      let read : get_or (distinct rows) (get_or kept n 0) (Number 0) ≡ own =
+      ap (λ (c : ℕ). get_or (distinct rows) c (Number 0)) (sym code)
+      ∙ get_or_from_slice_get (distinct rows) (code_in (distinct rows) own) own (Number 0)
+      (code_reads rows row.row own at_row) in
+      let same : own ≡ value = sym read ∙ sym (value_at n inside)
+      ∙ get_or_from_slice_get kept_values n value (Number 0) at in
+      record { row = row.row; own = at_row ∙ ap Some same; taken = row.taken }
 
   pub is_prepared : IsPreparedColumn rows masks k step kept_values parts
   is_prepared = record {
@@ -76,4 +99,5 @@ module _ (rows : List Value) (masks : Option (List ℕ)) (k step : ℕ) (numbers
           ap (λ (c : ℕ). get_or parts c 0) own ∙ times code code_below some
               ∙ ap (λ (m : ℕ). m * step) (sym is),
         );
+    only = kept_taken;
   }

@@ -18,3 +18,4 @@ pub mod Summed
 pub mod Scanned
 pub mod Standing
 pub mod Follows
+pub mod GroupCounts

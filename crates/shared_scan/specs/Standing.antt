@@ -8,7 +8,6 @@ use Rattle.std.specs.Prelude.{
   ◌%◌,
   ◌^◌,
   ◌<◌,
-  ◌≤◌,
   ◌&&◌,
   Bool,
   true,
@@ -32,15 +31,12 @@ use Rattle.ssb_schema.specs.declared.table.Table.{Table}
 use Rattle.ssb_schema.specs.declared.table.Table.TheVariants as table
 use Rattle.ssb_questions.specs.declared.plan.Measure.{Measure}
 use Rattle.ssb_questions.specs.declared.plan.Measure.TheVariants.{PriceTimesDiscount, Revenue, Profit, Quantity, Lines}
-use Rattle.ssb_questions.specs.declared.query.Query.{Query}
-use Rattle.ssb_questions.specs.declared.value.Value.{Value}
 use Rattle.dimension_index.specs.Codes.{codes_of}
 use Rattle.dimension_index.specs.Values.{values_of}
 use Rattle.fact_columns.specs.declared.scanned_line.ScannedLine.{ScannedLine}
 use Rattle.scan_kernel.specs.declared.masks.Masks.{Masks}
 use Rattle.scan_kernel.specs.declared.totals.Totals.{Totals}
 use Rattle.scan_kernel.specs.Places.{mask_in}
-use Rattle.shared_scan.specs.Batch.{IsReady}
 use Rattle.shared_scan.specs.declared.parts.Parts.{Parts}
 use Rattle.shared_scan.specs.declared.parts.Parts.TheVariants.{Narrow, Wide}
 use Rattle.shared_scan.specs.declared.ready.Ready.{Ready}
@@ -175,17 +171,6 @@ pub record HaveNumbersOf (old new : List Totals) : Type 0 where
   pub len : length new ≡ length old
   pub each : (k : ℕ) (s t : Totals) → k < length old → HasNumbersOf (slice_index_or old k s) (slice_index_or new k t)
 
--- more groups than a number is kept for
-abbrev pub has_many_groups : Ready → Bool
-has_many_groups ready = nat_lt 65536 ready.groups.size
-
-abbrev pub HasFewGroups : Ready → Type 0
-HasFewGroups ready = ready.groups.size ≤ 65536
-
--- the question, made ready in some batch over this base, has too many groups
-pub record HasManyGroups (base : Tables) (question : Query × List Value) : Type 0 where
-  pub masks : Masks
-  pub place : ℕ
-  pub ready : Ready
-  pub is_ready : IsReady base masks place question ready
-  pub many : 65536 < ready.groups.size
+-- a number is kept for so many groups, and for no more
+abbrev pub has_many_numbers : Ready → Bool
+has_many_numbers ready = nat_lt 65536 ready.groups.size

@@ -1,9 +1,9 @@
 //! Dense numbers for the codes of a group column.
-ghost use Rattle.std.specs.Prelude.{◌≡◌, ◌≢◌, ℕ, ◌<◌, ◌≤◌, ◌+◌, All, IfOk, OnOk, length, slice_index, vec_len, nat_eq};
+ghost use Rattle.std.specs.Prelude.{◌≡◌, ◌≢◌, ◌⊎◌, ℕ, ◌<◌, ◌≤◌, ◌+◌, [], ◌∷◌, ◌++◌, All, IfOk, OnOk, length};
+ghost use Rattle.std.specs.Prelude.{slice_index, vec_len, nat_eq};
 ghost use Rattle.std.specs.Int.{bit_at};
 ghost use Rattle.scan_kernel.specs.Places.{mask_in};
-ghost use Rattle.shared_scan.specs.Numbering.{HasMasks};
-ghost use Rattle.shared_scan.specs.Numbering.{AreNumbered};
+ghost use Rattle.shared_scan.specs.Numbering.{AreNumbered, HasMasks, IsTaken, IsUsed};
 
 use ssb_schema::Items;
 use std::alloc::{AllocError, Global};
@@ -32,6 +32,8 @@ fn number_code(numbering: &mut Numbering, code: u32) -> Result<(), AllocError>
     requires was { AreNumbered numbering.old.numbers.items numbering.old.kept.items }
     ensures is { OnOk result (AreNumbered numbering.new.numbers.items numbering.new.kept.items) }
     ensures grows { vec_len numbering.new.kept ≤ vec_len numbering.old.kept + 1 }
+    ensures keeps_or_adds { OnOk result ((numbering.new.kept.items ≡ numbering.old.kept.items)
+        ⊎ (numbering.new.kept.items ≡ numbering.old.kept.items ++ code ∷ [])) }
     ensures len { vec_len numbering.new.numbers ≡ vec_len numbering.old.numbers }
     ensures has { OnOk result (slice_index numbering.new.numbers.items code ≢ 4294967295) }
     ensures keeps { OnOk result ((other : ℕ) → slice_index numbering.old.numbers.items other ≢ 4294967295
@@ -60,6 +62,8 @@ fn mark(seen: &mut [u16], codes: &[u32], masks: &[u16])
     ensures len { length seen.new ≡ length seen.old }
     ensures each { (p k : ℕ) → p < length codes.now → bit_at (slice_index masks.now p) k ≡ 1
         → bit_at (slice_index seen.new (slice_index codes.now p)) k ≡ 1 }
+    ensures only { (code k : ℕ) → bit_at (slice_index seen.new code) k ≡ 1
+        → (bit_at (slice_index seen.old code) k ≡ 1) ⊎ IsTaken codes.now (Some masks.now) k code }
 {
     for row in 0..codes.len() {
         seen[codes[row] as usize] |= masks[row];
@@ -78,6 +82,8 @@ fn seen_by(
     ensures len { IfOk result (λ seen. length seen.items ≡ count) }
     ensures each { IfOk result (λ seen. (p k : ℕ) → p < length codes.now → k < 16 → bit_at (mask_in masks.now p) k ≡ 1
         → bit_at (slice_index seen.items (slice_index codes.now p)) k ≡ 1) }
+    ensures only { IfOk result (λ seen. (code k : ℕ) → code < count → k < 16 → IsUsed codes.now code
+        → bit_at (slice_index seen.items code) k ≡ 1 → IsTaken codes.now masks.now k code) }
 {
     match masks {
         Some(masks) => {
@@ -98,6 +104,8 @@ fn number_seen(alloc: Global, seen: &[u16], question: usize) -> Result<Numbering
     ensures numbered { IfOk result (λ numbering. AreNumbered numbering.numbers.items numbering.kept.items) }
     ensures each { IfOk result (λ numbering. (code : ℕ) → code < length seen.now
         → bit_at (slice_index seen.now code) question ≡ 1 → slice_index numbering.numbers.items code ≢ 4294967295) }
+    ensures only { IfOk result (λ numbering. (number : ℕ) → number < length numbering.kept.items
+        → bit_at (slice_index seen.now (slice_index numbering.kept.items number)) question ≡ 1) }
 {
     let numbers = no_numbers(alloc, seen.len())?;
     let mut numbering = Numbering {
@@ -130,7 +138,11 @@ pub fn number_codes(
     ensures each { IfOk result (λ numbering. (p : ℕ) → p < length codes.now
         → bit_at (mask_in masks.now p) question ≡ 1
         → slice_index numbering.numbers.items (slice_index codes.now p) ≢ 4294967295) }
+    ensures only { IfOk result (λ numbering. (number : ℕ) → number < length numbering.kept.items
+        → IsUsed codes.now (slice_index numbering.kept.items number)
+        → IsTaken codes.now masks.now question (slice_index numbering.kept.items number)) }
 {
     let seen = seen_by(alloc, codes, count, masks)?;
-    number_seen(alloc, &seen, question)
+    let numbering = number_seen(alloc, &seen, question)?;
+    Ok(numbering)
 }

@@ -7,14 +7,13 @@ ghost use Rattle.ssb_base.specs.Base.{Tables};
 ghost use Rattle.row_store.specs.History.{CommitRecord, lines_after};
 ghost use Rattle.row_store.specs.State.{StandsFor};
 ghost use Rattle.ssb_answers.specs.Answer.{answer_of};
-ghost use Rattle.dimension_index.specs.Classes.{reduced};
 ghost use Rattle.fact_columns.specs.declared.scanned_line.ScannedLine.{ScannedLine as PlainLine};
 ghost use Rattle.fact_columns.specs.Stored.{columns_state};
 ghost use Rattle.shared_scan.specs.Answers.{AreSnapshot};
 ghost use Rattle.shared_scan.specs.Batch.{questions_of};
 ghost use Rattle.fact_columns.specs.Watching.{live_lines};
-ghost use Rattle.shared_scan.specs.Standing.{HasNumbersOf, HaveNumbersOf, HasFewGroups, HasManyGroups};
-ghost use Rattle.shared_scan.specs.Standing.{has_many_groups};
+ghost use Rattle.shared_scan.specs.GroupCounts.{HasFewGroups, IsFirstOfMany};
+ghost use Rattle.shared_scan.specs.Standing.{HasNumbersOf, HaveNumbersOf, has_many_numbers};
 ghost use Rattle.shared_scan.specs.Follows.{Follows, FollowsOver, Changes, position_in};
 ghost use Rattle.shared_scan.specs.declared.standing_error.StandingError.TheVariants.{TooManyGroups};
 
@@ -87,9 +86,9 @@ impl Standing {
             ≡ questions.now) }
         ensures follows { IfOk result (λ standing. FollowsOver standing columns.now.base
             (live_lines columns.now.places)) }
-        ensures few_groups { IfOk result (λ standing. All HasFewGroups standing.batch.value.questions.items) }
-        ensures too_many { (number : ℕ) → result ≡ Err (TooManyGroups number) → (question : Asked × List Constant)
-            × (slice_get questions.now number ≡ Some question) × HasManyGroups (reduced columns.now.base) question }
+        ensures few_groups { IfOk result (λ _. All (HasFewGroups columns.now.base) questions.now) }
+        ensures too_many { (place : ℕ) → result ≡ Err (TooManyGroups place)
+            → IsFirstOfMany columns.now.base questions.now place }
     {
         let standing = Standing::made(rt, alloc, index, columns, questions)?;
         match standing.first_of_many_groups() {
@@ -100,7 +99,7 @@ impl Standing {
 
     // The first question that has more than 65,536 groups.
     fn first_of_many_groups(&self) -> Option<usize>
-        ensures { result ≡ position has_many_groups self.now.batch.value.questions.items }
+        ensures { result ≡ position has_many_numbers self.now.batch.value.questions.items }
     {
         let batch: &ReadyBatch = &self.batch;
         batch
@@ -221,7 +220,6 @@ impl Standing {
 }
 
 impl Watch for Standing {
-    ghost use Rattle.shared_scan.specs.Standing.{has_many_groups};
     ghost use Rattle.shared_scan.specs.Follows.{FollowsOver};
 
     ghost follows = { FollowsOver };

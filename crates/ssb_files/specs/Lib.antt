@@ -1,4 +1,5 @@
 pub mod Status
 pub mod Loaded
 pub mod Scripts
+pub mod Standing
 pub mod Paths

@@ -4,6 +4,8 @@ use Rattle.ssb_text.specs.declared.error.LoadError.{LoadError}
 use Rattle.ssb_text.specs.declared.error.LoadError.TheVariants as load
 use Rattle.ssb_script.specs.declared.error.ScriptError.{ScriptError}
 use Rattle.ssb_script.specs.declared.error.ScriptError.TheVariants as script
+use Rattle.ssb_script.specs.declared.questions.QuestionsError.{QuestionsError}
+use Rattle.ssb_script.specs.declared.questions.QuestionsError.TheVariants as questions
 use Rattle.ssb_files.specs.declared.fault.Fault.{Fault}
 use Rattle.ssb_files.specs.declared.fault.Fault.TheVariants as fault
 use Rattle.ssb_files.specs.declared.job.JobFault.{JobFault}
@@ -20,7 +22,14 @@ script_status script.Read = 4
 script_status script.OutOfMemory = 4
 script_status _ = 1
 
--- 1: the paths are refused, as data is; 2: the words are wrong; 4: reading, writing or memory failed
+-- the same of the questions that are to stand
+abbrev pub questions_status : QuestionsError → ℕ
+questions_status (questions.NotAQuestion number) = 1
+questions_status questions.Read = 4
+questions_status questions.OutOfMemory = 4
+
+-- 1: the paths or the questions that are to stand are refused, as data is; 2: the words are wrong; 4: reading, writing
+-- or memory failed
 abbrev pub status_of : Fault → ℕ
 status_of (fault.NoSuchQuery why) = 2
 status_of (fault.Constants why) = 2
@@ -28,6 +37,8 @@ status_of fault.BadWord = 2
 status_of (fault.Data why) = data_status why
 status_of fault.TooManyScripts = 2
 status_of (fault.Script number why) = script_status why
+status_of (fault.Standing why) = questions_status why
+status_of (fault.TooManyGroups why) = 1
 status_of (fault.Trace why) = script_status why
 status_of (fault.CannotRead path) = 4
 status_of (fault.Paths why) = 1

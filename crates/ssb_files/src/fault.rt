@@ -1,12 +1,13 @@
 //! Why the program stops, and the status that it ends with.
 
 ghost use Rattle.std.specs.Prelude.{◌≡◌};
-ghost use Rattle.ssb_files.specs.Status.{status_of, script_status};
+ghost use Rattle.ssb_files.specs.Status.{questions_status, script_status, status_of};
 ghost use Rattle.ssb_files.specs.declared.fault.Fault.TheVariants.{OutOfMemory};
 
 use crate::path_fault::PathFault;
+use crate::standing::TooManyGroups;
 use ssb_questions::{ConstantsFault, NoSuchQuery};
-use ssb_script::ScriptError;
+use ssb_script::{QuestionsError, ScriptError};
 use ssb_text::LoadError;
 use std::alloc::{AllocError, AllocFailed};
 use std::fmt;
@@ -33,6 +34,10 @@ pub enum Fault {
     Data(LoadError),
     /// The first script that can't be read, by its number from 1.
     Script(u64, ScriptError),
+    /// The questions that are to stand can't be read.
+    Standing(QuestionsError),
+    /// A question that is to stand has too many groups.
+    TooManyGroups(TooManyGroups),
     /// A trace that can't be read.
     Trace(ScriptError),
     /// A report could not be written, or handed on.
@@ -56,9 +61,26 @@ fn script_status(fault: &ScriptError) -> u8
     }
 }
 
+// The exit status of a fault of the questions that are to stand.
+fn questions_status(fault: QuestionsError) -> u8
+    ensures { result ≡ questions_status fault }
+{
+    match fault {
+        QuestionsError::NotAQuestion(_) => 1,
+        QuestionsError::Read | QuestionsError::OutOfMemory => 4,
+    }
+}
+
 impl Fault {
-    /// The exit status: 1 where paths, data, a script or a trace were refused, 2 for a wrong command line, 4 where
-    /// reading, writing or memory failed.
+    /// That the question at this place, counted from 0, has too many groups. Its record has the number behind that.
+    pub fn too_many_groups(place: usize) -> Fault
+        ensures { status_of result ≡ 1 }
+    {
+        Fault::TooManyGroups(TooManyGroups((place as u64).saturating_add(1)))
+    }
+
+    /// The exit status: 1 where paths, data, a script, a trace or a question that is to stand were refused, 2 for a
+    /// wrong command line, 4 where reading, writing or memory failed.
     pub fn status(&self) -> u8
         ensures { result ≡ status_of self.now }
     {
@@ -69,6 +91,8 @@ impl Fault {
             Fault::Data(LoadError::Read(_)) | Fault::Data(LoadError::OutOfMemory) => 4,
             Fault::Data(_) => 1,
             Fault::Script(_, fault) | Fault::Trace(fault) => script_status(fault),
+            Fault::Standing(fault) => questions_status(*fault),
+            Fault::TooManyGroups(_) => 1,
             Fault::CannotRead(_) | Fault::NoRandomness => 4,
             Fault::WriteFailed | Fault::OutOfMemory => 4,
         }
@@ -95,9 +119,12 @@ impl fmt::Display for Fault {
             Fault::TooManyScripts => f.write_str("too many scripts"),
             Fault::Data(LoadError::OutOfMemory)
             | Fault::Script(_, ScriptError::OutOfMemory)
+            | Fault::Standing(QuestionsError::OutOfMemory)
             | Fault::Trace(ScriptError::OutOfMemory) => f.write_str("out of memory"),
             Fault::Data(fault) => write!(f, "data: {fault}"),
             Fault::Script(number, fault) => write!(f, "script {number}: {fault}"),
+            Fault::Standing(fault) => write!(f, "standing: {fault}"),
+            Fault::TooManyGroups(fault) => write!(f, "standing: {fault}"),
             Fault::Trace(fault) => write!(f, "trace: {fault}"),
             Fault::WriteFailed => f.write_str("write failed"),
             Fault::OutOfMemory => f.write_str("out of memory"),

@@ -6,17 +6,19 @@
 //! paths ── find_tables, UsedPath::find ─▶ files that they name ── check_paths ─▶ none is another that is written
 //! paths ── open_tables, open_files ─▶ readers ── watch_tables ─▶ readers that show progress
 //!     readers ── base_of ─▶ base          readers ── read_scripts ─▶ scripts
+//!     reader ── read_standing ─▶ questions
 //!
-//! refused paths, data, script, trace ─▶ 1      wrong words ─▶ 2      something speaks against a trace ─▶ 3
+//! refused paths, data, script, trace, questions ─▶ 1      wrong words ─▶ 2      something speaks against a trace ─▶ 3
 //! failed read, failed write, want of memory ─▶ 4              each with one line: ssb_live: WHAT
 //! ```
 //!
 //! The contracts: [`base_of`] and [`base_to_serve`] give the base that the texts spell, or a fault that they have
 //! (`specs/Loaded.antt`); [`check_paths`] tells the first of the paths that may not be used beside those before it
-//! (`specs/Paths.antt`); [`read_scripts`] the scripts, or the first fault (`specs/Scripts.antt`); a reader that is
-//! watched gives the bytes of the reader in it; [`Fault::status`] is that of the fault (`specs/Status.antt`). What only
-//! one job finds, as what speaks against a trace, is its [`Finding`] in a [`JobFault`]. That a file is opened, what the
-//! system says of a path, and what a terminal shows, is only tested.
+//! (`specs/Paths.antt`); [`read_scripts`] gives the scripts, or the first fault (`specs/Scripts.antt`);
+//! [`read_standing`] the questions of a script that asks and does nothing else, or its first fault
+//! (`specs/Standing.antt`); a reader that is watched gives the bytes of the reader in it; [`Fault::status`] is that of
+//! the fault (`specs/Status.antt`). What only one job finds, as what speaks against a trace, is its [`Finding`] in a
+//! [`JobFault`]. That a file is opened, what the system says of a path, and what a terminal shows, is only tested.
 //!
 //! ```text
 //! let tables = open_tables(rt, "tables")?;
@@ -35,6 +37,7 @@ mod path_fault;
 mod paths;
 mod progress;
 mod reading;
+mod standing;
 
 pub use counting::{Counted, TableBytes, count_tables};
 pub use fault::Fault;
@@ -46,3 +49,4 @@ pub use path_fault::PathFault;
 pub use paths::{PathUse, UsedPath, check_paths, find_tables};
 pub use progress::{InputSource, Screen, Watched, watch, watch_scripts, watch_tables};
 pub use reading::read_scripts;
+pub use standing::{TooManyGroups, read_standing};

@@ -229,6 +229,11 @@ abbrev pub is_line : Option Word → Bool
 is_line (Some word.Line) = true
 is_line _ = false
 
+-- whether a record is a `query`, by its word
+abbrev pub is_query : Option Word → Bool
+is_query (Some word.Query) = true
+is_query _ = false
+
 -- whether a record is an `abort`, which goes by its word alone too
 abbrev pub is_abort : Option Word → Bool
 is_abort (Some word.Abort) = true

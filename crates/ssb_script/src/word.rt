@@ -40,6 +40,13 @@ pub(crate) fn is_line(word: Option<Word>) -> bool
     matches!(word, Some(Word::Line))
 }
 
+/// Whether a record of this word is a `query`.
+pub(crate) fn is_query(word: Option<Word>) -> bool
+    ensures { result ≡ spec.is_query word }
+{
+    matches!(word, Some(Word::Query))
+}
+
 /// Whether a record of this word is an `abort`.
 pub(crate) fn is_abort(word: Option<Word>) -> bool
     ensures { result ≡ spec.is_abort word }

@@ -1,6 +1,6 @@
 -- The rows that passes find, question by question, are those of the requests.
 use Rattle.std.proofs.Common.{◌≡◌, ℕ, ◌+◌, ◌<◌, List, [], ◌∷◌, ◌++◌, length, map, take, drop, get_or, refl, ap, sym, ◌∙◌, append_assoc, length-append}
-use Rattle.std.proofs.lemmas.List.{map-append, length-map, take_at, drop_at, drop_more, take-append-drop, append-nil, nil_from_length}
+use Rattle.std.proofs.lemmas.List.{map-append, length-map, take_at, drop_at, drop_more}
 use Rattle.ssb_schema.specs.Facts.{facts_of}
 use Rattle.ssb_base.specs.Base.{Tables}
 use Rattle.row_store.specs.History.{CommitRecord, lines_after}
@@ -22,23 +22,6 @@ module _ (base : Tables) (history : List CommitRecord) where
 
   abbrev pub found_for : List Question → List Rows
   found_for questions = scan.answers_after base history questions
-
-  -- one pass more
-  pub pass_next : (questions rest front back : List Question) (n : ℕ) (rows found more : List Rows)
-      → front ≡ take n rest → back ≡ drop n rest → found ≡ found_for front → more ≡ rows ++ found
-      → rows ++ found_for rest ≡ found_for questions → more ++ found_for back ≡ found_for questions
-  pass_next questions rest front back n rows found more fronts backs is grown before =
-      let whole : front ++ back ≡ rest = (λ i. fronts i ++ backs i) ∙ take-append-drop n rest in
-      let both : found ++ found_for back ≡ found_for rest =
-      ap (λ l. l ++ found_for back) is ∙ (sym (map-append row_of front back) ∙ ap found_for whole) in
-      ap (λ l. l ++ found_for back) grown
-      ∙ (append_assoc rows found (found_for back) ∙ (ap (λ l. rows ++ l) both ∙ before))
-
-  -- no question is left
-  pub pass_last : (questions rest : List Question) (rows : List Rows) → length rest ≡ 0
-      → rows ++ found_for rest ≡ found_for questions → rows ≡ found_for questions
-  pass_last questions rest rows none is =
-      sym (append-nil rows) ∙ (ap (λ l. rows ++ found_for l) (sym (nil_from_length rest none)) ∙ is)
 
   asked_of : (questions : Questions) → map (λ (one : Rows). one.query) (found_for questions) ≡ questions
   asked_of [] = refl

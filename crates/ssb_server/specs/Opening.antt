@@ -4,6 +4,9 @@ use Rattle.ssb_base.specs.Base.{Tables}
 use Rattle.history_core.specs.declared.event.Who.TheVariants.{Dispatcher}
 use Rattle.history.specs.Tokens.{TokenRecord, IsSound, IsFree}
 use Rattle.twin_cell.specs.Twin.{Reading}
+use Rattle.row_store.specs.State.{state_of}
+use Rattle.fact_columns.specs.Stored.{columns_state}
+use Rattle.ssb_server.specs.declared.loaded.Loaded.TheInside.{Inside}
 use Rattle.ssb_server.specs.declared.opening.OpenFault.{OpenFault}
 use Rattle.ssb_server.specs.declared.opening.OpenFault.TheVariants.{ClientCount, DispatcherCount, NoReader, OutOfMemory}
 
@@ -50,3 +53,8 @@ pub record AreSeats (tokens : List TokenRecord) (readers : List Reading) : Type 
   pub tokens_are : All (IsNewDispatcher base) tokens
   pub readers_are : All (IsNewReader base) readers
   pub count : length readers ≡ length tokens
+
+-- the rows and the columns are those of one base, without commits
+pub record IsLoaded (loaded : Inside) : Type 0 where
+  pub rows : loaded.rows.log ≡ []
+  pub columns : columns_state loaded.columns ≡ state_of loaded.rows.base []

@@ -89,6 +89,7 @@ impl<W: EndsCopies + Drop> Server<W> {
             dispatchers: _,
             bells: _,
             pace: _,
+            by_totals: _,
             alloc: _,
             room,
         } = self;

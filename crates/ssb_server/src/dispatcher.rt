@@ -14,8 +14,8 @@ use crate::bells::FOLLOWER;
 use crate::following::follow;
 use crate::server::{Server, Token};
 use crate::turn::{ScanGate, Turn, take_turn};
-use fact_columns::Columns;
 use history_core::Who;
+use standing_columns::StandingColumns;
 use std::marker::Model;
 use std::sync::Wait;
 use std::thread::Threads;
@@ -31,7 +31,7 @@ const LONGEST_REST: u64 = 400;
 #[derive(Drop)]
 pub struct Dispatcher<W: EndsCopies + Drop> {
     token: Token<W>,
-    reader: Option<TwinReader<Columns>>,
+    reader: Option<TwinReader<StandingColumns>>,
     batch: Batch,
     number: u32,
 }
@@ -50,7 +50,11 @@ impl<W: EndsCopies + Drop> Model for Dispatcher<W> {
 
 impl<W: EndsCopies + Drop> Dispatcher<W> {
     /// A dispatcher of a token that was just dealt, with a reader over its base that was told nothing.
-    pub(crate) fn new(token: Token<W>, reader: TwinReader<Columns>, batch: Batch) -> Dispatcher<W>
+    pub(crate) fn new(
+        token: Token<W>,
+        reader: TwinReader<StandingColumns>,
+        batch: Batch,
+    ) -> Dispatcher<W>
         requires token { IsNewDispatcher reader.base token }
         requires reader { reader.told ≡ [] }
         requires batch { batch ≡ no_hand }

@@ -5,17 +5,17 @@ ghost use Rattle.ssb_server.specs.Turns.{IsDispatcher, HoldsNothing, HasFetched,
 
 use crate::server::{Server, Token};
 use crate::snapshot::{fetch, renew};
-use fact_columns::Columns;
 use row_store::{Commit, Follower};
+use standing_columns::StandingColumns;
 use std::alloc::AllocError;
 use std::sync::Wait;
 use twin_cell::TwinWriter;
 
 // Appends the commits that the writer lacks and publishes them, and once more, so that both copies have them.
 fn level<W: Wait + Drop>(
-    writer: TwinWriter<Columns, W>,
+    writer: TwinWriter<StandingColumns, W>,
     commits: Vec<Commit>,
-) -> (TwinWriter<Columns, W>, Result<(), AllocError>)
+) -> (TwinWriter<StandingColumns, W>, Result<(), AllocError>)
     ensures { Follows writer.base (writer.published ++ writer.pending ++ commits.items) result.0 }
 {
     let (writer, renewed) = renew(writer, commits);
@@ -30,8 +30,8 @@ fn carry_over<W: Wait + Drop, R: Wait>(
     rt: &R,
     server: &Server<W>,
     token: &mut Token<W>,
-    writer: TwinWriter<Columns, W>,
-) -> (TwinWriter<Columns, W>, Result<(), AllocError>)
+    writer: TwinWriter<StandingColumns, W>,
+) -> (TwinWriter<StandingColumns, W>, Result<(), AllocError>)
     requires dispatcher { IsDispatcher server.now token.old }
     requires free { token.old.has_rows ≡ false }
     requires writer { HasTaken token.old writer }

@@ -21,13 +21,15 @@
 //!   or given up) and `free`;
 //! - who keeps a journal: `LogReader::commits_from`, clauses `commits` (all of the log behind those that it has taken)
 //!   and `reads`;
-//! - the beginning and the end: `open`, clauses `clients` and `dispatchers`; `Server::close`, clauses `whole`, `legal`,
-//!   `seen`; the same with a reader of the log: `open_with_reader`, `Server::close_with_reader`.
+//! - the beginning and the end: `Loaded::new` (with questions that stand), `open`, clauses `clients` and `dispatchers`;
+//!   `Server::close`, clauses `whole`, `legal`, `seen`; the same with a reader of the log: `open_with_reader`,
+//!   `Server::close_with_reader`.
 //!
 //! ```text
 //! client ── refresh ─▶ row store ── log ─▶ copies of the columns ── scan ─▶ dispatcher ── answer ─▶ client
 //!
-//! let Opened { server, mut clients, mut dispatchers } = open(alloc, &rt, hashing, base, 2, 1, Keeps::All)?;
+//! let loaded = Loaded::new(&rt, alloc, hashing, &base, &[])?;
+//! let Opened { server, mut clients, mut dispatchers } = open(alloc, &rt, loaded, 2, 1, Keeps::All)?;
 //! clients[0].ask(&server, questions);                        // in one thread
 //! dispatchers[0].turn(&rt, &server, &OpenGate);              // in another
 //! let answer = clients[0].await_answer(&rt, &server);
@@ -44,6 +46,7 @@ mod dispatcher;
 mod following;
 mod grabbing;
 mod lag;
+mod loaded;
 mod log_reader;
 mod opening;
 mod pace;
@@ -58,11 +61,13 @@ mod unneeded;
 pub use client::Client;
 pub use closing::{CloseError, CloseWithReaderError, Closed};
 pub use dispatcher::Dispatcher;
+pub use loaded::Loaded;
 pub use log_reader::LogReader;
 pub use opening::{
-    MOST_DISPATCHERS, OpenError, OpenFault, Opened, OpenedWithReader, open, open_with_reader,
+    MOST_DISPATCHERS, OpenFault, Opened, OpenedWithReader, count_fault, open, open_with_reader,
 };
 pub use server::Server;
+pub use standing_columns::StandingError;
 pub use turn::{OpenGate, ScanGate, Turn};
 pub use twin_cell::EndsCopies;
 pub use unneeded::Keeps;

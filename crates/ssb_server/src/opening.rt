@@ -1,7 +1,5 @@
 //! How a server is opened.
 ghost use Rattle.std.specs.Prelude.{◌≡◌, ℕ, ◌+◌, ◌≤◌, [], ◌∷◌, ◌++◌, All, length, IfOk, OnOk, IfErr, MatchOption};
-ghost use Rattle.row_store.specs.State.{state_of};
-ghost use Rattle.fact_columns.specs.Stored.{columns_state};
 ghost use Rattle.history.specs.Tokens.{new_clients, new_dispatchers};
 ghost use Rattle.ssb_server.specs.Opening.{AreCounts, IsOpenFault, IsNewReader, IsNewDispatcher, AreSeats};
 
@@ -10,19 +8,17 @@ use crate::bells::Bells;
 use crate::client::Client;
 use crate::dispatcher::Dispatcher;
 use crate::lag::Lag;
+use crate::loaded::Loaded;
 use crate::log_reader::LogReader;
 use crate::pace::Pace;
 use crate::room::ClosingRoom;
 use crate::server::{Server, SharedTable, Token};
 use crate::tickets::clients_of;
 use crate::unneeded::{Keeps, Unneeded};
-use dimension_index::index_of;
-use fact_columns::Columns;
-use row_store::RowStore;
-use ssb_base::Base;
+use standing_columns::StandingColumns;
 use std::alloc::{AllocError, Global};
-use std::hash::RandomState;
-use std::sync::{Arc, Mutex, Wait};
+use std::sync::atomic::AtomicU64;
+use std::sync::{Mutex, Wait};
 use std::thread::Threads;
 use thiserror::Error;
 use twin_cell::{EndsCopies, TwinError, TwinReader, twin};
@@ -47,13 +43,6 @@ pub enum OpenFault {
     OutOfMemory,
 }
 
-/// Why no server was opened, and the base that was handed in.
-#[derive(Drop)]
-pub struct OpenError {
-    pub fault: OpenFault,
-    pub back: Arc<Base>,
-}
-
 /// A new server, with its clients and its dispatchers, each by number from 1.
 #[derive(Drop)]
 pub struct Opened<W: EndsCopies + Drop> {
@@ -75,7 +64,7 @@ pub struct OpenedWithReader<W: EndsCopies + Drop> {
 fn dispatchers_of<W: EndsCopies + Drop>(
     alloc: Global,
     tokens: Vec<Token<W>>,
-    mut readers: Vec<TwinReader<Columns>>,
+    mut readers: Vec<TwinReader<StandingColumns>>,
 ) -> Result<Vec<Dispatcher<W>>, AllocError>
     requires { AreSeats tokens.items readers.items }
     ensures { IfOk result (λ dispatchers. dispatchers.items ≡ tokens.items) }
@@ -109,6 +98,7 @@ fn server_over<W: EndsCopies + Drop>(
         dispatchers,
         bells: Bells::new(alloc, clients, dispatchers)?,
         pace,
+        by_totals: AtomicU64::new(0),
         alloc,
         room: Mutex::new(ClosingRoom::new(alloc)?),
     })
@@ -117,8 +107,8 @@ fn server_over<W: EndsCopies + Drop>(
 // The clients and dispatchers of these tokens of a table that was just made, with the server over it.
 fn seat_all<W: EndsCopies + Drop>(
     alloc: Global,
-    opened: history::OpenedTable<twin_cell::TwinWriter<Columns, W>>,
-    readers: Vec<TwinReader<Columns>>,
+    opened: history::OpenedTable<twin_cell::TwinWriter<StandingColumns, W>>,
+    readers: Vec<TwinReader<StandingColumns>>,
     counts: (u32, u32),
     pace: Pace,
 ) -> Result<Opened<W>, AllocError>
@@ -146,48 +136,25 @@ fn seat_all<W: EndsCopies + Drop>(
     })
 }
 
-// What a server is made of, but for the two copies.
-struct ServerParts {
-    rows: RowStore,
-    columns: Columns,
-}
-
-// The parts over a base.
-fn parts_of(
-    rt: &(impl Threads + Sync),
-    alloc: Global,
-    hashing: RandomState,
-    base: &Arc<Base>,
-) -> Result<ServerParts, AllocError>
-    ensures rows { IfOk result (λ parts. parts.rows ≡ record { base = base.now.value; log = [] }) }
-    ensures columns { IfOk result (λ parts. columns_state parts.columns ≡ state_of base.now.value []) }
-{
-    let index = index_of(alloc, base)?;
-    let rows = RowStore::new(alloc, Arc::try_clone(base)?, hashing)?;
-    let columns = Columns::new(rt, alloc, index, hashing)?;
-    Ok(ServerParts { rows, columns })
-}
-
 // A table that was just made, and readers of its columns.
 #[derive(Drop)]
 struct MadeTable<W: EndsCopies + Drop> {
-    opened: history::OpenedTable<twin_cell::TwinWriter<Columns, W>>,
-    readers: Vec<TwinReader<Columns>>,
+    opened: history::OpenedTable<twin_cell::TwinWriter<StandingColumns, W>>,
+    readers: Vec<TwinReader<StandingColumns>>,
 }
 
 // The table over a base, with so many tokens of dispatchers, and a reader of the columns for each that is to answer.
 fn table_over<W: Threads + Sync + Wait + Drop>(
     alloc: Global,
     rt: W,
-    hashing: RandomState,
-    base: &Arc<Base>,
+    loaded: Loaded,
     counts: (u32, u32),
     answering: u32,
 ) -> Result<MadeTable<W>, TwinError>
     requires clients { (1 ≤ counts.0) × (counts.0 ≤ 16) }
     requires tokens { (1 ≤ counts.1) × (counts.1 ≤ 5) }
     requires answering { (1 ≤ answering) × (answering ≤ 4) }
-    ensures base { IfOk result (λ made. made.opened.shared.base ≡ base.now.value) }
+    ensures base { IfOk result (λ made. made.opened.shared.base ≡ loaded) }
     ensures counts { IfOk result (λ made. (made.opened.shared.clients ≡ counts.0)
         × (made.opened.shared.dispatchers ≡ counts.1)) }
     ensures clients { IfOk result (λ made. made.opened.clients.items ≡ new_clients made.opened.shared) }
@@ -195,10 +162,7 @@ fn table_over<W: Threads + Sync + Wait + Drop>(
     ensures readers { IfOk result (λ made. All (IsNewReader made.opened.shared.base) made.readers.items) }
     ensures each { IfOk result (λ made. length made.readers.items ≡ answering) }
 {
-    let Ok(parts) = parts_of(&rt, alloc, hashing, base) else {
-        return Err(TwinError::OutOfMemory);
-    };
-    let ServerParts { rows, columns } = parts;
+    let Loaded { rows, columns } = loaded;
     let (writer, readers) = twin(alloc, rt, columns, answering as usize)?;
     match SharedTable::new(alloc, rows, writer, counts.0, counts.1) {
         Ok(opened) => Ok(MadeTable { opened, readers }),
@@ -206,24 +170,23 @@ fn table_over<W: Threads + Sync + Wait + Drop>(
     }
 }
 
-// Builds all parts over a base, for counts in their ranges.
+// Builds all parts over a loaded base, for counts in their ranges.
 fn build<W: Threads + Sync + Wait + Drop>(
     alloc: Global,
     rt: W,
-    hashing: RandomState,
-    base: &Arc<Base>,
+    loaded: Loaded,
     clients: u32,
     dispatchers: u32,
     keeps: Keeps,
 ) -> Result<Opened<W>, TwinError>
     requires counts { AreCounts clients dispatchers }
-    ensures base { IfOk result (λ made. made.server.base ≡ base.now.value) }
+    ensures base { IfOk result (λ made. made.server.base ≡ loaded) }
     ensures counts { IfOk result (λ made. (made.server.clients ≡ clients) × (made.server.dispatchers ≡ dispatchers)) }
     ensures clients { IfOk result (λ made. made.clients.items ≡ new_clients made.server) }
     ensures dispatchers { IfOk result (λ made. made.dispatchers.items ≡ new_dispatchers made.server) }
 {
     let counts = (clients, dispatchers);
-    let made = table_over(alloc, rt, hashing, base, counts, dispatchers)?;
+    let made = table_over(alloc, rt, loaded, counts, dispatchers)?;
     let pace = Pace::new(Lag::new(keeps == Keeps::Recent), Unneeded::by_nobody(keeps));
     match seat_all(alloc, made.opened, made.readers, counts, pace) {
         Ok(seated) => Ok(seated),
@@ -235,13 +198,12 @@ fn build<W: Threads + Sync + Wait + Drop>(
 fn build_with_reader<W: Threads + Sync + Wait + Drop>(
     alloc: Global,
     rt: W,
-    hashing: RandomState,
-    base: &Arc<Base>,
+    loaded: Loaded,
     clients: u32,
     dispatchers: u32,
 ) -> Result<OpenedWithReader<W>, TwinError>
     requires counts { AreCounts clients dispatchers }
-    ensures base { IfOk result (λ made. made.server.base ≡ base.now.value) }
+    ensures base { IfOk result (λ made. made.server.base ≡ loaded) }
     ensures counts { IfOk result (λ made. (made.server.clients ≡ clients)
         × (made.server.dispatchers ≡ dispatchers + 1)) }
     ensures clients { IfOk result (λ made. made.clients.items ≡ new_clients made.server) }
@@ -249,7 +211,7 @@ fn build_with_reader<W: Threads + Sync + Wait + Drop>(
         ≡ new_dispatchers made.server) }
 {
     let counts = (clients, dispatchers + 1);
-    let mut made = table_over(alloc, rt, hashing, base, counts, dispatchers)?;
+    let mut made = table_over(alloc, rt, loaded, counts, dispatchers)?;
     let Some(token) = made.opened.dispatchers.pop() else {
         unreachable!()
     };
@@ -271,8 +233,9 @@ fn build_with_reader<W: Threads + Sync + Wait + Drop>(
     })
 }
 
-// Which count is out of its range, if one is.
-fn count_fault(clients: u32, dispatchers: u32) -> Option<OpenFault>
+/// Which count is out of its range, if one is. `open` looks itself; who is to tell it before a base is loaded, asks
+/// here.
+pub fn count_fault(clients: u32, dispatchers: u32) -> Option<OpenFault>
     ensures { MatchOption result (AreCounts clients dispatchers) (IsOpenFault clients dispatchers) }
 {
     if clients == 0 || clients as usize > MOST_CLIENTS {
@@ -294,38 +257,33 @@ fn fault_of(error: TwinError) -> OpenFault
     }
 }
 
-/// Opens a server over a base, for 1 to 16 clients and 1 to 4 dispatchers. `rt` is the handle by which the writer of
-/// the columns waits, `hashing` keys the map of orders, and `keeps` says which part of the log stays in memory. The
-/// client count is looked at first, then the dispatcher count; any fault hands the base back.
+/// Opens a server over a loaded base, for 1 to 16 clients and 1 to 4 dispatchers. `rt` is the handle by which the writer
+/// of the columns waits, and `keeps` says which part of the log stays in memory. The client count is looked at first,
+/// then the dispatcher count.
 ///
 /// It is not proved to return, since it makes the two copies of the columns (`twin`), whose writer publishes once, and
 /// may wait for readers then. Here nobody reads yet.
 pub fn open<W: Threads + Sync + Wait + Drop>(
     alloc: Global,
     rt: W,
-    hashing: RandomState,
-    base: Arc<Base>,
+    loaded: Loaded,
     clients: u32,
     dispatchers: u32,
     keeps: Keeps,
-) -> Result<Opened<W>, OpenError>
+) -> Result<Opened<W>, OpenFault>
     ensures range { OnOk result (AreCounts clients dispatchers) }
-    ensures base { IfOk result (λ made. made.server.base ≡ base.value) }
+    ensures base { IfOk result (λ made. made.server.base ≡ loaded) }
     ensures counts { IfOk result (λ made. (made.server.clients ≡ clients) × (made.server.dispatchers ≡ dispatchers)) }
     ensures clients { IfOk result (λ made. made.clients.items ≡ new_clients made.server) }
     ensures dispatchers { IfOk result (λ made. made.dispatchers.items ≡ new_dispatchers made.server) }
-    ensures fault { IfErr result (λ error. IsOpenFault clients dispatchers error.fault) }
-    ensures back { IfErr result (λ error. error.back ≡ base) }
+    ensures fault { IfErr result (IsOpenFault clients dispatchers) }
 {
     if let Some(fault) = count_fault(clients, dispatchers) {
-        return Err(OpenError { fault, back: base });
+        return Err(fault);
     }
-    match build(alloc, rt, hashing, &base, clients, dispatchers, keeps) {
+    match build(alloc, rt, loaded, clients, dispatchers, keeps) {
         Ok(opened) => Ok(opened),
-        Err(error) => Err(OpenError {
-            fault: fault_of(error),
-            back: base,
-        }),
+        Err(error) => Err(fault_of(error)),
     }
 }
 
@@ -334,29 +292,24 @@ pub fn open<W: Threads + Sync + Wait + Drop>(
 pub fn open_with_reader<W: Threads + Sync + Wait + Drop>(
     alloc: Global,
     rt: W,
-    hashing: RandomState,
-    base: Arc<Base>,
+    loaded: Loaded,
     clients: u32,
     dispatchers: u32,
-) -> Result<OpenedWithReader<W>, OpenError>
+) -> Result<OpenedWithReader<W>, OpenFault>
     ensures range { OnOk result (AreCounts clients dispatchers) }
-    ensures base { IfOk result (λ made. made.server.base ≡ base.value) }
+    ensures base { IfOk result (λ made. made.server.base ≡ loaded) }
     ensures counts { IfOk result (λ made. (made.server.clients ≡ clients)
         × (made.server.dispatchers ≡ dispatchers + 1)) }
     ensures clients { IfOk result (λ made. made.clients.items ≡ new_clients made.server) }
     ensures dispatchers { IfOk result (λ made. made.dispatchers.items ++ made.reader ∷ []
         ≡ new_dispatchers made.server) }
-    ensures fault { IfErr result (λ error. IsOpenFault clients dispatchers error.fault) }
-    ensures back { IfErr result (λ error. error.back ≡ base) }
+    ensures fault { IfErr result (IsOpenFault clients dispatchers) }
 {
     if let Some(fault) = count_fault(clients, dispatchers) {
-        return Err(OpenError { fault, back: base });
+        return Err(fault);
     }
-    match build_with_reader(alloc, rt, hashing, &base, clients, dispatchers) {
+    match build_with_reader(alloc, rt, loaded, clients, dispatchers) {
         Ok(opened) => Ok(opened),
-        Err(error) => Err(OpenError {
-            fault: fault_of(error),
-            back: base,
-        }),
+        Err(error) => Err(fault_of(error)),
     }
 }

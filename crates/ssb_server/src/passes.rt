@@ -1,24 +1,20 @@
-//! What a batch asks, answered over one copy: in passes of at most 16 questions, whosever they are.
+//! What a batch asks, answered over one copy: by totals where a question stands, the others in passes of at most 16
+//! questions, whosever they are.
 ghost use Rattle.std.specs.Prelude.{◌≡◌, ◌++◌, List, IfOk, OnOk, length};
 ghost use Rattle.row_store.specs.History.{CommitRecord};
 ghost use Rattle.row_store.specs.State.{StandsFor};
 ghost use Rattle.fact_columns.specs.Stored.{columns_state};
-ghost use Rattle.shared_scan.specs.Answers as scan;
 ghost use Rattle.shared_scan.specs.Answers.{AreSnapshot};
 ghost use Rattle.ssb_server.specs.Passes.{all_questions, joined, grouped};
 ghost use Rattle.ssb_server.specs.Turns.{answers_after};
 
-use fact_columns::Columns;
-use shared_scan::answer;
 use ssb_answers::{ResultRow, Rows};
 use ssb_questions::Question;
 use ssb_schema::Items;
+use standing_columns::{StandingColumns, answer};
 use std::alloc::{AllocError, Global};
 use std::mem;
 use std::thread::Threads;
-
-/// The most questions of one pass over the columns.
-const MOST_QUESTIONS: usize = 16;
 
 /// The questions of a request, and the rows of each.
 #[derive(Drop)]
@@ -46,29 +42,6 @@ fn questions_of(alloc: Global, requests: &[Items<Question>]) -> Result<Vec<Quest
         share_questions(&mut all, request.as_slice())?;
     }
     Ok(all)
-}
-
-// The rows of each question, in passes over these columns.
-fn scan_all<R: Threads + Sync>(
-    rt: &R,
-    alloc: Global,
-    columns: &Columns,
-    questions: &[Question],
-) -> Result<Vec<Rows>, AllocError>
-    requires snapshot { AreSnapshot columns.now }
-    ensures { (history : List CommitRecord) → StandsFor (columns_state columns.now) history
-        → IfOk result (λ rows. rows.items ≡ scan.answers_after columns.now.base history questions.now) }
-{
-    let mut rows = Vec::new(alloc);
-    let mut rest = questions;
-    while !rest.is_empty() {
-        let count = rest.len().min(MOST_QUESTIONS);
-        let (pass, later) = rest.split_at(count);
-        let mut found = answer(rt, alloc, columns, pass)?;
-        rows.append(&mut found)?;
-        rest = later;
-    }
-    Ok(rows)
 }
 
 // The rows of the questions of one request.
@@ -112,7 +85,7 @@ fn group(
 pub(crate) fn answer_all<R: Threads + Sync>(
     rt: &R,
     alloc: Global,
-    columns: &Columns,
+    columns: &StandingColumns,
     requests: &[Items<Question>],
 ) -> Result<Vec<RequestRows>, AllocError>
     requires snapshot { AreSnapshot columns.now }
@@ -120,7 +93,16 @@ pub(crate) fn answer_all<R: Threads + Sync>(
         → IfOk result (λ found. found.items ≡ answers_after columns.now.base history requests.now) }
 {
     let questions = questions_of(alloc, requests)?;
-    let rows = scan_all(rt, alloc, columns, questions.as_slice())?;
+    let rows = answer(rt, alloc, columns, questions.as_slice())?;
     let found = group(alloc, requests, rows)?;
     Ok(found)
+}
+
+/// How many of the requests' questions are answered from totals: a figure for a reader.
+pub(crate) fn count_standing(columns: &StandingColumns, requests: &[Items<Question>]) -> u64 {
+    let mut count = 0u64;
+    for request in requests {
+        count = count.wrapping_add(columns.count_standing(request.as_slice()) as u64);
+    }
+    count
 }

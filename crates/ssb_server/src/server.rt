@@ -6,19 +6,20 @@ ghost use Rattle.history.specs.Tokens.{IsSound, IsDispatcher, Saw, MayAnswer, An
 use crate::bells::Bells;
 use crate::pace::Pace;
 use crate::room::ClosingRoom;
-use fact_columns::Columns;
 use history_core::Response;
 use row_store::RowStore;
+use standing_columns::StandingColumns;
 use std::alloc::Global;
 use std::marker::Model;
 use std::sync::Mutex;
+use std::sync::atomic::{AtomicU64, Ordering};
 use twin_cell::{EndsCopies, TwinWriter};
 
 /// The table of a server: its two parts are the row store, and the writer of the columns.
-pub(crate) type SharedTable<W> = history::SharedTable<TwinWriter<Columns, W>>;
+pub(crate) type SharedTable<W> = history::SharedTable<TwinWriter<StandingColumns, W>>;
 
 /// The token of a client or dispatcher to that table.
-pub(crate) type Token<W> = history::Token<TwinWriter<Columns, W>>;
+pub(crate) type Token<W> = history::Token<TwinWriter<StandingColumns, W>>;
 
 // A proof about a call of the table goes through the whole type of its writer, and takes long: what several call is
 // called here.
@@ -91,6 +92,7 @@ pub struct Server<W: EndsCopies + Drop> {
     pub(crate) dispatchers: u32,
     pub(crate) bells: Bells,
     pub(crate) pace: Pace,
+    pub(crate) by_totals: AtomicU64,
     pub(crate) alloc: Global,
     // For `close`. Tokens may not be shared between threads, and behind a lock they are not; nobody takes it.
     pub(crate) room: Mutex<ClosingRoom<W>>,
@@ -113,5 +115,16 @@ impl<W: EndsCopies + Drop> Server<W> {
     pub fn ring(&self) {
         self.bells.ring_dispatchers();
         self.table.wake_waiting();
+    }
+
+    /// How many questions of the batches so far were answered from totals that follow the commits. A figure for a
+    /// reader, modulo 2^64: no contract tells it.
+    pub fn answered_by_totals(&self) -> u64 {
+        self.by_totals.load(Ordering::Relaxed)
+    }
+
+    /// So many questions more were answered from totals.
+    pub(crate) fn count_by_totals(&self, questions: u64) {
+        let _ = self.by_totals.fetch_add(questions, Ordering::Relaxed);
     }
 }

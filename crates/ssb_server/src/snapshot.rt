@@ -10,15 +10,15 @@ use crate::bells::Bells;
 use crate::copying::copy_and_put;
 use crate::pace::Pace;
 use crate::server::{SharedTable, Token};
-use fact_columns::Columns;
 use row_store::{Commit, Follower, Replica};
 use ssb_answers::Unserved;
+use standing_columns::StandingColumns;
 use std::alloc::{AllocError, Global};
 use std::sync::Wait;
 use twin_cell::{EndsCopies, Guard, TwinReader, TwinWriter};
 
 /// Why no copy was entered, with the reader.
-pub(crate) type Missed = (TwinReader<Columns>, Unserved);
+pub(crate) type Missed = (TwinReader<StandingColumns>, Unserved);
 
 /// Takes the rows, copies the commits that the writer lacks, lets the rows forget those before them that nobody else
 /// lacks, and gives the rows back as they were. Clients let it go first, and keep near to these commits from then on.
@@ -50,7 +50,7 @@ pub(crate) fn fetch<W: EndsCopies + Drop, R: Wait>(
 
 // The commits are pending from now on; where memory is wanting, the first of them are.
 fn append_all<W: EndsCopies + Drop>(
-    writer: &mut TwinWriter<Columns, W>,
+    writer: &mut TwinWriter<StandingColumns, W>,
     commits: Vec<Commit>,
 ) -> Result<(), AllocError>
     ensures { Appends writer.old commits.items result writer.new }
@@ -66,8 +66,8 @@ fn append_all<W: EndsCopies + Drop>(
 
 // Publishes where something is pending.
 fn publish_pending<W: Wait + Drop>(
-    writer: TwinWriter<Columns, W>,
-) -> (TwinWriter<Columns, W>, Result<(), AllocError>)
+    writer: TwinWriter<StandingColumns, W>,
+) -> (TwinWriter<StandingColumns, W>, Result<(), AllocError>)
     ensures { MatchResult result.1 (λ _. result.0 ≡ record {
       base = writer.base;
       published = writer.published
@@ -84,9 +84,9 @@ fn publish_pending<W: Wait + Drop>(
 // Tells the reader what is published, and enters. The copy holds just as many commits as were told.
 fn enter<W: EndsCopies + Drop, R: Wait>(
     rt: &R,
-    writer: &mut TwinWriter<Columns, W>,
-    mut reader: TwinReader<Columns>,
-) -> Result<Guard<Columns>, Missed>
+    writer: &mut TwinWriter<StandingColumns, W>,
+    mut reader: TwinReader<StandingColumns>,
+) -> Result<Guard<StandingColumns>, Missed>
     requires { Knows writer.old.base writer.old.published reader }
     ensures kept { writer.new ≡ writer.old }
     ensures entered { MatchResult result (StandsAt writer.old.base writer.old.published)
@@ -107,9 +107,9 @@ fn enter<W: EndsCopies + Drop, R: Wait>(
 
 /// Appends the commits that the writer lacks, and publishes all.
 pub(crate) fn renew<W: Wait + Drop>(
-    mut writer: TwinWriter<Columns, W>,
+    mut writer: TwinWriter<StandingColumns, W>,
     commits: Vec<Commit>,
-) -> (TwinWriter<Columns, W>, Result<(), AllocError>)
+) -> (TwinWriter<StandingColumns, W>, Result<(), AllocError>)
     ensures { let all = writer.published ++ writer.pending ++ commits.items in
         MatchResult result.1 (λ _. result.0 ≡ record { base = writer.base; published = all; pending = [] })
         (λ _. Follows writer.base all result.0) }
@@ -123,10 +123,13 @@ pub(crate) fn renew<W: Wait + Drop>(
 // Appends the commits that the writer lacks, publishes, and enters the copy.
 fn catch_up<W: Wait + Drop, R: Wait>(
     rt: &R,
-    writer: TwinWriter<Columns, W>,
+    writer: TwinWriter<StandingColumns, W>,
     commits: Vec<Commit>,
-    reader: TwinReader<Columns>,
-) -> (TwinWriter<Columns, W>, Result<Guard<Columns>, Missed>)
+    reader: TwinReader<StandingColumns>,
+) -> (
+    TwinWriter<StandingColumns, W>,
+    Result<Guard<StandingColumns>, Missed>,
+)
     requires { Knows writer.base (writer.published ++ writer.pending ++ commits.items) reader }
     ensures writer { Follows writer.base (writer.published ++ writer.pending ++ commits.items) result.0 }
     ensures entered { let all = writer.published ++ writer.pending ++ commits.items in
@@ -148,9 +151,12 @@ fn bring_up<W: Wait + Drop, R: Wait>(
     pace: &Pace,
     bells: &Bells,
     token: &mut Token<W>,
-    writer: TwinWriter<Columns, W>,
-    reader: TwinReader<Columns>,
-) -> (TwinWriter<Columns, W>, Result<Guard<Columns>, Missed>)
+    writer: TwinWriter<StandingColumns, W>,
+    reader: TwinReader<StandingColumns>,
+) -> (
+    TwinWriter<StandingColumns, W>,
+    Result<Guard<StandingColumns>, Missed>,
+)
     requires dispatcher { IsDispatcher table.now token.old }
     requires free { token.old.has_rows ≡ false }
     requires writer { HasTaken token.old writer }
@@ -177,8 +183,8 @@ pub(crate) fn snapshot<W: Wait + Drop, R: Wait>(
     pace: &Pace,
     bells: &Bells,
     token: &mut Token<W>,
-    reader: TwinReader<Columns>,
-) -> Result<Guard<Columns>, Missed>
+    reader: TwinReader<StandingColumns>,
+) -> Result<Guard<StandingColumns>, Missed>
     requires dispatcher { IsDispatcher table.now token.old }
     requires free { HoldsNothing token.old }
     requires reader { Knows token.old.table.base token.old.seen reader }

@@ -9,11 +9,11 @@ ghost use Rattle.ssb_server.specs.Ends.{Finishes, Ends, Turned, TellsFound};
 use crate::answers::{give_up_all, serve_all};
 use crate::batch::Batch;
 use crate::grabbing::grab_all;
-use crate::passes::{RequestRows, answer_all};
+use crate::passes::{RequestRows, answer_all, count_standing};
 use crate::server::{Server, Token};
 use crate::snapshot::snapshot;
-use fact_columns::Columns;
 use ssb_answers::Unserved;
+use standing_columns::StandingColumns;
 use std::alloc::AllocError;
 use std::sync::Wait;
 use std::thread::Threads;
@@ -84,8 +84,8 @@ fn serve<W: Wait + Drop, R: Wait + Threads + Sync, G: ScanGate>(
     gate: &G,
     token: &mut Token<W>,
     batch: &mut Batch,
-    reader: TwinReader<Columns>,
-) -> (TwinReader<Columns>, Turn)
+    reader: TwinReader<StandingColumns>,
+) -> (TwinReader<StandingColumns>, Turn)
     requires dispatcher { IsDispatcher server.now token.old }
     requires free { HoldsNothing token.old }
     requires hand { Keeps batch.old token.old.grabbed }
@@ -111,6 +111,9 @@ fn serve<W: Wait + Drop, R: Wait + Threads + Sync, G: ScanGate>(
             let at = token.seen_len();
             gate.scanning(at);
             let scanned = answer_all(rt, server.alloc, guard.replica(), batch.requests());
+            if scanned.is_ok() {
+                server.count_by_totals(count_standing(guard.replica(), batch.requests()));
+            }
             let reader = guard.leave();
             let turn = finish(server, token, batch, at, scanned);
             (reader, turn)
@@ -130,8 +133,8 @@ pub(crate) fn take_turn<W: Wait + Drop, R: Wait + Threads + Sync, G: ScanGate>(
     gate: &G,
     token: &mut Token<W>,
     batch: &mut Batch,
-    reader: TwinReader<Columns>,
-) -> (TwinReader<Columns>, Turn)
+    reader: TwinReader<StandingColumns>,
+) -> (TwinReader<StandingColumns>, Turn)
     requires dispatcher { IsDispatcher server.now token.old }
     requires free { HoldsNothing token.old }
     requires hand { token.old.grabbed ≡ [] }

@@ -13,7 +13,8 @@
 //! no proof.
 //!
 //! ```text
-//! let run = serve_scripts(&rt, rt.alloc(), hashing, base, scripts, 2, false)?;
+//! let loaded = Loaded::new(&rt, rt.alloc(), hashing, &base, &[])?;
+//! let run = serve_scripts(&rt, rt.alloc(), loaded, scripts, 2, false)?;
 //! write_trace(&mut file, &run.trace)?;
 //! ```
 #![tactic(auto)]

@@ -12,25 +12,24 @@ use crate::session::Session;
 use crate::task::Task;
 use crate::threads::{Ended, run_threads};
 use ssb_audit::{Told, Trace};
-use ssb_base::Base;
 use ssb_schema::Items;
 use ssb_script::Script;
-use ssb_server::{Client, Closed, Dispatcher, Keeps, Opened, Server, open};
+use ssb_server::{Client, Closed, Dispatcher, Keeps, Loaded, Opened, Server, open};
 use ssb_serving::{Batches, RunFault};
 use std::alloc::{AllocError, Global};
-use std::hash::RandomState;
-use std::sync::{Arc, Wait};
+use std::sync::Wait;
 use std::thread::Threads;
 use std::time::{Clock, Duration, Instant};
 
 /// What a run leaves: the report of each script, in the order of the scripts, and the trace, which has the log and
-/// what each client was told, one client after another. Batches, latencies and the time from the start of the first
-/// thread to the end of the last, where times were taken, are figures for a reader.
+/// what each client was told, one client after another. Batches, how many answers came from totals, latencies and the
+/// time from the start of the first thread to the end of the last, where times were taken, are figures for a reader.
 #[derive(Drop)]
 pub struct Run {
     pub reports: Vec<Vec<u8>>,
     pub trace: Trace,
     pub batches: Batches,
+    pub by_totals: u64,
     pub latencies: Latencies,
     pub threads: Option<Duration>,
 }
@@ -126,6 +125,7 @@ fn close<W: Wait + Drop>(
         told,
         times,
     } = gather(alloc, sessions)?;
+    let by_totals = server.answered_by_totals();
     let Ok(Closed { base: _, log }) = server.close(clients, dispatchers) else {
         unreachable!()
     };
@@ -139,6 +139,7 @@ fn close<W: Wait + Drop>(
             answers: Items::from_vec(told),
         },
         batches,
+        by_totals,
         latencies: latencies_of(&times),
         threads,
     })
@@ -186,9 +187,9 @@ fn serve<W: Wait + Drop + Send, R: Wait + Threads + Sync + Clock>(
     close(alloc, server, ended, threads)
 }
 
-/// Serves 1 to 16 scripts by 1 to 4 dispatchers over a base, each client and each dispatcher in a thread of its own;
-/// `hashing` keys the map of orders. It waits until all of them have ended. Where `timed` says so, the time of all
-/// threads is taken, and by each client's thread that of its requests; else no clock is read.
+/// Serves 1 to 16 scripts by 1 to 4 dispatchers over a loaded base, each client and each dispatcher in a thread of its
+/// own. It waits until all of them have ended. Where `timed` says so, the time of all threads is taken, and by each
+/// client's thread that of its requests; else no clock is read.
 ///
 /// The dispatchers' threads start first, then the clients' in the order of the scripts, and where one can't be started,
 /// no later one is. That, and a refused growth wherever it is met, is `OutOfMemory`; each thread that was started has
@@ -196,21 +197,20 @@ fn serve<W: Wait + Drop + Send, R: Wait + Threads + Sync + Clock>(
 pub fn serve_scripts<R: Wait + Threads + Sync + Clock>(
     rt: &R,
     alloc: Global,
-    hashing: RandomState,
-    base: Arc<Base>,
+    loaded: Loaded,
     scripts: Vec<Script>,
     dispatchers: u32,
     timed: bool,
 ) -> Result<Run, RunFault>
     ensures counts { OnOk result (AreCounts (vec_len scripts) dispatchers) }
-    ensures served { IfOk result (λ run. IsRun base.value scripts.items dispatchers
+    ensures served { IfOk result (λ run. IsRun loaded scripts.items dispatchers
         (map (λ report. report.items) run.reports.items) run.trace) }
-    ensures legal { IfOk result (λ run. IsLegalTrace base.value run.trace) }
+    ensures legal { IfOk result (λ run. IsLegalTrace loaded run.trace) }
     ensures fault { IfErr result (λ fault. IsRunFault (vec_len scripts) dispatchers fault) }
 {
     let count = u32::try_from(scripts.len()).unwrap_or(u32::MAX);
-    match open(alloc, rt, hashing, base, count, dispatchers, Keeps::All) {
+    match open(alloc, rt, loaded, count, dispatchers, Keeps::All) {
         Ok(opened) => Ok(serve(rt, alloc, opened, scripts, timed)?),
-        Err(error) => Err(RunFault::from(error.fault)),
+        Err(fault) => Err(RunFault::from(fault)),
     }
 }

@@ -33,7 +33,7 @@
 //! ```text
 //! let mut wire = Wire::new(input, output);
 //! let served = serve_session(rt, alloc, &AtOnce, &server, &mut client, &mut wire)?;
-//! let run = serve_streams(&rt, rt.alloc(), hashing, base, speakers, 2)?;
+//! let run = serve_streams(&rt, rt.alloc(), loaded, speakers, 2)?;
 //! ```
 #![tactic(auto)]
 

@@ -13,13 +13,11 @@ use crate::clients::{Seat, Spoken};
 use crate::speaks::Speaks;
 use crate::threads::{Ended, run_threads};
 use row_store::Log;
-use ssb_base::Base;
-use ssb_server::{Client, Closed, Dispatcher, Keeps, Opened, Server, open};
+use ssb_server::{Client, Closed, Dispatcher, Keeps, Loaded, Opened, Server, open};
 use ssb_serving::{Batches, RunFault};
 use std::alloc::{AllocError, Global};
-use std::hash::RandomState;
 use std::marker::PhantomData;
-use std::sync::{Arc, Wait};
+use std::sync::Wait;
 use std::thread::Threads;
 
 /// What the sessions of many clients leave: what each speaker left, in their order, and the log. Batches are figures
@@ -165,8 +163,8 @@ where
     Ok(ended)
 }
 
-/// Serves 1 to 16 clients, one for each speaker, by 1 to 4 dispatchers over a base, each client and each dispatcher in
-/// a thread of its own; `hashing` keys the map of orders. It waits until all of them have ended.
+/// Serves 1 to 16 clients, one for each speaker, by 1 to 4 dispatchers over a loaded base, each client and each
+/// dispatcher in a thread of its own. It waits until all of them have ended.
 ///
 /// The dispatchers' threads start first, then the clients' in the order of the speakers, and where one can't be
 /// started, no later one is. That, and a refused growth wherever it is met, is `OutOfMemory`; each thread that was
@@ -174,21 +172,20 @@ where
 pub fn serve_streams<R: Wait + Threads + Sync, S: Speaks<R, Nothing> + Drop + Send>(
     rt: &R,
     alloc: Global,
-    hashing: RandomState,
-    base: Arc<Base>,
+    loaded: Loaded,
     speakers: Vec<S>,
     dispatchers: u32,
 ) -> Result<StreamRun<S::Left>, RunFault>
 where
     S::Left: Drop + Send,
     ensures counts { OnOk result (AreCounts (vec_len speakers) dispatchers) }
-    ensures served { IfOk result (λ run. IsStreamRun S.spoken base.value speakers.items dispatchers run.left.items
+    ensures served { IfOk result (λ run. IsStreamRun S.spoken loaded speakers.items dispatchers run.left.items
         run.log) }
     ensures fault { IfErr result (λ fault. IsRunFault (vec_len speakers) dispatchers fault) }
 {
     let count = u32::try_from(speakers.len()).unwrap_or(u32::MAX);
-    match open(alloc, rt, hashing, base, count, dispatchers, Keeps::Recent) {
+    match open(alloc, rt, loaded, count, dispatchers, Keeps::Recent) {
         Ok(opened) => Ok(serve(rt, alloc, opened, speakers)?),
-        Err(error) => Err(RunFault::from(error.fault)),
+        Err(fault) => Err(RunFault::from(fault)),
     }
 }

@@ -2,7 +2,7 @@
 ghost use Rattle.std.specs.Prelude.{All, IfOk, IfSome};
 ghost use Rattle.ssb_server.specs.Tickets.{IsOf, IsQuiet};
 
-use ssb_server::{Client, Dispatcher, Keeps, OpenFault, Opened, Server, open};
+use ssb_server::{Client, Dispatcher, Keeps, Loaded, OpenFault, Opened, Server, open};
 use std::hash::RandomState;
 use std::random::RandomSource;
 use std::sync::Wait;
@@ -22,17 +22,10 @@ pub fn opened<R: Threads + Sync + Wait + AllocGlobal + RandomSource>(
 {
     let alloc = rt.alloc();
     let base = standard_base(rt, alloc)?;
-    match open(
-        alloc,
-        rt,
-        RandomState::new(rt)?,
-        base,
-        clients,
-        dispatchers,
-        Keeps::All,
-    ) {
+    let loaded = Loaded::new(rt, alloc, RandomState::new(rt)?, &base, &[])?;
+    match open(alloc, rt, loaded, clients, dispatchers, Keeps::All) {
         Ok(made) => Ok(made),
-        Err(error) => Err(error.fault)?,
+        Err(fault) => Err(fault)?,
     }
 }
 
@@ -65,7 +58,7 @@ pub fn next_dispatcher<W: Wait + Drop>(
 #[test]
 fn counts_out_of_range_open_nothing(rt: HostRuntime) -> Result<(), Fail> {
     let alloc = rt.alloc();
-    let mut base = standard_base(&rt, alloc)?;
+    let base = standard_base(&rt, alloc)?;
     for (clients, dispatchers, fault) in [
         (0, 1, OpenFault::ClientCount),
         (17, 1, OpenFault::ClientCount),
@@ -74,11 +67,9 @@ fn counts_out_of_range_open_nothing(rt: HostRuntime) -> Result<(), Fail> {
         (0, 0, OpenFault::ClientCount),
     ] {
         let hashing = RandomState::new(&rt)?;
-        let opened = open(alloc, &rt, hashing, base, clients, dispatchers, Keeps::All);
-        let error = opened.err().ok_or("opened")?;
-        assert_eq!(rt; error.fault, fault);
-        base = error.back;
+        let loaded = Loaded::new(&rt, alloc, hashing, &base, &[])?;
+        let opened = open(alloc, &rt, loaded, clients, dispatchers, Keeps::All);
+        assert_eq!(rt; opened.err().ok_or("opened")?, fault);
     }
-    assert_eq!(rt; base.lines().len(), 4);
     Ok(())
 }

@@ -1,6 +1,6 @@
 use Rattle.std.proofs.Common.{◌≡◌, ◌∙◌, [], ap, rules}
 use Rattle.row_store.specs.State.{state_of}
-use Rattle.query_command.proofs.OpeningLaws.{loaded_snapshot}
+use Rattle.shared_scan.proofs.LoadedLaws.{loaded_snapshot}
 use Rattle.query_command.proofs.opening.columns_of.Goals as goal
 
 pub returns-clause-snapshot : goal.returns-clause-snapshot

@@ -1,6 +1,7 @@
 use Rattle.std.proofs.Common.{◌∙◌, [], map, ap}
 use Rattle.query_command.specs.Reported.{opened}
-use Rattle.query_command.proofs.OpeningLaws.{opened_rows, loaded_base, loaded_stands}
+use Rattle.shared_scan.proofs.LoadedLaws.{loaded_base, loaded_stands}
+use Rattle.query_command.proofs.OpeningLaws.{opened_rows}
 use Rattle.shared_scan.specs.Answers.{answers_after}
 use Rattle.ssb_files.proofs.ResultLaws.{if_ok_from}
 use Rattle.query_command.proofs.opening.opening_answers.Goals as goal

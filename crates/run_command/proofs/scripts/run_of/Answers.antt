@@ -1,7 +1,8 @@
-use Rattle.std.proofs.Common.{◌≡◌, ◌⊎◌, Err, List, inl, inr, map, rules, ℕ}
-use Rattle.ssb_files.specs.Loaded.{AreRefused}
+use Rattle.std.proofs.Common.{◌≡◌, ◌⊎◌, Err, List, inl, inr, map, rules, subst, sym, ℕ}
+use Rattle.ssb_files.specs.Loaded.{AreRefused, IsLoaded}
 use Rattle.ssb_files.specs.Scripts.{HasRefused}
 use Rattle.ssb_files.specs.declared.job.JobFault.TheVariants.{Program}
+use Rattle.run_command.specs.Standing.{MayNotStand}
 use Rattle.run_command.specs.Status.{serving_status}
 use Rattle.ssb_text.specs.Load.{AreTexts}
 use Rattle.ssb_schema.specs.declared.table.Table.{Table}
@@ -12,7 +13,7 @@ returns-in_err-base-clause-refused g c =
     let is : c.from_residual.result ≡ Err (Program c.in_err-base.field-0.0) = search rules in
     let here : serving_status (Program c.in_err-base.field-0.0) ≡ 1 → (texts : Table → List ℕ)
     → AreTexts g.I.Read.remaining c.args.tables texts → AreRefused texts
-    ⊎ HasRefused (map g.I.Read.remaining c.args.sources.items)
+    ⊎ HasRefused (map g.I.Read.remaining c.args.sources.items) ⊎ MayNotStand texts c.args.settings.standing.items
     = λ status texts are. inl (c.in_err-base.ensures.data status texts are) in
     rw is here
 
@@ -21,14 +22,27 @@ returns-in_err-scripts-clause-refused g c =
     let is : c.from_residual-in_err-scripts.result ≡ Err (Program c.in_err-scripts.field-0.0) = search rules in
     let here : serving_status (Program c.in_err-scripts.field-0.0) ≡ 1 → (texts : Table → List ℕ)
     → AreTexts g.I.Read.remaining c.args.tables texts → AreRefused texts
-    ⊎ HasRefused (map g.I.Read.remaining c.args.sources.items)
-    = λ status texts are. inr (c.in_err-scripts.ensures.refused status) in
+    ⊎ HasRefused (map g.I.Read.remaining c.args.sources.items) ⊎ MayNotStand texts c.args.settings.standing.items
+    = λ status texts are. inr (inl (c.in_err-scripts.ensures.refused status)) in
+    rw is here
+
+pub returns-in_err-loaded-clause-refused : goal.returns-in_err-loaded-clause-refused
+returns-in_err-loaded-clause-refused g c =
+    let is : c.from_residual-in_err-loaded.result ≡ Err c.in_err-loaded.field-0.0 = search rules in
+    let here : serving_status c.in_err-loaded.field-0.0 ≡ 1 → (texts : Table → List ℕ)
+    → AreTexts g.I.Read.remaining c.args.tables texts → AreRefused texts
+    ⊎ HasRefused (map g.I.Read.remaining c.args.sources.items) ⊎ MayNotStand texts c.args.settings.standing.items
+    = λ status texts are. inr (inr (record {
+      base = c.in_ok-base.base;
+      loaded = c.in_ok-base.ensures.base texts are;
+      many = c.in_err-loaded.ensures.refused status;
+    })) in
     rw is here
 
 pub returns-clause-run : goal.returns-clause-run
 returns-clause-run g c = λ texts are. record {
-  base = c.in_ok-base.base;
-  loaded = c.in_ok-base.ensures.base texts are;
+  base = c.in_ok-loaded.loaded;
+  loaded = subst (IsLoaded texts) (sym c.in_ok-loaded.ensures.base) (c.in_ok-base.ensures.base texts are);
   scripts = c.in_ok-scripts.scripts.items;
   spelled = c.in_ok-scripts.ensures.scripts;
   run = c.in_ok-run.ensures.run;

@@ -1,5 +1,7 @@
-use Rattle.std.proofs.Common.{◌≡◌, Err, List, ℕ, arith, inl, inr, rules}
+use Rattle.std.proofs.Common.{◌≡◌, ◌∙◌, Err, List, ℕ, arith, inl, inr, rules}
+use Rattle.std.specs.Prelude.{◌≢◌}
 use Rattle.serve_command.proofs.JournaledLaws.{goes_on_over, refuses_journal}
+use Rattle.serve_command.proofs.StandingLaws.{may_not_stand}
 use Rattle.serve_command.specs.Journaled.{AreRefusedJournaled}
 use Rattle.serve_command.specs.Status.{journal_status}
 use Rattle.ssb_files.specs.Status.{job_status}
@@ -14,7 +16,7 @@ returns-in_err-base-clause-refused g c =
     let is : c.from_residual.result ≡ Err (Program c.in_err-base.field-0.0) = search rules in
     let here : job_status journal_status (Program c.in_err-base.field-0.0) ≡ 1 → (texts : Table → List ℕ)
     → AreTexts g.I.Read.remaining c.args.tables texts
-    → AreRefusedJournaled texts (g.P.OpensJournal.holds c.args.place.now.file.now)
+    → AreRefusedJournaled texts c.args.settings.standing.items (g.P.OpensJournal.holds c.args.place.now.file.now)
     (g.P.OpensJournal.is_taken c.args.place.now.file.now)
     = λ status texts are. inl (c.in_err-base.ensures.data status texts are) in
     rw is here
@@ -24,9 +26,27 @@ returns-in_err-base-2-clause-refused g c =
     let is : c.from_residual-in_err-base-2.result ≡ Err (Program common.OutOfMemory) = search rules in
     let here : job_status journal_status (Program common.OutOfMemory) ≡ 1 → (texts : Table → List ℕ)
     → AreTexts g.I.Read.remaining c.args.tables texts
-    → AreRefusedJournaled texts (g.P.OpensJournal.holds c.args.place.now.file.now)
+    → AreRefusedJournaled texts c.args.settings.standing.items (g.P.OpensJournal.holds c.args.place.now.file.now)
     (g.P.OpensJournal.is_taken c.args.place.now.file.now)
     = λ status texts are. absurd (omega (arith, status)) in
+    rw is here
+
+pub returns-in_err-loaded-clause-refused : goal.returns-in_err-loaded-clause-refused
+returns-in_err-loaded-clause-refused g c =
+    let is : c.from_residual-in_err-loaded.result ≡ Err (Program c.in_err-loaded.field-0.0) = search rules in
+    let same : c.in_ok-base-2.base.value ≡ c.in_ok-base.base = search rules in
+    let here : job_status journal_status (Program c.in_err-loaded.field-0.0) ≡ 1 → (texts : Table → List ℕ)
+    → AreTexts g.I.Read.remaining c.args.tables texts
+    → AreRefusedJournaled texts c.args.settings.standing.items (g.P.OpensJournal.holds c.args.place.now.file.now)
+    (g.P.OpensJournal.is_taken c.args.place.now.file.now)
+    = λ status texts are. inr (inl (may_not_stand texts _ _ _ same (c.in_ok-base.ensures.base texts are)
+    (c.in_err-loaded.ensures.refused status))) in
+    rw is here
+
+pub returns-in_err-loaded-clause-words : goal.returns-in_err-loaded-clause-words
+returns-in_err-loaded-clause-words g c =
+    let is : c.from_residual-in_err-loaded.result ≡ Err (Program c.in_err-loaded.field-0.0) = search rules in
+    let here : job_status journal_status (Program c.in_err-loaded.field-0.0) ≢ 2 = c.in_err-loaded.ensures.words in
     rw is here
 
 pub returns-in_err-disk-clause-refused : goal.returns-in_err-disk-clause-refused
@@ -34,19 +54,21 @@ returns-in_err-disk-clause-refused g c =
     let is : c.from_residual-in_err-disk.result ≡ Err c.in_err-disk.field-0.0 = search rules in
     let here : job_status journal_status c.in_err-disk.field-0.0 ≡ 1 → (texts : Table → List ℕ)
     → AreTexts g.I.Read.remaining c.args.tables texts
-    → AreRefusedJournaled texts (g.P.OpensJournal.holds c.args.place.now.file.now)
+    → AreRefusedJournaled texts c.args.settings.standing.items (g.P.OpensJournal.holds c.args.place.now.file.now)
     (g.P.OpensJournal.is_taken c.args.place.now.file.now)
-    = λ status texts are. inr (inl (c.in_err-disk.ensures.taken status)) in
+    = λ status texts are. inr (inr (inl (c.in_err-disk.ensures.taken status))) in
     rw is here
 
 pub returns-in-Ok-clause-served : goal.returns-in-Ok-clause-served
 returns-in-Ok-clause-served g c = λ texts are.
     let same : c.in_ok-base-2.base.value ≡ c.in_ok-base.base = search rules in
-    goes_on_over g.S.Speaker.spoken texts _ _ _ _ _ _ _ _ _ same (c.in_ok-base.ensures.base texts are)
+    goes_on_over g.S.Speaker.spoken texts _ _ _ _ _ _ _ _ _ (c.in_ok-loaded.ensures.base ∙ same)
+    (c.in_ok-base.ensures.base texts are)
     c.table_sizes-sizes.ensures c.in_ok-disk.ensures.held c.in-Ok.ensures.served
 
 pub returns-in-Err-clause-refused : goal.returns-in-Err-clause-refused
 returns-in-Err-clause-refused g c = λ status texts are.
     let same : c.in_ok-base-2.base.value ≡ c.in_ok-base.base = search rules in
-    inr (inr (refuses_journal texts _ _ _ _ _ same (c.in_ok-base.ensures.base texts are) c.table_sizes-sizes.ensures
-    c.in_ok-disk.ensures.held (c.in-Err.ensures.refused status)))
+    inr (inr (inr (refuses_journal texts _ _ _ _ _ (c.in_ok-loaded.ensures.base ∙ same)
+    (c.in_ok-base.ensures.base texts are) c.table_sizes-sizes.ensures c.in_ok-disk.ensures.held
+    (c.in-Err.ensures.refused status))))

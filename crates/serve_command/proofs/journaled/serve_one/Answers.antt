@@ -15,7 +15,7 @@ returns-in_err-push-clause-refused g c =
     let is : c.from_residual.result ≡ Err (Program common.OutOfMemory) = search rules in
     let here : job_status journal_status (Program common.OutOfMemory) ≡ 1 → (texts : Table → List ℕ)
     → AreTexts g.I.Read.remaining c.args.tables texts
-    → AreRefusedJournaled texts (g.P.OpensJournal.holds c.args.place.now.file.now)
+    → AreRefusedJournaled texts c.args.settings.standing.items (g.P.OpensJournal.holds c.args.place.now.file.now)
     (g.P.OpensJournal.is_taken c.args.place.now.file.now)
     = λ status texts are. absurd (omega (arith, status)) in
     rw is here

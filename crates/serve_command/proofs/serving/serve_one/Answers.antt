@@ -1,9 +1,10 @@
-use Rattle.std.proofs.Common.{◌≡◌, Err, List, length, arith, rules, ℕ}
+use Rattle.std.proofs.Common.{◌≡◌, ◌⊎◌, Err, List, length, arith, rules, ℕ}
 use Rattle.ssb_files.specs.Loaded.{AreRefusedToServe}
 use Rattle.ssb_files.specs.declared.fault.Fault.TheVariants as common
 use Rattle.ssb_files.specs.declared.job.JobFault.TheVariants.{Program}
 use Rattle.ssb_schema.specs.declared.table.Table.{Table}
 use Rattle.ssb_text.specs.Load.{AreTexts}
+use Rattle.serve_command.specs.Standing.{MayNotStand}
 use Rattle.serve_command.specs.Status.{serving_status}
 use Rattle.serve_command.proofs.ServedLaws.{ends_alone, first_pushed, is_alone, only_popped}
 use Rattle.serve_command.proofs.serving.serve_one.Goals as goal
@@ -12,7 +13,8 @@ pub returns-in_err-push-clause-refused : goal.returns-in_err-push-clause-refused
 returns-in_err-push-clause-refused g c =
     let is : c.from_residual.result ≡ Err (Program common.OutOfMemory) = search rules in
     let here : serving_status (Program common.OutOfMemory) ≡ 1 → (texts : Table → List ℕ)
-    → AreTexts g.I.Read.remaining c.args.tables texts → AreRefusedToServe texts
+    → AreTexts g.I.Read.remaining c.args.tables texts
+    → AreRefusedToServe texts ⊎ MayNotStand texts c.args.settings.standing.items
     = λ status texts are. absurd (omega (arith, status)) in
     rw is here
 

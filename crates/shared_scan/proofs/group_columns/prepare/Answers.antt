@@ -6,11 +6,11 @@ use Rattle.ssb_questions.specs.declared.value.Value.{Value}
 use Rattle.ssb_questions.specs.declared.value.Value.TheVariants.{Number}
 use Rattle.scan_kernel.specs.Places.{mask_in}
 use Rattle.scan_kernel.specs.Groups.{code_in}
-use Rattle.shared_scan.specs.Numbering.{IsPreparedColumn}
+use Rattle.shared_scan.specs.Numbering.{IsPreparedColumn, IsTaken}
 use Rattle.shared_scan.proofs.PartLaws.{is_prepared}
 use Rattle.dimension_index.specs.Values.{values_of}
 use Rattle.dimension_index.specs.Codes.{distinct, codes_of}
-use Rattle.shared_scan.proofs.DistinctLaws.{codes_within, distinct_few}
+use Rattle.shared_scan.proofs.DistinctLaws.{codes_within, distinct_few, distinct_used}
 use Rattle.shared_scan.proofs.group_columns.prepare.Goals as goal
 
 pub number_codes-requires-clause-within : goal.number_codes-requires-clause-within
@@ -100,8 +100,12 @@ returns-clause-prepared c =
     let times : (code : ℕ) → code < length numbers → get_or numbers code 0 ≢ 4294967295
     → get_or new code 0 ≡ get_or numbers code 0 * step =
     rw c.deref-2.ensures.value at c.in_ok-parts.ensures.each in
+    let only = rw c.codes_of-codes.ensures at c.in_ok-numbering.ensures.only in
+    let taken : (n : ℕ) → n < length kept → IsTaken (codes_of rows) masks k (get_or kept n 0) = λ n below.
+    only n below (distinct_used rows (get_or kept n 0)
+    (omega (arith, (c.in_ok-numbering.ensures.numbered.back n below).0, len))) in
     let made = is_prepared rows masks k step numbers kept new c.in_ok-numbering.ensures.numbered len new_len each_row
-    times in
+    times taken in
     let values : c.in_ok-values.values ≡ map (λ code. get_or (distinct rows) code (Number 0)) kept =
     rw (c.dictionary.ensures, c.deref.ensures.value) at c.in_ok-values.ensures in
     let P : List Value → Type 0 = λ vs. IsPreparedColumn rows masks k step vs new in

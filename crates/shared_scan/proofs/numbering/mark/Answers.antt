@@ -1,6 +1,6 @@
 use Rattle.std.proofs.Common.{◌<◌, length, get_or, bit_or, arith}
 use Rattle.std.proofs.lemmas.List.{length-set}
-use Rattle.shared_scan.proofs.NumberingLaws.{mark_more}
+use Rattle.shared_scan.proofs.NumberingLaws.{mark_more, mark_only}
 use Rattle.shared_scan.proofs.numbering.mark.Goals as goal
 
 pub loop-row-preserved : goal.loop-row-preserved
@@ -18,4 +18,6 @@ loop-row-preserved c =
         c.loop-row.invariant.len,
       );
       each = mark_more seen codes c.args.masks.now row within c.loop-row.invariant.each;
+      only = mark_only c.args.seen.now seen codes c.args.masks.now row within c.loop-row-test.true
+          c.loop-row.invariant.only;
     }

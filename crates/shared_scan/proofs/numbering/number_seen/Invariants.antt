@@ -11,4 +11,6 @@ invariant-loop-code l = record {
   numbered : AreNumbered l.numbering.numbers.items l.numbering.kept.items;
   each : (code : ℕ) → code < l.code → bit_at (get_or l.seen code 0) l.question ≡ 1
       → get_or l.numbering.numbers.items code 0 ≢ 4294967295;
+  only : (number : ℕ) → number < length l.numbering.kept.items
+      → bit_at (get_or l.seen (get_or l.numbering.kept.items number 0) 0) l.question ≡ 1;
 }

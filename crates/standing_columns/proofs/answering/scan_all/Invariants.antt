@@ -3,7 +3,7 @@ use Rattle.row_store.specs.History.{CommitRecord}
 use Rattle.row_store.specs.State.{StandsFor}
 use Rattle.fact_columns.specs.Stored.{columns_state}
 use Rattle.shared_scan.specs.Answers.{answers_after}
-use Rattle.ssb_server.proofs.passes.scan_all.Given as goal
+use Rattle.standing_columns.proofs.answering.scan_all.Given as goal
 
 -- the rows so far, and those of the questions that are left
 abbrev pub invariant-loop-rest : goal.invariant-loop-rest

@@ -1,0 +1,17 @@
+-- Questions that may not stand.
+use Rattle.std.proofs.Common.{◌≡◌, ℕ, List, subst}
+use Rattle.serve_command.specs.Standing.{HasTooManyGroups, MayNotStand}
+use Rattle.ssb_base.specs.Base.{Tables}
+use Rattle.ssb_files.specs.Loaded.{IsLoadedToServe}
+use Rattle.ssb_questions.specs.declared.query.Query.{Query}
+use Rattle.ssb_questions.specs.declared.value.Value.{Value}
+use Rattle.ssb_schema.specs.declared.table.Table.{Table}
+
+-- over the base that the texts spell, which was shared
+pub may_not_stand : (texts : Table → List ℕ) (base shared : Tables) (standing : List (Query × List Value))
+    → shared ≡ base → IsLoadedToServe texts base → HasTooManyGroups shared standing → MayNotStand texts standing
+may_not_stand texts base shared standing same loaded many = record {
+  base = base;
+  loaded = loaded;
+  many = subst (λ tables. HasTooManyGroups tables standing) same many;
+}

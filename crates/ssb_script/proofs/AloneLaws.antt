@@ -1,0 +1,103 @@
+-- Questions that are asked alone are a script, which asks each by itself.
+use Rattle.std.proofs.Common.{
+  ◌≡◌,
+  ◌∙◌,
+  ◌++◌,
+  ◌∷◌,
+  All,
+  ℕ,
+  [],
+  List,
+  Option,
+  Some,
+  None,
+  Result,
+  Ok,
+  Err,
+  map,
+  length,
+  refl,
+  sym,
+  ap,
+}
+use Rattle.std.specs.List.{AllZip}
+use Rattle.std.proofs.lemmas.List.{length-map}
+use Rattle.std.proofs.lemmas.List.Elements.{All-cons, All-nil}
+use Rattle.std.proofs.lemmas.Option.{same_Some}
+use Rattle.ssb_questions.specs.declared.query.Query.{Query as Named}
+use Rattle.ssb_questions.specs.declared.value.Value.{Value}
+use Rattle.ssb_script.specs.Laws.{IsScriptOfQuestions}
+use Rattle.ssb_script.specs.Lines.{RecordFault, ScriptLine, line_of}
+use Rattle.ssb_script.specs.Lines as line
+use Rattle.ssb_script.specs.Questions.{AsksAlone, asked_by, question_in, requests_alone}
+use Rattle.ssb_script.specs.Requests.{Ask, IsWholeRequest, RequestRecord}
+use Rattle.ssb_script.specs.Scripts.{Spell, SpellAll, lines_in}
+use Rattle.ssb_script.specs.declared.request.Asking.TheVariants.{Alone}
+
+abbrev Question : Type 0
+Question = Named × List Value
+
+abbrev head_or : {X : Type 0} → X → List X → X
+head_or other [] = other
+head_or other (x ∷ xs) = x
+
+abbrev tail_of : {X : Type 0} → List X → List X
+tail_of [] = []
+tail_of (x ∷ xs) = xs
+
+-- the line that asks a question
+line_said : (spelled : Result ScriptLine RecordFault) (question : Question) → question_in spelled ≡ Some question
+    → spelled ≡ Ok (line.Query question)
+line_said (Ok (line.Query asked)) question is = ap (λ one. Ok (line.Query one)) (same_Some asked question is)
+line_said (Ok line.Begin) question is = absurd cc
+line_said (Ok (line.Open opening)) question is = absurd cc
+line_said (Ok (line.Line row)) question is = absurd cc
+line_said (Ok (line.Withdraw key)) question is = absurd cc
+line_said (Ok line.Commit) question is = absurd cc
+line_said (Ok line.Ask) question is = absurd cc
+line_said (Ok line.Answer) question is = absurd cc
+line_said (Ok line.Abort) question is = absurd cc
+line_said (Err why) question is = absurd cc
+
+lines_said : (records : List (List (List ℕ))) (questions : List Question)
+    → map asked_by records ≡ map Some questions → map line_of records ≡ map Ok (map line.Query questions)
+lines_said [] [] is = refl
+lines_said [] (question ∷ questions) is = absurd cc
+lines_said (fields ∷ records) [] is = absurd cc
+lines_said (fields ∷ records) (question ∷ questions) is =
+    let first : line_of fields ≡ Ok (line.Query question) = line_said (line_of fields) question (ap (head_or None) is) in
+    let others : map line_of records ≡ map Ok (map line.Query questions) = lines_said records questions
+    (ap tail_of is) in
+    rw (first, others) refl
+
+-- each request has a line of its own
+abbrev own_line : Question → List ScriptLine
+own_line question = line.Query question ∷ []
+
+each_spelled : (questions : List Question) → AllZip Spell (requests_alone questions) (map own_line questions)
+each_spelled [] = tt
+each_spelled (question ∷ questions) = (refl, each_spelled questions)
+
+lines_joined : (questions : List Question) → map line.Query questions ≡ lines_in (map own_line questions)
+lines_joined [] = refl
+lines_joined (question ∷ questions) = ap (λ lines. line.Query question ∷ lines) (lines_joined questions)
+
+all_whole : (questions : List Question) → All IsWholeRequest (requests_alone questions)
+all_whole [] = All-nil IsWholeRequest
+all_whole (question ∷ questions) =
+    All-cons IsWholeRequest (Ask (Alone question)) (requests_alone questions) tt (all_whole questions)
+
+pub is_script : (text : List ℕ) → IsScriptOfQuestions text
+is_script text questions asks = record {
+  records = asks.records;
+  all = asks.all;
+  few = rw (sym (length-map asks.records asked_by) ∙ ap length asks.asked ∙ length-map questions Some) asks.few;
+  lines = map line.Query questions;
+  said = lines_said asks.records questions asks.asked;
+  spelled = record {
+    parts = map own_line questions;
+    each = each_spelled questions;
+    joined = lines_joined questions;
+  };
+  whole = all_whole questions;
+}

@@ -1,0 +1,5 @@
+pub mod OnceLaws
+pub mod StandingLaws
+pub mod MergeLaws
+pub mod PassLaws
+pub mod KeptLaws

@@ -1,0 +1,19 @@
+//! Each question once.
+ghost use Rattle.std.specs.Prelude.{◌≡◌, IfOk};
+ghost use Rattle.standing_columns.specs.Standing.{each_once};
+
+use ssb_answers::Question;
+use std::alloc::{AllocError, Global};
+
+/// The questions without those that are equal to an earlier one.
+pub fn each_once(alloc: Global, questions: &[Question]) -> Result<Vec<Question>, AllocError>
+    ensures { IfOk result (λ kept. kept.items ≡ each_once questions.now) }
+{
+    let mut kept: Vec<Question> = Vec::new(alloc);
+    for question in questions {
+        if !kept.iter().any(|earlier| *earlier == *question) {
+            kept.push(question.share()?)?;
+        }
+    }
+    Ok(kept)
+}
