@@ -10,6 +10,7 @@ use Rattle.history_core.specs.declared.response.Response.{Response}
 use Rattle.history.specs.Tokens.{TableRecord, TokenRecord}
 use Rattle.ssb_server.specs.Clients.{Refreshed, Looks, HandsBack, Asks, Polls}
 use Rattle.ssb_server.specs.Tickets.{IsOf}
+use Rattle.ssb_server.specs.Turns.{HasFetched}
 use Rattle.ssb_server.proofs.StayingLaws.{new_clients_are_quiet, new_dispatchers_are_of_it}
 
 -- whose the clients and dispatchers of a new server are
@@ -38,3 +39,6 @@ module _ (table : TableRecord) where
   pub polls_stays : (before after : TokenRecord) (response : Response) → IsOf table before → Polls before response after
       → IsOf table after
   polls_stays before after response here polls = ap (λ (t : TokenRecord). t.table) polls.now ∙ here
+
+  pub fetched_stays : (before after : TokenRecord) → IsOf table before → HasFetched before after → IsOf table after
+  fetched_stays before after here fetched = ap (λ (t : TokenRecord). t.table) fetched.now ∙ here

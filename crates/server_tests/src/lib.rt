@@ -1,6 +1,7 @@
 //! Tests of the live server, over the small data set: what clients and dispatchers are told step by step in one
-//! thread, calls that lack memory and are made again, and servers that are not opened; and in threads a scan that is
-//! held while others go on.
+//! thread, copies that follow though nothing is asked, calls that lack memory and are made again, servers that are not
+//! opened or not closed, and the log of one that is; and in threads a scan that is held while others go on, and thirty
+//! refreshes of three clients.
 //!
 //! Each step is a call of `ssb_server`, or a few, and promises whose the tokens are afterwards, and whether a client
 //! asks, so that each call after it is proved to find the tokens as it asks. Most tests are a list of steps, with what

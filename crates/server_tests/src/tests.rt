@@ -1,7 +1,10 @@
+mod closing;
+mod following;
 mod held;
 mod memory;
 mod opening;
 mod parties;
+mod thirty;
 mod trial;
 mod turns;
 

@@ -69,6 +69,7 @@ use Rattle.ssb_sessions.specs.Alone.{
   own,
   may_be_told,
   OneClientIsOneThread,
+  AloneSeesItsOwn,
   AloneIsOneThread,
   AloneEndsAsOneThread,
 }
@@ -290,10 +291,13 @@ are_one_threads old new (Ask asking ∷ requests) (Aborted ∷ replies) served a
 are_one_threads old new (Abort ∷ requests) (Refreshed reply ∷ replies) served alone quiet = absurd served.1
 are_one_threads old new (Abort ∷ requests) (Answered answers ∷ replies) served alone quiet = absurd served.1
 
+pub alone_sees_its_own : AloneSeesItsOwn
+alone_sees_its_own t alone sound = sym (alone_sees t alone sound)
+
 pub alone_is_one_thread : AloneIsOneThread
 alone_is_one_thread before after requests told_old told_new was is alone quiet served =
-    let all = are_one_threads before after requests served.replies served.served alone (asked_nothing before.asked quiet)
-    in
+    let quietly = asked_nothing before.asked quiet in
+    let all = are_one_threads before after requests served.replies served.served alone quietly in
     record {
       replies = served.replies;
       answered = all.answered;
@@ -325,5 +329,5 @@ alone_ends_as_one_thread (error.OutOfMemory done) before after requests told_old
 -- a new token asks nothing
 pub one_client_is_one_thread : OneClientIsOneThread
 one_client_is_one_thread table after requests told was is one served =
-    alone_is_one_thread (new_token table (Client 1)) after requests [] told was is (record { who = refl; clients = one })
-    refl served
+    alone_is_one_thread (new_token table (Client 1)) after requests [] told was is
+    (record { who = refl; clients = one }) refl served

@@ -22,7 +22,7 @@ use Rattle.ssb_answers.specs.declared.answer.Unserved.{Unserved as Cause}
 use Rattle.ssb_answers.specs.declared.answer.Unserved.TheVariants.{OutOfMemory, Twin}
 use Rattle.row_store.specs.History.{Warehouse}
 use Rattle.history_core.specs.declared.event.Who.TheVariants.{Client}
-use Rattle.history.specs.Tokens.{TableRecord, TokenRecord, new_token}
+use Rattle.history.specs.Tokens.{TableRecord, TokenRecord, IsSound, new_token}
 use Rattle.ssb_audit.specs.declared.trace.Told.{Told}
 use Rattle.ssb_report.specs.Replies.{Reply, reply_text, with_commits}
 use Rattle.ssb_report.specs.Report as one_thread
@@ -41,6 +41,10 @@ pub record IsAlone (t : TokenRecord) : Type 0 where
 -- the warehouse after the client's own commits
 abbrev pub own : TokenRecord → Warehouse
 own t = record { base = t.table.base; log = t.mine }
+
+-- what the only client of a table sees is its own commits
+abbrev pub AloneSeesItsOwn : Type 0
+AloneSeesItsOwn = (t : TokenRecord) → IsAlone t → IsSound t → t.seen ≡ t.mine
 
 -- the causes that a dispatcher may tell: memory, or that its copy and what it knows are of two lengths
 abbrev pub may_be_told : Cause → Bool
@@ -65,8 +69,8 @@ AloneIsOneThread = (before after : TokenRecord) (requests : List RequestRecord) 
 
 -- the one-thread warehouse has answered the first requests and one more: what was written is the report of the first
 -- ones and a part of that of the last reply, of which something is left
-pub record StopsAfter (done : ℕ) (old new : Warehouse) (requests : List RequestRecord) (before after : Option (List ℕ)) :
-    Type 0 where
+pub record StopsAfter (done : ℕ) (old new : Warehouse) (requests : List RequestRecord)
+    (before after : Option (List ℕ)) : Type 0 where
   pub replies : List Reply
   pub last : Reply
   pub count : length replies ≡ done

@@ -1,5 +1,6 @@
 //! What follows of what clients are served: each law is the contract of a function that does nothing.
-ghost use Rattle.ssb_sessions.specs.Alone.{OneClientIsOneThread, AloneIsOneThread, AloneEndsAsOneThread};
+ghost use Rattle.ssb_sessions.specs.Alone.{OneClientIsOneThread, AloneSeesItsOwn};
+ghost use Rattle.ssb_sessions.specs.Alone.{AloneIsOneThread, AloneEndsAsOneThread};
 ghost use Rattle.ssb_sessions.specs.Traces.{RunsAreLegal};
 
 /// The log of a closed server and what each of its clients was told, in any order of the clients, are a legal trace:
@@ -13,9 +14,10 @@ pub fn one_client_is_one_thread()
     ensures { OneClientIsOneThread }
 {}
 
-/// What the only client of a server is served, from any state on in which it asks nothing, is what the one-thread
-/// warehouse serves after the commits that the client has made; and so it is where serving ends early.
+/// What the only client of a server sees is its own commits. What it is served, from any state on in which it asks
+/// nothing, is what the one-thread warehouse serves after these; and so it is where serving ends early.
 pub fn alone_is_one_thread()
+    ensures sees { AloneSeesItsOwn }
     ensures whole { AloneIsOneThread }
     ensures broken { AloneEndsAsOneThread }
 {}

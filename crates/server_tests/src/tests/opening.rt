@@ -10,8 +10,8 @@ use std::test::Fail;
 use std::thread::Threads;
 use test_fixtures::standard_base;
 
-/// A server over the small data set, for so many clients and dispatchers.
-#[tactic(auto, using(crate::proofs::PlaceLaws::new_are_its_own))]
+/// A server over the small data set, for so many clients and dispatchers, which keeps of its log what somebody has yet
+/// to read.
 pub fn opened<R: Threads + Sync + Wait + AllocGlobal + RandomSource>(
     rt: &R,
     clients: u32,
@@ -20,10 +20,24 @@ pub fn opened<R: Threads + Sync + Wait + AllocGlobal + RandomSource>(
     ensures clients { IfOk result (λ made. All (IsQuiet made.server) made.clients.items) }
     ensures dispatchers { IfOk result (λ made. All (IsOf made.server) made.dispatchers.items) }
 {
+    opened_keeping(rt, clients, dispatchers, Keeps::Recent)
+}
+
+/// The same, which keeps this part of its log.
+#[tactic(auto, using(crate::proofs::PlaceLaws::new_are_its_own))]
+pub fn opened_keeping<R: Threads + Sync + Wait + AllocGlobal + RandomSource>(
+    rt: &R,
+    clients: u32,
+    dispatchers: u32,
+    keeps: Keeps,
+) -> Result<Opened<&R>, Fail>
+    ensures clients { IfOk result (λ made. All (IsQuiet made.server) made.clients.items) }
+    ensures dispatchers { IfOk result (λ made. All (IsOf made.server) made.dispatchers.items) }
+{
     let alloc = rt.alloc();
     let base = standard_base(rt, alloc)?;
     let loaded = Loaded::new(rt, alloc, RandomState::new(rt)?, &base, &[])?;
-    match open(alloc, rt, loaded, clients, dispatchers, Keeps::All) {
+    match open(alloc, rt, loaded, clients, dispatchers, keeps) {
         Ok(made) => Ok(made),
         Err(fault) => Err(fault)?,
     }
@@ -68,7 +82,7 @@ fn counts_out_of_range_open_nothing(rt: HostRuntime) -> Result<(), Fail> {
     ] {
         let hashing = RandomState::new(&rt)?;
         let loaded = Loaded::new(&rt, alloc, hashing, &base, &[])?;
-        let opened = open(alloc, &rt, loaded, clients, dispatchers, Keeps::All);
+        let opened = open(alloc, &rt, loaded, clients, dispatchers, keeps);
         assert_eq!(rt; opened.err().ok_or("opened")?, fault);
     }
     Ok(())

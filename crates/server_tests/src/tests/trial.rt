@@ -15,13 +15,15 @@ use std::random::RandomSource;
 use std::sync::{Arc, Wait};
 use std::test::Fail;
 use std::thread::Threads;
-use test_fixtures::{adding, asking};
+use test_fixtures::{adding, asking, refresh};
 
 /// What a client does.
 #[derive(Clone, Copy, Debug)]
 pub enum TrialDeed {
     /// It adds the order of this key.
     Adds(u64),
+    /// It withdraws the order of this key.
+    Withdraws(u64),
     /// It asks the queries of these names, parted by spaces, in one request, with the benchmark's constants.
     Asks(&'static str),
     /// It polls.
@@ -41,6 +43,8 @@ pub enum TrialStep {
     Meeting,
     /// The dispatcher takes a turn.
     Turn,
+    /// The dispatcher carries the commits over, though nothing is asked.
+    Following,
 }
 
 /// Three clients and a dispatcher of a server, which is theirs.
@@ -103,19 +107,43 @@ fn refreshed<R: Wait, W: Wait + Drop>(
     client.refresh(rt, server, refresh)
 }
 
-// A client adds the order of this key, and what it is told.
-fn adds<R: Wait, W: Wait + Drop>(
+/// The refresh of a client that asks nothing.
+pub fn refreshes_quiet<R: Wait, W: Wait + Drop>(
+    rt: &R,
+    server: &Server<W>,
+    client: &mut Client<W>,
+    refresh: Arc<Refresh>,
+) -> Result<Receipt, RefreshError>
+    requires { IsQuiet server.now client.old }
+    ensures { IsQuiet server.now client.new }
+{
+    let _ = client.number();
+    client.refresh(rt, server, refresh)
+}
+
+// A refresh that withdraws the order of this key.
+fn withdrawing(alloc: Global, key: u64) -> Result<Arc<Refresh>, AllocError> {
+    let actions = format!(in alloc; "withdraw|{key}\n")?;
+    refresh(alloc, actions.as_str()).map_err(|_| AllocError)
+}
+
+// A refresh that adds the order of this key.
+fn adding_one(alloc: Global, key: u64) -> Result<Arc<Refresh>, AllocError> {
+    adding(alloc, key).map_err(|_| AllocError)
+}
+
+// A client refreshes, and what it is told.
+fn refreshes<R: Wait, W: Wait + Drop>(
     rt: &R,
     alloc: Global,
     server: &Server<W>,
     client: &mut Client<W>,
-    order: u64,
+    refresh: Arc<Refresh>,
 ) -> Result<String, AllocError>
     requires { IsOf server.now client.old }
     ensures { IsOf server.now client.new }
 {
     let mut told = room(alloc)?;
-    let refresh = adding(alloc, order).map_err(|_| AllocError)?;
     let written = write_reply(&mut told, &refreshed(rt, server, client, refresh));
     text(alloc, written, told)
 }
@@ -186,6 +214,21 @@ fn meets<W: Wait + Drop>(
     format!(in alloc; "sees {seen}")
 }
 
+/// A client meets another one, and both ask nothing: how many commits it then sees.
+#[tactic(auto, using(ssb_server::proofs::StayingLaws::looks_stays))]
+pub fn meets_quiet<W: Wait + Drop>(
+    server: &Server<W>,
+    client: &mut Client<W>,
+    other: &mut Client<W>,
+) -> u64
+    requires client { IsQuiet server.now client.old }
+    requires other { IsQuiet server.now other.old }
+    ensures client { IsQuiet server.now client.new }
+    ensures other { IsQuiet server.now other.new }
+{
+    client.meet(server, other)
+}
+
 /// A turn of a dispatcher.
 #[tactic(auto, using(ssb_server::proofs::StayingLaws::turned_stays))]
 pub fn turns<W: Wait + Drop, R: Wait + Threads + Sync, G: ScanGate>(
@@ -200,6 +243,15 @@ pub fn turns<W: Wait + Drop, R: Wait + Threads + Sync, G: ScanGate>(
     dispatcher.turn(rt, server, gate)
 }
 
+/// A dispatcher carries the commits over.
+#[tactic(auto, using(crate::proofs::PlaceLaws::fetched_stays))]
+pub fn follows<W: Wait + Drop, R: Wait>(rt: &R, server: &Server<W>, dispatcher: &mut Dispatcher<W>)
+    requires { IsOf server.now dispatcher.old }
+    ensures { IsOf server.now dispatcher.new }
+{
+    dispatcher.follow(rt, server);
+}
+
 // What a client does, and what it is told.
 fn does<R: Wait, W: Wait + Drop>(
     rt: &R,
@@ -212,7 +264,8 @@ fn does<R: Wait, W: Wait + Drop>(
     ensures { IsOf server.now client.new }
 {
     match deed {
-        TrialDeed::Adds(order) => adds(rt, alloc, server, client, order),
+        TrialDeed::Adds(key) => refreshes(rt, alloc, server, client, adding_one(alloc, key)?),
+        TrialDeed::Withdraws(key) => refreshes(rt, alloc, server, client, withdrawing(alloc, key)?),
         TrialDeed::Asks(queries) => asks(alloc, server, client, queries),
         TrialDeed::Polls => polls(alloc, server, client),
     }
@@ -261,6 +314,10 @@ impl<'s, W: Wait + Drop> Trial<'s, W> {
             TrialStep::Turn => {
                 let turn = turns(rt, self.server, &mut self.dispatcher, &OpenGate);
                 report(alloc, turn)
+            }
+            TrialStep::Following => {
+                follows(rt, self.server, &mut self.dispatcher);
+                String::from_str(alloc, "follows")
             }
         }
     }

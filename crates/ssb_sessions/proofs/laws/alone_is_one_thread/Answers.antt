@@ -1,6 +1,9 @@
 use Rattle.ssb_sessions.proofs.AloneLaws as law
 use Rattle.ssb_sessions.proofs.laws.alone_is_one_thread.Goals as goal
 
+pub returns-clause-sees : goal.returns-clause-sees
+returns-clause-sees c = law.alone_sees_its_own
+
 pub returns-clause-whole : goal.returns-clause-whole
 returns-clause-whole c = law.alone_is_one_thread
 

@@ -1,0 +1,187 @@
+//! Servers that are closed, one that stays open, and what the log of a closed one still has.
+ghost use Rattle.std.specs.Prelude.{◌≡◌, All, IfOk};
+ghost use Rattle.ssb_server.specs.Tickets.{IsOf, IsQuiet};
+
+use crate::tests::opening::{next_client, next_dispatcher, opened, opened_keeping};
+use crate::tests::trial::{follows, refreshes_quiet};
+use ssb_server::{Client, CloseError, Closed, Dispatcher, Keeps, Opened, Server};
+use std::alloc::{AllocError, Global};
+use std::sync::Wait;
+use std::test::Fail;
+use test_fixtures::adding;
+
+/// These clients, and one more.
+pub fn with_client<W: Wait + Drop>(
+    server: &Server<W>,
+    mut clients: Vec<Client<W>>,
+    client: Client<W>,
+) -> Result<Vec<Client<W>>, AllocError>
+    requires clients { All (IsQuiet server.now) clients.items }
+    requires client { IsQuiet server.now client }
+    ensures { IfOk result (λ all. All (IsQuiet server.now) all.items) }
+{
+    let _ = server;
+    clients.reserve(1)?;
+    clients.push_reserved(client);
+    Ok(clients)
+}
+
+// These dispatchers, and one more.
+fn with_dispatcher<W: Wait + Drop>(
+    server: &Server<W>,
+    mut dispatchers: Vec<Dispatcher<W>>,
+    dispatcher: Dispatcher<W>,
+) -> Result<Vec<Dispatcher<W>>, AllocError>
+    requires dispatchers { All (IsOf server.now) dispatchers.items }
+    requires dispatcher { IsOf server.now dispatcher }
+    ensures { IfOk result (λ all. All (IsOf server.now) all.items) }
+{
+    let _ = server;
+    dispatchers.reserve(1)?;
+    dispatchers.push_reserved(dispatcher);
+    Ok(dispatchers)
+}
+
+/// Closes a server.
+pub fn closes<W: Wait + Drop>(
+    server: Server<W>,
+    clients: Vec<Client<W>>,
+    dispatchers: Vec<Dispatcher<W>>,
+) -> Result<Closed, Fail>
+    requires clients { All (IsQuiet server) clients.items }
+    requires dispatchers { All (IsOf server) dispatchers.items }
+{
+    match server.close(clients, dispatchers) {
+        Ok(closed) => Ok(closed),
+        Err(_) => Err("not closed")?,
+    }
+}
+
+// A server that is not closed, and gives all back.
+fn stays_open<W: Wait + Drop>(
+    server: Server<W>,
+    clients: Vec<Client<W>>,
+    dispatchers: Vec<Dispatcher<W>>,
+) -> Result<CloseError<W>, Fail>
+    requires clients { All (IsQuiet server) clients.items }
+    requires dispatchers { All (IsOf server) dispatchers.items }
+    ensures server { IfOk result (λ back. back.server ≡ server) }
+    ensures clients { IfOk result (λ back. All (IsQuiet back.server) back.clients.items) }
+    ensures dispatchers { IfOk result (λ back. All (IsOf back.server) back.dispatchers.items) }
+{
+    match server.close(clients, dispatchers) {
+        Ok(_) => Err("closed with one missing")?,
+        Err(back) => Ok(back),
+    }
+}
+
+// Closes a server that gave all back, with this client too.
+fn closes_with_client<W: Wait + Drop>(
+    back: CloseError<W>,
+    client: Client<W>,
+) -> Result<Closed, Fail>
+    requires clients { All (IsQuiet back.server) back.clients.items }
+    requires client { IsQuiet back.server client }
+    requires dispatchers { All (IsOf back.server) back.dispatchers.items }
+{
+    let CloseError {
+        server,
+        clients,
+        dispatchers,
+    } = back;
+    let clients = with_client(&server, clients, client)?;
+    closes(server, clients, dispatchers)
+}
+
+// Closes a server with a client missing, and then with all. How many clients and dispatchers were handed back, and how
+// many loaded lines and commits there are at the close.
+fn closed_at_last<W: Wait + Drop>(made: Opened<W>) -> Result<((usize, usize), (usize, u64)), Fail>
+    requires clients { All (IsQuiet made.server) made.clients.items }
+    requires dispatchers { All (IsOf made.server) made.dispatchers.items }
+{
+    let Opened {
+        server,
+        mut clients,
+        dispatchers,
+    } = made;
+    let missing = next_client(&server, &mut clients).ok_or("no client")?;
+    let back = stays_open(server, clients, dispatchers)?;
+    let handed_back = (back.clients.len(), back.dispatchers.len());
+    let Closed { base, log } = closes_with_client(back, missing)?;
+    Ok((handed_back, (base.lines().len(), log.len())))
+}
+
+#[test]
+fn a_server_with_a_client_missing_hands_all_back(rt: HostRuntime) -> Result<(), Fail> {
+    let made = opened(&rt, 3, 2)?;
+    assert_eq!(rt; closed_at_last(made)?, ((2, 2), (4, 0)));
+    Ok(())
+}
+
+// A client adds the order of this key, and the copies follow.
+fn adds_and_follows<R: Wait, W: Wait + Drop>(
+    rt: &R,
+    alloc: Global,
+    server: &Server<W>,
+    client: &mut Client<W>,
+    dispatcher: &mut Dispatcher<W>,
+    key: u64,
+) -> Result<(), Fail>
+    requires client { IsQuiet server.now client.old }
+    requires dispatcher { IsOf server.now dispatcher.old }
+    ensures client { IsQuiet server.now client.new }
+    ensures dispatcher { IsOf server.now dispatcher.new }
+{
+    let refresh = adding(alloc, key)?;
+    let committed = refreshes_quiet(rt, server, client, refresh);
+    follows(rt, server, dispatcher);
+    match committed {
+        Ok(_) => Ok(()),
+        Err(error) => Err(error)?,
+    }
+}
+
+// A client and a dispatcher of a server, who take two commits one after another: what is left when it is closed.
+fn closed_after_two<R: Wait, W: Wait + Drop>(
+    rt: &R,
+    alloc: Global,
+    made: Opened<W>,
+) -> Result<Closed, Fail>
+    requires clients { All (IsQuiet made.server) made.clients.items }
+    requires dispatchers { All (IsOf made.server) made.dispatchers.items }
+{
+    let Opened {
+        server,
+        mut clients,
+        mut dispatchers,
+    } = made;
+    let mut client = next_client(&server, &mut clients).ok_or("no client")?;
+    let mut dispatcher = next_dispatcher(&server, &mut dispatchers).ok_or("no dispatcher")?;
+    adds_and_follows(rt, alloc, &server, &mut client, &mut dispatcher, 9)?;
+    adds_and_follows(rt, alloc, &server, &mut client, &mut dispatcher, 10)?;
+    let clients = with_client(&server, clients, client)?;
+    let dispatchers = with_dispatcher(&server, dispatchers, dispatcher)?;
+    closes(server, clients, dispatchers)
+}
+
+// How many commits there are, and how many of them memory has, where it has all.
+fn counts(closed: Closed) -> (u64, Option<usize>) {
+    let Closed { base: _, log } = closed;
+    (log.len(), log.into_commits().map(|commits| commits.len()))
+}
+
+#[test]
+fn log_has_its_commits_where_all_are_kept(rt: HostRuntime) -> Result<(), Fail> {
+    let made = opened_keeping(&rt, 1, 1, Keeps::All)?;
+    let closed = closed_after_two(&rt, rt.alloc(), made)?;
+    assert_eq!(rt; counts(closed), (2, Some(2)));
+    Ok(())
+}
+
+#[test]
+fn log_has_lost_the_first_commit_where_nobody_reads_it_again(rt: HostRuntime) -> Result<(), Fail> {
+    let made = opened_keeping(&rt, 1, 1, Keeps::Recent)?;
+    let closed = closed_after_two(&rt, rt.alloc(), made)?;
+    assert_eq!(rt; counts(closed), (2, None));
+    Ok(())
+}
