@@ -1,7 +1,8 @@
 -- A server with a journal begins where the journal ends, and is opened with quiet clients and a reader of its log.
-use Rattle.std.proofs.Common.{◌≡◌, ℕ, List, [], ◌∷◌, ◌++◌, length, Result, Ok, Err, Some, refl, sym, ◌∙◌}
+use Rattle.std.proofs.Common.{◌≡◌, ◌≤◌, ◌⊎◌, inl, inr, ⊎_elim, ℕ, List, [], ◌∷◌, ◌++◌, length, Result, Ok, Err, Option}
+use Rattle.std.proofs.Common.{Some, None, refl, sym, ◌∙◌, arith}
 use Rattle.std.proofs.Common.{subst}
-use Rattle.std.specs.Prelude.{All, IfErr, IfOk}
+use Rattle.std.specs.Prelude.{All, IfErr, IfOk, IfSome}
 use Rattle.std.specs.List.{range_with_len}
 use Rattle.std.proofs.lemmas.List.Elements.{All-map, All-pop}
 use Rattle.history.specs.Tokens.{TableRecord, TokenRecord, new_token, new_dispatchers}
@@ -9,8 +10,15 @@ use Rattle.history_core.specs.declared.event.Who.TheVariants.{Dispatcher}
 use Rattle.row_store.proofs.PrefixLaws.{begins_with_itself}
 use Rattle.row_store.specs.History.{CommitRecord, IsPrefix}
 use Rattle.ssb_base.specs.Base.{Tables}
-use Rattle.ssb_journal.specs.Counts.{KeepsFirst}
-use Rattle.ssb_journal.specs.Kept.{KeepsCommits}
+use Rattle.journal.proofs.MomentLaws.{leaves}
+use Rattle.journal.specs.Disk.{LeavesOnly}
+use Rattle.ssb_journal.proofs.CountLaws.{beginning_of_longer}
+use Rattle.ssb_journal.proofs.KeptLaws.{spell_none}
+use Rattle.ssb_journal.specs.Counts.{Begun, KeepsBeginning, KeepsFirst, KeepsSince}
+use Rattle.ssb_journal.specs.Kept.{IsAsItWasOrNew, KeepsCommits, SpellCommits}
+use Rattle.ssb_journal.specs.Opening.{IsKept}
+use Rattle.ssb_journal.specs.Texts.{AreSealed}
+use Rattle.ssb_journal.specs.declared.opening.KeptCommits.{KeptCommits}
 use Rattle.ssb_journal.specs.declared.head.TableSize.{TableSize}
 use Rattle.ssb_server.specs.Opening.{IsOpenFault}
 use Rattle.ssb_server.specs.Tickets.{IsOf}
@@ -19,7 +27,8 @@ use Rattle.ssb_server.specs.declared.opening.OpenFault.TheVariants as opening
 use Rattle.ssb_serving.specs.RunFaults.{IsRunFault, fault_of}
 use Rattle.ssb_serving.specs.Members.{IsStill}
 use Rattle.ssb_serving.specs.declared.run_fault.RunFault.{RunFault}
-use Rattle.journaled_sessions.specs.Served.{IsJournaledFault, IsJournaledRun, IsOpenedFault}
+use Rattle.journaled_sessions.specs.Served.{HasKept, IsBegunOn, IsFoundOrKept, IsJournaledFault, IsJournaledRun}
+use Rattle.journaled_sessions.specs.Served.{IsOpenedFault, KeepsAll, KeepsRecovered, begun_on}
 use Rattle.journaled_sessions.specs.declared.fault.JournaledFault.{JournaledFault}
 use Rattle.journaled_sessions.specs.declared.fault.JournaledFault.TheVariants as fault
 
@@ -32,6 +41,128 @@ keeps_first sizes commits seen count file first same many keeps =
     subst (λ n. KeepsFirst n seen file) (sym many) (subst (λ l. KeepsFirst (length commits) l file) (sym same)
     (first sizes commits commits file keeps (begins_with_itself commits)))
 
+keeps_all : (sizes : List TableSize) (commits log : List CommitRecord) (file : List ℕ)
+    → ((sizes : List TableSize) (commits log : List CommitRecord) (file : List ℕ)
+    → KeepsCommits sizes commits file → IsPrefix commits log → KeepsFirst (length commits) log file)
+    → IsPrefix commits log → KeepsCommits sizes commits file → KeepsBeginning (length commits) log file
+keeps_all sizes commits log file first goes_on keeps =
+    record { count = length commits; enough = omega arith; first = first sizes commits log file keeps goes_on }
+
+-- a journal has a head
+no_head : (sizes : List TableSize) (texts : List (List ℕ)) → AreSealed sizes texts [] → ⊥
+no_head sizes texts is = absurd cc
+
+-- what a crash leaves while the journal is begun keeps all that was recovered
+pub as_it_was : (sizes : List TableSize) (kept : KeptCommits) (groups : List (List ℕ)) (log : List CommitRecord)
+    (file : List ℕ) → ((sizes : List TableSize) (commits log : List CommitRecord) (file : List ℕ)
+    → KeepsCommits sizes commits file → IsPrefix commits log → KeepsFirst (length commits) log file)
+    → IsKept sizes groups kept → IsPrefix kept.commits.items log → IsAsItWasOrNew sizes groups file
+    → KeepsRecovered kept.commits.items log file
+as_it_was sizes kept groups log file first is goes_on left =
+    ⊎_elim
+    (λ new_one. ⊎_elim (λ same. inr (new_one.2, same ∙ new_one.1))
+    (λ made. inl (keeps_all sizes kept.commits.items log file first goes_on (record {
+      texts = [];
+      is_journal = made.1;
+      spelled = subst (SpellCommits []) (sym new_one.2) spell_none;
+    })))
+    left)
+    (λ old_one. ⊎_elim
+    (λ same. inl (keeps_all sizes kept.commits.items log file first goes_on (record {
+      texts = old_one.1.texts;
+      is_journal = same ∙ old_one.1.sealed;
+      spelled = old_one.1.spelled;
+    })))
+    (λ made. absurd (no_head sizes old_one.1.texts (sym made.0 ∙ old_one.1.sealed)))
+    left)
+    is
+
+-- from its beginning to its end
+pub kept_throughout : {D : Type 0} (moment : D → ℕ) (left_since : D → ℕ → List ℕ → Type 0) (found begun now : D)
+    (P : List ℕ → Type 0) (least count : ℕ) (recovered seen log : List CommitRecord)
+    → LeavesOnly moment left_since found begun P → least ≡ length recovered
+    → KeepsSince (begun_on moment left_since begun least) (moment now) (left_since now) count seen → IsPrefix seen log
+    → ((file : List ℕ) → P file → KeepsRecovered recovered log file)
+    → LeavesOnly moment left_since found now (KeepsRecovered recovered log)
+kept_throughout moment left_since found begun now P least count recovered seen log first many since begins means =
+    let longer : (file : List ℕ) → KeepsBeginning least seen file → KeepsRecovered recovered log file =
+    λ file kept. inl (subst (λ n. KeepsBeginning n log file) many
+    (beginning_of_longer least seen log file begins kept)) in
+    record {
+      later = omega (arith, first.later, since.later);
+      each = λ file left. ⊎_elim (λ was. means file (first.each file was)) (longer file)
+          (since.before (moment found) file first.later left);
+      before = λ t file le left. ⊎_elim
+          (λ was. ⊎_elim (λ then. inl then) (λ now. inr (means file now)) (first.before t file le was))
+          (λ kept. inr (longer file kept)) (since.before t file (omega (arith, le, first.later)) left);
+    }
+
+-- as it is begun
+pub since_begun : {D : Type 0} (moment : D → ℕ) (left_since : D → ℕ → List ℕ → Type 0) (begun : Begun) (disk : D)
+    (count : ℕ) (log : List CommitRecord) → IsBegunOn moment left_since begun disk count
+    → KeepsSince begun (moment disk) (left_since disk) count log
+since_begun moment left_since begun disk count log is = record {
+  later = omega (arith, is.moment_is);
+  enough = omega (arith, is.count_is);
+  before = λ t file le left. inl ((is.past_is t file).1 left);
+}
+
+pub since_begun_on : {D : Type 0} (moment : D → ℕ) (left_since : D → ℕ → List ℕ → Type 0) (begun : Begun)
+    (disk now : D) (least count : ℕ) (log : List CommitRecord) → IsBegunOn moment left_since begun disk least
+    → KeepsSince begun (moment now) (left_since now) count log
+    → KeepsSince (begun_on moment left_since disk least) (moment now) (left_since now) count log
+since_begun_on moment left_since begun disk now least count log is since = record {
+  later = omega (arith, is.moment_is, since.later);
+  enough = omega (arith, is.count_is, since.enough);
+  before = λ t file le left. ⊎_elim (λ was. inl ((is.past_is t file).0 was))
+      (λ kept. inr (subst (λ n. KeepsBeginning n log file) is.count_is kept))
+      (since.before t file (omega (arith, le, is.moment_is)) left);
+}
+
+-- a crash while the journal is begun leaves all that was recovered
+pub kept_in_beginning : {D : Type 0} (moment : D → ℕ) (left_since : D → ℕ → List ℕ → Type 0) (found disk : D)
+    (sizes : List TableSize) (kept : KeptCommits) (groups : List (List ℕ))
+    → ((sizes : List TableSize) (commits log : List CommitRecord) (file : List ℕ)
+    → KeepsCommits sizes commits file → IsPrefix commits log → KeepsFirst (length commits) log file)
+    → IsKept sizes groups kept → LeavesOnly moment left_since found disk (IsAsItWasOrNew sizes groups)
+    → IsFoundOrKept moment left_since found kept.commits.items disk
+kept_in_beginning moment left_since found disk sizes kept groups first is run =
+    let all = kept.commits.items in
+    inr (leaves moment left_since found disk (IsAsItWasOrNew sizes groups) (KeepsAll all) run
+    (λ file left. (all, begins_with_itself all,
+    as_it_was sizes kept groups all file first is (begins_with_itself all) left)))
+
+-- and so does one at any moment since then
+pub kept_since : {D : Type 0} (moment : D → ℕ) (left_since : D → ℕ → List ℕ → Type 0) (found begun disk : D)
+    (sizes : List TableSize) (kept : KeptCommits) (groups : List (List ℕ)) (least : ℕ) (seen : List CommitRecord)
+    → ((sizes : List TableSize) (commits log : List CommitRecord) (file : List ℕ)
+    → KeepsCommits sizes commits file → IsPrefix commits log → KeepsFirst (length commits) log file)
+    → IsKept sizes groups kept → LeavesOnly moment left_since found begun (IsAsItWasOrNew sizes groups)
+    → least ≡ length kept.commits.items → seen ≡ kept.commits.items
+    → HasKept moment left_since begun least seen disk
+    → IsFoundOrKept moment left_since found kept.commits.items disk
+kept_since moment left_since found begun disk sizes kept groups least seen first is run many same has =
+    let all = kept.commits.items in
+    let begins : IsPrefix all has.log = subst (λ l. IsPrefix l has.log) same has.begins in
+    inr (leaves moment left_since found disk (KeepsRecovered all has.log) (KeepsAll all)
+    (kept_throughout moment left_since found begun disk (IsAsItWasOrNew sizes groups) least has.count all has.log has.log
+    run many has.since (begins_with_itself has.log)
+    (λ file left. as_it_was sizes kept groups has.log file first is begins left))
+    (λ file keeps. (has.log, begins, keeps)))
+
+-- what holds of what is there holds of what that means
+pub some_means : {X : Type 0} (found : Option X) (P Q : X → Type 0) → ((x : X) → P x → Q x) → IfSome found P
+    → IfSome found Q
+some_means None P Q means has = tt
+some_means (Some x) P Q means has = means x has
+
+-- that a journal was out, or memory ran out, tells nothing of its commits
+pub unserved_fault : (base : Tables) (commits : List CommitRecord) (why : JournaledFault)
+    → (why ≡ fault.Disturbed) ⊎ (why ≡ fault.OutOfMemory) → IsOpenedFault base commits why
+unserved_fault base commits why is =
+    ⊎_elim (λ one. subst (IsOpenedFault base commits) (sym one) tt)
+    (λ other. subst (IsOpenedFault base commits) (sym other) tt) is
+
 -- what an opened server does not serve is not served
 not_served : (base : Tables) (commits : List CommitRecord) (dispatchers : ℕ) (why : JournaledFault)
     → IsOpenedFault base commits why → IsJournaledFault base commits dispatchers why
@@ -41,12 +172,14 @@ not_served base commits dispatchers fault.Disturbed is = tt
 not_served base commits dispatchers fault.Write is = tt
 not_served base commits dispatchers fault.OutOfMemory is = tt
 
-pub fault_over : {X : Type 0} (result : Result X JournaledFault) (opened base : Tables) (commits : List CommitRecord)
-    (dispatchers : ℕ) → opened ≡ base → IfErr result (IsOpenedFault opened commits)
-    → IfErr result (IsJournaledFault base commits dispatchers)
-fault_over (Ok run) opened base commits dispatchers same is = tt
-fault_over (Err why) opened base commits dispatchers same is =
-    subst (λ b. IsJournaledFault b commits dispatchers why) same (not_served opened commits dispatchers why is)
+pub fault_over : {X E : Type 0} (fault_in : E → JournaledFault) (result : Result X E) (opened base : Tables)
+    (commits : List CommitRecord) (dispatchers : ℕ) → opened ≡ base
+    → IfErr result (λ e. IsOpenedFault opened commits (fault_in e))
+    → IfErr result (λ e. IsJournaledFault base commits dispatchers (fault_in e))
+fault_over fault_in (Ok run) opened base commits dispatchers same is = tt
+fault_over fault_in (Err why) opened base commits dispatchers same is =
+    subst (λ b. IsJournaledFault b commits dispatchers (fault_in why)) same
+    (not_served opened commits dispatchers (fault_in why) is)
 
 -- no server was opened
 pub run_fault : (clients dispatchers : ℕ) (why : OpenFault) (told : RunFault) → told ≡ fault_of why

@@ -1,7 +1,7 @@
 -- What who reads the log for a journal knows of it.
 use Rattle.std.proofs.Common.{◌≡◌, ℕ, zero, suc, ◌≤◌, List, [], ◌∷◌, length, take, drop, get_or, Result, Ok, Err}
-use Rattle.std.proofs.Common.{Option, Some, None, sym, ap, ◌∙◌, subst, arith}
-use Rattle.std.specs.Prelude.{IfOk, IfSome}
+use Rattle.std.proofs.Common.{Option, sym, ap, ◌∙◌, subst, arith}
+use Rattle.std.specs.Prelude.{IfOk}
 use Rattle.std.specs.List.{AllByRecursion}
 use Rattle.std.specs.Option.{ForSome}
 use Rattle.std.proofs.lemmas.List.{length-take, take-append-le}
@@ -57,14 +57,6 @@ later_fetched first before after fetched later = record {
 pub later_where : (first : Option TokenRecord) (before after : TokenRecord) → Fetches before after
     → ForSome first (λ one. IsLater one before) → ForSome first (λ one. IsLater one after)
 later_where first before after fetched later = λ one is. later_fetched one before after fetched (later one is)
-
--- so what comes back is a later one of the reader that was picked
-pub later_left : {X : Type 0} (reader_in : X → TokenRecord) (first : Option TokenRecord) (reader : TokenRecord)
-    (left : Option X) → first ≡ Some reader
-    → IfSome left (λ now. ForSome first (λ one. IsLater one (reader_in now)))
-    → IfSome left (λ now. IsLater reader (reader_in now))
-later_left reader_in first reader None is later = tt
-later_left reader_in first reader (Some now) is later = later reader is
 
 -- the table of who fetched
 pub fetched_table : (table : TableRecord) (before after : TokenRecord) → Fetches before after → before.table ≡ table

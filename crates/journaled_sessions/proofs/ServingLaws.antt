@@ -1,7 +1,7 @@
 -- What the sessions of a server with a journal leave is as its definition says.
-use Rattle.std.proofs.Common.{◌≡◌, ℕ, ◌+◌, ◌≤◌, Bool, List, [], ◌∷◌, ◌++◌, length, take, drop, map, Option, Some}
+use Rattle.std.proofs.Common.{◌≡◌, ℕ, ◌+◌, ◌≤◌, Bool, List, [], ◌∷◌, ◌++◌, length, take, drop, map, Some}
 use Rattle.std.proofs.Common.{refl, sym, ap, ◌∙◌, subst, arith, length-append}
-use Rattle.std.specs.Prelude.{All, IfSome, slice_get}
+use Rattle.std.specs.Prelude.{All, slice_get}
 use Rattle.std.specs.List.{AllZip, range_with_len}
 use Rattle.std.proofs.lemmas.List.{length-take-le, take-append-drop, take_at}
 use Rattle.std.proofs.lemmas.Option.{slice_get_within}
@@ -138,7 +138,7 @@ ready_to_close Spoken table recovered speakers seated resting closed left dispat
     new (still_push dispatchers ended opened now still (still_later opened begun now reader later))
 
 -- what the reader sees at the end begins with what was recovered
-later_begins : (begun now : TokenRecord) → IsLater begun now → IsPrefix begun.seen now.seen
+pub later_begins : (begun now : TokenRecord) → IsLater begun now → IsPrefix begun.seen now.seen
 later_begins begun now later = record {
   rest = drop (length begun.seen) now.seen;
   whole = sym (take-append-drop (length begun.seen) now.seen)
@@ -146,8 +146,8 @@ later_begins begun now later = record {
 }
 
 -- it is a beginning of the log
-reader_begins : (table : TableRecord) (clients ended : List TokenRecord) (now : TokenRecord) (log : List CommitRecord)
-    → IsClosedWith table clients (ended ++ now ∷ []) log → IsPrefix now.seen log
+pub reader_begins : (table : TableRecord) (clients ended : List TokenRecord) (now : TokenRecord)
+    (log : List CommitRecord) → IsClosedWith table clients (ended ++ now ∷ []) log → IsPrefix now.seen log
 reader_begins table clients ended now log closed_with =
     (All-pop (λ (token : TokenRecord). IsPrefix token.seen log) (ended ++ now ∷ []) ended (Some now) refl
     closed_with.ended_begin).1
@@ -249,10 +249,6 @@ pub left_of_log : (may_leave : List ℕ → Type 0) (seen : List ℕ) (table : T
     → IsLeft may_leave seen count log whole
 left_of_log may_leave seen table clients ended now log count whole closed_with left =
     left_of_longer may_leave seen count now.seen log whole (reader_begins table clients ended now log closed_with) left
-
--- what holds of what is there
-pub some_has : {X : Type 0} (found : Option X) (one : X) (P : X → Type 0) → found ≡ Some one → IfSome found P → P one
-some_has found one P is has = subst (λ o. IfSome o P) is has
 
 -- what was left tells of no more than that, where nobody told of more
 pub told_each : {X A : Type 0} (xs seen : List X) (made : List A) (left_in : X → A) (told : A → ℕ) (count : ℕ)

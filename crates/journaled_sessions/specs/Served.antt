@@ -1,18 +1,56 @@
 -- What the sessions of a server with a journal leave.
-use Rattle.std.specs.Prelude.{◌≡◌, ℕ, ◌+◌, ◌≤◌, All, List, length, Some, slice_get}
+use Rattle.std.specs.Prelude.{◌≡◌, ◌⊎◌, ◌↔◌, ℕ, ◌+◌, ◌≤◌, All, List, [], length, Some, slice_get}
 use Rattle.history.specs.Closing.{IsLogOf}
 use Rattle.history.specs.Tokens.{TableRecord, TokenRecord, new_dispatchers}
 use Rattle.history_core.specs.OwnCommits.{IsOfClients, commits_of}
 use Rattle.history_core.specs.declared.event.Who.TheVariants.{Client}
+use Rattle.journal.specs.Disk.{LeavesOnly}
+use Rattle.journal.specs.Groups.{recovered as recovered_groups}
 use Rattle.row_store.specs.History.{CommitRecord, IsPrefix}
 use Rattle.row_store.specs.Legal.{IsLegal}
 use Rattle.ssb_base.specs.Base.{Tables}
+use Rattle.ssb_journal.specs.Counts.{Begun, KeepsBeginning, KeepsSince}
 use Rattle.ssb_journal.specs.Replays.{IsReplayFault}
 use Rattle.ssb_serving.specs.Members.{AreStill}
 use Rattle.ssb_serving.specs.RunFaults.{IsRunFault}
 use Rattle.stream_sessions.specs.Streams.{IsSpoken}
 use Rattle.journaled_sessions.specs.declared.fault.JournaledFault.{JournaledFault}
 use Rattle.journaled_sessions.specs.declared.fault.JournaledFault.TheVariants as fault
+
+-- a journal as it is begun on this disk, with so many commits
+abbrev pub begun_on : {D : Type 0} → (D → ℕ) → (D → ℕ → List ℕ → Type 0) → D → ℕ → Begun
+begun_on moment left_since disk count =
+    record { moment = moment disk; count = count; past = left_since disk }
+
+-- it was begun on this disk, with so many commits
+pub record IsBegunOn {D : Type 0} (moment : D → ℕ) (left_since : D → ℕ → List ℕ → Type 0) (begun : Begun) (disk : D)
+    (count : ℕ) : Type 0 where
+  pub moment_is : begun.moment ≡ moment disk
+  pub count_is : begun.count ≡ count
+  pub past_is : (t : ℕ) (file : List ℕ) → begun.past t file ↔ left_since disk t file
+
+-- a file is a journal of the first commits of a log, at least all that were recovered; or none were, and it has no
+-- groups
+abbrev pub KeepsRecovered : List CommitRecord → List CommitRecord → List ℕ → Type 0
+KeepsRecovered recovered log file =
+    KeepsBeginning (length recovered) log file ⊎ ((recovered ≡ []) × (recovered_groups file ≡ []))
+
+-- a file keeps all that was recovered: it is a journal of the first commits of some log that begins with them
+abbrev pub KeepsAll : List CommitRecord → List ℕ → Type 0
+KeepsAll recovered file = (log : List CommitRecord) × IsPrefix recovered log × KeepsRecovered recovered log file
+
+-- a disk is as it was found; or a crash at any moment since then leaves a file that keeps all that was recovered
+abbrev pub IsFoundOrKept : {D : Type 0} → (D → ℕ) → (D → ℕ → List ℕ → Type 0) → D → List CommitRecord → D → Type 0
+IsFoundOrKept moment left_since found recovered disk =
+    (disk ≡ found) ⊎ LeavesOnly moment left_since found disk (KeepsAll recovered)
+
+-- since a journal was begun on a disk, with so many commits, those that were recovered, it has kept them
+pub record HasKept {D : Type 0} (moment : D → ℕ) (left_since : D → ℕ → List ℕ → Type 0) (begun : D) (least : ℕ)
+    (recovered : List CommitRecord) (disk : D) : Type 0 where
+  pub count : ℕ
+  pub log : List CommitRecord
+  pub begins : IsPrefix recovered log
+  pub since : KeepsSince (begun_on moment left_since begun least) (moment disk) (left_since disk) count log
 
 -- the client of this number of the table, which had seen all that was recovered and no more, was served by its speaker,
 -- which kept what it promises; what it sees at the end is a beginning of the log, and the commits that it made, those

@@ -1,7 +1,7 @@
 //! Why the sessions of a server with a journal were not served, or not to their end.
 
-ghost use Rattle.std.specs.Prelude.{◌≡◌};
-ghost use Rattle.journaled_sessions.specs.declared.fault.JournaledFault.TheVariants.{OutOfMemory};
+ghost use Rattle.std.specs.Prelude.{◌≡◌, None, Some};
+ghost use Rattle.journaled_sessions.specs.declared.fault.JournaledFault.TheVariants.{Disturbed, OutOfMemory};
 
 use ssb_journal::ReplayFault;
 use ssb_serving::RunFault;
@@ -41,5 +41,35 @@ impl<T: Drop> From<AllocFailed<T>> for JournaledFault {
 
     fn from(_e: AllocFailed<T>) -> JournaledFault {
         JournaledFault::OutOfMemory
+    }
+}
+
+/// Why the sessions were not served, or not to their end, and the journal's disk: none where at the end one had the
+/// journal out, and then it is `Disturbed`.
+#[derive(Drop)]
+pub struct Unserved<D: Drop> {
+    pub fault: JournaledFault,
+    pub disk: Option<D>,
+}
+
+impl<D: Drop> Unserved<D> {
+    // With the disk.
+    pub(crate) fn new(fault: JournaledFault, disk: D) -> Unserved<D>
+        ensures { result ≡ record { fault = fault; disk = Some disk } }
+    {
+        Unserved {
+            fault,
+            disk: Some(disk),
+        }
+    }
+
+    // One has the journal out, and its disk.
+    pub(crate) fn lost() -> Unserved<D>
+        ensures { result ≡ record { fault = Disturbed; disk = None } }
+    {
+        Unserved {
+            fault: JournaledFault::Disturbed,
+            disk: None,
+        }
     }
 }

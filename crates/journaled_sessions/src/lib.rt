@@ -29,5 +29,5 @@ mod serving;
 mod source;
 
 pub use acknowledging::{Durable, Journaled};
-pub use fault::JournaledFault;
+pub use fault::{JournaledFault, Unserved};
 pub use serving::{JournaledRun, Recovered, serve_journaled};

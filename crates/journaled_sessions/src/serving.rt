@@ -1,10 +1,12 @@
 //! Sessions over a server with a journal, from its opening to its end.
 
 ghost use Rattle.std.specs.Prelude.{◌≡◌, ◌+◌, ◌≤◌, ◌++◌, [], ◌∷◌, All, IfOk, IfErr, IfSome, OnOk};
-ghost use Rattle.std.specs.Prelude.{Some, map, true, vec_len};
+ghost use Rattle.std.specs.Prelude.{◌⊎◌, IsSome, Some, map, true, vec_len};
 ghost use Rattle.history.specs.Tokens.{new_clients, new_dispatchers};
 ghost use Rattle.journal.specs.Groups.{recovered as recovered_groups, AreTorn};
-ghost use Rattle.ssb_journal.specs.Counts.{IsLeft, KeepsFirst};
+ghost use Rattle.journal.specs.Disk.{LeavesOnly};
+ghost use Rattle.ssb_journal.specs.Counts.{IsLeft, KeepsFirst, KeepsSince};
+ghost use Rattle.ssb_journal.specs.Kept.{IsAsItWasOrNew};
 ghost use Rattle.ssb_journal.specs.Opening.{IsKept};
 ghost use Rattle.ssb_server.specs.Tickets.{IsOf, IsQuiet};
 ghost use Rattle.ssb_serving.specs.Members.{AreStill, IsReady, IsStill};
@@ -12,13 +14,15 @@ ghost use Rattle.stream_sessions.specs.Streams.{AreSpoken, IsClosedWith};
 ghost use Rattle.journaled_sessions.specs.Reading.{IsLater};
 ghost use Rattle.journaled_sessions.specs.Seated.{AllHaveSeen, AreSeated};
 ghost use Rattle.journaled_sessions.specs.Served.{IsJournaledFault, IsJournaledRun, IsOpenedFault};
+ghost use Rattle.journaled_sessions.specs.Served.{HasKept, IsBegunOn, IsFoundOrKept, KeepsRecovered, begun_on};
+ghost use Rattle.journaled_sessions.specs.declared.fault.JournaledFault.TheVariants.{Disturbed, OutOfMemory};
 
 use crate::acknowledging::{Durable, Journaled};
-use crate::fault::JournaledFault;
+use crate::fault::{JournaledFault, Unserved};
 use crate::remaking::{remake, show_all};
 use crate::source::{JournalLeft, Opening, ServerLog, left_of};
 use journal::{Disk, Journal, KeepsTorn};
-use row_store::Log;
+use row_store::{Commit, Log};
 use ssb_journal::laws::{begun_journal_keeps, first_of_log};
 use ssb_journal::{JournaledLog, KeptCommits, OpenedJournal, SharedJournal, TableSize, begin};
 use ssb_server::{
@@ -64,6 +68,27 @@ struct Begun<D: Disk + Drop, W: Wait + Drop> {
     count: u64,
 }
 
+// Makes the journal's commits again, and lets each client see them all.
+fn remake_all<W: Wait + Drop, R: Wait>(
+    rt: &R,
+    server: &Server<W>,
+    clients: &mut [Client<W>],
+    reader: &mut LogReader<W>,
+    commits: &[Commit],
+) -> Result<(), JournaledFault>
+    requires clients { AreSeated server.now [] clients.old }
+    requires reader { (reader.old.table ≡ server.now) × (reader.old.seen ≡ []) }
+    ensures clients { OnOk result (AreSeated server.now commits.now clients.new) }
+    ensures shown { OnOk result (AllHaveSeen commits.now clients.new) }
+    ensures reader { OnOk result (IsStill reader.old reader.new) }
+    ensures seen { OnOk result (reader.new.seen ≡ commits.now) }
+    ensures fault { IfErr result (IsOpenedFault server.now.base commits.now) }
+{
+    remake(rt, server, clients, reader, commits)?;
+    show_all(server, clients, reader, commits.len() as u64)?;
+    Ok(())
+}
+
 // Makes the journal's commits again, keeps what a crash has torn, and begins the journal.
 fn begin_again<D, T, W, R>(
     rt: &R,
@@ -72,7 +97,7 @@ fn begin_again<D, T, W, R>(
     clients: &mut [Client<W>],
     reader: LogReader<W>,
     recovered: Recovered<'_, D, T>,
-) -> Result<Begun<D, W>, JournaledFault>
+) -> Result<Begun<D, W>, Unserved<D>>
 where
     D: Disk + Drop,
     T: KeepsTorn,
@@ -89,7 +114,15 @@ where
     ensures reader { IfOk result (λ begun. IsStill reader begun.reader) }
     ensures seen { IfOk result (λ begun. begun.reader.seen ≡ recovered.entry.opened.kept.commits.items) }
     ensures kept { IfOk result (λ begun. KeepsFirst begun.count begun.reader.seen (D.seen begun.journal)) }
-    ensures fault { IfErr result (IsOpenedFault server.now.base recovered.entry.opened.kept.commits.items) }
+    ensures count { IfOk result (λ begun. begun.count ≡ vec_len recovered.entry.opened.kept.commits) }
+    ensures any_moment { IfOk result (λ begun. LeavesOnly D.moment D.left_since recovered.entry.opened.found
+        begun.journal
+        (IsAsItWasOrNew recovered.entry.sizes.now (recovered_groups (D.seen recovered.entry.opened.found)))) }
+    ensures fault { IfErr result (λ unserved. IsOpenedFault server.now.base
+        recovered.entry.opened.kept.commits.items unserved.fault) }
+    ensures handed { IfErr result (λ unserved. (unserved.fault ≡ Disturbed) ⊎ IsSome unserved.disk) }
+    ensures any_moment_err { IfErr result (λ unserved. IfSome unserved.disk (IsFoundOrKept D.moment D.left_since
+        recovered.entry.opened.found recovered.entry.opened.kept.commits.items)) }
 {
     let mut reader = reader;
     let Recovered {
@@ -99,11 +132,12 @@ where
     } = recovered;
     let OpenedJournal { found, kept, torn } = opened;
     let KeptCommits { commits, is_new } = kept;
-    remake(rt, server, clients, &mut reader, &commits)?;
-    let count = commits.len() as u64;
-    show_all(server, clients, &mut reader, count)?;
+    match remake_all(rt, server, clients, &mut reader, &commits) {
+        Ok(()) => {},
+        Err(fault) => return Err(Unserved::new(fault, found.into_disk())),
+    }
     let Ok(torn) = keeper.keep_torn(torn) else {
-        return Err(JournaledFault::Write);
+        return Err(Unserved::new(JournaledFault::Write, found.into_disk()));
     };
     begun_journal_keeps();
     first_of_log();
@@ -111,9 +145,9 @@ where
         Ok(journal) => Ok(Begun {
             journal,
             reader,
-            count,
+            count: commits.len() as u64,
         }),
-        Err(_) => Err(JournaledFault::Write),
+        Err((_, disk)) => Err(Unserved::new(JournaledFault::Write, disk)),
     }
 }
 
@@ -139,7 +173,7 @@ fn gather<W: Wait + Drop, L: Drop>(
     Ok((clients, all_left))
 }
 
-// Serves the sessions with the journal, and gives back what is left of that.
+// Serves the sessions with the journal, and gives back what is left of that, also where they were not served.
 fn serve_sessions<D, W, R, S, K>(
     rt: &R,
     alloc: Global,
@@ -148,7 +182,7 @@ fn serve_sessions<D, W, R, S, K>(
     dispatchers: Vec<Dispatcher<W>>,
     speakers: Vec<S>,
     begun: Begun<D, W>,
-) -> Result<(Ended<W, Spoken<W, S::Left>>, Option<JournalLeft<D, W>>), AllocError>
+) -> Result<(Ended<W, Spoken<W, S::Left>>, JournalLeft<D, W>), Unserved<D>>
 where
     D: Disk + Drop + Send,
     W: Wait + Drop + Send,
@@ -162,13 +196,20 @@ where
     requires few { server.now.clients ≤ 16 }
     requires reader { begun.reader.table ≡ server.now }
     requires picked { K.reader ≡ Some begun.reader }
+    requires begun { IsBegunOn D.moment D.left_since K.begun begun.journal begun.count }
     requires kept { KeepsFirst begun.count begun.reader.seen (D.seen begun.journal) }
     ensures served { IfOk result (λ end. AreSpoken S.spoken speakers.items seated.items
         (map (λ one. one.client) end.0.spoken.items) (map (λ one. one.left) end.0.spoken.items)) }
     ensures dispatchers { IfOk result (λ end. AreStill dispatchers.items end.0.dispatchers.items) }
-    ensures reader { IfOk result (λ end. IfSome end.1 (λ left. IsLater begun.reader left.reader)) }
-    ensures left { IfOk result (λ end. IfSome end.1 (λ left. IsLeft (D.may_leave left.disk) (D.seen left.disk)
-        left.count left.reader.seen left.is_whole)) }
+    ensures reader { IfOk result (λ end. IsLater begun.reader end.1.reader) }
+    ensures left { IfOk result (λ end. IsLeft (D.may_leave end.1.disk) (D.seen end.1.disk) end.1.count
+        end.1.reader.seen end.1.is_whole) }
+    ensures since { IfOk result (λ end. KeepsSince (begun_on D.moment D.left_since begun.journal begun.count)
+        (D.moment end.1.disk) (D.left_since end.1.disk) end.1.count end.1.reader.seen) }
+    ensures handed { IfErr result (λ unserved. (unserved.fault ≡ Disturbed) ⊎ IsSome unserved.disk) }
+    ensures fault { IfErr result (λ unserved. (unserved.fault ≡ Disturbed) ⊎ (unserved.fault ≡ OutOfMemory)) }
+    ensures since_err { IfErr result (λ unserved. IfSome unserved.disk (HasKept D.moment D.left_since begun.journal
+        begun.count begun.reader.seen)) }
 {
     let Begun {
         journal,
@@ -180,9 +221,15 @@ where
         journal: SharedJournal::new(JournaledLog::new(journal, source, count)),
         failed: AtomicBool::new(false),
     };
-    let ended = serve_opened(rt, alloc, &journaled, server, seated, dispatchers, speakers)?;
+    let ended = serve_opened(rt, alloc, &journaled, server, seated, dispatchers, speakers);
     let Journaled { journal, failed: _ } = journaled;
-    Ok((ended, left_of(journal)))
+    let Some(left) = left_of(journal) else {
+        return Err(Unserved::lost());
+    };
+    match ended {
+        Ok(ended) => Ok((ended, left)),
+        Err(_) => Err(Unserved::new(JournaledFault::OutOfMemory, left.disk)),
+    }
 }
 
 // The log of a server that is closed with all who took part.
@@ -208,7 +255,7 @@ fn close<D: Disk + Drop, W: Wait + Drop, L: Drop>(
     ended: Ended<W, Spoken<W, L>>,
     resting: Vec<Client<W>>,
     left_journal: JournalLeft<D, W>,
-) -> Result<JournaledRun<D, L>, AllocError>
+) -> Result<JournaledRun<D, L>, Unserved<D>>
     requires { IsReady server (map (λ one. one.client) ended.spoken.items ++ resting.items)
         (ended.dispatchers.items ++ left_journal.reader ∷ []) }
     ensures left { IfOk result (λ run. run.left.items ≡ map (λ one. one.left) ended.spoken.items) }
@@ -216,6 +263,8 @@ fn close<D: Disk + Drop, W: Wait + Drop, L: Drop>(
         ++ resting.items) (ended.dispatchers.items ++ left_journal.reader ∷ []) run.log) }
     ensures journal { IfOk result (λ run. (run.disk ≡ left_journal.disk) × (run.count ≡ left_journal.count)
         × (run.was_written ≡ left_journal.is_whole)) }
+    ensures handed { IfErr result (λ unserved. unserved
+        ≡ record { fault = OutOfMemory; disk = Some left_journal.disk }) }
 {
     let Ended {
         spoken,
@@ -228,16 +277,17 @@ fn close<D: Disk + Drop, W: Wait + Drop, L: Drop>(
         count,
         is_whole,
     } = left_journal;
-    let (clients, left) = gather(alloc, spoken, resting)?;
-    let log = log_of(server, clients, reader, dispatchers);
-    Ok(JournaledRun {
-        left,
-        log,
-        disk,
-        count,
-        was_written: is_whole,
-        batches,
-    })
+    match gather(alloc, spoken, resting) {
+        Ok((clients, left)) => Ok(JournaledRun {
+            left,
+            log: log_of(server, clients, reader, dispatchers),
+            disk,
+            count,
+            was_written: is_whole,
+            batches,
+        }),
+        Err(_) => Err(Unserved::new(JournaledFault::OutOfMemory, disk)),
+    }
 }
 
 // Whether none was told of more commits than are on the disk.
@@ -261,7 +311,7 @@ fn serve<D, T, W, R, S>(
     opened: OpenedWithReader<W>,
     speakers: Vec<S>,
     recovered: Recovered<'_, D, T>,
-) -> Result<JournaledRun<D, S::Left>, JournaledFault>
+) -> Result<JournaledRun<D, S::Left>, Unserved<D>>
 where
     D: Disk + Drop + Send,
     T: KeepsTorn,
@@ -281,9 +331,15 @@ where
         recovered.entry.opened.kept.commits.items speakers.items opened.server.dispatchers run.left.items run.log) }
     ensures kept { IfOk result (λ run. IsLeft (D.may_leave run.disk) (D.seen run.disk) run.count run.log
         run.was_written) }
+    ensures any_moment { IfOk result (λ run. LeavesOnly D.moment D.left_since recovered.entry.opened.found run.disk
+        (KeepsRecovered recovered.entry.opened.kept.commits.items run.log)) }
     ensures told { IfOk result (λ run. All (λ left. S.told left ≤ run.count) run.left.items) }
     ensures left { IfOk result (λ run. vec_len run.left ≡ vec_len speakers) }
-    ensures fault { IfErr result (IsOpenedFault opened.server.base recovered.entry.opened.kept.commits.items) }
+    ensures fault { IfErr result (λ unserved. IsOpenedFault opened.server.base
+        recovered.entry.opened.kept.commits.items unserved.fault) }
+    ensures handed { IfErr result (λ unserved. (unserved.fault ≡ Disturbed) ⊎ IsSome unserved.disk) }
+    ensures any_moment_err { IfErr result (λ unserved. IfSome unserved.disk (IsFoundOrKept D.moment D.left_since
+        recovered.entry.opened.found recovered.entry.opened.kept.commits.items)) }
 {
     let OpenedWithReader {
         server,
@@ -292,7 +348,11 @@ where
         dispatchers,
     } = opened;
     let begun = begin_again(rt, alloc, &server, &mut clients, reader, recovered)?;
-    let resting = clients.split_off(speakers.len())?;
+    first_of_log();
+    let Ok(resting) = clients.split_off(speakers.len()) else {
+        let disk = begun.journal.into_disk();
+        return Err(Unserved::new(JournaledFault::OutOfMemory, disk));
+    };
     let (ended, left) = serve_sessions::<D, W, R, S, Brand>(
         rt,
         alloc,
@@ -302,13 +362,11 @@ where
         speakers,
         begun,
     )?;
-    let Some(left) = left else {
-        return Err(JournaledFault::Disturbed);
-    };
     if !all_are_kept::<W, S>(&ended.spoken, left.count) {
-        return Err(JournaledFault::Disturbed);
+        return Err(Unserved::new(JournaledFault::Disturbed, left.disk));
     }
-    Ok(close(alloc, server, ended, resting, left)?)
+    let closed = close(alloc, server, ended, resting, left)?;
+    Ok(closed)
 }
 
 /// Serves 1 to 16 clients, one for each speaker, by 1 to 4 dispatchers over a loaded base, behind the commits that a
@@ -316,7 +374,7 @@ where
 /// the log, and what is told to a client is on the disk before. It waits until all of them have ended.
 ///
 /// The first commit that is refused over the base is `Replay`, and the journal's file is as it was then. A journal that
-/// could not be begun is `Write`.
+/// could not be begun is `Write`. An `Err` hands the disk back, but where another has it out, which is `Disturbed`.
 pub fn serve_journaled<D, T, R, S>(
     rt: &R,
     alloc: Global,
@@ -324,7 +382,7 @@ pub fn serve_journaled<D, T, R, S>(
     speakers: Vec<S>,
     dispatchers: u32,
     recovered: Recovered<'_, D, T>,
-) -> Result<JournaledRun<D, S::Left>, JournaledFault>
+) -> Result<JournaledRun<D, S::Left>, Unserved<D>>
 where
     D: Disk + Drop + Send,
     T: KeepsTorn,
@@ -339,16 +397,27 @@ where
     // Who reads the log for the journal is one dispatcher more.
     ensures served { IfOk result (λ run. IsJournaledRun S.spoken loaded
         recovered.entry.opened.kept.commits.items speakers.items (dispatchers + 1) run.left.items run.log) }
+    // A crash at any moment of the run leaves the first commits of the log, all that were recovered among them.
+    ensures any_moment { IfOk result (λ run. LeavesOnly D.moment D.left_since recovered.entry.opened.found run.disk
+        (KeepsRecovered recovered.entry.opened.kept.commits.items run.log)) }
     // Whatever crashes from now on leaves the first commits of the log, at least so many, ..
     ensures kept { IfOk result (λ run. IsLeft (D.may_leave run.disk) (D.seen run.disk) run.count run.log
         run.was_written) }
     // .. and no client was told of more.
     ensures told { IfOk result (λ run. All (λ left. S.told left ≤ run.count) run.left.items) }
     ensures left { IfOk result (λ run. vec_len run.left ≡ vec_len speakers) }
-    ensures fault { IfErr result (IsJournaledFault loaded recovered.entry.opened.kept.commits.items dispatchers) }
+    ensures fault { IfErr result (λ unserved. IsJournaledFault loaded
+        recovered.entry.opened.kept.commits.items dispatchers unserved.fault) }
+    ensures handed { IfErr result (λ unserved. (unserved.fault ≡ Disturbed) ⊎ IsSome unserved.disk) }
+    // It is as it was found, or a crash at any moment of the run leaves all that was recovered.
+    ensures any_moment_err { IfErr result (λ unserved. IfSome unserved.disk (IsFoundOrKept D.moment D.left_since
+        recovered.entry.opened.found recovered.entry.opened.kept.commits.items)) }
 {
     match open_with_reader(alloc, rt, loaded, CLIENTS, dispatchers) {
         Ok(opened) => serve(rt, alloc, opened, speakers, recovered),
-        Err(fault) => Err(JournaledFault::NotRun(RunFault::from(fault))),
+        Err(fault) => {
+            let fault = JournaledFault::NotRun(RunFault::from(fault));
+            Err(Unserved::new(fault, recovered.opened.found.into_disk()))
+        },
     }
 }

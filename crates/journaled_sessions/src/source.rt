@@ -3,7 +3,7 @@
 ghost use Rattle.std.specs.Prelude.{◌≡◌, ◌≤◌, None, Option, Some, IfSome};
 ghost use Rattle.std.specs.Option.{ForSome};
 ghost use Rattle.history.specs.Tokens.{TokenRecord};
-ghost use Rattle.ssb_journal.specs.Counts.{IsLeft};
+ghost use Rattle.ssb_journal.specs.Counts.{Begun, IsLeft, KeepsSince, nothing_said};
 ghost use Rattle.journaled_sessions.specs.Reading.{IsLater};
 
 use journal::Disk;
@@ -14,13 +14,18 @@ use std::alloc::{AllocError, Global};
 use std::marker::{Brand, PhantomData};
 use std::sync::Wait;
 
-/// The reader of the log before the sessions, which the one behind the journal's lock stays. Each call picks it.
+/// The reader of the log before the sessions, which the one behind the journal's lock stays, and the journal as it was
+/// begun. Each call picks them.
 pub(crate) trait Opening {
     ghost reader: { Option TokenRecord };
+
+    ghost begun: { Begun };
 }
 
 impl Opening for Brand {
     ghost reader = { None };
+
+    ghost begun = { nothing_said };
 }
 
 /// A server, and the reader of its log.
@@ -53,6 +58,8 @@ impl<'a, W: Wait + Drop, K: Opening> ServerLog<'a, W, K> {
 impl<'a, W: Wait + Drop, K: Opening> LogSource for ServerLog<'a, W, K> {
     ghost log = { λ source. source.reader.seen };
 
+    ghost begun = { K.begun };
+
     fn commits_from<R: Wait>(
         &mut self,
         rt: &R,
@@ -83,6 +90,8 @@ pub(crate) fn left_of<D: Disk + Drop, W: Wait + Drop, K: Opening>(
     ensures later { IfSome result (λ left. ForSome K.reader (λ first. IsLater first left.reader)) }
     ensures left { IfSome result (λ left. IsLeft (D.may_leave left.disk) (D.seen left.disk) left.count
         left.reader.seen left.is_whole) }
+    ensures since { IfSome result (λ left. KeepsSince K.begun (D.moment left.disk) (D.left_since left.disk) left.count
+        left.reader.seen) }
 {
     match journal.into_left() {
         Some(left) => {

@@ -142,7 +142,7 @@ where
     };
     match serve_journaled(rt, rt.alloc(), loaded, speakers, dispatchers, recovered) {
         Ok(run) => Ok(run),
-        Err(fault) => Err(JournalRefusal::NotServed(fault)),
+        Err(unserved) => Err(JournalRefusal::NotServed(unserved.fault)),
     }
 }
 

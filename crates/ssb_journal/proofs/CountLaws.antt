@@ -1,5 +1,5 @@
 -- How what a journal keeps of a log grows.
-use Rattle.std.proofs.Common.{◌≡◌, ⊎_elim, ℕ, ◌+◌, ◌≤◌, Bool, true, false, List, ◌++◌, length, take, drop, sym, ◌∙◌, ap, subst, Result, Ok, Err, arith}
+use Rattle.std.proofs.Common.{◌≡◌, inl, inr, ⊎_elim, ℕ, ◌+◌, ◌≤◌, Bool, true, false, List, ◌++◌, length, take, drop, sym, ◌∙◌, ap, subst, Result, Ok, Err, arith}
 use Rattle.std.specs.Prelude.{IfErr}
 use Rattle.std.proofs.lemmas.List.{length-append, length-take-le, take_all, take-append-drop, take-append-le}
 use Rattle.journal.specs.Disk.{LeavesOnly, Only}
@@ -7,7 +7,11 @@ use Rattle.journal.proofs.MomentLaws.{leaves, stays}
 use Rattle.row_store.specs.History.{CommitRecord, IsPrefix}
 use Rattle.ssb_journal.specs.declared.head.TableSize.{TableSize}
 use Rattle.ssb_journal.specs.Kept.{KeepsCommits, KeepsWithOrWithout}
-use Rattle.ssb_journal.specs.Counts.{IsLeft, KeepsAtLeast, KeepsBeginning, KeepsFirst}
+use Rattle.ssb_journal.specs.Counts.{Begun, IsLeft, KeepsAtLeast, KeepsBeginning, KeepsFirst, KeepsSince}
+
+-- a beginning of a log, with fewer commits at least
+beginning_of_fewer : (least count : ℕ) (log : List CommitRecord) (file : List ℕ) → least ≤ count → KeepsBeginning count log file → KeepsBeginning least log file
+beginning_of_fewer least count log file fewer was = record { count = was.count; enough = omega (arith, fewer, was.enough); first = was.first }
 
 -- so many commits at least
 pub keeps_enough : (count : ℕ) (log : List CommitRecord) (file : List ℕ) → KeepsFirst count log file → KeepsAtLeast count file
@@ -28,6 +32,18 @@ keeps_of_longer count shorter longer file begins first =
       keeps = subst (λ (commits : List CommitRecord). KeepsCommits first.sizes commits file) (sym same) first.keeps;
       inside = omega (arith, first.inside, ap length whole, length-append shorter begins.rest);
     }
+
+pub beginning_of_longer : (least : ℕ) (shorter longer : List CommitRecord) (file : List ℕ) → IsPrefix shorter longer → KeepsBeginning least shorter file → KeepsBeginning least longer file
+beginning_of_longer least shorter longer file begins was = record { count = was.count; enough = was.enough; first = keeps_of_longer was.count shorter longer file begins was.first }
+
+-- since it was begun, of a longer log too
+pub since_of_longer : (begun : Begun) (now : ℕ) (left_since : ℕ → List ℕ → Type 0) (count : ℕ) (shorter longer : List CommitRecord)
+    → IsPrefix shorter longer → KeepsSince begun now left_since count shorter → KeepsSince begun now left_since count longer
+since_of_longer begun now left_since count shorter longer begins since = record {
+  later = since.later;
+  enough = since.enough;
+  before = λ t file le left. ⊎_elim (λ was. inl was) (λ kept. inr (beginning_of_longer begun.count shorter longer file begins kept)) (since.before t file le left);
+}
 
 whole_log : (count : ℕ) (log rest : List CommitRecord) → rest ≡ drop count log → take count log ++ rest ≡ take (length log) log
 whole_log count log rest is = ap (λ (end : List CommitRecord). take count log ++ end) is ∙ take-append-drop count log ∙ sym (take_all (length log) log (omega arith))
@@ -73,6 +89,18 @@ module _ {D : Type 0} (moment : D → ℕ) (left_since : D → ℕ → List ℕ 
       leaves moment left_since old new (KeepsWithOrWithout first.sizes (take count log) rest) (KeepsBeginning count log)
       (run first.sizes (take count log) first.keeps)
       (λ file left. keeps_either_way count log rest (seen old) file is first left)
+
+  -- since it was begun, and one append more
+  pub since_goes_on : (begun : Begun) (count after : ℕ) (log : List CommitRecord) (old new : D) → count ≤ after
+      → KeepsSince begun (moment old) (left_since old) count log → LeavesOnly moment left_since old new (KeepsBeginning count log)
+      → KeepsSince begun (moment new) (left_since new) after log
+  since_goes_on begun count after log old new more since run = record {
+    later = omega (arith, since.later, run.later);
+    enough = omega (arith, since.enough, more);
+    before = λ t file le left.
+        ⊎_elim (λ was. since.before t file le was) (λ kept. inr (beginning_of_fewer begun.count count log file since.enough kept))
+        (run.before t file (omega (arith, le, since.later)) left);
+  }
 
   -- where no call is made
   pub stays_beginning : (count : ℕ) (log : List CommitRecord) (disk : D) (may_leave : D → List ℕ → Type 0) → KeepsFirst count log (seen disk)

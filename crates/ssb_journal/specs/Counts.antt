@@ -1,5 +1,5 @@
 -- How many commits a journal keeps, and of which log.
-use Rattle.std.specs.Prelude.{◌≡◌, ◌≤◌, List, ℕ, length, take, Bool, true}
+use Rattle.std.specs.Prelude.{◌≡◌, ◌⊎◌, ◌≤◌, List, ℕ, length, take, Bool, true}
 use Rattle.row_store.specs.History.{CommitRecord}
 use Rattle.ssb_journal.specs.declared.head.TableSize.{TableSize}
 use Rattle.ssb_journal.specs.Kept.{KeepsCommits}
@@ -22,6 +22,26 @@ pub record KeepsBeginning (least : ℕ) (log : List CommitRecord) (file : List �
   pub count : ℕ
   pub enough : least ≤ count
   pub first : KeepsFirst count log file
+
+-- a journal as it was begun: when, how many commits it kept, and what a crash at some moment from then on might have
+-- left
+pub record Begun : Type 1 where
+  pub moment : ℕ
+  pub count : ℕ
+  pub past : ℕ → List ℕ → Type 0
+
+-- a journal of which nothing is said
+abbrev pub nothing_said : Begun
+nothing_said = record { moment = 0; count = 0; past = λ _ _. Unit {0} }
+
+-- a crash at some moment leaves what one might have left when the journal was begun, or a journal of the first commits of
+-- a log, at least as many as it kept then
+pub record KeepsSince (begun : Begun) (now : ℕ) (left_since : ℕ → List ℕ → Type 0) (count : ℕ) (log : List CommitRecord)
+    : Type 0 where
+  pub later : begun.moment ≤ now
+  pub enough : begun.count ≤ count
+  pub before : (t : ℕ) (file : List ℕ) → t ≤ begun.moment → left_since t file
+      → begun.past t file ⊎ KeepsBeginning begun.count log file
 
 -- a journal beside a log, as contracts see it: its disk, the log, and how many commits it keeps
 pub record Journaled (D L : Type 0) : Type 0 where

@@ -4,7 +4,7 @@ ghost use Rattle.std.specs.List.{AllByRecursion};
 ghost use Rattle.journal.specs.Disk.{LeavesOnly};
 ghost use Rattle.row_store.specs.History.{IsPrefix};
 ghost use Rattle.ssb_trace.specs.Allowed.{IsClient};
-ghost use Rattle.ssb_journal.specs.Counts.{IsLeft, KeepsBeginning, KeepsFirst};
+ghost use Rattle.ssb_journal.specs.Counts.{IsLeft, KeepsBeginning, KeepsFirst, KeepsSince};
 ghost use Rattle.ssb_journal.specs.Kept.{HasNoRoom};
 
 use crate::appending::append_commits;
@@ -26,13 +26,14 @@ pub struct JournaledLog<D: Disk, L: LogSource> {
 }
 
 impl<D: Disk, L: LogSource> Model for JournaledLog<D, L> {
-    ghost use Rattle.ssb_journal.specs.Counts.{Journaled, KeepsFirst};
+    ghost use Rattle.ssb_journal.specs.Counts.{Journaled, KeepsFirst, KeepsSince};
 
     ghost Value = { Journaled D L };
 
     ghost view = { λ log. record { disk = log.journal; source = log.source; count = log.count } };
 
-    ghost invariant = { λ log. KeepsFirst log.count (L.log log.source) (D.seen log.journal) };
+    ghost invariant = { λ log. KeepsFirst log.count (L.log log.source) (D.seen log.journal)
+        × KeepsSince L.begun (D.moment log.journal) (D.left_since log.journal) log.count (L.log log.source) };
 }
 
 /// What is left of a journal beside a log, when nothing is appended any more: the disk, the log, and how many of its
@@ -46,14 +47,15 @@ pub struct LeftLog<D: Disk, L: LogSource> {
 }
 
 impl<D: Disk, L: LogSource> Model for LeftLog<D, L> {
-    ghost use Rattle.ssb_journal.specs.Counts.{LeftJournal, IsLeft};
+    ghost use Rattle.ssb_journal.specs.Counts.{LeftJournal, IsLeft, KeepsSince};
 
     ghost Value = { LeftJournal D L };
 
     ghost view = { λ left. record { disk = left.disk; source = left.source; count = left.count; whole = left.is_whole } };
 
     ghost invariant = { λ left. IsLeft (D.may_leave left.disk) (D.seen left.disk) left.count (L.log left.source)
-        left.is_whole };
+        left.is_whole × KeepsSince L.begun (D.moment left.disk) (D.left_since left.disk) left.count
+        (L.log left.source) };
 }
 
 impl<D: Disk, L: LogSource> LeftLog<D, L> {
@@ -61,6 +63,7 @@ impl<D: Disk, L: LogSource> LeftLog<D, L> {
     pub fn into_parts(self) -> (D, L, u64, bool)
         ensures same { self ≡ record { disk = result.0; source = result.1; count = result.2; whole = result.3 } }
         ensures left { IsLeft (D.may_leave result.0) (D.seen result.0) result.2 (L.log result.1) result.3 }
+        ensures since { KeepsSince L.begun (D.moment result.0) (D.left_since result.0) result.2 (L.log result.1) }
     {
         let LeftLog {
             disk,
@@ -81,6 +84,7 @@ fn append_given<D: Disk + Drop, L: LogSource + Drop>(
     commits: Vec<Commit>,
 ) -> Result<JournaledLog<D, L>, (DiskError, LeftLog<D, L>)>
     requires kept { KeepsFirst count (L.log source) (D.seen journal) }
+    requires since { KeepsSince L.begun (D.moment journal) (D.left_since journal) count (L.log source) }
     requires given { commits.items ≡ drop count (L.log source) }
     requires clients { AllByRecursion (λ commit. IsClient commit.client) commits.items }
     requires few { length (L.log source) < 2 ^ 64 }
@@ -116,7 +120,8 @@ fn append_given<D: Disk + Drop, L: LogSource + Drop>(
 impl<D: Disk + Drop, L: LogSource + Drop> JournaledLog<D, L> {
     /// A journal beside a log that begins with the commits that it keeps.
     pub fn new(journal: Journal<D>, source: L, count: u64) -> JournaledLog<D, L>
-        requires { KeepsFirst count (L.log source) (D.seen journal) }
+        requires kept { KeepsFirst count (L.log source) (D.seen journal) }
+        requires since { KeepsSince L.begun (D.moment journal) (D.left_since journal) count (L.log source) }
         ensures { result ≡ record { disk = journal; source = source; count = count } }
     {
         JournaledLog {

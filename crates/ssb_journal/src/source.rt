@@ -3,6 +3,7 @@ ghost use Rattle.std.specs.Prelude.{◌≡◌, ◌<◌, ◌≤◌, ◌^◌, List
 ghost use Rattle.std.specs.List.{AllByRecursion};
 ghost use Rattle.row_store.specs.History.{CommitRecord, IsPrefix};
 ghost use Rattle.ssb_trace.specs.Allowed.{IsClient};
+ghost use Rattle.ssb_journal.specs.Counts.{Begun};
 
 use row_store::Commit;
 use std::alloc::{AllocError, Global};
@@ -12,6 +13,9 @@ use std::sync::Wait;
 pub trait LogSource {
     /// The commits that were seen of the log.
     ghost log: { Self → List CommitRecord };
+
+    /// The journal beside it, as it was begun. Each call picks it.
+    ghost begun: { Begun };
 
     /// Looks at the log, and gives the commits behind the first ones, so many of them.
     fn commits_from<R: Wait>(

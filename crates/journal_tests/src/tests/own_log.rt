@@ -1,6 +1,7 @@
 //! A log in memory, of which each look sees some commits more.
 ghost use Rattle.std.specs.Prelude.{◌≡◌, ◌≤◌, ◌<◌, ◌^◌, List, length, take, map, IfOk};
 ghost use Rattle.std.specs.List.{AllByRecursion};
+ghost use Rattle.ssb_journal.specs.Counts.{nothing_said};
 ghost use Rattle.ssb_trace.specs.Allowed.{IsClient};
 ghost use Rattle.journal_tests.specs.OwnCommits.{own};
 
@@ -50,6 +51,8 @@ pub(crate) fn own_commits(
 
 impl<'a> LogSource for OwnLog<'a> {
     ghost log = { λ l. map (λ refresh. own refresh.value) (take l.seen l.refreshes.now) };
+
+    ghost begun = { nothing_said };
 
     #[tactic(auto, using(crate::proofs::OwnLaws::seen_grows))]
     fn commits_from<R: Wait>(

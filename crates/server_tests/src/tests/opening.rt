@@ -82,7 +82,7 @@ fn counts_out_of_range_open_nothing(rt: HostRuntime) -> Result<(), Fail> {
     ] {
         let hashing = RandomState::new(&rt)?;
         let loaded = Loaded::new(&rt, alloc, hashing, &base, &[])?;
-        let opened = open(alloc, &rt, loaded, clients, dispatchers, keeps);
+        let opened = open(alloc, &rt, loaded, clients, dispatchers, Keeps::Recent);
         assert_eq!(rt; opened.err().ok_or("opened")?, fault);
     }
     Ok(())

@@ -11,7 +11,7 @@ returns-in-Ok-clause-served g c =
 
 pub returns-in-Ok-clause-fault : goal.returns-in-Ok-clause-fault
 returns-in-Ok-clause-fault g c =
-    fault_over c.serve.result c.in-Ok.opened.server.base c.args.loaded c.args.recovered.opened.kept.commits.items
+    fault_over (λ unserved. unserved.fault) c.serve.result c.in-Ok.opened.server.base c.args.loaded c.args.recovered.opened.kept.commits.items
     c.args.dispatchers c.in-Ok.ensures.base c.serve.ensures.fault
 
 pub returns-in-Err-clause-fault : goal.returns-in-Err-clause-fault

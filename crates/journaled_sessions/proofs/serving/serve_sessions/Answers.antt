@@ -1,7 +1,30 @@
-use Rattle.journaled_sessions.proofs.ReadingLaws.{later_left}
+use Rattle.ssb_journal.specs.Counts.{KeepsSince}
+use Rattle.journaled_sessions.proofs.BeginningLaws.{since_begun, since_begun_on}
+use Rattle.journaled_sessions.proofs.ServingLaws.{later_begins}
 use Rattle.journaled_sessions.proofs.serving.serve_sessions.Goals as goal
 
-pub returns-clause-reader : goal.returns-clause-reader
-returns-clause-reader g c =
-    later_left (λ left. left.reader) g.K.Opening.reader c.args.begun.reader c.left_of.result c.requires.picked
-    c.left_of.ensures.later
+pub new-requires-clause-since : goal.new-requires-clause-since
+new-requires-clause-since g c =
+    since_begun g.D.Disk.moment g.D.Disk.left_since g.K.Opening.begun c.args.begun.journal c.args.begun.count
+    c.args.begun.reader.seen c.requires.begun
+
+pub returns-in-Ok-clause-reader : goal.returns-in-Ok-clause-reader
+returns-in-Ok-clause-reader g c = c.in-Some.ensures.later c.args.begun.reader c.requires.picked
+
+pub returns-in-Ok-clause-since : goal.returns-in-Ok-clause-since
+returns-in-Ok-clause-since g c =
+    since_begun_on g.D.Disk.moment g.D.Disk.left_since g.K.Opening.begun c.args.begun.journal c.in-Some.left.disk
+    c.args.begun.count c.in-Some.left.count c.in-Some.left.reader.seen c.requires.begun c.in-Some.ensures.since
+
+pub returns-in-Err-clause-since_err : goal.returns-in-Err-clause-since_err
+returns-in-Err-clause-since_err g c =
+    rw c.new.ensures
+    (record {
+      count = c.in-Some.left.count;
+      log = c.in-Some.left.reader.seen;
+      begins = later_begins c.args.begun.reader c.in-Some.left.reader
+          (c.in-Some.ensures.later c.args.begun.reader c.requires.picked);
+      since = since_begun_on g.D.Disk.moment g.D.Disk.left_since g.K.Opening.begun c.args.begun.journal
+          c.in-Some.left.disk c.args.begun.count c.in-Some.left.count c.in-Some.left.reader.seen c.requires.begun
+          c.in-Some.ensures.since;
+    })
