@@ -55,7 +55,7 @@ use Rattle.scan_kernel.specs.Places.{mask_in}
 use Rattle.scan_kernel.specs.declared.masks.Masks.{Masks}
 use Rattle.shared_scan.specs.Batch.{IsReady}
 use Rattle.shared_scan.specs.Grouped.{ArePrepared}
-use Rattle.shared_scan.specs.GroupCounts.{values_passing, passing_values, count_passing, groups_by, most_groups}
+use Rattle.shared_scan.specs.GroupCounts.{values_passing, passing_values, count_passing, most_groups_of, most_groups}
 use Rattle.shared_scan.specs.Numbering.{IsPreparedColumn}
 use Rattle.shared_scan.specs.Parts.{parts_in}
 use Rattle.shared_scan.specs.Prepared.{AreMasksOf, masks_in}
@@ -195,7 +195,7 @@ module _ (base : Tables) (masks : Masks) (plans : List Plan) (tell : AreMasksOf 
       (parts_in ready.groups.parts) in
       let prepared : P plan = subst P (made.plan_is ∙ sym is) made.prepared in
       made.size_is ∙ ap size_of (columns_counted plan.groups ready.groups.columns.items 1
-      (parts_in ready.groups.parts) prepared) ∙ ap (groups_by base.dimensions) is
+      (parts_in ready.groups.parts) prepared) ∙ ap (most_groups_of base.dimensions) is
 
 -- each row has its like among the rows that begin a class
 module _ (d : Dimensions) (p : ℕ) where

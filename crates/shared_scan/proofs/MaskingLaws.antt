@@ -1,41 +1,10 @@
 -- Masks as their bits are set one after another.
-use Rattle.std.proofs.Common.{
-  ℕ,
-  ◌≡◌,
-  ◌+◌,
-  ◌*◌,
-  ◌-◌,
-  ◌%◌,
-  ◌^◌,
-  ◌<◌,
-  ◌≤◌,
-  Bool,
-  true,
-  false,
-  cond,
-  List,
-  [],
-  ◌∷◌,
-  ◌++◌,
-  length,
-  length-append,
-  get_or,
-  Some,
-  sym,
-  refl,
-  ap,
-  ◌∙◌,
-  subst,
-  arith,
-  bit_or,
-}
+use Rattle.std.proofs.Common.{ℕ, ◌≡◌, ◌+◌, ◌*◌, ◌-◌, ◌%◌, ◌^◌, ◌<◌, ◌≤◌, Bool, true, false, cond, List, length, get_or, Some, sym, refl, ap, ◌∙◌, arith, bit_or}
 use Rattle.std.specs.Prelude.{slice_get, nat_eq}
 use Rattle.std.specs.Cmp.{unsigned_Decides}
 use Rattle.std.specs.Int.{bit_at, w16}
-use Rattle.std.proofs.lemmas.Nat.Bits.{bit_at_set_same, bit_at_set_other, bit_at-zero, bit_at_ones}
+use Rattle.std.proofs.lemmas.Nat.Bits.{bit_at_set_same, bit_at_set_other, bit_at_ones}
 use Rattle.std.proofs.lemmas.Option.{slice_get_within}
-use Rattle.std.proofs.Math.ListN.{get_or-append}
-use Rattle.std.proofs.Math.Seq.{get_or-append_seam}
 use Rattle.ssb_questions.specs.declared.plan.Plan.{Plan}
 use Rattle.scan_kernel.specs.Masks.{IsMask}
 
@@ -43,12 +12,6 @@ use Rattle.scan_kernel.specs.Masks.{IsMask}
 pub record IsMaskUpTo (passes : Plan → Bool) (plans : List Plan) (number mask : ℕ) : Type 0 where
   pub bits : (k : ℕ) (plan : Plan) → k < number → slice_get plans k ≡ Some plan → bit_at mask k ≡ cond (passes plan) 1 0
   pub above : (k : ℕ) → number ≤ k → bit_at mask k ≡ 0
-
-pub mask_starts : (passes : Plan → Bool) (plans : List Plan) → IsMaskUpTo passes plans 0 0
-mask_starts passes plans = record {
-  bits = λ k plan below at. absurd (omega (arith, below));
-  above = λ k from. bit_at-zero k;
-}
 
 pub mask_ends : (passes : Plan → Bool) (plans : List Plan) (mask : ℕ) → IsMaskUpTo passes plans (length plans) mask
     → IsMask passes plans mask
@@ -93,34 +56,6 @@ pub record AreMasksUpTo {Row : Type 0} (passes : Plan → Row → Bool) (plans :
   pub len : length masks ≡ count
   pub each : (at : ℕ) (row : Row) → at < count → slice_get rows at ≡ Some row
       → IsMask (λ plan. passes plan row) plans (get_or masks at 0)
-
-module _ {Row : Type 0} (passes : Plan → Row → Bool) (plans : List Plan) (rows : List Row) where
-  pub masks_start : AreMasksUpTo passes plans rows 0 []
-  masks_start = record { len = refl; each = λ at row below e. absurd (omega (arith, below)) }
-
-  pub masks_push : (count : ℕ) (masks : List ℕ) (this : Row) (mask : ℕ) → slice_get rows count ≡ Some this
-      → AreMasksUpTo passes plans rows count masks → IsMask (λ plan. passes plan this) plans mask
-      → AreMasksUpTo passes plans rows (count + 1) (masks ++ mask ∷ [])
-  masks_push count masks this mask at_count h is = record {
-    len = length-append masks (mask ∷ []) ∙ ap (λ (n : ℕ). n + 1) h.len;
-    each = λ at row below e.
-        elim (nat_eq at count) as (λ b. nat_eq at count ≡ b
-        → IsMask (λ plan. passes plan row) plans (get_or (masks ++ mask ∷ []) at 0)) [
-          | true ↦ λ t. let same : at ≡ length masks = (unsigned_Decides at count).0 t ∙ sym h.len in
-              let both : Some row ≡ Some this = sym e ∙ ap (slice_get rows) ((unsigned_Decides at count).0 t)
-              ∙ at_count in
-              let one : row ≡ this = cc in
-              let last : get_or (masks ++ mask ∷ []) at 0 ≡ mask =
-              ap (λ (n : ℕ). get_or (masks ++ mask ∷ []) n 0) same ∙ get_or-append_seam masks mask [] 0 in
-              subst (λ (r : Row). IsMask (λ plan. passes plan r) plans (get_or (masks ++ mask ∷ []) at 0)) (sym one)
-              (subst (IsMask (λ plan. passes plan this) plans) (sym last) is)
-          | false ↦ λ f. let other : (at ≡ count → ⊥) = λ same. let t : nat_eq at count ≡ true =
-              (unsigned_Decides at count).1 same in cc in
-              let within : at < count = omega (arith, below, other) in
-              subst (IsMask (λ plan. passes plan row) plans)
-              (sym (get_or-append masks (mask ∷ []) 0 at (omega (arith, within, h.len)))) (h.each at row within e)
-        ] refl;
-  }
 
 -- a mask by one test is the mask by another that says the same of the plans
 pub mask_same : (passes tells : Plan → Bool) (plans : List Plan) (mask : ℕ)

@@ -41,7 +41,7 @@ use Rattle.ssb_questions.specs.declared.value.Value.{Value}
 use Rattle.ssb_questions.specs.declared.value.Value.TheVariants.{Number}
 use Rattle.ssb_answers.specs.RowValues.{customer_value, supplier_value, part_value, date_value, pass}
 use Rattle.dimension_index.specs.Keys.{keys_of}
-use Rattle.dimension_index.specs.Values.{values_of, values_at}
+use Rattle.dimension_index.specs.Values.{values_at}
 use Rattle.dimension_index.specs.Codes.{distinct, codes_of, code_in}
 use Rattle.scan_kernel.specs.Masks.{IsMask}
 use Rattle.scan_kernel.proofs.MaskLaws.{mask_and}
@@ -63,11 +63,6 @@ values_are_rows base table.Part place = length-map base.dimensions.parts (part_v
 values_are_rows base table.Date place = length-map base.dimensions.dates (date_value place)
     ∙ sym (length-map base.dimensions.dates date_key)
 values_are_rows base table.Lineorder place = refl
-
-pub codes_are_rows : (base : Tables) (column : Column)
-    → length (codes_of (values_of base column)) ≡ length (keys_of base column.table)
-codes_are_rows base column = length-map (values_of base column) (code_in (distinct (values_of base column)))
-    ∙ values_are_rows base column.table column.place
 
 -- the mask of a row's code is that of its value
 code_mask : (plans : List Plan) (column : Column) (values : List Value) (masks : List ℕ)

@@ -1,33 +1,9 @@
 -- A row passes a plan's tests where each of its values passes those of its column.
-use Rattle.std.proofs.Common.{
-  ℕ,
-  suc,
-  ◌≡◌,
-  ◌+◌,
-  ◌<◌,
-  Bool,
-  true,
-  false,
-  not,
-  List,
-  [],
-  ◌∷◌,
-  ◌++◌,
-  map,
-  get_or,
-  nat_eq,
-  Some,
-  refl,
-  sym,
-  ap,
-  ◌∙◌,
-  arith,
-}
+use Rattle.std.proofs.Common.{ℕ, suc, ◌≡◌, Bool, true, false, not, List, [], ◌∷◌, map, get_or, nat_eq, Some, refl, sym, ap, ◌∙◌, arith}
 use Rattle.std.specs.Prelude.{◌&&◌, ◌||◌, slice_get, All}
 use Rattle.std.specs.List.{list_all}
 use Rattle.std.specs.Cmp.{unsigned_Decides}
 use Rattle.std.proofs.lemmas.List.{get_or-map}
-use Rattle.std.proofs.lemmas.List.Folds.{list_any-append}
 use Rattle.std.proofs.lemmas.Option.{get_or_from_slice_get, slice_get_within}
 use Rattle.ssb_questions.specs.Cond.{holds}
 use Rattle.ssb_questions.specs.declared.cond.Test.{Test}
@@ -35,36 +11,6 @@ use Rattle.ssb_questions.specs.declared.value.Value.{Value}
 use Rattle.ssb_questions.specs.declared.value.Value.TheVariants.{Number}
 use Rattle.ssb_answers.specs.RowValues.{pass}
 use Rattle.shared_scan.specs.Tests.{is_place, passes_at}
-
--- one place more
-pub place_kept : (places : List ℕ) (new place : ℕ) → is_place places place ≡ true
-    → is_place (places ++ new ∷ []) place ≡ true
-place_kept places new place there = list_any-append (λ own. nat_eq own place) places (new ∷ [])
-    ∙ ap (λ (b : Bool). b || is_place (new ∷ []) place) there
-
-or_true : (b : Bool) → (b || true) ≡ true
-or_true true = refl
-or_true false = refl
-
-pub place_added : (places : List ℕ) (new : ℕ) → is_place (places ++ new ∷ []) new ≡ true
-place_added places new =
-    let own : nat_eq new new ≡ true = (unsigned_Decides new new).1 refl in
-    list_any-append (λ own. nat_eq own new) places (new ∷ [])
-    ∙ ap (λ (b : Bool). is_place places new || (b || false)) own ∙ or_true (is_place places new)
-
--- the place of one test more is among them
-pub has_more : (tests : List Test) (places more : List ℕ) (i : ℕ)
-    → ((place : ℕ) → is_place places place ≡ true → is_place more place ≡ true)
-    → ((d : Test) → is_place more (get_or tests i d).column.place ≡ true)
-    → ((k : ℕ) (d : Test) → k < i → is_place places (get_or tests k d).column.place ≡ true)
-    → (k : ℕ) (d : Test) → k < i + 1 → is_place more (get_or tests k d).column.place ≡ true
-has_more tests places more i keeps this before k d below =
-    elim (nat_eq k i) as (λ b. nat_eq k i ≡ b → is_place more (get_or tests k d).column.place ≡ true) [
-      | true ↦ λ t. ap (λ (n : ℕ). is_place more (get_or tests n d).column.place) ((unsigned_Decides k i).0 t) ∙ this d
-      | false ↦ λ f.
-          let other : (k ≡ i → ⊥) = λ same. let t : nat_eq k i ≡ true = (unsigned_Decides k i).1 same in cc in
-          keeps _ (before k d (omega (arith, below, other)))
-    ] refl
 
 -- two tests that hold of the same are one
 same_bool : (a b : Bool) → (a ≡ true → b ≡ true) → (b ≡ true → a ≡ true) → a ≡ b

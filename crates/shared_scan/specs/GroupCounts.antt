@@ -31,11 +31,11 @@ abbrev pub count_passing : Dimensions → Plan → Column → ℕ
 count_passing d plan column = length (distinct (passing_values d plan column.table column.place))
 
 -- how many groups a question may have: the product of these numbers over the columns that it groups by
-abbrev pub groups_by : Dimensions → Plan → ℕ
-groups_by d plan = size_of (map (count_passing d plan) plan.groups)
+abbrev pub most_groups_of : Dimensions → Plan → ℕ
+most_groups_of d plan = size_of (map (count_passing d plan) plan.groups)
 
 abbrev pub most_groups : Tables → Query × List Value → ℕ
-most_groups base question = groups_by base.dimensions (plan_over question.0 question.1)
+most_groups base question = most_groups_of base.dimensions (plan_over question.0 question.1)
 
 -- so many that no totals are kept of it
 abbrev pub has_many_groups : Tables → Query × List Value → Bool

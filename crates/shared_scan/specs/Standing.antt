@@ -171,6 +171,6 @@ pub record HaveNumbersOf (old new : List Totals) : Type 0 where
   pub len : length new ≡ length old
   pub each : (k : ℕ) (s t : Totals) → k < length old → HasNumbersOf (slice_index_or old k s) (slice_index_or new k t)
 
--- a number is kept for so many groups, and for no more
+-- the question was made ready with more groups than totals are kept of
 abbrev pub has_many_numbers : Ready → Bool
 has_many_numbers ready = nat_lt 65536 ready.groups.size

@@ -70,8 +70,8 @@ fn copy_totals(alloc: Global, totals: &[Totals]) -> Result<Vec<Totals>, AllocErr
 }
 
 impl Standing {
-    /// The questions with their totals over the live lines of columns, by one pass. The first question that has more
-    /// than 65,536 groups is an error.
+    /// The questions with their totals over the live lines of columns, by one pass. The first question that may have
+    /// more than 65,536 groups is an error.
     pub fn new<R: Threads + Sync>(
         rt: &R,
         alloc: Global,
@@ -97,7 +97,7 @@ impl Standing {
         }
     }
 
-    // The first question that has more than 65,536 groups.
+    // The place of the first question that is numbered for more than 65,536 groups.
     fn first_of_many_groups(&self) -> Option<usize>
         ensures { result ≡ position has_many_numbers self.now.batch.value.questions.items }
     {

@@ -11,7 +11,8 @@ pub enum StandingError {
     /// Memory ran out.
     #[error("out of memory")]
     OutOfMemory,
-    /// The question at this place, from 0, has more than 65,536 groups: its rows are no small work.
+    /// The question at this place, from 0, is the first that may have more than 65,536 groups: its rows are no small
+    /// work.
     #[error("TooManyGroups {0}")]
     TooManyGroups(usize),
 }

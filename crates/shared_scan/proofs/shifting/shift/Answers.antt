@@ -1,6 +1,6 @@
 use Rattle.std.proofs.Common.{◌<◌, length, arith, subst, sym, List, ℕ}
 use Rattle.shared_scan.specs.Standing.{Shifts}
-use Rattle.shared_scan.proofs.StandingLaws.{shifted_past, shifted_at}
+use Rattle.shared_scan.proofs.StandingLaws.{shifted_at}
 use Rattle.shared_scan.proofs.shifting.shift.Goals as goal
 
 pub returns : goal.returns

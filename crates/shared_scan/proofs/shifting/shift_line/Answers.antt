@@ -6,7 +6,6 @@ use Rattle.scan_kernel.specs.declared.totals.Totals.{Totals}
 use Rattle.scan_kernel.proofs.WrittenLaws.{written_more}
 use Rattle.shared_scan.specs.declared.ready.Ready.{Ready}
 use Rattle.shared_scan.specs.Standing.{takes_line, ShiftsWhere}
-use Rattle.shared_scan.proofs.StandingLaws.{none_shifts}
 use Rattle.shared_scan.proofs.shifting.shift_line.Goals as goal
 
 pub loop-number-preserved : goal.loop-number-preserved
