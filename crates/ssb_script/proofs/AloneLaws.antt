@@ -2,13 +2,11 @@
 use Rattle.std.proofs.Common.{
   ◌≡◌,
   ◌∙◌,
-  ◌++◌,
   ◌∷◌,
   All,
   ℕ,
   [],
   List,
-  Option,
   Some,
   None,
   Result,
@@ -29,9 +27,9 @@ use Rattle.ssb_questions.specs.declared.value.Value.{Value}
 use Rattle.ssb_script.specs.Laws.{IsScriptOfQuestions}
 use Rattle.ssb_script.specs.Lines.{RecordFault, ScriptLine, line_of}
 use Rattle.ssb_script.specs.Lines as line
-use Rattle.ssb_script.specs.Questions.{AsksAlone, asked_by, question_in, requests_alone}
-use Rattle.ssb_script.specs.Requests.{Ask, IsWholeRequest, RequestRecord}
-use Rattle.ssb_script.specs.Scripts.{Spell, SpellAll, lines_in}
+use Rattle.ssb_script.specs.Questions.{asked_by, question_in, requests_alone}
+use Rattle.ssb_script.specs.Requests.{Ask, IsWholeRequest}
+use Rattle.ssb_script.specs.Scripts.{Spell, lines_in}
 use Rattle.ssb_script.specs.declared.request.Asking.TheVariants.{Alone}
 
 abbrev Question : Type 0

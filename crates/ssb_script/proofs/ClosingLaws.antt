@@ -1,5 +1,5 @@
 -- A last field of no bytes, as code finds it from the end.
-use Rattle.std.proofs.Common.{◌≡◌, ◌∙◌, ℕ, suc, ◌-◌, ◌≤◌, Bool, true, false, cond, nat_eq, List, [], ◌∷◌, length, map, take}
+use Rattle.std.proofs.Common.{◌≡◌, ◌∙◌, ℕ, ◌-◌, ◌≤◌, Bool, true, false, cond, nat_eq, List, [], ◌∷◌, length, map, take}
 use Rattle.std.proofs.Common.{get_or, refl, sym, ap, arith}
 use Rattle.ssb_script.specs.Lines.{without_closing}
 

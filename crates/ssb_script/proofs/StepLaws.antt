@@ -17,7 +17,6 @@ use Rattle.std.proofs.Common.{
   map,
   refl,
   subst,
-  sym,
   ap,
   ◌∙◌,
   inl,

@@ -1,4 +1,4 @@
-use Rattle.std.proofs.Common.{◌≡◌, ◌∙◌, ◌+◌, Option, Some, None, ap, sym, refl, inr}
+use Rattle.std.proofs.Common.{◌≡◌, ◌∙◌, ◌+◌, Option, None, ap, sym, refl, inr}
 use Rattle.std.specs.Option.{option_map}
 use Rattle.ssb_script.specs.Lines.{line_or_bad}
 use Rattle.ssb_script.specs.Steps.{ended_of, begun_in, line_of_control}
