@@ -7,7 +7,7 @@ use Rattle.ssb_files.specs.declared.fault.Fault.TheVariants as fault
 use Rattle.ssb_files.specs.declared.identity.FileIdentity.{FileIdentity}
 use Rattle.ssb_files.specs.declared.path_fault.PathFault.TheVariants as path
 use Rattle.ssb_files.specs.declared.paths.PathUse.{PathUse}
-use Rattle.ssb_files.specs.declared.paths.PathUse.TheVariants.{Read, Input, Output, Write}
+use Rattle.ssb_files.specs.declared.paths.PathUse.TheVariants.{Read, Input, Output}
 use Rattle.ssb_files.specs.declared.paths.UsedPath.{UsedPath}
 
 -- both have a device and an inode, and the same

@@ -1,4 +1,4 @@
-use Rattle.std.proofs.Common.{rules, ◌≡◌, Some, find, sym}
+use Rattle.std.proofs.Common.{rules, ◌≡◌, Some, find}
 use Rattle.std.specs.Prelude.{string_bytes}
 use Rattle.ssb_files.specs.Paths.{AreApart, is_full}
 use Rattle.ssb_files.proofs.paths.check_paths.Goals as goal
