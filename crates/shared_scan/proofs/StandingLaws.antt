@@ -1,11 +1,42 @@
 -- Totals over lines, one line more and one line less.
-use Rattle.std.proofs.Common.{ℕ, ◌≡◌, ◌+◌, ◌%◌, ◌^◌, ◌<◌, ◌≤◌, ◌≢◌, ◌⊎◌, inl, inr, Bool, true, false, cond, eqb, List, [], ◌∷◌, ◌++◌, length, get_or, drop, min, zero, suc, refl, sym, ap, ◌∙◌, subst, arith}
+use Rattle.std.proofs.Common.{
+  ℕ,
+  ◌≡◌,
+  ◌+◌,
+  ◌%◌,
+  ◌^◌,
+  ◌<◌,
+  ◌≤◌,
+  ◌≢◌,
+  ◌⊎◌,
+  inl,
+  inr,
+  Bool,
+  true,
+  false,
+  cond,
+  eqb,
+  List,
+  [],
+  ◌∷◌,
+  ◌++◌,
+  length,
+  get_or,
+  drop,
+  min,
+  zero,
+  suc,
+  refl,
+  sym,
+  ap,
+  ◌∙◌,
+  subst,
+  arith,
+}
 use Rattle.std.specs.List.{sum_by}
 use Rattle.std.specs.Prelude.{nat_eq}
 use Rattle.std.proofs.Math.Nat.{mod-mod, mod-add-mod, add-mod-mod}
 use Rattle.std.proofs.lemmas.Bool.Decides.{eqb_tells}
-use Rattle.std.specs.Int.{bit_at}
-use Rattle.std.proofs.lemmas.Nat.Bits.{bit_at-zero}
 use Rattle.std.proofs.lemmas.List.{get_or-set_same, get_or-set_other, length-set, drop_more, get_or_default}
 use Rattle.std.proofs.lemmas.List.Sums.{sum_by-append, sum_by-cons}
 use Rattle.ssb_base.specs.Base.{Tables}
@@ -22,8 +53,6 @@ use Rattle.shared_scan.specs.Standing.{
   AreTotalsOver,
   Shifts,
   ShiftsWhere,
-  ShiftsBatch,
-  line_mask,
   part_of_line,
   parts_of_line,
   takes_line,
@@ -178,18 +207,6 @@ module _ (numbers : List ℕ) (group delta : ℕ) where
       let none : share true group g delta ≡ 0 = ap (λ (b : Bool). cond b delta 0) other in
       ap (λ (v : ℕ). v % 2 ^ 64) (sym (ap (λ (v : ℕ). get_or numbers g 0 + v) none ∙ omega arith))
 
-  -- there is no such group
-  pub shifted_past : length numbers ≤ group → Shifts group delta numbers numbers
-  shifted_past past = record {
-    len = refl;
-    each = λ g below. went g (apart g below (eqb_tells group g));
-  } where
-    apart : (g : ℕ) → g < length numbers → ((eqb group g ≡ true) × (group ≡ g)) ⊎ ((eqb group g ≡ false) × (group ≢ g))
-        → eqb group g ≡ false
-    apart g below (inl (is, same)) = absurd (omega (arith, past, below, same))
-    apart g below (inr (is, other)) = is
-
-  -- there is
   pub shifted_at : group < length numbers → Shifts group delta numbers (add_at numbers group delta)
   shifted_at within = record {
     len = length-set numbers group _;
@@ -251,12 +268,3 @@ pub part_added : (group part rest total : ℕ) → (group + (part + rest)) % 2 ^
 part_added group part rest total so_far =
     let turn : group + part + rest ≡ group + (part + rest) = omega arith in
     mod-add-mod (group + part) (2 ^ 64) rest ∙ ap (λ (v : ℕ). v % 2 ^ 64) turn ∙ so_far
-
--- where no bit of the mask is set, no total changes
-pub none_shifts : (base : Tables) (masks : Masks) (all : List Ready) (line : ScannedLine) (comes : Bool)
-    (totals : List Totals) → line_mask masks line ≡ 0 → ShiftsBatch base masks all line comes totals totals
-none_shifts base masks all line comes totals none k r t below =
-    let off : takes_line masks k line ≡ false = ap (λ (m : ℕ). nat_eq (bit_at m k) 1) none
-    ∙ ap (λ (v : ℕ). nat_eq v 1) (bit_at-zero k) in
-    let P : Bool → Type 0 = λ b. ShiftsWhere b base (get_or all k r) line comes (get_or totals k t) (get_or totals k t)
-    in subst P (sym off) refl

@@ -1,5 +1,37 @@
 -- Rows that are right for the totals over all places are the answer over the live lines.
-use Rattle.std.proofs.Common.{ℕ, zero, suc, ◌≡◌, ◌*◌, ◌/◌, ◌%◌, ◌^◌, ◌<◌, ◌≤◌, ◌&&◌, List, [], length, map, get_or, replicate, Bool, true, false, cond, not, Some, refl, sym, ap, ◌∙◌, arith, subst, zero-add, ◌+◌}
+use Rattle.std.proofs.Common.{
+  ℕ,
+  zero,
+  suc,
+  ◌≡◌,
+  ◌*◌,
+  ◌/◌,
+  ◌%◌,
+  ◌^◌,
+  ◌<◌,
+  ◌≤◌,
+  ◌&&◌,
+  List,
+  [],
+  length,
+  map,
+  get_or,
+  replicate,
+  Bool,
+  true,
+  false,
+  cond,
+  not,
+  Some,
+  refl,
+  sym,
+  ap,
+  ◌∙◌,
+  arith,
+  subst,
+  zero-add,
+  ◌+◌,
+}
 use Rattle.std.specs.Prelude.{pos, ◌-ℤ◌, nat_eq, nat_lt, slice_get, filter}
 use Rattle.std.specs.List.{All, AllByRecursion, range_with_len, sum_by}
 use Rattle.std.specs.Int.{bit_at}
