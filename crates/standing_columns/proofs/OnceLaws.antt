@@ -20,6 +20,8 @@ use Rattle.std.proofs.Common.{
   ◌++◌,
   length,
   get_or,
+  take,
+  drop,
   append_assoc,
   arith,
   refl,
@@ -27,10 +29,11 @@ use Rattle.std.proofs.Common.{
   ap,
   ◌∙◌,
 }
-use Rattle.std.specs.Prelude.{position, fold, nat_lt, ◌||◌}
+use Rattle.std.specs.Prelude.{position, fold, is_some, nat_lt, ◌||◌}
 use Rattle.std.specs.List.{All, position_or_len}
-use Rattle.std.proofs.lemmas.Bool.{ltb-false, le-ltb}
-use Rattle.std.proofs.lemmas.List.{append-nil}
+use Rattle.std.proofs.lemmas.Bool.{ltb-false, le-ltb, lt-ltb}
+use Rattle.std.proofs.lemmas.List.{append-nil, take-append-drop}
+use Rattle.std.proofs.lemmas.List.Sums.{fold_more}
 use Rattle.std.proofs.lemmas.List.Quantifiers.{position-Some}
 use Rattle.std.proofs.lemmas.Option.{same_Some}
 use Rattle.ssb_base.specs.Base.{Tables}
@@ -138,24 +141,6 @@ module _ (test : Query × List Value → Bool) where
       step true passes found rest = ap test (sym (same_Some one question found)) ∙ passes
       step false passes found rest = rest found
 
-  -- it is among them
-  pub first_among : (questions : List (Query × List Value)) (question : Query × List Value)
-      → first questions ≡ Some question → is_among questions question ≡ true
-  first_among [] question is = absurd (cc)
-  first_among (one ∷ questions) question is = step (test one) refl is (first_among questions question)
-    where
-      either : (a b : Bool) → b ≡ true → (a || b) ≡ true
-      either true b said = refl
-      either false b said = said
-
-      step : (b : Bool) → test one ≡ b → cond b (Some one) (first questions) ≡ Some question
-          → (first questions ≡ Some question → is_among questions question ≡ true)
-          → (question_eq one question || is_among questions question) ≡ true
-      step true passes found rest =
-          ap (λ (b : Bool). b || is_among questions question)
-          (ap (λ (q : Query × List Value). question_eq q question) (same_Some one question found) ∙ equal question)
-      step false passes found rest = either (question_eq one question) (is_among questions question) (rest found)
-
   -- the first place of an equal one is the first place of one that passes
   places : (questions : List (Query × List Value)) (question : Query × List Value) → first questions ≡ Some question
       → position_or_len (λ other. question_eq other question) questions ≡ position_or_len test questions
@@ -189,6 +174,27 @@ module _ (test : Query × List Value → Bool) where
   same_place questions question is =
       ap (λ (n : ℕ). cond (nat_lt n (length questions)) (Some n) None) (places questions question is)
 
+  within : (questions : List (Query × List Value)) (question : Query × List Value) → first questions ≡ Some question
+      → position_or_len test questions < length questions
+  within [] question is = absurd (cc)
+  within (one ∷ questions) question is = step (test one) refl is (within questions question)
+    where
+      step : (b : Bool) → test one ≡ b → cond b (Some one) (first questions) ≡ Some question
+          → (first questions ≡ Some question → position_or_len test questions < length questions)
+          → cond (not (test one)) (1 + position_or_len test questions) 0 < length (one ∷ questions)
+      step true passes found rest =
+          omega (arith, ap (λ (b : Bool). cond (not b) (1 + position_or_len test questions) 0) passes)
+      step false passes found rest =
+          omega (arith, rest found, ap (λ (b : Bool). cond (not b) (1 + position_or_len test questions) 0) passes)
+
+  -- there is such a place
+  pub first_placed : (questions : List (Query × List Value)) (question : Query × List Value)
+      → first questions ≡ Some question → is_some (place_of questions question) ≡ true
+  first_placed questions question is =
+      let n : ℕ = position_or_len test questions in
+      ap is_some (same_place questions question is)
+      ∙ ap (λ (b : Bool). is_some (cond b (Some n) None)) (lt-ltb n (length questions) (within questions question is))
+
 -- that each has few groups, said as a test
 few_fail : (base : Tables) (questions : List (Query × List Value)) → All (HasFewGroups base) questions
     → All (λ question. has_many_groups base question ≡ false) questions
@@ -204,13 +210,23 @@ few_asked base asked few k d below =
     (none_passes test asked (sym (first_once test asked) ∙ none) k d below)
 
 -- the question of a batch that has many groups, where none before it has, is the first that was asked for
-pub first_refused : (base : Tables) (asked done batch later : List (Query × List Value)) (number : ℕ)
-    (refused : Query × List Value) → done ++ (batch ++ later) ≡ each_once asked → All (HasFewGroups base) done
-    → IsFirstOfMany base batch number → refused ≡ get_or batch number refused
+pub first_refused : (base : Tables) (asked done rest batch later : List (Query × List Value)) (n number : ℕ)
+    (refused : Query × List Value) → batch ≡ take n rest → later ≡ drop n rest → done ++ rest ≡ each_once asked
+    → All (HasFewGroups base) done → IsFirstOfMany base batch number → refused ≡ get_or batch number refused
     → first (has_many_groups base) asked ≡ Some refused
-first_refused base asked done batch later number refused once few many is =
+first_refused base asked done rest batch later n number refused front back once few many is =
     let test : Query × List Value → Bool = has_many_groups base in
+    let parted : batch ++ later ≡ rest = (λ i. front i ++ back i) ∙ take-append-drop n rest in
     let found = position-Some test batch number refused many in
-    sym (first_once test asked) ∙ ap (first test) (sym once)
+    sym (first_once test asked) ∙ ap (first test) (sym once) ∙ ap (λ l. first test (done ++ l)) (sym parted)
     ∙ first_behind test done (batch ++ later) (few_fail base done few)
     ∙ first_at test batch later number refused found.0 found.1 found.2 ∙ ap Some (sym is)
+
+-- one question more, which is kept unless an equal one is among them
+pub once_more : (asked kept more : List (Query × List Value)) (i : ℕ) (question : Query × List Value) (among : Bool)
+    → i < length asked → question ≡ get_or asked i question → kept ≡ fold with_question [] (take i asked)
+    → among ≡ is_among kept question → more ≡ cond among kept (kept ++ question ∷ [])
+    → more ≡ fold with_question [] (take (i + 1) asked)
+once_more asked kept more i question among below is before told grown =
+    grown ∙ ap (λ (b : Bool). cond b kept (kept ++ question ∷ [])) told ∙ (λ j. with_question (before j) (is j))
+    ∙ sym (fold_more with_question [] asked i question below)

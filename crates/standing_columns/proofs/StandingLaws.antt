@@ -1,7 +1,7 @@
 -- Batches of standing questions follow lines together.
-use Rattle.std.proofs.Common.{ℕ, ◌≡◌, ◌<◌, List, [], ◌∷◌, ◌++◌, length, get_or, ap, sym, ◌∙◌, arith, append_assoc}
+use Rattle.std.proofs.Common.{ℕ, ◌≡◌, ◌+◌, ◌<◌, List, [], ◌∷◌, ◌++◌, length, get_or, take, ap, sym, ◌∙◌, arith, append_assoc}
 use Rattle.std.specs.List.{All}
-use Rattle.std.proofs.lemmas.List.{append-nil}
+use Rattle.std.proofs.lemmas.List.{append-nil, take_more}
 use Rattle.std.proofs.lemmas.List.Elements.{All-append, All-same}
 use Rattle.std.proofs.lemmas.Grind.{flat_map-append}
 use Rattle.ssb_base.specs.Base.{Tables}
@@ -57,19 +57,33 @@ module _ (old new : List Standing) (len : length new ≡ length old) where
       let there : k < length old = omega (arith, below, len) in
       each k t there base fewer more one (all k t there)
 
+-- the questions of one batch more
+one_more : (batches more : List Standing) (one : Standing) → more ≡ batches ++ one ∷ []
+    → questions_in more ≡ questions_in batches ++ questions_of one.batch.value.questions.items
+one_more batches more one grown =
+    let own : List (Query × List Value) = questions_of one.batch.value.questions.items in
+    ap questions_in grown
+    ∙ flat_map-append (λ (b : Standing). questions_of b.batch.value.questions.items) batches (one ∷ [])
+    ∙ ap (λ l. questions_in batches ++ l) (append-nil own)
+
+-- one batch more is copied
+pub copied_more : (old copy more : List Standing) (i : ℕ) (item made : Standing) → i < length old
+    → item ≡ get_or old i item → made.batch.value ≡ item.batch.value → more ≡ copy ++ made ∷ []
+    → questions_in copy ≡ questions_in (take i old) → questions_in more ≡ questions_in (take (i + 1) old)
+copied_more old copy more i item made below is same grown before =
+    one_more copy more made grown ∙ (λ j. before j ++ questions_of (same j).questions.items)
+    ∙ sym (one_more (take i old) (take (i + 1) old) item
+    (take_more old i item below ∙ ap (λ b. take i old ++ b ∷ []) (sym is)))
+
 -- one batch more has the next questions
 pub questions_more : (batches more : List Standing) (one : Standing)
     (rest batch later asked : List (Query × List Value)) → more ≡ batches ++ one ∷ []
     → questions_of one.batch.value.questions.items ≡ batch → rest ≡ batch ++ later
     → questions_in batches ++ rest ≡ asked → questions_in more ++ later ≡ asked
 questions_more batches more one rest batch later asked grown is parted before =
-    let own : List (Query × List Value) = questions_of one.batch.value.questions.items in
     let first : List (Query × List Value) = questions_in batches in
-    let all : questions_in more ≡ first ++ own = ap questions_in grown
-    ∙ flat_map-append (λ (b : Standing). questions_of b.batch.value.questions.items) batches (one ∷ [])
-    ∙ ap (λ l. first ++ l) (append-nil own) in
-    ap (λ l. l ++ later) all ∙ append_assoc first own later ∙ ap (λ l. first ++ (l ++ later)) is
-    ∙ ap (λ l. first ++ l) (sym parted) ∙ before
+    ap (λ l. l ++ later) (one_more batches more one grown ∙ ap (λ l. first ++ l) is)
+    ∙ append_assoc first batch later ∙ ap (λ l. first ++ l) (sym parted) ∙ before
 
 -- one batch more, in which no question has many groups
 pub few_more : (base : Tables) (batches more : List Standing) (one : Standing) (batch : List (Query × List Value))
@@ -77,10 +91,6 @@ pub few_more : (base : Tables) (batches more : List Standing) (one : Standing) (
     → All (HasFewGroups base) (questions_in batches) → All (HasFewGroups base) batch
     → All (HasFewGroups base) (questions_in more)
 few_more base batches more one batch grown is few here =
-    let own : List (Query × List Value) = questions_of one.batch.value.questions.items in
     let first : List (Query × List Value) = questions_in batches in
-    let all : questions_in more ≡ first ++ batch = ap questions_in grown
-    ∙ flat_map-append (λ (b : Standing). questions_of b.batch.value.questions.items) batches (one ∷ [])
-    ∙ ap (λ l. first ++ l) (append-nil own ∙ is) in
-    All-same (HasFewGroups base) (questions_in more) (first ++ batch) all
-    (All-append (HasFewGroups base) first batch few here)
+    All-same (HasFewGroups base) (questions_in more) (first ++ batch)
+    (one_more batches more one grown ∙ ap (λ l. first ++ l) is) (All-append (HasFewGroups base) first batch few here)

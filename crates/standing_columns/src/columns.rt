@@ -82,7 +82,8 @@ impl StandingColumns {
         })
     }
 
-    /// How many of these questions are answered from totals. Which stand is no part of what contracts see of a replica.
+    /// How many of these questions are answered from totals. Contracts see the columns alone, so that no clause of those
+    /// above depends on what stands: this clause bounds the number, which `StandingQuestions::count` says exactly.
     pub fn count_standing(&self, questions: &[Question]) -> usize
         ensures { result ≤ length questions.now }
     {

@@ -1,9 +1,16 @@
 //! Each question once.
 ghost use Rattle.std.specs.Prelude.{◌≡◌, IfOk};
-ghost use Rattle.standing_columns.specs.Standing.{each_once};
+ghost use Rattle.standing_columns.specs.Standing.{each_once, is_among};
 
 use ssb_answers::Question;
 use std::alloc::{AllocError, Global};
+
+// Whether an equal question is among these.
+fn is_among(questions: &[Question], question: &Question) -> bool
+    ensures { result ≡ is_among questions.now question.now }
+{
+    questions.iter().any(|other| *other == *question)
+}
 
 /// The questions without those that are equal to an earlier one.
 pub fn each_once(alloc: Global, questions: &[Question]) -> Result<Vec<Question>, AllocError>
@@ -11,7 +18,7 @@ pub fn each_once(alloc: Global, questions: &[Question]) -> Result<Vec<Question>,
 {
     let mut kept: Vec<Question> = Vec::new(alloc);
     for question in questions {
-        if !kept.iter().any(|earlier| *earlier == *question) {
+        if !is_among(&kept, question) {
             kept.push(question.share()?)?;
         }
     }

@@ -1,5 +1,5 @@
 //! Standing questions, in batches of at most sixteen.
-ghost use Rattle.std.specs.Prelude.{◌≡◌, ℕ, ◌==◌, true, List, All, Err, IfOk, IfSome, Some, count_by, is_some, vec_len};
+ghost use Rattle.std.specs.Prelude.{◌≡◌, ℕ, ◌==◌, List, All, Err, IfOk, IfSome, count_by, is_some, vec_len};
 ghost use Rattle.ssb_base.specs.Base.{Tables};
 ghost use Rattle.ssb_schema.specs.Facts.{facts_of};
 ghost use Rattle.ssb_answers.specs.Answer.{answer_of};
@@ -13,7 +13,7 @@ ghost use Rattle.shared_scan.specs.Follows.{FollowsOver};
 ghost use Rattle.shared_scan.specs.GroupCounts.{HasFewGroups, IsFirstOfMany};
 ghost use Rattle.shared_scan.specs.declared.standing.Standing.{Standing as Follower};
 ghost use Rattle.shared_scan.specs.declared.standing_error.StandingError.TheVariants.{TooManyGroups};
-ghost use Rattle.standing_columns.specs.Standing.{AllFollow, each_once, is_among, place_of, questions_in, stands};
+ghost use Rattle.standing_columns.specs.Standing.{AllFollow, each_once, place_of, questions_in, stands};
 
 use crate::once::each_once;
 use dimension_index::DimIndex;
@@ -34,14 +34,10 @@ pub struct StandingQuestions {
 }
 
 // The first place of a question that is equal.
-fn place_of(asked: &[Question], question: &Question) -> usize
-    requires { is_among asked.now question.now ≡ true }
-    ensures { place_of asked.now question.now ≡ Some result }
+fn place_of(asked: &[Question], question: &Question) -> Option<usize>
+    ensures { result ≡ place_of asked.now question.now }
 {
-    match asked.iter().position(|other| *other == *question) {
-        Some(place) => place,
-        None => unreachable!(),
-    }
+    asked.iter().position(|other| *other == *question)
 }
 
 impl StandingQuestions {
@@ -69,11 +65,13 @@ impl StandingQuestions {
             let (batch, later) = rest.split_at(rest.len().min(QUESTIONS_A_PASS));
             match Standing::new(rt, alloc, Arc::try_clone(index)?, columns, batch) {
                 Ok(standing) => batches.push(standing)?,
-                Err(StandingError::OutOfMemory) => return Err(StandingError::OutOfMemory),
-                Err(StandingError::TooManyGroups(number)) => {
-                    let place = place_of(questions, &batch[number]);
-                    return Err(StandingError::TooManyGroups(place));
-                }
+                Err(error) => match error {
+                    StandingError::OutOfMemory => return Err(StandingError::OutOfMemory),
+                    StandingError::TooManyGroups(number) => {
+                        let place = place_of(questions, &batch[number]).unwrap();
+                        return Err(StandingError::TooManyGroups(place));
+                    }
+                },
             }
             rest = later;
         }
@@ -82,7 +80,9 @@ impl StandingQuestions {
 
     /// The same questions and totals.
     pub fn copy(&self, alloc: Global) -> Result<StandingQuestions, AllocError>
-        ensures { (base : Tables) (lines : List PlainLine) → AllFollow self.now base lines
+        ensures questions { IfOk result (λ copy. questions_in copy.batches.items
+            ≡ questions_in self.now.batches.items) }
+        ensures follow { (base : Tables) (lines : List PlainLine) → AllFollow self.now base lines
             → IfOk result (λ copy. AllFollow copy base lines) }
     {
         let mut batches = Vec::with_capacity(alloc, self.batches.len())?;

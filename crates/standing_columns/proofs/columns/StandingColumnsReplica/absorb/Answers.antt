@@ -1,11 +1,14 @@
-use Rattle.std.proofs.Common.{arith}
+use Rattle.std.proofs.Common.{◌≡◌, sym, ◌∙◌, eqb-true, arith}
+use Rattle.std.specs.Prelude.{vec_len}
 use Rattle.standing_columns.proofs.KeptLaws.{kept_after, none_follow}
 use Rattle.standing_columns.proofs.columns.StandingColumnsReplica.absorb.Goals as goal
 
 pub invariant_of-self : goal.invariant_of-self
-invariant_of-self c = record {
-  follow = none_follow c.self.inside.standing c.absorb.new.self.base _ (omega arith);
-}
+invariant_of-self c =
+    let standing = c.self.inside.standing in
+    let none : vec_len standing.batches ≡ 0 = eqb-true (vec_len standing.batches) 0 (sym c.is_empty.ensures
+    ∙ c.if-is_empty.true) in
+    record { follow = none_follow standing c.absorb.new.self.base _ (omega (arith, none)) }
 
 pub invariant_of-self-2 : goal.invariant_of-self-2
 invariant_of-self-2 c = record {
