@@ -26,7 +26,7 @@
 //!   `Server::close_with_reader`.
 //!
 //! ```text
-//! client ── refresh ─▶ row store ── log ─▶ copies of the columns ── scan ─▶ dispatcher ── answer ─▶ client
+//! client ── refresh ─▶ row store ── log ─▶ copies of the columns ── rows ─▶ dispatcher ── answer ─▶ client
 //!
 //! let loaded = Loaded::new(&rt, alloc, hashing, &base, &[])?;
 //! let Opened { server, mut clients, mut dispatchers } = open(alloc, &rt, loaded, 2, 1, Keeps::All)?;

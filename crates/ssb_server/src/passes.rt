@@ -1,6 +1,6 @@
 //! What a batch asks, answered over one copy: by totals where a question stands, the others in passes of at most 16
 //! questions, whosever they are.
-ghost use Rattle.std.specs.Prelude.{◌≡◌, ◌++◌, List, IfOk, OnOk, length};
+ghost use Rattle.std.specs.Prelude.{◌≡◌, ◌++◌, ◌≤◌, List, IfOk, OnOk, length};
 ghost use Rattle.row_store.specs.History.{CommitRecord};
 ghost use Rattle.row_store.specs.State.{StandsFor};
 ghost use Rattle.fact_columns.specs.Stored.{columns_state};
@@ -99,7 +99,9 @@ pub(crate) fn answer_all<R: Threads + Sync>(
 }
 
 /// How many of the requests' questions are answered from totals: a figure for a reader.
-pub(crate) fn count_standing(columns: &StandingColumns, requests: &[Items<Question>]) -> u64 {
+pub(crate) fn count_standing(columns: &StandingColumns, requests: &[Items<Question>]) -> u64
+    ensures { result ≤ length (all_questions requests.now) }
+{
     let mut count = 0u64;
     for request in requests {
         count = count.wrapping_add(columns.count_standing(request.as_slice()) as u64);

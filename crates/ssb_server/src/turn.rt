@@ -1,5 +1,9 @@
 //! A turn, over the parts of a dispatcher.
-ghost use Rattle.std.specs.Prelude.{◌≡◌, ◌<◌, [], length, Some, IfOk};
+ghost use Rattle.std.specs.Prelude.{◌≡◌, ◌<◌, [], List, length, Some, IfOk};
+ghost use Rattle.row_store.specs.History.{CommitRecord};
+ghost use Rattle.row_store.specs.State.{StandsFor};
+ghost use Rattle.fact_columns.specs.Stored.{columns_state};
+ghost use Rattle.shared_scan.specs.Answers.{AreSnapshot};
 ghost use Rattle.history.specs.Tokens.{IsSound};
 ghost use Rattle.twin_cell.specs.Twin.{Reading};
 ghost use Rattle.ssb_server.specs.Hand.{Keeps, no_hand};
@@ -13,6 +17,8 @@ use crate::passes::{RequestRows, answer_all, count_standing};
 use crate::server::{Server, Token};
 use crate::snapshot::snapshot;
 use ssb_answers::Unserved;
+use ssb_questions::Question;
+use ssb_schema::Items;
 use standing_columns::StandingColumns;
 use std::alloc::AllocError;
 use std::sync::Wait;
@@ -77,6 +83,22 @@ fn finish<W: EndsCopies + Drop>(
     }
 }
 
+// The rows of each request in hand, over this copy; the questions that totals answered are counted.
+fn answer_batch<W: EndsCopies + Drop, R: Threads + Sync>(
+    rt: &R,
+    server: &Server<W>,
+    columns: &StandingColumns,
+    requests: &[Items<Question>],
+) -> Result<Vec<RequestRows>, AllocError>
+    requires snapshot { AreSnapshot columns.now }
+    ensures { (history : List CommitRecord) → StandsFor (columns_state columns.now) history
+        → IfOk result (λ rows. rows.items ≡ answers_after columns.now.base history requests.now) }
+{
+    let rows = answer_all(rt, server.alloc, columns, requests)?;
+    server.count_by_totals(count_standing(columns, requests));
+    Ok(rows)
+}
+
 // Serves the requests in hand.
 fn serve<W: Wait + Drop, R: Wait + Threads + Sync, G: ScanGate>(
     rt: &R,
@@ -110,10 +132,7 @@ fn serve<W: Wait + Drop, R: Wait + Threads + Sync, G: ScanGate>(
         Ok(guard) => {
             let at = token.seen_len();
             gate.scanning(at);
-            let scanned = answer_all(rt, server.alloc, guard.replica(), batch.requests());
-            if scanned.is_ok() {
-                server.count_by_totals(count_standing(guard.replica(), batch.requests()));
-            }
+            let scanned = answer_batch(rt, server, guard.replica(), batch.requests());
             let reader = guard.leave();
             let turn = finish(server, token, batch, at, scanned);
             (reader, turn)

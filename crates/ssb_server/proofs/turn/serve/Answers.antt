@@ -17,8 +17,8 @@ use Rattle.ssb_server.proofs.TurningLaws.{
 }
 use Rattle.ssb_server.proofs.turn.serve.Goals as goal
 
-pub answer_all-scanned-requires-clause-snapshot : goal.answer_all-scanned-requires-clause-snapshot
-answer_all-scanned-requires-clause-snapshot g c = λ κs outlives. are_snapshot c.snapshot.new.token c.in-Ok.guard
+pub answer_batch-scanned-requires-clause-snapshot : goal.answer_batch-scanned-requires-clause-snapshot
+answer_batch-scanned-requires-clause-snapshot g c = λ κs outlives. are_snapshot c.snapshot.new.token c.in-Ok.guard
     c.replica.result.now c.in-Ok.ensures.entered c.replica.ensures.state c.in-Ok.ensures.few
 
 pub finish-turn-requires : goal.finish-turn-requires
@@ -33,12 +33,12 @@ finish-turn-requires g c = record {
     version_later c.args.token.now c.snapshot.new.token c.in-Ok.ensures.fetched
         ∙ ap (λ n. Some n) (sym c.seen_len-at.ensures),
   );
-  rows = subst (λ base. IfOk c.answer_all-scanned.result
+  rows = subst (λ base. IfOk c.answer_batch-scanned.result
       (λ rows. rows.items ≡ answers_after base c.snapshot.new.token.seen c.args.batch.now.requests))
       (copy_base c.snapshot.new.token c.in-Ok.guard c.replica.result.now c.in-Ok.ensures.entered c.replica.ensures.state)
-      (subst (λ qs. IfOk c.answer_all-scanned.result (λ rows. rows.items ≡ answers_after c.replica.result.now.base
+      (subst (λ qs. IfOk c.answer_batch-scanned.result (λ rows. rows.items ≡ answers_after c.replica.result.now.base
       c.snapshot.new.token.seen qs)) c.requests.ensures
-      (c.answer_all-scanned.ensures c.snapshot.new.token.seen
+      (c.answer_batch-scanned.ensures c.snapshot.new.token.seen
       (copy_stands c.snapshot.new.token c.in-Ok.guard c.replica.result.now c.in-Ok.ensures.entered
       c.replica.ensures.state)));
 }
