@@ -21,9 +21,9 @@
 //!   or given up) and `free`;
 //! - who keeps a journal: `LogReader::commits_from`, clauses `commits` (all of the log behind those that it has taken)
 //!   and `reads`;
-//! - the beginning and the end: `Loaded::new` (with questions that stand), `open`, clauses `clients` and `dispatchers`;
-//!   `Server::close`, clauses `whole`, `legal`, `seen`; the same with a reader of the log: `open_with_reader`,
-//!   `Server::close_with_reader`.
+//! - the beginning and the end: `Loaded::new` (which questions stand changes no answer), `open`, clauses `clients` and
+//!   `dispatchers`; `Server::close`, clauses `whole`, `legal`, `seen`; the same with a reader of the log:
+//!   `open_with_reader`, `Server::close_with_reader`.
 //!
 //! ```text
 //! client ── refresh ─▶ row store ── log ─▶ copies of the columns ── rows ─▶ dispatcher ── answer ─▶ client

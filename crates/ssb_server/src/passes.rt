@@ -98,7 +98,7 @@ pub(crate) fn answer_all<R: Threads + Sync>(
     Ok(found)
 }
 
-/// How many of the requests' questions are answered from totals: a figure for a reader.
+/// How many of the requests' questions are answered from totals: a figure for a reader, which the contract bounds.
 pub(crate) fn count_standing(columns: &StandingColumns, requests: &[Items<Question>]) -> u64
     ensures { result ≤ length (all_questions requests.now) }
 {
