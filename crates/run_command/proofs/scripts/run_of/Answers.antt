@@ -2,7 +2,7 @@ use Rattle.std.proofs.Common.{◌≡◌, ◌⊎◌, Err, List, inl, inr, map, ru
 use Rattle.ssb_files.specs.Loaded.{AreRefused, IsLoaded}
 use Rattle.ssb_files.specs.Scripts.{HasRefused}
 use Rattle.ssb_files.specs.declared.job.JobFault.TheVariants.{Program}
-use Rattle.run_command.specs.Standing.{MayNotStand}
+use Rattle.run_command.specs.Standing.{HasTooManyGroups, MayNotStand}
 use Rattle.run_command.specs.Status.{serving_status}
 use Rattle.ssb_text.specs.Load.{AreTexts}
 use Rattle.ssb_schema.specs.declared.table.Table.{Table}
@@ -35,7 +35,7 @@ returns-in_err-loaded-clause-refused g c =
     = λ status texts are. inr (inr (record {
       base = c.in_ok-base.base;
       loaded = c.in_ok-base.ensures.base texts are;
-      many = c.in_err-loaded.ensures.refused status;
+      many = subst (HasTooManyGroups c.in_ok-base.base) c.deref.ensures.value (c.in_err-loaded.ensures.refused status);
     })) in
     rw is here
 
