@@ -1,8 +1,8 @@
 -- A server with a journal begins where the journal ends, and is opened with quiet clients and a reader of its log.
-use Rattle.std.proofs.Common.{◌≡◌, ◌≤◌, ◌⊎◌, inl, inr, ⊎_elim, ℕ, List, [], ◌∷◌, ◌++◌, length, Result, Ok, Err, Option}
-use Rattle.std.proofs.Common.{Some, None, refl, sym, ◌∙◌, arith}
+use Rattle.std.proofs.Common.{◌≡◌, ◌⊎◌, inl, inr, ⊎_elim, ℕ, List, [], ◌∷◌, ◌++◌, length, Result, Ok, Err}
+use Rattle.std.proofs.Common.{Some, refl, sym, ◌∙◌, arith}
 use Rattle.std.proofs.Common.{subst}
-use Rattle.std.specs.Prelude.{All, IfErr, IfOk, IfSome}
+use Rattle.std.specs.Prelude.{All, IfErr, IfOk}
 use Rattle.std.specs.List.{range_with_len}
 use Rattle.std.proofs.lemmas.List.Elements.{All-map, All-pop}
 use Rattle.history.specs.Tokens.{TableRecord, TokenRecord, new_token, new_dispatchers}
@@ -149,12 +149,6 @@ kept_since moment left_since found begun disk sizes kept groups least seen first
     run many has.since (begins_with_itself has.log)
     (λ file left. as_it_was sizes kept groups has.log file first is begins left))
     (λ file keeps. (has.log, begins, keeps)))
-
--- what holds of what is there holds of what that means
-pub some_means : {X : Type 0} (found : Option X) (P Q : X → Type 0) → ((x : X) → P x → Q x) → IfSome found P
-    → IfSome found Q
-some_means None P Q means has = tt
-some_means (Some x) P Q means has = means x has
 
 -- that a journal was out, or memory ran out, tells nothing of its commits
 pub unserved_fault : (base : Tables) (commits : List CommitRecord) (why : JournaledFault)

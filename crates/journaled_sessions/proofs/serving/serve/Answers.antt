@@ -1,10 +1,11 @@
 use Rattle.std.proofs.Common.{◌≡◌, ◌≤◌, ◌∙◌, Err, List, length, ap, inr, refl, subst, arith, rules}
 use Rattle.std.proofs.lemmas.List.FromFn.{length-map-range_with_len}
+use Rattle.std.proofs.lemmas.Option.{IfSome_then}
 use Rattle.journal.specs.Groups.{recovered as recovered_groups}
 use Rattle.row_store.proofs.PrefixLaws.{beginnings_chain}
 use Rattle.row_store.specs.History.{CommitRecord, IsPrefix}
-use Rattle.journaled_sessions.proofs.BeginningLaws.{as_it_was, begun_table, kept_since, kept_throughout}
-use Rattle.journaled_sessions.proofs.BeginningLaws.{opened_dispatchers, opened_reader, some_means, unserved_fault}
+use Rattle.journaled_sessions.proofs.BeginningLaws.{as_it_was, begun_table, kept_in_beginning, kept_since}
+use Rattle.journaled_sessions.proofs.BeginningLaws.{kept_throughout, opened_dispatchers, opened_reader, unserved_fault}
 use Rattle.journaled_sessions.proofs.SeatLaws.{new_are_seated}
 use Rattle.journaled_sessions.proofs.ServingLaws.{
   journaled_run,
@@ -146,6 +147,32 @@ returns-clause-any_moment g c =
     (λ file left. as_it_was c.args.recovered.sizes.now kept groups log file c.first_of_log.ensures c.requires.kept
     goes_on left))
 
+pub returns-in_default-clause-any_moment_err : goal.returns-in_default-clause-any_moment_err
+returns-in_default-clause-any_moment_err g c =
+    let found = c.args.recovered.opened.found in
+    rw (c.new.ensures, c.into_disk-disk.ensures.same)
+    (kept_in_beginning g.D.Disk.moment g.D.Disk.left_since found c.in_ok-begun.begun.journal
+    c.args.recovered.sizes.now c.args.recovered.opened.kept (recovered_groups (g.D.Disk.seen found))
+    c.first_of_log.ensures c.requires.kept c.in_ok-begun.ensures.any_moment)
+
+pub returns-then-not-all_are_kept-clause-any_moment_err : goal.returns-then-not-all_are_kept-clause-any_moment_err
+returns-then-not-all_are_kept-clause-any_moment_err g c =
+    let kept = c.args.recovered.opened.kept in
+    let found = c.args.recovered.opened.found in
+    let begun = c.in_ok-begun.begun in
+    let left = c.in_ok-ended.left in
+    rw c.new-then-not-all_are_kept.ensures
+    (kept_since g.D.Disk.moment g.D.Disk.left_since found begun.journal left.disk c.args.recovered.sizes.now kept
+    (recovered_groups (g.D.Disk.seen found)) begun.count begun.reader.seen c.first_of_log.ensures c.requires.kept
+    c.in_ok-begun.ensures.any_moment
+    (omega (arith, c.in_ok-begun.ensures.count, kept.commits.ok.0, kept.commits.ok.1)) c.in_ok-begun.ensures.seen
+    (record {
+      count = left.count;
+      log = left.reader.seen;
+      begins = later_begins begun.reader left.reader c.in_ok-ended.ensures.reader;
+      since = c.in_ok-ended.ensures.since;
+    }))
+
 pub returns-in_err-ended-clause-fault : goal.returns-in_err-ended-clause-fault
 returns-in_err-ended-clause-fault g c =
     let is : c.from_residual-in_err-ended.result ≡ Err c.in_err-ended.field-0.0 = search rules in
@@ -159,14 +186,13 @@ returns-in_err-ended-clause-any_moment_err g c =
     let begun = c.in_ok-begun.begun in
     let is : c.from_residual-in_err-ended.result ≡ Err c.in_err-ended.field-0.0 = search rules in
     rw is
-    (some_means c.in_err-ended.field-0.0.disk
-    (HasKept g.D.Disk.moment g.D.Disk.left_since begun.journal begun.count begun.reader.seen)
-    (IsFoundOrKept g.D.Disk.moment g.D.Disk.left_since found kept.commits.items)
+    (IfSome_then c.in_err-ended.field-0.0.disk
+    {P = HasKept g.D.Disk.moment g.D.Disk.left_since begun.journal begun.count begun.reader.seen}
+    {Q = IsFoundOrKept g.D.Disk.moment g.D.Disk.left_since found kept.commits.items} c.in_err-ended.ensures.since_err
     (λ disk has. kept_since g.D.Disk.moment g.D.Disk.left_since found begun.journal disk c.args.recovered.sizes.now kept
     (recovered_groups (g.D.Disk.seen found)) begun.count begun.reader.seen c.first_of_log.ensures c.requires.kept
     c.in_ok-begun.ensures.any_moment
-    (omega (arith, c.in_ok-begun.ensures.count, kept.commits.ok.0, kept.commits.ok.1)) c.in_ok-begun.ensures.seen has)
-    c.in_err-ended.ensures.since_err)
+    (omega (arith, c.in_ok-begun.ensures.count, kept.commits.ok.0, kept.commits.ok.1)) c.in_ok-begun.ensures.seen has))
 
 pub returns-in_err-closed-clause-fault : goal.returns-in_err-closed-clause-fault
 returns-in_err-closed-clause-fault g c =
@@ -176,7 +202,7 @@ returns-in_err-closed-clause-fault g c =
 pub returns-in_err-closed-clause-handed : goal.returns-in_err-closed-clause-handed
 returns-in_err-closed-clause-handed g c =
     let is : c.from_residual-in_err-closed.result ≡ Err c.in_err-closed.field-0.0 = search rules in
-    rw (is, c.in_err-closed.ensures.handed) (inr tt)
+    rw (is, c.in_err-closed.ensures.handed) (inr refl)
 
 pub returns-in_err-closed-clause-any_moment_err : goal.returns-in_err-closed-clause-any_moment_err
 returns-in_err-closed-clause-any_moment_err g c =

@@ -16,4 +16,5 @@ returns-in-Ok-clause-fault g c =
 
 pub returns-in-Err-clause-fault : goal.returns-in-Err-clause-fault
 returns-in-Err-clause-fault g c =
-    run_fault 16 c.args.dispatchers c.in-Err.fault c.from.result c.from.ensures c.in-Err.ensures.fault
+    rw c.new.ensures
+    (run_fault 16 c.args.dispatchers c.in-Err.fault c.from.result c.from.ensures c.in-Err.ensures.fault)

@@ -1,4 +1,3 @@
-use Rattle.ssb_journal.specs.Counts.{KeepsSince}
 use Rattle.journaled_sessions.proofs.BeginningLaws.{since_begun, since_begun_on}
 use Rattle.journaled_sessions.proofs.ServingLaws.{later_begins}
 use Rattle.journaled_sessions.proofs.serving.serve_sessions.Goals as goal
@@ -6,7 +5,7 @@ use Rattle.journaled_sessions.proofs.serving.serve_sessions.Goals as goal
 pub new-requires-clause-since : goal.new-requires-clause-since
 new-requires-clause-since g c =
     since_begun g.D.Disk.moment g.D.Disk.left_since g.K.Opening.begun c.args.begun.journal c.args.begun.count
-    c.args.begun.reader.seen c.requires.begun
+    c.new-source.result.reader.seen c.requires.begun
 
 pub returns-in-Ok-clause-reader : goal.returns-in-Ok-clause-reader
 returns-in-Ok-clause-reader g c = c.in-Some.ensures.later c.args.begun.reader c.requires.picked
@@ -16,9 +15,9 @@ returns-in-Ok-clause-since g c =
     since_begun_on g.D.Disk.moment g.D.Disk.left_since g.K.Opening.begun c.args.begun.journal c.in-Some.left.disk
     c.args.begun.count c.in-Some.left.count c.in-Some.left.reader.seen c.requires.begun c.in-Some.ensures.since
 
-pub returns-in-Err-clause-since_err : goal.returns-in-Err-clause-since_err
-returns-in-Err-clause-since_err g c =
-    rw c.new.ensures
+pub returns-clause-since_err : goal.returns-clause-since_err
+returns-clause-since_err g c =
+    rw c.new-in-Err.ensures
     (record {
       count = c.in-Some.left.count;
       log = c.in-Some.left.reader.seen;
