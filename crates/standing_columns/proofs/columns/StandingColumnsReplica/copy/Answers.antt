@@ -10,5 +10,5 @@ invariant_of-result c =
     let P : Stored → Type 0 = λ s. AllFollow c.in_ok-copy-2.field-0 s.base (live_lines s.places) in
     record {
       follow = subst P (sym c.in_ok-copy.ensures.same)
-          (c.in_ok-copy-2.ensures own.base (live_lines own.places) c.self.invariant.follow);
+          (c.in_ok-copy-2.ensures.follow own.base (live_lines own.places) c.self.invariant.follow);
     }

@@ -1,5 +1,4 @@
-use Rattle.std.proofs.Common.{ℕ, ◌≡◌, rules, ◌++◌, ◌∷◌, length, Err, List, [], refl, sym, subst, ap, ◌∙◌}
-use Rattle.std.specs.List.{All}
+use Rattle.std.proofs.Common.{◌≡◌, rules, ◌++◌, ◌∷◌, length, Err, List, [], sym, subst, ap, ◌∙◌}
 use Rattle.std.specs.Prelude.{is_some}
 use Rattle.std.proofs.lemmas.List.{append-nil, nil_from_length, take-append-drop}
 use Rattle.std.proofs.lemmas.List.Elements.{All-push, All-same}
@@ -25,8 +24,8 @@ bounds-batch-number g c =
     (position-Some (has_many_groups c.args.columns.now.base) batch arm.number (Q1_1, [])
     (c.in-Err.ensures.too_many arm.number (ap Err arm.is))).0
 
-pub unwrap-requires : goal.unwrap-place-requires
-unwrap-requires g c =
+pub unwrap-place-requires : goal.unwrap-place-requires
+unwrap-place-requires g c =
     let base : Tables = c.args.columns.now.base in
     let asked : List (Query × List Value) = c.args.questions.now in
     let arm = c.in-TooManyGroups in
@@ -36,8 +35,8 @@ unwrap-requires g c =
     c.min.result arm.number refused c.split_at.ensures.front c.split_at.ensures.back c.loop-rest.invariant.questions
     c.loop-rest.invariant.few (c.in-Err.ensures.too_many arm.number (ap Err arm.is)) c.index-batch-number.is)
 
-pub returns-too_many : goal.returns-in-TooManyGroups-clause-too_many
-returns-too_many g c = λ place same.
+pub returns-in-TooManyGroups-clause-too_many : goal.returns-in-TooManyGroups-clause-too_many
+returns-in-TooManyGroups-clause-too_many g c = λ place same.
     let base : Tables = c.args.columns.now.base in
     let asked : List (Query × List Value) = c.args.questions.now in
     let arm = c.in-TooManyGroups in
@@ -73,8 +72,8 @@ loop-rest-preserved g c =
           c.in-Ok.ensures.follows);
     }
 
-pub returns-few : goal.returns-clause-few_groups
-returns-few g c =
+pub returns-clause-few_groups : goal.returns-clause-few_groups
+returns-clause-few_groups g c =
     let base : Tables = c.args.columns.now.base in
     let asked : List (Query × List Value) = c.args.questions.now in
     let rest : List (Query × List Value) = c.loop-rest.rest.now in
