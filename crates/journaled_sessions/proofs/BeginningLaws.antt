@@ -129,8 +129,11 @@ pub kept_in_beginning : {D : Type 0} (moment : D → ℕ) (left_since : D → �
 kept_in_beginning moment left_since found disk sizes kept groups first is run =
     let all = kept.commits.items in
     inr (leaves moment left_since found disk (IsAsItWasOrNew sizes groups) (KeepsAll all) run
-    (λ file left. (all, begins_with_itself all,
-    as_it_was sizes kept groups all file first is (begins_with_itself all) left)))
+    (λ file left. (
+      all,
+      begins_with_itself all,
+      as_it_was sizes kept groups all file first is (begins_with_itself all) left,
+    )))
 
 -- and so does one at any moment since then
 pub kept_since : {D : Type 0} (moment : D → ℕ) (left_since : D → ℕ → List ℕ → Type 0) (found begun disk : D)
