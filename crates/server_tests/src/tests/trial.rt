@@ -352,22 +352,59 @@ impl<'s, W: Wait + Drop> Trial<'s, W> {
     }
 }
 
+// Takes the steps over a server that was opened for three clients and a dispatcher.
+fn played_over<W: Wait + Drop, R: Wait + Threads + Sync>(
+    rt: &R,
+    alloc: Global,
+    made: Opened<W>,
+    steps: &[(TrialStep, &str)],
+) -> Result<(), Fail>
+    requires clients { All (IsQuiet made.server) made.clients.items }
+    requires dispatchers { All (IsOf made.server) made.dispatchers.items }
+{
+    let Opened {
+        server,
+        mut clients,
+        mut dispatchers,
+    } = made;
+    let mut trial = Trial::new(&server, &mut clients, &mut dispatchers)?;
+    trial.plays(rt, alloc, steps)
+}
+
 /// Opens a server over the small data set, and takes the steps.
 pub fn played<R: Wait + Threads + Sync + AllocGlobal + RandomSource>(
     rt: &R,
     steps: &[(TrialStep, &str)],
 ) -> Result<(), Fail> {
+    let made = opened(rt, 3, 1)?;
+    played_over(rt, rt.alloc(), made, steps)
+}
+
+// The same of steps of which one may lack memory.
+fn played_at_last_over<W: Wait + Drop, R: Wait + Threads + Sync + AllocGlobal>(
+    rt: &R,
+    made: Opened<W>,
+    before: &[(TrialStep, &str)],
+    step: (TrialStep, &str),
+    lacking: (&str, &[(TrialStep, &str)]),
+    after: &[(TrialStep, &str)],
+) -> Result<(), Fail>
+    requires clients { All (IsQuiet made.server) made.clients.items }
+    requires dispatchers { All (IsOf made.server) made.dispatchers.items }
+{
     let Opened {
         server,
         mut clients,
         mut dispatchers,
-    } = opened(rt, 3, 1)?;
+    } = made;
     let mut trial = Trial::new(&server, &mut clients, &mut dispatchers)?;
-    trial.plays(rt, rt.alloc(), steps)
+    trial.plays(rt, rt.alloc(), before)?;
+    trial.plays_at_last(rt, rt.alloc(), step, lacking)?;
+    trial.plays(rt, rt.alloc(), after)
 }
 
-/// The same of steps of which one may lack memory. Where that step is told so, the steps that come with it are taken
-/// too, and then those after it.
+/// Opens a server over the small data set, and takes steps of which one may lack memory. Where that step is told so, the
+/// steps that come with it are taken too, and then those after it.
 pub fn played_at_last<R: Wait + Threads + Sync + AllocGlobal + RandomSource>(
     rt: &R,
     before: &[(TrialStep, &str)],
@@ -375,13 +412,6 @@ pub fn played_at_last<R: Wait + Threads + Sync + AllocGlobal + RandomSource>(
     lacking: (&str, &[(TrialStep, &str)]),
     after: &[(TrialStep, &str)],
 ) -> Result<(), Fail> {
-    let Opened {
-        server,
-        mut clients,
-        mut dispatchers,
-    } = opened(rt, 3, 1)?;
-    let mut trial = Trial::new(&server, &mut clients, &mut dispatchers)?;
-    trial.plays(rt, rt.alloc(), before)?;
-    trial.plays_at_last(rt, rt.alloc(), step, lacking)?;
-    trial.plays(rt, rt.alloc(), after)
+    let made = opened(rt, 3, 1)?;
+    played_at_last_over(rt, made, before, step, lacking, after)
 }
