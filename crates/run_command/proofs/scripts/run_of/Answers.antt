@@ -1,4 +1,4 @@
-use Rattle.std.proofs.Common.{◌≡◌, ◌⊎◌, Err, List, inl, inr, map, rules, subst, sym, ℕ}
+use Rattle.std.proofs.Common.{◌≡◌, ◌∙◌, ◌⊎◌, Err, List, arith, inl, inr, map, rules, subst, sym, ℕ}
 use Rattle.ssb_files.specs.Loaded.{AreRefused, IsLoaded}
 use Rattle.ssb_files.specs.Scripts.{HasRefused}
 use Rattle.ssb_files.specs.declared.job.JobFault.TheVariants.{Program}
@@ -48,3 +48,12 @@ returns-clause-run g c = λ texts are. record {
   run = c.in_ok-run.ensures.run;
   legal = c.in_ok-run.ensures.legal;
 }
+
+pub returns-in_err-run-clause-refused : goal.returns-in_err-run-clause-refused
+returns-in_err-run-clause-refused g c =
+    let is : c.from_residual-in_err-run.result ≡ Err c.in_err-run.field-0.0 = search rules in
+    let here : serving_status c.in_err-run.field-0.0 ≡ 1 → (texts : Table → List ℕ)
+    → AreTexts g.I.Read.remaining c.args.tables texts → AreRefused texts
+    ⊎ HasRefused (map g.I.Read.remaining c.args.sources.items) ⊎ MayNotStand texts c.args.settings.standing.items
+    = λ status. let no : 4 ≡ 1 = sym c.in_err-run.ensures.fault ∙ status in absurd (omega (arith, no)) in
+    rw is here
