@@ -63,9 +63,7 @@ pub use closing::{CloseError, CloseWithReaderError, Closed};
 pub use dispatcher::Dispatcher;
 pub use loaded::Loaded;
 pub use log_reader::LogReader;
-pub use opening::{
-    MOST_DISPATCHERS, OpenFault, Opened, OpenedWithReader, count_fault, open, open_with_reader,
-};
+pub use opening::{MOST_DISPATCHERS, OpenFault, Opened, OpenedWithReader, open, open_with_reader};
 pub use server::Server;
 pub use standing_columns::StandingError;
 pub use turn::{OpenGate, ScanGate, Turn};

@@ -233,9 +233,8 @@ fn build_with_reader<W: Threads + Sync + Wait + Drop>(
     })
 }
 
-/// Which count is out of its range, if one is. `open` looks itself; who is to tell it before a base is loaded, asks
-/// here.
-pub fn count_fault(clients: u32, dispatchers: u32) -> Option<OpenFault>
+// Which count is out of its range, if one is.
+fn count_fault(clients: u32, dispatchers: u32) -> Option<OpenFault>
     ensures { MatchOption result (AreCounts clients dispatchers) (IsOpenFault clients dispatchers) }
 {
     if clients == 0 || clients as usize > MOST_CLIENTS {
