@@ -7,11 +7,12 @@ use Rattle.ssb_questions.specs.declared.query.Query.{Query}
 use Rattle.ssb_questions.specs.declared.value.Value.{Value}
 use Rattle.ssb_schema.specs.declared.table.Table.{Table}
 
--- over the base that the texts spell, which was shared
+-- over the base that the texts spell, which was shared, as the questions were
 pub may_not_stand : (texts : Table → List ℕ) (base shared : Tables) (standing : List (Query × List Value))
-    → shared ≡ base → IsLoadedToServe texts base → HasTooManyGroups shared standing → MayNotStand texts standing
-may_not_stand texts base shared standing same loaded many = record {
+    (seen : List (Query × List Value)) → shared ≡ base → seen ≡ standing → IsLoadedToServe texts base
+    → HasTooManyGroups shared seen → MayNotStand texts standing
+may_not_stand texts base shared standing seen same these loaded many = record {
   base = base;
   loaded = loaded;
-  many = subst (λ tables. HasTooManyGroups tables standing) same many;
+  many = subst (HasTooManyGroups base) these (subst (λ tables. HasTooManyGroups tables seen) same many);
 }

@@ -39,7 +39,8 @@ returns-in_err-loaded-clause-refused g c =
     → AreTexts g.I.Read.remaining c.args.tables texts
     → AreRefusedJournaled texts c.args.settings.standing.items (g.P.OpensJournal.holds c.args.place.now.file.now)
     (g.P.OpensJournal.is_taken c.args.place.now.file.now)
-    = λ status texts are. inr (inl (may_not_stand texts _ _ _ same (c.in_ok-base.ensures.base texts are)
+    = λ status texts are. inr (inl (may_not_stand texts c.in_ok-base.base c.in_ok-base-2.base.value
+    c.args.settings.standing.items c.deref.result.now same c.deref.ensures.value (c.in_ok-base.ensures.base texts are)
     (c.in_err-loaded.ensures.refused status))) in
     rw is here
 
@@ -66,8 +67,8 @@ returns-in-Ok-clause-served g c = λ texts are.
     (c.in_ok-base.ensures.base texts are)
     c.table_sizes-sizes.ensures c.in_ok-disk.ensures.held c.in-Ok.ensures.served
 
-pub returns-in-Err-clause-refused : goal.returns-in-Err-clause-refused
-returns-in-Err-clause-refused g c = λ status texts are.
+pub returns-clause-refused : goal.returns-clause-refused
+returns-clause-refused g c = λ status texts are.
     let same : c.in_ok-base-2.base.value ≡ c.in_ok-base.base = search rules in
     inr (inr (inr (refuses_journal texts _ _ _ _ _ (c.in_ok-loaded.ensures.base ∙ same)
     (c.in_ok-base.ensures.base texts are) c.table_sizes-sizes.ensures c.in_ok-disk.ensures.held

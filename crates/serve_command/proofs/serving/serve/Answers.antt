@@ -36,7 +36,8 @@ returns-in_err-loaded-clause-refused g c =
     let here : serving_status (Program c.in_err-loaded.field-0.0) ≡ 1 → (texts : Table → List ℕ)
     → AreTexts g.I.Read.remaining c.args.tables texts
     → AreRefusedToServe texts ⊎ MayNotStand texts c.args.settings.standing.items
-    = λ status texts are. inr (may_not_stand texts _ _ _ same (c.in_ok-base.ensures.base texts are)
+    = λ status texts are. inr (may_not_stand texts c.in_ok-base.base c.in_ok-base-2.base.value
+    c.args.settings.standing.items c.deref.result.now same c.deref.ensures.value (c.in_ok-base.ensures.base texts are)
     (c.in_err-loaded.ensures.refused status)) in
     rw is here
 
@@ -70,9 +71,3 @@ returns-in_err-base-2-clause-words g c =
 
 pub returns-in-Ok-clause-counts : goal.returns-in-Ok-clause-counts
 returns-in-Ok-clause-counts g c = c.in-Ok.ensures.counts
-
-pub returns-in-Err-clause-refused : goal.returns-in-Err-clause-refused
-returns-in-Err-clause-refused g c = λ status texts are. absurd (omega (arith, status))
-
-pub returns-in-Err-clause-words : goal.returns-in-Err-clause-words
-returns-in-Err-clause-words g c = λ two. omega (arith, two)
