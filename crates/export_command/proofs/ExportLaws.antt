@@ -1,11 +1,14 @@
 -- What an export leaves, of what was loaded, kept and written.
-use Rattle.std.proofs.Common.{◌≡◌, ◌∙◌, ℕ, List, [], Option, Result, Ok, Err, OnOk, ap, subst, inl, inr}
+use Rattle.std.proofs.Common.{◌≡◌, ◌∙◌, ℕ, List, [], length, Option, Result, Ok, Err, OnOk, ap, subst, sym, refl, arith, inl, inr}
+use Rattle.std.specs.Prelude.{IfErr}
 use Rattle.ssb_base.specs.Base.{IsSound, Tables}
 use Rattle.ssb_base.specs.Limits.{limits_of}
 use Rattle.ssb_files.specs.Loaded.{IsLoadedToServe}
 use Rattle.ssb_files.specs.declared.job.JobFault.{JobFault}
 use Rattle.ssb_files.specs.declared.job.JobFault.TheVariants as job
 use Rattle.journal.specs.Groups.{recovered}
+use Rattle.journal_file.specs.declared.file_disk.OpenError.{OpenError}
+use Rattle.journal_file.specs.declared.file_disk.OpenError.TheVariants as open_error
 use Rattle.journal_opening.specs.Kept.{IsKnown}
 use Rattle.journal_opening.specs.Sizes.{AreSizes}
 use Rattle.journal_opening.specs.declared.fault.OpeningFault.TheVariants as opening
@@ -22,8 +25,9 @@ use Rattle.table_text.specs.RoundTrip.{AreTableRows, TextsSpellTheirBase}
 use Rattle.table_text.specs.TableText.{base_texts}
 use Rattle.row_store.specs.Legal.{IsLegal}
 use Rattle.export_command.specs.After.{tables_after}
-use Rattle.export_command.specs.Exported.{AreReadBack, AreTablesAfter, Exports, IsExport, IsNoneOrExport}
-use Rattle.export_command.specs.Exported.{LeftNoneOrExport, TellsJournalFault}
+use Rattle.export_command.specs.Exported.{AreReadBack, AreTablesAfter, Exports, HasSoMany, IsExport, IsFillFault, IsFindFault}
+use Rattle.export_command.specs.Exported.{IsNoneOrExport, LeftNoneOrExport, TellsExportFault, TellsJournalFault}
+use Rattle.export_command.specs.Exported.{TellsOverTexts}
 use Rattle.export_command.specs.declared.fault.ExportRefusal.{ExportRefusal}
 use Rattle.export_command.specs.declared.fault.ExportRefusal.TheVariants as refusal
 
@@ -114,3 +118,65 @@ after_kept base sizes file kept tables (inr is) legal are = record {
   legal = legal;
   are = are;
 }
+
+pub has_so_many : (sizes : List TableSize) (file : List ℕ) (kept : KeptCommits) (count : ℕ)
+    → IsKept sizes (recovered file) kept → count ≡ length kept.commits.items → HasSoMany sizes count file
+has_so_many sizes file kept count (inl new) many = (kept.commits.items, inr (new.1, new.2), sym many)
+has_so_many sizes file kept count (inr is) many = (
+  kept.commits.items,
+  inl (record { texts = is.1.texts; is_journal = is.1.sealed; spelled = is.1.spelled }),
+  sym many,
+)
+
+-- what the faults of an export's steps tell of the texts and of the journal's file
+pub find_fault_tells : (texts : Table → List ℕ) (known : Option (List ℕ)) (Taken : Type 0) (why : JobFault ExportRefusal)
+    → IsFindFault why → TellsExportFault texts known Taken why
+find_fault_tells texts known Taken (job.Program why) is = λ one. absurd (omega (arith, is, one))
+find_fault_tells texts known Taken (job.Found (refusal.Folder why)) is = tt
+find_fault_tells texts known Taken (job.Found (refusal.CannotWrite path)) is = tt
+find_fault_tells texts known Taken (job.Found (refusal.Journal why)) is = absurd is
+
+pub file_fault_tells : (texts : Table → List ℕ) (known : Option (List ℕ)) (Taken : Type 0) (why : OpenError)
+    → (why ≡ open_error.InUse → Taken)
+    → TellsExportFault texts known Taken (job.Found (refusal.Journal (opening.File why)))
+file_fault_tells texts known Taken open_error.InUse taken = taken refl
+file_fault_tells texts known Taken (open_error.Io error) taken = tt
+
+over_texts : (texts : Table → List ℕ) (known : Option (List ℕ)) (base held : Tables) (sizes : List TableSize)
+    (file : List ℕ) (why : JobFault ExportRefusal) → IsLoadedToServe texts base → AreSizes base sizes
+    → IsKnown known file → held ≡ base → TellsJournalFault held sizes file why → TellsOverTexts texts known why
+over_texts texts known base held sizes file why loaded sized is_file same told = record {
+  base = base;
+  loaded = loaded;
+  sizes = sizes;
+  sized = sized;
+  file = file;
+  is_file = is_file;
+  told = subst (λ (b : Tables). TellsJournalFault b sizes file why) same told;
+}
+
+pub fill_fault_tells : (texts : Table → List ℕ) (known : Option (List ℕ)) (Taken : Type 0) (base held : Tables)
+    (sizes : List TableSize) (file : List ℕ) (why : JobFault ExportRefusal) → IsLoadedToServe texts base
+    → AreSizes base sizes → IsKnown known file → held ≡ base → IsFillFault why → TellsJournalFault held sizes file why
+    → TellsExportFault texts known Taken why
+fill_fault_tells texts known Taken base held sizes file (job.Program why) loaded sized is_file same is told =
+    λ one. absurd (omega (arith, is, one))
+fill_fault_tells texts known Taken base held sizes file (job.Found (refusal.Journal (opening.File why))) loaded sized
+    is_file same is told = absurd is
+fill_fault_tells texts known Taken base held sizes file (job.Found (refusal.Journal (opening.Kept why))) loaded sized
+    is_file same is told =
+    over_texts texts known base held sizes file (job.Found (refusal.Journal (opening.Kept why))) loaded sized is_file
+    same told
+fill_fault_tells texts known Taken base held sizes file (job.Found (refusal.Journal (opening.Replay why))) loaded sized
+    is_file same is told =
+    over_texts texts known base held sizes file (job.Found (refusal.Journal (opening.Replay why))) loaded sized is_file
+    same told
+fill_fault_tells texts known Taken base held sizes file (job.Found (refusal.CannotWrite path)) loaded sized is_file same
+    is told = tt
+fill_fault_tells texts known Taken base held sizes file (job.Found (refusal.Folder why)) loaded sized is_file same is
+    told = absurd is
+
+pub if_err : {X E : Type 0} (P Q R : E → Type 0) (result : Result X E) → ((why : E) → P why → Q why → R why)
+    → IfErr result P → IfErr result Q → IfErr result R
+if_err P Q R (Ok v) more p q = tt
+if_err P Q R (Err e) more p q = more e p q

@@ -1,15 +1,18 @@
 -- What an export leaves.
-use Rattle.std.specs.Prelude.{◌≡◌, ◌⊎◌, ℕ, List, Option, None}
+use Rattle.std.specs.Prelude.{◌≡◌, ◌⊎◌, ℕ, List, length, Option, None}
 use Rattle.export_command.specs.After.{tables_after}
 use Rattle.export_command.specs.declared.fault.ExportRefusal.{ExportRefusal}
 use Rattle.export_command.specs.declared.fault.ExportRefusal.TheVariants as refusal
+use Rattle.journal.specs.Groups.{AreTorn}
+use Rattle.journal_file.specs.declared.file_disk.OpenError.TheVariants as open_error
 use Rattle.journal_opening.specs.Kept.{HasCommits, IsKnown}
 use Rattle.journal_opening.specs.Sizes.{AreSizes}
 use Rattle.journal_opening.specs.declared.fault.OpeningFault.TheVariants as opening
 use Rattle.row_store.specs.History.{CommitRecord}
 use Rattle.row_store.specs.Legal.{IsLegal}
 use Rattle.ssb_base.specs.Base.{Tables, IsSound}
-use Rattle.ssb_files.specs.Loaded.{IsLoadedToServe}
+use Rattle.ssb_files.specs.Loaded.{AreRefusedToServe, IsLoadedToServe}
+use Rattle.ssb_files.specs.Status.{status_of}
 use Rattle.ssb_files.specs.declared.job.JobFault.{JobFault}
 use Rattle.ssb_files.specs.declared.job.JobFault.TheVariants as job
 use Rattle.ssb_journal.specs.Opening.{TellsOpenFault}
@@ -29,6 +32,14 @@ pub record AreTablesAfter (base : Tables) (sizes : List TableSize) (file : List 
   pub has : HasCommits sizes commits file
   pub legal : IsLegal base commits
   pub are : tables ≡ tables_after base commits
+
+-- the commits that a file has over tables of these sizes are so many
+abbrev pub HasSoMany : List TableSize → ℕ → List ℕ → Type 0
+HasSoMany sizes count file = (commits : List CommitRecord) × HasCommits sizes commits file × (length commits ≡ count)
+
+-- the bytes of it that a crash has torn are so many
+abbrev pub HasSoManyTorn : ℕ → List ℕ → Type 0
+HasSoManyTorn count file = (torn : List ℕ) × AreTorn file torn × (length torn ≡ count)
 
 -- the folder has the five texts of the tables after the commits that the file keeps, and each crash from now on leaves
 -- them; they spell these tables, of which nothing is refused
@@ -60,6 +71,47 @@ TellsJournalFault base sizes file _ = Unit {0}
 abbrev pub TellsNoJournal : JobFault ExportRefusal → Type 0
 TellsNoJournal (job.Found (refusal.Journal why)) = ⊥
 TellsNoJournal _ = Unit {0}
+
+-- why the tables after a journal's file were not written into a folder: of the file this is told, the folder could not
+-- be made, or a call of the system failed, or memory ran out
+abbrev pub IsFillFault : JobFault ExportRefusal → Type 0
+IsFillFault (job.Program why) = status_of why ≡ 4
+IsFillFault (job.Found (refusal.Journal (opening.Kept why))) = Unit {0}
+IsFillFault (job.Found (refusal.Journal (opening.Replay why))) = Unit {0}
+IsFillFault (job.Found (refusal.Journal (opening.File why))) = ⊥
+IsFillFault (job.Found (refusal.CannotWrite path)) = Unit {0}
+IsFillFault (job.Found (refusal.Folder why)) = ⊥
+
+-- why a folder was not found: it takes no tables, or a call of the system failed, or memory ran out
+abbrev pub IsFindFault : JobFault ExportRefusal → Type 0
+IsFindFault (job.Program why) = status_of why ≡ 4
+IsFindFault (job.Found (refusal.Folder why)) = Unit {0}
+IsFindFault (job.Found (refusal.CannotWrite path)) = ⊥
+IsFindFault (job.Found (refusal.Journal why)) = ⊥
+
+-- the five texts spell a base; of the journal's file, which is the known one, where one is known, this is told over it
+pub record TellsOverTexts (texts : Table → List ℕ) (known : Option (List ℕ)) (why : JobFault ExportRefusal) : Type 0
+  where
+    pub base : Tables
+    pub loaded : IsLoadedToServe texts base
+    pub sizes : List TableSize
+    pub sized : AreSizes base sizes
+    pub file : List ℕ
+    pub is_file : IsKnown known file
+    pub told : TellsJournalFault base sizes file why
+
+-- what the fault of an export tells: that the texts are refused; that another has the journal's file; or what the file is
+-- over the base that the texts spell
+abbrev pub TellsExportFault : (Table → List ℕ) → Option (List ℕ) → Type 0 → JobFault ExportRefusal → Type 0
+TellsExportFault texts known Taken (job.Program why) = status_of why ≡ 1 → AreRefusedToServe texts
+TellsExportFault texts known Taken (job.Found (refusal.Journal (opening.File open_error.InUse))) = Taken
+TellsExportFault texts known Taken (job.Found (refusal.Journal (opening.File (open_error.Io error)))) = Unit {0}
+TellsExportFault texts known Taken (job.Found (refusal.Journal (opening.Kept why))) =
+    TellsOverTexts texts known (job.Found (refusal.Journal (opening.Kept why)))
+TellsExportFault texts known Taken (job.Found (refusal.Journal (opening.Replay why))) =
+    TellsOverTexts texts known (job.Found (refusal.Journal (opening.Replay why)))
+TellsExportFault texts known Taken (job.Found (refusal.Folder why)) = Unit {0}
+TellsExportFault texts known Taken (job.Found (refusal.CannotWrite path)) = Unit {0}
 
 -- texts are read back as these tables, of which nothing is refused
 pub record AreReadBack (texts : Table → List ℕ) (tables : Tables) : Type 0 where

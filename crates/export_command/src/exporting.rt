@@ -3,7 +3,8 @@
 ghost use Rattle.std.specs.Prelude.{◌≡◌, ◌≢◌, ℕ, [], List, IfOk, IfErr, OnOk};
 ghost use Rattle.journal.specs.Disk.{Only};
 ghost use Rattle.export_command.specs.Exported.{AreTablesAfter, Exports, IsExport, LeftNoneOrExport};
-ghost use Rattle.export_command.specs.Exported.{TellsJournalFault, TellsNoJournal};
+ghost use Rattle.export_command.specs.Exported.{HasSoMany, HasSoManyTorn, IsFillFault, IsFindFault};
+ghost use Rattle.export_command.specs.Exported.{TellsExportFault, TellsJournalFault, TellsNoJournal};
 ghost use Rattle.export_command.specs.Status.{export_status};
 ghost use Rattle.ssb_schema.specs.declared.table.Table.{Table};
 ghost use Rattle.ssb_text.specs.Load.{AreTexts};
@@ -53,10 +54,11 @@ pub struct ExportSource<'a, D: Disk + Drop> {
     pub disk: D,
 }
 
-// The tables after a journal's commits, and how many bytes stand behind its last whole group.
+// The tables after a journal's commits, how many these are, and how many bytes stand behind its last whole group.
 #[derive(Drop)]
 struct JournalTables {
     tables: TablesAfter,
+    commits: usize,
     torn: usize,
 }
 
@@ -70,8 +72,11 @@ fn tables_after_journal<D: Disk + Drop>(
     requires durable { Only (D.seen source.disk) (D.may_leave source.disk) }
     ensures after { IfOk result (λ found.
         AreTablesAfter source.entry.base.value source.entry.sizes.now (D.seen source.entry.disk) found.tables) }
+    ensures commits { IfOk result (λ found. HasSoMany source.entry.sizes.now found.commits (D.seen source.entry.disk)) }
+    ensures torn { IfOk result (λ found. HasSoManyTorn found.torn (D.seen source.entry.disk)) }
     ensures journal { IfErr result (TellsJournalFault source.entry.base.value source.entry.sizes.now
         (D.seen source.entry.disk)) }
+    ensures fault { IfErr result IsFillFault }
     ensures words { IfErr result (λ fault. export_status fault ≢ 2) }
     ensures trace { IfErr result (λ fault. export_status fault ≢ 3) }
 {
@@ -89,15 +94,18 @@ fn tables_after_journal<D: Disk + Drop>(
         Ok(store) => store,
         Err(fault) => return Err(Found(Journal(OpeningFault::Replay(fault)))),
     };
+    let commits = kept.commits.len();
+    let torn = torn.len();
     Ok(JournalTables {
         tables: TablesAfter::new(alloc, hashing, store)?,
-        torn: torn.len(),
+        commits,
+        torn,
     })
 }
 
 // Tells how many commits the journal has, and how many bytes stand behind them.
 fn tell_commits<E: Write>(err: &mut E, found: &JournalTables) {
-    let commits = found.tables.commits();
+    let commits = found.commits;
     let _ = match found.torn {
         0 => writeln!(err, "ssb_live: journal: {commits} commits"),
         torn => writeln!(
@@ -114,7 +122,8 @@ fn lacks_memory(error: &io::Error) -> bool {
 // Why a folder of this path was not filled.
 fn not_filled(alloc: Global, path: &str, fault: &FillFault) -> ExportFault
     ensures status { export_status result ≡ 4 }
-    ensures folder { TellsNoJournal result }
+    ensures fault { IsFillFault result }
+    ensures journal { TellsNoJournal result }
 {
     match fault {
         FillFault::Folder(error) | FillFault::Tables(error) if lacks_memory(error) => {
@@ -150,6 +159,9 @@ pub fn export_into<D: Disk + Drop, T: TableFolder, E: Write>(
         (T.calls folder.new) }
     ensures journal { IfErr result (TellsJournalFault source.entry.base.value source.entry.sizes.now
         (D.seen source.entry.disk)) }
+    // Where the journal is refused, nothing was made.
+    ensures refused { IfErr result (λ fault. export_status fault ≡ 1 → T.calls folder.new ≡ []) }
+    ensures fault { IfErr result IsFillFault }
     ensures words { IfErr result (λ fault. export_status fault ≢ 2) }
     ensures trace { IfErr result (λ fault. export_status fault ≢ 3) }
 {
@@ -172,6 +184,7 @@ fn find_folder<'a, F: Files>(
     path: &'a str,
 ) -> Result<FilesFolder<'a, F>, ExportFault>
     ensures new { IfOk result IsUntouched }
+    ensures fault { IfErr result IsFindFault }
     ensures words { IfErr result (λ fault. export_status fault ≢ 2) }
     ensures trace { IfErr result (λ fault. export_status fault ≢ 3) }
 {
@@ -194,6 +207,8 @@ pub fn export<R: Threads + Sync + AllocGlobal, F: Files, P: OpensJournal, I: Rea
 ) -> Result<(), ExportFault>
     ensures exported { OnOk result ((texts : Table → List ℕ) → AreTexts I.remaining tables texts
         → Exports texts (P.holds place.now.journal.now)) }
+    ensures fault { IfErr result (λ fault. (texts : Table → List ℕ) → AreTexts I.remaining tables texts
+        → TellsExportFault texts (P.holds place.now.journal.now) (P.is_taken place.now.journal.now) fault) }
     ensures words { IfErr result (λ fault. export_status fault ≢ 2) }
     ensures trace { IfErr result (λ fault. export_status fault ≢ 3) }
 {

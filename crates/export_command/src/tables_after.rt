@@ -74,11 +74,6 @@ impl TablesAfter {
     {
         let _log = &self.log;
     }
-
-    /// How many commits led to them.
-    pub fn commits(&self) -> usize {
-        self.log.len()
-    }
 }
 
 impl TableTexts for TablesAfter {

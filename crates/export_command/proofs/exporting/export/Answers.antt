@@ -1,5 +1,44 @@
-use Rattle.export_command.proofs.ExportLaws.{exports, on_ok}
+use Rattle.std.proofs.Common.{◌≡◌, ◌∙◌, Err, List, ℕ, ap, arith, rules}
+use Rattle.ssb_files.specs.declared.fault.Fault.TheVariants as common
+use Rattle.ssb_files.specs.declared.job.JobFault.TheVariants.{Program}
+use Rattle.ssb_schema.specs.declared.table.Table.{Table}
+use Rattle.ssb_text.specs.Load.{AreTexts}
+use Rattle.export_command.specs.Exported.{TellsExportFault}
+use Rattle.export_command.proofs.ExportLaws.{exports, file_fault_tells, fill_fault_tells, find_fault_tells, if_err, on_ok}
 use Rattle.export_command.proofs.exporting.export.Goals as goal
+
+pub returns-in_err-folder-clause-fault : goal.returns-in_err-folder-clause-fault
+returns-in_err-folder-clause-fault g c =
+    let is : c.from_residual.result ≡ Err c.in_err-folder.field-0.0 = search rules in
+    let here : (texts : Table → List ℕ) → AreTexts g.I.Read.remaining c.args.tables texts
+    → TellsExportFault texts (g.P.OpensJournal.holds c.args.place.now.journal.now)
+    (g.P.OpensJournal.is_taken c.args.place.now.journal.now) c.in_err-folder.field-0.0
+    = λ texts are. find_fault_tells texts _ _ c.in_err-folder.field-0.0 c.in_err-folder.ensures.fault in
+    rw is here
+
+pub returns-in_err-base-clause-fault : goal.returns-in_err-base-clause-fault
+returns-in_err-base-clause-fault g c =
+    let is : c.from_residual-in_err-base.result ≡ Err (Program c.in_err-base.field-0.0) = search rules in
+    let here : (texts : Table → List ℕ) → AreTexts g.I.Read.remaining c.args.tables texts
+    → TellsExportFault texts (g.P.OpensJournal.holds c.args.place.now.journal.now)
+    (g.P.OpensJournal.is_taken c.args.place.now.journal.now) (Program c.in_err-base.field-0.0)
+    = λ texts are status. c.in_err-base.ensures.data status texts are in
+    rw is here
+
+pub returns-in_err-base-2-clause-fault : goal.returns-in_err-base-2-clause-fault
+returns-in_err-base-2-clause-fault g c =
+    let is : c.from_residual-in_err-base-2.result ≡ Err (Program common.OutOfMemory) = search rules in
+    let here : (texts : Table → List ℕ) → AreTexts g.I.Read.remaining c.args.tables texts
+    → TellsExportFault texts (g.P.OpensJournal.holds c.args.place.now.journal.now)
+    (g.P.OpensJournal.is_taken c.args.place.now.journal.now) (Program common.OutOfMemory)
+    = λ texts are status. absurd (omega (arith, status)) in
+    rw is here
+
+pub returns-in-Err-clause-fault : goal.returns-in-Err-clause-fault
+returns-in-Err-clause-fault g c =
+    λ texts are. file_fault_tells texts (g.P.OpensJournal.holds c.args.place.now.journal.now)
+    (g.P.OpensJournal.is_taken c.args.place.now.journal.now) c.in-Err.error
+    (λ same. c.in-Err.ensures.taken (ap Err same))
 
 pub returns-clause-exported : goal.returns-clause-exported
 returns-clause-exported g c =
@@ -8,3 +47,11 @@ returns-clause-exported g c =
     exports texts _ c.in_ok-base.base c.in_ok-base-2.base.value _ _ _ (c.in_ok-base.ensures.base texts are)
     c.table_sizes-sizes.ensures c.in-Ok.ensures.held c.in_ok-base-2.ensures.ok is)
     c.export_into.ensures.exported
+
+pub returns-clause-fault : goal.returns-clause-fault
+returns-clause-fault g c =
+    if_err _ _ _ c.export_into.result
+    (λ why is told texts are.
+    fill_fault_tells texts _ _ c.in_ok-base.base c.in_ok-base-2.base.value _ _ why (c.in_ok-base.ensures.base texts are)
+    c.table_sizes-sizes.ensures c.in-Ok.ensures.held c.in_ok-base-2.ensures.ok is told)
+    c.export_into.ensures.fault c.export_into.ensures.journal

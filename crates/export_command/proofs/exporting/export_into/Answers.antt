@@ -1,3 +1,4 @@
+use Rattle.std.proofs.Common.{arith}
 use Rattle.export_command.proofs.ExportLaws.{is_export, left_export, left_nothing}
 use Rattle.export_command.proofs.exporting.export_into.Goals as goal
 
@@ -14,3 +15,6 @@ returns-in-Ok-clause-any_moment g c = left_export _ _ _ _ _ c.in_ok-found.ensure
 
 pub returns-clause-any_moment : goal.returns-clause-any_moment
 returns-clause-any_moment g c = left_export _ _ _ _ _ c.in_ok-found.ensures.after c.fill.ensures.any_moment
+
+pub returns-clause-refused : goal.returns-clause-refused
+returns-clause-refused g c = λ one. absurd (omega (arith, one, c.not_filled.ensures.status))
