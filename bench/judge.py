@@ -9,7 +9,7 @@ import re
 import sqlite3
 
 from common import HERE, read_queries
-from stars import sql_of
+from stars import judged_sql_of
 from traffic import CONSTANTS, NUMBERS, Block, Question, Withdrawal
 
 COMMITTED = re.compile(r"committed (\d+)")
@@ -169,7 +169,7 @@ class Warehouse:
 
     def rows(self, question):
         if question.name == "star":
-            rows = self.base.execute(sql_of(question.constants)).fetchall()
+            rows = self.base.execute(judged_sql_of(question.constants)).fetchall()
         else:
             sql, constants = self.questions[question.name]
             kinds = CONSTANTS[question.name].split()

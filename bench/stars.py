@@ -1,7 +1,11 @@
 """Star questions, for `star` and for the random traffic: random ones, and the SQL of one.
 
-The SQL is made from the constants of a question alone, by what docs/FORMATS.md says that they spell. It is written for
-SQLite and PostgreSQL, for ClickHouse's five tables, and for its wide table."""
+The systems with five tables are asked by the statement of `query --explain --sql`. For ClickHouse's wide table, and for
+the judge of `soak`, which needs none of our program, the SQL is made from the constants of a question alone, by what
+docs/FORMATS.md says that they spell."""
+import subprocess
+
+from common import LIVE
 
 GREATEST = 2**32 - 1
 MOST_GROUPS, MOST_VALUES, MOST_CONSTANTS, MOST_BYTES = 4, 16, 64, 64
@@ -182,8 +186,8 @@ def escaped(text):
     return "'" + text.replace("\\", "\\\\").replace("'", "\\'") + "'"
 
 
-def sql_of(constants):
-    """For SQLite and PostgreSQL."""
+def judged_sql_of(constants):
+    """For SQLite, from the constants alone."""
     star = Star(constants)
     tests, tables = star.tests("L", doubled), "lineorder"
     for kind, (table, key, line_key) in DIMENSIONS.items():
@@ -203,29 +207,6 @@ def total_of_clickhouse(star):
     return total if star.groups else f"if(count() = 0, NULL, {total})"
 
 
-def clickhouse_sql_of(constants):
-    """For ClickHouse's five tables. As in queries_clickhouse.sql: one join a query, and each tested dimension also as
-    an IN test on the lines."""
-    star = Star(constants)
-    tests, joins = star.tests("L", escaped), []
-    for kind, (table, key, line_key) in DIMENSIONS.items():
-        own, columns = star.tests(kind, escaped), star.group_columns(kind)
-        if own:
-            tests.append(f"{line_key} IN (SELECT {key} FROM {table}{where(own)})")
-        if columns:
-            joined = f"(SELECT {key} AS {line_key}, {', '.join(columns)} FROM {table}{where(own)})"
-            joins.append((line_key, columns, f" ANY INNER JOIN {joined} USING {line_key}"))
-    measured = [column for column in ["lo_revenue", "lo_supplycost", "lo_extendedprice", "lo_discount", "lo_quantity"]
-                if column in star.measure.lower()]
-    source, tested, grouped = "lineorder", where(tests), []
-    for place, (line_key, columns, join) in enumerate(joins[:-1]):
-        grouped += columns
-        kept = measured + [key for key, _, _ in joins[place + 1:]] + grouped
-        source, tested = f"(SELECT {', '.join(kept)} FROM {source}{join}{tested})", ""
-    last = joins[-1][2] if joins else ""
-    return f"SELECT {star.selected(total_of_clickhouse(star))} FROM {source}{last}{tested}{star.ending()}"
-
-
 def clickhouse_flat_sql_of(constants):
     """For ClickHouse's wide table."""
     star = Star(constants)
@@ -233,4 +214,26 @@ def clickhouse_flat_sql_of(constants):
     return f"SELECT {star.selected(total_of_clickhouse(star))} FROM lineorder_flat{where(tests)}{star.ending()}"
 
 
-SQL = {"sqlite": sql_of, "pg": sql_of, "clickhouse": clickhouse_sql_of, "clickhouse-flat": clickhouse_flat_sql_of}
+def explained(name, constants, *words):
+    """What `query --explain` writes of a question."""
+    asked = [LIVE, "query", "--explain", *words, "--", name, *constants]
+    return subprocess.run(asked, check=True, stdout=subprocess.PIPE, text=True).stdout
+
+
+# The peers of five tables, as `--sql` names them.
+SYSTEMS = {"sqlite": "sqlite", "pg": "postgresql", "clickhouse": "clickhouse"}
+
+
+def sql_of(peer, name, constants):
+    """The statement of a question for a peer; for the wide table, of `star` alone."""
+    if peer == "clickhouse-flat":
+        return clickhouse_flat_sql_of(constants)
+    return explained(name, constants, "--sql", SYSTEMS[peer])
+
+
+def answers(data, questions, script):
+    """The rows of each question, as our program has them; the script is left with the questions."""
+    script.write_text("".join(f"{record}\n" for question in questions for record in question.records()), encoding="utf-8")
+    report = subprocess.run([LIVE, "run", "--data", data, "--quiet", script], check=True, stdout=subprocess.PIPE)
+    lines = iter(report.stdout.decode().split("\n")[1:])
+    return [[next(lines) for _ in range(int(next(lines).rpartition(" rows ")[2]))] for _ in questions]

@@ -138,14 +138,40 @@ fn width_argument<'a>(alloc: Global) -> Arg<'a> {
         .action(ArgAction::Set)
 }
 
+// Whether a question is explained, for which no tables are needed.
+fn explain_argument<'a>(alloc: Global) -> Result<Arg<'a>, AllocError> {
+    flag(
+        alloc,
+        "explain",
+        "Says what is asked, in place of answering it; needs no tables",
+    )
+    .conflicts_with("data")?
+    .conflicts_with("all")?
+    .conflicts_with("format")?
+    .conflicts_with("times")
+}
+
+// The system for whose SQL a question is explained.
+fn sql_argument<'a>(alloc: Global) -> Result<Arg<'a>, AllocError> {
+    Arg::new(alloc, "sql")
+        .long("sql")
+        .value_name("SYSTEM")
+        .help("With --explain: as one statement of this system's SQL")
+        .value_parser(ValueParser::Names(&["sqlite", "postgresql", "clickhouse"]))
+        .action(ArgAction::Set)
+        .conflicts_with("data")?
+        .requires_arg("explain")
+}
+
 // The words of `query`.
 fn query_command<'a>(alloc: Global) -> Result<Command<'a>, AllocError> {
-    let command = over_tables(
-        alloc,
-        "query",
-        "Prints the report of one question, or of all, over table files",
-        QUERY_HELP,
-    )?;
+    let data = data_argument(alloc)
+        .required(false)
+        .required_unless_present("explain")?;
+    let command = Command::new(alloc, "query")
+        .about("Prints the report of one question, or of all, over table files")
+        .long_about(QUERY_HELP)
+        .arg(data)?;
     command
         .arg(flag(
             alloc,
@@ -154,6 +180,8 @@ fn query_command<'a>(alloc: Global) -> Result<Command<'a>, AllocError> {
         ))?
         .arg(format_argument(alloc))?
         .arg(width_argument(alloc))?
+        .arg(explain_argument(alloc)?)?
+        .arg(sql_argument(alloc)?)?
         .arg(times_argument(
             alloc,
             "Reports on standard error how many seconds each step took",

@@ -43,13 +43,18 @@ With any other --format than report the columns have heads: the names of the gro
 spells it. JSON has one object a line. An empty line parts the answers, but not those of JSON. Bars are drawn beside the
 sums, each as long as its sum is great; that of a negative sum is drawn with another sign.
 
+With --explain it prints what is asked, and needs no tables: a request of star that asks the same, the printed columns,
+and what the rows are ordered by. With --sql it is one statement for that system, over the benchmark's tables.
+
 Examples:
   ssb_live query --data tables Q4.1
   ssb_live query --data tables Q2.1 'MFGR#12' EUROPE
   ssb_live query --data tables star LO_REVENUE D_YEAR P_BRAND1 'P_CATEGORY=MFGR#12' 'S_REGION=AMERICA'
   ssb_live query --data tables --format csv Q4.1
   ssb_live query --data tables --format bars star LO_REVENUE D_YEAR C_REGION=ASIA
-  ssb_live query --data tables --all --times";
+  ssb_live query --data tables --all --times
+  ssb_live query --explain Q2.1
+  ssb_live query --explain --sql postgresql star COUNT C_REGION";
 
 /// What `run --help` shows.
 pub const RUN_HELP: &str = "\

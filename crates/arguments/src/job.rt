@@ -4,6 +4,7 @@ use crate::grammar::{command, width_of};
 use crate::notice::Notice;
 use clap::ArgMatches;
 use clap::error::ErrorKind;
+use ssb_explain::System;
 use std::alloc::{AllocError, Global};
 
 // How many columns a line of bars may take where nothing says so.
@@ -16,6 +17,8 @@ pub enum Job<'a> {
     Script,
     /// The report of one question, or of all.
     Query(QueryWords<'a>),
+    /// One question explained.
+    Explain(ExplainWords<'a>),
     /// Scripts at once, and their reports.
     Run(RunWords<'a>),
     /// Clients, as their requests come.
@@ -58,6 +61,15 @@ pub struct QueryWords<'a> {
     pub constants: Vec<&'a str>,
     pub times: bool,
     pub quiet: bool,
+}
+
+/// The words of `query --explain`.
+#[derive(Drop)]
+pub struct ExplainWords<'a> {
+    pub name: &'a str,
+    pub constants: Vec<&'a str>,
+    /// The system whose SQL is written; none where words are.
+    pub sql: Option<System>,
 }
 
 /// The words of `run`.
@@ -173,6 +185,38 @@ fn query_words<'a>(
     })
 }
 
+// The system whose SQL is asked for; the grammar lets no other name through.
+fn system_of(matches: &ArgMatches<'_>) -> Option<System> {
+    match matches.get_str("sql") {
+        Some(name) => System::by_name(name).ok(),
+        None => None,
+    }
+}
+
+fn explain_words<'a>(
+    alloc: Global,
+    matches: &ArgMatches<'a>,
+) -> Result<ExplainWords<'a>, AllocError> {
+    Ok(ExplainWords {
+        name: word_of(matches, "name"),
+        constants: words_of(alloc, matches, "constants")?,
+        sql: system_of(matches),
+    })
+}
+
+fn query_job<'a>(
+    alloc: Global,
+    matches: &ArgMatches<'a>,
+    columns: Option<&str>,
+) -> Result<Job<'a>, Notice> {
+    check_width(alloc, matches)?;
+    if matches.get_flag("explain") {
+        Ok(Job::Explain(explain_words(alloc, matches)?))
+    } else {
+        Ok(Job::Query(query_words(alloc, matches, columns)?))
+    }
+}
+
 fn run_words<'a>(alloc: Global, matches: &ArgMatches<'a>) -> Result<RunWords<'a>, AllocError> {
     Ok(RunWords {
         data: word_of(matches, "data"),
@@ -227,10 +271,7 @@ pub fn job_of<'a>(
         Some(("serve", words)) => Job::Serve(serve_words(alloc, words)?),
         Some(("audit", words)) => Job::Audit(audit_words(words)),
         Some(("export", words)) => Job::Export(export_words(words)),
-        Some((_, words)) => {
-            check_width(alloc, words)?;
-            Job::Query(query_words(alloc, words, columns)?)
-        }
+        Some((_, words)) => query_job(alloc, words, columns)?,
         None => Job::Script,
     })
 }

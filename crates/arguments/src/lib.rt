@@ -5,8 +5,8 @@
 //!                  └─ Notice: help, the version, or why the words are wrong
 //! ```
 //!
-//! It stands on `clap` and on no job, and promises no more than safety: which words are taken, and what the help says, is
-//! shown by the cases of the program `cases`.
+//! It stands on `clap` and on no job (`ssb_explain` names the systems), and promises no more than safety: which words are
+//! taken, and what the help says, is shown by the cases of the program `cases`.
 //!
 //! ```text
 //! match job_of(alloc, words.as_slice(), None) {             // ssb_live query --data tables Q4.1
@@ -23,7 +23,7 @@ mod notice;
 
 pub use help::TERMINAL_HELP;
 pub use job::{
-    AuditWords, ExportWords, FormatWord, Job, QueryWords, RunWords, ServeWords, StandingWord,
-    job_of,
+    AuditWords, ExplainWords, ExportWords, FormatWord, Job, QueryWords, RunWords, ServeWords,
+    StandingWord, job_of,
 };
 pub use notice::Notice;

@@ -2,14 +2,14 @@
 
 use crate::streams::{Streams, tell};
 use arguments::{
-    AuditWords, ExportWords, FormatWord, Job, QueryWords, RunWords, ServeWords, StandingWord,
-    TERMINAL_HELP, job_of,
+    AuditWords, ExplainWords, ExportWords, FormatWord, Job, QueryWords, RunWords, ServeWords,
+    StandingWord, TERMINAL_HELP, job_of,
 };
 use audit_command::run_audit;
 use export_command::{ExportPlace, run_export};
 use journal_file::{JournalFile, torn_path};
 use journal_opening::{JournalPath, ReadPath};
-use query_command::{Settings, run_all, run_query, standard_questions};
+use query_command::{Settings, run_all, run_explain, run_query, standard_questions};
 use run_command::{RunSettings, demo, run_scripts};
 use serve_command::{
     EndPaths, JournalPlace, MOST_CLIENTS, PathClients, Prompted, ServeSettings, report_no_pipes,
@@ -136,6 +136,17 @@ fn questions_of<I: Read + Drop>(
         StandingSource::Benchmark => Ok(standard_questions(alloc)?),
         StandingSource::File(file) => read_standing(alloc, file),
     }
+}
+
+// Explains one question.
+fn explain_query<W: Write, E: Write>(
+    alloc: Global,
+    words: &ExplainWords<'_>,
+    out: &mut W,
+    err: &mut E,
+) -> u8 {
+    let constants = words.constants.as_slice();
+    run_explain(alloc, words.name, constants, words.sql, out, err)
 }
 
 // The files of a run, opened, and how its scripts are served.
@@ -573,6 +584,7 @@ where
     match job {
         Job::Script => serve_script(rt, input, &mut output, err),
         Job::Query(words) => answer_query(rt, files, &words, terminal, &mut output, err),
+        Job::Explain(words) => explain_query(rt.alloc(), &words, &mut output, err),
         Job::Run(words) => serve_scripts(rt, files, &words, terminal, &mut output, err),
         Job::Serve(words) => {
             let streams = Streams {

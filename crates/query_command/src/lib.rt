@@ -1,4 +1,5 @@
-//! The word `query`: the answers to one question, or to all thirteen queries, over five table files, in a format.
+//! The word `query`: the answers to one question, or to all thirteen queries, over five table files, in a format; and
+//! what explains a question, for which no table is needed.
 //!
 //! ```text
 //! five texts ── load ─▶ base ── index, columns ─▶ one pass of the scan ─▶ answers ─▶ text of the format
@@ -8,7 +9,8 @@
 //! The contracts of [`run_query`] and [`run_all`] (`specs/Asked.antt`, `specs/Reported.antt`): with status 0 they have
 //! written exactly the text of the answers in the format, as the benchmark defines them, over the base that the texts
 //! spell; else nothing, or a part of that text from its beginning; and status 1 tells of refused data alone, 2 of words
-//! that ask no question.
+//! that ask no question. [`run_explain`] (`specs/Explained.antt`) writes exactly the words, or the statement of SQL, that
+//! `ssb_explain` defines for the question.
 //!
 //! ```text
 //! let status = run_query(rt, settings, tables, "Q2.1", &["MFGR#12", "EUROPE"], &mut out, &mut err);
@@ -16,9 +18,11 @@
 #![tactic(auto)]
 
 mod asked;
+mod explain;
 mod opening;
 mod query;
 mod stopwatch;
 
 pub use asked::standard_questions;
+pub use explain::run_explain;
 pub use query::{Settings, run_all, run_query};

@@ -1,0 +1,30 @@
+-- What explains the question that the words of a command line ask.
+use Rattle.std.specs.Prelude.{ℕ, List, Option, Some, None}
+use Rattle.std.specs.Io.KnownBytes.{Appends}
+use Rattle.query_command.specs.Asked.{IsAsked}
+use Rattle.ssb_explain.specs.Statement.{statement_text}
+use Rattle.ssb_explain.specs.Words.{explanation_text}
+use Rattle.ssb_explain.specs.declared.system.System.{System}
+use Rattle.ssb_questions.specs.Queries.{plan_over}
+use Rattle.ssb_questions.specs.declared.query.Query.{Query}
+use Rattle.ssb_questions.specs.declared.value.Value.{Value}
+use Rattle.ssb_report.specs.Written.{AppendsPart}
+
+-- in words, or as a statement of a system's SQL
+abbrev pub explained_text : Option System → Query × List Value → List ℕ
+explained_text None question = explanation_text question.0 question.1 (plan_over question.0 question.1)
+explained_text (Some system) question = statement_text system question.0 (plan_over question.0 question.1)
+
+-- known bytes grow by what explains the question that the name and the words ask
+pub record Explains (name : List ℕ) (words : List (List ℕ)) (sql : Option System) (old new : Option (List ℕ))
+    : Type 0 where
+  pub question : Query × List Value
+  pub asked : IsAsked name words question
+  pub appends : Appends old new (explained_text sql question)
+
+-- known bytes grow by a part of that from its beginning on
+pub record ExplainsPart (name : List ℕ) (words : List (List ℕ)) (sql : Option System) (old new : Option (List ℕ))
+    : Type 0 where
+  pub question : Query × List Value
+  pub asked : IsAsked name words question
+  pub appends : AppendsPart old new (explained_text sql question)

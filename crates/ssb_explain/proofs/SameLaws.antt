@@ -1,0 +1,316 @@
+-- The clauses of a question ask the same of `star`.
+use Rattle.std.proofs.Common.{◌≡◌, Bool, true, false, List, refl}
+use Rattle.ssb_questions.specs.Queries.{plan_over}
+use Rattle.ssb_questions.specs.Star.{star_plan}
+use Rattle.ssb_questions.specs.StarMeaning.{PlanPasses, Tested}
+use Rattle.ssb_questions.specs.declared.query.Query.{Query}
+use Rattle.ssb_questions.specs.declared.query.Query.TheVariants.{Q1_1, Q1_2, Q1_3, Q2_1, Q2_2, Q2_3, Q3_1, Q3_2, Q3_3, Q3_4}
+use Rattle.ssb_questions.specs.declared.query.Query.TheVariants.{Q4_1, Q4_2, Q4_3, Star}
+use Rattle.ssb_questions.specs.declared.value.Value.{Value}
+use Rattle.ssb_explain.specs.Laws.{AsksTheSame, ClausesAskTheSame, is_year_first}
+use Rattle.ssb_explain.specs.Words.{is_star, plan_clauses}
+
+not_both : true ≡ false → ⊥
+not_both h = cc
+
+pub same : ClausesAskTheSame
+same Q1_1 constants is_other = record {
+  passes = λ line. (
+    λ p. record {
+      customers = p.customers;
+      suppliers = p.suppliers;
+      parts = p.parts;
+      dates = p.dates;
+      quantity = p.quantity;
+      discount = p.discount;
+    },
+    λ p. record {
+      customers = p.customers;
+      suppliers = p.suppliers;
+      parts = p.parts;
+      dates = p.dates;
+      quantity = p.quantity;
+      discount = p.discount;
+    },
+  );
+  measure = refl;
+  groups = refl;
+  order = λ is. refl;
+}
+same Q1_2 constants is_other = record {
+  passes = λ line. (
+    λ p. record {
+      customers = p.customers;
+      suppliers = p.suppliers;
+      parts = p.parts;
+      dates = p.dates;
+      quantity = p.quantity;
+      discount = p.discount;
+    },
+    λ p. record {
+      customers = p.customers;
+      suppliers = p.suppliers;
+      parts = p.parts;
+      dates = p.dates;
+      quantity = p.quantity;
+      discount = p.discount;
+    },
+  );
+  measure = refl;
+  groups = refl;
+  order = λ is. refl;
+}
+same Q1_3 constants is_other = record {
+  passes = λ line. (
+    λ p. record {
+      customers = p.customers;
+      suppliers = p.suppliers;
+      parts = p.parts;
+      dates = (p.dates.1.0, (p.dates.0, tt));
+      quantity = p.quantity;
+      discount = p.discount;
+    },
+    λ p. record {
+      customers = p.customers;
+      suppliers = p.suppliers;
+      parts = p.parts;
+      dates = (p.dates.1.0, (p.dates.0, tt));
+      quantity = p.quantity;
+      discount = p.discount;
+    },
+  );
+  measure = refl;
+  groups = refl;
+  order = λ is. refl;
+}
+same Q2_1 constants is_other = record {
+  passes = λ line. (
+    λ p. record {
+      customers = p.customers;
+      suppliers = p.suppliers;
+      parts = p.parts;
+      dates = p.dates;
+      quantity = p.quantity;
+      discount = p.discount;
+    },
+    λ p. record {
+      customers = p.customers;
+      suppliers = p.suppliers;
+      parts = p.parts;
+      dates = p.dates;
+      quantity = p.quantity;
+      discount = p.discount;
+    },
+  );
+  measure = refl;
+  groups = refl;
+  order = λ is. refl;
+}
+same Q2_2 constants is_other = record {
+  passes = λ line. (
+    λ p. record {
+      customers = p.customers;
+      suppliers = p.suppliers;
+      parts = p.parts;
+      dates = p.dates;
+      quantity = p.quantity;
+      discount = p.discount;
+    },
+    λ p. record {
+      customers = p.customers;
+      suppliers = p.suppliers;
+      parts = p.parts;
+      dates = p.dates;
+      quantity = p.quantity;
+      discount = p.discount;
+    },
+  );
+  measure = refl;
+  groups = refl;
+  order = λ is. refl;
+}
+same Q2_3 constants is_other = record {
+  passes = λ line. (
+    λ p. record {
+      customers = p.customers;
+      suppliers = p.suppliers;
+      parts = p.parts;
+      dates = p.dates;
+      quantity = p.quantity;
+      discount = p.discount;
+    },
+    λ p. record {
+      customers = p.customers;
+      suppliers = p.suppliers;
+      parts = p.parts;
+      dates = p.dates;
+      quantity = p.quantity;
+      discount = p.discount;
+    },
+  );
+  measure = refl;
+  groups = refl;
+  order = λ is. refl;
+}
+same Q3_1 constants is_other = record {
+  passes = λ line. (
+    λ p. record {
+      customers = p.customers;
+      suppliers = p.suppliers;
+      parts = p.parts;
+      dates = p.dates;
+      quantity = p.quantity;
+      discount = p.discount;
+    },
+    λ p. record {
+      customers = p.customers;
+      suppliers = p.suppliers;
+      parts = p.parts;
+      dates = p.dates;
+      quantity = p.quantity;
+      discount = p.discount;
+    },
+  );
+  measure = refl;
+  groups = refl;
+  order = λ is. absurd (not_both is);
+}
+same Q3_2 constants is_other = record {
+  passes = λ line. (
+    λ p. record {
+      customers = p.customers;
+      suppliers = p.suppliers;
+      parts = p.parts;
+      dates = p.dates;
+      quantity = p.quantity;
+      discount = p.discount;
+    },
+    λ p. record {
+      customers = p.customers;
+      suppliers = p.suppliers;
+      parts = p.parts;
+      dates = p.dates;
+      quantity = p.quantity;
+      discount = p.discount;
+    },
+  );
+  measure = refl;
+  groups = refl;
+  order = λ is. absurd (not_both is);
+}
+same Q3_3 constants is_other = record {
+  passes = λ line. (
+    λ p. record {
+      customers = p.customers;
+      suppliers = p.suppliers;
+      parts = p.parts;
+      dates = p.dates;
+      quantity = p.quantity;
+      discount = p.discount;
+    },
+    λ p. record {
+      customers = p.customers;
+      suppliers = p.suppliers;
+      parts = p.parts;
+      dates = p.dates;
+      quantity = p.quantity;
+      discount = p.discount;
+    },
+  );
+  measure = refl;
+  groups = refl;
+  order = λ is. absurd (not_both is);
+}
+same Q3_4 constants is_other = record {
+  passes = λ line. (
+    λ p. record {
+      customers = p.customers;
+      suppliers = p.suppliers;
+      parts = p.parts;
+      dates = p.dates;
+      quantity = p.quantity;
+      discount = p.discount;
+    },
+    λ p. record {
+      customers = p.customers;
+      suppliers = p.suppliers;
+      parts = p.parts;
+      dates = p.dates;
+      quantity = p.quantity;
+      discount = p.discount;
+    },
+  );
+  measure = refl;
+  groups = refl;
+  order = λ is. absurd (not_both is);
+}
+same Q4_1 constants is_other = record {
+  passes = λ line. (
+    λ p. record {
+      customers = p.customers;
+      suppliers = p.suppliers;
+      parts = p.parts;
+      dates = p.dates;
+      quantity = p.quantity;
+      discount = p.discount;
+    },
+    λ p. record {
+      customers = p.customers;
+      suppliers = p.suppliers;
+      parts = p.parts;
+      dates = p.dates;
+      quantity = p.quantity;
+      discount = p.discount;
+    },
+  );
+  measure = refl;
+  groups = refl;
+  order = λ is. refl;
+}
+same Q4_2 constants is_other = record {
+  passes = λ line. (
+    λ p. record {
+      customers = p.customers;
+      suppliers = p.suppliers;
+      parts = p.parts;
+      dates = p.dates;
+      quantity = p.quantity;
+      discount = p.discount;
+    },
+    λ p. record {
+      customers = p.customers;
+      suppliers = p.suppliers;
+      parts = p.parts;
+      dates = p.dates;
+      quantity = p.quantity;
+      discount = p.discount;
+    },
+  );
+  measure = refl;
+  groups = refl;
+  order = λ is. refl;
+}
+same Q4_3 constants is_other = record {
+  passes = λ line. (
+    λ p. record {
+      customers = p.customers;
+      suppliers = p.suppliers;
+      parts = p.parts;
+      dates = p.dates;
+      quantity = p.quantity;
+      discount = p.discount;
+    },
+    λ p. record {
+      customers = p.customers;
+      suppliers = p.suppliers;
+      parts = p.parts;
+      dates = p.dates;
+      quantity = p.quantity;
+      discount = p.discount;
+    },
+  );
+  measure = refl;
+  groups = refl;
+  order = λ is. refl;
+}
+same Star constants is_other = absurd (not_both is_other)
