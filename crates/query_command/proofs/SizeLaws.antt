@@ -1,7 +1,8 @@
 -- The values of rows that pass tests, one row more, and how many of them are distinct.
 use Rattle.std.proofs.Common.{◌≡◌, ◌∙◌, ℕ, ◌+◌, ◌*◌, ◌<◌, ◌≤◌, Bool, true, false, cond, List, [], ◌∷◌, ◌++◌, length}
 use Rattle.std.proofs.Common.{map, filter, take, get_or, sym, ap, arith}
-use Rattle.std.proofs.lemmas.List.{map-append, length-map, take_more}
+use Rattle.std.proofs.Math.Nat.{min-le_right}
+use Rattle.std.proofs.lemmas.List.{length-map, length-take, map-append, take_more}
 use Rattle.std.proofs.lemmas.List.Elements.{filter-append}
 use Rattle.std.proofs.lemmas.List.Sums.{length-filter, count_by-le-length}
 use Rattle.dimension_index.specs.Codes.{distinct}
@@ -43,6 +44,16 @@ module _ {F : Type 0} (tests : List Test) (value_of : ℕ → F → Value) where
     length-map (filter passes rows) (value_of place),
     length-filter passes rows,
     count_by-le-length passes rows,
+  )
+
+  -- nor than all rows, where some are left out
+  pub taken_few : (rows : List F) (i place : ℕ)
+      → length (distinct (values_passing tests value_of (take i rows) place)) ≤ length rows
+  taken_few rows i place = omega (
+    arith,
+    values_few (take i rows) place,
+    length-take i rows,
+    min-le_right i (length rows),
   )
 
 -- one number more

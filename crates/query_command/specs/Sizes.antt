@@ -7,7 +7,7 @@ use Rattle.ssb_explain.specs.Words.{record_line}
 use Rattle.ssb_questions.specs.declared.cond.Test.{Test}
 use Rattle.ssb_questions.specs.declared.plan.Plan.{Plan}
 use Rattle.ssb_questions.specs.declared.value.Value.{Value}
-use Rattle.shared_scan.specs.GroupCounts.{groups_by}
+use Rattle.shared_scan.specs.GroupCounts.{most_groups_of}
 
 -- the rows of a dimension that its tests take
 abbrev pub taken : {F : Type 0} → List Test → (ℕ → F → Value) → List F → List F
@@ -25,4 +25,4 @@ sizes_text plan d = concat
     ∷ rows_line (codes "supplier") plan.suppliers supplier_value d.suppliers
     ∷ rows_line (codes "part") plan.parts part_value d.parts
     ∷ rows_line (codes "date") plan.dates date_value d.dates
-    ∷ record_line (codes "groups" ∷ decimal (groups_by d plan) ∷ []) ∷ [])
+    ∷ record_line (codes "groups" ∷ decimal (most_groups_of d plan) ∷ []) ∷ [])

@@ -6,7 +6,7 @@ ghost use Rattle.std.specs.String.{string_bytes};
 ghost use Rattle.dimension_index.specs.Codes.{distinct};
 ghost use Rattle.ssb_answers.specs.RowValues.{pass};
 ghost use Rattle.ssb_explain.specs.Words.{record_line as record_text};
-ghost use Rattle.shared_scan.specs.GroupCounts.{count_passing, groups_by, values_passing};
+ghost use Rattle.shared_scan.specs.GroupCounts.{count_passing, most_groups_of, values_passing};
 ghost use Rattle.ssb_questions.specs.declared.value.Value.{Value as PlainValue};
 ghost use Rattle.query_command.specs.Sizes as spec;
 
@@ -109,7 +109,7 @@ fn values_of_group(
 // How many groups there can be: one for each choice of a value of each group column.
 fn most_groups(alloc: Global, base: &Base, plan: &Plan) -> Result<u128, AllocError>
     requires { length plan.now.groups ≤ 4 }
-    ensures { IfOk result (λ most. most ≡ groups_by base.now.dimensions plan.now) }
+    ensures { IfOk result (λ most. most ≡ most_groups_of base.now.dimensions plan.now) }
 {
     let mut most = 1u128;
     for column in plan.groups.as_slice() {
@@ -138,7 +138,7 @@ fn rows_line<F: QueryFields>(
 fn groups_line(alloc: Global, base: &Base, plan: &Plan) -> Result<String, AllocError>
     requires { length plan.now.groups ≤ 4 }
     ensures { IfOk result (λ line. string_bytes line
-        ≡ record_text (codes "groups" ∷ decimal (groups_by base.now.dimensions plan.now) ∷ [])) }
+        ≡ record_text (codes "groups" ∷ decimal (most_groups_of base.now.dimensions plan.now) ∷ [])) }
 {
     let mut fields = Vec::new(alloc);
     fields.push(String::from_str(alloc, "groups")?)?;
