@@ -1,5 +1,5 @@
 use Rattle.std.proofs.Common.{ℕ, ◌≡◌, ◌≤◌, ◌*◌, ◌^◌, map, take, get_or, sym, ap, ◌∙◌, arith}
-use Rattle.std.proofs.Math.Nat.{mul-comm, mul-le-mul}
+use Rattle.std.proofs.Math.Nat.{mul_comm, mul-le-mul}
 use Rattle.std.proofs.lemmas.List.{map_push, take_more}
 use Rattle.scan_kernel.specs.Groups.{size_of}
 use Rattle.shared_scan.specs.GroupCounts.{count_passing}
@@ -21,7 +21,7 @@ loop-column-preserved c =
     let counted : count ≡ count_of column = c.in_ok-values_of_group.ensures.values in
     let few : count ≤ 2 ^ 20 = c.in_ok-values_of_group.ensures.few in
     record {
-      most = ap (λ (n : ℕ). n * old) counted ∙ mul-comm (count_of column) old
+      most = ap (λ (n : ℕ). n * old) counted ∙ mul_comm (count_of column) old
           ∙ ap (λ (n : ℕ). n * count_of column) c.loop-column.invariant.most ∙ sym (size_more counts (count_of column))
           ∙ ap size_of (sym (map_push count_of (take i groups) column)
           ∙ ap (map count_of) (sym (take_more groups i any c.loop-column-test.true)));
