@@ -46,12 +46,11 @@ module _ {F : Type 0} (tests : List Test) (value_of : ℕ → F → Value) where
     count_by-le-length passes rows,
   )
 
-  -- nor than there are rows of which some were looked at
-  pub known_few : (known : List Value) (rows : List F) (i place : ℕ)
-      → known ≡ distinct (values_passing tests value_of (take i rows) place) → length known ≤ length rows
-  known_few known rows i place are = omega (
+  -- nor than all rows, where some are left out
+  pub taken_few : (rows : List F) (i place : ℕ)
+      → length (distinct (values_passing tests value_of (take i rows) place)) ≤ length rows
+  taken_few rows i place = omega (
     arith,
-    ap (λ (values : List Value). length values) are,
     values_few (take i rows) place,
     length-take i rows,
     min-le_right i (length rows),

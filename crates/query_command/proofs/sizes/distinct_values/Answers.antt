@@ -1,7 +1,8 @@
-use Rattle.std.proofs.Common.{◌∙◌, ap, arith, take}
+use Rattle.std.proofs.Common.{◌≡◌, ◌≤◌, ◌∙◌, List, ap, arith, length, take}
 use Rattle.dimension_index.specs.Codes.{distinct}
 use Rattle.shared_scan.specs.GroupCounts.{values_passing}
-use Rattle.query_command.proofs.SizeLaws.{values_more, known_few}
+use Rattle.ssb_questions.specs.declared.value.Value.{Value}
+use Rattle.query_command.proofs.SizeLaws.{values_more, taken_few}
 use Rattle.query_command.proofs.sizes.distinct_values.Goals as goal
 
 pub loop-row-init : goal.loop-row-init
@@ -10,9 +11,8 @@ loop-row-init g c = c.new-dictionary.ensures
 
 pub enter_taken-requires : goal.enter_taken-requires
 enter_taken-requires g c =
-    let few = known_few c.args.tests.now g.F.QueryFields.value_of c.loop-row.dictionary c.args.rows.now
-    c.loop-row.row-index c.args.place c.loop-row.invariant in
-    omega (arith, few, c.requires)
+    let few = taken_few c.args.tests.now g.F.QueryFields.value_of c.args.rows.now c.loop-row.row-index c.args.place in
+    omega (arith, ap (λ (known : List Value). length known) c.loop-row.invariant, few, c.requires)
 
 pub loop-row-preserved : goal.loop-row-preserved
 loop-row-preserved g c =
@@ -25,6 +25,5 @@ loop-row-preserved g c =
 
 pub returns-clause-few : goal.returns-clause-few
 returns-clause-few g c =
-    let few = known_few c.args.tests.now g.F.QueryFields.value_of c.loop-row.dictionary c.args.rows.now
-    c.loop-row.row-index c.args.place c.loop-row.invariant in
-    omega (arith, c.len.ensures, few, c.requires)
+    let few = taken_few c.args.tests.now g.F.QueryFields.value_of c.args.rows.now c.loop-row.row-index c.args.place in
+    omega (arith, c.len.ensures, ap (λ (known : List Value). length known) c.loop-row.invariant, few, c.requires)
