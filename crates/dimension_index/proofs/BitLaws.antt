@@ -1,32 +1,6 @@
 -- Rows that are narrowed, one by one.
-use Rattle.std.proofs.Common.{
-  ◌≡◌,
-  ℕ,
-  ◌+◌,
-  ◌<◌,
-  ◌≤◌,
-  Bool,
-  true,
-  List,
-  [],
-  ◌∷◌,
-  ◌++◌,
-  length,
-  get_or,
-  map,
-  take,
-  drop,
-  set,
-  suc,
-  zero,
-  refl,
-  sym,
-  ap,
-  ◌∙◌,
-  add-zero,
-  replicate,
-  arith,
-}
+use Rattle.std.proofs.Common.{◌≡◌, ℕ, ◌+◌, ◌<◌, ◌≤◌, Bool, true, List, [], ◌∷◌, ◌++◌, length, get_or, map, take, drop}
+use Rattle.std.proofs.Common.{set, suc, zero, refl, sym, ap, ◌∙◌, add-zero, replicate, arith}
 use Rattle.std.specs.Prelude.{◌&&◌}
 use Rattle.std.proofs.lemmas.List.{get_or-drop, drop-drop, drop-set-lt, take_more_set, take_more, take_all}
 use Rattle.std.proofs.lemmas.List.{get_or-map, length-map}

@@ -16,7 +16,8 @@ use Rattle.ssb_questions.specs.declared.value.Value.TheVariants.{Number}
 use Rattle.ssb_answers.specs.RowValues.{customer_value, supplier_value, part_value, date_value}
 use Rattle.dimension_index.specs.Codes.{codes_of, is_same}
 use Rattle.dimension_index.specs.Keys.{keys_of}
-use Rattle.dimension_index.specs.Classes.{are_alike, class_at, classes_by, classes_of, telling_columns, read_columns, rows_in}
+use Rattle.dimension_index.specs.Classes.{are_alike, class_at, classes_by, classes_of, telling_columns, read_columns}
+use Rattle.dimension_index.specs.Classes.{rows_in}
 use Rattle.dimension_index.specs.Values.{values_of}
 use Rattle.ssb_schema.specs.declared.column.Column.{Column}
 use Rattle.dimension_index.specs.Told.{Told, same_told, told_at, told_rows, first_in, noted}

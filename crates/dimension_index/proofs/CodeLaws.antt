@@ -1,36 +1,7 @@
 -- The distinct values of a list, and their codes.
-use Rattle.std.proofs.Common.{
-  ◌≡◌,
-  ℕ,
-  ◌+◌,
-  ◌<◌,
-  ◌≤◌,
-  Bool,
-  true,
-  false,
-  cond,
-  not,
-  List,
-  [],
-  ◌∷◌,
-  ◌++◌,
-  length,
-  map,
-  take,
-  get_or,
-  Some,
-  None,
-  zero,
-  suc,
-  sym,
-  refl,
-  ap,
-  ◌∙◌,
-  arith,
-  subst,
-  unwrap_or,
-  length-append,
-}
+use Rattle.std.proofs.Common.{◌≡◌, ℕ, ◌+◌, ◌<◌, ◌≤◌, Bool, true, false, cond, not, List, [], ◌∷◌, ◌++◌, length, map}
+use Rattle.std.proofs.Common.{take, get_or, Some, None, zero, suc, sym, refl, ap, ◌∙◌, arith, subst, unwrap_or}
+use Rattle.std.proofs.Common.{length-append}
 use Rattle.std.specs.Prelude.{◌||◌, nat_lt, nat_eq}
 use Rattle.std.specs.List.{filter, list_any, position_from, position_or_len, slice_get, All}
 use Rattle.std.proofs.lemmas.List.{get_or-map, get_or_append_left, length-map, map-append, append-nil, take_more}

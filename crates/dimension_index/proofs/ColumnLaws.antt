@@ -1,28 +1,6 @@
 -- The columns that no query reads have the number 0 in every row.
-use Rattle.std.proofs.Common.{
-  ◌≡◌,
-  ℕ,
-  ◌<◌,
-  Bool,
-  false,
-  cond,
-  List,
-  All,
-  ◌+◌,
-  ◌++◌,
-  length,
-  get_or,
-  slice_get,
-  Some,
-  map,
-  sym,
-  ap,
-  ◌∙◌,
-  eqb,
-  refl,
-  lit<,
-  arith,
-}
+use Rattle.std.proofs.Common.{◌≡◌, ℕ, ◌<◌, Bool, false, cond, List, All, ◌+◌, ◌++◌, length, get_or, slice_get, Some}
+use Rattle.std.proofs.Common.{map, sym, ap, ◌∙◌, eqb, refl, lit<, arith}
 use Rattle.std.proofs.lemmas.Bool.{ne_eqb}
 use Rattle.std.proofs.lemmas.List.{get_or_append_left, get_or-append-add, length-append}
 use Rattle.std.proofs.lemmas.Option.{slice_get_within, slice_get-get_or, get_or_from_slice_get, slice_get-map}

@@ -1,20 +1,6 @@
 -- Classes of rows: a row's class is the position of the first row that no query can tell from it.
-use Rattle.std.specs.Prelude.{
-  ℕ,
-  ◌+◌,
-  Bool,
-  List,
-  [],
-  ◌∷◌,
-  map,
-  fold,
-  length,
-  nat_lt,
-  slice_index_or,
-  take,
-  unwrap_or,
-  if◌then◌else◌,
-}
+use Rattle.std.specs.Prelude.{ℕ, ◌+◌, Bool, List, [], ◌∷◌, map, fold, length, nat_lt, slice_index_or, take, unwrap_or}
+use Rattle.std.specs.Prelude.{if◌then◌else◌}
 use Rattle.std.specs.List.{list_all, position, range_with_len}
 use Rattle.ssb_schema.specs.declared.table.Table.{Table}
 use Rattle.ssb_schema.specs.declared.table.Table.TheVariants as table

@@ -1,19 +1,6 @@
 -- Rows told apart by their codes in four columns.
-use Rattle.std.specs.Prelude.{
-  ℕ,
-  Bool,
-  ◌&&◌,
-  nat_eq,
-  List,
-  map,
-  length,
-  Option,
-  Some,
-  None,
-  slice_index,
-  unwrap_or,
-  if◌then◌else◌,
-}
+use Rattle.std.specs.Prelude.{ℕ, Bool, ◌&&◌, nat_eq, List, map, length, Option, Some, None, slice_index, unwrap_or}
+use Rattle.std.specs.Prelude.{if◌then◌else◌}
 use Rattle.std.specs.List.{position, range_with_len}
 use Rattle.std.specs.Option.{option_or}
 

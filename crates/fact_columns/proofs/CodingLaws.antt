@@ -1,51 +1,13 @@
 -- Lines in codes: one line more, the first ones and the others, and the key of an order's places.
-use Rattle.std.proofs.Common.{
-  ◌≡◌,
-  ℕ,
-  ◌<◌,
-  ◌≤◌,
-  ◌-◌,
-  true,
-  List,
-  [],
-  ◌∷◌,
-  ◌++◌,
-  length,
-  map,
-  fold,
-  take,
-  drop,
-  get_or,
-  zero,
-  suc,
-  sym,
-  refl,
-  ap,
-  ◌∙◌,
-  subst,
-  arith,
-  ◌+◌,
-  append_assoc,
-  append-nil,
-  Result,
-  Ok,
-  IfOk,
-}
+use Rattle.std.proofs.Common.{◌≡◌, ℕ, ◌<◌, ◌≤◌, ◌-◌, true, List, [], ◌∷◌, ◌++◌, length, map, fold, take, drop, get_or}
+use Rattle.std.proofs.Common.{zero, suc, sym, refl, ap, ◌∙◌, subst, arith, ◌+◌, append_assoc, append-nil, Result, Ok}
+use Rattle.std.proofs.Common.{IfOk}
 use Rattle.std.specs.List.{All, AllZip, flat_map}
 use Rattle.std.specs.declared.alloc.AllocError.{AllocError}
 use Rattle.std.proofs.lemmas.List.Concat.{flat_map-append, flat_map-cons}
 use Rattle.std.proofs.Math.Seq.{take-add}
-use Rattle.std.proofs.lemmas.List.{
-  map_more,
-  length-map,
-  map-append,
-  take-map,
-  drop-map,
-  take_at,
-  drop_at,
-  drop_more,
-  take_more,
-}
+use Rattle.std.proofs.lemmas.List.{map_more, length-map, map-append, take-map, drop-map, take_at, drop_at, drop_more}
+use Rattle.std.proofs.lemmas.List.{take_more}
 use Rattle.std.proofs.lemmas.List.Elements.{All-append, All-push, All-take, All-drop}
 use Rattle.ssb_base.specs.Base.{Dimensions}
 use Rattle.ssb_schema.specs.declared.fact.Fact.{Fact}

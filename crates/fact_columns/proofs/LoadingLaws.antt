@@ -1,27 +1,6 @@
 -- The loaded lines in their places.
-use Rattle.std.proofs.Common.{
-  ◌≡◌,
-  ℕ,
-  ◌<◌,
-  true,
-  cond,
-  List,
-  [],
-  ◌∷◌,
-  length,
-  map,
-  get_or,
-  Option,
-  Some,
-  zero,
-  suc,
-  sym,
-  refl,
-  ap,
-  ◌∙◌,
-  subst,
-  arith,
-}
+use Rattle.std.proofs.Common.{◌≡◌, ℕ, ◌<◌, true, cond, List, [], ◌∷◌, length, map, get_or, Option, Some, zero, suc, sym}
+use Rattle.std.proofs.Common.{refl, ap, ◌∙◌, subst, arith}
 use Rattle.std.specs.List.{All, filter}
 use Rattle.std.proofs.lemmas.Option.{cond_some}
 use Rattle.std.proofs.lemmas.List.{length-map}

@@ -1,46 +1,7 @@
 -- What a write, a new place and a withdrawal do to the live lines.
-use Rattle.std.proofs.Common.{
-  ◌≡◌,
-  ◌≢◌,
-  ℕ,
-  ◌+◌,
-  ◌-◌,
-  ◌<◌,
-  ◌≤◌,
-  Bool,
-  true,
-  false,
-  cond,
-  not,
-  eqb,
-  List,
-  [],
-  ◌∷◌,
-  ◌++◌,
-  length,
-  map,
-  fold,
-  take,
-  Option,
-  Some,
-  None,
-  sym,
-  refl,
-  ap,
-  ◌∙◌,
-  subst,
-  arith,
-  zero,
-  suc,
-  set,
-  get_or,
-  length-append,
-  append-nil,
-  inl,
-  inr,
-  ⊎_elim,
-  ◌⊎◌,
-}
+use Rattle.std.proofs.Common.{◌≡◌, ◌≢◌, ℕ, ◌+◌, ◌-◌, ◌<◌, ◌≤◌, Bool, true, false, cond, not, eqb, List, [], ◌∷◌, ◌++◌}
+use Rattle.std.proofs.Common.{length, map, fold, take, Option, Some, None, sym, refl, ap, ◌∙◌, subst, arith, zero, suc}
+use Rattle.std.proofs.Common.{set, get_or, length-append, append-nil, inl, inr, ⊎_elim, ◌⊎◌}
 use Rattle.std.specs.List.{filter, All}
 use Rattle.std.specs.FinMap as finite
 use Rattle.std.proofs.lemmas.List.{map-append, get_or_default, take_more}

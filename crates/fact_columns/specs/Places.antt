@@ -1,22 +1,6 @@
 -- The lines of the fact table as its columns have them.
-use Rattle.std.specs.Prelude.{
-  ℕ,
-  ◌+◌,
-  ◌*◌,
-  ◌/◌,
-  ◌%◌,
-  ◌<◌,
-  ◌≤◌,
-  Bool,
-  not,
-  ◌==◌,
-  List,
-  length,
-  map,
-  filter,
-  slice_get,
-  ◌^◌,
-}
+use Rattle.std.specs.Prelude.{ℕ, ◌+◌, ◌*◌, ◌/◌, ◌%◌, ◌<◌, ◌≤◌, Bool, not, ◌==◌, List, length, map, filter, slice_get}
+use Rattle.std.specs.Prelude.{◌^◌}
 use Rattle.std.specs.Option.{option_map_or}
 use Rattle.ssb_schema.specs.declared.fact.Fact.{Fact}
 use Rattle.ssb_base.specs.Base.{Dimensions, customer_key, supplier_key, part_key, date_key}

@@ -1,22 +1,6 @@
 -- Where the live lines of an order lie.
-use Rattle.std.specs.Prelude.{
-  ◌≡◌,
-  ℕ,
-  ◌+◌,
-  ◌<◌,
-  ◌≤◌,
-  Bool,
-  not,
-  nat_eq,
-  cond,
-  List,
-  length,
-  filter,
-  slice_get,
-  Option,
-  Some,
-  None,
-}
+use Rattle.std.specs.Prelude.{◌≡◌, ℕ, ◌+◌, ◌<◌, ◌≤◌, Bool, not, nat_eq, cond, List, length, filter, slice_get, Option}
+use Rattle.std.specs.Prelude.{Some, None}
 use Rattle.fact_columns.specs.declared.place.Place.{Place}
 use Rattle.fact_columns.specs.Places.{is_live}
 use Rattle.fact_columns.specs.declared.span.Span.{Span}

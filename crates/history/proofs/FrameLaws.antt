@@ -1,34 +1,7 @@
 -- What a step leaves true of the rest of the table.
-use Rattle.std.proofs.Common.{
-  ◌≡◌,
-  ◌≢◌,
-  ℕ,
-  ◌+◌,
-  ◌*◌,
-  ◌<◌,
-  ◌≤◌,
-  Bool,
-  true,
-  false,
-  List,
-  [],
-  ◌∷◌,
-  ◌++◌,
-  length,
-  set,
-  Option,
-  Some,
-  None,
-  refl,
-  ap,
-  sym,
-  subst,
-  ◌∙◌,
-  ⊎_elim,
-  arith,
-  length-set,
-  get_or-set_other,
-}
+use Rattle.std.proofs.Common.{◌≡◌, ◌≢◌, ℕ, ◌+◌, ◌*◌, ◌<◌, ◌≤◌, Bool, true, false, List, [], ◌∷◌, ◌++◌, length, set}
+use Rattle.std.proofs.Common.{Option, Some, None, refl, ap, sym, subst, ◌∙◌, ⊎_elim, arith, length-set}
+use Rattle.std.proofs.Common.{get_or-set_other}
 use Rattle.std.specs.Prelude.{slice_index, slice_index_or, All}
 use Rattle.std.proofs.lemmas.List.Elements.{All-nil, All-cons}
 use mathlib.Core.Option.{some}
@@ -62,29 +35,9 @@ use Rattle.history_core.specs.Parts.{Part, part_of, mailbox_at}
 use Rattle.history_core.proofs.DoneLaws.{did_more, did_same, done_next, done_kept}
 use Rattle.history_core.proofs.PartLaws.{PartStepped}
 use Rattle.history.specs.Members.{who_at, part}
-use Rattle.history.specs.Rule.{
-  Slot,
-  Homes,
-  out,
-  rows,
-  RowsShown,
-  WriterShown,
-  MailShown,
-  IsVacant,
-  Asks,
-  Common,
-  IsTold,
-  Handed,
-  IsMember,
-  IsOurs,
-  IsUnopened,
-  first_world,
-  TokenKnows,
-  KnowsAs,
-  Knows,
-  Shows,
-  ShowsWorld,
-}
+use Rattle.history.specs.Rule.{Slot, Homes, out, rows, RowsShown, WriterShown, MailShown, IsVacant, Asks, Common}
+use Rattle.history.specs.Rule.{IsTold, Handed, IsMember, IsOurs, IsUnopened, first_world, TokenKnows, KnowsAs, Knows}
+use Rattle.history.specs.Rule.{Shows, ShowsWorld}
 use Rattle.history.specs.Plays.{Learns}
 use Rattle.history.proofs.HistoryLaws.{prefix_self, prefix_trans}
 use Rattle.history.proofs.MemberLaws.{who_same, part_kept}

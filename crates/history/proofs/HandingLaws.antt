@@ -1,31 +1,6 @@
 -- Tokens that are handed in one by one, the last first.
-use Rattle.std.proofs.Common.{
-  ◌≡◌,
-  ℕ,
-  zero,
-  suc,
-  ◌+◌,
-  ◌-◌,
-  ◌<◌,
-  ◌≤◌,
-  ◌==◌,
-  Bool,
-  true,
-  false,
-  List,
-  [],
-  ◌∷◌,
-  ◌++◌,
-  map,
-  length,
-  refl,
-  ap,
-  sym,
-  subst,
-  ◌∙◌,
-  arith,
-  append_assoc,
-}
+use Rattle.std.proofs.Common.{◌≡◌, ℕ, zero, suc, ◌+◌, ◌-◌, ◌<◌, ◌≤◌, ◌==◌, Bool, true, false, List, [], ◌∷◌, ◌++◌, map}
+use Rattle.std.proofs.Common.{length, refl, ap, sym, subst, ◌∙◌, arith, append_assoc}
 use Rattle.std.proofs.lemmas.Bool.Decides.{nat_tests}
 use Rattle.std.proofs.lemmas.List.{map-append}
 use Rattle.std.proofs.lemmas.List.Sums.{length-filter}
@@ -41,16 +16,8 @@ use Rattle.history.specs.Members.{who_at, number_of}
 use Rattle.history.specs.Plays.{gathers}
 use Rattle.history.specs.Seats.{members_of, AreAll, IsClosed}
 use Rattle.history.specs.Tokens.{TableRecord, TokenRecord}
-use Rattle.history.specs.Closing.{
-  IsClientOf,
-  IsDispatcherOf,
-  AreClients,
-  AreDispatchers,
-  terms_in,
-  member_of,
-  members_in,
-  IsLogOf,
-}
+use Rattle.history.specs.Closing.{IsClientOf, IsDispatcherOf, AreClients, AreDispatchers, terms_in, member_of}
+use Rattle.history.specs.Closing.{members_in, IsLogOf}
 use Rattle.history.proofs.HistoryLaws.{all_of, each_of}
 use Rattle.history.proofs.MemberLaws.{who_client}
 

@@ -1,43 +1,7 @@
 -- Each step on a mailbox is an event of the world that the table shows, or leaves that world.
-use Rattle.std.proofs.Common.{
-  ◌≡◌,
-  ◌≢◌,
-  ◌⊎◌,
-  ℕ,
-  zero,
-  suc,
-  eqb,
-  eq-eqb,
-  ne_eqb,
-  take,
-  ◌+◌,
-  ◌<◌,
-  ◌≤◌,
-  ◌==◌,
-  true,
-  false,
-  List,
-  [],
-  ◌∷◌,
-  ◌++◌,
-  length,
-  set,
-  Option,
-  Some,
-  None,
-  refl,
-  ap,
-  sym,
-  subst,
-  ◌∙◌,
-  inl,
-  inr,
-  ⊎_elim,
-  arith,
-  length-set,
-  get_or-set_same,
-  get_or-set_other,
-}
+use Rattle.std.proofs.Common.{◌≡◌, ◌≢◌, ◌⊎◌, ℕ, zero, suc, eqb, eq-eqb, ne_eqb, take, ◌+◌, ◌<◌, ◌≤◌, ◌==◌, true, false}
+use Rattle.std.proofs.Common.{List, [], ◌∷◌, ◌++◌, length, set, Option, Some, None, refl, ap, sym, subst, ◌∙◌, inl, inr}
+use Rattle.std.proofs.Common.{⊎_elim, arith, length-set, get_or-set_same, get_or-set_other}
 use Rattle.std.proofs.lemmas.List.{take-append-le}
 use Rattle.std.specs.Prelude.{slice_index, All}
 use lib.Seq.{set-get_or}
@@ -47,20 +11,8 @@ use mathlib.Core.Option as maybe
 use mathlib.Core.Logic.{dite}
 use native.Mathlib.Decide.{ℕ_discrete}
 use lib.ListN.{get_elem?}
-use Rattle.atomic_table.specs.Table.{
-  State,
-  Me,
-  rest,
-  step,
-  Act,
-  keeps,
-  takes,
-  gives,
-  stepped,
-  Valid,
-  carried_after,
-  Allows,
-}
+use Rattle.atomic_table.specs.Table.{State, Me, rest, step, Act, keeps, takes, gives, stepped, Valid, carried_after}
+use Rattle.atomic_table.specs.Table.{Allows}
 use Rattle.atomic_table.proofs.Lists.{set_here, set_else}
 use Rattle.ssb_base.specs.Base.{Tables}
 use Rattle.history_core.specs.declared.response.Response.{Response}
@@ -95,39 +47,15 @@ use Rattle.history.specs.declared.view.SlotValue.TheVariants.{Asked, Answered}
 use Rattle.history.specs.Words.{request, given_to, IsFresh, IsRight, IsRightAt}
 use Rattle.history.specs.Members.{number_of, told_by, part}
 use Rattle.history.specs.Members as member
-use Rattle.history.specs.Rule.{Slot, Homes, stage, LiesIn, MailShown, Asks, TokenKnows, KnowsAs, Shows, ShowsWorld, IsElsewhere, AreApart, first_world}
-use Rattle.history.specs.Plays.{
-  opened,
-  OpensBox,
-  posted,
-  Posts,
-  held,
-  request_at,
-  without_at,
-  grabbed,
-  Grabs,
-  served_as,
-  Answers,
-  collected,
-  Collects,
-}
+use Rattle.history.specs.Rule.{Slot, Homes, stage, LiesIn, MailShown, Asks, TokenKnows, KnowsAs, Shows, ShowsWorld}
+use Rattle.history.specs.Rule.{IsElsewhere, AreApart, first_world}
+use Rattle.history.specs.Plays.{opened, OpensBox, posted, Posts, held, request_at, without_at, grabbed, Grabs}
+use Rattle.history.specs.Plays.{served_as, Answers, collected, Collects}
 use Rattle.history.proofs.HistoryLaws.{prefix_self, all_of, each_of}
 use Rattle.history.proofs.HandLaws.{request_there, was_there, others_elsewhere, apart_without}
 use Rattle.history.proofs.MemberLaws.{client_here, dispatcher_here, part_kept, floor_kept}
-use Rattle.history.proofs.FrameLaws.{
-  mail_stays,
-  only_empty,
-  Grows,
-  handed_grows,
-  told_more,
-  more_beside,
-  rows_beside,
-  writer_beside,
-  writer_stays,
-  token_step,
-  token_knows,
-  kept_after,
-}
+use Rattle.history.proofs.FrameLaws.{mail_stays, only_empty, Grows, handed_grows, told_more, more_beside, rows_beside}
+use Rattle.history.proofs.FrameLaws.{writer_beside, writer_stays, token_step, token_knows, kept_after}
 use Rattle.history.proofs.RowStepLaws.{unmoved}
 
 only_asked : (box : Mailbox) → stage box ≡ 1 → (questions : Questions) × (floor : ℕ) × (box ≡ asked questions floor)

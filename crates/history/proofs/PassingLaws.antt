@@ -1,33 +1,6 @@
 -- What a token keeps over each call, and what its record then is.
-use Rattle.std.proofs.Common.{
-  ◌≡◌,
-  ◌≢◌,
-  ℕ,
-  ◌+◌,
-  ◌<◌,
-  ◌≤◌,
-  Bool,
-  true,
-  false,
-  List,
-  [],
-  ◌∷◌,
-  ◌++◌,
-  map,
-  length,
-  drop,
-  Option,
-  Some,
-  None,
-  refl,
-  ap,
-  sym,
-  subst,
-  ◌∙◌,
-  ⊎_elim,
-  arith,
-  length-append,
-}
+use Rattle.std.proofs.Common.{◌≡◌, ◌≢◌, ℕ, ◌+◌, ◌<◌, ◌≤◌, Bool, true, false, List, [], ◌∷◌, ◌++◌, map, length, drop}
+use Rattle.std.proofs.Common.{Option, Some, None, refl, ap, sym, subst, ◌∙◌, ⊎_elim, arith, length-append}
 use Rattle.std.proofs.lemmas.Bool.Decides.{nat_tests}
 use Rattle.std.proofs.lemmas.List.{append-nil}
 use Rattle.std.proofs.Math.Seq.{drop-append_seam}
@@ -50,37 +23,10 @@ use Rattle.history.specs.declared.token.Token.TheInside.{Inside as Token}
 use Rattle.history.specs.Words.{store, IsAccepted, request, IsRight}
 use Rattle.history.specs.Members.{marks, commits}
 use Rattle.history.specs.Rule.{Slot, IsElsewhere}
-use Rattle.history.specs.Plays.{
-  Learns,
-  with_rows,
-  looked,
-  gave_log,
-  put_by,
-  gave_back,
-  posted,
-  held,
-  request_at,
-  without_at,
-  grabbed,
-  served,
-  served_as,
-  collected,
-  with_writer,
-  without_writer,
-}
+use Rattle.history.specs.Plays.{Learns, with_rows, looked, gave_log, put_by, gave_back, posted, held, request_at}
+use Rattle.history.specs.Plays.{without_at, grabbed, served, served_as, collected, with_writer, without_writer}
 use Rattle.history.specs.Seats.{Place, Adds}
-use Rattle.history.specs.Tokens.{
-  TokenRecord,
-  IsClient,
-  IsDispatcher,
-  IsSound,
-  Saw,
-  Took,
-  MayPut,
-  Put,
-  Grabs,
-  Collected,
-}
+use Rattle.history.specs.Tokens.{TokenRecord, IsClient, IsDispatcher, IsSound, Saw, Took, MayPut, Put, Grabs, Collected}
 use Rattle.history.specs.Tokens as public
 use Rattle.history.specs.TokenParts.{shown_token, token_of_view, hands, own_box, grabbed_boxes, boxes, IsSeated}
 use Rattle.history.proofs.MemberLaws.{who_back, who_behind, owns_more}

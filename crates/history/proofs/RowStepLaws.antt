@@ -1,5 +1,7 @@
 -- Each step on the rows is an event of the world that the table shows, or leaves that world.
-use Rattle.std.proofs.Common.{◌≡◌, ℕ, ◌+◌, ◌-◌, ◌*◌, ◌/◌, ◌%◌, ◌^◌, ◌<◌, ◌≤◌, true, false, List, [], ◌∷◌, ◌++◌, length, drop, set, Option, Some, None, refl, ap, sym, subst, ◌∙◌, arith, length-append, get_or-set_same}
+use Rattle.std.proofs.Common.{◌≡◌, ℕ, ◌+◌, ◌-◌, ◌*◌, ◌/◌, ◌%◌, ◌^◌, ◌<◌, ◌≤◌, true, false, List, [], ◌∷◌, ◌++◌, length}
+use Rattle.std.proofs.Common.{drop, set, Option, Some, None, refl, ap, sym, subst, ◌∙◌, arith, length-append}
+use Rattle.std.proofs.Common.{get_or-set_same}
 use Rattle.std.proofs.lemmas.List.{append-nil}
 use Rattle.std.proofs.Math.Seq.{drop-append_seam}
 use Rattle.std.specs.Prelude.{slice_index, bit_or}
@@ -31,14 +33,7 @@ use Rattle.history.specs.Rule.{Slot, Homes, rows, out, TokenKnows, Shows, ShowsW
 use Rattle.history.specs.Plays.{with_rows, looked, gave_log, put_by, gave_back, log_carried, TriesRows, PutsRows, Looks}
 use Rattle.history.proofs.HistoryLaws.{prefix_self, prefix_one, accepted_short}
 use Rattle.history.proofs.MemberLaws.{who_client}
-use Rattle.history.proofs.FrameLaws.{
-  all_grow,
-  none_beside,
-  token_knows,
-  kept_after,
-  rows_rule,
-  learns,
-}
+use Rattle.history.proofs.FrameLaws.{all_grow, none_beside, token_knows, kept_after, rows_rule, learns}
 
 -- setting the lowest bit
 odd_after : (n : ℕ) → bit_or (2 * n) 1 ≡ 2 * n + 1

@@ -1,37 +1,7 @@
 -- Cutting a view in two and joining two views leave the world that the table shows.
-use Rattle.std.proofs.Common.{
-  ◌≡◌,
-  ◌≢◌,
-  ℕ,
-  zero,
-  suc,
-  ◌+◌,
-  ◌-◌,
-  ◌<◌,
-  ◌≤◌,
-  ◌==◌,
-  true,
-  false,
-  List,
-  [],
-  ◌∷◌,
-  ◌++◌,
-  map,
-  replicate,
-  length,
-  set,
-  get_or,
-  Some,
-  None,
-  refl,
-  ap,
-  sym,
-  subst,
-  ◌∙◌,
-  ⊎_elim,
-  arith,
-  length-set,
-}
+use Rattle.std.proofs.Common.{◌≡◌, ◌≢◌, ℕ, zero, suc, ◌+◌, ◌-◌, ◌<◌, ◌≤◌, ◌==◌, true, false, List, [], ◌∷◌, ◌++◌, map}
+use Rattle.std.proofs.Common.{replicate, length, set, get_or, Some, None, refl, ap, sym, subst, ◌∙◌, ⊎_elim, arith}
+use Rattle.std.proofs.Common.{length-set}
 use Rattle.std.proofs.lemmas.Bool.Decides.{nat_tests}
 use Rattle.std.specs.Prelude.{slice_index, if◌then◌else◌}
 use mathlib.Core.Option.{some, some-injective, some-ne-none}
@@ -55,7 +25,8 @@ use Rattle.history_core.proofs.HistoryLaws.{some_injective, numbered_copies}
 use Rattle.history_core.proofs.DoneLaws.{done_none}
 use Rattle.history_core.proofs.PartLaws.{newly, found_box, client_opens, dispatcher_opens, box_opens}
 use Rattle.history.specs.Members.{who_at, part}
-use Rattle.history.specs.Rule.{Slot, Homes, rows, MailShown, IsVacant, Asks, Handed, TokenKnows, DealerKnows, KnowsAs, Knows, Shows, ShowsWorld, dealer, spent, first_world}
+use Rattle.history.specs.Rule.{Slot, Homes, rows, MailShown, IsVacant, Asks, Handed, TokenKnows, DealerKnows, KnowsAs}
+use Rattle.history.specs.Rule.{Knows, Shows, ShowsWorld, dealer, spent, first_world}
 use Rattle.history.specs.Plays.{further, dealt, token_at, token_by, token_of, note_of, hears, leaves, gathers}
 use Rattle.history.proofs.HistoryLaws.{prefix_nil, at_end}
 use Rattle.history.proofs.MemberLaws.{who_client, who_dispatcher, low_or_behind, part_kept, box_within}

@@ -1,5 +1,6 @@
 -- Each step on the writer is an event of the world that the table shows, or leaves that world.
-use Rattle.std.proofs.Common.{◌≡◌, ℕ, ◌≤◌, ◌==◌, eqb, eq-eqb, ne_eqb, true, false, List, ◌∷◌, set, Option, Some, None, refl, ap, sym, subst, ◌∙◌, arith, get_or-set_same}
+use Rattle.std.proofs.Common.{◌≡◌, ℕ, ◌≤◌, ◌==◌, eqb, eq-eqb, ne_eqb, true, false, List, ◌∷◌, set, Option, Some, None}
+use Rattle.std.proofs.Common.{refl, ap, sym, subst, ◌∙◌, arith, get_or-set_same}
 use Rattle.std.specs.Prelude.{slice_index}
 use prog.Atomic.{either}
 use mathlib.Core.Option.{none, some}
@@ -27,12 +28,7 @@ use Rattle.history.specs.Rule.{Slot, out, IsOurs, TokenKnows, Shows, ShowsWorld}
 use Rattle.history.specs.Plays.{with_writer, without_writer, TriesWriter, PutsWriter}
 use Rattle.history.proofs.HistoryLaws.{prefix_trans}
 use Rattle.history.proofs.MemberLaws.{dispatcher_here, part_kept}
-use Rattle.history.proofs.FrameLaws.{
-  more_beside,
-  token_knows,
-  kept_after,
-  writer_rule,
-}
+use Rattle.history.proofs.FrameLaws.{more_beside, token_knows, kept_after, writer_rule}
 use Rattle.history.proofs.RowStepLaws.{unmoved}
 
 home_now : (o : Option ℕ) → out o ≡ 0 → o ≡ None

@@ -1,49 +1,11 @@
 -- A group's sum over places, one place more at a time, and one list of places after another.
-use Rattle.std.proofs.Common.{
-  ◌≡◌,
-  ℕ,
-  ◌+◌,
-  ◌%◌,
-  ◌^◌,
-  ◌<◌,
-  ◌≢◌,
-  Bool,
-  true,
-  false,
-  cond,
-  List,
-  [],
-  ◌∷◌,
-  ◌++◌,
-  length,
-  get_or,
-  eqb,
-  arith,
-  refl,
-  ap,
-  sym,
-  ◌∙◌,
-  subst,
-  ◌⊎◌,
-  inl,
-  inr,
-  eq-eqb,
-  add-zero,
-  zero-add,
-  take,
-  map,
-}
+use Rattle.std.proofs.Common.{◌≡◌, ℕ, ◌+◌, ◌%◌, ◌^◌, ◌<◌, ◌≢◌, Bool, true, false, cond, List, [], ◌∷◌, ◌++◌, length}
+use Rattle.std.proofs.Common.{get_or, eqb, arith, refl, ap, sym, ◌∙◌, subst, ◌⊎◌, inl, inr, eq-eqb, add-zero, zero-add}
+use Rattle.std.proofs.Common.{take, map}
 use Rattle.std.proofs.Math.Nat.{mod-mod, mod-add-mod, add-mod-mod}
 use Rattle.std.proofs.lemmas.Bool.Decides.{eqb_tells}
-use Rattle.std.proofs.lemmas.List.{
-  get_or-set_same,
-  get_or-set_other,
-  length-set,
-  take_more,
-  get_or-map,
-  length-replicate,
-  get_or-replicate,
-}
+use Rattle.std.proofs.lemmas.List.{get_or-set_same, get_or-set_other, length-set, take_more, get_or-map}
+use Rattle.std.proofs.lemmas.List.{length-replicate, get_or-replicate}
 use Rattle.std.proofs.lemmas.List.Elements.{filter-append}
 use Rattle.std.proofs.lemmas.List.Sums.{sum_by-append}
 use Rattle.std.specs.Prelude.{replicate}

@@ -1,42 +1,7 @@
 -- Places that are dealt out by the bits of their masks.
-use Rattle.std.proofs.Common.{
-  ◌≡◌,
-  ◌≢◌,
-  ◌⊎◌,
-  inl,
-  inr,
-  ℕ,
-  zero,
-  suc,
-  ◌+◌,
-  ◌^◌,
-  ◌<◌,
-  ◌≤◌,
-  Bool,
-  true,
-  false,
-  cond,
-  Vec,
-  Global,
-  List,
-  [],
-  ◌∷◌,
-  ◌++◌,
-  length,
-  get_or,
-  take,
-  map,
-  filter,
-  set,
-  eqb,
-  refl,
-  ap,
-  sym,
-  subst,
-  ◌∙◌,
-  arith,
-  eq-eqb,
-}
+use Rattle.std.proofs.Common.{◌≡◌, ◌≢◌, ◌⊎◌, inl, inr, ℕ, zero, suc, ◌+◌, ◌^◌, ◌<◌, ◌≤◌, Bool, true, false, cond, Vec}
+use Rattle.std.proofs.Common.{Global, List, [], ◌∷◌, ◌++◌, length, get_or, take, map, filter, set, eqb, refl, ap, sym}
+use Rattle.std.proofs.Common.{subst, ◌∙◌, arith, eq-eqb}
 use Rattle.std.specs.Int.{bit_at}
 use Rattle.std.specs.Prelude.{vec_capacity}
 use Rattle.std.proofs.lemmas.Bool.{ne_eqb}
@@ -100,7 +65,8 @@ lists_more count n lists new one long grown room before k list h = at (eqb_tells
 -- One list is written.
 
 -- of the list that was written, and of the others
-module _ (lists : Lists) (n : ℕ) (one new : Vec ℕ Global) (within : n < length lists) (is : one ≡ get_or lists n one) where
+module _ (lists : Lists) (n : ℕ) (one new : Vec ℕ Global) (within : n < length lists)
+    (is : one ≡ get_or lists n one) where
   written_here : (P : Vec ℕ Global → Type 0) (list : Vec ℕ Global) → P new → P (get_or (set lists n new) n list)
   written_here P list holds = subst P (sym (get_or-set_at lists n n new list refl within)) holds
 

@@ -1,34 +1,6 @@
 -- Rows from dense totals.
-use Rattle.std.proofs.Common.{
-  ℕ,
-  zero,
-  suc,
-  ◌≡◌,
-  ◌≢◌,
-  ◌+◌,
-  ◌<◌,
-  ◌≤◌,
-  List,
-  [],
-  ◌∷◌,
-  length,
-  map,
-  Bool,
-  true,
-  false,
-  cond,
-  Option,
-  Some,
-  None,
-  sym,
-  refl,
-  ap,
-  ◌∙◌,
-  subst,
-  arith,
-  inl,
-  inr,
-}
+use Rattle.std.proofs.Common.{ℕ, zero, suc, ◌≡◌, ◌≢◌, ◌+◌, ◌<◌, ◌≤◌, List, [], ◌∷◌, length, map, Bool, true, false}
+use Rattle.std.proofs.Common.{cond, Option, Some, None, sym, refl, ap, ◌∙◌, subst, arith, inl, inr}
 use Rattle.std.specs.Prelude.{nat_eq, nat_lt, filter, IsPermutation, ℤ}
 use Rattle.std.specs.List.{range_with_len, AllByRecursion}
 use Rattle.std.specs.List.Sorted.{IsSorted}
@@ -46,13 +18,8 @@ use Rattle.ssb_answers.specs.Combination.{Combination, value_at}
 use Rattle.ssb_answers.specs.Answer.{sum_over, in_group, group_of, groups_cmp, row_of, row_cmp, rows_over}
 use Rattle.ssb_answers.specs.declared.answer.ResultRow.{ResultRow}
 use Rattle.ssb_answers.proofs.MemberLaws.{has_map, has_from_map, has_filter, same_members_permutation}
-use Rattle.ssb_answers.proofs.OrderLaws.{
-  tied_by_test,
-  groups_cmp_total,
-  groups_cmp-same,
-  row_cmp_total,
-  same_groups_from_tie,
-}
+use Rattle.ssb_answers.proofs.OrderLaws.{tied_by_test, groups_cmp_total, groups_cmp-same, row_cmp_total}
+use Rattle.ssb_answers.proofs.OrderLaws.{same_groups_from_tie}
 use Rattle.ssb_answers.proofs.PermutationLaws.{NoTies, strict_from_sort}
 use Rattle.ssb_answers.proofs.RowLaws.{no_other_rows, total_is_one_row}
 use Rattle.scan_kernel.specs.Dense.{numbered, total, AreDenseTotals, live, dense_row, dense_rows}

@@ -1,35 +1,6 @@
 -- The places that were found stand for all of their range, and one range follows another.
-use Rattle.std.proofs.Common.{
-  ◌≡◌,
-  ℕ,
-  zero,
-  suc,
-  ◌+◌,
-  ◌-◌,
-  ◌<◌,
-  ◌≤◌,
-  Bool,
-  true,
-  false,
-  cond,
-  List,
-  [],
-  ◌∷◌,
-  ◌++◌,
-  length,
-  get_or,
-  eqb,
-  ltb,
-  map,
-  arith,
-  refl,
-  ap,
-  sym,
-  ◌∙◌,
-  subst,
-  zero-add,
-  add-zero,
-}
+use Rattle.std.proofs.Common.{◌≡◌, ℕ, zero, suc, ◌+◌, ◌-◌, ◌<◌, ◌≤◌, Bool, true, false, cond, List, [], ◌∷◌, ◌++◌}
+use Rattle.std.proofs.Common.{length, get_or, eqb, ltb, map, arith, refl, ap, sym, ◌∙◌, subst, zero-add, add-zero}
 use Rattle.std.specs.Int.{bit_at}
 use Rattle.std.specs.List.{All, filter, range_with_len}
 use Rattle.std.proofs.lemmas.Bool.{lt-ltb, false≢true}

@@ -1,42 +1,8 @@
 -- Numbers of groups: mixed radix.
-use Rattle.std.proofs.Common.{
-  ℕ,
-  zero,
-  suc,
-  ◌≡◌,
-  ◌+◌,
-  ◌*◌,
-  ◌/◌,
-  ◌%◌,
-  ◌<◌,
-  List,
-  [],
-  ◌∷◌,
-  map,
-  get_or,
-  sym,
-  refl,
-  ap,
-  ◌∙◌,
-  subst,
-  arith,
-  zero-add,
-}
-use Rattle.std.proofs.Math.Nat.{
-  add-mul-mod_self_left,
-  add-mul-div_left,
-  mod-eq_of_lt,
-  div-eq_of_lt,
-  mod-add-div,
-  mod-lt,
-  div-lt_iff_lt-mul,
-  mul_comm,
-  mul_assoc,
-  one-mul,
-  mul-add,
-  mul-zero,
-  zero-mul,
-}
+use Rattle.std.proofs.Common.{ℕ, zero, suc, ◌≡◌, ◌+◌, ◌*◌, ◌/◌, ◌%◌, ◌<◌, List, [], ◌∷◌, map, get_or, sym, refl, ap}
+use Rattle.std.proofs.Common.{◌∙◌, subst, arith, zero-add}
+use Rattle.std.proofs.Math.Nat.{add-mul-mod_self_left, add-mul-div_left, mod-eq_of_lt, div-eq_of_lt, mod-add-div}
+use Rattle.std.proofs.Math.Nat.{mod-lt, div-lt_iff_lt-mul, mul_comm, mul_assoc, one-mul, mul-add, mul-zero, zero-mul}
 use Rattle.std.proofs.lemmas.Nat.{mul-add-lt}
 use Rattle.std.specs.List.{AllByRecursion}
 use Rattle.ssb_questions.specs.declared.value.Value.{Value}
@@ -44,22 +10,9 @@ use Rattle.ssb_questions.specs.declared.value.Value.TheVariants.{Number}
 use Rattle.std.proofs.lemmas.Option.{slice_get_within, get_or_from_slice_get}
 use Rattle.ssb_schema.specs.declared.column.Column.{Column}
 use Rattle.ssb_answers.specs.Combination.{Combination, value_at}
-use Rattle.scan_kernel.specs.Groups.{
-  ListValues,
-  code_in,
-  group_codes,
-  CodesNumberGroups,
-  size_of,
-  number_of,
-  sum_of_parts,
-  codes_of,
-  AreCodes,
-  NumbersAreCodes,
-  values_of,
-  counts_of,
-  group_values,
-  AreApart,
-}
+use Rattle.scan_kernel.specs.Groups.{ListValues, code_in, group_codes, CodesNumberGroups, size_of, number_of}
+use Rattle.scan_kernel.specs.Groups.{sum_of_parts, codes_of, AreCodes, NumbersAreCodes, values_of, counts_of}
+use Rattle.scan_kernel.specs.Groups.{group_values, AreApart}
 
 below : (counts codes : List ℕ) → AreCodes counts codes → number_of counts codes < size_of counts
 below [] [] h = omega arith

@@ -1,31 +1,6 @@
 -- The totals of parts together, in whatever order they were added up.
-use Rattle.std.proofs.Common.{
-  ◌≡◌,
-  ℕ,
-  zero,
-  suc,
-  ◌+◌,
-  ◌/◌,
-  ◌%◌,
-  ◌^◌,
-  ◌<◌,
-  ◌≤◌,
-  Bool,
-  List,
-  [],
-  ◌∷◌,
-  ◌++◌,
-  length,
-  get_or,
-  replicate,
-  append-nil,
-  arith,
-  refl,
-  ap,
-  sym,
-  subst,
-  ◌∙◌,
-}
+use Rattle.std.proofs.Common.{◌≡◌, ℕ, zero, suc, ◌+◌, ◌/◌, ◌%◌, ◌^◌, ◌<◌, ◌≤◌, Bool, List, [], ◌∷◌, ◌++◌, length}
+use Rattle.std.proofs.Common.{get_or, replicate, append-nil, arith, refl, ap, sym, subst, ◌∙◌}
 use Rattle.std.specs.Prelude.{vec_len}
 use Rattle.std.specs.List.{filter, flat_map, range_with_len, sum_by}
 use Rattle.std.specs.List.Sorted.{IsPermutation}
@@ -137,7 +112,8 @@ adds_rearranged amount group p places xs ys old new same adds = record {
   len = adds.len;
   each = λ g below.
       let sum : ℕ → ℕ = λ part. sum_in amount group g (filter p (places part)) in
-      let is : sum_in amount group g (filter p (flat_map places xs)) ≡ sum_in amount group g (filter p (flat_map places ys)) =
+      let is : sum_in amount group g (filter p (flat_map places xs)) ≡ sum_in amount group g (filter p
+      (flat_map places ys)) =
       sum_of_parts amount group p places g xs ∙ sym (sum_by-IsPermutation sum xs ys same)
       ∙ sym (sum_of_parts amount group p places g ys) in
       adds.each g below ∙ ap (λ (s : ℕ). (get_or old g 0 + s) % 2 ^ 64) is;

@@ -1,35 +1,6 @@
 -- The sums of the groups that lines have, one place more at a time.
-use Rattle.std.proofs.Common.{
-  ◌≡◌,
-  ℕ,
-  ◌+◌,
-  ◌%◌,
-  ◌^◌,
-  ◌<◌,
-  ◌≢◌,
-  Bool,
-  true,
-  false,
-  cond,
-  List,
-  [],
-  ◌∷◌,
-  ◌++◌,
-  eqb,
-  refl,
-  ap,
-  sym,
-  ◌∙◌,
-  subst,
-  ◌⊎◌,
-  inl,
-  inr,
-  add-zero,
-  zero-add,
-  Some,
-  None,
-  arith,
-}
+use Rattle.std.proofs.Common.{◌≡◌, ℕ, ◌+◌, ◌%◌, ◌^◌, ◌<◌, ◌≢◌, Bool, true, false, cond, List, [], ◌∷◌, ◌++◌, eqb, refl}
+use Rattle.std.proofs.Common.{ap, sym, ◌∙◌, subst, ◌⊎◌, inl, inr, add-zero, zero-add, Some, None, arith}
 use Rattle.std.specs.Prelude.{nat_eq, unwrap_or}
 use Rattle.std.specs.List.{filter, sum_by, range_with_len}
 use Rattle.std.proofs.Math.Nat.{mod-mod, mod-add-mod, mod-lt}
@@ -48,17 +19,8 @@ use Rattle.scan_kernel.specs.declared.masks.Masks.{Masks}
 use Rattle.scan_kernel.specs.Places.{part_at, group_at, gain_at, loss_at, has_bit}
 use Rattle.scan_kernel.specs.Sums.{sum_in}
 use Rattle.scan_kernel.specs.Totals.{taken}
-use Rattle.scan_kernel.specs.Sparse.{
-  as_group_column,
-  as_group_columns,
-  wide_part_at,
-  nothing,
-  sums_in,
-  AddsLine,
-  AreSumsOf,
-  Fit64,
-  AreSparseTotals,
-}
+use Rattle.scan_kernel.specs.Sparse.{as_group_column, as_group_columns, wide_part_at, nothing, sums_in, AddsLine}
+use Rattle.scan_kernel.specs.Sparse.{AreSumsOf, Fit64, AreSparseTotals}
 use Rattle.scan_kernel.proofs.AddLaws.{sum_in-append}
 
 -- the number of a group is the sum of its columns' parts

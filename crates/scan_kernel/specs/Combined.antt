@@ -1,16 +1,7 @@
 -- The combinations over lines whose keys each name one row.
 use Rattle.std.specs.Prelude.{ℕ, ◌≡◌, Bool, List, All, map, filter, unwrap_or, slice_get, slice_index_or}
-use Rattle.ssb_base.specs.Base.{
-  Dimensions,
-  Tables,
-  IsSound,
-  IsKnown,
-  row_with,
-  customer_key,
-  supplier_key,
-  part_key,
-  date_key,
-}
+use Rattle.ssb_base.specs.Base.{Dimensions, Tables, IsSound, IsKnown, row_with, customer_key, supplier_key, part_key}
+use Rattle.ssb_base.specs.Base.{date_key}
 use Rattle.ssb_schema.specs.Facts.{facts_of}
 use Rattle.ssb_schema.specs.declared.fact.Fact.{Fact}
 use Rattle.ssb_schema.specs.declared.line.LineFields.{LineFields}

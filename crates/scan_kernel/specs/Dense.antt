@@ -1,24 +1,6 @@
 -- Sums and counts by group number.
-use Rattle.std.specs.Prelude.{
-  ℕ,
-  ℤ,
-  pos,
-  ◌≡◌,
-  ◌<◌,
-  ◌+ℤ◌,
-  nat_eq,
-  nat_lt,
-  List,
-  [],
-  ◌∷◌,
-  length,
-  map,
-  filter,
-  Some,
-  None,
-  IsPermutation,
-  if◌then◌else◌,
-}
+use Rattle.std.specs.Prelude.{ℕ, ℤ, pos, ◌≡◌, ◌<◌, ◌+ℤ◌, nat_eq, nat_lt, List, [], ◌∷◌, length, map, filter, Some, None}
+use Rattle.std.specs.Prelude.{IsPermutation, if◌then◌else◌}
 use Rattle.std.specs.List.{fold, range_with_len}
 use Rattle.std.specs.List.Sorted.{IsSorted}
 use Rattle.ssb_questions.specs.Members.{Has}

@@ -1,22 +1,6 @@
 -- Groups by number: each column's values have dense codes, and the codes of a group make its number.
-use Rattle.std.specs.Prelude.{
-  ℕ,
-  ◌≡◌,
-  ◌+◌,
-  ◌*◌,
-  ◌/◌,
-  ◌%◌,
-  ◌<◌,
-  List,
-  [],
-  ◌∷◌,
-  length,
-  map,
-  slice_index_or,
-  slice_get,
-  Some,
-  unwrap_or,
-}
+use Rattle.std.specs.Prelude.{ℕ, ◌≡◌, ◌+◌, ◌*◌, ◌/◌, ◌%◌, ◌<◌, List, [], ◌∷◌, length, map, slice_index_or, slice_get}
+use Rattle.std.specs.Prelude.{Some, unwrap_or}
 use Rattle.std.specs.List.{AllByRecursion, position}
 use Rattle.std.specs.Ordering.{eq_by_cmp}
 use Rattle.ssb_questions.specs.Value.{value_cmp}

@@ -1,29 +1,6 @@
 -- What the scan reads at a place of the columns.
-use Rattle.std.specs.Prelude.{
-  ℕ,
-  ◌≡◌,
-  ◌<◌,
-  ◌≤◌,
-  ◌-◌,
-  ◌*◌,
-  ◌/◌,
-  ◌%◌,
-  ◌^◌,
-  Bool,
-  List,
-  Option,
-  Some,
-  None,
-  All,
-  nat_eq,
-  slice_index,
-  if◌then◌else◌,
-  length,
-  take,
-  map,
-  filter,
-  nat_lt,
-}
+use Rattle.std.specs.Prelude.{ℕ, ◌≡◌, ◌<◌, ◌≤◌, ◌-◌, ◌*◌, ◌/◌, ◌%◌, ◌^◌, Bool, List, Option, Some, None, All, nat_eq}
+use Rattle.std.specs.Prelude.{slice_index, if◌then◌else◌, length, take, map, filter, nat_lt}
 use Rattle.std.specs.List.{sum_by, range_with_len}
 use Rattle.std.specs.Int.{bit_at}
 use Rattle.std.specs.Prelude.{bit_and}

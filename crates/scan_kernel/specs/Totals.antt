@@ -1,19 +1,6 @@
 -- The totals of a question over places, and of a batch.
-use Rattle.std.specs.Prelude.{
-  ℕ,
-  ◌≡◌,
-  ◌<◌,
-  ◌≤◌,
-  ◌^◌,
-  true,
-  All,
-  List,
-  length,
-  filter,
-  replicate,
-  slice_index_or,
-  vec_len,
-}
+use Rattle.std.specs.Prelude.{ℕ, ◌≡◌, ◌<◌, ◌≤◌, ◌^◌, true, All, List, length, filter, replicate, slice_index_or}
+use Rattle.std.specs.Prelude.{vec_len}
 use Rattle.scan_kernel.specs.declared.columns.LineColumns.{LineColumns}
 use Rattle.scan_kernel.specs.declared.columns.Grouping.{Grouping}
 use Rattle.scan_kernel.specs.declared.masks.Masks.{Masks}

@@ -46,7 +46,7 @@ fn add_amounts(places: &[u32], groups: &[u32], amounts: &[u32], sums: &mut [u64]
 }
 
 #[inline(always)]
-fn discounted(price: &[u32], terms: &[u16], place: usize) -> u64
+fn price_times_discount(price: &[u32], terms: &[u16], place: usize) -> u64
     requires price { place < length price.now }
     requires terms { place < length terms.now }
     ensures { result ≡ slice_index price.now place * (slice_index terms.now place % 16) }
@@ -66,7 +66,7 @@ fn add_discounts(places: &[u32], groups: &[u32], price: &[u32], terms: &[u16], s
         sums.new }
 {
     for at in 0..places.len() {
-        let amount = discounted(price, terms, places[at] as usize);
+        let amount = price_times_discount(price, terms, places[at] as usize);
         add(sums, groups[at] as usize, amount);
     }
 }

@@ -15,19 +15,21 @@
 //! The contracts: for each question and group the totals are the number of the lines that it takes there, and what they
 //! add to the measure and take away from it, modulo 2^64, also in several threads (`AreBatchTotals` in
 //! `specs/Totals.antt`); rows made from the counts and sums of any lines, by number, are the answer to the question over
-//! those lines (`AnswersLines` in `specs/Scan.antt`; the answer is that of `ssb_answers`). Where a question has too many
-//! groups for a number each, `sparse_totals` walks over the places for it alone and keeps the sums of the groups that
-//! lines have (`specs/Sparse.antt`), and `answer_sparse` makes the rows of those (`specs/SparseRows.antt`).
+//! those lines (`AnswersAll` in `specs/Dense.antt`, from which the law `answers_lines` has `AnswersLines` of
+//! `specs/Scan.antt`; the answer is that of `ssb_answers`). Where a question has too many groups for a number each,
+//! `sparse_totals` walks over the places for it alone and keeps the sums of the groups that lines have
+//! (`specs/Sparse.antt`), and `answer_sparse` makes the rows of those (`specs/SparseRows.antt`).
 //!
 //! ```text
 //! let totals = parallel_totals(rt, alloc, &lines, &masks, &groupings)?;
-//! let rows = answer_question(alloc, &question, &columns, &counts, &sums)?;
+//! let rows = answer_rows(alloc, &plan, &columns, &counts, &sums)?;
 //! ```
 #![tactic(auto)]
 
 mod adding;
 mod batch;
 mod columns;
+mod input;
 pub mod laws;
 mod masks;
 mod parts;
@@ -43,7 +45,7 @@ mod totals;
 pub use columns::{GroupColumn, Grouping, LineColumns};
 pub use masks::Masks;
 pub use parts::parallel_totals;
-pub use rows::{answer_question, answer_rows};
-pub use sparse::{GroupSums, SparseColumn, SparseTotals, sparse_totals};
+pub use rows::answer_rows;
+pub use sparse::{GroupSums, SparseColumn, SparseGrouping, SparseTotals, sparse_totals};
 pub use sparse_rows::answer_sparse;
 pub use totals::Totals;

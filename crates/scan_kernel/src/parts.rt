@@ -9,6 +9,7 @@ ghost use Rattle.scan_kernel.specs.declared.totals.Totals.{Totals};
 ghost use Rattle.scan_kernel.specs.Totals.{CanScan, CanSumAll, AreBatchTotals};
 
 use crate::columns::{Grouping, LineColumns};
+use crate::input::ScanInput;
 use crate::masks::Masks;
 use crate::range::{no_batch_totals, range_totals};
 use crate::taking::{Taken, part_count, take_in_threads};
@@ -53,17 +54,15 @@ fn merge_batch(into: &mut [Totals], from: &[Totals])
 // What the threads took, added up.
 fn join_taken(
     alloc: Global,
-    lines: &LineColumns<'_>,
-    masks: &Masks,
-    groupings: &[Grouping<'_>],
+    input: ScanInput<'_>,
     takers: &[Result<Taken, AllocError>],
 ) -> Result<Taken, AllocError>
-    requires scan { CanScan lines.now masks.now groupings.now }
-    requires takers { All (IsOfPartsOk lines.now masks.now groupings.now) takers.now }
-    ensures { IfOk result (IsOfParts lines.now masks.now groupings.now) }
+    requires scan { CanScan input.lines.now input.masks.now input.groupings.now }
+    requires takers { All (IsOfPartsOk input.lines.now input.masks.now input.groupings.now) takers.now }
+    ensures { IfOk result (IsOfParts input.entry.lines.now input.entry.masks.now input.entry.groupings.now) }
 {
     let mut parts = Vec::new(alloc);
-    let mut totals = no_batch_totals(alloc, groupings)?;
+    let mut totals = no_batch_totals(alloc, input.groupings)?;
     for taker in takers {
         match taker {
             Ok(taken) => {
@@ -108,11 +107,16 @@ pub fn parallel_totals(
         (range_with_len 0 (length lines.now.customer.now)) v.items) }
 {
     let places = lines.customer.len();
-    let takers = take_in_threads(rt, alloc, lines, masks, groupings)?;
-    let Taken { parts, totals } = join_taken(alloc, lines, masks, groupings, &takers)?;
+    let input = ScanInput {
+        lines,
+        masks,
+        groupings,
+    };
+    let takers = take_in_threads(rt, alloc, input)?;
+    let Taken { parts, totals } = join_taken(alloc, input, &takers)?;
     if are_all(parts, part_count(places)) {
         return Ok(totals);
     }
     // No clause follows the threads: had they left a part out, or taken one twice, one thread would add all up here.
-    range_totals(alloc, lines, masks, groupings, 0, places)
+    range_totals(alloc, input, 0, places)
 }

@@ -8,8 +8,8 @@ ghost use Rattle.scan_kernel.specs.declared.totals.Totals.{Totals};
 ghost use Rattle.scan_kernel.specs.Totals.{CanScan, HaveSizes, AddsBatch, AreBatchTotals, AreZeros};
 
 use crate::batch::{Dealt, Found, add_found};
-use crate::columns::{Grouping, LineColumns};
-use crate::masks::Masks;
+use crate::columns::Grouping;
+use crate::input::ScanInput;
 use crate::search::search;
 use crate::totals::Totals;
 use std::alloc::{AllocError, Global};
@@ -26,59 +26,63 @@ pub struct Room {
 }
 
 /// Adds the places of one chunk to the totals of each question.
-fn add_chunk(
-    lines: &LineColumns<'_>,
-    masks: &Masks,
-    groupings: &[Grouping<'_>],
-    from: usize,
-    to: usize,
-    room: &mut Room,
-    totals: &mut [Totals],
-)
-    requires scan { CanScan lines.now masks.now groupings.now }
-    requires within { to ≤ length lines.now.customer.now }
+fn add_chunk(input: ScanInput<'_>, from: usize, to: usize, room: &mut Room, totals: &mut [Totals])
+    requires scan { CanScan input.lines.now input.masks.now input.groupings.now }
+    requires within { to ≤ length input.lines.now.customer.now }
     requires order { from ≤ to }
     requires room { HasRoom (to - from) room.old }
-    requires sizes { HaveSizes groupings.now totals.old }
+    requires sizes { HaveSizes input.groupings.now totals.old }
     ensures room { (count : ℕ) → HasRoom count room.old → HasRoom count room.new }
-    ensures sizes { HaveSizes groupings.now totals.new }
-    ensures added { AddsBatch lines.now masks.now groupings.now (range_with_len from (to - from)) totals.old
-        totals.new }
+    ensures sizes { HaveSizes input.entry.groupings.now totals.new }
+    ensures added { AddsBatch input.entry.lines.now input.entry.masks.now input.entry.groupings.now
+        (range_with_len from (to - from)) totals.old totals.new }
 {
-    let count = search(lines, masks, from, to, &mut room.places, &mut room.masks);
+    let count = search(
+        input.lines,
+        input.masks,
+        from,
+        to,
+        &mut room.places,
+        &mut room.masks,
+    );
     let found = Found {
         from,
         to,
         places: &room.places[..count],
         masks: &room.masks[..count],
     };
-    add_found(lines, masks, groupings, found, &mut room.dealt, totals);
+    add_found(
+        input.lines,
+        input.masks,
+        input.groupings,
+        found,
+        &mut room.dealt,
+        totals,
+    );
 }
 
 /// Adds the places of a range to the totals of each question, chunk by chunk.
 pub fn add_range(
-    lines: &LineColumns<'_>,
-    masks: &Masks,
-    groupings: &[Grouping<'_>],
+    input: ScanInput<'_>,
     from: usize,
     to: usize,
     room: &mut Room,
     totals: &mut [Totals],
 )
-    requires scan { CanScan lines.now masks.now groupings.now }
-    requires within { to ≤ length lines.now.customer.now }
+    requires scan { CanScan input.lines.now input.masks.now input.groupings.now }
+    requires within { to ≤ length input.lines.now.customer.now }
     requires order { from ≤ to }
     requires room { HasRoom 2048 room.old }
-    requires sizes { HaveSizes groupings.now totals.old }
+    requires sizes { HaveSizes input.groupings.now totals.old }
     ensures room { HasRoom 2048 room.new }
-    ensures sizes { HaveSizes groupings.now totals.new }
-    ensures added { AddsBatch lines.now masks.now groupings.now (range_with_len from (to - from)) totals.old
-        totals.new }
+    ensures sizes { HaveSizes input.entry.groupings.now totals.new }
+    ensures added { AddsBatch input.entry.lines.now input.entry.masks.now input.entry.groupings.now
+        (range_with_len from (to - from)) totals.old totals.new }
 {
     let mut at = from;
     while at < to {
         let end = if to - at > CHUNK { at + CHUNK } else { to };
-        add_chunk(lines, masks, groupings, at, end, room, totals);
+        add_chunk(input, at, end, room, totals);
         at = end;
     }
 }
@@ -160,20 +164,18 @@ pub fn no_batch_totals(alloc: Global, groupings: &[Grouping<'_>]) -> Result<Vec<
 /// The totals of each question over the places from `from` up to `to`.
 pub fn range_totals(
     alloc: Global,
-    lines: &LineColumns<'_>,
-    masks: &Masks,
-    groupings: &[Grouping<'_>],
+    input: ScanInput<'_>,
     from: usize,
     to: usize,
 ) -> Result<Vec<Totals>, AllocError>
-    requires scan { CanScan lines.now masks.now groupings.now }
-    requires within { to ≤ length lines.now.customer.now }
+    requires scan { CanScan input.lines.now input.masks.now input.groupings.now }
+    requires within { to ≤ length input.lines.now.customer.now }
     requires order { from ≤ to }
-    ensures { IfOk result (λ v. AreBatchTotals lines.now masks.now groupings.now (range_with_len from (to - from))
-        v.items) }
+    ensures { IfOk result (λ v. AreBatchTotals input.entry.lines.now input.entry.masks.now
+        input.entry.groupings.now (range_with_len from (to - from)) v.items) }
 {
     let mut room = room_for(alloc, CHUNK)?;
-    let mut totals = no_batch_totals(alloc, groupings)?;
-    add_range(lines, masks, groupings, from, to, &mut room, &mut totals);
+    let mut totals = no_batch_totals(alloc, input.groupings)?;
+    add_range(input, from, to, &mut room, &mut totals);
     Ok(totals)
 }

@@ -4,11 +4,8 @@ ghost use Rattle.std.specs.Prelude.{◌∷◌, if◌then◌else◌};
 ghost use Rattle.ssb_questions.specs.Plan.{OrdersAllGroups};
 ghost use Rattle.scan_kernel.specs.Groups.{size_of, counts_of, group_values};
 ghost use Rattle.scan_kernel.specs.Dense.{dense_rows, AnswersAll};
-ghost use Rattle.scan_kernel.specs.Scan.{AnswersLines};
-ghost use Rattle.ssb_questions.specs.Queries.{plan_over};
 
-use ssb_answers::question::plan;
-use ssb_answers::{Plan, Question, ResultRow, Value, sort_rows};
+use ssb_answers::{Plan, ResultRow, Value, sort_rows};
 use ssb_schema::Items;
 use std::alloc::{AllocError, Global};
 
@@ -108,22 +105,4 @@ pub fn answer_rows(
     let mut rows = rows_by_number(alloc, columns, counts, sums)?;
     sort_rows(plan, &mut rows)?;
     Ok(rows)
-}
-
-/// The rows of a question from counts and sums by group number.
-pub fn answer_question(
-    alloc: Global,
-    question: &Question,
-    columns: &[Items<Value>],
-    counts: &[u64],
-    sums: &[i64],
-) -> Result<Vec<ResultRow>, AllocError>
-    requires columns { length columns.now ≡ length (plan_over question.now.0 question.now.1).groups }
-    requires counts { length counts.now ≡ size_of (counts_of columns.now) }
-    requires sums { length sums.now ≡ size_of (counts_of columns.now) }
-    ensures { IfOk result (λ rows. AnswersLines question.now columns.now (λ g. slice_index counts.now g)
-        (λ g. slice_index_or sums.now g (pos 0)) rows.items) }
-{
-    let plan = plan(alloc, question)?;
-    answer_rows(alloc, &plan, columns, counts, sums)
 }

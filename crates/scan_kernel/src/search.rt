@@ -7,16 +7,6 @@ use crate::columns::LineColumns;
 use crate::masks::Masks;
 use ssb_schema::Items;
 
-/// The masks as slices, of which an untested dimension has none.
-#[derive(Clone, Copy)]
-struct Tables<'a> {
-    customers: &'a [u16],
-    suppliers: &'a [u16],
-    parts: &'a [u16],
-    dates: &'a [u16],
-    terms: &'a [u16],
-}
-
 /// Which dimensions some question tests.
 #[derive(Clone, Copy)]
 struct Tested {
@@ -24,6 +14,17 @@ struct Tested {
     suppliers: bool,
     parts: bool,
     dates: bool,
+}
+
+/// The masks as slices, of which an untested dimension has none.
+#[derive(Clone, Copy)]
+struct Tables<'a> {
+    tested: Tested,
+    customers: &'a [u16],
+    suppliers: &'a [u16],
+    parts: &'a [u16],
+    dates: &'a [u16],
+    terms: &'a [u16],
 }
 
 #[inline(always)]
@@ -93,7 +94,6 @@ fn find_places<const C: bool, const S: bool, const P: bool, const D: bool>(
 fn search_with<const C: bool, const S: bool>(
     lines: LineColumns<'_>,
     tables: Tables<'_>,
-    tested: Tested,
     from: usize,
     to: usize,
     places: &mut [u32],
@@ -104,11 +104,11 @@ fn search_with<const C: bool, const S: bool>(
     requires small { length lines.customer.now ≤ 2 ^ 32 }
     requires room { to ≤ from + length places.old }
     requires marks { length found.old ≡ length places.old }
-    requires covers { CanSearch lines (masks_of C S tested.parts tested.dates tables) }
-    ensures { IsSearch lines.entry (masks_of C S tested.parts tested.dates tables.entry) from to result places.old
-        places.new found.old found.new }
+    requires covers { CanSearch lines (masks_of C S tables.tested.parts tables.tested.dates tables) }
+    ensures { IsSearch lines.entry (masks_of C S tables.entry.tested.parts tables.entry.tested.dates tables.entry)
+        from to result places.old places.new found.old found.new }
 {
-    match (tested.parts, tested.dates) {
+    match (tables.tested.parts, tables.tested.dates) {
         (true, true) => find_places::<C, S, true, true>(lines, tables, from, to, places, found),
         (true, false) => find_places::<C, S, true, false>(lines, tables, from, to, places, found),
         (false, true) => find_places::<C, S, false, true>(lines, tables, from, to, places, found),
@@ -120,7 +120,6 @@ fn search_with<const C: bool, const S: bool>(
 fn search_tables(
     lines: LineColumns<'_>,
     tables: Tables<'_>,
-    tested: Tested,
     from: usize,
     to: usize,
     places: &mut [u32],
@@ -131,23 +130,17 @@ fn search_tables(
     requires small { length lines.customer.now ≤ 2 ^ 32 }
     requires room { to ≤ from + length places.old }
     requires marks { length found.old ≡ length places.old }
-    requires covers { CanSearch lines (masks_of tested.customers tested.suppliers tested.parts tested.dates tables) }
-    ensures { IsSearch lines.entry (masks_of tested.customers tested.suppliers tested.parts tested.dates tables.entry)
-        from to result places.old places.new found.old found.new }
+    requires covers { CanSearch lines (masks_of tables.tested.customers tables.tested.suppliers tables.tested.parts
+        tables.tested.dates tables) }
+    ensures { IsSearch lines.entry (masks_of tables.entry.tested.customers tables.entry.tested.suppliers
+        tables.entry.tested.parts tables.entry.tested.dates tables.entry) from to result places.old places.new
+        found.old found.new }
 {
-    match (tested.customers, tested.suppliers) {
-        (true, true) => {
-            search_with::<true, true>(lines, tables, tested, from, to, places, found)
-        }
-        (true, false) => {
-            search_with::<true, false>(lines, tables, tested, from, to, places, found)
-        }
-        (false, true) => {
-            search_with::<false, true>(lines, tables, tested, from, to, places, found)
-        }
-        (false, false) => {
-            search_with::<false, false>(lines, tables, tested, from, to, places, found)
-        }
+    match (tables.tested.customers, tables.tested.suppliers) {
+        (true, true) => search_with::<true, true>(lines, tables, from, to, places, found),
+        (true, false) => search_with::<true, false>(lines, tables, from, to, places, found),
+        (false, true) => search_with::<false, true>(lines, tables, from, to, places, found),
+        (false, false) => search_with::<false, false>(lines, tables, from, to, places, found),
     }
 }
 
@@ -179,17 +172,17 @@ pub fn search(
     ensures { IsSearch lines.now masks.now from to result places.old places.new found.old found.new }
 {
     let tables = Tables {
+        tested: Tested {
+            customers: masks.customers.is_some(),
+            suppliers: masks.suppliers.is_some(),
+            parts: masks.parts.is_some(),
+            dates: masks.dates.is_some(),
+        },
         customers: table(&masks.customers),
         suppliers: table(&masks.suppliers),
         parts: table(&masks.parts),
         dates: table(&masks.dates),
         terms: masks.terms.as_slice(),
     };
-    let tested = Tested {
-        customers: masks.customers.is_some(),
-        suppliers: masks.suppliers.is_some(),
-        parts: masks.parts.is_some(),
-        dates: masks.dates.is_some(),
-    };
-    search_tables(*lines, tables, tested, from, to, places, found)
+    search_tables(*lines, tables, from, to, places, found)
 }

@@ -25,6 +25,13 @@ pub struct SparseColumn<'a> {
     pub parts: &'a [u128],
 }
 
+/// What a question adds up, and in which groups.
+#[derive(Clone, Copy)]
+pub struct SparseGrouping<'a> {
+    pub measure: Measure,
+    pub columns: &'a [SparseColumn<'a>],
+}
+
 /// How many lines a group has, what they add to the measure and what they take away from it, each modulo 2^64.
 #[derive(Clone, Copy)]
 pub struct GroupSums {
@@ -157,25 +164,27 @@ pub fn sparse_totals(
     lines: &LineColumns<'_>,
     masks: &Masks,
     number: usize,
-    measure: Measure,
-    columns: &[SparseColumn<'_>],
+    grouping: SparseGrouping<'_>,
     size: u128,
 ) -> Result<SparseTotals, AllocError>
     requires few { number < 16 }
     requires covers { CanSearch lines.now masks.now }
-    requires columns { All (λ column. CanNumber (length lines.now.customer.now) (as_group_column column)) columns.now }
+    requires columns { All (λ column. CanNumber (length lines.now.customer.now) (as_group_column column))
+        grouping.columns.now }
     requires groups { (place : ℕ) → place < length lines.now.customer.now
-        → has_bit lines.now masks.now number place ≡ true → group_at (as_group_columns columns.now) place < size }
-    ensures { IfOk result (λ totals. AreSparseTotals lines.now measure (as_group_columns columns.now)
+        → has_bit lines.now masks.now number place ≡ true
+        → group_at (as_group_columns grouping.columns.now) place < size }
+    ensures { IfOk result (λ totals. AreSparseTotals lines.now grouping.entry.measure
+        (as_group_columns grouping.entry.columns.now)
         (taken lines.now masks.now number (range_with_len 0 (length lines.now.customer.now))) size totals) }
 {
     let mut totals = IndexMap::new(alloc);
     let count = lines.customer.len();
     for place in 0..count {
         if takes(lines, masks, number, place) {
-            let group = group_of(columns, place, count);
-            let gain = gain_of(lines, measure, place);
-            let loss = loss_of(lines, measure, place);
+            let group = group_of(grouping.columns, place, count);
+            let gain = gain_of(lines, grouping.measure, place);
+            let loss = loss_of(lines, grouping.measure, place);
             add_line(&mut totals, group, gain, loss)?;
         }
     }

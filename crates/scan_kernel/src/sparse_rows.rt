@@ -2,15 +2,12 @@
 ghost use Rattle.std.specs.Prelude.{◌≡◌, ◌<◌, All, IfOk, length, nat_eq};
 ghost use Rattle.std.specs.List.{IsDistinct};
 ghost use Rattle.ssb_questions.specs.Plan.{OrdersAllGroups};
-ghost use Rattle.ssb_questions.specs.Queries.{plan_over};
 ghost use Rattle.scan_kernel.specs.Groups.{size_of, counts_of, group_values};
 ghost use Rattle.scan_kernel.specs.Dense.{AnswersAll};
-ghost use Rattle.scan_kernel.specs.Scan.{AnswersLines};
 ghost use Rattle.scan_kernel.specs.SparseRows.{count_of, sum_of, sparse_rows};
 
 use crate::rows::{group_of_number, row, sum_at, total_row};
-use ssb_answers::question::plan;
-use ssb_answers::{Plan, Question, ResultRow, Value, sort_rows};
+use ssb_answers::{Plan, ResultRow, Value, sort_rows};
 use ssb_schema::Items;
 use std::alloc::{AllocError, Global};
 
@@ -39,8 +36,8 @@ fn rows_of_numbers(
     Ok(rows)
 }
 
-/// The rows of a plan from the counts and sums of the groups that have combinations.
-fn sparse_answer(
+/// The rows of a plan from the counts and sums of the groups that have combinations, each beside its group's number.
+pub fn answer_sparse(
     alloc: Global,
     plan: &Plan,
     columns: &[Items<Value>],
@@ -66,26 +63,4 @@ fn sparse_answer(
     let mut rows = rows_of_numbers(alloc, columns, numbers, counts, sums)?;
     sort_rows(plan, &mut rows)?;
     Ok(rows)
-}
-
-/// The rows of a question from the counts and sums of the groups that have combinations, each beside its group's
-/// number.
-pub fn answer_sparse(
-    alloc: Global,
-    question: &Question,
-    columns: &[Items<Value>],
-    numbers: &[u128],
-    counts: &[u64],
-    sums: &[i64],
-) -> Result<Vec<ResultRow>, AllocError>
-    requires columns { length columns.now ≡ length (plan_over question.now.0 question.now.1).groups }
-    requires below { All (λ number. number < size_of (counts_of columns.now)) numbers.now }
-    requires apart { IsDistinct nat_eq numbers.now }
-    requires counts { length counts.now ≡ length numbers.now }
-    requires sums { length sums.now ≡ length numbers.now }
-    ensures { IfOk result (λ rows. AnswersLines question.now columns.now (count_of numbers.now counts.now)
-        (sum_of numbers.now sums.now) rows.items) }
-{
-    let plan = plan(alloc, question)?;
-    sparse_answer(alloc, &plan, columns, numbers, counts, sums)
 }

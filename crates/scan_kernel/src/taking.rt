@@ -5,8 +5,7 @@ ghost use Rattle.scan_kernel.specs.Room.{HasRoom};
 ghost use Rattle.scan_kernel.specs.Taken.{IsOfParts, IsOfPartsOk};
 ghost use Rattle.scan_kernel.specs.Totals.{CanScan, HaveSizes, AddsBatch};
 
-use crate::columns::{Grouping, LineColumns};
-use crate::masks::Masks;
+use crate::input::ScanInput;
 use crate::range::{CHUNK, Room, add_range, no_batch_totals, room_for};
 use crate::totals::Totals;
 use rayon::current_num_threads;
@@ -42,49 +41,36 @@ fn part_bound(places: usize, part: usize) -> usize
 }
 
 // Adds the places of a part to the totals of each question.
-fn add_part(
-    lines: &LineColumns<'_>,
-    masks: &Masks,
-    groupings: &[Grouping<'_>],
-    number: u32,
-    room: &mut Room,
-    totals: &mut [Totals],
-)
-    requires scan { CanScan lines.now masks.now groupings.now }
+fn add_part(input: ScanInput<'_>, number: u32, room: &mut Room, totals: &mut [Totals])
+    requires scan { CanScan input.lines.now input.masks.now input.groupings.now }
     requires room { HasRoom 2048 room.old }
-    requires sizes { HaveSizes groupings.now totals.old }
+    requires sizes { HaveSizes input.groupings.now totals.old }
     ensures room { HasRoom 2048 room.new }
-    ensures sizes { HaveSizes groupings.now totals.new }
-    ensures added { AddsBatch lines.now masks.now groupings.now (part_places (length lines.now.customer.now) number)
-        totals.old totals.new }
+    ensures sizes { HaveSizes input.entry.groupings.now totals.new }
+    ensures added { AddsBatch input.entry.lines.now input.entry.masks.now input.entry.groupings.now
+        (part_places (length input.entry.lines.now.customer.now) number) totals.old totals.new }
 {
-    let places = lines.customer.len();
+    let places = input.lines.customer.len();
     let from = part_bound(places, number as usize);
     let to = part_bound(places, number as usize + 1);
-    add_range(lines, masks, groupings, from, to, room, totals);
+    add_range(input, from, to, room, totals);
 }
 
 // Takes a part after another while there are any, and adds each up.
-fn take_parts(
-    alloc: Global,
-    lines: &LineColumns<'_>,
-    masks: &Masks,
-    groupings: &[Grouping<'_>],
-    next: &AtomicU32,
-) -> Result<Taken, AllocError>
-    requires scan { CanScan lines.now masks.now groupings.now }
-    ensures { IfOk result (IsOfParts lines.now masks.now groupings.now) }
+fn take_parts(alloc: Global, input: ScanInput<'_>, next: &AtomicU32) -> Result<Taken, AllocError>
+    requires scan { CanScan input.lines.now input.masks.now input.groupings.now }
+    ensures { IfOk result (IsOfParts input.entry.lines.now input.entry.masks.now input.entry.groupings.now) }
 {
-    let count = part_count(lines.customer.len());
+    let count = part_count(input.lines.customer.len());
     let mut room = room_for(alloc, CHUNK)?;
-    let mut totals = no_batch_totals(alloc, groupings)?;
+    let mut totals = no_batch_totals(alloc, input.groupings)?;
     let mut parts = Vec::new(alloc);
     for _turn in 0..count {
         let number = next.fetch_add(1, Ordering::SeqCst);
         if number >= count {
             return Ok(Taken { parts, totals });
         }
-        add_part(lines, masks, groupings, number, &mut room, &mut totals);
+        add_part(input, number, &mut room, &mut totals);
         parts.push(number)?;
     }
     Ok(Taken { parts, totals })
@@ -102,23 +88,22 @@ fn thread_count(rt: &impl Threads, parts: usize) -> usize {
 pub fn take_in_threads(
     rt: &(impl Threads + Sync),
     alloc: Global,
-    lines: &LineColumns<'_>,
-    masks: &Masks,
-    groupings: &[Grouping<'_>],
+    input: ScanInput<'_>,
 ) -> Result<Vec<Result<Taken, AllocError>>, AllocError>
-    requires scan { CanScan lines.now masks.now groupings.now }
-    ensures { IfOk result (λ v. All (IsOfPartsOk lines.now masks.now groupings.now) v.items) }
+    requires scan { CanScan input.lines.now input.masks.now input.groupings.now }
+    ensures { IfOk result (λ v. All (IsOfPartsOk input.entry.lines.now input.entry.masks.now input.entry.groupings.now)
+        v.items) }
 {
     let next = AtomicU32::new(0);
     let next = &next;
-    let threads = thread_count(rt, part_count(lines.customer.len()) as usize);
+    let threads = thread_count(rt, part_count(input.lines.customer.len()) as usize);
     map_indices(
         rt,
         alloc,
         threads,
         &|_thread: usize| -> Result<Taken, AllocError>
-            requires scan { CanScan lines.now masks.now groupings.now }
-            ensures { IsOfPartsOk lines.entry.now masks.entry.now groupings.entry.now result }
-        { take_parts(alloc, lines, masks, groupings, next) },
+            requires scan { CanScan input.lines.now input.masks.now input.groupings.now }
+            ensures { IsOfPartsOk input.entry.lines.now input.entry.masks.now input.entry.groupings.now result }
+        { take_parts(alloc, input, next) },
     )
 }

@@ -1,24 +1,6 @@
 -- The groups of a question can be numbered and summed.
-use Rattle.std.proofs.Common.{
-  ℕ,
-  zero,
-  suc,
-  ◌≡◌,
-  ◌*◌,
-  ◌<◌,
-  List,
-  [],
-  ◌∷◌,
-  length,
-  map,
-  get_or,
-  refl,
-  sym,
-  ap,
-  ◌∙◌,
-  subst,
-  arith,
-}
+use Rattle.std.proofs.Common.{ℕ, zero, suc, ◌≡◌, ◌*◌, ◌<◌, List, [], ◌∷◌, length, map, get_or, refl, sym, ap, ◌∙◌}
+use Rattle.std.proofs.Common.{subst, arith}
 use Rattle.std.specs.List.{All, AllByRecursion}
 use Rattle.std.proofs.lemmas.List.{length-map}
 use Rattle.ssb_base.specs.Base.{Tables}

@@ -1,26 +1,6 @@
 -- Two lists that have no value twice, and the same values, are equally long.
-use Rattle.std.proofs.Common.{
-  suc,
-  ◌≡◌,
-  ◌<◌,
-  ◌≤◌,
-  Bool,
-  true,
-  false,
-  cond,
-  not,
-  List,
-  [],
-  ◌∷◌,
-  length,
-  refl,
-  sym,
-  ap,
-  ◌∙◌,
-  arith,
-  inl,
-  inr,
-}
+use Rattle.std.proofs.Common.{suc, ◌≡◌, ◌<◌, ◌≤◌, Bool, true, false, cond, not, List, [], ◌∷◌, length, refl, sym, ap}
+use Rattle.std.proofs.Common.{◌∙◌, arith, inl, inr}
 use Rattle.std.specs.List.{filter}
 use Rattle.std.proofs.lemmas.List.Sums.{length-filter, count_by-le-length}
 use Rattle.std.proofs.lemmas.Option.{get_or_from_slice_get, slice_get_within}
@@ -30,14 +10,7 @@ use Rattle.ssb_questions.specs.declared.value.Value.TheVariants.{Number}
 use Rattle.ssb_answers.proofs.MemberLaws.{has_filter}
 use Rattle.dimension_index.specs.Codes.{is_same, distinct}
 use Rattle.scan_kernel.specs.Groups.{AreApart}
-use Rattle.shared_scan.proofs.DistinctLaws.{
-  same_self,
-  not_same,
-  has_index,
-  distinct_apart,
-  distinct_has,
-  distinct_only,
-}
+use Rattle.shared_scan.proofs.DistinctLaws.{same_self, not_same, has_index, distinct_apart, distinct_has, distinct_only}
 
 -- without one of its values a list is shorter
 shorter : (x : Value) (ys : List Value) → Has ys x → length (filter (λ other. not (is_same x other)) ys) < length ys

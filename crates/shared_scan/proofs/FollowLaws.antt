@@ -9,18 +9,8 @@ use Rattle.scan_kernel.specs.declared.totals.Totals.{Totals}
 use Rattle.shared_scan.specs.declared.ready.Ready.{Ready}
 use Rattle.shared_scan.specs.declared.standing.ReadyBatch.{ReadyBatch}
 use Rattle.shared_scan.specs.declared.standing.Standing.{Standing}
-use Rattle.shared_scan.specs.Standing.{
-  takes_line,
-  ShiftsBatch,
-  AreSumsOf,
-  AreTotalsOver,
-  HasNumbersOf,
-  HaveNumbersOf,
-  group_of_line,
-  gain_in,
-  loss_in,
-  size_with,
-}
+use Rattle.shared_scan.specs.Standing.{takes_line, ShiftsBatch, AreSumsOf, AreTotalsOver, HasNumbersOf, HaveNumbersOf}
+use Rattle.shared_scan.specs.Standing.{group_of_line, gain_in, loss_in, size_with}
 use Rattle.shared_scan.specs.Follows.{FollowWith, Follows, Changes}
 use Rattle.shared_scan.proofs.StandingLaws.{totals_come, totals_go}
 

@@ -1,33 +1,6 @@
 -- Which question has too many groups.
-use Rattle.std.proofs.Common.{
-  ℕ,
-  suc,
-  ◌≡◌,
-  ◌+◌,
-  ◌≤◌,
-  Bool,
-  true,
-  false,
-  cond,
-  not,
-  Some,
-  None,
-  List,
-  [],
-  ◌∷◌,
-  length,
-  map,
-  get_or,
-  arith,
-  ap,
-  sym,
-  subst,
-  refl,
-  Result,
-  Ok,
-  Err,
-  ◌∙◌,
-}
+use Rattle.std.proofs.Common.{ℕ, suc, ◌≡◌, ◌+◌, ◌≤◌, Bool, true, false, cond, not, Some, None, List, [], ◌∷◌, length}
+use Rattle.std.proofs.Common.{map, get_or, arith, ap, sym, subst, refl, Result, Ok, Err, ◌∙◌}
 use Rattle.std.specs.Prelude.{nat_lt, slice_get, position}
 use Rattle.std.specs.List.{All, position_or_len}
 use Rattle.std.specs.Option.{option_map}

@@ -1,29 +1,6 @@
 -- The groups that a question was made ready with are as many as it may have.
-use Rattle.std.proofs.Common.{
-  ℕ,
-  ◌≡◌,
-  ◌*◌,
-  Bool,
-  true,
-  false,
-  cond,
-  List,
-  [],
-  ◌∷◌,
-  length,
-  map,
-  take,
-  get_or,
-  Option,
-  Some,
-  None,
-  refl,
-  sym,
-  ap,
-  subst,
-  ◌∙◌,
-  arith,
-}
+use Rattle.std.proofs.Common.{ℕ, ◌≡◌, ◌*◌, Bool, true, false, cond, List, [], ◌∷◌, length, map, take, get_or, Option}
+use Rattle.std.proofs.Common.{Some, None, refl, sym, ap, subst, ◌∙◌, arith}
 use Rattle.std.specs.Prelude.{slice_get}
 use Rattle.std.specs.List.{filter}
 use Rattle.std.specs.Option.{option_map}
@@ -62,14 +39,7 @@ use Rattle.shared_scan.specs.Prepared.{AreMasksOf, masks_in}
 use Rattle.shared_scan.specs.declared.ready.Ready.{Ready}
 use Rattle.shared_scan.proofs.ClassedLaws.{among_all, class_there}
 use Rattle.shared_scan.proofs.CountLaws.{equally_many, distinct_many}
-use Rattle.shared_scan.proofs.DistinctLaws.{
-  has_at,
-  has_index,
-  kept_has,
-  distinct_apart,
-  distinct_has,
-  distinct_only,
-}
+use Rattle.shared_scan.proofs.DistinctLaws.{has_at, has_index, kept_has, distinct_apart, distinct_has, distinct_only}
 
 mapped_row : {R : Type 0} (f : R → Value) (o : Option R) (v : Value) → option_map f o ≡ Some v
     → (row : R) × (o ≡ Some row) × (f row ≡ v)

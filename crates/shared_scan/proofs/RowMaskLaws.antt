@@ -1,31 +1,6 @@
 -- The masks of a dimension's rows, from those of the values in its columns.
-use Rattle.std.proofs.Common.{
-  ℕ,
-  ◌≡◌,
-  ◌+◌,
-  ◌-◌,
-  ◌<◌,
-  ◌≤◌,
-  ◌^◌,
-  Bool,
-  true,
-  List,
-  [],
-  length,
-  map,
-  get_or,
-  take,
-  replicate,
-  Some,
-  None,
-  bit_and,
-  sym,
-  refl,
-  ap,
-  subst,
-  ◌∙◌,
-  arith,
-}
+use Rattle.std.proofs.Common.{ℕ, ◌≡◌, ◌+◌, ◌-◌, ◌<◌, ◌≤◌, ◌^◌, Bool, true, List, [], length, map, get_or, take}
+use Rattle.std.proofs.Common.{replicate, Some, None, bit_and, sym, refl, ap, subst, ◌∙◌, arith}
 use Rattle.std.specs.Prelude.{◌&&◌, slice_get}
 use Rattle.std.specs.List.{list_all}
 use Rattle.std.proofs.lemmas.List.{get_or-map, get_or-replicate, length-map, length-replicate}

@@ -1,31 +1,6 @@
 -- From the totals of a batch over all places to its answers.
-use Rattle.std.proofs.Common.{
-  ℕ,
-  ◌≡◌,
-  ◌*◌,
-  ◌^◌,
-  ◌<◌,
-  ◌≤◌,
-  Vec,
-  Global,
-  List,
-  [],
-  ◌∷◌,
-  length,
-  map,
-  get_or,
-  Some,
-  Result,
-  Ok,
-  Err,
-  IfOk,
-  refl,
-  sym,
-  ap,
-  ◌∙◌,
-  subst,
-  arith,
-}
+use Rattle.std.proofs.Common.{ℕ, ◌≡◌, ◌*◌, ◌^◌, ◌<◌, ◌≤◌, Vec, Global, List, [], ◌∷◌, length, map, get_or, Some, Result}
+use Rattle.std.proofs.Common.{Ok, Err, IfOk, refl, sym, ap, ◌∙◌, subst, arith}
 use Rattle.std.specs.Prelude.{slice_get}
 use Rattle.std.specs.List.{All, range_with_len}
 use Rattle.std.proofs.lemmas.List.{length-map, get_or-map, ext_get_or, length-replicate}

@@ -1,31 +1,6 @@
 -- The sums of the groups that lines have are those of a question.
-use Rattle.std.proofs.Common.{
-  ℕ,
-  ◌≡◌,
-  ◌+◌,
-  ◌<◌,
-  ◌≤◌,
-  ◌^◌,
-  List,
-  [],
-  ◌∷◌,
-  ◌++◌,
-  length,
-  map,
-  take,
-  get_or,
-  Some,
-  None,
-  Bool,
-  true,
-  false,
-  refl,
-  sym,
-  ap,
-  ◌∙◌,
-  subst,
-  arith,
-}
+use Rattle.std.proofs.Common.{ℕ, ◌≡◌, ◌+◌, ◌<◌, ◌≤◌, ◌^◌, List, [], ◌∷◌, ◌++◌, length, map, take, get_or, Some, None}
+use Rattle.std.proofs.Common.{Bool, true, false, refl, sym, ap, ◌∙◌, subst, arith}
 use Rattle.std.specs.Prelude.{nat_eq, slice_get, unwrap_or}
 use Rattle.std.specs.List.{All}
 use Rattle.std.specs.Map.{keys_of, values_of, lookup}
@@ -42,14 +17,7 @@ use Rattle.scan_kernel.specs.declared.sparse.SparseColumn.{SparseColumn}
 use Rattle.scan_kernel.specs.declared.sparse.GroupSums.{GroupSums}
 use Rattle.scan_kernel.specs.Places.{group_at, gain_at, loss_at}
 use Rattle.scan_kernel.specs.Totals.{taken}
-use Rattle.scan_kernel.specs.Sparse.{
-  as_group_column,
-  as_group_columns,
-  nothing,
-  sums_in,
-  AreSumsOf,
-  AreSparseTotals,
-}
+use Rattle.scan_kernel.specs.Sparse.{as_group_column, as_group_columns, nothing, sums_in, AreSumsOf, AreSparseTotals}
 use Rattle.scan_kernel.specs.SparseRows.{beside}
 use Rattle.shared_scan.specs.Summed.{IsSummed, AreSummed}
 use Rattle.shared_scan.proofs.EachLaws.{item_of}

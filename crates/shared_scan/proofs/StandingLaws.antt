@@ -1,38 +1,6 @@
 -- Totals over lines, one line more and one line less.
-use Rattle.std.proofs.Common.{
-  ℕ,
-  ◌≡◌,
-  ◌+◌,
-  ◌%◌,
-  ◌^◌,
-  ◌<◌,
-  ◌≤◌,
-  ◌≢◌,
-  ◌⊎◌,
-  inl,
-  inr,
-  Bool,
-  true,
-  false,
-  cond,
-  eqb,
-  List,
-  [],
-  ◌∷◌,
-  ◌++◌,
-  length,
-  get_or,
-  drop,
-  min,
-  zero,
-  suc,
-  refl,
-  sym,
-  ap,
-  ◌∙◌,
-  subst,
-  arith,
-}
+use Rattle.std.proofs.Common.{ℕ, ◌≡◌, ◌+◌, ◌%◌, ◌^◌, ◌<◌, ◌≤◌, ◌≢◌, ◌⊎◌, inl, inr, Bool, true, false, cond, eqb, List}
+use Rattle.std.proofs.Common.{[], ◌∷◌, ◌++◌, length, get_or, drop, min, zero, suc, refl, sym, ap, ◌∙◌, subst, arith}
 use Rattle.std.specs.List.{sum_by}
 use Rattle.std.specs.Prelude.{nat_eq}
 use Rattle.std.proofs.Math.Nat.{mod-mod, mod-add-mod, add-mod-mod}
@@ -47,19 +15,8 @@ use Rattle.scan_kernel.specs.declared.masks.Masks.{Masks}
 use Rattle.scan_kernel.specs.declared.totals.Totals.{Totals}
 use Rattle.scan_kernel.specs.Sums.{add_at}
 use Rattle.shared_scan.specs.declared.ready.Ready.{Ready}
-use Rattle.shared_scan.specs.Standing.{
-  share,
-  AreSumsOf,
-  AreTotalsOver,
-  Shifts,
-  ShiftsWhere,
-  part_of_line,
-  parts_of_line,
-  takes_line,
-  group_of_line,
-  gain_in,
-  loss_in,
-}
+use Rattle.shared_scan.specs.Standing.{share, AreSumsOf, AreTotalsOver, Shifts, ShiftsWhere, part_of_line}
+use Rattle.shared_scan.specs.Standing.{parts_of_line, takes_line, group_of_line, gain_in, loss_in}
 
 -- a sum over one item more
 pub sum_one_more : {X : Type 0} (f : X → ℕ) (x : X) (before after : List X)
@@ -118,7 +75,8 @@ module _ (takes : ScannedLine → Bool) (group amount : ScannedLine → ℕ) (li
         let share_is : own g line ≡ t = λ i. share (taken i) (group line) g (amount line) in
         let sum_is : sum_by (own g) more ≡ t + rest = one_more_sum (own g) line fewer more one
         ∙ ap (λ (v : ℕ). v + rest) share_is in
-        let none : (s + t) % 2 ^ 64 ≡ 0 = cancels (nat_eq (group line) g) delta (amount line) (2 ^ 64) (omega arith) is in
+        let none : (s + t) % 2 ^ 64 ≡ 0 = cancels (nat_eq (group line) g) delta (amount line) (2 ^ 64)
+        (omega arith) is in
         let turn : t + rest + s ≡ rest + (s + t) = omega arith in
         let alone : rest + 0 ≡ rest = omega arith in
         shifts.each g there ∙ sym (mod-add-mod (get_or old g 0) (2 ^ 64) s)
@@ -217,7 +175,8 @@ module _ (numbers : List ℕ) (group delta : ℕ) where
     go g below (inl (is, same)) =
         let here : share true group g delta ≡ delta = ap (λ (b : Bool). cond b delta 0) is in
         ap (λ (j : ℕ). get_or (add_at numbers group delta) j 0 % 2 ^ 64) (sym same)
-        ∙ ap (λ (v : ℕ). v % 2 ^ 64) (get_or-set_same numbers group ((get_or numbers group 0 + delta) % 2 ^ 64) 0 within)
+        ∙ ap (λ (v : ℕ). v % 2 ^ 64) (get_or-set_same numbers group
+        ((get_or numbers group 0 + delta) % 2 ^ 64) 0 within)
         ∙ mod-mod (get_or numbers group 0 + delta) (2 ^ 64)
         ∙ ap (λ (j : ℕ). (get_or numbers j 0 + delta) % 2 ^ 64) same
         ∙ ap (λ (v : ℕ). (get_or numbers g 0 + v) % 2 ^ 64) (sym here)

@@ -1,33 +1,6 @@
 -- Totals over all places of the columns are those of the live lines, and the other way round.
-use Rattle.std.proofs.Common.{
-  ℕ,
-  suc,
-  ◌≡◌,
-  ◌+◌,
-  ◌%◌,
-  ◌^◌,
-  ◌<◌,
-  ◌&&◌,
-  Bool,
-  true,
-  false,
-  cond,
-  not,
-  List,
-  [],
-  ◌∷◌,
-  length,
-  map,
-  get_or,
-  replicate,
-  refl,
-  sym,
-  ap,
-  ◌∙◌,
-  subst,
-  arith,
-  zero-add,
-}
+use Rattle.std.proofs.Common.{ℕ, suc, ◌≡◌, ◌+◌, ◌%◌, ◌^◌, ◌<◌, ◌&&◌, Bool, true, false, cond, not, List, [], ◌∷◌}
+use Rattle.std.proofs.Common.{length, map, get_or, replicate, refl, sym, ap, ◌∙◌, subst, arith, zero-add}
 use Rattle.std.specs.Prelude.{nat_eq, filter}
 use Rattle.std.specs.Int.{bit_at}
 use Rattle.std.specs.Cmp.{unsigned_Decides}
@@ -63,20 +36,8 @@ use Rattle.shared_scan.specs.Groupings.{IsGroupingWith}
 use Rattle.shared_scan.specs.declared.ready.Ready.{Ready}
 use Rattle.shared_scan.specs.declared.parts.Parts.{Parts}
 use Rattle.shared_scan.specs.declared.parts.Parts.TheVariants.{Narrow, Wide}
-use Rattle.shared_scan.specs.Standing.{
-  takes_line,
-  class_in,
-  part_of_line,
-  parts_of_line,
-  group_with,
-  group_of_line,
-  gain_in,
-  loss_in,
-  share,
-  size_with,
-  AreSumsOf,
-  AreTotalsOver,
-}
+use Rattle.shared_scan.specs.Standing.{takes_line, class_in, part_of_line, parts_of_line, group_with, group_of_line}
+use Rattle.shared_scan.specs.Standing.{gain_in, loss_in, share, size_with, AreSumsOf, AreTotalsOver}
 use Rattle.fact_columns.specs.Watching.{live_places, live_lines, scanned_line}
 use Rattle.shared_scan.proofs.LineLaws.{nowhere, mask_is, free_mask, place_mask}
 use Rattle.shared_scan.proofs.TotalLaws.{gain_is, loss_is}
@@ -101,7 +62,8 @@ sums_shared {X} takes group amount g (x ∷ xs) =
     step : (b c : Bool) → nat_eq (group x) g ≡ c
         → sum_by amount (among (cond b (x ∷ filter takes xs) (filter takes xs))) ≡ cond (b && c) (amount x) 0
         + sum_by amount (among (filter takes xs))
-    step true true is = ap (λ (d : Bool). sum_by amount (cond d (x ∷ among (filter takes xs)) (among (filter takes xs))))
+    step true true is = ap (λ (d : Bool). sum_by amount (cond d (x ∷ among (filter takes xs)) (among
+        (filter takes xs))))
         is ∙ sum_by-cons amount x (among (filter takes xs))
     step true false is = ap (λ (d : Bool). sum_by amount
         (cond d (x ∷ among (filter takes xs)) (among (filter takes xs)))) is

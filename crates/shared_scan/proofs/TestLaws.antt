@@ -1,25 +1,6 @@
 -- A row passes a plan's tests where each of its values passes those of its column.
-use Rattle.std.proofs.Common.{
-  ℕ,
-  suc,
-  ◌≡◌,
-  Bool,
-  true,
-  false,
-  not,
-  List,
-  [],
-  ◌∷◌,
-  map,
-  get_or,
-  nat_eq,
-  Some,
-  refl,
-  sym,
-  ap,
-  ◌∙◌,
-  arith,
-}
+use Rattle.std.proofs.Common.{ℕ, suc, ◌≡◌, Bool, true, false, not, List, [], ◌∷◌, map, get_or, nat_eq, Some, refl, sym}
+use Rattle.std.proofs.Common.{ap, ◌∙◌, arith}
 use Rattle.std.specs.Prelude.{◌&&◌, ◌||◌, slice_get, All}
 use Rattle.std.specs.List.{list_all}
 use Rattle.std.specs.Cmp.{unsigned_Decides}

@@ -1,37 +1,7 @@
 -- Rows that are right for the totals over all places are the answer over the live lines.
-use Rattle.std.proofs.Common.{
-  ℕ,
-  zero,
-  suc,
-  ◌≡◌,
-  ◌*◌,
-  ◌/◌,
-  ◌%◌,
-  ◌^◌,
-  ◌<◌,
-  ◌≤◌,
-  ◌&&◌,
-  List,
-  [],
-  length,
-  map,
-  get_or,
-  replicate,
-  Bool,
-  true,
-  false,
-  cond,
-  not,
-  Some,
-  refl,
-  sym,
-  ap,
-  ◌∙◌,
-  arith,
-  subst,
-  zero-add,
-  ◌+◌,
-}
+use Rattle.std.proofs.Common.{ℕ, zero, suc, ◌≡◌, ◌*◌, ◌/◌, ◌%◌, ◌^◌, ◌<◌, ◌≤◌, ◌&&◌, List, [], length, map, get_or}
+use Rattle.std.proofs.Common.{replicate, Bool, true, false, cond, not, Some, refl, sym, ap, ◌∙◌, arith, subst, zero-add}
+use Rattle.std.proofs.Common.{◌+◌}
 use Rattle.std.specs.Prelude.{pos, ◌-ℤ◌, nat_eq, nat_lt, slice_get, filter}
 use Rattle.std.specs.List.{All, AllByRecursion, range_with_len, sum_by}
 use Rattle.std.specs.Int.{bit_at}
@@ -83,16 +53,7 @@ use Rattle.shared_scan.specs.Laws.{AreLinesOf}
 use Rattle.shared_scan.proofs.RowLaws.{known_key}
 use Rattle.shared_scan.proofs.LineLaws.{nowhere, rows_stand, mask_is, live_mask, free_mask, place_mask}
 use Rattle.shared_scan.proofs.NumberLaws.{number_is}
-use Rattle.shared_scan.proofs.SumLaws.{
-  list_at,
-  map_twice,
-  sum_mapped,
-  gain_of,
-  loss_of,
-  line_sum_is,
-  exact,
-  bounded,
-}
+use Rattle.shared_scan.proofs.SumLaws.{list_at, map_twice, sum_mapped, gain_of, loss_of, line_sum_is, exact, bounded}
 
 -- any combination
 abbrev pub blank : Combination

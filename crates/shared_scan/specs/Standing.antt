@@ -1,28 +1,6 @@
 -- Questions whose totals follow the live lines.
-use Rattle.std.specs.Prelude.{
-  ℕ,
-  ◌≡◌,
-  ◌+◌,
-  ◌*◌,
-  ◌/◌,
-  ◌%◌,
-  ◌^◌,
-  ◌<◌,
-  ◌&&◌,
-  Bool,
-  true,
-  nat_eq,
-  nat_lt,
-  List,
-  [],
-  ◌∷◌,
-  length,
-  slice_index,
-  slice_index_or,
-  bit_and,
-  MatchBool,
-  if◌then◌else◌,
-}
+use Rattle.std.specs.Prelude.{ℕ, ◌≡◌, ◌+◌, ◌*◌, ◌/◌, ◌%◌, ◌^◌, ◌<◌, ◌&&◌, Bool, true, nat_eq, nat_lt, List, [], ◌∷◌}
+use Rattle.std.specs.Prelude.{length, slice_index, slice_index_or, bit_and, MatchBool, if◌then◌else◌}
 use Rattle.std.specs.List.{sum_by}
 use Rattle.std.specs.Int.{bit_at}
 use Rattle.ssb_base.specs.Base.{Tables}

@@ -1,6 +1,5 @@
 //! The totals of questions with a line more, or a line less.
-ghost use Rattle.std.specs.Prelude.{◌≡◌, ◌<◌, ◌≤◌, length, nat_eq};
-ghost use Rattle.std.specs.Int.{bit_at};
+ghost use Rattle.std.specs.Prelude.{◌≡◌, ◌<◌, ◌≤◌, length};
 ghost use Rattle.scan_kernel.specs.Sums.{add_at};
 ghost use Rattle.shared_scan.specs.Standing.{Shifts, ShiftsLine, ShiftsWhere, ShiftsBatch, group_of_line};
 
@@ -55,20 +54,18 @@ fn shift_question(
     shift_group(totals, group, change);
 }
 
-/// The same, where it is told by a mask whether the question takes the line.
+/// The same, where it is said whether the question takes the line.
 fn shift_where(
     index: &FirstRows,
     ready: &Ready,
     line: &ScannedLine,
     comes: bool,
-    mask: u16,
-    number: usize,
+    is_taken: bool,
     totals: &mut Totals,
 )
-    requires { number < 16 }
-    ensures { ShiftsWhere (nat_eq (bit_at mask number) 1) index.now ready.now line.now comes totals.old totals.new }
+    ensures { ShiftsWhere is_taken index.now ready.now line.now comes totals.old totals.new }
 {
-    if has_bit(mask, number) {
+    if is_taken {
         shift_question(index, ready, line, comes, totals);
     }
 }
@@ -92,7 +89,8 @@ pub fn shift_line(
         return;
     }
     for number in 0..all.len() {
+        let is_taken = has_bit(mask, number);
         let sums = &mut totals[number];
-        shift_where(index, &all[number], line, comes, mask, number, sums);
+        shift_where(index, &all[number], line, comes, is_taken, sums);
     }
 }

@@ -14,7 +14,8 @@ use crate::ready::Ready;
 use crate::sums::difference;
 use dimension_index::FirstRows;
 use scan_kernel::{
-    GroupSums, LineColumns, Masks, SparseColumn, SparseTotals, answer_sparse, sparse_totals,
+    GroupSums, LineColumns, Masks, SparseColumn, SparseGrouping, SparseTotals, answer_sparse,
+    sparse_totals,
 };
 use ssb_answers::ResultRow;
 use ssb_schema::{Column, Items};
@@ -105,20 +106,16 @@ pub fn sparse_rows(
     ensures { IfOk result (λ rows. AreRowsOver index.now lines.now masks.now number ready.now rows.items) }
 {
     let columns = sparse_columns(alloc, index, lines, ready.plan.groups.as_slice(), parts)?;
+    let grouping = SparseGrouping {
+        measure: ready.plan.measure,
+        columns: &columns,
+    };
     let size = ready.groups.size;
-    let totals = sparse_totals(
-        alloc,
-        lines,
-        masks,
-        number,
-        ready.plan.measure,
-        &columns,
-        size,
-    )?;
+    let totals = sparse_totals(alloc, lines, masks, number, grouping, size)?;
     let list = list_groups(alloc, &totals)?;
     answer_sparse(
         alloc,
-        &ready.question,
+        &ready.plan,
         &ready.groups.columns,
         &list.numbers,
         &list.counts,

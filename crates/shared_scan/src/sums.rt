@@ -1,9 +1,12 @@
 //! The rows of questions from their totals.
-ghost use Rattle.std.specs.Prelude.{◌≡◌, ℕ, ◌<◌, ◌≤◌, ◌^◌, ◌-ℤ◌, pos, IfOk, length, slice_index, slice_index_or};
+ghost use Rattle.std.specs.Prelude.{◌≡◌, ℕ, List, ◌<◌, ◌≤◌, ◌^◌, ◌-ℤ◌, pos, IfOk, length, slice_index, slice_index_or};
 ghost use Rattle.std.specs.Prelude.{vec_len};
 ghost use Rattle.scan_kernel.specs.Groups.{counts_of, size_of};
 ghost use Rattle.scan_kernel.specs.Scan.{AnswersLines};
+ghost use Rattle.ssb_questions.specs.Plan.{OrdersAllGroups};
 ghost use Rattle.ssb_questions.specs.Queries.{plan_over};
+ghost use Rattle.ssb_questions.specs.declared.query.Query.{Query};
+ghost use Rattle.ssb_questions.specs.declared.value.Value.{Value as Constant};
 ghost use Rattle.scan_kernel.specs.Places.{CanSearch};
 ghost use Rattle.shared_scan.specs.TotalRows.{AreSmall, FitGroups, AreDenseRows, CanAnswer, CanAnswerAll, AreRowsOf};
 ghost use Rattle.shared_scan.specs.TotalRows.{AreBatchRows};
@@ -12,8 +15,8 @@ use crate::parts::Parts;
 use crate::ready::Ready;
 use crate::sparse::sparse_rows;
 use dimension_index::FirstRows;
-use scan_kernel::{LineColumns, Masks, Totals, answer_question};
-use ssb_answers::{Question, ResultRow, Rows, Value};
+use scan_kernel::{LineColumns, Masks, Totals, answer_rows};
+use ssb_answers::{Plan, ResultRow, Rows, Value};
 use ssb_schema::Items;
 use std::alloc::{AllocError, Global};
 
@@ -42,21 +45,23 @@ fn differences(alloc: Global, gains: &[u64], losses: &[u64]) -> Result<Vec<i64>,
     Ok(sums)
 }
 
-/// The rows of a question from its totals, where each group column lists its values by code.
+/// The rows of a plan from the totals of its question, where each group column lists its values by code.
 fn rows_of(
     alloc: Global,
-    question: &Question,
+    plan: &Plan,
     columns: &[Items<Value>],
     totals: &Totals,
 ) -> Result<Vec<ResultRow>, AllocError>
-    requires columns { length columns.now ≡ length (plan_over question.now.0 question.now.1).groups }
+    requires ordered { OrdersAllGroups plan.now }
+    requires columns { length columns.now ≡ length plan.now.groups }
     requires counts { vec_len totals.now.counts ≡ size_of (counts_of columns.now) }
     requires small { AreSmall totals.now }
-    ensures { IfOk result (λ rows. AnswersLines question.now columns.now (λ g. slice_index totals.now.counts.items g)
+    ensures { (question : Query × List Constant) → plan.now ≡ plan_over question.0 question.1
+        → IfOk result (λ rows. AnswersLines question columns.now (λ g. slice_index totals.now.counts.items g)
         (λ g. pos (slice_index totals.now.gains.items g) -ℤ pos (slice_index totals.now.losses.items g)) rows.items) }
 {
     let sums = differences(alloc, &totals.gains, &totals.losses)?;
-    let rows = answer_question(alloc, question, columns, &totals.counts, &sums)?;
+    let rows = answer_rows(alloc, plan, columns, &totals.counts, &sums)?;
     Ok(rows)
 }
 
@@ -67,15 +72,15 @@ fn fit_64_bits(numbers: &[u64])
 
 /// The rows of a question from totals that have a number for each of its groups.
 fn dense_rows(alloc: Global, ready: &Ready, totals: &Totals) -> Result<Vec<ResultRow>, AllocError>
-    requires columns { vec_len ready.now.groups.columns ≡ length
-        (plan_over ready.now.question.0 ready.now.question.1).groups }
+    requires plan { ready.now.plan ≡ plan_over ready.now.question.0 ready.now.question.1 }
+    requires columns { vec_len ready.now.groups.columns ≡ length ready.now.plan.groups }
     requires fit { FitGroups ready.now totals.now }
     ensures { IfOk result (λ rows. AreDenseRows ready.now totals.now rows.items) }
 {
     fit_64_bits(&totals.counts);
     fit_64_bits(&totals.gains);
     fit_64_bits(&totals.losses);
-    rows_of(alloc, &ready.question, &ready.groups.columns, totals)
+    rows_of(alloc, &ready.plan, &ready.groups.columns, totals)
 }
 
 /// The lines that a batch goes over, and the masks of their rows.

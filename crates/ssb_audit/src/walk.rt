@@ -2,6 +2,7 @@
 
 ghost use Rattle.std.specs.Prelude.{◌≡◌, ◌≤◌, if◌then◌else◌, min, [], All, List, length, IfOk, IsPermutation};
 ghost use Rattle.std.specs.List.Sorted.{IsNonDecreasingBy};
+ghost use Rattle.ssb_base.specs.Base.{IsSound};
 ghost use Rattle.row_store.specs.History.{CommitRecord};
 ghost use Rattle.row_store.specs.Legal.{IsLegal};
 ghost use Rattle.row_store.specs.State.{StandsFor, state_of};
@@ -90,20 +91,19 @@ fn check_batch<R: Threads + Sync>(
 fn walk<R: Threads + Sync>(
     rt: &R,
     alloc: Global,
-    base: &Base,
     columns: &mut Columns,
     commits: &[Commit],
     answers: &[Told],
     visits: &[Visit],
 ) -> Result<usize, AllocError>
-    requires loaded { columns_state columns.old ≡ state_of base.now [] }
-    requires legal { IsLegal base.now commits.now }
+    requires loaded { columns_state columns.old ≡ state_of columns.old.base [] }
+    requires sound { IsSound columns.old.base }
+    requires legal { IsLegal columns.old.base commits.now }
     requires within { All (λ told. told.at ≤ length commits.now) answers.now }
     requires each { IsPermutation (spec.visits_of answers.now) visits.now }
     requires sorted { IsNonDecreasingBy (λ visit. visit.at) visits.now }
-    ensures { IfOk result (λ place. IsFirstWrong base.now commits.now answers.now place) }
+    ensures { IfOk result (λ place. IsFirstWrong columns.old.base commits.now answers.now place) }
 {
-    base.soundness();
     let mut first = answers.len();
     let mut begin = 0;
     while begin < visits.len() {
@@ -133,13 +133,6 @@ pub(crate) fn first_wrong<R: Threads + Sync>(
     let visits = visits_of(alloc, answers)?;
     let index = index_of(alloc, base)?;
     let mut columns = Columns::new(rt, alloc, index, hashing)?;
-    walk(
-        rt,
-        alloc,
-        base,
-        &mut columns,
-        commits,
-        answers,
-        visits.as_slice(),
-    )
+    base.soundness();
+    walk(rt, alloc, &mut columns, commits, answers, visits.as_slice())
 }

@@ -16,5 +16,5 @@ loop-at-preserved c =
       len = ap length c.add.ensures ∙ length-set c.loop-at.sums _ _ ∙ c.loop-at.invariant.len;
       added = λ group are. adds_more (λ place. get_or c.args.price.now place 0 * (get_or c.args.terms.now place 0 % 16))
           group c.args.places.now c.args.groups.now c.loop-at.at _ _ _ _ _ are (c.loop-at.invariant.added group are)
-          c.loop-at-test.true room refl c.discounted-amount.ensures c.add.ensures;
+          c.loop-at-test.true room refl c.price_times_discount-amount.ensures c.add.ensures;
     }

@@ -9,39 +9,44 @@ use Rattle.scan_kernel.proofs.parts.join_taken.Goals as goal
 
 pub loop-taker-init : goal.loop-taker-init
 loop-taker-init c =
-    let lines = c.args.lines.now in
+    let lines = c.args.input.lines.now in
     let all = c.in_ok-totals.totals.items in
-    subst (λ parts. AreBatchTotals lines c.args.masks.now c.args.groupings.now
+    subst (λ parts. AreBatchTotals lines c.args.input.masks.now c.args.input.groupings.now
     (places_of_parts (length lines.customer.now) parts) all) (sym c.new-parts.ensures.items)
-    (no_places lines c.args.masks.now c.args.groupings.now all c.in_ok-totals.ensures.all c.in_ok-totals.ensures.each)
+    (no_places lines c.args.input.masks.now c.args.input.groupings.now all c.in_ok-totals.ensures.all
+    c.in_ok-totals.ensures.each)
 
 pub merge_batch-requires-clause-all : goal.merge_batch-requires-clause-all
 merge_batch-requires-clause-all c =
-    let of_parts = IsOfPartsOk c.args.lines.now c.args.masks.now c.args.groupings.now in
+    let of_parts = IsOfPartsOk c.args.input.lines.now c.args.input.masks.now c.args.input.groupings.now in
     let own = subst of_parts (c.in-Ok.is)
-    (subst of_parts (sym c.taker-item.is) (c.requires.takers c.loop-taker.taker-index c.taker-item.result c.loop-taker-test.true)) in
+    (subst of_parts (sym c.taker-item.is) (c.requires.takers c.loop-taker.taker-index c.taker-item.result
+    c.loop-taker-test.true)) in
     rw (c.deref-in-Ok.ensures.value, c.deref_mut.ensures.value) (own.all ∙ sym c.loop-taker.invariant.all)
 
 pub merge_batch-requires-clause-sizes : goal.merge_batch-requires-clause-sizes
 merge_batch-requires-clause-sizes c =
-    let lines = c.args.lines.now in
-    let masks = c.args.masks.now in
-    let groupings = c.args.groupings.now in
+    let lines = c.args.input.lines.now in
+    let masks = c.args.input.masks.now in
+    let groupings = c.args.input.groupings.now in
     let of_parts = IsOfPartsOk lines masks groupings in
     let own = subst of_parts (c.in-Ok.is)
-    (subst of_parts (sym c.taker-item.is) (c.requires.takers c.loop-taker.taker-index c.taker-item.result c.loop-taker-test.true)) in
+    (subst of_parts (sym c.taker-item.is) (c.requires.takers c.loop-taker.taker-index c.taker-item.result
+    c.loop-taker-test.true)) in
     rw (c.deref-in-Ok.ensures.value, c.deref_mut.ensures.value)
-    (merge_sizes lines masks groupings _ _ c.loop-taker.totals.items c.in-Ok.taken.totals.items c.loop-taker.invariant own)
+    (merge_sizes lines masks groupings _ _ c.loop-taker.totals.items c.in-Ok.taken.totals.items c.loop-taker.invariant
+    own)
 
 pub loop-taker-preserved : goal.loop-taker-preserved
 loop-taker-preserved c =
-    let lines = c.args.lines.now in
-    let masks = c.args.masks.now in
-    let groupings = c.args.groupings.now in
+    let lines = c.args.input.lines.now in
+    let masks = c.args.input.masks.now in
+    let groupings = c.args.input.groupings.now in
     let n = length lines.customer.now in
     let of_parts = IsOfPartsOk lines masks groupings in
     let own = subst of_parts (c.in-Ok.is)
-    (subst of_parts (sym c.taker-item.is) (c.requires.takers c.loop-taker.taker-index c.taker-item.result c.loop-taker-test.true)) in
+    (subst of_parts (sym c.taker-item.is) (c.requires.takers c.loop-taker.taker-index c.taker-item.result
+    c.loop-taker-test.true)) in
     let parts = c.loop-taker.parts.items in
     let theirs = c.in-Ok.taken.parts.items in
     let mid = c.loop-taker.totals in
@@ -56,4 +61,5 @@ loop-taker-preserved c =
     subst (AreBatchTotals lines masks groupings (places_of_parts n c.extend_from_slice.new.self.items))
     (sym (with_items_is mid new as_long))
     (subst (λ places. AreBatchTotals lines masks groupings places new) (sym joined)
-    (batch_merged lines masks groupings _ _ mid.items c.in-Ok.taken.totals.items new c.loop-taker.invariant own len merged))
+    (batch_merged lines masks groupings _ _ mid.items c.in-Ok.taken.totals.items new c.loop-taker.invariant own len
+    merged))

@@ -19,20 +19,21 @@ loop-at-preserved c =
       within = inside;
       room = c.add_chunk.ensures.room 2048 old.room;
       sizes = c.add_chunk.ensures.sizes;
-      added = batch_on c.args.lines.now c.args.masks.now c.args.groupings.now c.args.from at end c.args.totals.now
+      added = batch_on c.args.input.lines.now c.args.input.masks.now c.args.input.groupings.now c.args.from at end
+          c.args.totals.now
           c.loop-at.totals c.add_chunk.new.totals old.order order old.added c.add_chunk.ensures.added;
     }
 
 pub returns-clause-added : goal.returns-clause-added
 returns-clause-added c =
-    let P : ℕ → Type 0 = λ e. AddsBatch c.args.lines.now c.args.masks.now c.args.groupings.now
+    let P : ℕ → Type 0 = λ e. AddsBatch c.args.input.lines.now c.args.input.masks.now c.args.input.groupings.now
     (range_with_len c.args.from (e - c.args.from)) c.args.totals.now c.loop-at.totals in
     let at_end : c.loop-at.at ≡ c.args.to = omega (arith, c.loop-at.invariant.within) in
     subst P at_end c.loop-at.invariant.added
 
 pub loop-at-init : goal.loop-at-init
 loop-at-init c =
-    let P : ℕ → Type 0 = λ n. AddsBatch c.args.lines.now c.args.masks.now c.args.groupings.now
+    let P : ℕ → Type 0 = λ n. AddsBatch c.args.input.lines.now c.args.input.masks.now c.args.input.groupings.now
     (range_with_len c.args.from n) c.args.totals.now c.args.totals.now in
     let none : 0 ≡ c.args.from - c.args.from = omega arith in
     record {
@@ -40,5 +41,6 @@ loop-at-init c =
       within = omega arith;
       room = c.requires.room;
       sizes = c.requires.sizes;
-      added = subst P none (batch_none c.args.lines.now c.args.masks.now c.args.groupings.now c.args.totals.now);
+      added = subst P none (batch_none c.args.input.lines.now c.args.input.masks.now c.args.input.groupings.now
+          c.args.totals.now);
     }

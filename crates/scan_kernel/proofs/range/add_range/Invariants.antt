@@ -12,7 +12,7 @@ invariant-loop-at l = record {
   order : l.initial.at ≤ l.at;
   within : l.at ≤ l.to;
   room : HasRoom 2048 l.room;
-  sizes : HaveSizes l.groupings l.totals;
-  added : AddsBatch l.lines l.masks l.groupings (range_with_len l.initial.at (l.at - l.initial.at)) l.initial.totals
-      l.totals;
+  sizes : HaveSizes l.input.groupings.now l.totals;
+  added : AddsBatch l.input.lines.now l.input.masks.now l.input.groupings.now
+      (range_with_len l.initial.at (l.at - l.initial.at)) l.initial.totals l.totals;
 }

@@ -8,16 +8,16 @@ use Rattle.scan_kernel.proofs.range.range_totals.Goals as goal
 
 pub add_range-requires-clause-sizes : goal.add_range-requires-clause-sizes
 add_range-requires-clause-sizes c =
-    let P : List Totals → Type 0 = λ ts. HaveSizes c.args.groupings.now ts in
-    subst P (sym c.deref_mut.ensures.value) (zeros_sized c.args.groupings.now c.in_ok-totals.totals.items
+    let P : List Totals → Type 0 = λ ts. HaveSizes c.args.input.groupings.now ts in
+    subst P (sym c.deref_mut.ensures.value) (zeros_sized c.args.input.groupings.now c.in_ok-totals.totals.items
     c.in_ok-totals.ensures.all c.in_ok-totals.ensures.each)
 
 pub returns : goal.returns
 returns c =
     let range = range_with_len c.args.from (c.args.to - c.args.from) in
-    let lines = c.args.lines.now in
-    let masks = c.args.masks.now in
-    let groupings = c.args.groupings.now in
+    let lines = c.args.input.lines.now in
+    let masks = c.args.input.masks.now in
+    let groupings = c.args.input.groupings.now in
     let new = c.add_range.new.totals in
     let P : List Totals → Type 0 = λ ts. AddsBatch lines masks groupings range ts new in
     let added = subst P c.deref_mut.ensures.value c.add_range.ensures.added in

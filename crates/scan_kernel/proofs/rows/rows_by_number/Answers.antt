@@ -9,10 +9,8 @@ use Rattle.ssb_answers.specs.declared.answer.ResultRow.{ResultRow}
 use Rattle.scan_kernel.specs.Groups.{group_values}
 use Rattle.scan_kernel.proofs.RowLaws.{rows_push, rows_stay}
 use Rattle.scan_kernel.proofs.rows.rows_by_number.Goals as goal
-use Rattle.scan_kernel.proofs.rows.rows_by_number.Goals.{
-  then-counts-number-gt0+in_ok-groups+in_ok-push,
-  else-counts-number-gt0,
-}
+use Rattle.scan_kernel.proofs.rows.rows_by_number.Goals.{then-counts-number-gt0+in_ok-groups+in_ok-push}
+use Rattle.scan_kernel.proofs.rows.rows_by_number.Goals.{else-counts-number-gt0}
 
 pub loop-number-preserved : goal.loop-number-preserved
 loop-number-preserved c =

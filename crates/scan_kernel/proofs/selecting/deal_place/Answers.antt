@@ -1,4 +1,5 @@
-use Rattle.std.proofs.Common.{◌≡◌, ◌≢◌, ◌<◌, ◌*◌, ◌%◌, ◌^◌, ◌++◌, ◌∙◌, ◌∷◌, [], Vec, Global, ℕ, ap, bit_and, length, subst, sym, arith}
+use Rattle.std.proofs.Common.{◌≡◌, ◌≢◌, ◌<◌, ◌*◌, ◌%◌, ◌^◌, ◌++◌, ◌∙◌, ◌∷◌, [], Vec, Global, ℕ, ap, bit_and, length}
+use Rattle.std.proofs.Common.{subst, sym, arith}
 use Rattle.std.specs.Int.{bit_at, bit_not, trailing_zeros, w16}
 use Rattle.std.specs.Prelude.{vec_capacity, vec_len}
 use Rattle.std.proofs.lemmas.Nat.{and_le_l}

@@ -9,10 +9,8 @@ use Rattle.ssb_answers.specs.declared.answer.ResultRow.{ResultRow}
 use Rattle.scan_kernel.specs.Groups.{group_values}
 use Rattle.scan_kernel.proofs.SparseRowLaws.{row_more, row_same}
 use Rattle.scan_kernel.proofs.sparse_rows.rows_of_numbers.Goals as goal
-use Rattle.scan_kernel.proofs.sparse_rows.rows_of_numbers.Goals.{
-  then-counts-at-gt0+in_ok-groups+in_ok-push,
-  else-counts-at-gt0,
-}
+use Rattle.scan_kernel.proofs.sparse_rows.rows_of_numbers.Goals.{then-counts-at-gt0+in_ok-groups+in_ok-push}
+use Rattle.scan_kernel.proofs.sparse_rows.rows_of_numbers.Goals.{else-counts-at-gt0}
 
 pub loop-at-preserved : goal.loop-at-preserved
 loop-at-preserved c =

@@ -7,8 +7,9 @@ use Rattle.scan_kernel.proofs.taking.add_part.Goals as goal
 pub returns-clause-added : goal.returns-clause-added
 returns-clause-added c =
     let Added : ℕ → ℕ → Type 0 = λ from to.
-    AddsBatch c.args.lines.now c.args.masks.now c.args.groupings.now (range_with_len from (to - from)) c.args.totals.now
+    AddsBatch c.args.input.lines.now c.args.input.masks.now c.args.input.groupings.now (range_with_len from
+    (to - from)) c.args.totals.now
     c.add_range.new.totals in
-    subst (λ from. Added from (bound (length c.args.lines.now.customer.now) (c.args.number + 1)))
+    subst (λ from. Added from (bound (length c.args.input.lines.now.customer.now) (c.args.number + 1)))
     c.part_bound-from.ensures
     (subst (λ to. Added c.part_bound-from.result to) c.part_bound-to.ensures c.add_range.ensures.added)

@@ -9,26 +9,28 @@ use Rattle.scan_kernel.proofs.taking.take_parts.Goals as goal
 
 pub loop-turn-init : goal.loop-turn-init
 loop-turn-init c =
-    let lines = c.args.lines.now in
-    let groupings = c.args.groupings.now in
+    let lines = c.args.input.lines.now in
+    let groupings = c.args.input.groupings.now in
     let all = c.in_ok-totals.totals.items in
-    let none = no_places lines c.args.masks.now groupings all c.in_ok-totals.ensures.all c.in_ok-totals.ensures.each in
+    let none = no_places lines c.args.input.masks.now groupings all c.in_ok-totals.ensures.all
+    c.in_ok-totals.ensures.each in
     record {
       room = c.in_ok-room.ensures;
       sizes = zeros_sized groupings all c.in_ok-totals.ensures.all c.in_ok-totals.ensures.each;
-      totals = subst (λ parts. AreBatchTotals lines c.args.masks.now groupings (places_of_parts (length lines.customer.now) parts) all)
+      totals = subst (λ parts. AreBatchTotals lines c.args.input.masks.now groupings (places_of_parts
+          (length lines.customer.now) parts) all)
           (sym c.new-parts.ensures.items) none;
     }
 
 pub add_part-requires-clause-sizes : goal.add_part-requires-clause-sizes
 add_part-requires-clause-sizes c =
-    subst (HaveSizes c.args.groupings.now) (sym c.deref_mut.ensures.value) c.loop-turn.invariant.sizes
+    subst (HaveSizes c.args.input.groupings.now) (sym c.deref_mut.ensures.value) c.loop-turn.invariant.sizes
 
 pub loop-turn-preserved : goal.loop-turn-preserved
 loop-turn-preserved c =
-    let lines = c.args.lines.now in
-    let masks = c.args.masks.now in
-    let groupings = c.args.groupings.now in
+    let lines = c.args.input.lines.now in
+    let masks = c.args.input.masks.now in
+    let groupings = c.args.input.groupings.now in
     let n = length lines.customer.now in
     let parts = c.loop-turn.parts.items in
     let mid = c.loop-turn.totals in
@@ -36,9 +38,11 @@ loop-turn-preserved c =
     let as_long : length new ≡ mid.len =
     omega (arith, c.add_part.ensures.sizes.all, c.loop-turn.invariant.sizes.all, mid.ok) in
     let is = sym (with_items_is mid new as_long) in
-    let added = subst (λ (ts : List Totals). AddsBatch lines masks groupings (part_places n c.fetch_add-number.result) ts new)
+    let added = subst (λ (ts : List Totals). AddsBatch lines masks groupings
+    (part_places n c.fetch_add-number.result) ts new)
     c.deref_mut.ensures.value c.add_part.ensures.added in
-    let more = batch_more lines masks groupings (places_of_parts n parts) _ mid.items new c.loop-turn.invariant.totals added
+    let more = batch_more lines masks groupings (places_of_parts n parts) _ mid.items new c.loop-turn.invariant.totals
+    added
     c.add_part.ensures.sizes in
     let pushed = ap (places_of_parts n) c.in_ok-push.ensures.items ∙ places_push n parts c.fetch_add-number.result in
     record {

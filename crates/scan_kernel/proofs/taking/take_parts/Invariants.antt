@@ -7,7 +7,8 @@ use Rattle.scan_kernel.proofs.taking.take_parts.Given as goal
 abbrev pub invariant-loop-turn : goal.invariant-loop-turn
 invariant-loop-turn l = record {
   room : HasRoom 2048 l.room;
-  sizes : HaveSizes l.groupings l.totals.items;
-  totals : AreBatchTotals l.lines l.masks l.groupings (places_of_parts (length l.lines.customer.now) l.parts.items)
+  sizes : HaveSizes l.input.groupings.now l.totals.items;
+  totals : AreBatchTotals l.input.lines.now l.input.masks.now l.input.groupings.now (places_of_parts
+      (length l.input.lines.now.customer.now) l.parts.items)
       l.totals.items;
 }

@@ -17,12 +17,13 @@ loop-number-preserved c =
     let item = c.index-all-number.result in
     let mine = c.index-totals-number.result in
     let new = c.shift_where.new.totals in
-    let shifts = λ (k : ℕ) (r : Ready) (old now : Totals). ShiftsWhere (takes_line masks k line) base r line c.args.comes
+    let shifts = λ (k : ℕ) (r : Ready) (old now : Totals). ShiftsWhere
+    (takes_line masks k line) base r line c.args.comes
     old now in
     let B : Bool → Type 0 = λ b. ShiftsWhere b base item line c.args.comes (get_or c.loop-number.totals n mine) new in
     let taken : nat_eq (bit_at c.line_mask-mask.result n) 1 ≡ takes_line masks n line =
     ap (λ (m : ℕ). nat_eq (bit_at m n) 1) c.line_mask-mask.ensures in
-    let own = subst B taken c.shift_where.ensures in
+    let own = subst B (c.has_bit-is_taken.ensures ∙ taken) c.shift_where.ensures in
     let R : Ready → Type 0 = λ r. shifts n r (get_or c.loop-number.totals n mine) new in
     let here = subst R c.index-all-number.is own in
     let in_mid : n < length c.loop-number.totals = omega

@@ -1,16 +1,19 @@
-use Rattle.std.proofs.Common.{ℕ, ◌≡◌, ◌<◌, ◌^◌, List, length, sym, ap, ◌∙◌, subst}
-use Rattle.std.specs.Prelude.{unwrap_or}
+use Rattle.std.proofs.Common.{ℕ, ◌≡◌, ◌<◌, ◌^◌, List, length, map, sym, ap, ◌∙◌, refl, subst}
+use Rattle.std.specs.Prelude.{ℤ, unwrap_or}
 use Rattle.std.specs.List.{All, range_with_len}
 use Rattle.std.specs.Cmp.{nat_eq_equiv}
 use Rattle.std.proofs.lemmas.Result.{IfOk-weaker}
-use Rattle.indexmap.specs.IndexMap.{keys}
-use Rattle.ssb_questions.specs.declared.plan.Plan.{Plan}
+use Rattle.indexmap.specs.IndexMap.{keys, values}
+use Rattle.ssb_questions.specs.Plan.{OrdersAllGroups}
+use Rattle.ssb_questions.proofs.OrderLaws.{orders_all_groups}
 use Rattle.ssb_questions.specs.declared.value.Value.{Value}
 use Rattle.scan_kernel.specs.declared.sparse.GroupSums.{GroupSums}
 use Rattle.scan_kernel.specs.Places.{CanNumber}
 use Rattle.scan_kernel.specs.Totals.{taken}
 use Rattle.scan_kernel.specs.Sparse.{as_group_columns, nothing, sums_in, AreSparseTotals}
 use Rattle.scan_kernel.specs.Groups.{size_of, counts_of}
+use Rattle.scan_kernel.specs.SparseRows.{count_of, sum_of}
+use Rattle.scan_kernel.proofs.ScanLaws.{answers_lines}
 use Rattle.shared_scan.specs.GroupColumns.{AreGroupColumns}
 use Rattle.shared_scan.specs.Scanned.{net}
 use Rattle.shared_scan.specs.Summed.{AreSummed}
@@ -97,7 +100,12 @@ answer_sparse-requires-clause-columns c =
     let is = c.requires.scanned.is_ready in
     ap length c.deref-2.ensures.value ∙ (prepared_lengths c.args.index.now c.args.masks.now c.args.number
     ready.plan.groups ready.groups.columns.items 1 _ is.prepared).0
-    ∙ ap (λ (plan : Plan). length plan.groups) is.plan_is
+
+pub answer_sparse-requires-clause-ordered : goal.answer_sparse-requires-clause-ordered
+answer_sparse-requires-clause-ordered c =
+    let ready = c.args.ready.now in
+    subst OrdersAllGroups (sym c.requires.scanned.is_ready.plan_is)
+    (orders_all_groups ready.question.0 ready.question.1)
 
 pub answer_sparse-requires-clause-below : goal.answer_sparse-requires-clause-below
 answer_sparse-requires-clause-below c =
@@ -139,6 +147,8 @@ returns c =
       c.in_ok-list.ensures.sums,
     ) at
     c.answer_sparse.ensures in
+    let count : ℕ → ℕ = count_of (keys totals) (map (λ (s : GroupSums). s.count) (values totals)) in
+    let sum : ℕ → ℤ = sum_of (keys totals) (map net (values totals)) in
     IfOk-weaker c.answer_sparse.result _ _ (λ rows own. record {
       groups = groups;
       count = λ g. (sums_in totals g).count;
@@ -146,7 +156,8 @@ returns c =
       loss = λ g. (sums_in totals g).loss;
       grouped = grouped;
       summed = summed;
-      right = λ blank base lines sound known apart lists counts sums. own blank base lines sound known apart lists
-          (λ g below. beside_is (λ (s : GroupSums). s.count) totals.entries g ∙ counts g below)
+      right = λ blank base lines sound known apart lists counts sums. answers_lines ready.question ready.plan columns
+          (size_of (counts_of columns)) count sum rows.items of.is_ready.plan_is refl own blank base lines sound known
+          apart lists (λ g below. beside_is (λ (s : GroupSums). s.count) totals.entries g ∙ counts g below)
           (λ g below. beside_is net totals.entries g ∙ sums g below);
     }) right

@@ -16,7 +16,7 @@ count_taken commits at within = omega (arith, within, length-take at commits)
 
 pub loop-begin-init : goal.loop-begin-init
 loop-begin-init g c =
-    let base = c.args.base.now in
+    let base = c.args.columns.now.base in
     let commits = c.args.commits.now in
     let columns = c.args.columns.now in
     let no_commits : columns.commits ≡ 0 = ap (λ (s : State). s.commits) c.requires.loaded in
@@ -43,18 +43,18 @@ check_batch-requires-clause-answers g c = λ κs outlives.
 
 pub check_batch-requires-clause-snapshot : goal.check_batch-requires-clause-snapshot
 check_batch-requires-clause-snapshot g c = λ κs outlives.
-    let base = c.args.base.now in
+    let base = c.args.columns.now.base in
     let commits = c.args.commits.now in
     let at = (get_or c.args.visits.now c.loop-begin.begin (record { at = 0; place = 0 })).at in
     let same : c.loop-begin.columns.base ≡ base = ap (λ (s : State). s.base)
     {y = state_of base (take c.loop-begin.columns.commits commits)} c.loop-begin.invariant.state in
-    snapshot_of c.advance.new.columns base commits at c.soundness.ensures
+    snapshot_of c.advance.new.columns base commits at c.requires.sound
     c.requires.legal
     (c.in_ok-advance.ensures ∙ ap (λ b. state_of b (take at commits)) same)
 
 pub loop-begin-preserved : goal.loop-begin-preserved
 loop-begin-preserved g c =
-    let base = c.args.base.now in
+    let base = c.args.columns.now.base in
     let commits = c.args.commits.now in
     let answers = c.args.answers.now in
     let visits = c.args.visits.now in
@@ -91,5 +91,5 @@ loop-begin-preserved g c =
     }
 
 pub returns : goal.returns
-returns g c = walked_all c.args.base.now c.args.commits.now c.args.answers.now c.args.visits.now
+returns g c = walked_all c.args.columns.now.base c.args.commits.now c.args.answers.now c.args.visits.now
     c.loop-begin.begin c.loop-begin.first c.requires.each c.loop-begin-test.false c.loop-begin.invariant.walked

@@ -11,9 +11,9 @@ use Rattle.ssb_audit.proofs.walk.walk.Given as goal
 abbrev pub invariant-loop-begin : goal.invariant-loop-begin
 invariant-loop-begin g l = record {
   within : l.begin ≤ length l.visits;
-  state : columns_state l.columns ≡ state_of l.base (take l.columns.commits l.commits);
+  state : columns_state l.columns ≡ state_of l.initial.columns.base (take l.columns.commits l.commits);
   ahead : (visit : Visit) → l.begin < length l.visits → l.columns.commits ≤ (slice_index_or l.visits l.begin visit).at;
-  walked : IsWalked l.base l.commits l.answers l.visits l.begin l.first;
+  walked : IsWalked l.initial.columns.base l.commits l.answers l.visits l.begin l.first;
 }
 
 abbrev pub decreases-loop-begin : goal.decreases-loop-begin

@@ -3,10 +3,7 @@ use Rattle.ssb_questions.specs.declared.query.Query.{Query}
 use Rattle.ssb_questions.specs.declared.value.Value.{Value}
 use Rattle.standing_columns.specs.Standing.{is_among}
 use Rattle.standing_columns.proofs.OnceLaws.{once_more}
-use Rattle.standing_columns.proofs.once.each_once.Goals.{
-  then-not-is_among+in_ok-share+in_ok-push,
-  else-not-is_among,
-}
+use Rattle.standing_columns.proofs.once.each_once.Goals.{then-not-is_among+in_ok-share+in_ok-push, else-not-is_among}
 use Rattle.standing_columns.proofs.once.each_once.Goals as goal
 
 pub loop-question-preserved : goal.loop-question-preserved

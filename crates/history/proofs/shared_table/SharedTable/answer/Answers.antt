@@ -8,17 +8,8 @@ use Rattle.history.specs.Tokens.{TokenRecord, TableRecord, Answers}
 use Rattle.history.specs.TokenParts.{shown_token}
 use Rattle.history.proofs.SplittingLaws.{in_front}
 use Rattle.history.proofs.PassingLaws.{passed, is_behind, dispatcher_carries, answered_seated}
-use Rattle.history.proofs.AnsweringLaws.{
-  places,
-  in_hand,
-  found_of,
-  turned_to,
-  slots_home,
-  back_count,
-  left_places,
-  within_hand,
-  answered_token,
-}
+use Rattle.history.proofs.AnsweringLaws.{places, in_hand, found_of, turned_to, slots_home, back_count, left_places}
+use Rattle.history.proofs.AnsweringLaws.{within_hand, answered_token}
 use Rattle.history.proofs.shared_table.SharedTable.answer.Goals as goal
 
 pub overflow_sub-place : goal.overflow_sub-place

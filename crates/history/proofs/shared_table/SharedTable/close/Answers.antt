@@ -7,18 +7,8 @@ use Rattle.history.specs.Seats.{members_of, AreAll, IsClosed}
 use Rattle.history.specs.Tokens.{TableRecord, TokenRecord}
 use Rattle.history.specs.Closing.{IsClientOf, IsDispatcherOf, members_in, terms_in}
 use Rattle.history.specs.TokenParts.{table_of}
-use Rattle.history.proofs.HandingLaws.{
-  none_left,
-  handed_first,
-  handed_more,
-  last_has,
-  left_have,
-  all_there,
-  clients_saw,
-  dispatchers_saw,
-  clients_own,
-  log_is_true,
-}
+use Rattle.history.proofs.HandingLaws.{none_left, handed_first, handed_more, last_has, left_have, all_there}
+use Rattle.history.proofs.HandingLaws.{clients_saw, dispatchers_saw, clients_own, log_is_true}
 use Rattle.history.proofs.shared_table.SharedTable.close.Goals as goal
 
 pub loop-token-init : goal.loop-token-init

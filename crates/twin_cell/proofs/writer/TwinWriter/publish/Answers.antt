@@ -1,20 +1,5 @@
-use Rattle.std.proofs.Common.{
-  rules,
-  ◌≡◌,
-  ◌+◌,
-  ◌++◌,
-  length,
-  drop,
-  Result,
-  Ok,
-  Err,
-  OnOk,
-  false,
-  ap,
-  ◌∙◌,
-  arith,
-  length-append,
-}
+use Rattle.std.proofs.Common.{rules, ◌≡◌, ◌+◌, ◌++◌, length, drop, Result, Ok, Err, OnOk, false, ap, ◌∙◌, arith}
+use Rattle.std.proofs.Common.{length-append}
 use Rattle.std.specs.Result.{is_err}
 use Rattle.left_right.specs.Sides.{view as view_of}
 use Rattle.twin_cell.specs.Twin.{Writing}
