@@ -7,9 +7,9 @@ use Rattle.ssb_audit.specs.declared.fault.AuditFault.{AuditFault}
 use Rattle.ssb_audit.specs.declared.trace.Trace.{Trace}
 use Rattle.ssb_files.specs.Loaded.{IsLoaded}
 use Rattle.ssb_files.specs.Status.{script_status}
-use Rattle.ssb_report.specs.Numbers.{line_feed}
+use Rattle.ssb_text.specs.Numbers.{line_feed}
 use Rattle.ssb_script.specs.Scripts.{most_records}
-use Rattle.ssb_report.specs.Written.{AppendsPart}
+use Rattle.ssb_text.specs.Written.{AppendsPart}
 use Rattle.ssb_base.specs.Base.{Tables}
 use Rattle.ssb_schema.specs.declared.table.Table.{Table}
 use Rattle.ssb_script.specs.declared.error.ScriptError.{ScriptError}

@@ -21,8 +21,8 @@ use Rattle.ssb_schema.specs.declared.table.Table.{Table}
 use Rattle.ssb_schema.specs.declared.table.Table.TheVariants.{Lineorder}
 use Rattle.table_folder.specs.Calls.{FolderCall, LeftAnyTime}
 use Rattle.table_folder.specs.Filled.{AreNoneOrAll, HasAll, LeftNoneOrAll}
-use Rattle.table_text.specs.RoundTrip.{AreTableRows, TextsSpellTheirBase}
-use Rattle.table_text.specs.TableText.{base_texts}
+use Rattle.ssb_text.specs.RoundTrip.{AreTableRows, TextsSpellTheirBase}
+use Rattle.ssb_text.specs.TableText.{base_texts}
 use Rattle.row_store.specs.Legal.{IsLegal}
 use Rattle.export_command.specs.After.{tables_after}
 use Rattle.export_command.specs.Exported.{AreReadBack, AreTablesAfter, Exports, HasSoMany, IsExport, IsFillFault, IsFindFault}

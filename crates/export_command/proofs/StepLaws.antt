@@ -29,13 +29,13 @@ use Rattle.std.proofs.lemmas.List.{length-take-le}
 use Rattle.std.proofs.lemmas.List.Concat.{flat_map-append}
 use Rattle.row_store.specs.History.{CommitRecord}
 use Rattle.row_store.specs.Lines.{added_by}
-use Rattle.ssb_report.specs.Written.{StopsShort}
+use Rattle.ssb_text.specs.Written.{StopsShort}
 use Rattle.ssb_schema.specs.Rows.{line_values}
 use Rattle.ssb_schema.specs.declared.line.LineFields.{LineFields}
 use Rattle.ssb_schema.specs.declared.refresh.Action.{Action}
 use Rattle.ssb_schema.specs.declared.table.Table.TheVariants as table
-use Rattle.table_text.specs.RoundTrip.{IsTableRow}
-use Rattle.table_text.specs.TableText.{row_text}
+use Rattle.ssb_text.specs.RoundTrip.{IsTableRow}
+use Rattle.ssb_text.specs.TableText.{row_text}
 use Rattle.export_command.specs.After.{actions_of, standing, standing_added, stands}
 use Rattle.export_command.proofs.NextLaws.{all_of, next_of}
 use Rattle.export_command.proofs.StandingLaws.{added_both, standing_both}

@@ -22,13 +22,13 @@ use Rattle.std.proofs.Common.{
 use Rattle.std.specs.Io.KnownBytes.{Appends}
 use Rattle.std.specs.List.{AllByRecursion}
 use Rattle.std.proofs.lemmas.List.Concat.{flat_map-append}
-use Rattle.ssb_report.specs.Written.{StopsShort}
-use Rattle.ssb_report.proofs.WrittenLaws.{appends_both, appends_none, appends_part, part_longer}
+use Rattle.ssb_text.specs.Written.{StopsShort}
+use Rattle.ssb_text.proofs.WrittenLaws.{appends_both, appends_none, appends_part, part_longer}
 use Rattle.ssb_schema.specs.Rows.{line_values}
 use Rattle.ssb_schema.specs.declared.line.LineFields.{LineFields}
 use Rattle.ssb_schema.specs.declared.table.Table.TheVariants as table
-use Rattle.table_text.specs.RoundTrip.{IsTableRow}
-use Rattle.table_text.specs.TableText.{row_text, rows_text}
+use Rattle.ssb_text.specs.RoundTrip.{IsTableRow}
+use Rattle.ssb_text.specs.TableText.{row_text, rows_text}
 use Rattle.export_command.specs.Standing.{WritesLines}
 use Rattle.export_command.proofs.ApartLaws.{all_append}
 

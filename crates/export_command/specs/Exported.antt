@@ -23,7 +23,7 @@ use Rattle.ssb_schema.specs.declared.table.Table.TheVariants.{Lineorder}
 use Rattle.ssb_text.specs.Load.{SpellsBase}
 use Rattle.table_folder.specs.Calls.{FolderCall, LeftAnyTime}
 use Rattle.table_folder.specs.Filled.{AreAll, HasAll}
-use Rattle.table_text.specs.TableText.{base_texts}
+use Rattle.ssb_text.specs.TableText.{base_texts}
 
 -- the commits that a file has over tables of these sizes are a legal history over a base, and these are the tables
 -- after it

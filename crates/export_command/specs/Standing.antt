@@ -4,12 +4,12 @@ use Rattle.std.specs.List.{AllByRecursion}
 use Rattle.row_store.specs.History.{CommitRecord}
 use Rattle.row_store.specs.Legal.{IsLegal}
 use Rattle.ssb_base.specs.Base.{Tables, IsSound}
-use Rattle.ssb_report.specs.Written.{Writes}
+use Rattle.ssb_text.specs.Written.{Writes}
 use Rattle.ssb_schema.specs.Rows.{line_values}
 use Rattle.ssb_schema.specs.declared.line.LineFields.{LineFields}
 use Rattle.ssb_schema.specs.declared.table.Table.TheVariants as table
-use Rattle.table_text.specs.RoundTrip.{IsTableRow}
-use Rattle.table_text.specs.TableText.{rows_text}
+use Rattle.ssb_text.specs.RoundTrip.{IsTableRow}
+use Rattle.ssb_text.specs.TableText.{rows_text}
 use Rattle.export_command.specs.After.{AddsOrder, IsLastGoneOf, actions_of}
 use Rattle.export_command.specs.declared.last_gone.LastGone.{LastGone}
 

@@ -19,7 +19,7 @@ use ssb_base::Base;
 use ssb_files::JobFault::{Found, Program};
 use ssb_files::{Fault, TableBytes, base_to_serve};
 use ssb_journal::{OpenedJournal, TableSize, open, replay};
-use ssb_text::Tables;
+use ssb_text::{Tables, tables_are_read_back};
 use std::alloc::Global;
 use std::hash::RandomState;
 use std::io::{self, ErrorKind, Read, Write};
@@ -27,7 +27,6 @@ use std::rt::Files;
 use std::sync::Arc;
 use std::thread::Threads;
 use table_folder::{FilesFolder, FillFault, TableFolder, fill};
-use table_text::tables_are_read_back;
 
 /// Where the journal is, where the tables go, and what is told.
 #[derive(Drop)]

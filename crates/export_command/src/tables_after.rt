@@ -3,8 +3,8 @@
 ghost use Rattle.std.specs.Prelude.{◌≡◌, IfOk};
 ghost use Rattle.ssb_base.specs.Base.{IsSound};
 ghost use Rattle.export_command.specs.After.{tables_after};
-ghost use Rattle.table_text.specs.RoundTrip.{AreTableRows};
-ghost use Rattle.table_text.specs.TableText.{base_texts};
+ghost use Rattle.ssb_text.specs.RoundTrip.{AreTableRows};
+ghost use Rattle.ssb_text.specs.TableText.{base_texts};
 
 use crate::last_gone::LastGone;
 use crate::orders::log_adds_orders;

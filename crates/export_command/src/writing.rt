@@ -1,10 +1,10 @@
 //! The tables after a history, written.
 
 ghost use Rattle.std.specs.Prelude.{◌≡◌, ◌+◌, ◌<◌, ◌^◌, List, OnOk, length};
-ghost use Rattle.ssb_report.specs.Written.{Writes};
+ghost use Rattle.ssb_text.specs.Written.{Writes};
 ghost use Rattle.ssb_schema.specs.declared.refresh.Action.{Action as ActionRecord};
-ghost use Rattle.table_text.specs.RoundTrip.{AreTableRows};
-ghost use Rattle.table_text.specs.TableText.{base_texts};
+ghost use Rattle.ssb_text.specs.RoundTrip.{AreTableRows};
+ghost use Rattle.ssb_text.specs.TableText.{base_texts};
 ghost use Rattle.row_store.specs.Lines.{added_by};
 ghost use Rattle.export_command.specs.After.{IsLastGoneOf, actions_of, standing, standing_added};
 ghost use Rattle.export_command.specs.Standing.{WritesLines};
@@ -12,10 +12,9 @@ ghost use Rattle.export_command.specs.Standing.{WritesLines};
 use crate::last_gone::LastGone;
 use crate::tables_after::TablesAfter;
 use row_store::Commit;
-use ssb_report::WriteFault;
 use ssb_schema::{Action, Line, Table};
+use ssb_text::{WriteFault, write_row, write_rows};
 use std::io::Write;
-use table_text::{RowText, write_rows};
 
 // Writes those lines that stand after a log, of lines that came with the action of this number; of number 0, loaded
 // ones.
@@ -30,7 +29,7 @@ fn write_standing<W: Write>(
 {
     for line in lines {
         if last.stand(number, line.order_key()) {
-            line.write_row(out)?;
+            write_row(out, line)?;
         }
     }
     Ok(())

@@ -1,8 +1,8 @@
 -- A writer that hands on what it holds keeps what was written.
 use Rattle.std.proofs.Common.{◌∙◌, ℕ, List, [], Option, None, Some, refl, sym, append-nil}
 use Rattle.std.specs.Io.KnownBytes.{Appends, Keeps}
-use Rattle.ssb_report.proofs.WrittenLaws.{appends_none}
-use Rattle.ssb_report.specs.Written.{AppendsPart}
+use Rattle.ssb_text.proofs.WrittenLaws.{appends_none}
+use Rattle.ssb_text.specs.Written.{AppendsPart}
 
 pub appended_kept : (a b c : Option (List ℕ)) (x : List ℕ) → Appends a b x → Keeps b c → Appends a c x
 appended_kept None b c x written kept = tt

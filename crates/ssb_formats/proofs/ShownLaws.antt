@@ -29,8 +29,8 @@ use Rattle.std.proofs.Common.{
 use Rattle.std.specs.Io.KnownBytes.{Appends}
 use Rattle.std.proofs.lemmas.List.{take_more, take-append-drop}
 use Rattle.std.proofs.lemmas.List.Concat.{flat_map-append}
-use Rattle.ssb_report.specs.Written.{AppendsPart, Writes}
-use Rattle.ssb_report.proofs.WrittenLaws.{appends_none, appends_both, part_of_short}
+use Rattle.ssb_text.specs.Written.{AppendsPart, Writes}
+use Rattle.ssb_text.proofs.WrittenLaws.{appends_none, appends_both, part_of_short}
 use Rattle.ssb_formats.specs.Formats.{Shows}
 
 -- nothing was written, which is a part of any text

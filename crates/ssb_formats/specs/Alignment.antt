@@ -2,7 +2,7 @@
 use Rattle.std.specs.Prelude.{ℕ, ◌-◌, max, Bool, false, List, [], ◌∷◌, ◌++◌, Option, Some, None, replicate, chars}
 use Rattle.std.specs.Prelude.{codes, if◌then◌else◌}
 use Rattle.unicode_width.specs.Width.{str_width}
-use Rattle.ssb_report.specs.Numbers.{line_feed}
+use Rattle.ssb_text.specs.Numbers.{line_feed}
 use Rattle.ssb_formats.specs.declared.alignment.Alignment.{Alignment}
 
 -- the columns of a terminal that a text takes

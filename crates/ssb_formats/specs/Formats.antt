@@ -5,8 +5,8 @@ use Rattle.ssb_questions.specs.Queries.{plan_over}
 use Rattle.ssb_answers.specs.declared.answer.Answer.{Answer}
 use Rattle.ssb_answers.specs.declared.answer.Answer.TheVariants.{Rows, Unserved}
 use Rattle.ssb_report.specs.AnswerText.{answer_text}
-use Rattle.ssb_report.specs.Numbers.{line_feed}
-use Rattle.ssb_report.specs.Written.{AppendsPart}
+use Rattle.ssb_text.specs.Numbers.{line_feed}
+use Rattle.ssb_text.specs.Written.{AppendsPart}
 use Rattle.ssb_formats.specs.declared.format.Format.{Format}
 use Rattle.ssb_formats.specs.declared.format.Format.TheVariants.{Report, Csv, Json, Markdown, Table, Bars}
 use Rattle.ssb_formats.specs.BarsText.{bars_text}

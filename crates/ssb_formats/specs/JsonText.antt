@@ -14,7 +14,7 @@ use Rattle.ssb_answers.specs.declared.answer.Answer.{Answer}
 use Rattle.ssb_answers.specs.declared.answer.Answer.TheVariants as answer
 use Rattle.ssb_answers.specs.declared.answer.Unserved.{Unserved}
 use Rattle.ssb_answers.specs.declared.answer.Unserved.TheVariants as unserved
-use Rattle.ssb_report.specs.Numbers.{line_feed}
+use Rattle.ssb_text.specs.Numbers.{line_feed}
 use Rattle.ssb_formats.specs.Cells.{heads_of, in_place}
 
 -- a value as a text or a number, and a sum as a number, or null where there is none

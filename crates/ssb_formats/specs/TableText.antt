@@ -4,7 +4,7 @@ use Rattle.ssb_questions.specs.declared.plan.Plan.{Plan}
 use Rattle.ssb_questions.specs.declared.query.Query.{Query}
 use Rattle.ssb_answers.specs.declared.answer.ResultRow.{ResultRow}
 use Rattle.ssb_report.specs.AnswerText.{columns_of}
-use Rattle.ssb_report.specs.Numbers.{line_feed}
+use Rattle.ssb_text.specs.Numbers.{line_feed}
 use Rattle.ssb_formats.specs.Alignment.{aligned_line, narrow, widened}
 use Rattle.ssb_formats.specs.Cells.{heads_of, are_numbers}
 use Rattle.ssb_formats.specs.Title.{title_text}

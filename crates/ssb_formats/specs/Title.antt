@@ -2,7 +2,7 @@
 use Rattle.std.specs.Prelude.{ℕ, ◌==◌, List, ◌++◌, codes, decimal, if◌then◌else◌}
 use Rattle.ssb_questions.specs.Query.{name_of}
 use Rattle.ssb_questions.specs.declared.query.Query.{Query}
-use Rattle.ssb_report.specs.Numbers.{line_feed}
+use Rattle.ssb_text.specs.Numbers.{line_feed}
 
 -- how many rows there are
 abbrev pub count_text : ℕ → List ℕ

@@ -3,7 +3,7 @@
 ghost use Rattle.std.specs.Prelude.{◌≡◌, IfOk, map};
 ghost use Rattle.ssb_formats.specs.Cells.{are_numbers, heads_of, in_place, takes_numbers};
 ghost use Rattle.ssb_report.specs.AnswerText.{columns_of, value_text};
-ghost use Rattle.ssb_report.specs.Numbers.{sum_text};
+ghost use Rattle.ssb_text.specs.Numbers.{sum_text};
 ghost use Rattle.ssb_schema.specs.Columns.{column_name};
 
 use itoa::Buffer;

@@ -4,7 +4,7 @@ ghost use Rattle.std.specs.Prelude.{◌≡◌, ◌∷◌, IfOk, MatchOption, Mat
 ghost use Rattle.std.specs.Io.KnownBytes.{Appends};
 ghost use Rattle.ssb_formats.specs.Formats.{Shows, answers_shown, next_shown, parting, shown};
 ghost use Rattle.ssb_report.specs.AnswerText.{answer_text};
-ghost use Rattle.ssb_report.specs.Written.{AppendsPart};
+ghost use Rattle.ssb_text.specs.Written.{AppendsPart};
 
 use crate::bars_text::bars_text;
 use crate::csv_text::csv_text;
@@ -14,7 +14,8 @@ use crate::markdown_text::markdown_text;
 use crate::table_text::table_text;
 use ssb_answers::Answer;
 use ssb_questions::question::plan;
-use ssb_report::{WriteFault, write_answer, write_bytes};
+use ssb_report::write_answer;
+use ssb_text::{WriteFault, write_bytes};
 use std::alloc::{AllocError, Global};
 use std::io::Write;
 

@@ -1,4 +1,3 @@
-pub mod WrittenLaws
 pub mod RowLaws
 pub mod CommitLaws
 pub mod ReplyLaws

@@ -22,12 +22,13 @@ use Rattle.ssb_questions.specs.Query.{sum_first}
 use Rattle.ssb_questions.specs.declared.query.Query.{Query}
 use Rattle.ssb_questions.specs.declared.value.Value.{Value}
 use Rattle.ssb_answers.specs.declared.answer.ResultRow.{ResultRow}
-use Rattle.ssb_report.specs.Numbers.{line_feed, sum_text}
-use Rattle.ssb_report.specs.AnswerText.{value_text, row_text, with_bar, after_bar}
+use Rattle.ssb_text.specs.Numbers.{line_feed, sum_text}
+use Rattle.ssb_report.specs.AnswerText.{value_text, row_text, with_bar}
+use Rattle.ssb_text.specs.Piece.{after_bar}
 
 -- a column joined with values behind it
 join_after : (column : List ℕ) (values : List Value) → join_with_byte 124 (column ∷ map value_text values) ≡ column
-    ++ flat_map after_bar values
+    ++ flat_map (after_bar value_text) values
 join_after column [] = sym (append-nil column)
 join_after column (value ∷ values) = ap (λ t. column ++ 124 ∷ t) (join_after (value_text value) values)
 
@@ -45,10 +46,10 @@ join_before (value ∷ next ∷ values) column =
 
 -- a row whose sum stands first
 pub row_sum_first : (query : Query) (row : ResultRow) → sum_first query ≡ true
-    → row_text query row ≡ ((sum_text row.sum ++ []) ++ flat_map after_bar row.groups) ++ (line_feed ++ [])
+    → row_text query row ≡ ((sum_text row.sum ++ []) ++ flat_map (after_bar value_text) row.groups) ++ (line_feed ++ [])
 row_sum_first query row is =
     rw is (ap (λ t. t ++ line_feed) (join_after (sum_text row.sum) row.groups
-    ∙ ap (λ t. t ++ flat_map after_bar row.groups) (sym (append-nil (sum_text row.sum)))))
+    ∙ ap (λ t. t ++ flat_map (after_bar value_text) row.groups) (sym (append-nil (sum_text row.sum)))))
 
 -- a row whose sum stands last
 pub row_sum_last : (query : Query) (row : ResultRow) → sum_first query ≡ false

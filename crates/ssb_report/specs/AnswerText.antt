@@ -10,7 +10,7 @@ use Rattle.ssb_answers.specs.declared.answer.Answer.{Answer}
 use Rattle.ssb_answers.specs.declared.answer.Answer.TheVariants as answer
 use Rattle.ssb_answers.specs.declared.answer.Unserved.{Unserved}
 use Rattle.ssb_answers.specs.declared.answer.Unserved.TheVariants as unserved
-use Rattle.ssb_report.specs.Numbers.{line_feed, sum_text}
+use Rattle.ssb_text.specs.Numbers.{line_feed, sum_text}
 
 -- the value of a group column
 abbrev pub value_text : Value → List ℕ
@@ -48,9 +48,6 @@ abbrev pub answer_text : Answer → List ℕ
 answer_text (answer.Rows query at rows) = rows_text query.0 at rows
 answer_text (answer.Unserved query cause) = unserved_text query.0 cause
 
--- a value with a | behind it, and with one before it
+-- a value with a | behind it
 abbrev pub with_bar : Value → List ℕ
 with_bar value = value_text value ++ 124 ∷ []
-
-abbrev pub after_bar : Value → List ℕ
-after_bar value = 124 ∷ value_text value

@@ -1,6 +1,3 @@
-pub mod Written
-pub mod Numbers
-pub mod Piece
 pub mod AnswerText
 pub mod RefreshText
 pub mod Replies

@@ -16,7 +16,7 @@ use Rattle.row_store.specs.declared.refusal.Cause.TheVariants.{
 }
 use Rattle.row_store.specs.declared.refusal.RefreshError.{RefreshError}
 use Rattle.row_store.specs.declared.refusal.RefreshError.TheVariants as refresh
-use Rattle.ssb_report.specs.Numbers.{line_feed}
+use Rattle.ssb_text.specs.Numbers.{line_feed}
 
 -- the report of a commit
 abbrev pub receipt_text : Receipt → List ℕ

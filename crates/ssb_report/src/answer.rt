@@ -1,15 +1,14 @@
 //! The report of an answer.
 ghost use Rattle.std.specs.Prelude.{◌≡◌, OnOk, OnErr, flat_map};
 ghost use Rattle.std.specs.Io.KnownBytes.{Appends};
-ghost use Rattle.ssb_report.specs.Written.{StopsShort, Writes};
-ghost use Rattle.ssb_report.specs.Piece.{piece_text};
+ghost use Rattle.ssb_text.specs.Piece.{after_bar, piece_text};
+ghost use Rattle.ssb_text.specs.Written.{StopsShort, Writes};
 ghost use Rattle.ssb_report.specs.AnswerText.{answer_text, unserved_text, head_text, row_text, rows_text, value_text};
-ghost use Rattle.ssb_report.specs.AnswerText.{with_bar, after_bar};
+ghost use Rattle.ssb_report.specs.AnswerText.{with_bar};
 
-use crate::fault::WriteFault;
-use crate::piece::{Piece, write_pieces};
 use ssb_answers::{Answer, ResultRow, Unserved};
 use ssb_questions::{Query, Value};
+use ssb_text::{Piece, WriteFault, write_pieces};
 use std::io::Write;
 
 // The printed text of a group column's value.
@@ -32,9 +31,10 @@ fn write_before_sum<W: Write>(writer: &mut W, groups: &[Value]) -> Result<(), Wr
     Ok(())
 }
 
-/// Writes values, each with a `|` before it. It takes no memory.
-pub fn write_barred<W: Write>(writer: &mut W, groups: &[Value]) -> Result<(), WriteFault>
-    ensures { Writes (W.contents writer.old) (W.contents writer.new) result (flat_map after_bar groups.now) }
+/// Writes values, each behind a bar. It takes no memory.
+pub fn write_after_bars<W: Write>(writer: &mut W, groups: &[Value]) -> Result<(), WriteFault>
+    ensures { Writes (W.contents writer.old) (W.contents writer.new) result
+        (flat_map (after_bar value_text) groups.now) }
 {
     for value in groups {
         write_pieces(writer, &[Piece::Text("|"), piece_of(value)])?;
@@ -49,7 +49,7 @@ pub fn write_row<W: Write>(writer: &mut W, query: Query, row: &ResultRow) -> Res
     let groups = row.groups.as_slice();
     if query.sum_stands_first() {
         write_pieces(writer, &[Piece::Sum(row.sum)])?;
-        write_barred(writer, groups)?;
+        write_after_bars(writer, groups)?;
         write_pieces(writer, &[Piece::Text("\n")])
     } else {
         write_before_sum(writer, groups)?;

@@ -13,12 +13,8 @@
 #![tactic(auto)]
 
 mod answer;
-mod fault;
 pub mod laws;
-mod piece;
 mod refresh;
 
-pub use answer::{write_answer, write_answers, write_barred, write_row};
-pub use fault::WriteFault;
-pub use piece::{Piece, write_bytes, write_pieces};
+pub use answer::{write_after_bars, write_answer, write_answers, write_row};
 pub use refresh::{write_aborted, write_receipt, write_refusal, write_reply};

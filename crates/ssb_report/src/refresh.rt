@@ -1,13 +1,12 @@
 //! The reports of refreshes, and of what is dropped.
 ghost use Rattle.std.specs.Prelude.{OnOk, OnErr};
 ghost use Rattle.std.specs.Io.KnownBytes.{Appends};
-ghost use Rattle.ssb_report.specs.Written.{StopsShort, Writes};
+ghost use Rattle.ssb_text.specs.Written.{StopsShort, Writes};
 ghost use Rattle.ssb_report.specs.Replies.{Refreshed, reply_text};
 ghost use Rattle.ssb_report.specs.RefreshText.{aborted_text, receipt_text, refusal_text, refused_text, cause_text};
 
-use crate::fault::WriteFault;
-use crate::piece::{Piece, write_pieces};
 use row_store::{Cause, Receipt, RefreshError};
+use ssb_text::{Piece, WriteFault, write_pieces};
 use std::io::Write;
 
 /// Writes the report of a commit, its number. It takes no memory.

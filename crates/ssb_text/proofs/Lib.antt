@@ -15,3 +15,17 @@ pub mod BlockLaws
 pub mod ParsingLaws
 pub mod JoiningLaws
 pub mod AheadLaws
+pub mod WrittenLaws
+pub mod OneListLaws
+pub mod RecordTextLaws
+pub mod FieldTextLaws
+pub mod NumberTextLaws
+pub mod ColumnTextLaws
+pub mod RowTextLaws
+pub mod CellTextLaws
+pub mod EachLaws
+pub mod RowsTextLaws
+pub mod ReadBackLaws
+pub mod OneBaseLaws
+pub mod SoundLaws
+pub mod RefusedLaws

@@ -6,6 +6,11 @@ pub mod Row
 pub mod DateColumns
 pub mod Tables
 pub mod Load
+pub mod Written
+pub mod Numbers
+pub mod Piece
+pub mod TableText
+pub mod RoundTrip
 pub mod Appended
 -- how the code reads lines in blocks
 pub mod Blocks

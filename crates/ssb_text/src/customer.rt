@@ -1,9 +1,10 @@
-//! Customers from records.
+//! Customers from records, and their cells.
 
+use crate::cells::Cells;
 use crate::error::LineFault;
-use crate::row::{RecordFields, read_number, read_text};
+use crate::row::{DimensionFields, RecordFields, read_number, read_text};
 use csv::ByteRecord;
-use ssb_schema::{Column, CustomerFields, Table};
+use ssb_schema::{Cell, Column, CustomerFields, Table};
 use std::alloc::Global;
 
 impl RecordFields for CustomerFields {
@@ -20,5 +21,20 @@ impl RecordFields for CustomerFields {
             phone: read_text(alloc, record, Column { table, place: 7 })?,
             market_segment: read_text(alloc, record, Column { table, place: 8 })?,
         })
+    }
+}
+
+impl DimensionFields for CustomerFields {
+    fn cells(&self) -> Cells<'_> {
+        Cells::of(&[
+            Cell::Number(self.key),
+            Cell::Text(self.name.as_str()),
+            Cell::Text(self.address.as_str()),
+            Cell::Text(self.city.as_str()),
+            Cell::Text(self.nation.as_str()),
+            Cell::Text(self.region.as_str()),
+            Cell::Text(self.phone.as_str()),
+            Cell::Text(self.market_segment.as_str()),
+        ])
     }
 }

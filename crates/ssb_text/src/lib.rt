@@ -1,29 +1,37 @@
-//! The warehouse's one reader of text: records, one a line, whose fields are parted by `|`; and its way in, from the
-//! bytes of the five table files of the Star Schema Benchmark to a base.
+//! The warehouse's one reader and writer of text: records, one a line, whose fields are parted by `|`; and its way in,
+//! from the bytes of the five table files of the Star Schema Benchmark to a base, and back.
 //!
 //! ```text
 //! bytes ── record_reader, next_record ─▶ record ── trimmed_at ─▶ field ── text ─▶ what it spells
 //! five files ── load ─▶ Base         a record's last fields ── line_from ─▶ Line
-//! lineorder ── Blocks ─▶ blocks ── all processors ─▶ lines of each, up to its first fault ── join ─▶ lines, or the fault
+//! lineorder ── Blocks ─▶ blocks ── all processors ─▶ lines of each, up to its first fault ── join ─▶ lines, or a fault
+//! rows ── write_rows ─▶ text of a table, whose columns are parted by bars      pieces ── write_pieces ─▶ text
 //! ```
 //!
 //! The five tables, a client's script and a run's trace are all such texts, and are read by these calls alone. The
 //! contract of [`next_record`]: what is given is exactly the next record of the text, and where none is found, all of
-//! them were given. That of [`load`]: what is loaded is exactly what the files spell, and what is refused is refused for
-//! the first reason that there is, in the order of the files, their records and their columns; only a failed read and
-//! want of memory may come before it. It says nothing of blocks: that they change nothing rests on the law of
+//! them were given. That of [`load`]: what is loaded is exactly what the files spell, and what is refused is refused
+//! for the first reason that there is, in the order of the files, their records and their columns; only a failed read
+//! and want of memory may come before it. It says nothing of blocks: that they change nothing rests on the law of
 //! [`records_of_appended`].
 //!
-//! The definitions stand in `specs/`, from the bottom up: `Records` (the records of a text), `TextLines` (its lines),
-//! `Spelling` (what a field spells), `Row` (a record's row, or its first fault), `Tables` (a file's rows) and `Load` (the
-//! base of five files).
+//! That of [`write_rows`]: on `Ok` the bytes added are the rows' text, and each row is one that its table may have;
+//! after a failed write they are a part of it from its beginning. It takes no memory. The law of reading and writing,
+//! [`tables_are_read_back`]: the texts of a base spell this base, and no other rows; and nothing is refused of what
+//! spells sound tables.
 //!
-//! `load(rt, alloc, Limits::standard(), 4_194_304, Tables { customer, supplier, part, date, lineorder })?` gives the base
-//! of five open files. Of the text `query|Q4.1 ` the first record has two columns, and `trimmed_at(&record, 1)` is `Q4.1`.
+//! The definitions stand in `specs/`, from the bottom up: `Records` (the records of a text), `TextLines` (its lines),
+//! `Spelling` (what a field spells), `Row` (a record's row, or its first fault), `Tables` (a file's rows) and `Load`
+//! (the base of five files); `Written` and `Piece` (what is written), `TableText` (the text of rows) and `RoundTrip`.
+//!
+//! `load(rt, alloc, Limits::standard(), 4_194_304, Tables { customer, supplier, part, date, lineorder })?` gives the
+//! base of five open files, and `write_rows(&mut file, base.customers().rows())?` writes the rows of the first. Of the
+//! text `query|Q4.1 ` the first record has two columns, and `trimmed_at(&record, 1)` is `Q4.1`.
 #![tactic(auto)]
 
 mod ahead;
 mod blocks;
+mod cells;
 mod customer;
 mod date;
 mod error;
@@ -34,18 +42,23 @@ mod line;
 mod loading;
 mod parsing;
 mod part;
+mod piece;
 mod plain;
 mod records;
 mod row;
+mod rows;
 mod spelling;
 mod supplier;
 mod table;
 
 pub use error::{LineFault, LoadError};
 pub use fields::{field_at, has_columns, trimmed_at};
-pub use law::{has_its_lines, records_of_appended, records_of_lines};
+pub use law::{has_its_lines, records_of_appended, records_of_lines, tables_are_read_back};
 pub use line::line_from;
 pub use loading::{Tables, load};
+pub use piece::{Piece, WriteFault, write_bytes, write_pieces};
 pub use plain::is_plain_text;
 pub use records::{ReadError, next_record, record_reader};
+pub use row::TableRow;
+pub use rows::{are_table_rows, write_row, write_rows};
 pub use spelling::{text, trimmed};

@@ -1,11 +1,12 @@
-//! A row of any of the five tables, read from a record.
+//! A row of any of the five tables, read from a record, and its cells.
 
-ghost use Rattle.std.specs.Prelude.{◌≡◌, ◌≤◌, ◌-◌, List, [], get_or};
+ghost use Rattle.std.specs.Prelude.{◌≡◌, ◌≤◌, ◌-◌, List, [], None, get_or, map};
 ghost use Rattle.csv.specs.Records.{fields_of};
 ghost use Rattle.ssb_schema.specs.declared.table.Table.{Table};
-ghost use Rattle.ssb_schema.specs.Columns.{Value, kinds_of};
+ghost use Rattle.ssb_schema.specs.Columns.{Value, kinds_of, row_fault, value_of};
 ghost use Rattle.ssb_text.specs.Row.{Gives, number_at, row_of, text_at, values_from};
 
+use crate::cells::Cells;
 use crate::error::LineFault;
 use crate::fields::{has_columns, trimmed_at};
 use crate::spelling::text;
@@ -14,15 +15,22 @@ use ssb_schema::{Column, Fields, Row, Table, Text, number};
 use std::alloc::Global;
 
 /// The values of a row, which a record spells.
-pub(crate) trait RecordFields: Fields {
+pub trait RecordFields: Fields {
     /// The values that a record spells, column by column, or its first fault.
     fn of_record(alloc: Global, record: &ByteRecord) -> Result<Self, LineFault>
         ensures { Gives Self.values result (values_from Self.of_table 0 (kinds_of Self.of_table)
             (fields_of record.now)) };
 }
 
-/// A row type of a table.
-pub(crate) trait TableRow: Drop {
+/// The values of a row of a dimension.
+pub trait DimensionFields: RecordFields {
+    /// The values, as cells.
+    fn cells(&self) -> Cells<'_>
+        ensures { map value_of result ≡ Self.values self.now };
+}
+
+/// A row of one of the five tables.
+pub trait TableRow: Drop {
     // The values of its columns, in order.
     ghost values: { Self → List Value };
 
@@ -35,9 +43,31 @@ pub(crate) trait TableRow: Drop {
     /// The row that a record spells, or the record's first fault.
     fn read(alloc: Global, record: &ByteRecord) -> Result<Self, LineFault>
         ensures { Gives values result (row_of of_table (fields_of record.now)) };
+
+    /// The values of its columns, in which the schema finds no fault.
+    fn cells(&self) -> Cells<'_>
+        ensures cells { map value_of result ≡ values self.now }
+        ensures taken { row_fault of_table (values self.now) ≡ None };
 }
 
-impl<F: RecordFields> TableRow for Row<F> {
+/// The row that a record spells, or the record's first fault.
+#[tactic(auto, unfolding(crate::specs::Row::row_of))]
+pub(crate) fn row_from<F: RecordFields>(
+    alloc: Global,
+    record: &ByteRecord,
+) -> Result<Row<F>, LineFault>
+    ensures { Gives F.values result (row_of F.of_table (fields_of record.now)) }
+{
+    if !has_columns(record, F::table().kinds().len()) {
+        return Err(LineFault::FieldCount);
+    }
+    match Row::new(F::of_record(alloc, record)?) {
+        Ok(row) => Ok(row),
+        Err(refused) => Err(LineFault::Refused(refused.fault)),
+    }
+}
+
+impl<F: DimensionFields> TableRow for Row<F> {
     ghost values = { F.values };
 
     ghost of_table = { F.of_table };
@@ -46,15 +76,12 @@ impl<F: RecordFields> TableRow for Row<F> {
         F::table()
     }
 
-    #[tactic(auto, unfolding(crate::specs::Row::row_of))]
     fn read(alloc: Global, record: &ByteRecord) -> Result<Row<F>, LineFault> {
-        if !has_columns(record, F::table().kinds().len()) {
-            return Err(LineFault::FieldCount);
-        }
-        match Row::new(F::of_record(alloc, record)?) {
-            Ok(row) => Ok(row),
-            Err(refused) => Err(LineFault::Refused(refused.fault)),
-        }
+        row_from(alloc, record)
+    }
+
+    fn cells(&self) -> Cells<'_> {
+        self.fields().cells()
     }
 }
 

@@ -56,16 +56,17 @@ use Rattle.ssb_schema.specs.declared.column.Column.{Column}
 use Rattle.ssb_schema.specs.declared.fact.Fact.{Fact}
 use Rattle.ssb_schema.specs.declared.table.Table.TheVariants as table
 use Rattle.ssb_trace.specs.Rows.{group_kinds, has_no_groups}
-use Rattle.ssb_trace.specs.Allowed.{AreTakenDimensions, IsAllowedRow, IsAllowedSum, IsGroup, IsTakenRow}
+use Rattle.ssb_trace.specs.Allowed.{AreTakenDimensions, IsAllowedRow, IsAllowedSum, IsGroup}
+use Rattle.ssb_text.specs.RoundTrip.{IsTableRow}
 use Rattle.ssb_trace.specs.RoundTrip.{AnswersHaveAllowedRows}
-use Rattle.ssb_trace.proofs.ColumnLaws.{customer_fits, date_fits, part_fits, supplier_fits}
+use Rattle.ssb_text.proofs.ColumnTextLaws.{customer_fits, date_fits, part_fits, supplier_fits}
 
 -- a combination of rows that the schema takes
 record IsTaken (c : Combination) : Type 0 where
-  customer : IsTakenRow table.Customer (customer_values c.customer)
-  supplier : IsTakenRow table.Supplier (supplier_values c.supplier)
-  part : IsTakenRow table.Part (part_values c.part)
-  date : IsTakenRow table.Date (date_values c.date)
+  customer : IsTableRow table.Customer (customer_values c.customer)
+  supplier : IsTableRow table.Supplier (supplier_values c.supplier)
+  part : IsTableRow table.Part (part_values c.part)
+  date : IsTableRow table.Date (date_values c.date)
 
 all-filter : {X : Type 0} (P : X → Type 0) (p : X → Bool) (xs : List X) → AllByRecursion P xs
     → AllByRecursion P (filter p xs)
@@ -95,13 +96,13 @@ all-map Q P f (x ∷ xs) all each = (each x all.0, all-map Q P f xs all.1 each)
 module _ (dimensions : Dimensions) (taken : AreTakenDimensions dimensions) where
   joined-taken : (fact : Fact) → AllByRecursion IsTaken (joined_with dimensions fact)
   joined-taken fact =
-      all-flat (λ row. IsTakenRow table.Customer (customer_values row)) IsTaken _ _
+      all-flat (λ row. IsTableRow table.Customer (customer_values row)) IsTaken _ _
       (all-filter _ (λ row. nat_eq row.key fact.customer) dimensions.customers taken.customers) (λ customer a.
-      all-flat (λ row. IsTakenRow table.Supplier (supplier_values row)) IsTaken _ _
+      all-flat (λ row. IsTableRow table.Supplier (supplier_values row)) IsTaken _ _
       (all-filter _ (λ row. nat_eq row.key fact.supplier) dimensions.suppliers taken.suppliers) (λ supplier b.
-      all-flat (λ row. IsTakenRow table.Part (part_values row)) IsTaken _ _
+      all-flat (λ row. IsTableRow table.Part (part_values row)) IsTaken _ _
       (all-filter _ (λ row. nat_eq row.key fact.part) dimensions.parts taken.parts) (λ part c.
-      all-map (λ row. IsTakenRow table.Date (date_values row)) IsTaken _ _
+      all-map (λ row. IsTableRow table.Date (date_values row)) IsTaken _ _
       (all-filter _ (λ row. nat_eq row.key fact.date) dimensions.dates taken.dates) (λ date d.
       record { customer = a; supplier = b; part = c; date = d }))))
 

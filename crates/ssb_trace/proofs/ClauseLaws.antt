@@ -40,8 +40,8 @@ use Rattle.ssb_report.specs.AnswerText.{value_text}
 use Rattle.ssb_schema.specs.Columns.{is_plain}
 use Rattle.ssb_script.specs.Lines.{texts_spelled, without_closing}
 use Rattle.ssb_trace.specs.Allowed.{IsAllowedQuestion, IsAllowedValue}
-use Rattle.ssb_trace.proofs.FieldLaws.{IsKept, text_kept, text_read}
-use Rattle.ssb_trace.proofs.RecordLaws.{IsPlainField}
+use Rattle.ssb_text.proofs.FieldTextLaws.{IsKept, text_kept, text_read}
+use Rattle.ssb_text.proofs.RecordTextLaws.{IsPlainField}
 
 -- a text that has bytes, is kept, and is UTF-8
 abbrev pub IsClause : Value → Type 0

@@ -2,7 +2,7 @@
 use Rattle.std.proofs.Common.{◌≡◌, ℕ, ◌^◌, ◌<◌, Some, refl, le-leb, arith, decimal}
 use Rattle.ssb_trace.specs.Heads.{client_of}
 use Rattle.ssb_trace.specs.Allowed.{IsClient}
-use Rattle.ssb_trace.proofs.NumberLaws.{number_read}
+use Rattle.ssb_text.proofs.NumberTextLaws.{number_read}
 
 pub client_small : (client : ℕ) → IsClient client → client < 2 ^ 64
 client_small client is = omega (arith, is.1)

@@ -53,7 +53,7 @@ use Rattle.ssb_script.specs.Requests.{
 }
 use Rattle.ssb_script.specs.Scripts.{Spell, is_refreshing, lines_of_begun}
 use Rattle.ssb_script.specs.Steps.{AreTaken, Follows as FollowsInScript, asked, begun_in}
-use Rattle.ssb_script.specs.declared.begun.Step.{Step as ScriptStep}
+use Rattle.ssb_script.specs.declared.begun.ScriptStep.{ScriptStep}
 use Rattle.std.specs.Option.{option_to_list}
 use Rattle.ssb_script.specs.declared.request.Request.{Request}
 use Rattle.ssb_script.specs.declared.request.Asking.{Asking}

@@ -1,8 +1,9 @@
 -- The text of a commit spells its lines.
-use Rattle.std.proofs.Common.{◌≡◌, ℕ, ◌^◌, ◌<◌, List, [], ◌∷◌, ◌++◌, map, refl, sym, ap, ◌∙◌, decimal, codes}
+use Rattle.std.proofs.Common.{◌≡◌, ℕ, ◌^◌, ◌<◌, List, [], ◌∷◌, ◌++◌, map, drop, refl, sym, ap, ◌∙◌, decimal, codes}
 use Rattle.std.specs.List.{AllByRecursion, flat_map}
 use Rattle.row_store.specs.History.{CommitRecord}
 use Rattle.ssb_text.specs.Spelling.{without_spaces}
+use Rattle.ssb_schema.specs.Columns.{Number}
 use Rattle.ssb_schema.specs.Rows.{line_values}
 use Rattle.ssb_schema.specs.declared.line.LineFields.{LineFields}
 use Rattle.ssb_schema.specs.declared.refresh.Action.{Action}
@@ -10,14 +11,15 @@ use Rattle.ssb_schema.specs.declared.refresh.Action.TheVariants as action
 use Rattle.ssb_script.specs.Lines.{ScriptLine, line_or_refusal}
 use Rattle.ssb_script.specs.Lines as script
 use Rattle.ssb_script.specs.Requests.{lines_of_action}
-use Rattle.ssb_script.specs.declared.control.Opening.TheVariants as opening
-use Rattle.ssb_trace.specs.TraceText.{action_text, begun_text, column_text, commit_text, line_text, record_text}
+use Rattle.ssb_script.specs.declared.control.OrderOpening.TheVariants as opening
+use Rattle.ssb_trace.specs.TraceText.{action_text, begun_text, commit_text, line_text}
+use Rattle.ssb_text.specs.TableText.{column_text, record_text, row_text}
 use Rattle.ssb_trace.specs.Entries.{in_commit, lines_of_commit}
 use Rattle.ssb_trace.specs.Lines.{TraceLine, Begin, Inside, Says, word_of}
 use Rattle.ssb_trace.specs.Allowed.{IsAllowedAction, IsAllowedCommit, IsAllowedLine, IsClient}
 use Rattle.ssb_trace.proofs.ClientLaws.{client_read, client_small}
-use Rattle.ssb_trace.proofs.ColumnLaws.{line_plain, line_read}
-use Rattle.ssb_trace.proofs.NumberLaws.{number_kept, number_read}
+use Rattle.ssb_text.proofs.RowTextLaws.{line_plain, line_read, row_record}
+use Rattle.ssb_text.proofs.NumberTextLaws.{number_kept, number_read}
 use Rattle.ssb_trace.proofs.WrittenLaws.{Written, written_as, written_both, written_each, written_map, written_one}
 
 -- the records of a commit
@@ -50,6 +52,11 @@ written-line : (line : LineFields) → IsAllowedLine line → Written (line_text
 written-line line allowed =
     written_one (codes "line" ∷ map column_text (line_values line)) (Inside (script.Line line))
     (refl, refl, line_plain line allowed) (says-line line allowed)
+
+-- the record of a line is its word and the row
+pub line_in_parts : (line : LineFields) → line_text line ≡ (codes "line|" ++ []) ++ row_text (line_values line)
+line_in_parts line =
+    ap (λ row. codes "line|" ++ row) (sym (row_record (Number line.order_key) (drop 1 (line_values line))))
 
 written-end : Written (record_text (codes "end") []) (Inside script.Commit ∷ [])
 written-end = written_one (codes "end" ∷ []) (Inside script.Commit) (refl, refl, tt) says-end

@@ -46,18 +46,20 @@ use Rattle.ssb_questions.specs.declared.query.Query.{Query}
 use Rattle.ssb_questions.specs.declared.query.Query.TheVariants.{Q1_1, Q1_2, Q1_3, Q2_1, Q2_2, Q2_3, Q3_1, Q3_2, Q3_3, Q3_4}
 use Rattle.ssb_questions.specs.declared.query.Query.TheVariants.{Q4_1, Q4_2, Q4_3, Star}
 use Rattle.ssb_questions.specs.declared.value.Value.{Value}
-use Rattle.ssb_report.specs.AnswerText.{after_bar, value_text}
-use Rattle.ssb_report.specs.Numbers.{line_feed}
+use Rattle.ssb_report.specs.AnswerText.{value_text}
+use Rattle.ssb_text.specs.Piece.{after_bar}
+use Rattle.ssb_text.specs.Numbers.{line_feed}
 use Rattle.ssb_script.specs.Lines.{constants_at, constants_from, constants_given, query_named, taken_by, texts_spelled}
 use Rattle.ssb_script.specs.Lines.{without_closing}
-use Rattle.ssb_trace.specs.TraceText.{fields_text, head_text, record_text, written_constants}
+use Rattle.ssb_trace.specs.TraceText.{head_text, written_constants}
+use Rattle.ssb_text.specs.TableText.{fields_text, record_text}
 use Rattle.ssb_trace.specs.Entries.{head_of_told}
 use Rattle.ssb_trace.specs.Lines.{Answer, Says, word_of}
 use Rattle.ssb_trace.specs.Allowed.{HasAllowedHead, IsAllowedQuestion, IsGroup}
 use Rattle.ssb_trace.proofs.ClauseLaws.{IsClause, clauses_kept, clauses_plain, clauses_read, no_closing}
 use Rattle.ssb_trace.proofs.ClientLaws.{client_read, client_small}
-use Rattle.ssb_trace.proofs.NumberLaws.{number_kept, number_read}
-use Rattle.ssb_trace.proofs.RecordLaws.{IsPlainField, text_of_record}
+use Rattle.ssb_text.proofs.NumberTextLaws.{number_kept, number_read}
+use Rattle.ssb_text.proofs.RecordTextLaws.{IsPlainField, text_of_record}
 use Rattle.ssb_trace.proofs.ValueLaws.{as_many_values, constants_fit, values_plain, values_read}
 use Rattle.ssb_trace.proofs.WrittenLaws.{Written, written_as, written_one}
 
@@ -234,11 +236,11 @@ says-head told allowed =
     ) refl
 
 -- and their text
-bars : (values : List Value) → flat_map after_bar values ++ line_feed ≡ fields_text (map value_text values)
+bars : (values : List Value) → flat_map (after_bar value_text) values ++ line_feed ≡ fields_text (map value_text values)
 bars [] = refl
 bars (v ∷ values) =
-    append_assoc (after_bar v) (flat_map after_bar values) line_feed
-    ∙ ap (λ rest. after_bar v ++ rest) (bars values)
+    append_assoc (after_bar value_text v) (flat_map (after_bar value_text) values) line_feed
+    ∙ ap (λ rest. after_bar value_text v ++ rest) (bars values)
 
 head-written : (told : Told) → record_text (codes "answer")
     (decimal told.client ∷ decimal told.at ∷ name_of told.question.0 ∷ decimal (length told.rows) ∷ map value_text

@@ -1,58 +1,16 @@
--- A line that the schema took is allowed, and so is a legal trace of clients, whose text is read back.
-use Rattle.std.proofs.Common.{◌≡◌, List, [], ◌∷◌, Result, Ok, Err, IfOk, IsUtf8, sym, subst}
+-- A legal trace of clients is allowed, and its text is read back.
+use Rattle.std.proofs.Common.{List, [], ◌∷◌}
 use Rattle.std.specs.List.{AllByRecursion}
 use Rattle.row_store.specs.History.{CommitRecord}
 use Rattle.ssb_audit.specs.Legal.{IsLegalTrace}
 use Rattle.ssb_audit.specs.declared.trace.Told.{Told}
 use Rattle.ssb_audit.specs.declared.trace.Trace.{Trace}
 use Rattle.ssb_base.specs.Base.{Tables}
-use Rattle.ssb_schema.specs.Columns.{row_fault}
-use Rattle.ssb_schema.specs.Refusals.{fault_of}
-use Rattle.ssb_schema.specs.Rows.{line_values}
-use Rattle.ssb_schema.specs.declared.fault.Refused.{Refused}
-use Rattle.ssb_schema.specs.declared.line.LineFields.{LineFields}
-use Rattle.ssb_schema.specs.declared.table.Table.TheVariants as table
 use Rattle.ssb_trace.specs.Allowed.{AreTakenDimensions, HasAllowedHead, HasClients, HasSums, IsAllowed}
-use Rattle.ssb_trace.specs.Allowed.{IsAllowedCommit, IsAllowedLine, IsClient, IsHeld}
+use Rattle.ssb_trace.specs.Allowed.{IsAllowedCommit, IsClient, IsHeld}
 use Rattle.ssb_trace.specs.RoundTrip.{IsReadBack}
 use Rattle.ssb_trace.proofs.LegalTraceLaws.{legal_traces_are_allowed}
 use Rattle.ssb_trace.proofs.TraceLaws.{spells_its_trace, spells_no_other}
-
-pub line_made : {T : Type 0} (fields : LineFields) (made : Result LineFields (Refused T))
-    → fault_of made ≡ row_fault table.Lineorder (line_values fields)
-    → IfOk made (λ line. line ≡ fields) → IsUtf8 fields.texts.order_priority → IsUtf8 fields.texts.ship_priority
-    → IsUtf8 fields.texts.ship_mode → IfOk made IsAllowedLine
-line_made fields (Ok line) fault same priority ship mode =
-    subst IsAllowedLine (sym same)
-    (record {
-      taken = sym fault;
-      texts = (
-        tt,
-        (
-          tt,
-          (
-            tt,
-            (
-              tt,
-              (
-                tt,
-                (
-                  tt,
-                  (
-                    priority,
-                    (
-                      ship,
-                      (tt, (tt, (tt, (tt, (tt, (tt, (tt, (tt, (mode, tt))))))))),
-                    ),
-                  ),
-                ),
-              ),
-            ),
-          ),
-        ),
-      );
-    })
-line_made fields (Err refused) fault same priority ship mode = tt
 
 -- the heads of answers that are held, and to clients
 heads_held : (answers : List Told) → AllByRecursion IsHeld answers

@@ -1,9 +1,6 @@
-pub mod RecordLaws
-pub mod FieldLaws
-pub mod NumberLaws
+pub mod SumLaws
 pub mod WrittenLaws
 pub mod ClientLaws
-pub mod ColumnLaws
 pub mod CommittedLaws
 pub mod ValueLaws
 pub mod ClauseLaws
@@ -12,7 +9,6 @@ pub mod RowLaws
 pub mod TraceLaws
 pub mod AnsweredRowLaws
 pub mod LegalTraceLaws
-pub mod EachLaws
 pub mod HeldLaws
 pub mod CommitLaws
 pub mod InOrderLaws

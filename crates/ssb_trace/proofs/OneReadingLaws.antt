@@ -1,6 +1,5 @@
 -- A text spells no two traces: its records spell one list of lines, and the entries are read off its lines, from the
--- last to
--- the first.
+-- last to the first.
 use Rattle.std.proofs.Common.{
   ◌≡◌,
   ℕ,
@@ -24,16 +23,10 @@ use Rattle.std.proofs.Common.{
 }
 use Rattle.std.specs.List.{flat_map}
 use Rattle.std.specs.Option.{option_map}
-use Rattle.std.proofs.lemmas.Option.{none-some, same_Some}
-use Rattle.csv.specs.Machine.{Read, next_record}
-use Rattle.csv.specs.Reading.{Reached, strip_bom}
-use Rattle.csv.specs.declared.parser.Config.{Config}
-use Rattle.csv.specs.declared.parser.State.{State}
-use Rattle.csv.specs.declared.parser.State.TheVariants as st
+use Rattle.std.proofs.lemmas.Option.{same_Some}
 use Rattle.row_store.specs.History.{CommitRecord}
 use Rattle.ssb_audit.specs.declared.trace.Told.{Told}
 use Rattle.ssb_audit.specs.declared.trace.Trace.{Trace}
-use Rattle.ssb_text.specs.Records.{record_config}
 use Rattle.ssb_questions.specs.declared.query.Query.{Query}
 use Rattle.ssb_questions.specs.declared.query.Query.TheVariants.{Q1_1}
 use Rattle.ssb_questions.specs.declared.value.Value.{Value}
@@ -44,7 +37,8 @@ use Rattle.ssb_schema.specs.declared.refresh.Action.TheVariants as action
 use Rattle.ssb_script.specs.Lines.{ScriptLine, RecordFault}
 use Rattle.ssb_script.specs.Lines as script
 use Rattle.ssb_script.specs.Requests.{action_of, lines_of_action, lines_of_refresh}
-use Rattle.ssb_script.specs.declared.control.Opening.TheVariants.{Add, Amend}
+use Rattle.ssb_script.specs.declared.control.OrderOpening.TheVariants.{Add, Amend}
+use Rattle.ssb_text.proofs.OneListLaws.{one_records}
 use Rattle.ssb_trace.specs.Entries.{answers_in, commits_in, in_commit, lines_of_entries}
 use Rattle.ssb_trace.specs.Laws.{HasOneReading}
 use Rattle.ssb_trace.specs.Lines.{
@@ -64,26 +58,6 @@ use Rattle.ssb_trace.specs.declared.entry.TraceEntry.{TraceEntry}
 use Rattle.ssb_trace.specs.declared.entry.TraceEntry.TheVariants as entry
 use Rattle.ssb_trace.specs.declared.word.TraceWord.{TraceWord}
 use Rattle.ssb_trace.specs.declared.word.TraceWord.TheVariants as word
-
--- the records of a text are one list
-one_list : (cfg : Config) (s s1 s2 : State) (text ys zs : List ℕ) (one other : List (List (List ℕ)))
-    → Reached cfg s text one s1 ys → next_record cfg s1 [] [] ys ≡ None → Reached cfg s text other s2 zs
-    → next_record cfg s2 [] [] zs ≡ None → one ≡ other
-unfolding Reached
-one_list cfg s s1 s2 text ys zs [] [] a enda b endb = refl
-one_list cfg s s1 s2 text ys zs [] (r ∷ other) a enda b endb =
-    let none : next_record cfg s [] [] text ≡ None = rw (a.0, a.1) enda in
-    absurd (none-some b.0 (sym none ∙ b.1))
-one_list cfg s s1 s2 text ys zs (r ∷ one) [] a enda b endb =
-    let none : next_record cfg s [] [] text ≡ None = rw (b.0, b.1) endb in
-    absurd (none-some a.0 (sym none ∙ a.1))
-one_list cfg s s1 s2 text ys zs (r ∷ one) (q ∷ other) a enda b endb =
-    let same : a.0 ≡ b.0 = same_Some a.0 b.0 (sym a.1 ∙ b.1) in
-    let Rest : Read → Type 0 = λ p. Reached cfg p.1 p.2 other s2 zs in
-    let first : r ≡ q = a.2 ∙ (ap (λ p. p.0) same ∙ sym b.2) in
-    let later : one ≡ other = one_list cfg a.0.1 s1 s2 a.0.2 ys zs one other a.3 enda (subst Rest (sym same) b.3) endb
-    in
-    rw (first, later) refl
 
 -- the line that a record says, where the rows of this question are read
 inside : Result ScriptLine RecordFault → Option TraceLine
@@ -334,8 +308,7 @@ some_question = (Q1_1, [])
 
 pub one_reading : (text : List ℕ) → HasOneReading text
 one_reading text most more one other a b =
-    let records : a.records ≡ b.records = one_list record_config st.StartRecord a.all.0 b.all.0 (strip_bom text) a.all.1
-    b.all.1 a.records b.records a.all.2 a.all.3 b.all.2 b.all.3 in
+    let records = one_records text a.records b.records a.all b.all in
     let spelled : AreLines a.records (lines_of_entries b.entries) =
     subst (λ found. AreLines found (lines_of_entries b.entries)) (sym records) b.spelled in
     let lines : lines_of_entries a.entries ≡ lines_of_entries b.entries

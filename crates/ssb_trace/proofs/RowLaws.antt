@@ -38,17 +38,18 @@ use Rattle.ssb_questions.specs.declared.query.Query.{Query}
 use Rattle.ssb_questions.specs.declared.value.Value.{Value}
 use Rattle.ssb_answers.specs.declared.answer.ResultRow.{ResultRow}
 use Rattle.ssb_report.specs.AnswerText.{columns_of, row_text, value_text}
-use Rattle.ssb_report.specs.Numbers.{line_feed, sum_text}
+use Rattle.ssb_text.specs.Numbers.{line_feed, sum_text}
 use Rattle.ssb_script.specs.Lines.{constants_from}
-use Rattle.ssb_trace.specs.TraceText.{fields_text, head_text, record_text, told_row_text, told_text}
+use Rattle.ssb_trace.specs.TraceText.{head_text, told_row_text, told_text}
+use Rattle.ssb_text.specs.TableText.{fields_text, record_text}
 use Rattle.ssb_trace.specs.Entries.{head_of_told, lines_of_told}
 use Rattle.ssb_trace.specs.Lines.{Answer, Row, Says, word_of}
 use Rattle.ssb_trace.specs.Rows.{group_kinds, row_of, sum_of}
 use Rattle.ssb_trace.specs.Allowed.{IsAllowedRow, IsAllowedSum, IsAllowedTold}
-use Rattle.ssb_trace.proofs.FieldLaws.{IsKept, field_there}
+use Rattle.ssb_text.proofs.FieldTextLaws.{IsKept, field_there}
 use Rattle.ssb_trace.proofs.HeadLaws.{columns_exact, written_head}
-use Rattle.ssb_trace.proofs.NumberLaws.{sum_kept, sum_no_null, sum_read}
-use Rattle.ssb_trace.proofs.RecordLaws.{IsPlainField}
+use Rattle.ssb_trace.proofs.SumLaws.{sum_kept, sum_no_null, sum_read}
+use Rattle.ssb_text.proofs.RecordTextLaws.{IsPlainField}
 use Rattle.ssb_trace.proofs.ValueLaws.{as_many_values, values_plain, values_read}
 use Rattle.ssb_trace.proofs.WrittenLaws.{Written, written_as, written_both, written_map, written_one}
 

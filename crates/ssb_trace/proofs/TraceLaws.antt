@@ -13,7 +13,7 @@ use Rattle.ssb_trace.proofs.OneReadingLaws.{one_reading}
 use Rattle.ssb_trace.specs.Allowed.{IsAllowed, IsAllowedCommit, IsAllowedTold, lines_of_trace}
 use Rattle.ssb_trace.specs.RoundTrip.{TextSpellsItsTrace, TextSpellsNoOther}
 use Rattle.ssb_trace.proofs.CommittedLaws.{written_commit}
-use Rattle.ssb_trace.proofs.RecordLaws.{has_records}
+use Rattle.ssb_text.proofs.RecordTextLaws.{has_records}
 use Rattle.ssb_trace.proofs.RowLaws.{written_told}
 use Rattle.ssb_trace.proofs.WrittenLaws.{Written, as_many, written_both, written_each}
 

@@ -55,9 +55,9 @@ use Rattle.ssb_schema.specs.Columns.{is_plain}
 use Rattle.ssb_schema.specs.declared.column.Column.{Column}
 use Rattle.ssb_script.specs.Lines.{constant_spelled, constants_from}
 use Rattle.ssb_trace.specs.Allowed.{IsAllowedQuestion, IsAllowedValue, IsGroup}
-use Rattle.ssb_trace.proofs.FieldLaws.{IsKept, field_there, text_kept, text_read}
-use Rattle.ssb_trace.proofs.NumberLaws.{number_kept, number_read}
-use Rattle.ssb_trace.proofs.RecordLaws.{IsPlainField}
+use Rattle.ssb_text.proofs.FieldTextLaws.{IsKept, field_there, text_kept, text_read}
+use Rattle.ssb_text.proofs.NumberTextLaws.{number_kept, number_read}
+use Rattle.ssb_text.proofs.RecordTextLaws.{IsPlainField}
 
 -- one value
 value-kept : (k : ConstantKind) (v : Value) → IsGroup k v → IsKept (value_text v)

@@ -4,7 +4,7 @@ use Rattle.std.specs.List.{AllByRecursion, flat_map}
 use Rattle.std.proofs.lemmas.Grind.{flat_map-append}
 use Rattle.std.proofs.lemmas.List.{append-nil}
 use Rattle.ssb_trace.specs.Lines.{TraceLine, AreLines, Says}
-use Rattle.ssb_trace.proofs.RecordLaws.{IsReadable, text_of_record, text_of_records}
+use Rattle.ssb_text.proofs.RecordTextLaws.{IsReadable, text_of_record, text_of_records}
 
 -- a text is that of records which are read back, and they say these lines
 pub record Written (text : List ℕ) (lines : List TraceLine) : Type 0 where

@@ -14,8 +14,7 @@ use Rattle.ssb_questions.specs.declared.value.Value.{Value}
 use Rattle.ssb_questions.specs.declared.value.Value.TheVariants as value
 use Rattle.ssb_answers.specs.declared.answer.ResultRow.{ResultRow}
 use Rattle.ssb_base.specs.Base.{Dimensions}
-use Rattle.ssb_schema.specs.Columns as columns
-use Rattle.ssb_schema.specs.Columns.{is_plain, row_fault}
+use Rattle.ssb_schema.specs.Columns.{is_plain}
 use Rattle.ssb_schema.specs.Rows.{customer_values, date_values, line_values, part_values, supplier_values}
 use Rattle.ssb_schema.specs.declared.line.LineFields.{LineFields}
 use Rattle.ssb_schema.specs.declared.refresh.Action.{Action}
@@ -23,22 +22,13 @@ use Rattle.ssb_schema.specs.declared.refresh.Action.TheVariants as action
 use Rattle.ssb_schema.specs.declared.table.Table.{Table}
 use Rattle.ssb_schema.specs.declared.table.Table.TheVariants as table
 use Rattle.ssb_script.specs.Requests.{IsWholeRequest, Refresh}
+use Rattle.ssb_text.specs.RoundTrip.{IsTableRow}
 use Rattle.ssb_trace.specs.Entries.{lines_of_commit, lines_of_told}
 use Rattle.ssb_trace.specs.Lines.{TraceLine}
 use Rattle.ssb_trace.specs.Rows.{group_kinds, has_no_groups}
 
--- a text of a row is UTF-8
-abbrev pub IsColumnText : columns.Value → Type 0
-IsColumnText (columns.Number n) = Unit {0}
-IsColumnText (columns.Text bytes) = IsUtf8 bytes
-
--- the values of a table's row that the schema takes
-pub record IsTakenRow (t : Table) (values : List columns.Value) : Type 0 where
-  pub taken : row_fault t values ≡ None
-  pub texts : AllByRecursion IsColumnText values
-
 abbrev pub IsAllowedLine : LineFields → Type 0
-IsAllowedLine line = IsTakenRow table.Lineorder (line_values line)
+IsAllowedLine line = IsTableRow table.Lineorder (line_values line)
 
 -- an action on an order of such lines, or on a key of 64 bits
 abbrev pub IsAllowedAction : Action → Type 0
@@ -104,10 +94,10 @@ lines_of_trace trace = flat_map lines_of_commit trace.commits ++ flat_map lines_
 
 -- the rows of the dimensions are such as the schema takes
 pub record AreTakenDimensions (dimensions : Dimensions) : Type 0 where
-  pub customers : AllByRecursion (λ row. IsTakenRow table.Customer (customer_values row)) dimensions.customers
-  pub suppliers : AllByRecursion (λ row. IsTakenRow table.Supplier (supplier_values row)) dimensions.suppliers
-  pub parts : AllByRecursion (λ row. IsTakenRow table.Part (part_values row)) dimensions.parts
-  pub dates : AllByRecursion (λ row. IsTakenRow table.Date (date_values row)) dimensions.dates
+  pub customers : AllByRecursion (λ row. IsTableRow table.Customer (customer_values row)) dimensions.customers
+  pub suppliers : AllByRecursion (λ row. IsTableRow table.Supplier (supplier_values row)) dimensions.suppliers
+  pub parts : AllByRecursion (λ row. IsTableRow table.Part (part_values row)) dimensions.parts
+  pub dates : AllByRecursion (λ row. IsTableRow table.Date (date_values row)) dimensions.dates
 
 -- the sums of an answer have 64 bits
 abbrev pub HasSums : Told → Type 0

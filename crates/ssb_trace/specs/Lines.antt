@@ -39,7 +39,7 @@ use Rattle.ssb_script.specs.Lines.{
   line_or_bad,
   line_or_refusal,
 }
-use Rattle.ssb_script.specs.declared.control.Opening.TheVariants.{Add, Amend}
+use Rattle.ssb_script.specs.declared.control.OrderOpening.TheVariants.{Add, Amend}
 use Rattle.ssb_trace.specs.Heads.{commit_of, head_of}
 use Rattle.ssb_trace.specs.Rows.{row_of}
 use Rattle.ssb_trace.specs.declared.heads.AnswerHead.{AnswerHead}

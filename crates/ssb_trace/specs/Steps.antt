@@ -6,7 +6,7 @@ use Rattle.ssb_script.specs.Lines.{ScriptLine}
 use Rattle.ssb_script.specs.Lines as script
 use Rattle.ssb_script.specs.Scripts.{is_refreshing, lines_of_begun}
 use Rattle.ssb_script.specs.Steps.{Follows as FollowsInScript}
-use Rattle.ssb_script.specs.declared.begun.Step.{Step as ScriptStep}
+use Rattle.ssb_script.specs.declared.begun.ScriptStep.{ScriptStep}
 use Rattle.ssb_trace.specs.Entries.{IsUnfinished, IsWholeEntry, in_commit, lines_of_entries, lines_of_unfinished}
 use Rattle.ssb_trace.specs.Lines.{TraceLine, SaysAfter}
 use Rattle.ssb_trace.specs.declared.entry.TraceEntry.{TraceEntry}

@@ -1,6 +1,5 @@
 -- The text of a trace.
 use Rattle.std.specs.Prelude.{ℕ, List, [], ◌∷◌, ◌++◌, map, length, flat_map, codes, decimal, if◌then◌else◌}
-use Rattle.ssb_schema.specs.Columns as columns
 use Rattle.ssb_schema.specs.Rows.{line_values}
 use Rattle.ssb_schema.specs.declared.line.LineFields.{LineFields}
 use Rattle.ssb_schema.specs.declared.refresh.Action.{Action}
@@ -12,24 +11,12 @@ use Rattle.ssb_questions.specs.declared.query.Query.{Query}
 use Rattle.ssb_questions.specs.declared.value.Value.{Value}
 use Rattle.ssb_answers.specs.declared.answer.ResultRow.{ResultRow}
 use Rattle.row_store.specs.History.{CommitRecord}
-use Rattle.ssb_report.specs.Numbers.{line_feed}
-use Rattle.ssb_report.specs.AnswerText.{after_bar, row_text}
+use Rattle.ssb_text.specs.Numbers.{line_feed}
+use Rattle.ssb_text.specs.TableText.{column_text, record_text}
+use Rattle.ssb_report.specs.AnswerText.{row_text, value_text}
+use Rattle.ssb_text.specs.Piece.{after_bar}
 use Rattle.ssb_audit.specs.declared.trace.Told.{Told}
 use Rattle.ssb_audit.specs.declared.trace.Trace.{Trace}
-
--- the fields of a record behind its word, each behind a bar, and the end of the line
-abbrev pub fields_text : List (List ℕ) → List ℕ
-fields_text [] = line_feed
-fields_text (field ∷ fields) = 124 ∷ (field ++ fields_text fields)
-
--- a record
-abbrev pub record_text : List ℕ → List (List ℕ) → List ℕ
-record_text word fields = word ++ fields_text fields
-
--- a column of a line
-abbrev pub column_text : columns.Value → List ℕ
-column_text (columns.Number n) = decimal n
-column_text (columns.Text bytes) = bytes
 
 -- a line of an order
 abbrev pub line_text : LineFields → List ℕ
@@ -59,7 +46,7 @@ count_text told =
     (decimal told.at ++ 124 ∷ (name_of told.question.0 ++ 124 ∷ (decimal (length told.rows)))))
 
 abbrev pub head_text : Told → List ℕ
-head_text told = (count_text told ++ flat_map after_bar (written_constants told.question)) ++ line_feed
+head_text told = (count_text told ++ flat_map (after_bar value_text) (written_constants told.question)) ++ line_feed
 
 -- a row, as in a report
 abbrev pub told_row_text : Query → ResultRow → List ℕ

@@ -1,25 +1,27 @@
 //! The records of answers.
 ghost use Rattle.std.specs.Prelude.{◌++◌, flat_map};
-ghost use Rattle.ssb_report.specs.Written.{Writes};
-ghost use Rattle.ssb_report.specs.AnswerText.{after_bar};
-ghost use Rattle.ssb_report.specs.Numbers.{line_feed};
+ghost use Rattle.ssb_text.specs.Written.{Writes};
+ghost use Rattle.ssb_report.specs.AnswerText.{value_text};
+ghost use Rattle.ssb_text.specs.Piece.{after_bar};
+ghost use Rattle.ssb_text.specs.Numbers.{line_feed};
 ghost use Rattle.ssb_trace.specs.TraceText.{written_constants, count_text, head_text, told_row_text, told_text};
 
 use ssb_answers::ResultRow;
 use ssb_audit::Told;
 use ssb_questions::{Query, Question};
-use ssb_report::{Piece, WriteFault, write_barred, write_pieces, write_row};
+use ssb_report::{write_after_bars, write_row};
+use ssb_text::{Piece, WriteFault, write_pieces};
 use std::io::Write;
 
 // The constants of a question, each behind a bar, where they are not those that its query has where none are given.
 fn write_constants<W: Write>(writer: &mut W, question: &Question) -> Result<(), WriteFault>
     ensures { Writes (W.contents writer.old) (W.contents writer.new) result
-        (flat_map after_bar (written_constants question.now)) }
+        (flat_map (after_bar value_text) (written_constants question.now)) }
 {
     if question.is_standard() {
         return Ok(());
     }
-    write_barred(writer, question.constants())
+    write_after_bars(writer, question.constants())
 }
 
 // The fields of an answer's first record that every answer has.
@@ -44,7 +46,7 @@ fn write_counts<W: Write>(writer: &mut W, told: &Told) -> Result<(), WriteFault>
 // These and the constants.
 fn write_fields<W: Write>(writer: &mut W, told: &Told) -> Result<(), WriteFault>
     ensures { Writes (W.contents writer.old) (W.contents writer.new) result
-        (count_text told.now ++ flat_map after_bar (written_constants told.now.question)) }
+        (count_text told.now ++ flat_map (after_bar value_text) (written_constants told.now.question)) }
 {
     write_counts(writer, told)?;
     write_constants(writer, &told.question)

@@ -1,57 +1,20 @@
 //! The records of commits.
 ghost use Rattle.std.specs.Prelude.{[], ◌++◌, flat_map};
-ghost use Rattle.ssb_report.specs.Written.{Writes};
-ghost use Rattle.ssb_trace.specs.TraceText.{record_text, line_text, action_text, begun_text, commit_text};
+ghost use Rattle.ssb_text.specs.Written.{Writes};
+ghost use Rattle.ssb_trace.specs.TraceText.{line_text, action_text, begun_text, commit_text};
+ghost use Rattle.ssb_text.specs.TableText.{record_text};
 
 use row_store::Commit;
-use ssb_report::{Piece, WriteFault, write_pieces};
 use ssb_schema::{Action, Line};
+use ssb_text::{Piece, WriteFault, write_pieces, write_row};
 use std::io::Write;
 
-// A line of an order, column by column.
+// A line of an order.
 fn write_line<W: Write>(writer: &mut W, line: &Line) -> Result<(), WriteFault>
     ensures { Writes (W.contents writer.old) (W.contents writer.new) result (line_text line.now) }
 {
-    write_pieces(
-        writer,
-        &[
-            Piece::Text("line|"),
-            Piece::Number(line.order_key()),
-            Piece::Text("|"),
-            Piece::Number(u64::from(line.line_number())),
-            Piece::Text("|"),
-            Piece::Number(line.customer_key()),
-            Piece::Text("|"),
-            Piece::Number(line.part_key()),
-            Piece::Text("|"),
-            Piece::Number(line.supplier_key()),
-            Piece::Text("|"),
-            Piece::Number(line.order_date()),
-            Piece::Text("|"),
-            Piece::Text(line.order_priority()),
-            Piece::Text("|"),
-            Piece::Text(line.ship_priority()),
-            Piece::Text("|"),
-            Piece::Number(u64::from(line.quantity())),
-            Piece::Text("|"),
-            Piece::Number(u64::from(line.extended_price())),
-            Piece::Text("|"),
-            Piece::Number(u64::from(line.order_total_price())),
-            Piece::Text("|"),
-            Piece::Number(u64::from(line.discount())),
-            Piece::Text("|"),
-            Piece::Number(u64::from(line.revenue())),
-            Piece::Text("|"),
-            Piece::Number(u64::from(line.supply_cost())),
-            Piece::Text("|"),
-            Piece::Number(u64::from(line.tax())),
-            Piece::Text("|"),
-            Piece::Number(line.commit_date()),
-            Piece::Text("|"),
-            Piece::Text(line.ship_mode()),
-            Piece::Text("\n"),
-        ],
-    )
+    write_pieces(writer, &[Piece::Text("line|")])?;
+    write_row(writer, line)
 }
 
 fn write_lines<W: Write>(writer: &mut W, lines: &[Line]) -> Result<(), WriteFault>

@@ -6,33 +6,16 @@ ghost use Rattle.ssb_script.specs.Requests.{IsWholeAction};
 ghost use Rattle.ssb_trace.specs.Allowed.{IsAllowedAction, IsAllowedCommit, IsAllowedLine, IsClient};
 
 use row_store::Commit;
-use ssb_schema::{Action, Line, Order};
+use ssb_schema::{Action, Order};
+use ssb_text::are_table_rows;
 
-// A line may stand in an allowed trace.
-fn line_is_allowed(line: &Line)
-    ensures { IsAllowedLine line.now }
-{
-    line.soundness();
-    let _priority = line.order_priority();
-    let _ship = line.ship_priority();
-    let _mode = line.ship_mode();
-}
-
-fn lines_are_allowed(lines: &[Line])
-    ensures { AllByRecursion IsAllowedLine lines.now }
-{
-    for line in lines {
-        line_is_allowed(line);
-    }
-}
-
-// An order is one, of such lines.
+// An order is one, of lines that may stand in an allowed trace.
 fn order_is_allowed(order: &Order)
     ensures whole { order_fault order.now ≡ None }
     ensures lines { AllByRecursion IsAllowedLine order.now }
 {
     order.soundness();
-    lines_are_allowed(order.lines());
+    are_table_rows(order.lines());
 }
 
 fn action_is_allowed(action: &Action)

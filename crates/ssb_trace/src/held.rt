@@ -1,13 +1,9 @@
-//! What lines, questions and answers hold by their types, and what follows of it for a run's trace.
-ghost use Rattle.std.specs.Prelude.{◌≡◌, IfOk, IfSome, FitsSigned};
+//! What questions and answers hold by their types, and what follows of it for a run's trace.
+ghost use Rattle.std.specs.Prelude.{IfSome, FitsSigned};
 ghost use Rattle.std.specs.Int.{w64};
 ghost use Rattle.std.specs.List.{AllByRecursion};
 ghost use Rattle.ssb_audit.specs.Legal.{IsLegalTrace};
-ghost use Rattle.ssb_schema.specs.Columns.{row_fault};
-ghost use Rattle.ssb_schema.specs.Refusals.{fault_of};
-ghost use Rattle.ssb_schema.specs.Rows.{line_values};
-ghost use Rattle.ssb_schema.specs.declared.table.Table.TheVariants as table;
-ghost use Rattle.ssb_trace.specs.Allowed.{HasClients, IsAllowedLine, IsAllowedQuestion};
+ghost use Rattle.ssb_trace.specs.Allowed.{HasClients, IsAllowedQuestion};
 ghost use Rattle.ssb_trace.specs.Allowed.{IsAllowedValue, IsHeld};
 ghost use Rattle.ssb_trace.specs.RoundTrip.{IsReadBack};
 
@@ -17,19 +13,6 @@ use ssb_answers::ResultRow;
 use ssb_audit::{Told, Trace};
 use ssb_base::Base;
 use ssb_questions::{Question, Value};
-use ssb_schema::{Line, LineFields, Refused};
-
-/// A line of these values, or what `Line::new` says where there is none: the line may stand in an allowed trace.
-pub fn allowed_line(fields: LineFields) -> Result<Line, Refused<LineFields>>
-    ensures fault { fault_of result ≡ row_fault table.Lineorder (line_values fields) }
-    ensures row { IfOk result (λ line. line ≡ fields) }
-    ensures allowed { IfOk result IsAllowedLine }
-{
-    let _priority = fields.texts.order_priority();
-    let _ship = fields.texts.ship_priority();
-    let _mode = fields.texts.ship_mode();
-    Line::new(fields)
-}
 
 // A constant of a question: its text is UTF-8, its number has 32 bits.
 fn value_is_allowed(constant: &Value)

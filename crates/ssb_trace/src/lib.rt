@@ -41,11 +41,10 @@ mod writing;
 
 pub use committed::commits_are_allowed;
 pub use heads::{AnswerHead, client_of_commit, head_of};
-pub use held::{allowed_line, legal_trace_is_read_back, question_is_allowed};
+pub use held::{legal_trace_is_read_back, question_is_allowed};
 pub use laws::one_reading;
 pub use round_trip::{legal_traces_are_allowed, text_is_read_back};
 pub use rows::{group_kinds, row_of};
 pub use ssb_audit::{AuditFault, Told, Trace, audit};
-pub use ssb_report::WriteFault;
 pub use trace::read_trace;
 pub use writing::write_trace;

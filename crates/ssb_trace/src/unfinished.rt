@@ -127,7 +127,7 @@ fn after_in_refresh(
     before: u64,
     word: Option<TraceWord>,
     fields: &ByteRecord,
-) -> Result<ssb_script::Step, ScriptError>
+) -> Result<ssb_script::ScriptStep, ScriptError>
     requires counted { before < 2 ^ 64 - 1 }
     requires room { HasRoom before (begun_in begun) }
     ensures step { IfOk result (λ step. (line : ScriptLine) × (line_inside word (fields_of fields.now) ≡ Ok line)
@@ -143,10 +143,10 @@ fn after_in_refresh(
 }
 
 // What comes of that in a commit of the client.
-fn step_of_commit(client: u32, step: ssb_script::Step) -> TraceStep
+fn step_of_commit(client: u32, step: ssb_script::ScriptStep) -> TraceStep
     ensures { CommitStep client step result }
 {
-    let ssb_script::Step { request, begun } = step;
+    let ssb_script::ScriptStep { request, begun } = step;
     match request {
         Some(ssb_script::Request::Refresh(refresh)) => TraceStep {
             entry: Some(TraceEntry::Commit(Commit { client, refresh })),

@@ -1,13 +1,13 @@
 //! A trace, written.
 ghost use Rattle.std.specs.Prelude.{OnOk, OnErr};
 ghost use Rattle.std.specs.Io.KnownBytes.{Appends};
-ghost use Rattle.ssb_report.specs.Written.{StopsShort, Writes};
+ghost use Rattle.ssb_text.specs.Written.{StopsShort, Writes};
 ghost use Rattle.ssb_trace.specs.TraceText.{trace_text};
 
 use crate::answers::write_answers;
 use crate::commits::write_commits;
 use ssb_audit::Trace;
-use ssb_report::WriteFault;
+use ssb_text::WriteFault;
 use std::io::Write;
 
 // The records of the commits, and then those of the answers.

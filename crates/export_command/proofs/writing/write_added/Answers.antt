@@ -1,5 +1,5 @@
 use Rattle.std.proofs.Common.{◌+◌, rules, arith, subst}
-use Rattle.ssb_report.specs.Written.{StopsShort}
+use Rattle.ssb_text.specs.Written.{StopsShort}
 use Rattle.export_command.specs.After.{standing, standing_added}
 use Rattle.export_command.proofs.StepLaws.{action_added, action_stopped}
 use Rattle.export_command.proofs.WritingLaws.{HasWritten, all_written, lines_text, writes_part}

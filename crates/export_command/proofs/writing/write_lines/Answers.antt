@@ -1,5 +1,5 @@
 use Rattle.std.proofs.Common.{◌≡◌, List, ◌++◌, sym, ap, ◌∙◌, subst}
-use Rattle.ssb_report.specs.Written.{StopsShort}
+use Rattle.ssb_text.specs.Written.{StopsShort}
 use Rattle.row_store.specs.History.{CommitRecord}
 use Rattle.ssb_base.specs.Base.{Tables}
 use Rattle.export_command.specs.After.{actions_of, standing, standing_added}

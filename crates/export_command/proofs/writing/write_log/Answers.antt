@@ -1,5 +1,5 @@
 use Rattle.std.proofs.Common.{◌≡◌, ◌+◌, ◌*◌, ◌≤◌, length, take, rules, arith, ap, ◌∙◌, subst, length-append}
-use Rattle.ssb_report.specs.Written.{StopsShort}
+use Rattle.ssb_text.specs.Written.{StopsShort}
 use Rattle.export_command.specs.After.{actions_of, standing_added}
 use Rattle.export_command.proofs.StepLaws.{actions_more, commit_added, commit_stopped}
 use Rattle.export_command.proofs.WritingLaws.{HasWritten, all_written, lines_text, writes_part}

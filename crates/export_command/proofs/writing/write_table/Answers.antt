@@ -4,7 +4,7 @@ use Rattle.std.proofs.lemmas.List.{length-map}
 use Rattle.ssb_base.specs.Base.{IsSound, Tables}
 use Rattle.ssb_schema.specs.Rows.{line_values}
 use Rattle.ssb_schema.specs.declared.table.Table.TheVariants as table
-use Rattle.table_text.specs.RoundTrip.{AreTableRows, IsTableRow}
+use Rattle.ssb_text.specs.RoundTrip.{AreTableRows, IsTableRow}
 use Rattle.export_command.proofs.SoundLaws.{tables_after_are_sound}
 use Rattle.export_command.proofs.writing.write_table.Goals as goal
 

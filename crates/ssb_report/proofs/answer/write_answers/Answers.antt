@@ -1,6 +1,6 @@
 use Rattle.std.proofs.Common.{rules}
 use Rattle.ssb_report.specs.AnswerText.{answer_text}
-use Rattle.ssb_report.proofs.WrittenLaws.{writes_stopped, part_item}
+use Rattle.ssb_text.proofs.WrittenLaws.{writes_stopped, part_item}
 use Rattle.ssb_report.proofs.answer.write_answers.Goals as goal
 
 pub returns-in_err-write_answer : goal.returns-in_err-write_answer

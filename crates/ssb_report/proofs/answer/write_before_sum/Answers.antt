@@ -1,7 +1,7 @@
 use Rattle.std.proofs.Common.{rules, [], ◌∷◌, ◌++◌, ap, subst}
-use Rattle.ssb_report.specs.Written.{StopsShort}
+use Rattle.ssb_text.specs.Written.{StopsShort}
 use Rattle.ssb_report.specs.AnswerText.{with_bar}
-use Rattle.ssb_report.proofs.WrittenLaws.{writes_stopped, part_item}
+use Rattle.ssb_text.proofs.WrittenLaws.{writes_stopped, part_item}
 use Rattle.ssb_report.proofs.answer.write_before_sum.Goals as goal
 
 pub returns-in_err-write_pieces : goal.returns-in_err-write_pieces

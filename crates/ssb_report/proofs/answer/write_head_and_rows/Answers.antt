@@ -1,6 +1,6 @@
 use Rattle.std.proofs.Common.{length, flat_map}
 use Rattle.ssb_report.specs.AnswerText.{head_text, row_text}
-use Rattle.ssb_report.proofs.WrittenLaws.{writes_stopped, writes_next, part_longer}
+use Rattle.ssb_text.proofs.WrittenLaws.{writes_stopped, writes_next, part_longer}
 use Rattle.ssb_report.proofs.answer.write_head_and_rows.Goals as goal
 
 pub returns-in_err-write_head : goal.returns-in_err-write_head

@@ -1,6 +1,6 @@
 use Rattle.std.proofs.Common.{rules}
 use Rattle.ssb_report.specs.AnswerText.{row_text}
-use Rattle.ssb_report.proofs.WrittenLaws.{writes_stopped, part_item}
+use Rattle.ssb_text.proofs.WrittenLaws.{writes_stopped, part_item}
 use Rattle.ssb_report.proofs.answer.write_rows.Goals as goal
 
 pub returns-in_err-write_row : goal.returns-in_err-write_row

@@ -1,8 +1,8 @@
 use Rattle.std.proofs.Common.{[], ◌∷◌, ◌++◌, codes, decimal}
 use Rattle.std.specs.List.{concat}
-use Rattle.ssb_report.specs.Numbers.{line_feed}
+use Rattle.ssb_text.specs.Numbers.{line_feed}
 use Rattle.ssb_report.specs.RefreshText.{cause_text}
-use Rattle.ssb_report.proofs.WrittenLaws.{writes_stopped, writes_next, part_longer, appends_both, appends_part}
+use Rattle.ssb_text.proofs.WrittenLaws.{writes_stopped, writes_next, part_longer, appends_both, appends_part}
 use Rattle.ssb_report.proofs.refresh.write_refused.Goals as goal
 
 pub returns-in_err-write_pieces : goal.returns-in_err-write_pieces

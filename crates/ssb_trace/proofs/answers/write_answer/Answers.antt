@@ -1,5 +1,5 @@
 use Rattle.std.proofs.Common.{flat_map}
-use Rattle.ssb_report.proofs.WrittenLaws.{writes_stopped, writes_next, part_longer}
+use Rattle.ssb_text.proofs.WrittenLaws.{writes_stopped, writes_next, part_longer}
 use Rattle.ssb_trace.specs.TraceText.{head_text, told_row_text}
 use Rattle.ssb_trace.proofs.answers.write_answer.Goals as goal
 

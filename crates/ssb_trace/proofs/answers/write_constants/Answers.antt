@@ -27,4 +27,4 @@ returns g c =
     let written : written_constants question ≡ c.constants.result.now =
     not_standard question c.is_standard.result c.is_standard.ensures.1 c.if-is_standard.false
     ∙ sym c.constants.ensures.constants in
-    rw written c.write_barred.ensures
+    rw written c.write_after_bars.ensures

@@ -1,7 +1,8 @@
 use Rattle.std.proofs.Common.{◌++◌, flat_map}
-use Rattle.ssb_report.specs.Numbers.{line_feed}
-use Rattle.ssb_report.specs.AnswerText.{after_bar}
-use Rattle.ssb_report.proofs.WrittenLaws.{writes_stopped, writes_next, part_longer}
+use Rattle.ssb_text.specs.Numbers.{line_feed}
+use Rattle.ssb_report.specs.AnswerText.{value_text}
+use Rattle.ssb_text.specs.Piece.{after_bar}
+use Rattle.ssb_text.proofs.WrittenLaws.{writes_stopped, writes_next, part_longer}
 use Rattle.ssb_trace.specs.TraceText.{count_text, written_constants}
 use Rattle.ssb_trace.proofs.answers.write_head.Goals as goal
 
@@ -11,12 +12,13 @@ returns-in_err-write_fields g c =
     let a = contents c.args.writer.now in
     let b = contents c.write_fields.new.writer in
     writes_stopped _ c.from_residual.result a b _ c.from_residual.ensures.1
-    (part_longer a b (count_text c.args.told.now ++ flat_map after_bar (written_constants c.args.told.now.question))
+    (part_longer a b
+    (count_text c.args.told.now ++ flat_map (after_bar value_text) (written_constants c.args.told.now.question))
     (line_feed) (c.in_err-write_fields.ensures))
 
 pub returns : goal.returns
 returns g c =
     let contents = g.W.Write.contents in
     writes_next (contents c.args.writer.now) (contents c.write_fields.new.writer) _
-    (count_text c.args.told.now ++ flat_map after_bar (written_constants c.args.told.now.question)) (line_feed)
-    c.write_pieces.result (c.in_ok-write_fields.ensures) (c.write_pieces.ensures)
+    (count_text c.args.told.now ++ flat_map (after_bar value_text) (written_constants c.args.told.now.question))
+    (line_feed) c.write_pieces.result (c.in_ok-write_fields.ensures) (c.write_pieces.ensures)

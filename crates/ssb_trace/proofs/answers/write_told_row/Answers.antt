@@ -1,6 +1,6 @@
 use Rattle.std.proofs.Common.{[], ◌∷◌}
 use Rattle.ssb_report.specs.AnswerText.{row_text}
-use Rattle.ssb_report.proofs.WrittenLaws.{writes_stopped, writes_next, part_longer}
+use Rattle.ssb_text.proofs.WrittenLaws.{writes_stopped, writes_next, part_longer}
 use Rattle.ssb_trace.proofs.answers.write_told_row.Goals as goal
 
 pub returns-in_err-write_pieces : goal.returns-in_err-write_pieces

@@ -1,6 +1,7 @@
 use Rattle.std.proofs.Common.{[], ◌∷◌, flat_map}
-use Rattle.ssb_report.proofs.WrittenLaws.{writes_stopped, writes_next, part_longer}
-use Rattle.ssb_trace.specs.TraceText.{record_text, action_text}
+use Rattle.ssb_text.proofs.WrittenLaws.{writes_stopped, writes_next, part_longer}
+use Rattle.ssb_trace.specs.TraceText.{action_text}
+use Rattle.ssb_text.specs.TableText.{record_text}
 use Rattle.std.specs.Prelude.{codes, decimal}
 use Rattle.ssb_trace.proofs.commits.write_begun.Goals as goal
 

@@ -1,7 +1,8 @@
 use Rattle.row_store.specs.History.{CommitRecord}
 use Rattle.std.proofs.Common.{◌≡◌, ap, ◌∙◌, []}
-use Rattle.ssb_report.proofs.WrittenLaws.{writes_stopped, writes_next, part_longer}
-use Rattle.ssb_trace.specs.TraceText.{record_text, begun_text}
+use Rattle.ssb_text.proofs.WrittenLaws.{writes_stopped, writes_next, part_longer}
+use Rattle.ssb_trace.specs.TraceText.{begun_text}
+use Rattle.ssb_text.specs.TableText.{record_text}
 use Rattle.std.specs.Prelude.{codes}
 use Rattle.ssb_trace.proofs.commits.write_commit.Goals as goal
 

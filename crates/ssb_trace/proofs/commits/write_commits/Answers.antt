@@ -1,5 +1,5 @@
 use Rattle.std.proofs.Common.{rules}
-use Rattle.ssb_report.proofs.WrittenLaws.{writes_stopped, part_item}
+use Rattle.ssb_text.proofs.WrittenLaws.{writes_stopped, part_item}
 use Rattle.ssb_trace.specs.TraceText.{commit_text}
 use Rattle.ssb_trace.proofs.commits.write_commits.Goals as goal
 

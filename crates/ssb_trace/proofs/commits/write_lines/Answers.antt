@@ -1,5 +1,5 @@
 use Rattle.std.proofs.Common.{rules}
-use Rattle.ssb_report.proofs.WrittenLaws.{writes_stopped, part_item}
+use Rattle.ssb_text.proofs.WrittenLaws.{writes_stopped, part_item}
 use Rattle.ssb_trace.specs.TraceText.{line_text}
 use Rattle.ssb_trace.proofs.commits.write_lines.Goals as goal
 

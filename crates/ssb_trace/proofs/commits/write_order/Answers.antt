@@ -1,6 +1,7 @@
 use Rattle.std.proofs.Common.{[], flat_map}
-use Rattle.ssb_report.proofs.WrittenLaws.{writes_stopped, writes_next, part_longer}
-use Rattle.ssb_trace.specs.TraceText.{record_text, line_text}
+use Rattle.ssb_text.proofs.WrittenLaws.{writes_stopped, writes_next, part_longer}
+use Rattle.ssb_trace.specs.TraceText.{line_text}
+use Rattle.ssb_text.specs.TableText.{record_text}
 use Rattle.ssb_trace.proofs.commits.write_order.Goals as goal
 
 pub returns-in_err-write_pieces : goal.returns-in_err-write_pieces

@@ -1,7 +1,7 @@
 use Rattle.std.proofs.Common.{refl}
 use Rattle.ssb_script.specs.Requests.{IsWholeAction}
 use Rattle.ssb_trace.specs.Allowed.{IsAllowedAction}
-use Rattle.ssb_trace.proofs.EachLaws.{all_held, each, one_more}
+use Rattle.ssb_text.proofs.EachLaws.{all_held, each, one_more}
 use Rattle.ssb_trace.proofs.committed.actions_are_allowed.Goals as goal
 
 pub loop-action-preserved : goal.loop-action-preserved

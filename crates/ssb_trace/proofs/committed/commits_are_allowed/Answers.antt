@@ -1,7 +1,7 @@
 use Rattle.std.proofs.Common.{refl}
 use Rattle.row_store.specs.History.{CommitRecord}
 use Rattle.ssb_trace.specs.Allowed.{IsAllowedCommit, IsClient}
-use Rattle.ssb_trace.proofs.EachLaws.{all_held, one_more}
+use Rattle.ssb_text.proofs.EachLaws.{all_held, one_more}
 use Rattle.ssb_trace.proofs.committed.commits_are_allowed.Goals as goal
 
 pub loop-commit-preserved : goal.loop-commit-preserved

@@ -6,5 +6,5 @@ use Rattle.ssb_trace.proofs.committed.order_is_allowed.Goals as goal
 pub returns : goal.returns
 returns c = record {
   whole = c.soundness.ensures;
-  lines = subst (AllByRecursion IsAllowedLine) c.lines.ensures.lines c.lines_are_allowed.ensures;
+  lines = subst (AllByRecursion IsAllowedLine) c.lines.ensures.lines c.are_table_rows.ensures;
 }

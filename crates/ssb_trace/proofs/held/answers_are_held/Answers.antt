@@ -1,6 +1,6 @@
 use Rattle.std.proofs.Common.{refl}
 use Rattle.ssb_trace.specs.Allowed.{IsHeld}
-use Rattle.ssb_trace.proofs.EachLaws.{all_held, one_more}
+use Rattle.ssb_text.proofs.EachLaws.{all_held, one_more}
 use Rattle.ssb_trace.proofs.held.answers_are_held.Goals as goal
 
 pub loop-told-preserved : goal.loop-told-preserved

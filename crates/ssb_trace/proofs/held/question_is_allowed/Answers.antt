@@ -1,5 +1,5 @@
 use Rattle.ssb_trace.specs.Allowed.{IsAllowedValue}
-use Rattle.ssb_trace.proofs.EachLaws.{all_held, one_more}
+use Rattle.ssb_text.proofs.EachLaws.{all_held, one_more}
 use Rattle.ssb_trace.proofs.held.question_is_allowed.Goals as goal
 
 pub loop-constant-preserved : goal.loop-constant-preserved

@@ -1,7 +1,7 @@
 use Rattle.std.proofs.Common.{IfSome, FitsSigned, refl}
 use Rattle.std.specs.Int.{w64}
 use Rattle.ssb_answers.specs.declared.answer.ResultRow.{ResultRow}
-use Rattle.ssb_trace.proofs.EachLaws.{all_held, one_more}
+use Rattle.ssb_text.proofs.EachLaws.{all_held, one_more}
 use Rattle.ssb_trace.proofs.held.sums_are_held.Goals as goal
 
 pub loop-row-preserved : goal.loop-row-preserved

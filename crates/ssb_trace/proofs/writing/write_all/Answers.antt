@@ -1,5 +1,5 @@
 use Rattle.std.proofs.Common.{flat_map}
-use Rattle.ssb_report.proofs.WrittenLaws.{writes_stopped, part_longer}
+use Rattle.ssb_text.proofs.WrittenLaws.{writes_stopped, part_longer}
 use Rattle.ssb_trace.specs.TraceText.{commit_text, told_text}
 use Rattle.ssb_trace.proofs.writing.write_all.Goals as goal
 

@@ -1,0 +1,12 @@
+use Rattle.std.proofs.Common.{◌≡◌, ℕ, List, ◌++◌, length}
+use Rattle.std.specs.Io.KnownBytes.{Appends}
+use Rattle.ssb_text.proofs.piece.write_bytes.Given as goal
+
+-- what is left comes after what was written
+abbrev pub invariant-loop-rest : goal.invariant-loop-rest
+invariant-loop-rest g l =
+    (part : List ℕ) × (l.bytes ≡ part ++ l.rest) × Appends (g.W.Write.contents l.fn.writer)
+    (g.W.Write.contents l.writer) part
+
+abbrev pub decreases-loop-rest : goal.decreases-loop-rest
+decreases-loop-rest g l = length l.rest

@@ -1,2 +1,0 @@
-pub mod TableText
-pub mod RoundTrip
