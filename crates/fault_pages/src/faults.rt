@@ -3,13 +3,12 @@
 use export_command::NotEmpty;
 use journal_file::OpenError;
 use row_store::Cause;
-use session_requests::RequestError;
 use ssb_audit::AuditFault;
 use ssb_files::{PathFault, TooManyGroups};
 use ssb_journal::{JournalFault, ReplayFault};
 use ssb_questions::{ConstantsFault, NoSuchQuery, Query};
 use ssb_schema::{C_CITY, SchemaFault, Table};
-use ssb_script::{QuestionsError, ScriptError};
+use ssb_script::{QuestionsError, RequestError, ScriptError};
 use ssb_server::OpenFault;
 use ssb_text::LoadError;
 use std::alloc::{AllocError, Global};

@@ -1,23 +1,5 @@
 -- Questions that are asked alone are a script, which asks each by itself.
-use Rattle.std.proofs.Common.{
-  ◌≡◌,
-  ◌∙◌,
-  ◌∷◌,
-  All,
-  ℕ,
-  [],
-  List,
-  Some,
-  None,
-  Result,
-  Ok,
-  Err,
-  map,
-  length,
-  refl,
-  sym,
-  ap,
-}
+use Rattle.std.proofs.Common.{◌≡◌, ◌∙◌, ◌∷◌, All, ℕ, [], List, Some, None, Result, Ok, Err, map, length, refl, sym, ap}
 use Rattle.std.specs.List.{AllZip}
 use Rattle.std.proofs.lemmas.List.{length-map}
 use Rattle.std.proofs.lemmas.List.Elements.{All-cons, All-nil}
@@ -47,15 +29,7 @@ tail_of (x ∷ xs) = xs
 line_said : (spelled : Result ScriptLine RecordFault) (question : Question) → question_in spelled ≡ Some question
     → spelled ≡ Ok (line.Query question)
 line_said (Ok (line.Query asked)) question is = ap (λ one. Ok (line.Query one)) (same_Some asked question is)
-line_said (Ok line.Begin) question is = absurd cc
-line_said (Ok (line.Open opening)) question is = absurd cc
-line_said (Ok (line.Line row)) question is = absurd cc
-line_said (Ok (line.Withdraw key)) question is = absurd cc
-line_said (Ok line.Commit) question is = absurd cc
-line_said (Ok line.Ask) question is = absurd cc
-line_said (Ok line.Answer) question is = absurd cc
-line_said (Ok line.Abort) question is = absurd cc
-line_said (Err why) question is = absurd cc
+line_said _ question is = absurd cc
 
 lines_said : (records : List (List (List ℕ))) (questions : List Question)
     → map asked_by records ≡ map Some questions → map line_of records ≡ map Ok (map line.Query questions)
@@ -63,7 +37,7 @@ lines_said [] [] is = refl
 lines_said [] (question ∷ questions) is = absurd cc
 lines_said (fields ∷ records) [] is = absurd cc
 lines_said (fields ∷ records) (question ∷ questions) is =
-    let first : line_of fields ≡ Ok (line.Query question) = line_said (line_of fields) question (ap (head_or None) is) in
+    let first = line_said (line_of fields) question (ap (head_or None) is) in
     let others : map line_of records ≡ map Ok (map line.Query questions) = lines_said records questions
     (ap tail_of is) in
     rw (first, others) refl

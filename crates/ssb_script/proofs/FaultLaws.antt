@@ -1,54 +1,14 @@
 -- A text that spells a script has no fault: its lines are read from the first to the last, and each may stand.
-use Rattle.std.proofs.Common.{
-  ◌≡◌,
-  ℕ,
-  ◌+◌,
-  ◌<◌,
-  ◌≤◌,
-  Bool,
-  true,
-  false,
-  List,
-  [],
-  ◌∷◌,
-  ◌++◌,
-  map,
-  length,
-  Option,
-  Some,
-  None,
-  Result,
-  Ok,
-  Err,
-  if◌then◌else◌,
-  nat_eq,
-  nat_lt,
-  subst,
-  refl,
-  sym,
-  ap,
-  ◌∙◌,
-  append_assoc,
-  append-nil,
-  arith,
-}
+use Rattle.std.proofs.Common.{◌≡◌, ℕ, ◌+◌, ◌<◌, ◌≤◌, Bool, true, false, List, [], ◌∷◌, ◌++◌, map, length, Option, Some}
+use Rattle.std.proofs.Common.{None, Result, Ok, if◌then◌else◌, nat_eq, nat_lt, subst, refl, sym, ap, ◌∙◌}
+use Rattle.std.proofs.Common.{append_assoc, append-nil, arith}
 use Rattle.std.specs.List.{AllByRecursion, AllZip, flat_map}
-use Rattle.std.specs.Option.{option_map}
 use Rattle.std.specs.Prelude.{◌||◌}
 use Rattle.std.proofs.lemmas.Bool.{le-ltb, lt-ltb, ltb-false}
 use Rattle.std.proofs.lemmas.Bool.Decides.{nat_tests}
 use Rattle.std.proofs.lemmas.List.{length_push, length-append, map-append}
 use Rattle.std.proofs.lemmas.List.Elements.{recursion_from_All}
-use Rattle.std.proofs.lemmas.Option.{none-some, same_Some}
-use Rattle.csv.specs.Machine.{Read, next_record}
-use Rattle.csv.specs.Reading.{Reached, strip_bom}
-use Rattle.csv.specs.declared.parser.Config.{Config}
-use Rattle.csv.specs.declared.parser.State.{State}
-use Rattle.csv.specs.declared.parser.State.TheVariants as st
-use Rattle.ssb_text.specs.Records.{record_config}
-use Rattle.ssb_text.specs.declared.error.LineFault.{LineFault}
-use Rattle.ssb_text.specs.declared.error.LineFault.TheVariants as fault
-use Rattle.ssb_schema.specs.Columns as columns
+use Rattle.std.proofs.lemmas.Option.{none-some}
 use Rattle.ssb_schema.specs.Orders.{order_fault, most_order_lines}
 use Rattle.ssb_schema.specs.Refreshes.{refresh_fault, most_actions}
 use Rattle.ssb_schema.specs.declared.fault.SchemaFault.TheVariants as schema
@@ -60,61 +20,24 @@ use Rattle.ssb_schema.proofs.OrderLaws.{order_keeps}
 use Rattle.ssb_script.specs.Begun.{Begun}
 use Rattle.ssb_script.specs.Begun as begun
 use Rattle.ssb_script.specs.Laws.{HasNoFaultIfSpelled}
-use Rattle.ssb_script.specs.Lines.{
-  ScriptLine,
-  RecordFault,
-  is_abort,
-  is_line,
-  line_after,
-  line_of,
-  line_or_bad,
-  line_or_refusal,
-  line_with,
-  word_of,
-}
+use Rattle.ssb_script.specs.Lines.{ScriptLine, RecordFault, is_abort, is_line, line_of, word_of}
 use Rattle.ssb_script.specs.Lines as line
-use Rattle.ssb_script.specs.Requests.{
-  RequestRecord,
-  Refresh,
-  Ask,
-  Abort,
-  IsWholeAction,
-  IsWholeRequest,
-  action_of,
-  lines_of_action,
-  lines_of_asking,
-  lines_of_refresh,
-  most_questions,
-}
-use Rattle.ssb_script.specs.Scripts.{
-  EndsOpen,
-  HasRoom,
-  IsFirstFault,
-  IsOpenEnd,
-  IsSettled,
-  Spell,
-  SpellAll,
-  SpellsScript,
-  checks_in,
-  ends_in_order,
-  fault_of,
-  first_of,
-  is_outside,
-  lines_in,
-  lines_of_begun,
-  order_refused,
-  refusal_at_end,
-}
-use Rattle.ssb_script.specs.declared.control.Opening.{Opening}
-use Rattle.ssb_script.specs.declared.control.Opening.TheVariants.{Add, Amend}
+use Rattle.ssb_script.specs.Requests.{RequestRecord, Refresh, Ask, Abort, IsWholeAction, IsWholeRequest, action_of}
+use Rattle.ssb_script.specs.Requests.{lines_of_action, lines_of_asking, lines_of_refresh, most_questions}
+use Rattle.ssb_script.specs.Scripts.{EndsOpen, HasRoom, IsFirstFault, IsOpenEnd, IsSettled, Spell, SpellAll}
+use Rattle.ssb_script.specs.Scripts.{SpellsScript, checks_in, ends_in_order, fault_of, first_of, is_outside, lines_in}
+use Rattle.ssb_script.specs.Scripts.{lines_of_begun, order_refused, refusal_at_end}
+use Rattle.ssb_script.specs.declared.control.OrderOpening.{OrderOpening}
+use Rattle.ssb_script.specs.declared.control.OrderOpening.TheVariants.{Add, Amend}
 use Rattle.ssb_script.specs.declared.error.ScriptError.{ScriptError}
 use Rattle.ssb_script.specs.declared.request.Asking.{Asking}
 use Rattle.ssb_script.specs.declared.request.Asking.TheVariants.{Alone, Together}
 use Rattle.ssb_questions.specs.declared.query.Query.{Query as Named}
 use Rattle.ssb_questions.specs.declared.value.Value.{Value}
-use Rattle.ssb_script.specs.declared.word.Word.{Word}
-use Rattle.ssb_script.specs.declared.word.Word.TheVariants as word
-use Rattle.ssb_script.proofs.OneReadingLaws.{all_given, given, one_list}
+use Rattle.ssb_script.specs.declared.word.ScriptWord.{ScriptWord}
+use Rattle.ssb_script.proofs.LineLaws.{word_for, word_said}
+use Rattle.ssb_script.proofs.OneReadingLaws.{all_given, given}
+use Rattle.ssb_text.proofs.OneListLaws.{one_records, text_begins}
 
 abbrev Question : Type 0
 Question = Named × List Value
@@ -123,7 +46,7 @@ Question = Named × List Value
 data Stand : Type 0 where
   Outside : Stand
   Inside : List Action → Stand
-  Within : List Action → Opening → List LineFields → Stand
+  Within : List Action → OrderOpening → List LineFields → Stand
   Block : List Question → Stand
 
 abbrev stand_of : Begun → Stand
@@ -224,7 +147,7 @@ fit_behind s [] ys fit = fit
 fit_behind s (l ∷ xs) ys fit = fit_behind (next s l) xs ys fit.1
 
 -- behind the lines of an order, of an action, of actions
-behind_rows : (actions : List Action) (opening : Opening) (lines order : List LineFields)
+behind_rows : (actions : List Action) (opening : OrderOpening) (lines order : List LineFields)
     → behind (Within actions opening lines) (map line.Line order) ≡ Within actions opening (lines ++ order)
 behind_rows actions opening lines [] = ap (Within actions opening) (sym (append-nil lines))
 behind_rows actions opening lines (row ∷ order) = behind_rows actions opening (lines ++ row ∷ []) order
@@ -305,7 +228,7 @@ behind_all requests lines b spell settled =
     ∙ (ap (λ s. behind s (lines_of_begun b)) (behind_requests requests lines spell) ∙ behind_begun b settled)
 
 -- the lines of whole requests fit
-fit_rows : (actions : List Action) (opening : Opening) (lines order : List LineFields) (rest : List ScriptLine)
+fit_rows : (actions : List Action) (opening : OrderOpening) (lines order : List LineFields) (rest : List ScriptLine)
     → length lines + length order ≤ most_order_lines → AllFit (Within actions opening (lines ++ order)) rest
     → AllFit (Within actions opening lines) (map line.Line order ++ rest)
 fit_rows actions opening lines [] rest room fit =
@@ -445,19 +368,11 @@ fit_requests requests lines spell whole =
     subst (AllFit Outside) (sym spell.joined) (fit_parts requests spell.parts spell.each whole)
 
 -- a line that fits has no fault; before one of an order, and before an `abort`, no order is refused
-abbrev spares : ScriptLine → Bool
-spares (line.Line row) = true
-spares (line.Query question) = false
-spares line.Begin = false
-spares (line.Open opening) = false
-spares (line.Withdraw key) = false
-spares line.Commit = false
-spares line.Ask = false
-spares line.Answer = false
-spares line.Abort = true
-
-abbrev spared : Option Word → Bool
+abbrev spared : Option ScriptWord → Bool
 spared w = is_line w || is_abort w
+
+abbrev spares : ScriptLine → Bool
+spares l = spared (Some (word_for l))
 
 -- no order is being read that is refused where it ends
 abbrev EndsWell : Stand → Type 0
@@ -468,27 +383,21 @@ EndsWell (Block questions) = Unit {0}
 
 well_outside : (s : Stand) → IsOutside s → EndsWell s
 well_outside Outside outside = tt
-well_outside (Inside actions) outside = absurd outside
-well_outside (Within actions opening lines) outside = absurd outside
-well_outside (Block questions) outside = absurd outside
+well_outside _ outside = absurd outside
 
 well_ended : (s : Stand) → MayEnd s → EndsWell s
-well_ended Outside ends = absurd ends
 well_ended (Inside actions) ends = tt
 well_ended (Within actions opening lines) ends = ends
-well_ended (Block questions) ends = absurd ends
+well_ended _ ends = absurd ends
 
 well_asked : (s : Stand) → MayAsk s → EndsWell s
 well_asked Outside asks = tt
-well_asked (Inside actions) asks = absurd asks
-well_asked (Within actions opening lines) asks = absurd asks
 well_asked (Block questions) asks = tt
+well_asked _ asks = absurd asks
 
 well_answered : (s : Stand) → MayAnswer s → EndsWell s
-well_answered Outside answers = absurd answers
-well_answered (Inside actions) answers = absurd answers
-well_answered (Within actions opening lines) answers = absurd answers
 well_answered (Block questions) answers = tt
+well_answered _ answers = absurd answers
 
 ends_unless_spared : (s : Stand) (l : ScriptLine) → Fits s l → spares l ≡ false → EndsWell s
 ends_unless_spared s (line.Query question) fits e = well_asked s fits
@@ -507,7 +416,7 @@ end_not_refused (begun.Refresh actions) ends = refl
 end_not_refused (begun.Order order) whole = rw whole refl
 end_not_refused (begun.Asked questions) ends = refl
 
-not_refused : (b : Begun) (l : ScriptLine) (w : Option Word) → Fits (stand_of b) l → spared w ≡ spares l
+not_refused : (b : Begun) (l : ScriptLine) (w : Option ScriptWord) → Fits (stand_of b) l → spared w ≡ spares l
     → order_refused b w ≡ None
 not_refused b l w fits same = by (spares l) same refl
   where
@@ -523,23 +432,15 @@ checks_none : (number : ℕ) (b : Begun) (l : ScriptLine) → Fits (stand_of b) 
 checks_none number begun.Nothing (line.Query question) fits = refl
 checks_none number begun.Nothing line.Begin fits = refl
 checks_none number begun.Nothing (line.Open opening) fits = absurd fits.0
-checks_none number begun.Nothing (line.Line row) fits = absurd fits
 checks_none number begun.Nothing (line.Withdraw key) fits = absurd fits.0
 checks_none number begun.Nothing line.Commit fits = absurd fits.0
 checks_none number begun.Nothing line.Ask fits = refl
-checks_none number begun.Nothing line.Answer fits = absurd fits
-checks_none number begun.Nothing line.Abort fits = absurd fits
-checks_none number (begun.Refresh actions) (line.Query question) fits = absurd fits
-checks_none number (begun.Refresh actions) line.Begin fits = absurd fits
+checks_none number begun.Nothing _ fits = absurd fits
 checks_none number (begun.Refresh actions) (line.Open opening) fits = rw (lt-ltb (length actions) 64 fits.1) refl
-checks_none number (begun.Refresh actions) (line.Line row) fits = absurd fits
 checks_none number (begun.Refresh actions) (line.Withdraw key) fits = rw (lt-ltb (length actions) 64 fits.1) refl
 checks_none number (begun.Refresh actions) line.Commit fits = rw (not_zero (length actions) fits.1) refl
-checks_none number (begun.Refresh actions) line.Ask fits = absurd fits
-checks_none number (begun.Refresh actions) line.Answer fits = absurd fits
 checks_none number (begun.Refresh actions) line.Abort fits = refl
-checks_none number (begun.Order order) (line.Query question) fits = absurd fits
-checks_none number (begun.Order order) line.Begin fits = absurd fits
+checks_none number (begun.Refresh actions) _ fits = absurd fits
 checks_none number (begun.Order order) (line.Open opening) fits =
     let few : length order.actions + 1 < 64 =
     omega (arith, fits.1, length_push order.actions (action_of order.opening order.lines)) in
@@ -552,64 +453,23 @@ checks_none number (begun.Order order) (line.Withdraw key) fits =
 checks_none number (begun.Order order) line.Commit fits =
     let some : 0 < length order.actions + 1 = omega arith in
     rw (not_zero (length order.actions + 1) some) refl
-checks_none number (begun.Order order) line.Ask fits = absurd fits
-checks_none number (begun.Order order) line.Answer fits = absurd fits
 checks_none number (begun.Order order) line.Abort fits = refl
+checks_none number (begun.Order order) _ fits = absurd fits
 checks_none number (begun.Asked questions) (line.Query question) fits = rw (lt-ltb (length questions) 16 fits) refl
-checks_none number (begun.Asked questions) line.Begin fits = absurd fits
 checks_none number (begun.Asked questions) (line.Open opening) fits = absurd fits.0
-checks_none number (begun.Asked questions) (line.Line row) fits = absurd fits
 checks_none number (begun.Asked questions) (line.Withdraw key) fits = absurd fits.0
 checks_none number (begun.Asked questions) line.Commit fits = absurd fits.0
-checks_none number (begun.Asked questions) line.Ask fits = absurd fits
 checks_none number (begun.Asked questions) line.Answer fits = rw (not_zero (length questions) fits) refl
 checks_none number (begun.Asked questions) line.Abort fits = refl
-
--- parts of what is the same are the same, and the other way round
-same_ok : (r : Result ScriptLine RecordFault) (x y : ScriptLine) → r ≡ Ok x → r ≡ Ok y → x ≡ y
-same_ok r x y one other = cc
+checks_none number (begun.Asked questions) _ fits = absurd fits
 
 same_list : {X : Type 0} (x y : X) (xs ys : List X) → x ≡ y → xs ≡ ys → x ∷ xs ≡ y ∷ ys
 same_list x y xs ys first rest = cc
 
 -- the word of a record tells whether its line is one of an order, or an `abort`
-by_option : {X : Type 0} (f : X → ScriptLine) (o : Option X) (l : ScriptLine) → ((x : X) → spares (f x) ≡ false)
-    → line_or_bad (option_map f o) ≡ Ok l → false ≡ spares l
-by_option f None l none e = absurd cc
-by_option f (Some x) l none e = sym (none x) ∙ ap spares (same_ok (Ok (f x)) (f x) l refl e)
-
-by_row : (r : Result (List columns.Value) LineFault) (l : ScriptLine) → line_or_refusal r ≡ Ok l → true ≡ spares l
-by_row (Ok values) l e =
-    let said : ScriptLine = line.Line (line_with values) in
-    ap spares (same_ok (Ok said) said l refl e)
-by_row (Err (fault.Refused why)) l e = absurd cc
-by_row (Err fault.FieldCount) l e = absurd cc
-by_row (Err (fault.NotUtf8 column)) l e = absurd cc
-by_row (Err (fault.NotANumber column)) l e = absurd cc
-by_row (Err fault.OutOfMemory) l e = absurd cc
-
-by_alone : (test : Bool) (said l : ScriptLine) → line_or_bad (if test then Some said else None) ≡ Ok l
-    → spares said ≡ spares l
-by_alone true said l e = ap spares (same_ok (Ok said) said l refl e)
-by_alone false said l e = absurd cc
-
-by_word : (w : Option Word) (fields : List (List ℕ)) (l : ScriptLine) → line_after w fields ≡ Ok l
-    → spared w ≡ spares l
-by_word None fields l e = absurd cc
-by_word (Some word.Query) fields l e = by_option line.Query _ l (λ x. refl) e
-by_word (Some word.Begin) fields l e = by_alone _ line.Begin l e
-by_word (Some word.Add) fields l e = by_alone _ (line.Open Add) l e
-by_word (Some word.Amend) fields l e = by_alone _ (line.Open Amend) l e
-by_word (Some word.Line) fields l e = by_row _ l e
-by_word (Some word.Withdraw) fields l e = by_option line.Withdraw _ l (λ x. refl) e
-by_word (Some word.Commit) fields l e = by_alone _ line.Commit l e
-by_word (Some word.Ask) fields l e = by_alone _ line.Ask l e
-by_word (Some word.Answer) fields l e = by_alone _ line.Answer l e
-by_word (Some word.Abort) fields l e = by_alone _ line.Abort l e
-
 word_tells : (fields : List (List ℕ)) (l : ScriptLine) → line_of fields ≡ Ok l → spared (word_of fields) ≡ spares l
 unfolding line_of
-word_tells fields l e = by_word (word_of fields) fields l e
+word_tells fields l e = ap spared (word_said (word_of fields) fields l e)
 
 -- a record whose line fits has no fault
 record_passes : (most number : ℕ) (b : Begun) (fields : List (List ℕ)) (l : ScriptLine) → number ≤ most
@@ -617,22 +477,6 @@ record_passes : (most number : ℕ) (b : Begun) (fields : List (List ℕ)) (l : 
 record_passes most number b fields l few says fits =
     rw (le-ltb most number few, not_refused b l (word_of fields) fits (word_tells fields l says), says)
     (checks_none number b l fits)
-
--- the records of a text begin with any that it begins with
-begins_all : (cfg : Config) (s s1 s2 : State) (text ys zs : List ℕ) (front all : List (List (List ℕ)))
-    → Reached cfg s text front s1 ys → Reached cfg s text all s2 zs → next_record cfg s2 [] [] zs ≡ None
-    → (more : List (List (List ℕ))) × (all ≡ front ++ more)
-unfolding Reached
-begins_all cfg s s1 s2 text ys zs [] all a b end = (all, refl)
-begins_all cfg s s1 s2 text ys zs (r ∷ front) [] a b end =
-    let none : next_record cfg s [] [] text ≡ None = rw (b.0, b.1) end in
-    absurd (none-some a.0 (sym none ∙ a.1))
-begins_all cfg s s1 s2 text ys zs (r ∷ front) (q ∷ all) a b end =
-    let same : a.0 ≡ b.0 = same_Some a.0 b.0 (sym a.1 ∙ b.1) in
-    let Rest : Read → Type 0 = λ p. Reached cfg p.1 p.2 all s2 zs in
-    let first : q ≡ r = b.2 ∙ (ap (λ p. p.0) (sym same) ∙ sym a.2) in
-    let later = begins_all cfg a.0.1 s1 s2 a.0.2 ys zs front all a.3 (subst Rest (sym same) b.3) end in
-    (later.0, same_list q r all (front ++ later.0) first later.1)
 
 -- a record behind those that say the first lines says the next line
 says_next : (front lines : List ScriptLine) (r : Result ScriptLine RecordFault)
@@ -650,8 +494,7 @@ no_first_fault : (most : ℕ) (text : List ℕ) (wanted : List RequestRecord) (e
     → SpellsScript most text wanted → IsFirstFault most text e → ⊥
 no_first_fault most text wanted e a b =
     let before = b.before in
-    let all = begins_all record_config st.StartRecord b.begins.0 a.all.0 (strip_bom text) b.begins.1 a.all.1
-    (before ++ b.fields ∷ []) a.records b.begins.2 a.all.2 a.all.3 in
+    let all = text_begins text (before ++ b.fields ∷ []) a.records b.begins a.all in
     let split : a.records ≡ before ++ b.fields ∷ all.0 = all.1 ∙ append_assoc before (b.fields ∷ []) all.0 in
     let lines = b.spells.lines ++ lines_of_begun b.begun in
     let said : map Ok lines ++ line_of b.fields ∷ map line_of all.0 ≡ map Ok a.lines =
@@ -679,9 +522,7 @@ nothing_lacks (begun.Asked questions) e outside lacks = cc outside
 no_open_end : (most : ℕ) (text : List ℕ) (wanted : List RequestRecord) (e : ScriptError)
     → SpellsScript most text wanted → EndsOpen most text e → ⊥
 no_open_end most text wanted e a b =
-    let records : a.records ≡ b.records =
-    one_list record_config st.StartRecord a.all.0 b.all.0 (strip_bom text) a.all.1 b.all.1 a.records b.records
-    a.all.2 a.all.3 b.all.2 b.all.3 in
+    let records = one_records text a.records b.records a.all b.all in
     let begun_lines = b.spells.lines ++ lines_of_begun b.begun in
     let results : map Ok a.lines ≡ map Ok begun_lines = sym a.said ∙ (ap (map line_of) records ∙ b.spells.said) in
     let lines : a.lines ≡ begun_lines =

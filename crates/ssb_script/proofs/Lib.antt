@@ -1,8 +1,15 @@
+pub mod AheadLaws
 pub mod AloneLaws
 pub mod ClosingLaws
+pub mod CuttingLaws
 pub mod FaultLaws
 pub mod LineLaws
+pub mod NextLaws
 pub mod OneReadingLaws
 pub mod QuestionsLaws
 pub mod ReadingLaws
+pub mod RequestLaws
+pub mod ScriptLaws
 pub mod StepLaws
+pub mod TakingLaws
+pub mod WordLaws

@@ -1,38 +1,11 @@
 -- A text spells no two lists of requests: they are read off its lines, from the last to the first.
-use Rattle.std.proofs.Common.{
-  ◌≡◌,
-  ℕ,
-  Bool,
-  true,
-  false,
-  List,
-  [],
-  ◌∷◌,
-  ◌++◌,
-  map,
-  Option,
-  Some,
-  None,
-  Ok,
-  Err,
-  Result,
-  subst,
-  refl,
-  sym,
-  ap,
-  ◌∙◌,
-  append_assoc,
-  arith,
-}
+use Rattle.std.proofs.Common.{◌≡◌, ℕ, Bool, true, false, List, [], ◌∷◌, ◌++◌, map, Option, Some, None, Ok, Err, Result}
+use Rattle.std.proofs.Common.{refl, sym, ap, ◌∙◌, append_assoc, arith}
 use Rattle.std.specs.List.{AllZip, flat_map}
 use Rattle.std.proofs.lemmas.List.Elements.{All-nil}
-use Rattle.std.proofs.lemmas.Option.{none-some, same_Some}
-use Rattle.csv.specs.Machine.{Read, next_record}
+use Rattle.csv.specs.Machine.{next_record}
 use Rattle.csv.specs.Reading.{Reached, strip_bom}
-use Rattle.csv.specs.declared.parser.Config.{Config}
-use Rattle.csv.specs.declared.parser.State.{State}
 use Rattle.csv.specs.declared.parser.State.TheVariants as st
-use Rattle.ssb_text.specs.Records.{record_config}
 use Rattle.ssb_schema.specs.declared.line.LineFields.{LineFields}
 use Rattle.ssb_schema.specs.declared.refresh.Action.{Action}
 use Rattle.ssb_schema.specs.declared.refresh.Action.TheVariants as action
@@ -43,24 +16,17 @@ use Rattle.ssb_script.specs.Begun as begun
 use Rattle.ssb_script.specs.Laws.{HasOneReading}
 use Rattle.ssb_script.specs.Lines.{ScriptLine, RecordFault, line_of}
 use Rattle.ssb_script.specs.Lines as line
-use Rattle.ssb_script.specs.Requests.{
-  RequestRecord,
-  Refresh,
-  Ask,
-  Abort,
-  IsWholeRequest,
-  action_of,
-  lines_of_action,
-}
+use Rattle.ssb_script.specs.Requests.{RequestRecord, Refresh, Ask, Abort, IsWholeRequest, action_of, lines_of_action}
 use Rattle.ssb_script.specs.Scripts.{Spell, SpellAll, SpellsScript, is_outside, lines_in, lines_of_begun}
-use Rattle.ssb_script.specs.declared.control.Opening.TheVariants.{Add, Amend}
+use Rattle.ssb_script.specs.declared.control.OrderOpening.TheVariants.{Add, Amend}
 use Rattle.ssb_script.specs.declared.request.Asking.TheVariants.{Alone, Together}
+use Rattle.ssb_text.proofs.OneListLaws.{one_records}
 
 abbrev Question : Type 0
 Question = Named × List Value
 
--- what the lines from one on hold: lines of an order that began before it, actions of a refresh that did, questions of a
--- block that did, whether what did is dropped, and requests
+-- what the lines from one on hold: lines of an order that began before it, actions of a refresh that did, questions of
+-- a block that did, whether what did is dropped, and requests
 record Tail : Type 0 where
   lines : List LineFields
   actions : List Action
@@ -187,27 +153,18 @@ of_actions (a ∷ actions) rest =
       requests = t.requests;
     }) later)
 
-of_block : (questions : List Question) (rest : List ScriptLine)
-    → tail_of (map line.Query questions ++ line.Answer ∷ rest) ≡ record {
+of_block : (questions : List Question) (end : List ScriptLine) (dropped : Bool) (requests : List RequestRecord)
+    → tail_of end ≡ record { lines = []; actions = []; block = Some []; dropped = dropped; requests = requests }
+    → tail_of (map line.Query questions ++ end) ≡ record {
       lines = [];
       actions = [];
       block = Some questions;
-      dropped = false;
-      requests = (tail_of rest).requests;
+      dropped = dropped;
+      requests = requests;
     }
-of_block [] rest = refl
-of_block (question ∷ questions) rest = ap (before (line.Query question)) (of_block questions rest)
-
-of_dropped_block : (questions : List Question) (rest : List ScriptLine)
-    → tail_of (map line.Query questions ++ line.Abort ∷ rest) ≡ record {
-      lines = [];
-      actions = [];
-      block = Some questions;
-      dropped = true;
-      requests = (tail_of rest).requests;
-    }
-of_dropped_block [] rest = refl
-of_dropped_block (question ∷ questions) rest = ap (before (line.Query question)) (of_dropped_block questions rest)
+of_block [] end dropped requests e = e
+of_block (question ∷ questions) end dropped requests e =
+    ap (before (line.Query question)) (of_block questions end dropped requests e)
 
 -- the lines of actions, be the last whole or not, change nothing of whether they are dropped, and of later requests
 abbrev later_of : Tail → Bool × List RequestRecord
@@ -254,7 +211,7 @@ of_begun (begun.Order order) rest inside =
 of_begun (begun.Asked questions) rest inside =
     ap (λ lines. (tail_of (line.Ask ∷ lines)).requests)
     (append_assoc (map line.Query questions) (line.Abort ∷ []) rest)
-    ∙ ap (λ t. (before line.Ask t).requests) (of_dropped_block questions rest)
+    ∙ ap (λ t. (before line.Ask t).requests) (of_block questions (line.Abort ∷ rest) true (tail_of rest).requests refl)
 
 of_request : (one : RequestRecord) (lines rest : List ScriptLine) → Spell one lines → (tail_of rest).block ≡ None
     → (tail_of (lines ++ rest)).requests ≡ one ∷ (tail_of rest).requests
@@ -270,7 +227,8 @@ of_request (Ask (Together questions)) lines rest spell none =
     ap (λ first. (tail_of (first ++ rest)).requests) spell
     ∙ (ap (λ lines. (tail_of (line.Ask ∷ lines)).requests)
     (append_assoc (map line.Query questions) (line.Answer ∷ []) rest)
-    ∙ ap (λ t. (before line.Ask t).requests) (of_block questions rest))
+    ∙ ap (λ t. (before line.Ask t).requests)
+    (of_block questions (line.Answer ∷ rest) false (tail_of rest).requests refl))
 of_request Abort lines rest spell none =
     ap (λ first. (tail_of (first ++ rest)).requests) spell.joined ∙ of_begun spell.begun rest spell.inside
 
@@ -315,26 +273,6 @@ of_requests : (requests : List RequestRecord) (lines : List ScriptLine) → Spel
 of_requests requests lines spell =
     ap (λ all. (tail_of all).requests) spell.joined ∙ of_parts requests spell.parts spell.each
 
--- the records of a text are one list
-pub one_list : (cfg : Config) (s s1 s2 : State) (text ys zs : List ℕ) (one other : List (List (List ℕ)))
-    → Reached cfg s text one s1 ys → next_record cfg s1 [] [] ys ≡ None → Reached cfg s text other s2 zs
-    → next_record cfg s2 [] [] zs ≡ None → one ≡ other
-unfolding Reached
-one_list cfg s s1 s2 text ys zs [] [] a enda b endb = refl
-one_list cfg s s1 s2 text ys zs [] (r ∷ other) a enda b endb =
-    let none : next_record cfg s [] [] text ≡ None = rw (a.0, a.1) enda in
-    absurd (none-some b.0 (sym none ∙ b.1))
-one_list cfg s s1 s2 text ys zs (r ∷ one) [] a enda b endb =
-    let none : next_record cfg s [] [] text ≡ None = rw (b.0, b.1) endb in
-    absurd (none-some a.0 (sym none ∙ a.1))
-one_list cfg s s1 s2 text ys zs (r ∷ one) (q ∷ other) a enda b endb =
-    let same : a.0 ≡ b.0 = same_Some a.0 b.0 (sym a.1 ∙ b.1) in
-    let Rest : Read → Type 0 = λ p. Reached cfg p.1 p.2 other s2 zs in
-    let first : r ≡ q = a.2 ∙ (ap (λ p. p.0) same ∙ sym b.2) in
-    let later : one ≡ other = one_list cfg a.0.1 s1 s2 a.0.2 ys zs one other a.3 enda (subst Rest (sym same) b.3) endb
-    in
-    rw (first, later) refl
-
 -- the lines that results give
 abbrev pub given : Result ScriptLine RecordFault → ScriptLine
 given (Ok l) = l
@@ -346,8 +284,7 @@ all_given (l ∷ lines) = ap (λ rest. l ∷ rest) (all_given lines)
 
 pub one_reading : (text : List ℕ) → HasOneReading text
 one_reading text most more one other a b =
-    let records : a.records ≡ b.records = one_list record_config st.StartRecord a.all.0 b.all.0 (strip_bom text) a.all.1
-    b.all.1 a.records b.records a.all.2 a.all.3 b.all.2 b.all.3 in
+    let records = one_records text a.records b.records a.all b.all in
     let results : map Ok a.lines ≡ map Ok b.lines = sym a.said ∙ (ap (map line_of) records ∙ b.said) in
     let lines : a.lines ≡ b.lines = sym (all_given a.lines) ∙ (ap (map given) results ∙ all_given b.lines) in
     sym (of_requests one a.lines a.spelled)

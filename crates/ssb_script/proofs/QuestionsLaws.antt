@@ -1,34 +1,6 @@
 -- What is known of a script of questions alone while it is read.
-use Rattle.std.proofs.Common.{
-  ◌≡◌,
-  ◌∙◌,
-  ◌⊎◌,
-  ◌≤◌,
-  ◌+◌,
-  ◌++◌,
-  ◌∷◌,
-  ℕ,
-  [],
-  List,
-  Option,
-  Some,
-  None,
-  Result,
-  Ok,
-  Err,
-  map,
-  length,
-  true,
-  false,
-  refl,
-  sym,
-  ap,
-  subst,
-  inr,
-  Bool,
-  option_map,
-  if◌then◌else◌,
-}
+use Rattle.std.proofs.Common.{◌≡◌, ◌∙◌, ◌⊎◌, ◌≤◌, ◌+◌, ◌++◌, ◌∷◌, ℕ, [], List, Option, Some, None, Result, Ok, Err, map}
+use Rattle.std.proofs.Common.{length, true, false, refl, sym, ap, subst, inr, Bool, option_map, if◌then◌else◌}
 use Rattle.std.specs.Result.{IfOk, IfErr}
 use Rattle.std.proofs.lemmas.List.{length-map, length_push, map-append}
 use Rattle.csv.specs.declared.reader.Reader.{Reader}
@@ -40,33 +12,16 @@ use Rattle.ssb_text.specs.declared.error.LineFault.{LineFault}
 use Rattle.ssb_text.specs.declared.error.LineFault.TheVariants as row
 use Rattle.ssb_text.specs.declared.records.ReadError.{ReadError}
 use Rattle.ssb_text.specs.declared.records.ReadError.TheVariants as read
-use Rattle.ssb_script.specs.Lines.{
-  ScriptLine,
-  is_query,
-  key_of,
-  line_after,
-  line_of,
-  line_or_bad,
-  line_or_refusal,
-  question_at,
-  word_of,
-}
+use Rattle.ssb_script.specs.Lines.{ScriptLine, is_query, key_of, line_after, line_of, line_or_bad, line_or_refusal}
+use Rattle.ssb_script.specs.Lines.{question_at, word_of}
 use Rattle.ssb_script.specs.Lines as line
-use Rattle.ssb_script.specs.Questions.{
-  AsksAlone,
-  HasNone,
-  IsFirstOther,
-  IsQuestionsFault,
-  asked_by,
-  error_of_read,
-  most_alone,
-  question_in,
-}
-use Rattle.ssb_script.specs.declared.control.Opening.TheVariants.{Add, Amend}
+use Rattle.ssb_script.specs.Questions.{AsksAlone, HasNone, IsFirstOther, IsQuestionsFault, asked_by, error_of_read}
+use Rattle.ssb_script.specs.Questions.{most_alone, question_in}
+use Rattle.ssb_script.specs.declared.control.OrderOpening.TheVariants.{Add, Amend}
 use Rattle.ssb_script.specs.declared.questions.QuestionsError.{QuestionsError}
 use Rattle.ssb_script.specs.declared.questions.QuestionsError.TheVariants as error
-use Rattle.ssb_script.specs.declared.word.Word.{Word}
-use Rattle.ssb_script.specs.declared.word.Word.TheVariants as word
+use Rattle.ssb_script.specs.declared.word.ScriptWord.{ScriptWord}
+use Rattle.ssb_script.specs.declared.word.ScriptWord.TheVariants as word
 
 -- the question of a record, or none, is in its line
 of_question : (question : Option (Named × List Value))
@@ -92,21 +47,12 @@ of_row (Err (row.NotUtf8 column)) = refl
 of_row (Err (row.NotANumber column)) = refl
 of_row (Err row.OutOfMemory) = refl
 
-after_query : (spelled : Option Word) (fields : List (List ℕ)) → is_query spelled ≡ true
+after_query : (spelled : Option ScriptWord) (fields : List (List ℕ)) → is_query spelled ≡ true
     → question_in (line_after spelled fields) ≡ question_at 1 2 fields
-after_query None fields is = absurd cc
 after_query (Some word.Query) fields is = of_question (question_at 1 2 fields)
-after_query (Some word.Begin) fields is = absurd cc
-after_query (Some word.Add) fields is = absurd cc
-after_query (Some word.Amend) fields is = absurd cc
-after_query (Some word.Line) fields is = absurd cc
-after_query (Some word.Withdraw) fields is = absurd cc
-after_query (Some word.Commit) fields is = absurd cc
-after_query (Some word.Ask) fields is = absurd cc
-after_query (Some word.Answer) fields is = absurd cc
-after_query (Some word.Abort) fields is = absurd cc
+after_query _ fields is = absurd cc
 
-after_other : (spelled : Option Word) (fields : List (List ℕ)) → is_query spelled ≡ false
+after_other : (spelled : Option ScriptWord) (fields : List (List ℕ)) → is_query spelled ≡ false
     → question_in (line_after spelled fields) ≡ None
 after_other None fields is = refl
 after_other (Some word.Query) fields is = absurd cc

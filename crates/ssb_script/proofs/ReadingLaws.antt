@@ -1,33 +1,6 @@
 -- What is known of a script's text while it is read.
-use Rattle.std.proofs.Common.{
-  ◌≡◌,
-  ℕ,
-  ◌+◌,
-  ◌<◌,
-  ◌≤◌,
-  true,
-  false,
-  List,
-  [],
-  ◌∷◌,
-  ◌++◌,
-  Option,
-  Some,
-  None,
-  Result,
-  Ok,
-  Err,
-  map,
-  length,
-  refl,
-  subst,
-  sym,
-  ap,
-  ◌∙◌,
-  inl,
-  inr,
-  arith,
-}
+use Rattle.std.proofs.Common.{◌≡◌, ℕ, ◌+◌, ◌<◌, ◌≤◌, true, false, List, [], ◌∷◌, ◌++◌, Option, Some, None, Result, Ok}
+use Rattle.std.proofs.Common.{Err, map, length, refl, subst, sym, ap, ◌∙◌, inl, inr, arith}
 use Rattle.std.proofs.lemmas.List.Elements.{All-append, All-nil}
 use Rattle.std.specs.List.{AllZip}
 use Rattle.std.specs.Option.{option_to_list}
@@ -42,24 +15,10 @@ use Rattle.ssb_script.specs.Begun.{Begun, Nothing}
 use Rattle.ssb_script.specs.Errors.{error_of_read}
 use Rattle.ssb_script.specs.Lines.{ScriptLine, line_of, word_of}
 use Rattle.ssb_script.specs.Requests.{RequestRecord, IsWholeRequest, request_of, requests_of}
-use Rattle.ssb_script.specs.Scripts.{
-  Spell,
-  SpellAll,
-  Spells,
-  SpellsScript,
-  IsFirstFault,
-  IsScriptFault,
-  EndsOpen,
-  IsOpenEnd,
-  checks_in,
-  fault_of,
-  first_of,
-  lines_in,
-  lines_of_begun,
-  order_refused,
-}
+use Rattle.ssb_script.specs.Scripts.{Spell, SpellAll, Spells, SpellsScript, IsFirstFault, IsScriptFault, EndsOpen}
+use Rattle.ssb_script.specs.Scripts.{IsOpenEnd, checks_in, fault_of, first_of, lines_in, lines_of_begun, order_refused}
 use Rattle.ssb_script.specs.Steps.{AreTaken, Follows, IsFoundBy, asked, begun_in}
-use Rattle.ssb_script.specs.declared.begun.Step.{Step}
+use Rattle.ssb_script.specs.declared.begun.ScriptStep.{ScriptStep}
 use Rattle.ssb_script.specs.declared.request.Request.{Request}
 use Rattle.ssb_script.specs.declared.request.Script.{Script}
 use Rattle.ssb_script.specs.declared.error.ScriptError.{ScriptError}
@@ -74,8 +33,8 @@ pub record HasRead {R : Type 0} (remaining : R → Option (List ℕ)) (text : Li
   pub spells : Spells records requests begun
 
 -- the same, of whatever text is known
-abbrev pub HasReadKnown : {R : Type 0} → (R → Option (List ℕ)) → Option (List ℕ) → Reader R → ℕ → List RequestRecord → Begun
-    → Type 0
+abbrev pub HasReadKnown : {R : Type 0} → (R → Option (List ℕ)) → Option (List ℕ) → Reader R → ℕ → List RequestRecord
+    → Begun → Type 0
 HasReadKnown remaining known reader count requests begun =
     (text : List ℕ) → known ≡ Some text → HasRead remaining text reader count requests begun
 
@@ -140,7 +99,7 @@ grown before requests taken (Some request) begun so_far are = record {
 }
 
 spells_more : (records : List (List (List ℕ))) (requests : List RequestRecord) (old : Begun) (fields : List (List ℕ))
-    (line : ScriptLine) (step : Step)
+    (line : ScriptLine) (step : ScriptStep)
     → Spells records requests old → line_of fields ≡ Ok line → Follows (length records + 1) old line step
     → Spells (records ++ fields ∷ []) (requests ++ asked step) (begun_in step.begun)
 spells_more records requests old fields line step so_far spelled follows =
@@ -159,7 +118,7 @@ spells_more records requests old fields line step so_far spelled follows =
 
 -- one more record was read
 pub read_more : {R : Type 0} (remaining : R → Option (List ℕ)) (text : List ℕ) (old new : Reader R) (count : ℕ)
-    (requests : List RequestRecord) (begun : Begun) (fields : List (List ℕ)) (line : ScriptLine) (step : Step)
+    (requests : List RequestRecord) (begun : Begun) (fields : List (List ℕ)) (line : ScriptLine) (step : ScriptStep)
     → HasRead remaining text old count requests begun → GivesNext remaining old new true fields
     → line_of fields ≡ Ok line → Follows (count + 1) begun line step
     → HasRead remaining text new (count + 1) (requests ++ asked step) (begun_in step.begun)

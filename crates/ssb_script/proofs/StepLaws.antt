@@ -1,29 +1,6 @@
 -- Laws of what one record does to what is begun.
-use Rattle.std.proofs.Common.{
-  ◌≡◌,
-  ℕ,
-  true,
-  false,
-  List,
-  [],
-  ◌∷◌,
-  ◌++◌,
-  Option,
-  Some,
-  None,
-  Result,
-  Ok,
-  Err,
-  map,
-  refl,
-  subst,
-  ap,
-  ◌∙◌,
-  inl,
-  inr,
-  arith,
-  Bool,
-}
+use Rattle.std.proofs.Common.{◌≡◌, ℕ, true, false, List, [], ◌∷◌, ◌++◌, Option, Some, None, Result, Ok, Err, map, refl}
+use Rattle.std.proofs.Common.{subst, ap, ◌∙◌, inl, inr, arith, Bool}
 use Rattle.std.specs.List.{flat_map}
 use Rattle.std.specs.Option.{option_map}
 use Rattle.std.specs.Result.{IfOk, IfErr}
@@ -38,30 +15,24 @@ use Rattle.ssb_schema.specs.declared.refresh.Action.{Action}
 use Rattle.ssb_schema.specs.declared.refresh.Action.TheVariants as action
 use Rattle.ssb_script.specs.Begun.{Begun}
 use Rattle.ssb_script.specs.Begun as begun
-use Rattle.ssb_script.specs.Lines.{ScriptLine, RecordFault, Abort, Open, Line, Begin, alone, is_abort, is_line, line_or_bad}
+use Rattle.ssb_script.specs.Lines.{ScriptLine, RecordFault, Abort, Open, Line, Begin, alone, is_abort, is_line}
+use Rattle.ssb_script.specs.Lines.{line_or_bad}
 use Rattle.ssb_script.specs.Requests.{IsWholeAction, action_of, lines_of_action}
-use Rattle.ssb_script.specs.Scripts.{
-  HasRoom,
-  checks_in,
-  ends_in_order,
-  first_of,
-  lines_of_begun,
-  order_refused,
-  refusal_at_end,
-}
+use Rattle.ssb_script.specs.Scripts.{HasRoom, checks_in, ends_in_order, first_of, lines_of_begun, order_refused}
+use Rattle.ssb_script.specs.Scripts.{refusal_at_end}
 use Rattle.ssb_script.specs.Steps.{AreTaken, Follows, IsFoundBy, begun_in, begun_of, ended_of, line_of_control}
 use Rattle.ssb_script.specs.declared.begun.Ended.{Ended}
-use Rattle.ssb_script.specs.declared.begun.Step.{Step}
+use Rattle.ssb_script.specs.declared.begun.ScriptStep.{ScriptStep}
 use Rattle.ssb_script.specs.declared.control.Control.{Control}
 use Rattle.ssb_script.specs.declared.control.Control.TheVariants as control
-use Rattle.ssb_script.specs.declared.control.Opening.{Opening}
-use Rattle.ssb_script.specs.declared.control.Opening.TheVariants.{Add, Amend}
+use Rattle.ssb_script.specs.declared.control.OrderOpening.{OrderOpening}
+use Rattle.ssb_script.specs.declared.control.OrderOpening.TheVariants.{Add, Amend}
 use Rattle.ssb_script.specs.declared.error.ScriptError.{ScriptError}
 use Rattle.ssb_script.specs.declared.error.ScriptError.TheVariants as error
-use Rattle.ssb_script.specs.declared.word.Word.{Word}
+use Rattle.ssb_script.specs.declared.word.ScriptWord.{ScriptWord}
 
 -- the lines of an order are those of its action
-lines_of_action-action_of : (opening : Opening) (order : List LineFields)
+lines_of_action-action_of : (opening : OrderOpening) (order : List LineFields)
     → lines_of_action (action_of opening order) ≡ Open opening ∷ map Line order
 lines_of_action-action_of Add order = refl
 lines_of_action-action_of Amend order = refl
@@ -82,7 +53,7 @@ none_told : {A B : Type 0} (f : A → B) (o : Option A) → option_map f o ≡ N
 none_told f None e = refl
 none_told f (Some x) e = absurd cc
 
-whole-action_of : (opening : Opening) (order : List LineFields) → order_fault order ≡ None
+whole-action_of : (opening : OrderOpening) (order : List LineFields) → order_fault order ≡ None
     → IsWholeAction (action_of opening order)
 whole-action_of Add order whole = whole
 whole-action_of Amend order whole = whole
@@ -102,7 +73,7 @@ room-ended count after (begun.Order order) room whole =
     )
 
 -- what follows once the order has ended follows
-pub follows-ended : (number : ℕ) (b : Begun) (line : ScriptLine) (step : Step)
+pub follows-ended : (number : ℕ) (b : Begun) (line : ScriptLine) (step : ScriptStep)
     → Follows number (begun_of (ended_of b)) line step → Follows number b line step
 follows-ended number b line step follows = record {
   taken = subst (λ lines. AreTaken (lines ++ line ∷ []) step.request (begun_in step.begun)) (lines-ended b)
@@ -132,7 +103,7 @@ checks-ended number (begun.Order order) (Some control.Commit) =
     rw (length_push order.actions (action_of order.opening order.lines)) refl
 
 -- where no order is refused, the checks of the record decide
-pub refused_later : (result : Result Step ScriptError) (b : Begun) (word : Option Word)
+pub refused_later : (result : Result ScriptStep ScriptError) (b : Begun) (word : Option ScriptWord)
     (checks : List (Option ScriptError))
     → order_refused b word ≡ None → IfErr result (IsFoundBy checks)
     → IfErr result (IsFoundBy (order_refused b word ∷ checks))
@@ -140,17 +111,17 @@ refused_later (Ok step) b word checks none found = tt
 refused_later (Err e) b word checks none (inl memory) = inl memory
 refused_later (Err e) b word checks none (inr found) = inr (rw none found)
 
-pub not_refused : (b : Begun) (word : Option Word) → refusal_at_end b ≡ None → order_refused b word ≡ None
+pub not_refused : (b : Begun) (word : Option ScriptWord) → refusal_at_end b ≡ None → order_refused b word ≡ None
 not_refused b word none = by (is_line word || is_abort word)
   where
     by : (line : Bool) → (if line then None else refusal_at_end b) ≡ None
     by true = refl
     by false = none
 
-pub line_not_refused : (b : Begun) (word : Option Word) → is_line word ≡ true → order_refused b word ≡ None
+pub line_not_refused : (b : Begun) (word : Option ScriptWord) → is_line word ≡ true → order_refused b word ≡ None
 line_not_refused b word is_one = rw is_one refl
 
-pub abort_not_refused : (b : Begun) (word : Option Word) → is_abort word ≡ true → order_refused b word ≡ None
+pub abort_not_refused : (b : Begun) (word : Option ScriptWord) → is_abort word ≡ true → order_refused b word ≡ None
 abort_not_refused b word is_one = by (is_line word)
   where
     by : (line : Bool) → (if line || is_abort word then None else refusal_at_end b) ≡ None
@@ -158,7 +129,8 @@ abort_not_refused b word is_one = by (is_line word)
     by false = rw is_one refl
 
 -- what comes of a record that is no `line`, once the order has ended
-pub step_after : (result : Result Step ScriptError) (number : ℕ) (b : Begun) (spelled : Result ScriptLine RecordFault)
+pub step_after : (result : Result ScriptStep ScriptError) (number : ℕ) (b : Begun)
+    (spelled : Result ScriptLine RecordFault)
     (found : Control) (ended : Ended)
     → ended_of b ≡ ended → spelled ≡ Ok (line_of_control found)
     → IfOk result (λ step. Follows number (begun_of ended) (line_of_control found) step)
@@ -167,7 +139,7 @@ step_after (Ok step) number b spelled found ended at is follows =
     (line_of_control found, is, follows-ended number b (line_of_control found) step (rw at follows))
 step_after (Err e) number b spelled found ended at is follows = tt
 
-pub fault_after : (result : Result Step ScriptError) (number : ℕ) (b : Begun) (word : Option Word)
+pub fault_after : (result : Result ScriptStep ScriptError) (number : ℕ) (b : Begun) (word : Option ScriptWord)
     (spelled : Result ScriptLine RecordFault) (found : Control) (ended : Ended)
     → ended_of b ≡ ended → refusal_at_end b ≡ None → spelled ≡ Ok (line_of_control found)
     → IfErr result (IsFoundBy (checks_in number (begun_of ended) (Ok (line_of_control found))))
@@ -184,8 +156,9 @@ ends_withdrawn (a ∷ []) key = refl
 ends_withdrawn (a ∷ b ∷ actions) key = ends_withdrawn (b ∷ actions) key
 
 -- what comes of an `abort`
-pub abort_step : (result : Result Step ScriptError) (number : ℕ) (b : Begun) (fields : List (List ℕ))
+pub abort_step : (result : Result ScriptStep ScriptError) (number : ℕ) (b : Begun) (fields : List (List ℕ))
     → IfOk result (λ step. (alone Abort fields ≡ Some Abort) × Follows number b Abort step)
-    → IfOk result (λ step. (line : ScriptLine) × (line_or_bad (alone Abort fields) ≡ Ok line) × Follows number b line step)
+    → IfOk result (λ step. (line : ScriptLine) × (line_or_bad (alone Abort fields) ≡ Ok line)
+    × Follows number b line step)
 abort_step (Ok step) number b fields told = (Abort, ap line_or_bad told.0, told.1)
 abort_step (Err e) number b fields told = tt

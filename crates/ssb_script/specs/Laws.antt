@@ -15,7 +15,8 @@ HasOneReading text = (most more : ℕ) (one other : List RequestRecord) → Spel
 -- a text that spells a script has no fault: no record of it is the first with one, and it ends in no refresh or block
 abbrev pub HasNoFaultIfSpelled : List ℕ → Type 0
 HasNoFaultIfSpelled text = (most : ℕ) (wanted : List RequestRecord) → SpellsScript most text wanted
-    → ((fault : ScriptError) → IsFirstFault most text fault → ⊥) × ((fault : ScriptError) → EndsOpen most text fault → ⊥)
+    → ((fault : ScriptError) → IsFirstFault most text fault → ⊥)
+    × ((fault : ScriptError) → EndsOpen most text fault → ⊥)
 
 -- a text that asks these questions and nothing else spells the script that asks each by itself
 abbrev pub IsScriptOfQuestions : List ℕ → Type 0

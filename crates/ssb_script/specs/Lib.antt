@@ -1,8 +1,14 @@
+pub mod Ahead
 pub mod Begun
+pub mod Blocks
+pub mod Cutting
+pub mod CuttingLaws
 pub mod Errors
 pub mod Laws
 pub mod Lines
+pub mod NextRequest
 pub mod Questions
 pub mod Requests
 pub mod Scripts
 pub mod Steps
+pub mod Taking

@@ -1,31 +1,6 @@
 -- What one record of a script spells.
-use Rattle.std.specs.Prelude.{
-  ℕ,
-  ◌+◌,
-  ◌^◌,
-  Bool,
-  true,
-  false,
-  List,
-  [],
-  ◌∷◌,
-  length,
-  get_or,
-  drop,
-  find,
-  codes,
-  Option,
-  Some,
-  None,
-  is_none,
-  option_map,
-  Result,
-  Ok,
-  Err,
-  nat_eq,
-  nat_lt,
-  if◌then◌else◌,
-}
+use Rattle.std.specs.Prelude.{ℕ, ◌+◌, ◌^◌, Bool, true, false, List, [], ◌∷◌, length, get_or, drop, find, codes, Option}
+use Rattle.std.specs.Prelude.{Some, None, is_none, option_map, Result, Ok, Err, nat_eq, nat_lt, if◌then◌else◌}
 use Rattle.std.specs.Option.{option_and_then}
 use Rattle.std.specs.Cmp.Lexicographic.{pointwise}
 use Rattle.ssb_schema.specs.Columns as columns
@@ -49,16 +24,16 @@ use Rattle.ssb_questions.specs.AllQueries.{queries_and_star}
 use Rattle.ssb_questions.specs.declared.value.Value.{Value}
 use Rattle.ssb_questions.specs.declared.value.Value.TheVariants as value
 use Rattle.ssb_schema.specs.declared.fault.SchemaFault.{SchemaFault}
-use Rattle.ssb_script.specs.declared.control.Opening.{Opening}
-use Rattle.ssb_script.specs.declared.control.Opening.TheVariants.{Add, Amend}
-use Rattle.ssb_script.specs.declared.word.Word.{Word}
-use Rattle.ssb_script.specs.declared.word.Word.TheVariants as word
+use Rattle.ssb_script.specs.declared.control.OrderOpening.{OrderOpening}
+use Rattle.ssb_script.specs.declared.control.OrderOpening.TheVariants.{Add, Amend}
+use Rattle.ssb_script.specs.declared.word.ScriptWord.{ScriptWord}
+use Rattle.ssb_script.specs.declared.word.ScriptWord.TheVariants as word
 
 -- what a record may say
 pub data ScriptLine : Type 0 where
   Query : Named × List Value → ScriptLine
   Begin : ScriptLine
-  Open : Opening → ScriptLine
+  Open : OrderOpening → ScriptLine
   Line : LineFields → ScriptLine
   Withdraw : ℕ → ScriptLine
   Commit : ScriptLine
@@ -72,7 +47,7 @@ pub data RecordFault : Type 0 where
   Refused : SchemaFault → RecordFault
 
 -- the words that a record may begin with
-abbrev pub spelling_of : Word → List ℕ
+abbrev pub spelling_of : ScriptWord → List ℕ
 spelling_of word.Query = codes "query"
 spelling_of word.Begin = codes "begin"
 spelling_of word.Add = codes "add"
@@ -84,16 +59,16 @@ spelling_of word.Ask = codes "ask"
 spelling_of word.Answer = codes "answer"
 spelling_of word.Abort = codes "abort"
 
-abbrev pub words : List Word
+abbrev pub words : List ScriptWord
 words = word.Query ∷ word.Begin ∷ word.Add ∷ word.Amend ∷ word.Line ∷ word.Withdraw ∷ word.Commit ∷ word.Ask ∷
     word.Answer ∷ word.Abort ∷ []
 
 -- the word that bytes spell, letter for letter
-abbrev pub word_spelled : List ℕ → Option Word
+abbrev pub word_spelled : List ℕ → Option ScriptWord
 word_spelled bytes = find (λ word. pointwise nat_eq (spelling_of word) bytes) words
 
 -- the word of a record, if its first field is one
-unfoldable pub word_of : List (List ℕ) → Option Word
+unfoldable pub word_of : List (List ℕ) → Option ScriptWord
 word_of fields = word_spelled (field fields 0)
 
 -- the query that bytes name
@@ -211,7 +186,7 @@ abbrev pub key_of : List (List ℕ) → Option ℕ
 key_of fields = if has_columns 2 fields then number_of (field fields 1) else None
 
 -- what a record of this word spells in its fields
-abbrev pub line_after : Option Word → List (List ℕ) → Result ScriptLine RecordFault
+abbrev pub line_after : Option ScriptWord → List (List ℕ) → Result ScriptLine RecordFault
 line_after None fields = Err Bad
 line_after (Some word.Query) fields = line_or_bad (option_map Query (question_of fields))
 line_after (Some word.Begin) fields = line_or_bad (alone Begin fields)
@@ -225,17 +200,17 @@ line_after (Some word.Answer) fields = line_or_bad (alone Answer fields)
 line_after (Some word.Abort) fields = line_or_bad (alone Abort fields)
 
 -- whether a record is a `line`, which goes by its word alone
-abbrev pub is_line : Option Word → Bool
+abbrev pub is_line : Option ScriptWord → Bool
 is_line (Some word.Line) = true
 is_line _ = false
 
 -- whether a record is a `query`, by its word
-abbrev pub is_query : Option Word → Bool
+abbrev pub is_query : Option ScriptWord → Bool
 is_query (Some word.Query) = true
 is_query _ = false
 
 -- whether a record is an `abort`, which goes by its word alone too
-abbrev pub is_abort : Option Word → Bool
+abbrev pub is_abort : Option ScriptWord → Bool
 is_abort (Some word.Abort) = true
 is_abort _ = false
 

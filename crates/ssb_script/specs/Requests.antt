@@ -15,11 +15,11 @@ use Rattle.ssb_script.specs.declared.request.Request.TheVariants as request
 use Rattle.ssb_script.specs.declared.request.Script.{Script}
 use Rattle.ssb_script.specs.Lines.{ScriptLine}
 use Rattle.ssb_script.specs.Lines as line
-use Rattle.ssb_script.specs.declared.control.Opening.{Opening}
-use Rattle.ssb_script.specs.declared.control.Opening.TheVariants.{Add, Amend}
+use Rattle.ssb_script.specs.declared.control.OrderOpening.{OrderOpening}
+use Rattle.ssb_script.specs.declared.control.OrderOpening.TheVariants.{Add, Amend}
 
--- what a request asks: the actions of a refresh, or questions, each a query with its constants; or that what it began be
--- dropped
+-- what a request asks: the actions of a refresh, or questions, each a query with its constants; or that what it began
+-- be dropped
 pub data RequestRecord : Type 0 where
   Refresh : List Action → RequestRecord
   Ask : Asking → RequestRecord
@@ -57,7 +57,7 @@ lines_of_asking (Alone question) = line.Query question ∷ []
 lines_of_asking (Together questions) = line.Ask ∷ (map line.Query questions ++ line.Answer ∷ [])
 
 -- the action of an order that began so
-abbrev pub action_of : Opening → List LineFields → Action
+abbrev pub action_of : OrderOpening → List LineFields → Action
 action_of Add order = action.Add order
 action_of Amend order = action.Amend order
 

@@ -1,35 +1,7 @@
 -- What the text of a script spells, and its first fault.
-use Rattle.std.specs.Prelude.{
-  ◌≡◌,
-  ℕ,
-  ◌+◌,
-  ◌≤◌,
-  ◌<◌,
-  ◌⊎◌,
-  ◌++◌,
-  ◌&&◌,
-  ◌||◌,
-  Bool,
-  true,
-  false,
-  not,
-  List,
-  [],
-  ◌∷◌,
-  length,
-  map,
-  All,
-  Option,
-  Some,
-  None,
-  option_map,
-  Result,
-  Ok,
-  Err,
-  nat_eq,
-  nat_lt,
-  if◌then◌else◌,
-}
+use Rattle.std.specs.Prelude.{◌≡◌, ℕ, ◌+◌, ◌≤◌, ◌<◌, ◌⊎◌, ◌++◌, ◌&&◌, ◌||◌, Bool, true, false, not, List, [], ◌∷◌}
+use Rattle.std.specs.Prelude.{length, map, All, Option, Some, None, option_map, Result, Ok, Err, nat_eq, nat_lt}
+use Rattle.std.specs.Prelude.{if◌then◌else◌}
 use Rattle.std.specs.List.{AllZip, flat_map}
 use Rattle.ssb_text.specs.Records.{BeginsWith, HasRecords}
 use Rattle.ssb_schema.specs.Orders.{order_fault, most_order_lines}
@@ -41,21 +13,11 @@ use Rattle.ssb_script.specs.Begun.{Begun}
 use Rattle.ssb_script.specs.Begun as begun
 use Rattle.ssb_script.specs.Lines.{is_abort, is_line, line_of, word_of, ScriptLine, RecordFault, Bad, Refused}
 use Rattle.ssb_script.specs.Lines as line
-use Rattle.ssb_script.specs.Requests.{
-  RequestRecord,
-  IsWholeAction,
-  IsWholeRequest,
-  Refresh,
-  Ask,
-  Abort,
-  lines_of_action,
-  lines_of_asking,
-  lines_of_refresh,
-  most_questions,
-}
+use Rattle.ssb_script.specs.Requests.{RequestRecord, IsWholeAction, IsWholeRequest, Refresh, Ask, Abort}
+use Rattle.ssb_script.specs.Requests.{lines_of_action, lines_of_asking, lines_of_refresh, most_questions}
 use Rattle.ssb_script.specs.declared.error.ScriptError.{ScriptError}
 use Rattle.ssb_script.specs.declared.error.ScriptError.TheVariants as error
-use Rattle.ssb_script.specs.declared.word.Word.{Word}
+use Rattle.ssb_script.specs.declared.word.ScriptWord.{ScriptWord}
 
 -- the lines of the refresh, and in it of the order, or of the block that is begun and not ended
 abbrev pub lines_of_begun : Begun → List ScriptLine
@@ -65,7 +27,8 @@ lines_of_begun (begun.Order order) = line.Begin ∷ (flat_map lines_of_action or
     ++ line.Open order.opening ∷ map line.Line order.lines)
 lines_of_begun (begun.Asked questions) = line.Ask ∷ map line.Query questions
 
--- what is begun has room in a refresh, an order and a block, and its order began at that record, of so many that were read
+-- what is begun has room in a refresh, an order and a block, and its order began at that record, of so many that were
+-- read
 abbrev pub HasRoom : ℕ → Begun → Type 0
 HasRoom count begun.Nothing = Unit {0}
 HasRoom count (begun.Refresh actions) = (length actions ≤ most_actions) × All IsWholeAction actions
@@ -206,7 +169,7 @@ refusal_at_end (begun.Order order) = option_map (error.Row order.number) (order_
 refusal_at_end (begun.Asked questions) = None
 
 -- 2. it is no `line` and no `abort`, so that the order which is being read ends, and that order is refused
-abbrev pub order_refused : Begun → Option Word → Option ScriptError
+abbrev pub order_refused : Begun → Option ScriptWord → Option ScriptError
 order_refused b word = if is_line word || is_abort word then None else refusal_at_end b
 
 -- 3. it spells no line, or one that may not stand there
@@ -263,7 +226,7 @@ checks_in number b spelled =
     ∷ too_many_questions number b spelled
     ∷ []
 
-abbrev pub checks : ℕ → ℕ → Begun → Option Word → Result ScriptLine RecordFault → List (Option ScriptError)
+abbrev pub checks : ℕ → ℕ → Begun → Option ScriptWord → Result ScriptLine RecordFault → List (Option ScriptError)
 checks most number b word spelled = too_long most number ∷ order_refused b word ∷ checks_in number b spelled
 
 abbrev pub fault_of : ℕ → ℕ → Begun → List (List ℕ) → Option ScriptError

@@ -12,7 +12,7 @@ use Rattle.ssb_script.specs.declared.begun.Begun.TheVariants as held
 use Rattle.ssb_script.specs.declared.begun.BegunOrder.{BegunOrder as HeldOrder}
 use Rattle.ssb_script.specs.declared.begun.Ended.{Ended}
 use Rattle.ssb_script.specs.declared.begun.Ended.TheVariants as ended
-use Rattle.ssb_script.specs.declared.begun.Step.{Step}
+use Rattle.ssb_script.specs.declared.begun.ScriptStep.{ScriptStep}
 use Rattle.ssb_script.specs.declared.control.Control.{Control}
 use Rattle.ssb_script.specs.declared.control.Control.TheVariants as control
 use Rattle.ssb_script.specs.declared.request.Request.{Request}
@@ -66,7 +66,7 @@ begun_of (ended.Refresh actions) = begun.Refresh actions
 begun_of (ended.Asked questions) = begun.Asked questions
 
 -- the request that a step ends
-abbrev pub asked : Step → List RequestRecord
+abbrev pub asked : ScriptStep → List RequestRecord
 asked step = map request_of (option_to_list step.request)
 
 -- these lines are those of the request that is ended, and nothing more is begun; or else of what is begun
@@ -75,7 +75,7 @@ AreTaken lines (Some request) b = Spell (request_of request) lines × (b ≡ beg
 AreTaken lines None b = lines ≡ lines_of_begun b
 
 -- a step takes up one more line, of the record of this number
-pub record Follows (number : ℕ) (old : Begun) (line : ScriptLine) (step : Step) : Type 0 where
+pub record Follows (number : ℕ) (old : Begun) (line : ScriptLine) (step : ScriptStep) : Type 0 where
   pub taken : AreTaken (lines_of_begun old ++ line ∷ []) step.request (begun_in step.begun)
   pub whole : All IsWholeRequest (asked step)
   pub room : HasRoom number (begun_in step.begun)

@@ -13,7 +13,7 @@ ghost use Rattle.ssb_script.specs.Steps.{Follows, IsFoundBy, ended_of, begun_in,
 ghost use Rattle.ssb_script.specs.Steps.{line_of_row};
 ghost use Rattle.ssb_script.specs.Begun as begun;
 
-use crate::control::{Control, Opening};
+use crate::control::{Control, OrderOpening};
 use crate::error::ScriptError;
 use crate::fields::word_of;
 use crate::order_line::OrderLine;
@@ -34,7 +34,7 @@ pub struct BegunOrder {
     /// The actions before it in its refresh.
     pub actions: Items<Action>,
     /// Whether it is added or amended.
-    pub opening: Opening,
+    pub opening: OrderOpening,
     /// The number of the record that began it.
     pub number: u64,
     /// Its lines so far.
@@ -67,7 +67,7 @@ pub(crate) enum Ended {
 
 /// What comes of one record: the request that it ends, if it ends one, and what is begun after it.
 #[derive(Drop)]
-pub struct Step {
+pub struct ScriptStep {
     /// The request that the record ended, if it ended one.
     pub request: Option<Request>,
     /// What is begun after the record.
@@ -91,20 +91,20 @@ fn has_room(actions: &Items<Action>) -> bool
 }
 
 // What comes of the record of a number where no refresh is begun.
-fn outside(alloc: Global, number: u64, control: Control) -> Result<Step, ScriptError>
+fn outside(alloc: Global, number: u64, control: Control) -> Result<ScriptStep, ScriptError>
     ensures step { IfOk result (λ step. Follows number begun.Nothing (line_of_control control) step) }
     ensures fault { IfErr result (IsFoundBy (checks_in number begun.Nothing (Ok (line_of_control control)))) }
 {
     match control {
-        Control::Query(question) => Ok(Step {
+        Control::Query(question) => Ok(ScriptStep {
             request: Some(Request::Ask(Asking::Alone(question))),
             begun: Begun::Nothing,
         }),
-        Control::Begin => Ok(Step {
+        Control::Begin => Ok(ScriptStep {
             request: None,
             begun: Begun::Refresh(Items::from_vec(Vec::new(alloc))),
         }),
-        Control::Ask => Ok(Step {
+        Control::Ask => Ok(ScriptStep {
             request: None,
             begun: Begun::Asked(Items::from_vec(Vec::new(alloc))),
         }),
@@ -120,8 +120,8 @@ fn begin_order(
     alloc: Global,
     number: u64,
     actions: Items<Action>,
-    opening: Opening,
-) -> Result<Step, ScriptError>
+    opening: OrderOpening,
+) -> Result<ScriptStep, ScriptError>
     requires { HasRoom number (begun.Refresh actions) }
     ensures step { IfOk result (λ step. Follows number (begun.Refresh actions) (spec.Open opening) step) }
     ensures fault { IfErr result (IsFoundBy (checks_in number (begun.Refresh actions) (Ok (spec.Open opening)))) }
@@ -130,7 +130,7 @@ fn begin_order(
         return Err(ScriptError::Row(number, SchemaFault::TooManyActions));
     }
     let lines = Items::from_vec(Vec::new(alloc));
-    Ok(Step {
+    Ok(ScriptStep {
         request: None,
         begun: Begun::Order(BegunOrder {
             actions,
@@ -142,7 +142,7 @@ fn begin_order(
 }
 
 // The record of a number withdraws an order.
-fn withdraw(number: u64, actions: Items<Action>, key: u64) -> Result<Step, ScriptError>
+fn withdraw(number: u64, actions: Items<Action>, key: u64) -> Result<ScriptStep, ScriptError>
     requires { HasRoom number (begun.Refresh actions) }
     ensures step { IfOk result (λ step. Follows number (begun.Refresh actions) (spec.Withdraw key) step) }
     ensures fault { IfErr result (IsFoundBy (checks_in number (begun.Refresh actions) (Ok (spec.Withdraw key)))) }
@@ -150,20 +150,20 @@ fn withdraw(number: u64, actions: Items<Action>, key: u64) -> Result<Step, Scrip
     if !has_room(&actions) {
         return Err(ScriptError::Row(number, SchemaFault::TooManyActions));
     }
-    Ok(Step {
+    Ok(ScriptStep {
         request: None,
         begun: Begun::Refresh(pushed(actions, Action::Withdraw(key))?),
     })
 }
 
 // The record of a number ends a refresh.
-fn commit(alloc: Global, number: u64, actions: Items<Action>) -> Result<Step, ScriptError>
+fn commit(alloc: Global, number: u64, actions: Items<Action>) -> Result<ScriptStep, ScriptError>
     requires { HasRoom number (begun.Refresh actions) }
     ensures step { IfOk result (λ step. Follows number (begun.Refresh actions) spec.Commit step) }
     ensures fault { IfErr result (IsFoundBy (checks_in number (begun.Refresh actions) (Ok spec.Commit))) }
 {
     match Refresh::new(actions.into_vec()) {
-        Ok(refresh) => Ok(Step {
+        Ok(refresh) => Ok(ScriptStep {
             request: Some(Request::Refresh(Arc::new(alloc, refresh)?)),
             begun: Begun::Nothing,
         }),
@@ -177,7 +177,7 @@ fn inside(
     number: u64,
     actions: Items<Action>,
     control: Control,
-) -> Result<Step, ScriptError>
+) -> Result<ScriptStep, ScriptError>
     requires { HasRoom number (begun.Refresh actions) }
     ensures step { IfOk result (λ step. Follows number (begun.Refresh actions) (line_of_control control) step) }
     ensures fault { IfErr result (IsFoundBy (checks_in number (begun.Refresh actions) (Ok (line_of_control control)))) }
@@ -198,7 +198,7 @@ fn ask_more(
     number: u64,
     questions: Items<Question>,
     question: Question,
-) -> Result<Step, ScriptError>
+) -> Result<ScriptStep, ScriptError>
     requires { HasRoom number (begun.Asked questions) }
     ensures step { IfOk result (λ step. Follows number (begun.Asked questions) (spec.Query question) step) }
     ensures fault { IfErr result (IsFoundBy (checks_in number (begun.Asked questions) (Ok (spec.Query question)))) }
@@ -206,14 +206,14 @@ fn ask_more(
     if questions.len() >= MOST_QUESTIONS {
         return Err(ScriptError::TooManyQuestions(number));
     }
-    Ok(Step {
+    Ok(ScriptStep {
         request: None,
         begun: Begun::Asked(pushed(questions, question)?),
     })
 }
 
 // The record of a number ends a block.
-fn end_block(number: u64, questions: Items<Question>) -> Result<Step, ScriptError>
+fn end_block(number: u64, questions: Items<Question>) -> Result<ScriptStep, ScriptError>
     requires { HasRoom number (begun.Asked questions) }
     ensures step { IfOk result (λ step. Follows number (begun.Asked questions) spec.Answer step) }
     ensures fault { IfErr result (IsFoundBy (checks_in number (begun.Asked questions) (Ok spec.Answer))) }
@@ -221,14 +221,18 @@ fn end_block(number: u64, questions: Items<Question>) -> Result<Step, ScriptErro
     if questions.len() == 0 {
         return Err(ScriptError::EmptyBlock(number));
     }
-    Ok(Step {
+    Ok(ScriptStep {
         request: Some(Request::Ask(Asking::Together(questions))),
         begun: Begun::Nothing,
     })
 }
 
 // What comes of the record of a number in a block.
-fn in_block(number: u64, questions: Items<Question>, control: Control) -> Result<Step, ScriptError>
+fn in_block(
+    number: u64,
+    questions: Items<Question>,
+    control: Control,
+) -> Result<ScriptStep, ScriptError>
     requires { HasRoom number (begun.Asked questions) }
     ensures step { IfOk result (λ step. Follows number (begun.Asked questions) (line_of_control control) step) }
     ensures fault { IfErr result (IsFoundBy (checks_in number (begun.Asked questions) (Ok (line_of_control control)))) }
@@ -258,7 +262,7 @@ impl BegunOrder {
     }
 
     // One more line, that of the record of this number.
-    fn with_line(self, number: u64, line: Line) -> Result<Step, ScriptError>
+    fn with_line(self, number: u64, line: Line) -> Result<ScriptStep, ScriptError>
         requires before { 0 < number }
         requires room { HasRoom (number - 1) (begun.Order (begun_order self)) }
         ensures step { IfOk result (λ step. Follows number (begun.Order (begun_order self)) (spec.Line line) step) }
@@ -269,7 +273,7 @@ impl BegunOrder {
             return Err(ScriptError::Row(self.number, SchemaFault::TooManyLines));
         }
         let lines = pushed(self.lines, line)?;
-        Ok(Step {
+        Ok(ScriptStep {
             request: None,
             begun: Begun::Order(BegunOrder {
                 actions: self.actions,
@@ -297,7 +301,7 @@ impl Begun {
     }
 
     /// What comes of one more record, a `line` of this number.
-    pub fn with_row(self, number: u64, row: OrderLine) -> Result<Step, ScriptError>
+    pub fn with_row(self, number: u64, row: OrderLine) -> Result<ScriptStep, ScriptError>
         requires before { 0 < number }
         requires room { HasRoom (number - 1) (begun_in self) }
         ensures step { IfOk result (λ step. (line : ScriptLine) × (line_of_row row ≡ Ok line)
@@ -314,14 +318,14 @@ impl Begun {
         }
     }
 
-    /// What comes of one more record that is no `line` and no `abort`, after so many: of what it says, if it says anything. The order
-    /// that is being read ends before it.
+    /// What comes of one more record that is no `line` and no `abort`, after so many: of what it says, if it says
+    /// anything. The order that is being read ends before it.
     pub fn with_control(
         self,
         alloc: Global,
         before: u64,
         control: Option<Control>,
-    ) -> Result<Step, ScriptError>
+    ) -> Result<ScriptStep, ScriptError>
         requires counted { before < 2 ^ 64 - 1 }
         requires room { HasRoom before (begun_in self) }
         ensures step { IfOk result (λ step. (line : ScriptLine)
@@ -341,7 +345,7 @@ impl Begun {
     }
 
     // What comes of one more record, an `abort` of this number: what is begun is dropped, be it whole or not.
-    fn with_abort(self, number: u64, fields: &ByteRecord) -> Result<Step, ScriptError>
+    fn with_abort(self, number: u64, fields: &ByteRecord) -> Result<ScriptStep, ScriptError>
         requires room { HasRoom (number - 1) (begun_in self) }
         ensures step { IfOk result (λ step. (spec.alone spec.Abort (fields_of fields.now) ≡ Some spec.Abort)
             × Follows number (begun_in self) spec.Abort step) }
@@ -351,7 +355,7 @@ impl Begun {
         if !has_columns(fields, 1) || matches!(self, Begun::Nothing) {
             return Err(ScriptError::BadLine(number));
         }
-        Ok(Step {
+        Ok(ScriptStep {
             request: Some(Request::Abort),
             begun: Begun::Nothing,
         })
@@ -363,7 +367,7 @@ impl Begun {
         alloc: Global,
         before: u64,
         fields: &ByteRecord,
-    ) -> Result<Step, ScriptError>
+    ) -> Result<ScriptStep, ScriptError>
         requires counted { before < 2 ^ 64 - 1 }
         requires room { HasRoom before (begun_in self) }
         ensures step { IfOk result (λ step. (line : ScriptLine) × (spec.line_of (fields_of fields.now) ≡ Ok line)

@@ -8,7 +8,7 @@ ghost use Rattle.ssb_script.specs.Steps.{line_of_control};
 ghost use Rattle.ssb_script.specs.Requests.{action_of};
 
 use crate::question::question_at;
-use crate::word::Word;
+use crate::word::ScriptWord;
 use csv::ByteRecord;
 use ssb_questions::Question;
 use ssb_schema::{Action, Order, number};
@@ -17,7 +17,7 @@ use std::alloc::{AllocError, Global};
 
 /// How an order begins: as one that is absent, or one that is present.
 #[derive(Clone, Copy, Debug, PartialEq, Eq)]
-pub enum Opening {
+pub enum OrderOpening {
     /// `add`: its key is absent.
     Add,
     /// `amend`: it takes the place of the order of its key.
@@ -32,7 +32,7 @@ pub enum Control {
     /// `begin`: a refresh begins.
     Begin,
     /// `add` or `amend`: an order begins.
-    Open(Opening),
+    Open(OrderOpening),
     /// `withdraw`: the order of this key is taken away.
     Withdraw(u64),
     /// `commit`: the refresh ends.
@@ -43,14 +43,14 @@ pub enum Control {
     Answer,
 }
 
-impl Opening {
+impl OrderOpening {
     /// The action of an order that began so.
     pub(crate) fn action(self, order: Order) -> Action
         ensures { result ≡ action_of self order }
     {
         match self {
-            Opening::Add => Action::Add(order),
-            Opening::Amend => Action::Amend(order),
+            OrderOpening::Add => Action::Add(order),
+            OrderOpening::Amend => Action::Amend(order),
         }
     }
 }
@@ -80,7 +80,7 @@ impl Control {
     /// What a record of this word says, if it says anything.
     pub(crate) fn of(
         alloc: Global,
-        word: Option<Word>,
+        word: Option<ScriptWord>,
         fields: &ByteRecord,
     ) -> Result<Option<Control>, AllocError>
         requires line { is_line word ≡ false }
@@ -92,16 +92,16 @@ impl Control {
             return Ok(None);
         };
         Ok(match word {
-            Word::Query => question_at(alloc, 1, 2, fields)?.map(Control::Query),
-            Word::Begin => Control::Begin.alone(fields),
-            Word::Add => Control::Open(Opening::Add).alone(fields),
-            Word::Amend => Control::Open(Opening::Amend).alone(fields),
-            Word::Withdraw => key_of(fields).map(Control::Withdraw),
-            Word::Commit => Control::Commit.alone(fields),
-            Word::Ask => Control::Ask.alone(fields),
-            Word::Answer => Control::Answer.alone(fields),
-            Word::Line => None,
-            Word::Abort => None,
+            ScriptWord::Query => question_at(alloc, 1, 2, fields)?.map(Control::Query),
+            ScriptWord::Begin => Control::Begin.alone(fields),
+            ScriptWord::Add => Control::Open(OrderOpening::Add).alone(fields),
+            ScriptWord::Amend => Control::Open(OrderOpening::Amend).alone(fields),
+            ScriptWord::Withdraw => key_of(fields).map(Control::Withdraw),
+            ScriptWord::Commit => Control::Commit.alone(fields),
+            ScriptWord::Ask => Control::Ask.alone(fields),
+            ScriptWord::Answer => Control::Answer.alone(fields),
+            ScriptWord::Line => None,
+            ScriptWord::Abort => None,
         })
     }
 }

@@ -4,17 +4,17 @@ ghost use Rattle.std.specs.Prelude.{◌≡◌, drop, map, IfOk};
 ghost use Rattle.csv.specs.Records.{fields_of};
 ghost use Rattle.ssb_script.specs.Lines as spec;
 
-use crate::word::Word;
+use crate::word::ScriptWord;
 use csv::ByteRecord;
 use ssb_text::{field_at, trimmed_at};
 use std::alloc::{AllocError, Global};
 
 /// The word of a record, if its first field is one.
 #[tactic(auto, unfolding(crate::specs::Lines::word_of))]
-pub(crate) fn word_of(fields: &ByteRecord) -> Option<Word>
+pub(crate) fn word_of(fields: &ByteRecord) -> Option<ScriptWord>
     ensures { result ≡ spec.word_of (fields_of fields.now) }
 {
-    Word::spelled(trimmed_at(fields, 0))
+    ScriptWord::spelled(trimmed_at(fields, 0))
 }
 
 /// The fields from a place on, counted from 0.

@@ -4,7 +4,7 @@ ghost use Rattle.std.specs.Prelude.{◌≡◌, IfOk, Some};
 ghost use Rattle.csv.specs.Records.{fields_of};
 ghost use Rattle.ssb_script.specs.Lines.{line_after};
 ghost use Rattle.ssb_script.specs.Steps.{line_of_row};
-ghost use Rattle.ssb_script.specs.declared.word.Word.TheVariants as words;
+ghost use Rattle.ssb_script.specs.declared.word.ScriptWord.TheVariants as words;
 
 use csv::ByteRecord;
 use ssb_schema::{Line, SchemaFault};

@@ -7,7 +7,7 @@ ghost use Rattle.ssb_script.specs.Scripts.{IsOpenEnd, IsScriptFault, SpellsScrip
 ghost use Rattle.ssb_script.specs.Begun.{Nothing};
 ghost use Rattle.ssb_script.specs.Steps.{begun_in};
 
-use crate::begun::{Begun, Step};
+use crate::begun::{Begun, ScriptStep};
 use crate::error::ScriptError;
 use crate::request::{Request, Script};
 use csv::ByteRecord;
@@ -67,7 +67,7 @@ pub fn read_script<R: Read + Drop>(
         if !next_record(&mut reader, &mut fields)? {
             return script_of(requests, begun);
         }
-        let Step {
+        let ScriptStep {
             request,
             begun: next,
         } = begun.after(alloc, before, &fields)?;

@@ -6,7 +6,7 @@ ghost use Rattle.ssb_script.specs.Lines.{spelling_of, word_spelled};
 
 /// The first field of a record.
 #[derive(Clone, Copy, Debug, PartialEq, Eq)]
-pub(crate) enum Word {
+pub(crate) enum ScriptWord {
     Query,
     Begin,
     Add,
@@ -20,60 +20,61 @@ pub(crate) enum Word {
 }
 
 /// All words.
-pub(crate) const WORDS: [Word; 10] = [
-    Word::Query,
-    Word::Begin,
-    Word::Add,
-    Word::Amend,
-    Word::Line,
-    Word::Withdraw,
-    Word::Commit,
-    Word::Ask,
-    Word::Answer,
-    Word::Abort,
+pub(crate) const WORDS: [ScriptWord; 10] = [
+    ScriptWord::Query,
+    ScriptWord::Begin,
+    ScriptWord::Add,
+    ScriptWord::Amend,
+    ScriptWord::Line,
+    ScriptWord::Withdraw,
+    ScriptWord::Commit,
+    ScriptWord::Ask,
+    ScriptWord::Answer,
+    ScriptWord::Abort,
 ];
 
 /// Whether a record of this word is a `line`.
-pub(crate) fn is_line(word: Option<Word>) -> bool
+pub(crate) fn is_line(word: Option<ScriptWord>) -> bool
     ensures { result ≡ spec.is_line word }
 {
-    matches!(word, Some(Word::Line))
+    matches!(word, Some(ScriptWord::Line))
 }
 
 /// Whether a record of this word is a `query`.
-pub(crate) fn is_query(word: Option<Word>) -> bool
+pub(crate) fn is_query(word: Option<ScriptWord>) -> bool
     ensures { result ≡ spec.is_query word }
 {
-    matches!(word, Some(Word::Query))
+    matches!(word, Some(ScriptWord::Query))
 }
 
 /// Whether a record of this word is an `abort`.
-pub(crate) fn is_abort(word: Option<Word>) -> bool
+pub(crate) fn is_abort(word: Option<ScriptWord>) -> bool
     ensures { result ≡ spec.is_abort word }
 {
-    matches!(word, Some(Word::Abort))
+    matches!(word, Some(ScriptWord::Abort))
 }
 
-impl Word {
-    fn spelling(self) -> &'static [u8]
+impl ScriptWord {
+    /// How it is spelled.
+    pub(crate) fn spelling(self) -> &'static [u8]
         ensures { result.now ≡ spelling_of self }
     {
         match self {
-            Word::Query => b"query",
-            Word::Begin => b"begin",
-            Word::Add => b"add",
-            Word::Amend => b"amend",
-            Word::Line => b"line",
-            Word::Withdraw => b"withdraw",
-            Word::Commit => b"commit",
-            Word::Ask => b"ask",
-            Word::Answer => b"answer",
-            Word::Abort => b"abort",
+            ScriptWord::Query => b"query",
+            ScriptWord::Begin => b"begin",
+            ScriptWord::Add => b"add",
+            ScriptWord::Amend => b"amend",
+            ScriptWord::Line => b"line",
+            ScriptWord::Withdraw => b"withdraw",
+            ScriptWord::Commit => b"commit",
+            ScriptWord::Ask => b"ask",
+            ScriptWord::Answer => b"answer",
+            ScriptWord::Abort => b"abort",
         }
     }
 
     /// The word that bytes spell, letter for letter.
-    pub(crate) fn spelled(bytes: &[u8]) -> Option<Word>
+    pub(crate) fn spelled(bytes: &[u8]) -> Option<ScriptWord>
         ensures { result ≡ word_spelled bytes.now }
     {
         WORDS.iter().copied().find(|word| word.spelling() == bytes)

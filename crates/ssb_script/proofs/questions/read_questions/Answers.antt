@@ -1,14 +1,7 @@
 use Rattle.std.proofs.Common.{◌≡◌, ◌≤◌, ◌∙◌, arith, inl, inr, length, refl, sym}
 use Rattle.csv.specs.Records.{fields_of}
-use Rattle.ssb_script.proofs.QuestionsLaws.{
-  as_many,
-  asked_all,
-  asked_more,
-  asked_never,
-  asked_nothing,
-  asked_whole,
-  first_other,
-}
+use Rattle.ssb_script.proofs.QuestionsLaws.{as_many, asked_all, asked_more, asked_never, asked_nothing, asked_whole}
+use Rattle.ssb_script.proofs.QuestionsLaws.{first_other}
 use Rattle.ssb_script.proofs.questions.read_questions.Goals as goal
 
 pub loop-before-init : goal.loop-before-init

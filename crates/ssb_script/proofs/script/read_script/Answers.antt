@@ -4,15 +4,8 @@ use Rattle.csv.specs.Records.{fields_of}
 use Rattle.ssb_script.specs.Requests.{request_of}
 use Rattle.ssb_script.specs.Steps.{asked, begun_in}
 use Rattle.ssb_script.specs.declared.error.ScriptError.TheVariants.{TooLong}
-use Rattle.ssb_script.proofs.ReadingLaws.{
-  first_fault,
-  found_fault,
-  read_more,
-  read_nothing,
-  read_script_all,
-  read_script_ends,
-  too_many,
-}
+use Rattle.ssb_script.proofs.ReadingLaws.{first_fault, found_fault, read_more, read_nothing, read_script_all}
+use Rattle.ssb_script.proofs.ReadingLaws.{read_script_ends, too_many}
 use Rattle.ssb_script.proofs.script.read_script.Goals as goal
 
 pub loop-before-init : goal.loop-before-init

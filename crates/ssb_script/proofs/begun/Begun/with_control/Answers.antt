@@ -41,7 +41,8 @@ returns-in-Some-Refresh-clause-step c =
     let ended : ended_of (begun_in c.args.self) ≡ Refresh c.in-Some-Refresh.actions =
     sym c.in_ok-ended.ensures.ended ∙ c.in-Some-Refresh.is-1 in
     step_after c.inside.result (c.args.before + 1) (begun_in c.args.self)
-    (line_or_bad (option_map line_of_control c.args.control)) c.in-Some-Refresh.control (Refresh c.in-Some-Refresh.actions)
+    (line_or_bad (option_map line_of_control c.args.control)) c.in-Some-Refresh.control
+    (Refresh c.in-Some-Refresh.actions)
     ended spelled c.inside.ensures.step
 
 pub returns-in-Some-Refresh-clause-fault : goal.returns-in-Some-Refresh-clause-fault
@@ -50,7 +51,8 @@ returns-in-Some-Refresh-clause-fault c =
     let ended : ended_of (begun_in c.args.self) ≡ Refresh c.in-Some-Refresh.actions =
     sym c.in_ok-ended.ensures.ended ∙ c.in-Some-Refresh.is-1 in
     fault_after c.inside.result (c.args.before + 1) (begun_in c.args.self) None
-    (line_or_bad (option_map line_of_control c.args.control)) c.in-Some-Refresh.control (Refresh c.in-Some-Refresh.actions)
+    (line_or_bad (option_map line_of_control c.args.control)) c.in-Some-Refresh.control
+    (Refresh c.in-Some-Refresh.actions)
     ended c.in_ok-ended.ensures.whole spelled c.inside.ensures.fault
 
 pub in_block-requires : goal.in_block-requires

@@ -1,5 +1,0 @@
-use Rattle.session_requests.proofs.AheadLaws.{whole_begins}
-use Rattle.session_requests.proofs.at_hand.has_request.Goals as goal
-
-pub returns-in-Some-clause-whole : goal.returns-in-Some-clause-whole
-returns-in-Some-clause-whole c = λ told. whole_begins c.args.bytes.now _ c.in-Some.ensures.whole
