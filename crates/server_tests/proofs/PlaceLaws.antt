@@ -8,13 +8,13 @@ use Rattle.row_store.specs.declared.refusal.RefreshError.TheVariants as refresh
 use Rattle.history_core.specs.Events.{Questions}
 use Rattle.history_core.specs.declared.response.Response.{Response}
 use Rattle.history.specs.Tokens.{TableRecord, TokenRecord}
-use Rattle.ssb_server.specs.Clients.{Refreshed, Looks, HandsBack, Asks, Polls}
-use Rattle.ssb_server.specs.Tickets.{IsOf}
+use Rattle.ssb_clients.specs.Clients.{Refreshed, Looks, HandsBack, Asks, Polls}
+use Rattle.ssb_clients.specs.Tickets.{IsOf}
 use Rattle.ssb_server.specs.Turns.{HasFetched}
-use Rattle.ssb_server.proofs.StayingLaws.{new_clients_are_quiet, new_dispatchers_are_of_it}
+use Rattle.ssb_clients.proofs.StayingLaws.{new_clients_are_quiet, those_that_answer_are_of_it}
 
 -- whose the clients and dispatchers of a new server are
-pub ruleset new_are_its_own = (new_clients_are_quiet, new_dispatchers_are_of_it)
+pub ruleset new_are_its_own = (new_clients_are_quiet, those_that_answer_are_of_it)
 
 module _ (table : TableRecord) where
   pub looks_stays : (before after : TokenRecord) → IsOf table before → Looks before after → IsOf table after

@@ -7,7 +7,7 @@ use Rattle.row_store.specs.History.{CommitRecord}
 use Rattle.ssb_base.specs.Base.{Tables}
 use Rattle.history.specs.Tokens.{TableRecord, TokenRecord}
 use Rattle.history.specs.Closing.{AreClients, AreDispatchers}
-use Rattle.ssb_server.specs.Tickets.{IsResting, IsLeft, IsQuiet, IsOf, AreAllThere, Leaves, with_reader}
+use Rattle.ssb_clients.specs.Tickets.{IsResting, IsLeft, IsQuiet, IsOf, AreAllThere, Leaves, with_reader}
 use Rattle.ssb_server.proofs.SeatLaws.{all_clients, all_dispatchers}
 
 pub left_with_reader : (tokens : List TokenRecord) (reader : Option TokenRecord) → All IsLeft tokens

@@ -4,8 +4,6 @@ pub mod SeatLaws
 pub mod SnapshotLaws
 pub mod GivingLaws
 pub mod TurningLaws
-pub mod RefreshingLaws
-pub mod PollingLaws
 pub mod StayingLaws
 pub mod ReaderLaws
 pub mod ClosingLaws

@@ -1,60 +1,50 @@
--- Who reads the log: one dispatcher more, that answers nothing.
-use Rattle.std.proofs.Common.{◌≡◌, ℕ, ◌≤◌, List, [], ◌∷◌, ◌++◌, length, ap, sym, subst}
-use Rattle.std.proofs.Common.{◌∙◌, arith, Some}
+-- The tokens of dispatchers that a table deals, of which the last is for who reads the log, where somebody does.
+use Rattle.std.proofs.Common.{◌≡◌, ℕ, ◌≤◌, List, length, Option, Some, None, ap, sym, subst, ◌∙◌, arith}
 use Rattle.std.specs.Prelude.{All}
+use Rattle.std.specs.Option.{is_some}
+use Rattle.std.proofs.lemmas.List.{length_push}
 use Rattle.std.proofs.lemmas.List.Elements.{All-pop}
 use Rattle.std.proofs.lemmas.List.FromFn.{length-map-range_with_len}
-use Rattle.row_store.specs.History.{CommitRecord, IsPrefix}
-use Rattle.row_store.proofs.PrefixLaws.{beginnings_are_shorter}
-use Rattle.history.specs.Tokens.{TableRecord, TokenRecord, IsSound, Saw, new_dispatchers}
-use Rattle.ssb_server.specs.Opening.{IsNewDispatcher}
-use Rattle.ssb_server.specs.Ready.{IsIdle}
-use Rattle.ssb_server.specs.Turns.{Fetches}
-use Rattle.ssb_server.proofs.SeatLaws.{dispatchers_are_new}
+use Rattle.ssb_base.specs.Base.{Tables}
+use Rattle.history.specs.Tokens.{TableRecord, TokenRecord, new_dispatchers}
+use Rattle.ssb_clients.specs.declared.unneeded.Keeps.{Keeps}
+use Rattle.ssb_clients.specs.declared.unneeded.Keeps.TheVariants as keep
+use Rattle.ssb_clients.specs.Counts.{most_at_table, at_table, has_reader}
+use Rattle.ssb_clients.specs.Ready.{IsIdle}
+use Rattle.ssb_clients.specs.Tickets.{with_reader}
+use Rattle.ssb_server.specs.Opening.{IsNewDispatcher, IsDispatcherCount}
 
--- it has not taken more than it sees
-pub still_within : (before after : List CommitRecord) (taken : ℕ) → IsPrefix before after → taken ≤ length before
-    → taken ≤ length after
-still_within before after taken begins few =
-    let n = beginnings_are_shorter before after begins in omega (arith, n, few)
-
--- the last token of the dispatchers is one that has done nothing
-pub idle_at_first : (table : TableRecord) (t : TokenRecord) → IsNewDispatcher table.base t
-    → (number : ℕ) × IsIdle number t
-idle_at_first table t new = (new.number, record { who_is = new.who_is; free = new.free; sound = new.sound })
-
-pub idle_after_fetch : (number : ℕ) (before after : TokenRecord) → Fetches before after → IsSound after
-    → IsIdle number before → IsIdle number after
-idle_after_fetch number before after fetches sound idle = record {
-  who_is = ap (λ (t : TokenRecord). t.who) fetches.now ∙ idle.who_is;
-  free = record {
-    rows = ap (λ (t : TokenRecord). t.has_rows) fetches.now ∙ idle.free.rows;
-    writer = ap (λ (t : TokenRecord). t.has_writer) fetches.now ∙ idle.free.writer;
-    hand = ap (λ (t : TokenRecord). t.grabbed) fetches.now ∙ idle.free.hand;
-  };
-  sound = sound;
-}
-
-pub idle_after_look : (number : ℕ) (before after : TokenRecord) → Saw before after → IsSound after
-    → IsIdle number before → IsIdle number after
-idle_after_look number before after saw sound idle = record {
-  who_is = ap (λ (t : TokenRecord). t.who) saw.now ∙ idle.who_is;
-  free = record {
-    rows = ap (λ (t : TokenRecord). t.has_rows) saw.now ∙ idle.free.rows;
-    writer = ap (λ (t : TokenRecord). t.has_writer) saw.now ∙ idle.free.writer;
-    hand = ap (λ (t : TokenRecord). t.grabbed) saw.now ∙ idle.free.hand;
-  };
-  sound = sound;
-}
+-- a token that has done nothing may go to who reads the log
+pub idle_at_first : (base : Tables) (t : TokenRecord) → IsNewDispatcher base t → (number : ℕ) × IsIdle number t
+idle_at_first base t new = (new.number, record { who_is = new.who_is; free = new.free; sound = new.sound })
 
 -- as many tokens of dispatchers as the table has
 pub dispatcher_count : (table : TableRecord) (tokens : List TokenRecord) → tokens ≡ new_dispatchers table
     → length tokens ≡ table.dispatchers
 dispatcher_count table tokens are = ap length are ∙ length-map-range_with_len _ 1 table.dispatchers
 
--- the tokens before the last are of new dispatchers too, and so is the last
-pub parted : (table : TableRecord) (tokens rest : List TokenRecord) (last : TokenRecord)
-    → tokens ≡ new_dispatchers table → tokens ≡ rest ++ last ∷ []
-    → All (IsNewDispatcher table.base) rest × IsNewDispatcher table.base last
-parted table tokens rest last are whole = All-pop (IsNewDispatcher table.base) tokens rest (Some last) whole
-    (subst (All (IsNewDispatcher table.base)) (sym are) (dispatchers_are_new table))
+-- the tokens of those that answer are new too
+pub new_without_reader : (base : Tables) (all tokens : List TokenRecord) (reader : Option TokenRecord)
+    → with_reader tokens reader ≡ all → All (IsNewDispatcher base) all → All (IsNewDispatcher base) tokens
+new_without_reader base all tokens None parted new = subst (All (IsNewDispatcher base)) (sym parted) new
+new_without_reader base all tokens (Some reader) parted new =
+    (All-pop (IsNewDispatcher base) all tokens (Some reader) (sym parted) new).0
+
+-- the table has room for those that answer and for who reads the log
+pub table_range : (keeps : Keeps) (dispatchers : ℕ) → IsDispatcherCount dispatchers
+    → (1 ≤ at_table keeps dispatchers) × (at_table keeps dispatchers ≤ most_at_table)
+table_range keep.All dispatchers is = (is.0, omega (arith, is.1))
+table_range keep.Recent dispatchers is = (is.0, omega (arith, is.1))
+table_range keep.Unread dispatchers is = (omega (arith, is.0), omega (arith, is.1))
+
+-- without who reads the log they are as many as are to answer
+pub as_many_answer : (keeps : Keeps) (dispatchers : ℕ) (tokens : List TokenRecord) (reader : Option TokenRecord)
+    → is_some reader ≡ has_reader keeps → length (with_reader tokens reader) ≡ at_table keeps dispatchers
+    → length tokens ≡ dispatchers
+as_many_answer keep.All dispatchers tokens None there count = count
+as_many_answer keep.All dispatchers tokens (Some reader) there count = absurd (cc)
+as_many_answer keep.Recent dispatchers tokens None there count = count
+as_many_answer keep.Recent dispatchers tokens (Some reader) there count = absurd (cc)
+as_many_answer keep.Unread dispatchers tokens None there count = absurd (cc)
+as_many_answer keep.Unread dispatchers tokens (Some reader) there count =
+    omega (arith, count, length_push tokens reader)

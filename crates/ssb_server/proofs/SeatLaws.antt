@@ -10,7 +10,7 @@ use Rattle.history_core.specs.declared.event.Who.TheVariants.{Client, Dispatcher
 use Rattle.history.specs.Words.{Owns}
 use Rattle.history.specs.Tokens.{TableRecord, TokenRecord, IsSound, IsFree, new_token, new_clients, new_dispatchers}
 use Rattle.history.specs.Closing.{IsClientOf, IsDispatcherOf, AreNumbered, AreClients, AreDispatchers}
-use Rattle.ssb_server.specs.Tickets.{IsNewClient, IsResting, IsLeft, IsQuiet, IsOf}
+use Rattle.ssb_clients.specs.Tickets.{IsNewClient, IsResting, IsLeft, IsQuiet, IsOf}
 use Rattle.ssb_server.specs.Opening.{IsNewDispatcher}
 
 none_there : (i : ℕ) (commit : CommitRecord) → slice_get [] i ≡ Some commit → ⊥

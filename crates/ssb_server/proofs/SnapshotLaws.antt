@@ -22,7 +22,6 @@ use Rattle.std.proofs.Common.{
   append_assoc,
 }
 use Rattle.std.proofs.lemmas.List.{append-nil}
-use Rattle.std.proofs.lemmas.List.Elements.{All-head}
 use Rattle.std.specs.Prelude.{All, Result, Ok, Err, MatchResult, OnOk, OnErr, is_err, false, true, Some, None}
 use Rattle.std.specs.declared.alloc.AllocError.{AllocError}
 use Rattle.std.proofs.lemmas.List.{map-id}
@@ -39,47 +38,22 @@ use Rattle.row_store.proofs.PrefixLaws.{
 use Rattle.row_store.specs.State.{State, StandsFor}
 use Rattle.ssb_base.specs.Base.{Tables}
 use Rattle.ssb_answers.specs.declared.answer.Unserved.TheVariants.{Twin}
-use Rattle.history_core.specs.declared.event.Who.TheVariants.{Dispatcher}
 use Rattle.history_core.specs.declared.event.Reply.TheVariants.{Done}
 use Rattle.history_core.specs.Events as event
 use Rattle.history.specs.Members.{number_of}
-use Rattle.history_core.specs.Parts.{mark_after}
-use Rattle.history.specs.Tokens.{TableRecord, TokenRecord, Took, IsSound, gave_back, with_writer, without_writer}
+use Rattle.history.specs.Tokens.{TableRecord, TokenRecord, IsSound, with_writer, without_writer}
 use Rattle.twin_cell.specs.Twin.{Writing, Reading, Entered}
 use Rattle.ssb_server.proofs.DeedLaws.{added_three}
 use Rattle.ssb_server.specs.Deeds as deeds
-use Rattle.ssb_server.specs.Turns.{
-  IsDispatcher,
-  HasFetched,
-  HasBeside,
-  HasTaken,
-  Fetches,
-  StandsAt,
-  Knows,
-  Follows,
-  AppendsFirst,
-  IsTrueCause,
-  IsFound,
-}
+use Rattle.ssb_clients.specs.Fetching.{IsDispatcher, Fetches}
+use Rattle.ssb_clients.proofs.FetchingLaws.{beside_seen}
+use Rattle.ssb_server.specs.Turns.{HasFetched, HasTaken, StandsAt, Knows, Follows, AppendsFirst, IsTrueCause, IsFound}
 
 -- what an iterator has given so far
 pub prefix_yielded : (list yielded : List CommitRecord) → map (λ y. y) yielded ≡ take (length yielded) list
     → IsPrefix yielded list
 prefix_yielded list yielded e = subst (λ xs. IsPrefix xs list) (sym (sym (map-id yielded) ∙ e))
     (prefix_take (length yielded) list)
-
-pub beside_seen : (t : TokenRecord) (count : ℕ) (seen : List CommitRecord) (has : HasBeside t count)
-    → All (λ list. IsPrefix list seen) t.beside → IsPrefix has.list seen
-beside_seen t count seen has all = All-head (λ list. IsPrefix list seen) has.list has.more
-    (subst (λ lists. All (λ list. IsPrefix list seen) lists) has.beside_is all)
-
--- the writer has not taken more commits than the token sees
-pub within_seen : (before : TokenRecord) (count : ℕ) (after : TokenRecord) → HasBeside before count → Took before after
-    → count ≤ length after.seen
-within_seen before count after has took =
-    let e : count ≡ length has.list = has.count_is in
-    let n = beginnings_are_shorter has.list after.seen (beside_seen before count after.seen has took.beside) in
-    omega arith
 
 -- an entered copy that holds just as many commits as were told stands for what was told
 pub stands_at : (base : Tables) (list : List CommitRecord) (reader : Reading) (guard : Entered)
@@ -249,66 +223,6 @@ taken_with t writer u e base = subst (λ x. HasTaken x writer) (sym e)
 pub knows_with : (t : TokenRecord) (list : List CommitRecord) (u : TokenRecord) (reader : Reading) → u ≡ with_writer t list
     → Knows t.table.base t.seen reader → Knows u.table.base u.seen reader
 knows_with t list u reader e knows = subst (λ (x : TokenRecord). Knows x.table.base x.seen reader) (sym e) knows
-
--- a dispatcher that took the rows, and gave them back as they were
-pub fetches : (before t after : TokenRecord) (number : ℕ) → before.who ≡ Dispatcher number → before.has_rows ≡ false
-    → Took before t → after ≡ gave_back t → Fetches before after
-fetches before t after number who free took put =
-    let who_is : t.who ≡ Dispatcher number = ap (λ (u : TokenRecord). u.who) took.now ∙ who in
-    let m : mark_after t.who (length t.seen) t.mark ≡ Some (length t.seen) =
-    ap (λ w. mark_after w (length t.seen) t.mark) who_is in
-    let put_deed = deeds.deed (event.PutRows before.who None) Done ∷ [] in
-    let e1 : after ≡ record t {
-      has_rows = false;
-      mark = Some (length t.seen);
-      did = t.did ++ deeds.deed (event.PutRows t.who None) Done ∷ [];
-    } =
-    put ∙ ap (λ k. record t {
-      has_rows = false;
-      mark = k;
-      did = t.did ++ deeds.deed (event.PutRows t.who None) Done ∷ [];
-    }) m in
-    let e2 : after ≡ record before {
-      seen = t.seen;
-      beside = [];
-      has_rows = false;
-      mark = Some (length t.seen);
-      did = (before.did ++ deeds.deed (event.TakeRows before.who) Done ∷ []) ++ put_deed;
-    } =
-    e1 ∙ ap (λ (u : TokenRecord). record u {
-      has_rows = false;
-      mark = Some (length t.seen);
-      did = u.did ++ deeds.deed (event.PutRows u.who None) Done ∷ [];
-    }) took.now in
-    let e3 : after ≡ record before {
-      seen = t.seen;
-      beside = [];
-      mark = Some (length t.seen);
-      did = before.did ++ deeds.handed_back before.who;
-    } =
-    e2 ∙ (ap (λ b. record before {
-      seen = t.seen;
-      beside = [];
-      has_rows = b;
-      mark = Some (length t.seen);
-      did = (before.did ++ deeds.deed (event.TakeRows before.who) Done ∷ []) ++ put_deed;
-    }) (sym free) ∙ ap (λ ds. record before {
-      seen = t.seen;
-      beside = [];
-      mark = Some (length t.seen);
-      did = ds;
-    }) (append_assoc before.did (deeds.deed (event.TakeRows before.who) Done ∷ []) put_deed)) in
-    let s : after.seen ≡ t.seen = ap (λ (u : TokenRecord). u.seen) e3 in
-    record {
-      begins = subst (IsPrefix before.seen) (sym s) took.begins;
-      beside = subst (λ xs. All (λ list. IsPrefix list xs) before.beside) (sym s) took.beside;
-      now = subst (λ xs. after ≡ record before {
-        seen = xs;
-        beside = [];
-        mark = Some (length xs);
-        did = before.did ++ deeds.handed_back before.who;
-      }) (sym s) e3;
-    }
 
 pub snapshot_fetched : (before : TokenRecord) (list : List CommitRecord) (taken fetched after : TokenRecord)
     → before.has_writer ≡ false → taken ≡ with_writer before list → Fetches taken fetched

@@ -16,7 +16,8 @@ use Rattle.history.specs.Members.{number_of}
 use Rattle.ssb_answers.specs.declared.answer.Unserved.{Unserved as Cause}
 use Rattle.ssb_answers.specs.declared.answer.Unserved.TheVariants.{OutOfMemory, Twin}
 use Rattle.ssb_server.specs.Deeds as deeds
-use Rattle.ssb_server.specs.Turns.{IsDispatcher, HoldsNothing, HasGrabbed, HasFetched, Knows, StandsAt, Gave, IsTrueCause}
+use Rattle.ssb_clients.specs.Fetching.{IsDispatcher}
+use Rattle.ssb_server.specs.Turns.{HoldsNothing, HasGrabbed, HasFetched, Knows, StandsAt, Gave, IsTrueCause}
 use Rattle.ssb_server.specs.declared.turn.Turn.{Turn}
 use Rattle.ssb_server.specs.declared.turn.Turn.TheVariants.{Idle, Answered, Unserved}
 use Rattle.ssb_server.specs.Ends.{Finishes, Ends, Grows, Turned}

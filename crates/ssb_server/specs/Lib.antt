@@ -1,10 +1,7 @@
-pub mod Served
 pub mod Hand
 pub mod Deeds
 pub mod Turns
 pub mod Passes
 pub mod Ends
 pub mod Ready
-pub mod Clients
-pub mod Tickets
 pub mod Opening

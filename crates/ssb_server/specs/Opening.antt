@@ -1,22 +1,16 @@
 -- What a server is opened with, and why none is.
-use Rattle.std.specs.Prelude.{◌≡◌, ℕ, ◌≤◌, All, List, [], length}
+use Rattle.std.specs.Prelude.{◌≡◌, ℕ, ◌≤◌, true, All, List, [], length}
 use Rattle.ssb_base.specs.Base.{Tables}
 use Rattle.history_core.specs.declared.event.Who.TheVariants.{Dispatcher}
 use Rattle.history.specs.Tokens.{TokenRecord, IsSound, IsFree}
 use Rattle.twin_cell.specs.Twin.{Reading}
 use Rattle.row_store.specs.State.{state_of}
 use Rattle.fact_columns.specs.Stored.{columns_state}
+use Rattle.ssb_clients.specs.Counts.{most_clients, most_dispatchers, has_reader}
+use Rattle.ssb_clients.specs.declared.unneeded.Keeps.{Keeps}
 use Rattle.ssb_server.specs.declared.loaded.Loaded.TheInside.{Inside}
 use Rattle.ssb_server.specs.declared.opening.OpenFault.{OpenFault}
 use Rattle.ssb_server.specs.declared.opening.OpenFault.TheVariants.{ClientCount, DispatcherCount, NoReader, OutOfMemory}
-
--- the most clients of a server
-abbrev pub most_clients : ℕ
-most_clients = 16
-
--- the most dispatchers
-abbrev pub most_dispatchers : ℕ
-most_dispatchers = 4
 
 abbrev pub IsClientCount : ℕ → Type 0
 IsClientCount clients = (1 ≤ clients) × (clients ≤ most_clients)
@@ -46,6 +40,12 @@ pub record IsNewDispatcher (base : Tables) (t : TokenRecord) : Type 0 where
 -- a reader over this base that was told nothing
 abbrev pub IsNewReader : Tables → Reading → Type 0
 IsNewReader base reader = (reader.base ≡ base) × (reader.told ≡ [])
+
+-- these are tokens of new dispatchers, and where somebody reads the log, there is one for it
+pub record MayRead (keeps : Keeps) (tokens : List TokenRecord) : Type 0 where
+  pub base : Tables
+  pub new : All (IsNewDispatcher base) tokens
+  pub some : has_reader keeps ≡ true → 1 ≤ length tokens
 
 -- tokens of new dispatchers, and as many new readers, all over one base
 pub record AreSeats (tokens : List TokenRecord) (readers : List Reading) : Type 0 where

@@ -1,4 +1,4 @@
--- A dispatcher between two turns, and who reads the log between two calls.
+-- A dispatcher between two turns.
 use Rattle.std.specs.Prelude.{◌≡◌, ℕ, Option, Some}
 use Rattle.history_core.specs.declared.event.Who.TheVariants.{Dispatcher}
 use Rattle.history.specs.Tokens.{TokenRecord, IsSound, IsFree}
@@ -15,9 +15,3 @@ pub record IsReady (number : ℕ) (t : TokenRecord) (reader : Option Reading) (h
   pub reader_is : reader ≡ Some known
   pub knows : Knows t.table.base t.seen known
   pub hand_is : hand ≡ no_hand
-
--- at the table who reads the log is the dispatcher of this number, and it holds nothing
-pub record IsIdle (number : ℕ) (t : TokenRecord) : Type 0 where
-  pub who_is : t.who ≡ Dispatcher number
-  pub free : IsFree t
-  pub sound : IsSound t

@@ -4,9 +4,8 @@ use Rattle.std.specs.declared.alloc.AllocError.{AllocError}
 use Rattle.row_store.specs.History.{CommitRecord, IsPrefix}
 use Rattle.row_store.specs.State.{StandsFor}
 use Rattle.ssb_base.specs.Base.{Tables}
-use Rattle.history_core.specs.declared.event.Who.TheVariants.{Dispatcher}
 use Rattle.history_core.specs.declared.dispatcher.Outcome.{Outcome}
-use Rattle.history.specs.Tokens.{TableRecord, TokenRecord}
+use Rattle.history.specs.Tokens.{TokenRecord}
 use Rattle.history.specs.Words.{IsFresh}
 use Rattle.history.specs.Members.{number_of}
 use Rattle.twin_cell.specs.Twin.{Writing, Reading, Entered}
@@ -18,12 +17,6 @@ use Rattle.ssb_server.specs.declared.passes.RequestRows.{RequestRows}
 use Rattle.history_core.specs.Events.{Questions}
 use Rattle.ssb_server.specs.Hand.{Hand, Keeps}
 use Rattle.ssb_server.specs.Deeds as deeds
-
--- the token is a dispatcher's at this table
-pub record IsDispatcher (table : TableRecord) (t : TokenRecord) : Type 0 where
-  pub table_is : t.table ≡ table
-  pub number : ℕ
-  pub who_is : t.who ≡ Dispatcher number
 
 -- it holds neither part
 pub record HoldsNothing (t : TokenRecord) : Type 0 where
@@ -62,25 +55,6 @@ pub record StandsAt (base : Tables) (history : List CommitRecord) (guard : Enter
   pub base_is : guard.state.base ≡ base
   pub stands : StandsFor guard.state history
   pub told : IsPrefix guard.told history
-
--- the token has looked at the rows and given them back: its mark is the length of what it sees, which begins with what
--- it had beside
-pub record Fetches (before after : TokenRecord) : Type 0 where
-  pub begins : IsPrefix before.seen after.seen
-  pub beside : All (λ list. IsPrefix list after.seen) before.beside
-  pub now : after ≡ record before {
-    seen = after.seen;
-    beside = [];
-    mark = Some (length after.seen);
-    did = before.did ++ deeds.handed_back before.who;
-  }
-
--- beside what the token has seen lies a list of so many commits
-pub record HasBeside (t : TokenRecord) (count : ℕ) : Type 0 where
-  pub list : List CommitRecord
-  pub more : List (List CommitRecord)
-  pub beside_is : t.beside ≡ list ∷ more
-  pub count_is : count ≡ length list
 
 -- the writer has the first of these commits pending too
 pub record AppendsFirst (before : Writing) (commits : List CommitRecord) (after : Writing) : Type 0 where

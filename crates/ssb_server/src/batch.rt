@@ -1,13 +1,12 @@
 //! The requests that a dispatcher has in hand.
 ghost use Rattle.std.specs.Prelude.{◌≡◌, ◌+◌, ◌<◌, ◌≤◌, [], ◌∷◌, ◌++◌, length, IfOk, MatchOption, nat_eq};
+ghost use Rattle.ssb_clients.specs.Counts.{most_clients};
 
+use ssb_clients::MOST_CLIENTS;
 use ssb_questions::Question;
 use ssb_schema::Items;
 use std::alloc::{AllocError, Global};
 use std::marker::Model;
-
-/// The greatest number of clients, each of which has at most one request, of any number of questions.
-pub const MOST_CLIENTS: usize = 16;
 
 /// Clients with what they ask, in room for one request of each client. Contracts see the two lists.
 #[derive(Drop)]
@@ -18,14 +17,15 @@ pub struct Batch {
 
 impl Model for Batch {
     ghost use Rattle.std.specs.Prelude.{◌≡◌, ◌≤◌, vec_len, vec_capacity};
+    ghost use Rattle.ssb_clients.specs.Counts.{most_clients};
     ghost use Rattle.ssb_server.specs.Hand.{Hand};
 
     ghost Value = { Hand };
 
     ghost view = { λ b. record { clients = b.clients.items; requests = b.requests.items } };
 
-    ghost invariant = { λ b. (vec_len b.clients ≡ vec_len b.requests) × (16 ≤ vec_capacity b.clients)
-        × (16 ≤ vec_capacity b.requests) };
+    ghost invariant = { λ b. (vec_len b.clients ≡ vec_len b.requests) × (most_clients ≤ vec_capacity b.clients)
+        × (most_clients ≤ vec_capacity b.requests) };
 }
 
 impl Batch {
@@ -35,8 +35,8 @@ impl Batch {
     pub fn new(alloc: Global) -> Result<Batch, AllocError>
         ensures { IfOk result (λ batch. batch ≡ record { clients = []; requests = [] }) }
     {
-        let clients = Vec::with_capacity(alloc, MOST_CLIENTS)?;
-        let requests = Vec::with_capacity(alloc, MOST_CLIENTS)?;
+        let clients = Vec::with_capacity(alloc, MOST_CLIENTS as usize)?;
+        let requests = Vec::with_capacity(alloc, MOST_CLIENTS as usize)?;
         Ok(Batch { clients, requests })
     }
 
@@ -58,7 +58,7 @@ impl Batch {
 
     /// One request more.
     pub fn push(&mut self, client: u32, questions: Items<Question>)
-        requires { length self.old.clients < 16 }
+        requires { length self.old.clients < most_clients }
         ensures { self.new ≡ record {
           clients = self.old.clients ++ client ∷ [];
           requests = self.old.requests

@@ -6,25 +6,19 @@ ghost use Rattle.history.specs.Members.{number_of};
 ghost use Rattle.ssb_server.specs.Ends.{Turned};
 ghost use Rattle.ssb_server.specs.Hand.{no_hand};
 ghost use Rattle.ssb_server.specs.Opening.{IsNewDispatcher};
-ghost use Rattle.ssb_server.specs.Tickets.{IsLeft};
+ghost use Rattle.ssb_clients.specs.Tickets.{IsLeft};
 ghost use Rattle.ssb_server.specs.Turns.{HasFetched};
 
 use crate::batch::Batch;
-use crate::bells::FOLLOWER;
 use crate::following::follow;
-use crate::server::{Server, Token};
 use crate::turn::{ScanGate, Turn, take_turn};
+use crate::{Server, Token};
 use history_core::Who;
 use standing_columns::StandingColumns;
 use std::marker::Model;
 use std::sync::Wait;
 use std::thread::Threads;
-use std::time::Duration;
 use twin_cell::{EndsCopies, TwinReader};
-
-/// The longest rest of the dispatcher that follows the commits, in milliseconds. After a rest without a commit it carries
-/// over, so the copies lack none after two rests.
-const LONGEST_REST: u64 = 400;
 
 /// A dispatcher's token, with its reader of the columns and room for a batch. Contracts see the token; between two
 /// turns it holds nothing.
@@ -85,21 +79,16 @@ impl<W: EndsCopies + Drop> Dispatcher<W> {
         token
     }
 
-    /// Sleeps until something was posted since the last turn began, until `Server::ring`, or until it is to look whether
-    /// the copies lag. It may return for no reason.
+    /// Sleeps until something was posted since the last turn began, until `Server::ring`, or until it is to look
+    /// whether the copies lag. It may return for no reason.
     pub fn rest<R: Wait>(&self, rt: &R, server: &Server<W>) {
-        if self.number == FOLLOWER && server.pace.lag.rests() {
-            let longest = Duration::from_millis(LONGEST_REST);
-            server.bells.await_dispatcher_for(rt, self.number, longest);
-        } else {
-            server.bells.await_dispatcher(rt, self.number);
-        }
+        server.rest(rt, self.number);
     }
 
-    /// Whether the copies lack commits that it is for this dispatcher to carry over while nothing is asked: so many that
-    /// memory would fill up, or the last ones before a silence.
+    /// Whether the copies lack commits that it is for this dispatcher to carry over while nothing is asked: so many
+    /// that memory would fill up, or the last ones before a silence.
     pub fn lags(&self, server: &Server<W>) -> bool {
-        self.number == FOLLOWER && server.pace.lag.is_due()
+        server.lags(self.number)
     }
 
     /// The dispatcher's number, counted from 1.

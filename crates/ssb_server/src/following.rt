@@ -1,10 +1,11 @@
 //! How the copies follow the commits, though nothing is asked.
 ghost use Rattle.std.specs.Prelude.{◌≡◌, ◌++◌, false};
 ghost use Rattle.history.specs.Tokens.{IsSound};
-ghost use Rattle.ssb_server.specs.Turns.{IsDispatcher, HoldsNothing, HasFetched, Fetches, HasTaken, Follows};
+ghost use Rattle.ssb_clients.specs.Fetching.{IsDispatcher, Fetches};
+ghost use Rattle.ssb_server.specs.Turns.{HoldsNothing, HasFetched, HasTaken, Follows};
 
-use crate::server::{Server, Token};
-use crate::snapshot::{fetch, renew};
+use crate::snapshot::renew;
+use crate::{Server, Token};
 use row_store::{Commit, Follower};
 use standing_columns::StandingColumns;
 use std::alloc::AllocError;
@@ -40,15 +41,7 @@ fn carry_over<W: Wait + Drop, R: Wait>(
     ensures writer { Follows token.new.table.base token.new.seen result.0 }
 {
     let taken = writer.taken();
-    match fetch(
-        rt,
-        server.alloc,
-        &server.table,
-        &server.pace,
-        &server.bells,
-        token,
-        taken,
-    ) {
+    match server.fetch(rt, token, taken) {
         Ok(commits) => level(writer, commits),
         Err(error) => (writer, Err(error)),
     }
@@ -61,12 +54,13 @@ pub(crate) fn follow<W: Wait + Drop, R: Wait>(rt: &R, server: &Server<W>, token:
     ensures followed { HasFetched token.old token.new }
     ensures sound { IsSound token.new }
 {
-    server.pace.lag.begun();
-    let writer = server.table.take_writer(rt, token);
+    server.begins_to_follow();
+    let table = server.table();
+    let writer = table.take_writer(rt, token);
     let (writer, carried) = carry_over(rt, server, token, writer);
-    server.table.put_writer(token, writer);
+    table.put_writer(token, writer);
     if carried.is_err() {
-        server.pace.lag.failed();
+        server.failed_to_follow();
     }
-    server.pace.end(&server.bells);
+    server.batch_has_ended();
 }

@@ -1,30 +1,24 @@
 //! How a server is opened.
-ghost use Rattle.std.specs.Prelude.{◌≡◌, ℕ, ◌+◌, ◌≤◌, [], ◌∷◌, ◌++◌, All, length, IfOk, OnOk, IfErr, MatchOption};
+ghost use Rattle.std.specs.Prelude.{◌≡◌, ℕ, ◌≤◌, [], ◌∷◌, ◌++◌, All, length, IfOk, OnOk, IfErr, MatchOption};
+ghost use Rattle.std.specs.Option.{is_some};
 ghost use Rattle.history.specs.Tokens.{new_clients, new_dispatchers};
-ghost use Rattle.ssb_server.specs.Opening.{AreCounts, IsOpenFault, IsNewReader, IsNewDispatcher, AreSeats};
+ghost use Rattle.ssb_clients.specs.Counts.{most_clients, most_dispatchers, most_at_table, at_table, has_reader};
+ghost use Rattle.ssb_clients.specs.Tickets.{with_reader};
+ghost use Rattle.ssb_server.specs.Opening.{AreCounts, IsDispatcherCount, IsOpenFault, IsNewReader, IsNewDispatcher};
+ghost use Rattle.ssb_server.specs.Opening.{AreSeats, MayRead};
 
-use crate::batch::{Batch, MOST_CLIENTS};
-use crate::bells::Bells;
-use crate::client::Client;
+use crate::batch::Batch;
 use crate::dispatcher::Dispatcher;
-use crate::lag::Lag;
 use crate::loaded::Loaded;
-use crate::log_reader::LogReader;
-use crate::pace::Pace;
-use crate::room::ClosingRoom;
-use crate::server::{Server, SharedTable, Token};
-use crate::tickets::clients_of;
-use crate::unneeded::{Keeps, Unneeded};
+use crate::{Client, Keeps, LogReader, OpenedTable, Server, Token};
+use ssb_clients::tickets::clients_of;
+use ssb_clients::{MOST_CLIENTS, MOST_DISPATCHERS};
 use standing_columns::StandingColumns;
 use std::alloc::{AllocError, Global};
-use std::sync::atomic::AtomicU64;
-use std::sync::{Mutex, Wait};
+use std::sync::Wait;
 use std::thread::Threads;
 use thiserror::Error;
 use twin_cell::{EndsCopies, TwinError, TwinReader, twin};
-
-/// The greatest number of dispatchers.
-pub const MOST_DISPATCHERS: u32 = 4;
 
 /// Why no server was opened.
 #[derive(Clone, Copy, Debug, PartialEq, Eq, Error)]
@@ -43,21 +37,14 @@ pub enum OpenFault {
     OutOfMemory,
 }
 
-/// A new server, with its clients and its dispatchers, each by number from 1.
+/// An open server, with all who have a token of it: its clients and its dispatchers, in a new one each by number from
+/// 1, and who reads its log, where somebody does, which at the table is one dispatcher more, behind the others.
 #[derive(Drop)]
 pub struct Opened<W: EndsCopies + Drop> {
     pub server: Server<W>,
     pub clients: Vec<Client<W>>,
     pub dispatchers: Vec<Dispatcher<W>>,
-}
-
-/// A new server with who reads its log, which at the table is one dispatcher more, behind the others.
-#[derive(Drop)]
-pub struct OpenedWithReader<W: EndsCopies + Drop> {
-    pub server: Server<W>,
-    pub clients: Vec<Client<W>>,
-    pub reader: LogReader<W>,
-    pub dispatchers: Vec<Dispatcher<W>>,
+    pub reader: Option<LogReader<W>>,
 }
 
 // A dispatcher of each token, with a reader and room for a batch.
@@ -80,48 +67,60 @@ fn dispatchers_of<W: EndsCopies + Drop>(
     Ok(dispatchers)
 }
 
-// The server over a table that was just made.
-fn server_over<W: EndsCopies + Drop>(
-    alloc: Global,
-    table: SharedTable<W>,
-    clients: u32,
-    dispatchers: u32,
-    pace: Pace,
-) -> Result<Server<W>, AllocError>
-    requires counts { (clients ≡ table.clients) × (dispatchers ≡ table.dispatchers) }
-    requires few { (clients ≤ 16) × (dispatchers ≤ 5) }
-    ensures { IfOk result (λ server. server ≡ table) }
+// The last token, which leaves.
+fn last_token<W: EndsCopies + Drop>(tokens: &mut Vec<Token<W>>) -> Token<W>
+    requires { 1 ≤ length tokens.old.items }
+    ensures { tokens.old.items ≡ tokens.new.items ++ result ∷ [] }
 {
-    Ok(Server {
-        table,
-        clients,
-        dispatchers,
-        bells: Bells::new(alloc, clients, dispatchers)?,
-        pace,
-        by_totals: AtomicU64::new(0),
-        alloc,
-        room: Mutex::new(ClosingRoom::new(alloc)?),
-    })
+    let Some(token) = tokens.pop() else {
+        unreachable!()
+    };
+    token
+}
+
+// Who reads the log gets the last token of a dispatcher, where there is to be a reader.
+fn reader_of<W: EndsCopies + Drop>(tokens: &mut Vec<Token<W>>, keeps: Keeps) -> Option<LogReader<W>>
+    requires { MayRead keeps tokens.old.items }
+    ensures parted { with_reader tokens.new.items result ≡ tokens.old.items }
+    ensures there { is_some result ≡ has_reader keeps }
+{
+    match keeps {
+        Keeps::All => None,
+        Keeps::Recent => None,
+        Keeps::Unread => {
+            let token = last_token(tokens);
+            Some(ssb_clients::LogReader::new(token))
+        }
+    }
+}
+
+// A table that was just made, and readers of its columns.
+#[derive(Drop)]
+struct MadeTable<W: EndsCopies + Drop> {
+    opened: OpenedTable<W>,
+    readers: Vec<TwinReader<StandingColumns>>,
 }
 
 // The clients and dispatchers of these tokens of a table that was just made, with the server over it.
 fn seat_all<W: EndsCopies + Drop>(
     alloc: Global,
-    opened: history::OpenedTable<twin_cell::TwinWriter<StandingColumns, W>>,
-    readers: Vec<TwinReader<StandingColumns>>,
+    made: MadeTable<W>,
+    reader: Option<LogReader<W>>,
     counts: (u32, u32),
-    pace: Pace,
+    keeps: Keeps,
 ) -> Result<Opened<W>, AllocError>
-    requires counts { (counts.0 ≡ opened.shared.clients) × (counts.1 ≡ opened.shared.dispatchers) }
-    requires few { (counts.0 ≤ 16) × (counts.1 ≤ 5) }
-    requires clients { opened.clients.items ≡ new_clients opened.shared }
-    requires dispatchers { All (IsNewDispatcher opened.shared.base) opened.dispatchers.items }
-    requires readers { All (IsNewReader opened.shared.base) readers.items }
-    requires each { length readers.items ≡ length opened.dispatchers.items }
-    ensures server { IfOk result (λ made. made.server ≡ opened.shared) }
-    ensures clients { IfOk result (λ made. made.clients.items ≡ new_clients made.server) }
-    ensures dispatchers { IfOk result (λ made. made.dispatchers.items ≡ opened.dispatchers.items) }
+    requires counts { (counts.0 ≡ made.opened.shared.clients) × (counts.1 ≡ made.opened.shared.dispatchers) }
+    requires few { (counts.0 ≤ most_clients) × (counts.1 ≤ most_at_table) }
+    requires clients { made.opened.clients.items ≡ new_clients made.opened.shared }
+    requires dispatchers { All (IsNewDispatcher made.opened.shared.base) made.opened.dispatchers.items }
+    requires readers { All (IsNewReader made.opened.shared.base) made.readers.items }
+    requires each { length made.readers.items ≡ length made.opened.dispatchers.items }
+    ensures server { IfOk result (λ seated. seated.server ≡ made.opened.shared) }
+    ensures clients { IfOk result (λ seated. seated.clients.items ≡ new_clients seated.server) }
+    ensures dispatchers { IfOk result (λ seated. seated.dispatchers.items ≡ made.opened.dispatchers.items) }
+    ensures reader { IfOk result (λ seated. seated.reader ≡ reader) }
 {
+    let MadeTable { opened, readers } = made;
     let history::OpenedTable {
         shared,
         clients,
@@ -130,17 +129,11 @@ fn seat_all<W: EndsCopies + Drop>(
     let clients = clients_of(alloc, clients)?;
     let dispatchers = dispatchers_of(alloc, dispatchers, readers)?;
     Ok(Opened {
-        server: server_over(alloc, shared, counts.0, counts.1, pace)?,
+        server: ssb_clients::Server::new(alloc, shared, counts.0, counts.1, keeps)?,
         clients,
         dispatchers,
+        reader,
     })
-}
-
-// A table that was just made, and readers of its columns.
-#[derive(Drop)]
-struct MadeTable<W: EndsCopies + Drop> {
-    opened: history::OpenedTable<twin_cell::TwinWriter<StandingColumns, W>>,
-    readers: Vec<TwinReader<StandingColumns>>,
 }
 
 // The table over a base, with so many tokens of dispatchers, and a reader of the columns for each that is to answer.
@@ -151,9 +144,9 @@ fn table_over<W: Threads + Sync + Wait + Drop>(
     counts: (u32, u32),
     answering: u32,
 ) -> Result<MadeTable<W>, TwinError>
-    requires clients { (1 ≤ counts.0) × (counts.0 ≤ 16) }
-    requires tokens { (1 ≤ counts.1) × (counts.1 ≤ 5) }
-    requires answering { (1 ≤ answering) × (answering ≤ 4) }
+    requires clients { (1 ≤ counts.0) × (counts.0 ≤ most_clients) }
+    requires tokens { (1 ≤ counts.1) × (counts.1 ≤ most_at_table) }
+    requires answering { IsDispatcherCount answering }
     ensures base { IfOk result (λ made. made.opened.shared.base ≡ loaded) }
     ensures counts { IfOk result (λ made. (made.opened.shared.clients ≡ counts.0)
         × (made.opened.shared.dispatchers ≡ counts.1)) }
@@ -164,9 +157,21 @@ fn table_over<W: Threads + Sync + Wait + Drop>(
 {
     let Loaded { rows, columns } = loaded;
     let (writer, readers) = twin(alloc, rt, columns, answering as usize)?;
-    match SharedTable::new(alloc, rows, writer, counts.0, counts.1) {
+    match history::SharedTable::new(alloc, rows, writer, counts.0, counts.1) {
         Ok(opened) => Ok(MadeTable { opened, readers }),
         Err(_) => Err(TwinError::OutOfMemory),
+    }
+}
+
+// How many dispatchers the table has.
+fn count_at_table(keeps: Keeps, dispatchers: u32) -> u32
+    requires { dispatchers ≤ most_dispatchers }
+    ensures { result ≡ at_table keeps dispatchers }
+{
+    match keeps {
+        Keeps::All => dispatchers,
+        Keeps::Recent => dispatchers,
+        Keeps::Unread => dispatchers + 1,
     }
 }
 
@@ -181,63 +186,27 @@ fn build<W: Threads + Sync + Wait + Drop>(
 ) -> Result<Opened<W>, TwinError>
     requires counts { AreCounts clients dispatchers }
     ensures base { IfOk result (λ made. made.server.base ≡ loaded) }
-    ensures counts { IfOk result (λ made. (made.server.clients ≡ clients) × (made.server.dispatchers ≡ dispatchers)) }
+    ensures counts { IfOk result (λ made. (made.server.clients ≡ clients)
+        × (made.server.dispatchers ≡ at_table keeps dispatchers)) }
     ensures clients { IfOk result (λ made. made.clients.items ≡ new_clients made.server) }
-    ensures dispatchers { IfOk result (λ made. made.dispatchers.items ≡ new_dispatchers made.server) }
+    ensures dispatchers { IfOk result (λ made. with_reader made.dispatchers.items made.reader
+        ≡ new_dispatchers made.server) }
+    ensures reader { IfOk result (λ made. is_some made.reader ≡ has_reader keeps) }
 {
-    let counts = (clients, dispatchers);
-    let made = table_over(alloc, rt, loaded, counts, dispatchers)?;
-    let pace = Pace::new(Lag::new(keeps == Keeps::Recent), Unneeded::by_nobody(keeps));
-    match seat_all(alloc, made.opened, made.readers, counts, pace) {
+    let counts = (clients, count_at_table(keeps, dispatchers));
+    let mut made = table_over(alloc, rt, loaded, counts, dispatchers)?;
+    let reader = reader_of(&mut made.opened.dispatchers, keeps);
+    match seat_all(alloc, made, reader, counts, keeps) {
         Ok(seated) => Ok(seated),
         Err(_) => Err(TwinError::OutOfMemory),
     }
-}
-
-// The same with who reads the log, who gets the last token of a dispatcher.
-fn build_with_reader<W: Threads + Sync + Wait + Drop>(
-    alloc: Global,
-    rt: W,
-    loaded: Loaded,
-    clients: u32,
-    dispatchers: u32,
-) -> Result<OpenedWithReader<W>, TwinError>
-    requires counts { AreCounts clients dispatchers }
-    ensures base { IfOk result (λ made. made.server.base ≡ loaded) }
-    ensures counts { IfOk result (λ made. (made.server.clients ≡ clients)
-        × (made.server.dispatchers ≡ dispatchers + 1)) }
-    ensures clients { IfOk result (λ made. made.clients.items ≡ new_clients made.server) }
-    ensures dispatchers { IfOk result (λ made. made.dispatchers.items ++ made.reader ∷ []
-        ≡ new_dispatchers made.server) }
-{
-    let counts = (clients, dispatchers + 1);
-    let mut made = table_over(alloc, rt, loaded, counts, dispatchers)?;
-    let Some(token) = made.opened.dispatchers.pop() else {
-        unreachable!()
-    };
-    let reader = LogReader::new(token);
-    let pace = Pace::new(Lag::new(true), Unneeded::by_reader());
-    let Ok(seated) = seat_all(alloc, made.opened, made.readers, counts, pace) else {
-        return Err(TwinError::OutOfMemory);
-    };
-    let Opened {
-        server,
-        clients,
-        dispatchers,
-    } = seated;
-    Ok(OpenedWithReader {
-        server,
-        clients,
-        reader,
-        dispatchers,
-    })
 }
 
 // Which count is out of its range, if one is.
 fn count_fault(clients: u32, dispatchers: u32) -> Option<OpenFault>
     ensures { MatchOption result (AreCounts clients dispatchers) (IsOpenFault clients dispatchers) }
 {
-    if clients == 0 || clients as usize > MOST_CLIENTS {
+    if clients == 0 || clients > MOST_CLIENTS {
         return Some(OpenFault::ClientCount);
     }
     if dispatchers == 0 || dispatchers > MOST_DISPATCHERS {
@@ -256,9 +225,9 @@ fn fault_of(error: TwinError) -> OpenFault
     }
 }
 
-/// Opens a server over a loaded base, for 1 to 16 clients and 1 to 4 dispatchers. `rt` is the handle by which the writer
-/// of the columns waits, and `keeps` says which part of the log stays in memory. The client count is looked at first,
-/// then the dispatcher count.
+/// Opens a server over a loaded base, for 1 to 16 clients and 1 to 4 dispatchers. `rt` is the handle by which the
+/// writer of the columns waits, and `keeps` says which part of the log stays in memory, and with that whether somebody
+/// reads the log. The client count is looked at first, then the dispatcher count.
 ///
 /// It is not proved to return, since it makes the two copies of the columns (`twin`), whose writer publishes once, and
 /// may wait for readers then. Here nobody reads yet.
@@ -272,42 +241,18 @@ pub fn open<W: Threads + Sync + Wait + Drop>(
 ) -> Result<Opened<W>, OpenFault>
     ensures range { OnOk result (AreCounts clients dispatchers) }
     ensures base { IfOk result (λ made. made.server.base ≡ loaded) }
-    ensures counts { IfOk result (λ made. (made.server.clients ≡ clients) × (made.server.dispatchers ≡ dispatchers)) }
+    ensures counts { IfOk result (λ made. (made.server.clients ≡ clients)
+        × (made.server.dispatchers ≡ at_table keeps dispatchers)) }
     ensures clients { IfOk result (λ made. made.clients.items ≡ new_clients made.server) }
-    ensures dispatchers { IfOk result (λ made. made.dispatchers.items ≡ new_dispatchers made.server) }
+    ensures dispatchers { IfOk result (λ made. with_reader made.dispatchers.items made.reader
+        ≡ new_dispatchers made.server) }
+    ensures reader { IfOk result (λ made. is_some made.reader ≡ has_reader keeps) }
     ensures fault { IfErr result (IsOpenFault clients dispatchers) }
 {
     if let Some(fault) = count_fault(clients, dispatchers) {
         return Err(fault);
     }
     match build(alloc, rt, loaded, clients, dispatchers, keeps) {
-        Ok(opened) => Ok(opened),
-        Err(error) => Err(fault_of(error)),
-    }
-}
-
-/// Opens a server as `open` does, with who reads its log: at the table that is one dispatcher more, the last one. Of
-/// the log stays in memory what it has yet to read.
-pub fn open_with_reader<W: Threads + Sync + Wait + Drop>(
-    alloc: Global,
-    rt: W,
-    loaded: Loaded,
-    clients: u32,
-    dispatchers: u32,
-) -> Result<OpenedWithReader<W>, OpenFault>
-    ensures range { OnOk result (AreCounts clients dispatchers) }
-    ensures base { IfOk result (λ made. made.server.base ≡ loaded) }
-    ensures counts { IfOk result (λ made. (made.server.clients ≡ clients)
-        × (made.server.dispatchers ≡ dispatchers + 1)) }
-    ensures clients { IfOk result (λ made. made.clients.items ≡ new_clients made.server) }
-    ensures dispatchers { IfOk result (λ made. made.dispatchers.items ++ made.reader ∷ []
-        ≡ new_dispatchers made.server) }
-    ensures fault { IfErr result (IsOpenFault clients dispatchers) }
-{
-    if let Some(fault) = count_fault(clients, dispatchers) {
-        return Err(fault);
-    }
-    match build_with_reader(alloc, rt, loaded, clients, dispatchers) {
         Ok(opened) => Ok(opened),
         Err(error) => Err(fault_of(error)),
     }

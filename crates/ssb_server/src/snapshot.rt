@@ -1,54 +1,22 @@
 //! From the grabbed requests to the entered copy: the latest commits are fetched, published and told.
-ghost use Rattle.std.specs.Prelude.{◌≡◌, ◌≤◌, true, false, [], ◌∷◌, ◌++◌, length, drop, Some, IfOk, MatchResult};
-ghost use Rattle.row_store.specs.History.{IsPrefix, lines_after};
-ghost use Rattle.row_store.specs.State.{StandsFor};
+ghost use Rattle.std.specs.Prelude.{◌≡◌, ◌≤◌, false, [], ◌∷◌, ◌++◌, length, MatchResult};
+ghost use Rattle.row_store.specs.History.{lines_after};
 ghost use Rattle.history.specs.Tokens.{IsSound};
-ghost use Rattle.ssb_server.specs.Turns.{IsDispatcher, HoldsNothing, HasFetched, Knows, StandsAt, Fetches, HasBeside};
-ghost use Rattle.ssb_server.specs.Turns.{HasTaken, Appends, Follows, Misses};
+ghost use Rattle.ssb_clients.specs.Fetching.{IsDispatcher, Fetches};
+ghost use Rattle.ssb_server.specs.Turns.{HoldsNothing, HasFetched, Knows, StandsAt, HasTaken, Appends, Follows, Misses};
 
-use crate::bells::Bells;
-use crate::copying::copy_and_put;
-use crate::pace::Pace;
-use crate::server::{SharedTable, Token};
+use crate::{Server, Token};
 use row_store::{Commit, Follower, Replica};
 use ssb_answers::Unserved;
 use standing_columns::StandingColumns;
-use std::alloc::{AllocError, Global};
+use std::alloc::AllocError;
 use std::sync::Wait;
 use twin_cell::{EndsCopies, Guard, TwinReader, TwinWriter};
 
 /// Why no copy was entered, with the reader.
 pub(crate) type Missed = (TwinReader<StandingColumns>, Unserved);
 
-/// Takes the rows, copies the commits that the writer lacks, lets the rows forget those before them that nobody else
-/// lacks, and gives the rows back as they were. Clients let it go first, and keep near to these commits from then on.
-pub(crate) fn fetch<W: EndsCopies + Drop, R: Wait>(
-    rt: &R,
-    alloc: Global,
-    table: &SharedTable<W>,
-    pace: &Pace,
-    bells: &Bells,
-    token: &mut Token<W>,
-    taken: u64,
-) -> Result<Vec<Commit>, AllocError>
-    requires dispatcher { IsDispatcher table.now token.old }
-    requires free { token.old.has_rows ≡ false }
-    requires taken { HasBeside token.old taken }
-    ensures fetched { Fetches token.old token.new }
-    ensures commits { IfOk result (λ commits. commits.items ≡ drop taken token.new.seen) }
-    ensures sound { IsSound token.new }
-    ensures few { length (lines_after token.new.table.base token.new.seen) ≤ token.new.table.base.limits.lines }
-{
-    pace.hold();
-    let rows = table.take_rows(rt, token);
-    pace.begin(rows.len() as u64);
-    rows.soundness();
-    let commits = copy_and_put(alloc, table, token, rows, taken, pace.unneeded.count());
-    bells.ring_clients();
-    commits
-}
-
-// The commits are pending from now on; where memory is wanting, the first of them are.
+// The commits are pending from now on; where memory runs out, the first of them are.
 fn append_all<W: EndsCopies + Drop>(
     writer: &mut TwinWriter<StandingColumns, W>,
     commits: Vec<Commit>,
@@ -146,10 +114,7 @@ fn catch_up<W: Wait + Drop, R: Wait>(
 // Fetches the commits that the writer lacks, and enters the copy that holds all of them.
 fn bring_up<W: Wait + Drop, R: Wait>(
     rt: &R,
-    alloc: Global,
-    table: &SharedTable<W>,
-    pace: &Pace,
-    bells: &Bells,
+    server: &Server<W>,
     token: &mut Token<W>,
     writer: TwinWriter<StandingColumns, W>,
     reader: TwinReader<StandingColumns>,
@@ -157,7 +122,7 @@ fn bring_up<W: Wait + Drop, R: Wait>(
     TwinWriter<StandingColumns, W>,
     Result<Guard<StandingColumns>, Missed>,
 )
-    requires dispatcher { IsDispatcher table.now token.old }
+    requires dispatcher { IsDispatcher server.now token.old }
     requires free { token.old.has_rows ≡ false }
     requires writer { HasTaken token.old writer }
     requires reader { Knows token.old.table.base token.old.seen reader }
@@ -169,7 +134,7 @@ fn bring_up<W: Wait + Drop, R: Wait>(
         (Misses token.new.table.base token.new.seen) }
 {
     let taken = writer.taken();
-    match fetch(rt, alloc, table, pace, bells, token, taken) {
+    match server.fetch(rt, token, taken) {
         Ok(commits) => catch_up(rt, writer, commits, reader),
         Err(_) => (writer, Err((reader, Unserved::OutOfMemory))),
     }
@@ -178,14 +143,11 @@ fn bring_up<W: Wait + Drop, R: Wait>(
 /// Fetches, publishes and enters. Both parts are home afterwards.
 pub(crate) fn snapshot<W: Wait + Drop, R: Wait>(
     rt: &R,
-    alloc: Global,
-    table: &SharedTable<W>,
-    pace: &Pace,
-    bells: &Bells,
+    server: &Server<W>,
     token: &mut Token<W>,
     reader: TwinReader<StandingColumns>,
 ) -> Result<Guard<StandingColumns>, Missed>
-    requires dispatcher { IsDispatcher table.now token.old }
+    requires dispatcher { IsDispatcher server.now token.old }
     requires free { HoldsNothing token.old }
     requires reader { Knows token.old.table.base token.old.seen reader }
     ensures fetched { HasFetched token.old token.new }
@@ -194,8 +156,9 @@ pub(crate) fn snapshot<W: Wait + Drop, R: Wait>(
     ensures entered { MatchResult result (StandsAt token.new.table.base token.new.seen)
         (Misses token.new.table.base token.new.seen) }
 {
+    let table = server.table();
     let writer = table.take_writer(rt, token);
-    let (writer, entered) = bring_up(rt, alloc, table, pace, bells, token, writer, reader);
+    let (writer, entered) = bring_up(rt, server, token, writer, reader);
     table.put_writer(token, writer);
     entered
 }

@@ -1,84 +1,16 @@
-//! The tokens that a server is opened with, and that it is closed with.
-ghost use Rattle.std.specs.Prelude.{◌≡◌, ◌+◌, ◌≤◌, [], ◌∷◌, ◌++◌, ◌↔◌, ◌==◌, IsTrue, All, IfOk, IfSome, count_by};
-ghost use Rattle.std.specs.Prelude.{length, vec_len, vec_capacity};
+//! The tokens of dispatchers and of who reads the log, with which a server is closed.
+ghost use Rattle.std.specs.Prelude.{◌≡◌, ◌+◌, ◌≤◌, [], ◌∷◌, ◌++◌, ◌↔◌, ◌==◌, IsTrue, All, count_by, length};
+ghost use Rattle.std.specs.Prelude.{vec_len, vec_capacity};
 ghost use Rattle.history.specs.Tokens.{TokenRecord};
-ghost use Rattle.ssb_server.specs.Tickets.{IsNewClient, IsResting, IsLeft, with_reader};
 ghost use Rattle.history.specs.Members.{number_of};
 ghost use Rattle.history.specs.Closing.{AreNumbered};
+ghost use Rattle.ssb_clients.specs.Counts.{most_clients, most_at_table};
+ghost use Rattle.ssb_clients.specs.Tickets.{IsResting, IsLeft, with_reader};
 
-use crate::client::{Client, new_client};
 use crate::dispatcher::Dispatcher;
-use crate::log_reader::LogReader;
-use crate::server::Token;
-use std::alloc::{AllocError, Global};
+use crate::{Client, ClosingRoom, LogReader, Token};
+use ssb_clients::tickets::{gather_clients, gather_reader};
 use twin_cell::EndsCopies;
-
-/// A client of each token.
-pub(crate) fn clients_of<W: EndsCopies + Drop>(
-    alloc: Global,
-    tokens: Vec<Token<W>>,
-) -> Result<Vec<Client<W>>, AllocError>
-    requires { All IsNewClient tokens.items }
-    ensures { IfOk result (λ clients. clients.items ≡ tokens.items) }
-{
-    let mut clients = Vec::new(alloc);
-    for token in tokens {
-        let client = new_client(token);
-        clients.push(client)?;
-    }
-    Ok(clients)
-}
-
-// How many of the clients have the number.
-fn clients_with<W: EndsCopies + Drop>(clients: &[Client<W>], number: u32) -> usize
-    ensures { result ≡ count_by (λ (t : TokenRecord). number_of t.who == number) clients.now }
-{
-    let mut count = 0;
-    for client in clients {
-        if client.number() == number {
-            count += 1;
-        }
-    }
-    count
-}
-
-// Whether just one client has the number.
-fn has_once<W: EndsCopies + Drop>(clients: &[Client<W>], number: u32) -> bool
-    ensures { IsTrue result ↔ (count_by (λ (t : TokenRecord). number_of t.who == number) clients.now ≡ 1) }
-{
-    clients_with(clients, number) == 1
-}
-
-/// Whether these are so many clients, with each number once.
-pub(crate) fn are_clients_numbered<W: EndsCopies + Drop>(clients: &[Client<W>], count: u32) -> bool
-    ensures { IsTrue result ↔ AreNumbered count clients.now }
-{
-    if clients.len() != count as usize {
-        return false;
-    }
-    for before in 0..count {
-        if !has_once(clients, before + 1) {
-            return false;
-        }
-    }
-    true
-}
-
-/// The tokens of the clients, in room that is there.
-pub(crate) fn gather_clients<W: EndsCopies + Drop>(
-    tokens: &mut Vec<Token<W>>,
-    clients: Vec<Client<W>>,
-)
-    requires { vec_len tokens.old + vec_len clients ≤ vec_capacity tokens.old }
-    ensures items { tokens.new.items ≡ tokens.old.items ++ clients.items }
-    ensures len { vec_len tokens.new ≡ vec_len tokens.old + vec_len clients }
-    ensures capacity { vec_capacity tokens.new ≡ vec_capacity tokens.old }
-    ensures rest { All IsResting clients.items }
-{
-    for client in clients {
-        tokens.push_reserved(client.into_token());
-    }
-}
 
 // How many of the dispatchers have the number.
 fn dispatchers_with<W: EndsCopies + Drop>(dispatchers: &[Dispatcher<W>], number: u32) -> usize
@@ -93,32 +25,20 @@ fn dispatchers_with<W: EndsCopies + Drop>(dispatchers: &[Dispatcher<W>], number:
     count
 }
 
-// Whether just one dispatcher has the number.
-fn has_dispatcher_once<W: EndsCopies + Drop>(dispatchers: &[Dispatcher<W>], number: u32) -> bool
-    ensures { IsTrue result ↔ (count_by (λ (t : TokenRecord). number_of t.who == number) dispatchers.now ≡ 1) }
-{
-    dispatchers_with(dispatchers, number) == 1
-}
-
-/// Whether these are so many dispatchers, with each number once.
-pub(crate) fn are_dispatchers_numbered<W: EndsCopies + Drop>(
+// How many they are, with who reads the log.
+fn count_of<W: EndsCopies + Drop>(
     dispatchers: &[Dispatcher<W>],
-    count: u32,
-) -> bool
-    ensures { IsTrue result ↔ AreNumbered count dispatchers.now }
+    reader: &Option<LogReader<W>>,
+) -> usize
+    ensures { result ≡ length (with_reader dispatchers.now reader.now) }
 {
-    if dispatchers.len() != count as usize {
-        return false;
+    match reader {
+        Some(_) => dispatchers.len() + 1,
+        None => dispatchers.len(),
     }
-    for before in 0..count {
-        if !has_dispatcher_once(dispatchers, before + 1) {
-            return false;
-        }
-    }
-    true
 }
 
-// Whether just one of the dispatchers and the reader of the log has the number.
+// Whether just one of the dispatchers and of this reader of the log has the number.
 fn has_one_once<W: EndsCopies + Drop>(
     dispatchers: &[Dispatcher<W>],
     reader: &LogReader<W>,
@@ -135,19 +55,34 @@ fn has_one_once<W: EndsCopies + Drop>(
     }
 }
 
-/// Whether the dispatchers and the reader of the log are so many, with each number once.
-pub(crate) fn are_all_numbered<W: EndsCopies + Drop>(
+// Whether just one of the dispatchers and of who reads the log has the number.
+fn has_once<W: EndsCopies + Drop>(
     dispatchers: &[Dispatcher<W>],
-    reader: &LogReader<W>,
+    reader: &Option<LogReader<W>>,
+    number: u32,
+) -> bool
+    ensures { IsTrue result ↔ (count_by (λ (t : TokenRecord). number_of t.who == number)
+        (with_reader dispatchers.now reader.now) ≡ 1) }
+{
+    match reader {
+        Some(reader) => has_one_once(dispatchers, reader, number),
+        None => dispatchers_with(dispatchers, number) == 1,
+    }
+}
+
+/// Whether the dispatchers, and who reads the log, are so many, with each number once.
+pub(crate) fn are_numbered<W: EndsCopies + Drop>(
+    dispatchers: &[Dispatcher<W>],
+    reader: &Option<LogReader<W>>,
     count: u32,
 ) -> bool
-    ensures { IsTrue result ↔ AreNumbered count (dispatchers.now ++ reader.now ∷ []) }
+    ensures { IsTrue result ↔ AreNumbered count (with_reader dispatchers.now reader.now) }
 {
-    if dispatchers.len() + 1 != count as usize {
+    if count_of(dispatchers, reader) != count as usize {
         return false;
     }
     for before in 0..count {
-        if !has_one_once(dispatchers, reader, before + 1) {
+        if !has_once(dispatchers, reader, before + 1) {
             return false;
         }
     }
@@ -170,16 +105,26 @@ pub(crate) fn gather_dispatchers<W: EndsCopies + Drop>(
     }
 }
 
-/// The token of who reads the log, if there is one, in room that is there.
-pub(crate) fn gather_reader<W: EndsCopies + Drop>(
-    tokens: &mut Vec<Token<W>>,
+/// The tokens of all clients, and of all dispatchers and who reads the log, in the room for them.
+pub(crate) fn gather_all<W: EndsCopies + Drop>(
+    room: ClosingRoom<W>,
+    clients: Vec<Client<W>>,
+    dispatchers: Vec<Dispatcher<W>>,
     reader: Option<LogReader<W>>,
-)
-    requires { length (with_reader tokens.old.items reader) ≤ vec_capacity tokens.old }
-    ensures items { tokens.new.items ≡ with_reader tokens.old.items reader }
-    ensures left { IfSome reader IsLeft }
+) -> (Vec<Token<W>>, Vec<Token<W>>)
+    requires clients { length clients.items ≤ most_clients }
+    requires dispatchers { length (with_reader dispatchers.items reader) ≤ most_at_table }
+    ensures clients { result.0.items ≡ clients.items }
+    ensures rest { All IsResting clients.items }
+    ensures dispatchers { result.1.items ≡ with_reader dispatchers.items reader }
+    ensures left { All IsLeft (with_reader dispatchers.items reader) }
 {
-    if let Some(reader) = reader {
-        tokens.push_reserved(reader.into_token());
-    }
+    let ssb_clients::ClosingRoom {
+        clients: mut client_tokens,
+        dispatchers: mut dispatcher_tokens,
+    } = room;
+    gather_clients(&mut client_tokens, clients);
+    gather_dispatchers(&mut dispatcher_tokens, dispatchers);
+    gather_reader(&mut dispatcher_tokens, reader);
+    (client_tokens, dispatcher_tokens)
 }

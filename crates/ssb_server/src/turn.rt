@@ -7,15 +7,16 @@ ghost use Rattle.shared_scan.specs.Answers.{AreSnapshot};
 ghost use Rattle.history.specs.Tokens.{IsSound};
 ghost use Rattle.twin_cell.specs.Twin.{Reading};
 ghost use Rattle.ssb_server.specs.Hand.{Keeps, no_hand};
-ghost use Rattle.ssb_server.specs.Turns.{answers_after, IsDispatcher, HoldsNothing, Knows, HasFetched};
+ghost use Rattle.ssb_clients.specs.Fetching.{IsDispatcher};
+ghost use Rattle.ssb_server.specs.Turns.{answers_after, HoldsNothing, Knows, HasFetched};
 ghost use Rattle.ssb_server.specs.Ends.{Finishes, Ends, Turned, TellsFound};
 
-use crate::answers::{give_up_all, serve_all};
+use crate::answers::{give_rows, give_up_all};
 use crate::batch::Batch;
 use crate::grabbing::grab_all;
 use crate::passes::{RequestRows, answer_all, count_standing};
-use crate::server::{Server, Token};
 use crate::snapshot::snapshot;
+use crate::{Server, Token};
 use ssb_answers::Unserved;
 use ssb_questions::Question;
 use ssb_schema::Items;
@@ -72,7 +73,7 @@ fn finish<W: EndsCopies + Drop>(
 {
     match scanned {
         Ok(rows) => {
-            let count = serve_all(server, token, batch, at, rows);
+            let count = give_rows(server, token, batch, at, rows);
             Turn::Answered { at, count }
         }
         Err(_) => {
@@ -94,13 +95,13 @@ fn answer_batch<W: EndsCopies + Drop, R: Threads + Sync>(
     ensures { (history : List CommitRecord) → StandsFor (columns_state columns.now) history
         → IfOk result (λ rows. rows.items ≡ answers_after columns.now.base history requests.now) }
 {
-    let rows = answer_all(rt, server.alloc, columns, requests)?;
+    let rows = answer_all(rt, server.alloc(), columns, requests)?;
     server.count_by_totals(count_standing(columns, requests));
     Ok(rows)
 }
 
-// Serves the requests in hand.
-fn serve<W: Wait + Drop, R: Wait + Threads + Sync, G: ScanGate>(
+// Answers the requests in hand, or gives them up.
+fn answer_hand<W: Wait + Drop, R: Wait + Threads + Sync, G: ScanGate>(
     rt: &R,
     server: &Server<W>,
     gate: &G,
@@ -120,15 +121,7 @@ fn serve<W: Wait + Drop, R: Wait + Threads + Sync, G: ScanGate>(
     ensures empty { batch.new ≡ no_hand }
     ensures hand { Keeps no_hand token.new.grabbed }
 {
-    match snapshot(
-        rt,
-        server.alloc,
-        &server.table,
-        &server.pace,
-        &server.bells,
-        token,
-        reader,
-    ) {
+    match snapshot(rt, server, token, reader) {
         Ok(guard) => {
             let at = token.seen_len();
             gate.scanning(at);
@@ -145,7 +138,7 @@ fn serve<W: Wait + Drop, R: Wait + Threads + Sync, G: ScanGate>(
     }
 }
 
-/// A turn: what is asked is grabbed and served.
+/// A turn: what is asked is grabbed and answered.
 pub(crate) fn take_turn<W: Wait + Drop, R: Wait + Threads + Sync, G: ScanGate>(
     rt: &R,
     server: &Server<W>,
@@ -166,11 +159,11 @@ pub(crate) fn take_turn<W: Wait + Drop, R: Wait + Threads + Sync, G: ScanGate>(
     ensures sound { IsSound token.new }
     ensures empty { batch.new ≡ no_hand }
 {
-    grab_all(&server.table, server.clients, token, batch);
+    grab_all(server, token, batch);
     if batch.len() == 0 {
         return (reader, Turn::Idle);
     }
-    let served = serve(rt, server, gate, token, batch, reader);
-    server.pace.end(&server.bells);
-    served
+    let answered = answer_hand(rt, server, gate, token, batch, reader);
+    server.batch_has_ended();
+    answered
 }

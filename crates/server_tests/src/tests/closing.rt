@@ -1,10 +1,10 @@
 //! Servers that are closed, one that stays open, and what the log of a closed one still has.
 ghost use Rattle.std.specs.Prelude.{◌≡◌, All, IfOk};
-ghost use Rattle.ssb_server.specs.Tickets.{IsOf, IsQuiet};
+ghost use Rattle.ssb_clients.specs.Tickets.{IsOf, IsQuiet};
 
 use crate::tests::opening::{next_client, next_dispatcher, opened, opened_keeping};
 use crate::tests::trial::{follows, refreshes_quiet};
-use ssb_server::{Client, CloseError, Closed, Dispatcher, Keeps, Opened, Server};
+use ssb_server::{Client, Closed, Dispatcher, Keeps, Opened, Server};
 use std::alloc::{AllocError, Global};
 use std::sync::Wait;
 use std::test::Fail;
@@ -51,7 +51,13 @@ pub fn closes<W: Wait + Drop>(
     requires clients { All (IsQuiet server) clients.items }
     requires dispatchers { All (IsOf server) dispatchers.items }
 {
-    match server.close(clients, dispatchers) {
+    let closing = Opened {
+        server,
+        clients,
+        dispatchers,
+        reader: None,
+    };
+    match closing.close() {
         Ok(closed) => Ok(closed),
         Err(_) => Err("not closed")?,
     }
@@ -62,32 +68,36 @@ fn stays_open<W: Wait + Drop>(
     server: Server<W>,
     clients: Vec<Client<W>>,
     dispatchers: Vec<Dispatcher<W>>,
-) -> Result<CloseError<W>, Fail>
+) -> Result<Opened<W>, Fail>
     requires clients { All (IsQuiet server) clients.items }
     requires dispatchers { All (IsOf server) dispatchers.items }
     ensures server { IfOk result (λ back. back.server ≡ server) }
     ensures clients { IfOk result (λ back. All (IsQuiet back.server) back.clients.items) }
     ensures dispatchers { IfOk result (λ back. All (IsOf back.server) back.dispatchers.items) }
 {
-    match server.close(clients, dispatchers) {
+    let closing = Opened {
+        server,
+        clients,
+        dispatchers,
+        reader: None,
+    };
+    match closing.close() {
         Ok(_) => Err("closed with one missing")?,
-        Err(back) => Ok(back),
+        Err(error) => Ok(error.opened),
     }
 }
 
 // Closes a server that gave all back, with this client too.
-fn closes_with_client<W: Wait + Drop>(
-    back: CloseError<W>,
-    client: Client<W>,
-) -> Result<Closed, Fail>
+fn closes_with_client<W: Wait + Drop>(back: Opened<W>, client: Client<W>) -> Result<Closed, Fail>
     requires clients { All (IsQuiet back.server) back.clients.items }
     requires client { IsQuiet back.server client }
     requires dispatchers { All (IsOf back.server) back.dispatchers.items }
 {
-    let CloseError {
+    let Opened {
         server,
         clients,
         dispatchers,
+        reader: _,
     } = back;
     let clients = with_client(&server, clients, client)?;
     closes(server, clients, dispatchers)
@@ -103,6 +113,7 @@ fn closed_at_last<W: Wait + Drop>(made: Opened<W>) -> Result<((usize, usize), (u
         server,
         mut clients,
         dispatchers,
+        reader: _,
     } = made;
     let missing = next_client(&server, &mut clients).ok_or("no client")?;
     let back = stays_open(server, clients, dispatchers)?;
@@ -154,6 +165,7 @@ fn closed_after_two<R: Wait, W: Wait + Drop>(
         server,
         mut clients,
         mut dispatchers,
+        reader: _,
     } = made;
     let mut client = next_client(&server, &mut clients).ok_or("no client")?;
     let mut dispatcher = next_dispatcher(&server, &mut dispatchers).ok_or("no dispatcher")?;

@@ -1,7 +1,7 @@
 //! A scan that is held while others go on.
 ghost use Rattle.std.specs.Prelude.{All};
 ghost use Rattle.std.specs.Thread.{IsSync};
-ghost use Rattle.ssb_server.specs.Tickets.{IsOf, IsQuiet};
+ghost use Rattle.ssb_clients.specs.Tickets.{IsOf, IsQuiet};
 
 use crate::tests::LOADED;
 use crate::tests::opening::{next_dispatcher, opened};
@@ -167,6 +167,7 @@ fn held_over<W: Wait + Drop + Send, R: Wait + Threads + Sync>(
         server,
         mut clients,
         mut dispatchers,
+        reader: _,
     } = made;
     let mut trial = Trial::new(&server, &mut clients, &mut dispatchers)?;
     let dispatcher = next_dispatcher(&server, &mut dispatchers).ok_or("no other dispatcher")?;

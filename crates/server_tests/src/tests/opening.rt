@@ -1,6 +1,6 @@
 //! Servers that are opened, with their clients and dispatchers, and those that are not.
 ghost use Rattle.std.specs.Prelude.{All, IfOk, IfSome};
-ghost use Rattle.ssb_server.specs.Tickets.{IsOf, IsQuiet};
+ghost use Rattle.ssb_clients.specs.Tickets.{IsOf, IsQuiet};
 
 use ssb_server::{Client, Dispatcher, Keeps, Loaded, OpenFault, Opened, Server, open};
 use std::hash::RandomState;

@@ -2,7 +2,7 @@
 //! the prover compares all that a closure holds, part by part, and for these by name that is more than it can.
 ghost use Rattle.std.specs.Thread.{IsSync};
 ghost use Rattle.history.specs.Tokens.{TokenRecord};
-ghost use Rattle.ssb_server.specs.Tickets.{IsOf};
+ghost use Rattle.ssb_clients.specs.Tickets.{IsOf};
 
 use crate::tests::trial::{Trial, TrialStep, turns};
 use ssb_server::{Dispatcher, ScanGate, Server, Turn};

@@ -2,7 +2,7 @@
 ghost use Rattle.std.specs.Prelude.{◌≡◌, All, IfOk};
 ghost use Rattle.std.specs.Thread.{IsSync};
 ghost use Rattle.history.specs.Tokens.{TableRecord};
-ghost use Rattle.ssb_server.specs.Tickets.{IsOf, IsQuiet};
+ghost use Rattle.ssb_clients.specs.Tickets.{IsOf, IsQuiet};
 
 use crate::tests::closing::{closes, with_client};
 use crate::tests::opening::{next_client, opened_keeping};
@@ -197,6 +197,7 @@ fn thirty_are_made<W: Wait + Drop + Send, R: Wait + Threads + Sync>(
         server,
         clients,
         dispatchers,
+        reader: _,
     } = made;
     let (seen, clients) = make_and_meet(rt, alloc, &server, clients)?;
     let Closed { base: _, log } = closes(server, clients, dispatchers)?;

@@ -1,14 +1,15 @@
 //! Trials: what clients and a dispatcher of a server do, step by step, and what they are told.
 ghost use Rattle.std.specs.Prelude.{All};
-ghost use Rattle.ssb_server.specs.Tickets.{IsOf, IsQuiet};
+ghost use Rattle.ssb_clients.specs.Tickets.{IsOf, IsQuiet};
 
 use crate::tests::opening::{next_client, next_dispatcher, opened};
 use history_core::Response;
 use row_store::{Receipt, RefreshError};
 use ssb_answers::Answer;
-use ssb_report::{WriteFault, write_answers, write_reply};
+use ssb_report::{write_answers, write_reply};
 use ssb_schema::Refresh;
 use ssb_server::{Client, Dispatcher, OpenGate, Opened, ScanGate, Server, Turn};
+use ssb_text::WriteFault;
 use std::alloc::{AllocError, Global};
 use std::marker::Model;
 use std::random::RandomSource;
@@ -215,7 +216,7 @@ fn meets<W: Wait + Drop>(
 }
 
 /// A client meets another one, and both ask nothing: how many commits it then sees.
-#[tactic(auto, using(ssb_server::proofs::StayingLaws::looks_stays))]
+#[tactic(auto, using(ssb_clients::proofs::StayingLaws::looks_stays))]
 pub fn meets_quiet<W: Wait + Drop>(
     server: &Server<W>,
     client: &mut Client<W>,
@@ -366,6 +367,7 @@ fn played_over<W: Wait + Drop, R: Wait + Threads + Sync>(
         server,
         mut clients,
         mut dispatchers,
+        reader: _,
     } = made;
     let mut trial = Trial::new(&server, &mut clients, &mut dispatchers)?;
     trial.plays(rt, alloc, steps)
@@ -396,6 +398,7 @@ fn played_at_last_over<W: Wait + Drop, R: Wait + Threads + Sync + AllocGlobal>(
         server,
         mut clients,
         mut dispatchers,
+        reader: _,
     } = made;
     let mut trial = Trial::new(&server, &mut clients, &mut dispatchers)?;
     trial.plays(rt, rt.alloc(), before)?;

@@ -1,12 +1,7 @@
-use Rattle.std.proofs.Common.{◌++◌, sym, subst}
-use Rattle.history.specs.Tokens.{TableRecord}
-use Rattle.ssb_server.specs.Turns.{IsDispatcher, Follows}
+use Rattle.std.proofs.Common.{◌++◌, sym}
+use Rattle.ssb_server.specs.Turns.{Follows}
 use Rattle.ssb_server.proofs.SnapshotLaws.{fetched_all, taken_follows, same_base, along}
 use Rattle.ssb_server.proofs.following.carry_over.Goals as goal
-
-pub fetch-requires-clause-dispatcher : goal.fetch-requires-clause-dispatcher
-fetch-requires-clause-dispatcher g c = subst (λ (table : TableRecord). IsDispatcher table c.args.token.now)
-    (sym c.server.view_is) c.requires.dispatcher
 
 pub fetch-requires-clause-taken : goal.fetch-requires-clause-taken
 fetch-requires-clause-taken g c = record {

@@ -10,7 +10,7 @@ use Rattle.ssb_server.proofs.SnapshotLaws.{
 use Rattle.ssb_server.proofs.following.follow.Goals as goal
 
 pub take_writer-writer-requires-clause-table : goal.take_writer-writer-requires-clause-table
-take_writer-writer-requires-clause-table g c = c.requires.dispatcher.table_is ∙ sym c.server.view_is
+take_writer-writer-requires-clause-table g c = c.requires.dispatcher.table_is ∙ sym c.table-table.ensures
 
 pub take_writer-writer-requires-clause-dispatcher : goal.take_writer-writer-requires-clause-dispatcher
 take_writer-writer-requires-clause-dispatcher g c = (c.requires.dispatcher.number, c.requires.dispatcher.who_is)
@@ -38,7 +38,7 @@ put_writer-requires g c =
     let now = c.carry_over-writer.ensures.fetched.now in
     let taken = c.take_writer-writer.ensures.taken in
     record {
-      table = is.table_is ∙ sym c.server.view_is;
+      table = is.table_is ∙ sym c.table-table.ensures;
       dispatcher = (is.number, is.who_is);
       taken = (
         ap (λ (t : TokenRecord). t.has_writer) now ∙ ap (λ (t : TokenRecord). t.has_writer) taken,

@@ -1,10 +1,10 @@
-use Rattle.std.proofs.Common.{◌∙◌, ap}
+use Rattle.std.proofs.Common.{◌∙◌, ap, sym}
 use Rattle.history.specs.Tokens.{TokenRecord}
 use Rattle.ssb_server.proofs.grabbing.grab_all.Goals as goal
 
 pub grab-requires-clause-table : goal.grab-requires-clause-table
-grab-requires-clause-table g c =
-    ap (λ (t : TokenRecord). t.table) c.loop-before.invariant.grabbed.now ∙ c.requires.dispatcher.table_is
+grab-requires-clause-table g c = ap (λ (t : TokenRecord). t.table) c.loop-before.invariant.grabbed.now
+    ∙ (c.requires.dispatcher.table_is ∙ sym c.table-table.ensures)
 
 pub grab-requires-clause-dispatcher : goal.grab-requires-clause-dispatcher
 grab-requires-clause-dispatcher g c = (

@@ -13,7 +13,7 @@ use Rattle.ssb_server.proofs.SnapshotLaws.{
 use Rattle.ssb_server.proofs.snapshot.snapshot.Goals as goal
 
 pub take_writer-writer-requires-clause-table : goal.take_writer-writer-requires-clause-table
-take_writer-writer-requires-clause-table g c = c.requires.dispatcher.table_is
+take_writer-writer-requires-clause-table g c = c.requires.dispatcher.table_is ∙ sym c.table-table.ensures
 
 pub take_writer-writer-requires-clause-dispatcher : goal.take_writer-writer-requires-clause-dispatcher
 take_writer-writer-requires-clause-dispatcher g c = (c.requires.dispatcher.number, c.requires.dispatcher.who_is)
@@ -22,7 +22,7 @@ pub take_writer-writer-requires-clause-free : goal.take_writer-writer-requires-c
 take_writer-writer-requires-clause-free g c = (c.requires.free.rows, c.requires.free.writer)
 
 pub bring_up-writer-requires-clause-dispatcher : goal.bring_up-writer-requires-clause-dispatcher
-bring_up-writer-requires-clause-dispatcher g c = dispatcher_with c.args.table.now c.args.token.now _
+bring_up-writer-requires-clause-dispatcher g c = dispatcher_with c.args.server.now c.args.token.now _
     c.take_writer-writer.new.token c.take_writer-writer.ensures.taken c.requires.dispatcher
 
 pub bring_up-writer-requires-clause-free : goal.bring_up-writer-requires-clause-free
@@ -39,13 +39,13 @@ bring_up-writer-requires-clause-writer g c = taken_with c.args.token.now c.take_
 
 pub put_writer-requires : goal.put_writer-requires
 put_writer-requires g c =
-    let is = dispatcher_fetched c.args.table.now c.take_writer-writer.new.token c.bring_up-writer.new.token
-    c.bring_up-writer.ensures.fetched (dispatcher_with c.args.table.now c.args.token.now _
+    let is = dispatcher_fetched c.args.server.now c.take_writer-writer.new.token c.bring_up-writer.new.token
+    c.bring_up-writer.ensures.fetched (dispatcher_with c.args.server.now c.args.token.now _
     c.take_writer-writer.new.token c.take_writer-writer.ensures.taken c.requires.dispatcher) in
     let now = c.bring_up-writer.ensures.fetched.now in
     let taken = c.take_writer-writer.ensures.taken in
     record {
-      table = is.table_is;
+      table = is.table_is ∙ sym c.table-table.ensures;
       dispatcher = (is.number, is.who_is);
       taken = (
         ap (λ (t : TokenRecord). t.has_writer) now ∙ ap (λ (t : TokenRecord). t.has_writer) taken,

@@ -3,7 +3,7 @@ use Rattle.std.proofs.lemmas.Iterator.Adapters.{YieldsList-from_vec}
 use Rattle.std.proofs.lemmas.Iterator.Consumers.{YieldsList-end}
 use Rattle.std.proofs.lemmas.List.{length_push, map-id}
 use Rattle.std.proofs.lemmas.List.Elements.{All-push}
-use Rattle.ssb_server.specs.Tickets.{IsLeft}
+use Rattle.ssb_clients.specs.Tickets.{IsLeft}
 use Rattle.ssb_server.proofs.tickets.gather_dispatchers.Goals as goal
 
 pub loop-dispatcher-preserved : goal.loop-dispatcher-preserved

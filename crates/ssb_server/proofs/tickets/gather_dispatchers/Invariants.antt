@@ -1,6 +1,6 @@
 use Rattle.std.proofs.Common.{◌≡◌, ◌+◌, ◌++◌, length, vec_len, vec_capacity}
 use Rattle.std.specs.Prelude.{All}
-use Rattle.ssb_server.specs.Tickets.{IsLeft}
+use Rattle.ssb_clients.specs.Tickets.{IsLeft}
 use Rattle.ssb_server.proofs.tickets.gather_dispatchers.Given as goal
 
 abbrev pub invariant-loop-dispatcher : goal.invariant-loop-dispatcher

@@ -1,5 +1,5 @@
 use Rattle.std.proofs.lemmas.List.Elements.{All-pop}
-use Rattle.ssb_server.specs.Tickets.{IsQuiet}
+use Rattle.ssb_clients.specs.Tickets.{IsQuiet}
 use Rattle.server_tests.proofs.tests.opening.next_client.Goals as goal
 
 pub returns-clause-left : goal.returns-clause-left

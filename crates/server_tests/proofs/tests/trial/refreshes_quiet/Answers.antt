@@ -1,4 +1,4 @@
-use Rattle.ssb_server.proofs.StayingLaws.{refreshed_stays}
+use Rattle.ssb_clients.proofs.StayingLaws.{refreshed_stays}
 use Rattle.server_tests.proofs.tests.trial.refreshes_quiet.Goals as goal
 
 pub returns : goal.returns

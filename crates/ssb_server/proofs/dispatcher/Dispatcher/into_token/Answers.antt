@@ -1,5 +1,5 @@
 use Rattle.std.proofs.Common.{subst}
-use Rattle.ssb_server.specs.Tickets.{IsLeft}
+use Rattle.ssb_clients.specs.Tickets.{IsLeft}
 use Rattle.ssb_server.proofs.dispatcher.Dispatcher.into_token.Goals as goal
 
 pub returns-clause-left : goal.returns-clause-left

@@ -1,0 +1,4 @@
+pub mod RefreshingLaws
+pub mod PollingLaws
+pub mod FetchingLaws
+pub mod StayingLaws

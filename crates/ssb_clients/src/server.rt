@@ -1,0 +1,172 @@
+//! What clients and dispatchers share.
+ghost use Rattle.std.specs.Prelude.{◌≡◌, ◌≤◌, IfOk};
+ghost use Rattle.ssb_clients.specs.Counts.{most_clients, most_at_table};
+
+use crate::bells::Bells;
+use crate::pace::Pace;
+use crate::room::ClosingRoom;
+use crate::unneeded::Keeps;
+use history::SharedTable;
+use row_store::Follower;
+use std::alloc::{AllocError, Global};
+use std::marker::Model;
+use std::sync::atomic::{AtomicU64, Ordering};
+use std::sync::{Mutex, Wait};
+
+/// The greatest number of clients, each of which has at most one request, of any number of questions.
+pub const MOST_CLIENTS: u32 = 16;
+
+/// The greatest number of dispatchers.
+pub const MOST_DISPATCHERS: u32 = 4;
+
+/// The greatest number of dispatchers at a table, where who reads the log is one of them.
+pub const MOST_AT_TABLE: u32 = MOST_DISPATCHERS + 1;
+
+/// What clients and dispatchers share: the table, and the places where they sleep. Contracts see the table: its name,
+/// the base, and how many clients and dispatchers there are. `K` is the writer of the copies, which follows the
+/// commits.
+#[derive(Drop)]
+pub struct Server<K: Follower + Drop> {
+    pub(crate) table: SharedTable<K>,
+    clients: u32,
+    dispatchers: u32,
+    pub(crate) bells: Bells,
+    pub(crate) pace: Pace,
+    by_totals: AtomicU64,
+    pub(crate) alloc: Global,
+    // For the close. Tokens may not be shared between threads, and behind a lock they are not; nobody takes it.
+    room: Mutex<ClosingRoom<K>>,
+}
+
+impl<K: Follower + Drop> Model for Server<K> {
+    ghost use Rattle.history.specs.Tokens.{TableRecord};
+    ghost use Rattle.ssb_clients.specs.Served.{IsServed};
+
+    ghost Value = { TableRecord };
+
+    ghost view = { λ s. s.table };
+
+    ghost invariant = { λ s. IsServed s.table s.clients s.dispatchers };
+}
+
+impl<K: Follower + Drop> Server<K> {
+    /// The server over a table that was just made. `keeps` says which part of the log stays in memory.
+    pub fn new(
+        alloc: Global,
+        table: SharedTable<K>,
+        clients: u32,
+        dispatchers: u32,
+        keeps: Keeps,
+    ) -> Result<Server<K>, AllocError>
+        requires counts { (clients ≡ table.clients) × (dispatchers ≡ table.dispatchers) }
+        requires few { (clients ≤ most_clients) × (dispatchers ≤ most_at_table) }
+        ensures { IfOk result (λ server. server ≡ table) }
+    {
+        Ok(Server {
+            table,
+            clients,
+            dispatchers,
+            bells: Bells::new(alloc, clients, dispatchers)?,
+            pace: Pace::new(keeps),
+            by_totals: AtomicU64::new(0),
+            alloc,
+            room: Mutex::new(ClosingRoom::new(alloc)?),
+        })
+    }
+
+    /// The table, and room for its tokens.
+    pub fn into_parts(self) -> (SharedTable<K>, ClosingRoom<K>)
+        ensures table { result.0 ≡ self }
+        ensures few { (self.clients ≤ most_clients) × (self.dispatchers ≤ most_at_table) }
+    {
+        let Server {
+            table,
+            clients: _,
+            dispatchers: _,
+            bells: _,
+            pace: _,
+            by_totals: _,
+            alloc: _,
+            room,
+        } = self;
+        (table, room.into_inner())
+    }
+
+    /// The table, for whoever has a token of it.
+    pub fn table(&self) -> &SharedTable<K>
+        ensures { result.now ≡ self.now }
+    {
+        &self.table
+    }
+
+    /// How many clients there are.
+    pub fn clients(&self) -> u32
+        ensures count { result ≡ self.now.clients }
+        ensures few { result ≤ most_clients }
+    {
+        self.clients
+    }
+
+    /// How many dispatchers there are at the table.
+    pub fn dispatchers(&self) -> u32
+        ensures count { result ≡ self.now.dispatchers }
+        ensures few { result ≤ most_at_table }
+    {
+        self.dispatchers
+    }
+
+    /// The allocator that it was made with.
+    pub fn alloc(&self) -> Global {
+        self.alloc
+    }
+
+    /// Wakes every dispatcher that rests, and every client that waits for the row store: as when a client has spoken
+    /// its script, or when a run ends, and the flag that the dispatchers are to look at is set before.
+    pub fn ring(&self) {
+        self.bells.ring_dispatchers();
+        self.table.wake_waiting();
+    }
+
+    /// Wakes the client, whose answer is there.
+    pub fn ring_client(&self, number: u32) {
+        self.bells.ring_client(number);
+    }
+
+    /// A batch has been answered, or commits were carried over: clients that waited for that go on.
+    pub fn batch_has_ended(&self) {
+        self.pace.end(&self.bells);
+    }
+
+    /// A dispatcher is about to carry over all commits so far, though nothing is asked.
+    pub fn begins_to_follow(&self) {
+        self.pace.lag.begun();
+    }
+
+    /// Memory ran out for that. It is tried again after a rest.
+    pub fn failed_to_follow(&self) {
+        self.pace.lag.failed();
+    }
+
+    /// Sleeps until something was posted since the last turn of the dispatcher began, until `ring`, or until it is to
+    /// look whether the copies lag. It may return for no reason.
+    pub fn rest<R: Wait>(&self, rt: &R, dispatcher: u32) {
+        self.pace.rest(rt, &self.bells, dispatcher);
+    }
+
+    /// Whether the copies lack commits that it is for this dispatcher to carry over while nothing is asked: so many
+    /// that memory would fill up, or the last ones before a silence.
+    pub fn lags(&self, dispatcher: u32) -> bool {
+        self.pace.lags(dispatcher)
+    }
+
+    /// How many questions of the batches so far were answered from totals that follow the commits. A figure for a
+    /// reader, modulo 2^64: no contract tells it.
+    pub fn answered_by_totals(&self) -> u64 {
+        self.by_totals.load(Ordering::Relaxed)
+    }
+
+    /// So many questions more were answered from totals.
+    pub fn count_by_totals(&self, questions: u64) {
+        let _ = self.by_totals.fetch_add(questions, Ordering::Relaxed);
+    }
+}
