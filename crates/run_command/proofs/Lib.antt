@@ -1,2 +1,5 @@
+pub mod PrintingLaws
+pub mod TraceLaws
+pub mod AloneLaws
 pub mod RunLaws
 pub mod DemoLaws

@@ -7,10 +7,10 @@ use Rattle.ssb_base.specs.Base.{Tables}
 use Rattle.ssb_files.specs.Loaded.{AreRefused, IsLoaded}
 use Rattle.ssb_files.specs.Scripts.{IsRefusedScript}
 use Rattle.ssb_report.specs.Report.{Serves}
-use Rattle.ssb_report.specs.Written.{AppendsPart}
+use Rattle.ssb_text.specs.Written.{AppendsPart}
 use Rattle.ssb_script.specs.Requests.{RequestRecord}
 use Rattle.ssb_script.specs.Scripts.{AreAsked}
-use Rattle.ssb_sessions.specs.Alone.{may_be_told}
+use Rattle.run_command.specs.Alone.{may_be_told}
 
 -- a report of the requests, as the one-thread warehouse gives it to client 1 over a base, from no commit on
 pub record IsReport (base : Tables) (requests : List RequestRecord) (report : List ℕ) : Type 0 where

@@ -1,3 +1,7 @@
+pub mod Alone
+pub mod Sessions
+pub mod Traces
+pub mod Run
 pub mod Served
 pub mod Standing
 pub mod Status

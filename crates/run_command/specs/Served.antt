@@ -5,9 +5,9 @@ use Rattle.ssb_audit.specs.Legal.{IsLegalTrace}
 use Rattle.ssb_audit.specs.declared.trace.Trace.{Trace}
 use Rattle.ssb_files.specs.Scripts.{AreScripts}
 use Rattle.ssb_files.specs.Loaded.{IsLoaded}
-use Rattle.ssb_report.specs.Numbers.{line_feed}
-use Rattle.ssb_report.specs.Written.{AppendsPart}
-use Rattle.ssb_sessions.specs.Run.{IsRun}
+use Rattle.ssb_text.specs.Numbers.{line_feed}
+use Rattle.ssb_text.specs.Written.{AppendsPart}
+use Rattle.run_command.specs.Run.{IsRun}
 use Rattle.ssb_base.specs.Base.{Tables}
 use Rattle.ssb_schema.specs.declared.table.Table.{Table}
 use Rattle.ssb_script.specs.declared.request.Script.{Script}

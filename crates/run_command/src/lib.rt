@@ -6,6 +6,11 @@
 //! standard input ── one script over the small data set ── the same ─▶ its report
 //! ```
 //!
+//! A script is a speaker of its client, which leaves its report and what it was told. The contract of `serve_scripts`
+//! (`specs/Run.antt`): each script, in order, was served whole, as `stream_sessions` serves requests, by a client of its
+//! own from a new token on; every commit of the log is one that some client made, and the log is legal; so the trace is
+//! legal, and an audit finds nothing against it. That a thread gets on is claimed by no proof.
+//!
 //! The contract of [`run_scripts`] (`specs/Served.antt`): with status 0 it has printed the reports of one run of the
 //! live server over the base that the texts spell, script by script, and the number of commits, and kept that run's
 //! trace, which is legal; else nothing, or parts of these from their beginnings. Which questions stand changes nothing
@@ -15,15 +20,21 @@
 //!
 //! ```text
 //! let settings = RunSettings { hashing, dispatchers: 2, standing, times: false };
-//! let status = run_scripts(rt, settings, tables, scripts, &mut out, &mut Some(trace), &mut err);
+//! let input = RunInput { tables, sources };
+//! let status = run_scripts(rt, settings, input, &mut out, &mut Some(trace), &mut err);
 //! ```
 #![tactic(auto)]
 
 mod fault;
+mod histogram;
+mod latency;
+pub mod laws;
 mod printing;
+mod run;
 mod scripts;
 mod small_run;
+mod speaker;
 mod times;
 
-pub use scripts::{MOST_SCRIPTS, RunSettings, run_scripts};
+pub use scripts::{MOST_SCRIPTS, RunInput, RunSettings, run_scripts};
 pub use small_run::demo;

@@ -2,10 +2,10 @@
 
 ghost use Rattle.std.specs.Prelude.{◌≡◌, ◌+◌, ◌<◌, ◌^◌, length, map};
 ghost use Rattle.run_command.specs.Served.{client_text, clients_text, run_text};
-ghost use Rattle.ssb_report.specs.Written.{Writes};
+ghost use Rattle.ssb_text.specs.Written.{Writes};
 
-use ssb_report::{Piece, WriteFault, write_bytes, write_pieces};
-use ssb_sessions::Run;
+use crate::run::Run;
+use ssb_text::{Piece, WriteFault, write_bytes, write_pieces};
 use std::io::Write;
 
 // Writes a client's number and its report.

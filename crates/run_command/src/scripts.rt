@@ -11,20 +11,21 @@ ghost use Rattle.run_command.specs.Served.{AreTold, AreToldInPart, IsServed, Ser
 ghost use Rattle.run_command.specs.Standing.{HasTooManyGroups, MayNotStand};
 ghost use Rattle.run_command.specs.Status.{serving_status};
 ghost use Rattle.ssb_text.specs.Load.{AreTexts};
-ghost use Rattle.ssb_report.specs.Written.{AppendsPart};
-ghost use Rattle.ssb_sessions.specs.Run.{IsRun};
+ghost use Rattle.ssb_text.specs.Written.{AppendsPart};
+ghost use Rattle.run_command.specs.Run.{IsRun};
+ghost use Rattle.ssb_clients.specs.Counts.{most_clients};
 ghost use Rattle.ssb_schema.specs.declared.table.Table.{Table};
 ghost use Rattle.ssb_trace.specs.TraceText.{trace_text};
 
 use crate::fault::{NotRun, RunCommandFault};
 use crate::printing::write_run;
+use crate::run::{Run, serve_scripts};
 use crate::times::RunTimes;
 use ssb_base::Base;
 use ssb_files::{Fault, base_of, read_scripts};
 use ssb_questions::Question;
 use ssb_script::Script;
-use ssb_server::{Loaded, StandingError};
-use ssb_sessions::{Run, serve_scripts};
+use ssb_server::{Loaded, MOST_CLIENTS, StandingError};
 use ssb_text::Tables;
 use ssb_trace::write_trace;
 use std::hash::RandomState;
@@ -33,8 +34,8 @@ use std::sync::{Arc, Wait};
 use std::thread::Threads;
 use std::time::Clock;
 
-/// How many scripts a server takes, a client each.
-pub const MOST_SCRIPTS: usize = 16;
+/// How many scripts a server takes, a client each: as many as it has clients at most.
+pub const MOST_SCRIPTS: usize = MOST_CLIENTS as usize;
 
 /// How scripts are served, whichever they are.
 #[derive(Drop)]
@@ -47,6 +48,13 @@ pub struct RunSettings {
     pub standing: Vec<Question>,
     /// Whether the times are told on standard error.
     pub times: bool,
+}
+
+/// What is served: the base's tables, and the script of each client.
+#[derive(Drop)]
+pub struct RunInput<I: Read + Drop> {
+    pub tables: Tables<I>,
+    pub sources: Vec<I>,
 }
 
 // A base with these questions, which stand from then on. The first of them that has too many groups is refused.
@@ -72,7 +80,7 @@ fn load<R: Threads + Sync + AllocGlobal>(
 }
 
 // Serves scripts at once over a loaded base.
-fn serve<R: Threads + Sync + Wait + Clock + AllocGlobal>(
+fn run_over<R: Threads + Sync + Wait + Clock + AllocGlobal>(
     rt: &R,
     dispatchers: u32,
     timed: bool,
@@ -95,19 +103,19 @@ fn serve<R: Threads + Sync + Wait + Clock + AllocGlobal>(
 fn run_of<R: Threads + Sync + Wait + Clock + AllocGlobal, I: Read + Drop>(
     rt: &R,
     settings: RunSettings,
-    tables: Tables<I>,
-    sources: Vec<I>,
+    input: RunInput<I>,
     pace: &mut RunTimes,
 ) -> Result<Run, RunCommandFault>
-    ensures run { IfOk result (λ run. (texts : Table → List ℕ) → AreTexts I.remaining tables texts
-        → IsServed texts (map I.remaining sources.items) settings.dispatchers
+    ensures run { IfOk result (λ run. (texts : Table → List ℕ) → AreTexts I.remaining input.tables texts
+        → IsServed texts (map I.remaining input.sources.items) settings.dispatchers
         (map (λ report. report.items) run.reports.items) run.trace) }
     ensures refused { IfErr result (λ fault. serving_status fault ≡ 1 → (texts : Table → List ℕ)
-        → AreTexts I.remaining tables texts
-        → AreRefused texts ⊎ HasRefused (map I.remaining sources.items) ⊎ MayNotStand texts settings.standing.items) }
+        → AreTexts I.remaining input.tables texts
+        → AreRefused texts ⊎ HasRefused (map I.remaining input.sources.items) ⊎ MayNotStand texts settings.standing.items) }
     ensures words { IfErr result (λ fault. serving_status fault ≢ 2) }
     ensures trace { IfErr result (λ fault. serving_status fault ≢ 3) }
 {
+    let RunInput { tables, sources } = input;
     let base = base_of(rt, rt.alloc(), tables)?;
     let scripts = read_scripts(rt.alloc(), sources)?;
     pace.end_load(rt);
@@ -118,7 +126,7 @@ fn run_of<R: Threads + Sync + Wait + Clock + AllocGlobal, I: Read + Drop>(
         times,
     } = settings;
     let loaded = load(rt, hashing, base, &standing)?;
-    let run = serve(rt, dispatchers, times, loaded, scripts)?;
+    let run = run_over(rt, dispatchers, times, loaded, scripts)?;
     pace.end_serving(rt, &run, !standing.is_empty());
     Ok(run)
 }
@@ -194,26 +202,25 @@ fn tell_run<W: Write, T: Write>(
 fn report<R: Threads + Sync + Wait + Clock + AllocGlobal, I: Read + Drop, W: Write, T: Write>(
     rt: &R,
     settings: RunSettings,
-    tables: Tables<I>,
-    sources: Vec<I>,
+    input: RunInput<I>,
     out: &mut W,
     file: &mut Option<T>,
     pace: &mut RunTimes,
 ) -> Result<(), RunCommandFault>
-    ensures served { OnOk result ((texts : Table → List ℕ) → AreTexts I.remaining tables texts
-        → Serves texts (map I.remaining sources.items) settings.dispatchers (W.contents out.old)
+    ensures served { OnOk result ((texts : Table → List ℕ) → AreTexts I.remaining input.tables texts
+        → Serves texts (map I.remaining input.sources.items) settings.dispatchers (W.contents out.old)
         (W.contents out.new) (option_and_then T.contents file.old) (option_and_then T.contents file.new)) }
     ensures part { OnErr result (((W.contents out.new ≡ W.contents out.old) × (file.new ≡ file.old))
-        ⊎ ((texts : Table → List ℕ) → AreTexts I.remaining tables texts
-        → ServesPart texts (map I.remaining sources.items) settings.dispatchers (W.contents out.old)
+        ⊎ ((texts : Table → List ℕ) → AreTexts I.remaining input.tables texts
+        → ServesPart texts (map I.remaining input.sources.items) settings.dispatchers (W.contents out.old)
         (W.contents out.new) (option_and_then T.contents file.old) (option_and_then T.contents file.new))) }
     ensures refused { IfErr result (λ fault. serving_status fault ≡ 1 → (texts : Table → List ℕ)
-        → AreTexts I.remaining tables texts
-        → AreRefused texts ⊎ HasRefused (map I.remaining sources.items) ⊎ MayNotStand texts settings.standing.items) }
+        → AreTexts I.remaining input.tables texts
+        → AreRefused texts ⊎ HasRefused (map I.remaining input.sources.items) ⊎ MayNotStand texts settings.standing.items) }
     ensures words { IfErr result (λ fault. serving_status fault ≢ 2) }
     ensures trace { IfErr result (λ fault. serving_status fault ≢ 3) }
 {
-    let run = run_of(rt, settings, tables, sources, pace)?;
+    let run = run_of(rt, settings, input, pace)?;
     tell_run(out, file, &run)
 }
 
@@ -244,31 +251,30 @@ pub fn run_scripts<
 >(
     rt: &R,
     settings: RunSettings,
-    tables: Tables<I>,
-    sources: Vec<I>,
+    input: RunInput<I>,
     out: &mut W,
     file: &mut Option<T>,
     err: &mut E,
 ) -> u8
-    ensures served { result ≡ 0 → (texts : Table → List ℕ) → AreTexts I.remaining tables texts
-        → Serves texts (map I.remaining sources.items) settings.dispatchers (W.contents out.old)
+    ensures served { result ≡ 0 → (texts : Table → List ℕ) → AreTexts I.remaining input.tables texts
+        → Serves texts (map I.remaining input.sources.items) settings.dispatchers (W.contents out.old)
         (W.contents out.new) (option_and_then T.contents file.old) (option_and_then T.contents file.new) }
     ensures part { result ≢ 0 → ((W.contents out.new ≡ W.contents out.old) × (file.new ≡ file.old))
-        ⊎ ((texts : Table → List ℕ) → AreTexts I.remaining tables texts
-        → ServesPart texts (map I.remaining sources.items) settings.dispatchers (W.contents out.old)
+        ⊎ ((texts : Table → List ℕ) → AreTexts I.remaining input.tables texts
+        → ServesPart texts (map I.remaining input.sources.items) settings.dispatchers (W.contents out.old)
         (W.contents out.new) (option_and_then T.contents file.old) (option_and_then T.contents file.new)) }
     ensures quiet { result ≡ 0 → settings.times ≡ false → err.new ≡ err.old }
-    ensures refused { result ≡ 1 → (texts : Table → List ℕ) → AreTexts I.remaining tables texts
-        → AreRefused texts ⊎ HasRefused (map I.remaining sources.items) ⊎ MayNotStand texts settings.standing.items }
-    ensures many { (result ≡ 2) ↔ (16 < vec_len sources) }
+    ensures refused { result ≡ 1 → (texts : Table → List ℕ) → AreTexts I.remaining input.tables texts
+        → AreRefused texts ⊎ HasRefused (map I.remaining input.sources.items) ⊎ MayNotStand texts settings.standing.items }
+    ensures many { (result ≡ 2) ↔ (most_clients < vec_len input.sources) }
     ensures trace { result ≢ 3 }
 {
-    if sources.len() > MOST_SCRIPTS {
+    if input.sources.len() > MOST_SCRIPTS {
         return Fault::TooManyScripts.tell(err);
     }
     let times = settings.times;
     let mut pace = RunTimes::start(rt, times);
-    match report(rt, settings, tables, sources, out, file, &mut pace) {
+    match report(rt, settings, input, out, file, &mut pace) {
         Ok(()) => {
             tell_times(&pace, times, err);
             0

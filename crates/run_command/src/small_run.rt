@@ -5,18 +5,18 @@ ghost use Rattle.std.specs.Io.KnownBytes.{Appends};
 ghost use Rattle.run_command.specs.Demo.{IsOfScript, IsReport, IsSmallReport, ServesSmall, EndsEarly};
 ghost use Rattle.run_command.specs.Status.{serving_status};
 ghost use Rattle.ssb_files.specs.Loaded.{AreRefused, IsLoaded};
-ghost use Rattle.ssb_report.specs.Written.{AppendsPart};
+ghost use Rattle.ssb_text.specs.Written.{AppendsPart};
 ghost use Rattle.ssb_script.specs.Requests.{requests_of};
 ghost use Rattle.small_data.specs.SmallTexts.{small_texts};
 
 use crate::fault::{NotRun, RunCommandFault};
+use crate::run::serve_scripts;
 use small_data::tables;
 use ssb_base::Base;
 use ssb_files::{Fault, base_of};
-use ssb_report::write_bytes;
 use ssb_script::{MOST_RECORDS, Script, read_script};
 use ssb_server::Loaded;
-use ssb_sessions::serve_scripts;
+use ssb_text::write_bytes;
 use std::alloc::Global;
 use std::hash::RandomState;
 use std::io::{Read, Write};
@@ -99,7 +99,7 @@ fn print<W: Write>(out: &mut W, report: &[u8]) -> Result<(), RunCommandFault>
 }
 
 // Serves the script, and writes its report.
-fn serve<R: Threads + Sync + Wait + Clock + AllocGlobal, I: Read + Drop, W: Write>(
+fn tell_report<R: Threads + Sync + Wait + Clock + AllocGlobal, I: Read + Drop, W: Write>(
     rt: &R,
     hashing: RandomState,
     input: I,
@@ -128,7 +128,7 @@ pub fn demo<R: Threads + Sync + Wait + Clock + AllocGlobal, I: Read + Drop, W: W
     ensures quiet { result ≡ 0 → err.new ≡ err.old }
     ensures script { result ≡ 1 → IsOfScript (I.remaining input) }
 {
-    match serve(rt, hashing, input, out) {
+    match tell_report(rt, hashing, input, out) {
         Ok(()) => 0,
         Err(fault) => fault.tell(err),
     }

@@ -1,7 +1,8 @@
 //! How fast a run of scripts was. What a clock says is in no contract.
 
+use crate::latency::{Latencies, Latency};
+use crate::run::Run;
 use ssb_serving::Batches;
-use ssb_sessions::{Latencies, Latency, Run};
 use std::fmt;
 use std::io::Write;
 use std::time::{Clock, Duration, Instant};

@@ -41,7 +41,7 @@ use Rattle.history_core.specs.declared.event.Who.TheVariants.{Client, Dispatcher
 use Rattle.history.specs.Closing.{AreNumbered}
 use Rattle.history.specs.Tokens.{TableRecord, TokenRecord, new_token, new_clients, new_dispatchers}
 use Rattle.history.specs.Members.{number_of}
-use Rattle.ssb_server.specs.Tickets.{IsQuiet, IsOf}
+use Rattle.ssb_clients.specs.Tickets.{IsQuiet, IsOf}
 use Rattle.ssb_serving.specs.Members.{IsStill, AreStill, IsReady}
 
 -- one member more

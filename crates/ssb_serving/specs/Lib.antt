@@ -1,5 +1,3 @@
-pub mod Served
-pub mod Steps
 pub mod Members
 pub mod RunFaults
-pub mod Moment
+pub mod Streams

@@ -1,7 +1,7 @@
 -- The members of a table, before and after the threads of a run.
 use Rattle.std.specs.Prelude.{◌≡◌, All, List, [], ◌∷◌}
 use Rattle.history.specs.Tokens.{TableRecord, TokenRecord}
-use Rattle.ssb_server.specs.Tickets.{IsQuiet, IsOf, AreAllThere}
+use Rattle.ssb_clients.specs.Tickets.{IsQuiet, IsOf, AreAllThere}
 
 -- the same member of the same table
 pub record IsStill (before after : TokenRecord) : Type 0 where

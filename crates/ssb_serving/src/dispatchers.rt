@@ -3,7 +3,7 @@ ghost use Rattle.std.specs.Prelude.{◌≡◌, ◌+◌, ◌≤◌, [], ◌++◌,
 ghost use Rattle.std.specs.Thread.{IsSync};
 ghost use Rattle.history.specs.Tokens.{TokenRecord};
 ghost use Rattle.ssb_serving.specs.Members.{IsStill, AreStill};
-ghost use Rattle.ssb_server.specs.Tickets.{IsOf};
+ghost use Rattle.ssb_clients.specs.Tickets.{IsOf};
 
 use crate::batches::Batches;
 use ssb_server::{Dispatcher, OpenGate, Server, Turn};

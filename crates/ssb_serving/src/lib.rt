@@ -1,34 +1,34 @@
-//! What serves requests over the live server: the requests of a client, one after another to their replies, and the
-//! dispatchers that answer its questions, each in a thread of its own.
+//! The threads of a run over the live server: each client and each dispatcher in a thread of its own.
 //!
 //! ```text
-//! requests ── serve_requests ── client ── live server ── dispatchers' threads (Staff)
-//!                 └▶ their report, and the answers with rows that the client was told
+//! speaker 1 ── client 1 ─┐                    ┌─ dispatcher 1
+//! speaker 2 ── client 2 ─┼── live server ─────┤
+//! ..                     ┘                    └─ dispatcher 2 ..
+//!     └▶ what speaker 1, 2 .. left    └▶ the log
 //! ```
 //!
-//! The contract of [`serve_requests`] (`specs/Served.antt`): request by request one reply, true as the server's calls
-//! say, whose report is written; the answers with rows are kept, in order. Whatever ends it, nothing is outstanding
-//! then. The answers to one request are of one moment ([`laws::one_moment`]). That of [`Staff`] (`specs/Members.antt`):
-//! the dispatchers that end are those that were handed in. That a thread gets on is claimed by no proof.
+//! The contract of [`serve_streams`] (`specs/Streams.antt`): each speaker, in order, was given a new client of its own,
+//! and kept what it promises of it and of what it left; what a client saw at the end is a beginning of the log, and its
+//! own commits in the log are those of its number; the log is legal, and has no commit of anybody else; the dispatchers
+//! that end are those that were handed in (`specs/Members.antt`). That a thread gets on is claimed by no proof.
 //!
 //! ```text
-//! serve_requests(rt, alloc, &server, &mut client, script, &mut report, &mut told, &mut NoMeter)?;
+//! let run = serve_streams(&rt, rt.alloc(), loaded, speakers, 2)?;
 //! ```
 #![tactic(auto)]
 
 mod batches;
+mod clients;
 mod dispatchers;
-pub mod laws;
-mod meter;
-mod requests;
 mod run_fault;
-mod serve_error;
 mod staff;
+mod streams;
+mod threads;
+mod watch;
 
 pub use batches::Batches;
-pub use meter::{Meter, NoMeter, RequestKind};
-pub use requests::{serve_request, serve_requests};
+pub use clients::Spoken;
 pub use run_fault::RunFault;
-pub use serve_error::{ServeError, ServeStop};
-pub use ssb_audit::Told;
-pub use staff::{Staff, StaffAtWork};
+pub use streams::{StreamRun, run_opened, serve_opened, serve_streams};
+pub use threads::Ended;
+pub use watch::{NoWatch, Watch};

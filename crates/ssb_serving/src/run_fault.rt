@@ -7,7 +7,7 @@ use ssb_server::OpenFault;
 use std::alloc::AllocError;
 use thiserror::Error;
 
-/// Why scripts were not served. Want of memory is one fault, wherever it is met.
+/// Why scripts were not served. Running out of memory is one fault, wherever it is met.
 #[derive(Clone, Copy, Debug, PartialEq, Eq, Error)]
 pub enum RunFault {
     /// No server was opened; no script was begun.

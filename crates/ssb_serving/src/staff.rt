@@ -1,7 +1,7 @@
 //! The dispatchers of a run, each at work in a thread of its own.
 ghost use Rattle.std.specs.Prelude.{◌≡◌, All, IfOk, OnOk};
 ghost use Rattle.ssb_serving.specs.Members.{AreStill};
-ghost use Rattle.ssb_server.specs.Tickets.{IsOf};
+ghost use Rattle.ssb_clients.specs.Tickets.{IsOf};
 
 use crate::batches::Batches;
 use crate::dispatchers::{Dispatching, join_dispatchers, start_dispatchers};
@@ -15,7 +15,7 @@ use std::thread::{Scope, Threads};
 /// Dispatchers that are to work, which are what contracts see, with room for their threads and for what these leave. The
 /// room is made before the first thread starts: a started thread can then be joined without memory.
 #[derive(Drop)]
-pub struct Staff<W: Wait + Drop> {
+pub(crate) struct Staff<W: Wait + Drop> {
     dispatchers: Vec<Dispatcher<W>>,
     dispatching: Vec<Dispatching<W>>,
     ended: Vec<Dispatcher<W>>,
@@ -36,7 +36,7 @@ impl<W: Wait + Drop> Model for Staff<W> {
 
 /// Dispatchers at work. Contracts see each as it was when it began.
 #[derive(Drop)]
-pub struct StaffAtWork<W: Wait + Drop> {
+pub(crate) struct StaffAtWork<W: Wait + Drop> {
     dispatching: Vec<Dispatching<W>>,
     ended: Vec<Dispatcher<W>>,
 }
@@ -54,7 +54,10 @@ impl<W: Wait + Drop> Model for StaffAtWork<W> {
 }
 
 impl<W: Wait + Drop> Staff<W> {
-    pub fn new(alloc: Global, dispatchers: Vec<Dispatcher<W>>) -> Result<Staff<W>, AllocError>
+    pub(crate) fn new(
+        alloc: Global,
+        dispatchers: Vec<Dispatcher<W>>,
+    ) -> Result<Staff<W>, AllocError>
         ensures { IfOk result (λ staff. staff ≡ dispatchers.items) }
     {
         let dispatching = Vec::with_capacity(alloc, dispatchers.len())?;
@@ -67,7 +70,7 @@ impl<W: Wait + Drop> Staff<W> {
     }
 
     /// Starts a thread for each dispatcher, in order. Where a thread can't be started, no later one is.
-    pub fn start<'s, E, R: Wait + Threads + Sync>(
+    pub(crate) fn start<'s, E, R: Wait + Threads + Sync>(
         self,
         scope: &Scope<'s, E>,
         rt: &'s R,
@@ -91,7 +94,7 @@ impl<W: Wait + Drop> Staff<W> {
 
 impl<W: Wait + Drop> StaffAtWork<W> {
     /// Tells the dispatchers to stop, and waits until all of them have ended.
-    pub fn end<R: Threads>(
+    pub(crate) fn end<R: Threads>(
         self,
         rt: &R,
         server: &Server<W>,

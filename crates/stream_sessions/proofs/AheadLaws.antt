@@ -4,8 +4,8 @@ use Rattle.std.specs.Prelude.{OnOk}
 use Rattle.std.specs.Io.BufRead.{DropsConsumable}
 use Rattle.std.specs.Io.KnownBytes.{Consumes, prepend_known}
 use Rattle.std.proofs.lemmas.List.{drop-append-le, take-append-drop}
-use Rattle.session_requests.specs.Ahead.{AskFirst, IsWhole}
-use Rattle.session_requests.proofs.AheadLaws.{ask_behind, ask_nothing}
+use Rattle.ssb_script.specs.Ahead.{AskFirst, IsWhole}
+use Rattle.ssb_script.proofs.AheadLaws.{ask_behind, ask_nothing}
 use Rattle.ssb_script.specs.Requests.{RequestRecord}
 use Rattle.stream_sessions.specs.Steps.{TakesRequest}
 

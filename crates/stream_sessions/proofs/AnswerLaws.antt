@@ -28,9 +28,9 @@ use Rattle.ssb_script.specs.Requests.{RequestRecord}
 use Rattle.ssb_script.specs.Scripts.{SpellsScript, IsScriptFault, most_records}
 use Rattle.ssb_script.specs.declared.error.ScriptError.{ScriptError}
 use Rattle.ssb_report.specs.Replies.{Reply}
-use Rattle.ssb_serving.specs.Served.{AreServed, Serves, Ends}
-use Rattle.ssb_serving.specs.declared.serve_error.ServeError.{ServeError}
-use Rattle.ssb_serving.specs.declared.serve_error.ServeError.TheVariants as stop
+use Rattle.stream_sessions.specs.Served.{AreServed, Serves, Ends}
+use Rattle.stream_sessions.specs.declared.serve_error.ServeError.{ServeError}
+use Rattle.stream_sessions.specs.declared.serve_error.ServeError.TheVariants as stop
 use Rattle.stream_sessions.specs.Answers.{HasFault, is_of_text, BreaksOff}
 use Rattle.stream_sessions.specs.FaultLine.{fault_line}
 use Rattle.stream_sessions.specs.Steps.{AddsAnswer, AddsNothing}
@@ -40,7 +40,7 @@ no_is e = cc
 
 -- a script that was served whole is a request that was answered
 pub adds_report : (number : ℕ) (request : List ℕ) (old new : TokenRecord) (asked : List RequestRecord)
-    (told_old told_new : List Told) (before after : List ℕ)
+    (told_old told_new : Option (List Told)) (before after : List ℕ)
     → SpellsScript most_records request asked
     → Serves number old new asked told_old told_new (Some before) (Some after)
     → AddsAnswer number request old new before after
@@ -70,7 +70,7 @@ in_part number request old new asked count replies spelled served = inr (record 
 })
 
 broke_off : (error : ServeError) (number : ℕ) (request : List ℕ) (old new : TokenRecord) (asked : List RequestRecord)
-    (told_old told_new : List Told) (before after : Option (List ℕ))
+    (told_old told_new : Option (List Told)) (before after : Option (List ℕ))
     → SpellsScript most_records request asked
     → Ends error number old new asked told_old told_new before after → BreaksOff number request old new
 broke_off (stop.Write done) number request old new asked told_old told_new before after spelled ends =
@@ -80,7 +80,7 @@ broke_off (stop.OutOfMemory done) number request old new asked told_old told_new
 
 -- what was added of its report is cut off again
 cut_off : (error : ServeError) (number : ℕ) (old new : TokenRecord) (asked : List RequestRecord)
-    (told_old told_new : List Told) (before written : List ℕ)
+    (told_old told_new : Option (List Told)) (before written : List ℕ)
     → Ends error number old new asked told_old told_new (Some before) (Some written)
     → take (length before) written ≡ before
 cut_off (stop.Write done) number old new asked told_old told_new before written ends =
@@ -89,7 +89,7 @@ cut_off (stop.OutOfMemory done) number old new asked told_old told_new before wr
     ap (take (length before)) ends.1.written ∙ take-append_seam before _
 
 pub adds_nothing : (error : ServeError) (number : ℕ) (request : List ℕ) (old new : TokenRecord)
-    (asked : List RequestRecord) (told_old told_new : List Told) (before written after : List ℕ)
+    (asked : List RequestRecord) (told_old told_new : Option (List Told)) (before written after : List ℕ)
     → SpellsScript most_records request asked
     → Ends error number old new asked told_old told_new (Some before) (Some written)
     → after ≡ take (length before) written

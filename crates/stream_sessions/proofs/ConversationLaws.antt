@@ -26,9 +26,9 @@ use Rattle.std.proofs.Common.{
 }
 use Rattle.std.specs.Prelude.{MatchResult, OnOk}
 use Rattle.history.specs.Tokens.{TokenRecord}
-use Rattle.session_requests.specs.Requests.{IsRequest}
-use Rattle.ssb_report.specs.Written.{AppendsPart}
-use Rattle.ssb_report.proofs.WrittenLaws.{appends_none}
+use Rattle.ssb_script.specs.Cutting.{IsRequest}
+use Rattle.ssb_text.specs.Written.{AppendsPart}
+use Rattle.ssb_text.proofs.WrittenLaws.{appends_none}
 use Rattle.stream_sessions.specs.Conversation.{
   AddsReply,
   Converses,

@@ -35,11 +35,11 @@ use Rattle.std.proofs.Math.Seq.{take-length, take-append_seam, get_or-append_sea
 use Rattle.std.proofs.lemmas.Option.{slice_get_read}
 use Rattle.stream_sessions.specs.declared.outcome.Ending.{Ending}
 use Rattle.history.specs.Tokens.{TokenRecord}
-use Rattle.session_requests.specs.Requests.{IsRequest, IsUnfinished, IsCutInto}
-use Rattle.session_requests.proofs.RequestLaws.{concat-push, nothing_is_unfinished}
-use Rattle.session_requests.proofs.TakingLaws.{all_behind, less_behind}
-use Rattle.ssb_report.specs.Written.{AppendsPart}
-use Rattle.ssb_report.proofs.WrittenLaws.{appends_both}
+use Rattle.ssb_script.specs.Cutting.{IsRequest, IsUnfinished, IsCutInto}
+use Rattle.ssb_script.proofs.RequestLaws.{concat-push, nothing_is_unfinished}
+use Rattle.ssb_script.proofs.TakingLaws.{all_behind, less_behind}
+use Rattle.ssb_text.specs.Written.{AppendsPart}
+use Rattle.ssb_text.proofs.WrittenLaws.{appends_both}
 use Rattle.stream_sessions.specs.Answers.{AreAnswered, BreaksOff}
 use Rattle.stream_sessions.specs.FaultLine.{too_long_line}
 use Rattle.stream_sessions.specs.Session.{

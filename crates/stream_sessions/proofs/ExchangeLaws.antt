@@ -20,7 +20,7 @@ use Rattle.std.proofs.Common.{
 }
 use Rattle.std.specs.List.{concat}
 use Rattle.history.specs.Tokens.{TokenRecord}
-use Rattle.session_requests.proofs.RequestLaws.{concat-push}
+use Rattle.ssb_script.proofs.RequestLaws.{concat-push}
 use Rattle.stream_sessions.specs.Conversation.{AddsReply, IsConversation}
 use Rattle.stream_sessions.specs.Events.{Event, Looks, Takes, Passes}
 use Rattle.stream_sessions.specs.Exchange.{HasReplies, HasRepliesToLast, TellsReplies, passed}

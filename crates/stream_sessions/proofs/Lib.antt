@@ -1,3 +1,5 @@
+pub mod RequestLaws
+pub mod MomentLaws
 mod AnswerLaws
 mod StepLaws
 mod SessionLaws
@@ -5,5 +7,4 @@ mod ConversationLaws
 mod EndLaws
 mod ExchangeLaws
 mod WholeScriptLaws
-mod StreamLaws
 mod AheadLaws

@@ -25,9 +25,9 @@ use Rattle.std.specs.List.{AllByRecursion, concat}
 use Rattle.std.specs.Io.KnownBytes.{Appends, Consumes}
 use Rattle.std.proofs.KnownBytes.{Consumes-nil, Consumes-trans}
 use Rattle.history.specs.Tokens.{TokenRecord}
-use Rattle.session_requests.specs.Requests.{IsRequest}
-use Rattle.session_requests.proofs.RequestLaws.{concat-push}
-use Rattle.ssb_report.proofs.WrittenLaws.{appends_none, appends_both}
+use Rattle.ssb_script.specs.Cutting.{IsRequest}
+use Rattle.ssb_script.proofs.RequestLaws.{concat-push}
+use Rattle.ssb_text.proofs.WrittenLaws.{appends_none, appends_both}
 use Rattle.stream_sessions.specs.Answers.{IsAnswered, AreAnswered}
 use Rattle.stream_sessions.specs.Session.{all_of}
 use Rattle.stream_sessions.specs.Steps.{Steps}

@@ -3,9 +3,9 @@ use Rattle.std.proofs.Common.{◌≡◌, ℕ, Bool, true, false, List, ◌++◌,
 use Rattle.std.specs.Prelude.{IfErr, IfOk, MatchResult}
 use Rattle.std.specs.Io.KnownBytes.{Consumes}
 use Rattle.history.specs.Tokens.{TokenRecord}
-use Rattle.session_requests.specs.Next.{IsRequestFault}
-use Rattle.session_requests.specs.declared.error.RequestError.{RequestError}
-use Rattle.session_requests.specs.declared.error.RequestError.TheVariants as error
+use Rattle.ssb_script.specs.NextRequest.{IsRequestFault}
+use Rattle.ssb_script.specs.declared.request_error.RequestError.{RequestError}
+use Rattle.ssb_script.specs.declared.request_error.RequestError.TheVariants as error
 use Rattle.stream_sessions.specs.FaultLine.{too_long_line}
 use Rattle.stream_sessions.specs.Session.{most_bytes}
 use Rattle.stream_sessions.specs.Steps.{AddsNothing, HandsOn, IsText, Steps, Fails}

@@ -18,7 +18,7 @@ use Rattle.std.proofs.Common.{
 use Rattle.std.specs.List.{AllZip, concat, flat_map}
 use Rattle.std.proofs.lemmas.Grind.{flat_map-append}
 use Rattle.history.specs.Tokens.{TokenRecord}
-use Rattle.session_requests.proofs.ScriptLaws.{script_of_requests_of}
+use Rattle.ssb_script.proofs.ScriptLaws.{script_of_requests_of}
 use Rattle.ssb_report.specs.Replies.{Reply, reply_text}
 use Rattle.ssb_report.specs.Report.{report_of}
 use Rattle.ssb_script.specs.Requests.{RequestRecord}
@@ -26,7 +26,7 @@ use Rattle.ssb_script.specs.Scripts.{SpellsScript, most_records}
 use Rattle.ssb_script.specs.declared.error.ScriptError.{ScriptError}
 use Rattle.ssb_script.proofs.FaultLaws.{spelled_has_no_fault}
 use Rattle.ssb_script.proofs.OneReadingLaws.{asks_nothing, one_reading}
-use Rattle.ssb_serving.specs.Served.{AreServed}
+use Rattle.stream_sessions.specs.Served.{AreServed}
 use Rattle.stream_sessions.specs.Answers.{AreAnswered, HasFault, IsAnswered}
 use Rattle.stream_sessions.specs.Session.{all_of}
 use Rattle.stream_sessions.specs.WholeScripts.{HasRepliesOfScript}
@@ -126,7 +126,7 @@ all_spell requests each (b ∷ rest) last all spells = record {
 pub replies_of_script : (text : List ℕ) → HasRepliesOfScript text
 replies_of_script text number old new requests texts rest wanted cut none marks spells are =
     let parts = script_of_requests_of most_records text requests rest wanted cut none marks spells in
-    let all = all_spell requests parts.0 rest parts.1 parts.3 parts.5 in
+    let all = all_spell requests parts.each rest parts.last parts.spelled parts.spelled_last in
     let told = requests_told number old new (all_of requests rest) texts all.parts all.each are in
-    let same : flat_map (λ r. r) all.parts ≡ wanted = all.joined ∙ sym parts.2 in
+    let same : flat_map (λ r. r) all.parts ≡ wanted = all.joined ∙ sym parts.joined in
     (told.replies, subst (λ all. AreServed number old all told.replies new) same told.served, told.told)

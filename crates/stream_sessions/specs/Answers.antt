@@ -7,7 +7,7 @@ use Rattle.ssb_script.specs.Requests.{RequestRecord}
 use Rattle.ssb_script.specs.Scripts.{SpellsScript, IsFirstFault, EndsOpen, most_records}
 use Rattle.ssb_script.specs.declared.error.ScriptError.{ScriptError}
 use Rattle.ssb_script.specs.declared.error.ScriptError.TheVariants as script
-use Rattle.ssb_serving.specs.Served.{AreServed}
+use Rattle.stream_sessions.specs.Served.{AreServed}
 use Rattle.stream_sessions.specs.FaultLine.{fault_line}
 
 -- whether a fault is one of a text, and not of what kept it from being read

@@ -1,12 +1,13 @@
 -- What goes over the wire of a session, in order.
-use Rattle.std.specs.Prelude.{◌≡◌, ◌≤◌, ◌<◌, ℕ, Bool, true, false, List, [], ◌∷◌, ◌++◌, ◌⊎◌, length}
+use Rattle.std.specs.Prelude.{◌≡◌, ◌≤◌, ◌<◌, ℕ, Bool, true, false, List, [], ◌∷◌, ◌++◌, ◌⊎◌, length, Result, MatchResult}
 use Rattle.history.specs.Tokens.{TokenRecord}
-use Rattle.session_requests.specs.Requests.{IsRequest}
-use Rattle.stream_sessions.specs.Events.{Event, Looks, Takes, Passes}
+use Rattle.ssb_script.specs.Cutting.{IsRequest}
+use Rattle.stream_sessions.specs.Events.{Event, Looks, Takes, Passes, WireRecord}
 use Rattle.stream_sessions.specs.FaultLine.{too_long_line}
-use Rattle.stream_sessions.specs.Steps.{AddsAnswer, AddsNothing}
+use Rattle.stream_sessions.specs.Steps.{AddsAnswer, AddsNothing, is_last}
 use Rattle.stream_sessions.specs.declared.outcome.SessionFault.{SessionFault}
 use Rattle.stream_sessions.specs.declared.outcome.SessionFault.TheVariants as fault
+use Rattle.stream_sessions.specs.declared.step.Step.{Step}
 
 -- so many bytes of replies are held at most before one more is added, less one: 64 KiB
 abbrev pub most_held : ℕ
@@ -67,3 +68,10 @@ abbrev pub GoesUntil : SessionFault → Bool → ℕ → TokenRecord → TokenRe
 GoesUntil why was number old new before after held kept =
     (first : TokenRecord) (start : List Event) → Converses was number first old start before held
     → ConversesUntil why number first new start after kept
+
+-- a conversation in which nothing was the last goes on with a step, or breaks where the step failed
+abbrev pub GoesOnOrUntil : Result Step SessionFault → ℕ → TokenRecord → TokenRecord → WireRecord → WireRecord → List ℕ
+    → List ℕ → Type 0
+GoesOnOrUntil result number old new wire after held kept =
+    MatchResult result (λ step. GoesOn false (is_last step) number old new wire.events after.events held kept)
+    (λ why. GoesUntil why false number old new wire.events after.events held kept)

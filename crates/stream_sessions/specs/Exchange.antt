@@ -2,7 +2,7 @@
 use Rattle.std.specs.Prelude.{◌≡◌, ℕ, true, false, List, [], ◌∷◌, ◌++◌}
 use Rattle.std.specs.List.{AllByRecursion, concat}
 use Rattle.history.specs.Tokens.{TokenRecord}
-use Rattle.session_requests.specs.Requests.{IsRequest}
+use Rattle.ssb_script.specs.Cutting.{IsRequest}
 use Rattle.stream_sessions.specs.Answers.{AreAnswered}
 use Rattle.stream_sessions.specs.Conversation.{AddsReply, IsConversation}
 use Rattle.stream_sessions.specs.Events.{Event, Looks, Takes, Passes}

@@ -6,7 +6,7 @@ use Rattle.ssb_schema.specs.declared.fault.SchemaFault.{SchemaFault}
 use Rattle.ssb_schema.specs.declared.fault.SchemaFault.TheVariants as schema
 use Rattle.ssb_script.specs.declared.error.ScriptError.{ScriptError}
 use Rattle.ssb_script.specs.declared.error.ScriptError.TheVariants as script
-use Rattle.ssb_report.specs.Numbers.{line_feed}
+use Rattle.ssb_text.specs.Numbers.{line_feed}
 
 -- the number, the name and the values of a fault of the schema
 abbrev pub schema_text : SchemaFault → List ℕ

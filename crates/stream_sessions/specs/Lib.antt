@@ -1,3 +1,8 @@
+pub mod Served
+pub mod Replies
+pub mod Keeping
+pub mod OneRequest
+pub mod Moment
 pub mod FaultLine
 pub mod Events
 pub mod Answers
@@ -6,4 +11,3 @@ pub mod Steps
 pub mod Conversation
 pub mod Exchange
 pub mod WholeScripts
-pub mod Streams

@@ -3,9 +3,9 @@ use Rattle.std.specs.Prelude.{◌≡◌, ◌≤◌, ℕ, ◌+◌, List, [], ◌�
 use Rattle.std.specs.List.{concat}
 use Rattle.std.specs.Io.KnownBytes.{Appends, Consumes}
 use Rattle.history.specs.Tokens.{TokenRecord}
-use Rattle.session_requests.specs.Next.{IsAllOf, IsLessThan}
-use Rattle.session_requests.specs.Requests.{IsCutInto}
-use Rattle.ssb_report.specs.Written.{AppendsPart}
+use Rattle.ssb_script.specs.NextRequest.{IsAllOf, IsLessThan}
+use Rattle.ssb_script.specs.Cutting.{IsCutInto}
+use Rattle.ssb_text.specs.Written.{AppendsPart}
 use Rattle.stream_sessions.specs.Answers.{AreAnswered, BreaksOff}
 use Rattle.stream_sessions.specs.FaultLine.{too_long_line}
 use Rattle.stream_sessions.specs.declared.outcome.Ending.{Ending}

@@ -1,16 +1,17 @@
 -- The steps of a session.
-use Rattle.std.specs.Prelude.{◌≡◌, ℕ, Bool, true, false, List, [], ◌∷◌, ◌++◌, ◌⊎◌, length, map, MatchOption, Option, Result, Ok, Err}
+use Rattle.std.specs.Prelude.{◌≡◌, ℕ, Bool, true, false, List, [], ◌∷◌, ◌++◌, ◌⊎◌, length, map, MatchOption, MatchResult, Option, Result, Ok, Err}
 use Rattle.std.specs.Io.KnownBytes.{Appends, Consumes}
 use Rattle.std.specs.Vec.Iter.{into_iter_items}
 use Rattle.history.specs.Tokens.{TokenRecord}
-use Rattle.session_requests.specs.Next.{IsFound, IsLessThan}
-use Rattle.session_requests.specs.Requests.{IsRequest, IsUnfinished}
-use Rattle.session_requests.specs.declared.requests.Found.TheVariants as found
-use Rattle.ssb_report.specs.Written.{AppendsPart}
+use Rattle.ssb_script.specs.NextRequest.{IsFound, IsLessThan}
+use Rattle.ssb_script.specs.Cutting.{IsRequest, IsUnfinished}
+use Rattle.ssb_script.specs.declared.cutting.NextRequest.TheVariants as found
+use Rattle.ssb_text.specs.Written.{AppendsPart}
 use Rattle.ssb_script.specs.Requests.{RequestRecord, request_of}
 use Rattle.ssb_script.specs.declared.request.Request.{Request}
 use Rattle.stream_sessions.specs.declared.ahead.Ahead.{Ahead}
 use Rattle.stream_sessions.specs.Answers.{IsAnswered, BreaksOff}
+use Rattle.stream_sessions.specs.Events.{WireRecord}
 use Rattle.stream_sessions.specs.FaultLine.{too_long_line}
 use Rattle.stream_sessions.specs.Session.{IsServed, IsBroken, Breaks, most_bytes}
 use Rattle.stream_sessions.specs.declared.outcome.Served.{Served}
@@ -115,6 +116,14 @@ abbrev pub Fails : SessionFault → ℕ → TokenRecord → TokenRecord → Opti
 Fails why number old new unread left before after held_old held_new =
     FailsWriting why old new unread left before after held_old
     ⊎ FailsAt why number old new unread left before after held_old held_new
+
+-- a step that did so, or why it failed, with what it left of a client, of its wire and of the replies that are held
+abbrev pub TakesStep : Result Step SessionFault → ℕ → TokenRecord → TokenRecord → WireRecord → WireRecord → List ℕ → List ℕ
+    → Type 0
+TakesStep result number old new wire after held_old held_new =
+    MatchResult result
+    (λ step. Steps step number old new wire.unread after.unread wire.written after.written held_old held_new)
+    (λ why. Fails why number old new wire.unread after.unread wire.written after.written held_old held_new)
 
 -- a text has been told, of which the last part is still held
 pub record IsHeld (before after : Option (List ℕ)) (held : List ℕ) (Is : List ℕ → Type 0) : Type 0 where

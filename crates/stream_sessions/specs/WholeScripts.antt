@@ -2,14 +2,14 @@
 use Rattle.std.specs.Prelude.{◌≡◌, ℕ, List}
 use Rattle.std.specs.List.{AllByRecursion, concat}
 use Rattle.history.specs.Tokens.{TokenRecord}
-use Rattle.session_requests.specs.Requests.{IsCutInto}
+use Rattle.ssb_script.specs.Cutting.{IsCutInto}
 use Rattle.ssb_text.specs.TextLines.{HasNoLoneReturn, HasNoMark}
-use Rattle.session_requests.specs.ScriptLaws.{texts_of}
+use Rattle.ssb_script.specs.CuttingLaws.{request_texts}
 use Rattle.ssb_report.specs.Replies.{Reply}
 use Rattle.ssb_report.specs.Report.{report_of}
 use Rattle.ssb_script.specs.Requests.{RequestRecord}
 use Rattle.ssb_script.specs.Scripts.{SpellsScript, most_records}
-use Rattle.ssb_serving.specs.Served.{AreServed}
+use Rattle.stream_sessions.specs.Served.{AreServed}
 use Rattle.stream_sessions.specs.Answers.{AreAnswered}
 use Rattle.stream_sessions.specs.Session.{all_of}
 
@@ -19,6 +19,6 @@ use Rattle.stream_sessions.specs.Session.{all_of}
 abbrev pub HasRepliesOfScript : List ℕ → Type 0
 HasRepliesOfScript text =
     (number : ℕ) (old new : TokenRecord) (requests texts : List (List ℕ)) (rest : List ℕ) (wanted : List RequestRecord)
-    → IsCutInto text requests rest → HasNoLoneReturn text → AllByRecursion HasNoMark (texts_of requests rest)
+    → IsCutInto text requests rest → HasNoLoneReturn text → AllByRecursion HasNoMark (request_texts requests rest)
     → SpellsScript most_records text wanted → AreAnswered number old (all_of requests rest) texts new
     → (replies : List Reply) × AreServed number old wanted replies new × (concat texts ≡ report_of replies)

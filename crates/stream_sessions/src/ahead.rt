@@ -1,11 +1,10 @@
 //! Requests that are read before their turn.
 
 ghost use Rattle.std.specs.Prelude.{◌≡◌, []};
-ghost use Rattle.session_requests.specs.Ahead.{AskFirst};
+ghost use Rattle.ssb_script.specs.Ahead.{AskFirst};
 ghost use Rattle.stream_sessions.specs.Steps.{TakesFirst, asked_ahead};
 
-use session_requests::{AtHand, read_together, requests_at_hand};
-use ssb_script::Request;
+use ssb_script::{AtHand, Request, read_together, requests_at_hand};
 use std::alloc::Global;
 use std::vec::IntoIter;
 

@@ -1,11 +1,11 @@
 //! The line that tells a request's fault.
 
-ghost use Rattle.ssb_report.specs.Written.{Writes};
+ghost use Rattle.ssb_text.specs.Written.{Writes};
 ghost use Rattle.stream_sessions.specs.FaultLine.{fault_line, fault_text, schema_text};
 
-use ssb_report::{Piece, WriteFault, write_pieces};
 use ssb_schema::SchemaFault;
 use ssb_script::ScriptError;
+use ssb_text::{Piece, WriteFault, write_pieces};
 use std::io::Write;
 
 // The number, the name and the values of a fault of the schema.

@@ -2,7 +2,7 @@
 
 ghost use Rattle.std.specs.Prelude.{◌≡◌, Bool, [], ℕ, length, MatchResult};
 ghost use Rattle.std.specs.Io.KnownBytes.{Appends};
-ghost use Rattle.ssb_report.specs.Written.{AppendsPart};
+ghost use Rattle.ssb_text.specs.Written.{AppendsPart};
 ghost use Rattle.stream_sessions.specs.Conversation.{GoesOn, GoesUntil};
 ghost use Rattle.stream_sessions.specs.declared.outcome.SessionFault.TheVariants.{Write as FailedWrite};
 
@@ -10,12 +10,13 @@ use crate::acknowledges::{Acknowledges, Evidence};
 use crate::outcome::SessionFault;
 use crate::service::Service;
 use crate::wire::Wire;
-use ssb_server::Client;
+use row_store::Follower;
+use ssb_clients::Client;
 use std::io::{Read, Write};
 use std::sync::Wait;
 
 // Passes the replies that are held on, with the evidence of all commits that the client has seen.
-fn pass_held<W: Wait + Drop, E: Evidence, I: Read + Drop, O: Write + Drop>(
+fn pass_held<W: Follower + Drop, E: Evidence, I: Read + Drop, O: Write + Drop>(
     client: &Client<W>,
     evidence: E,
     wire: &mut Wire<I, O, E>,
@@ -48,7 +49,7 @@ fn pass_held<W: Wait + Drop, E: Evidence, I: Read + Drop, O: Write + Drop>(
 /// Passes the replies that are held on, once all commits that the client has seen may be told. Replies leave a session by
 /// this function alone.
 pub(crate) fn hand_on<
-    W: Wait + Drop,
+    W: Follower + Drop,
     R: Wait,
     E: Evidence,
     K: Acknowledges<E>,

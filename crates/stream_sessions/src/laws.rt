@@ -1,8 +1,15 @@
-//! What holds of every session: each law is the contract of a function that does nothing.
+//! What holds of every request and of every session: each law is the contract of a function that does nothing.
 ghost use Rattle.std.specs.Prelude.{ℕ, List};
 ghost use Rattle.stream_sessions.specs.Events.{Event};
+ghost use Rattle.stream_sessions.specs.Moment.{OneMoment};
 ghost use Rattle.stream_sessions.specs.Exchange.{TellsReplies};
 ghost use Rattle.stream_sessions.specs.WholeScripts.{HasRepliesOfScript};
+
+/// The questions of one request are answered in order, all after the same number of commits, no fewer than the client
+/// had seen when it asked; or none of them is answered, for one cause.
+pub fn one_moment()
+    ensures { OneMoment }
+{}
 
 /// A legal script that is answered request by request, as it comes, has the replies of the whole script.
 pub fn replies_of_script()

@@ -1,15 +1,15 @@
-//! What serves a session.
+//! What serves a client.
 
-use ssb_server::Server;
+use row_store::Follower;
+use ssb_clients::Server;
 use std::alloc::Global;
-use std::sync::Wait;
 
-/// What serves a session, whatever its client and its streams: a server, who gives the evidence of commits, what waits,
-/// and memory.
+/// What serves a client, whatever it asks and by which streams: a server, who gives the evidence of commits, what
+/// waits, and memory.
 #[derive(Drop)]
-pub(crate) struct Service<'a, W: Wait + Drop, R, K> {
-    pub(crate) rt: &'a R,
-    pub(crate) alloc: Global,
-    pub(crate) acknowledger: &'a K,
-    pub(crate) server: &'a Server<W>,
+pub struct Service<'a, W: Follower + Drop, R, K> {
+    pub rt: &'a R,
+    pub alloc: Global,
+    pub acknowledger: &'a K,
+    pub server: &'a Server<W>,
 }

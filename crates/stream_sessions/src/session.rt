@@ -4,7 +4,7 @@ ghost use Rattle.std.specs.Prelude.{◌≡◌, ℕ, List, [], Option, true, fals
 ghost use Rattle.std.specs.Option.{is_some};
 ghost use Rattle.history.specs.Tokens.{IsSound, TokenRecord};
 ghost use Rattle.history.specs.Members.{number_of};
-ghost use Rattle.ssb_serving.specs.Steps.{AreAlike};
+ghost use Rattle.stream_sessions.specs.OneRequest.{AreAlike};
 ghost use Rattle.stream_sessions.specs.Conversation.{Converses, ConversesInPart, ConversesUntil};
 ghost use Rattle.stream_sessions.specs.Events.{Event};
 ghost use Rattle.stream_sessions.specs.Session.{Breaks, IsServed, Serves};
@@ -15,16 +15,17 @@ use crate::ahead::Requests;
 use crate::held::hand_on;
 use crate::outcome::{Ending, Served, SessionError, SessionFault};
 use crate::service::Service;
-use crate::step::{Step, serve_next};
+use crate::step::{Step, take_step};
 use crate::wire::Wire;
-use ssb_server::{Client, Server};
+use row_store::Follower;
+use ssb_clients::{Client, Server};
 use std::alloc::Global;
 use std::io::{Read, Write};
 use std::sync::Wait;
 
 // Answers requests until the session ends; the last replies are still held.
 fn answer_all<
-    W: Wait + Drop,
+    W: Follower + Drop,
     R: Wait,
     E: Evidence,
     K: Acknowledges<E>,
@@ -51,7 +52,7 @@ fn answer_all<
 {
     let mut requests = Requests::new(service.alloc);
     for answered in 0..u64::MAX {
-        match serve_next(service, client, wire, &mut requests, replies) {
+        match take_step(service, client, wire, &mut requests, replies) {
             Ok(Step::Request) => {}
             Ok(Step::Rest) => {
                 return Ok(Served {
@@ -82,7 +83,14 @@ fn answer_all<
 }
 
 // Hands on the last replies of a session that was served to its end.
-fn end<W: Wait + Drop, R: Wait, E: Evidence, K: Acknowledges<E>, I: Read + Drop, O: Write + Drop>(
+fn end<
+    W: Follower + Drop,
+    R: Wait,
+    E: Evidence,
+    K: Acknowledges<E>,
+    I: Read + Drop,
+    O: Write + Drop,
+>(
     service: &Service<'_, W, R, K>,
     client: &Client<W>,
     wire: &mut Wire<I, O, E>,
@@ -113,7 +121,7 @@ fn end<W: Wait + Drop, R: Wait, E: Evidence, K: Acknowledges<E>, I: Read + Drop,
 
 // Hands on the last replies of a session that broke. What was not written is not tried again.
 fn break_off<
-    W: Wait + Drop,
+    W: Follower + Drop,
     R: Wait,
     E: Evidence,
     K: Acknowledges<E>,
@@ -162,7 +170,7 @@ fn break_off<
 /// A failed read or write, or want of memory, breaks it, and so many requests were answered before. Evidence that is not
 /// got is a failed write: nothing more is written. In each case nothing is outstanding then.
 pub fn serve_session<
-    W: Wait + Drop,
+    W: Follower + Drop,
     R: Wait,
     E: Evidence,
     K: Acknowledges<E>,

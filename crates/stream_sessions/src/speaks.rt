@@ -3,12 +3,12 @@
 ghost use Rattle.std.specs.Prelude.{◌≡◌, ℕ, false};
 ghost use Rattle.std.specs.Option.{is_some};
 ghost use Rattle.history.specs.Tokens.{TokenRecord};
-ghost use Rattle.ssb_serving.specs.Steps.{AreAlike};
+ghost use Rattle.stream_sessions.specs.OneRequest.{AreAlike};
 
 use crate::acknowledges::{Acknowledges, Evidence};
-use ssb_server::{Client, Server};
+use row_store::Follower;
+use ssb_clients::{Client, Server};
 use std::alloc::Global;
-use std::sync::Wait;
 
 /// What serves a client, and what it promises of that.
 pub trait Speaker {
@@ -30,7 +30,7 @@ pub trait Speaker {
 /// several, by [`serve_session`](crate::serve_session) with this acknowledger, and gives the client back, which asks
 /// nothing then. It tells its client of commits with this evidence.
 pub trait Speaks<R, E: Evidence>: Speaker {
-    fn speak<W: Wait + Drop, K: Acknowledges<E>>(
+    fn speak<W: Follower + Drop, K: Acknowledges<E>>(
         self,
         rt: &R,
         alloc: Global,

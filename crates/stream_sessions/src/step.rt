@@ -4,13 +4,13 @@ ghost use Rattle.std.specs.Prelude.{◌≡◌, ◌<◌, ℕ, Bool, [], ◌++◌,
 ghost use Rattle.std.specs.Option.{is_some};
 ghost use Rattle.history.specs.Tokens.{IsSound};
 ghost use Rattle.history.specs.Members.{number_of};
-ghost use Rattle.session_requests.specs.Ahead.{AskFirst, AsksFirst, IsWhole};
-ghost use Rattle.ssb_report.specs.Written.{AppendsPart};
+ghost use Rattle.ssb_script.specs.Ahead.{AskFirst, AsksFirst, IsWhole};
+ghost use Rattle.ssb_text.specs.Written.{AppendsPart};
 ghost use Rattle.ssb_script.specs.Requests.{request_of};
-ghost use Rattle.ssb_serving.specs.Steps.{AreAlike};
-ghost use Rattle.stream_sessions.specs.Conversation.{GoesOn, GoesUntil, most_held};
+ghost use Rattle.stream_sessions.specs.OneRequest.{AreAlike};
+ghost use Rattle.stream_sessions.specs.Conversation.{GoesOn, GoesOnOrUntil, GoesUntil, most_held};
 ghost use Rattle.stream_sessions.specs.FaultLine.{too_long_line};
-ghost use Rattle.stream_sessions.specs.Steps.{Fails, HandsOn, Steps, TakesRequest, asked_ahead, is_last};
+ghost use Rattle.stream_sessions.specs.Steps.{HandsOn, TakesRequest, TakesStep, asked_ahead};
 ghost use Rattle.stream_sessions.specs.declared.outcome.SessionFault.TheVariants.{OutOfMemory, Write as FailedWrite};
 ghost use Rattle.stream_sessions.specs.declared.step.Step.TheVariants.{TooLong};
 
@@ -21,10 +21,10 @@ use crate::held::hand_on;
 use crate::outcome::SessionFault;
 use crate::service::Service;
 use crate::wire::Wire;
-use session_requests::{Found, RequestError, request_length};
-use ssb_report::{Piece, write_pieces};
-use ssb_script::Request;
-use ssb_server::Client;
+use row_store::Follower;
+use ssb_clients::Client;
+use ssb_script::{NextRequest, Request, RequestError, request_length};
+use ssb_text::{Piece, write_pieces};
 use std::io::{Read, Write};
 use std::sync::Wait;
 
@@ -46,7 +46,7 @@ pub(crate) enum Step {
 
 // Hands the replies on where no request is at hand, before the session waits for its client, or where many are held.
 fn hand_on_in_time<
-    W: Wait + Drop,
+    W: Follower + Drop,
     R: Wait,
     E: Evidence,
     K: Acknowledges<E>,
@@ -95,8 +95,8 @@ fn tell_too_long(replies: &mut Vec<u8>) -> Result<Step, SessionFault>
 }
 
 // Answers the request at the front of what is at hand, which was read before its turn, and takes it.
-fn serve_ahead<
-    W: Wait + Drop,
+fn step_ahead<
+    W: Follower + Drop,
     R: Wait,
     E: Evidence,
     K: Acknowledges<E>,
@@ -112,16 +112,10 @@ fn serve_ahead<
     requires table { client.old.table ≡ service.now.server.now }
     requires quiet { is_some client.old.asked ≡ false }
     requires first { AsksFirst wire.old.at_hand (request_of request) }
-    ensures step { MatchResult result
-        (λ step. Steps step (number_of client.old.who) client.old client.new wire.old.unread wire.new.unread
-        wire.old.written wire.new.written replies.old.items replies.new.items)
-        (λ fault. Fails fault (number_of client.old.who) client.old client.new wire.old.unread wire.new.unread
-        wire.old.written wire.new.written replies.old.items replies.new.items) }
-    ensures goes { MatchResult result
-        (λ step. GoesOn false (is_last step) (number_of client.old.who) client.old client.new wire.old.events
-        wire.new.events replies.old.items replies.new.items)
-        (λ fault. GoesUntil fault false (number_of client.old.who) client.old client.new wire.old.events
-        wire.new.events replies.old.items replies.new.items) }
+    ensures step { TakesStep result (number_of client.old.who) client.old client.new wire.old wire.new
+        replies.old.items replies.new.items }
+    ensures goes { GoesOnOrUntil result (number_of client.old.who) client.old client.new wire.old wire.new
+        replies.old.items replies.new.items }
     ensures taken { OnOk result (TakesRequest wire.old.at_hand wire.new.at_hand) }
     ensures same { AreAlike client.old client.new }
     ensures sound { IsSound client.old → IsSound client.new }
@@ -130,14 +124,7 @@ fn serve_ahead<
     let Some(size) = request_length(wire.at_hand()) else {
         unreachable!()
     };
-    let answered = answer_read(
-        service.rt,
-        service.alloc,
-        service.server,
-        client,
-        request,
-        replies,
-    );
+    let answered = answer_read(service, client, request, replies);
     wire.take(size);
     match answered {
         Ok(()) => Ok(Step::Request),
@@ -146,8 +133,8 @@ fn serve_ahead<
 }
 
 // Answers the request at the front of what is at hand, of so many bytes, read alone, and takes it.
-fn serve_at_hand<
-    W: Wait + Drop,
+fn step_at_hand<
+    W: Follower + Drop,
     R: Wait,
     E: Evidence,
     K: Acknowledges<E>,
@@ -163,29 +150,16 @@ fn serve_at_hand<
     requires table { client.old.table ≡ service.now.server.now }
     requires quiet { is_some client.old.asked ≡ false }
     requires whole { IsWhole count wire.old.at_hand }
-    ensures step { MatchResult result
-        (λ step. Steps step (number_of client.old.who) client.old client.new wire.old.unread wire.new.unread
-        wire.old.written wire.new.written replies.old.items replies.new.items)
-        (λ fault. Fails fault (number_of client.old.who) client.old client.new wire.old.unread wire.new.unread
-        wire.old.written wire.new.written replies.old.items replies.new.items) }
-    ensures goes { MatchResult result
-        (λ step. GoesOn false (is_last step) (number_of client.old.who) client.old client.new wire.old.events
-        wire.new.events replies.old.items replies.new.items)
-        (λ fault. GoesUntil fault false (number_of client.old.who) client.old client.new wire.old.events
-        wire.new.events replies.old.items replies.new.items) }
+    ensures step { TakesStep result (number_of client.old.who) client.old client.new wire.old wire.new
+        replies.old.items replies.new.items }
+    ensures goes { GoesOnOrUntil result (number_of client.old.who) client.old client.new wire.old wire.new
+        replies.old.items replies.new.items }
     ensures same { AreAlike client.old client.new }
     ensures sound { IsSound client.old → IsSound client.new }
 {
     hand_on_in_time(service, client, wire, true, replies)?;
     let (request, _) = wire.at_hand().split_at(count);
-    let answered = answer(
-        service.rt,
-        service.alloc,
-        service.server,
-        client,
-        request,
-        replies,
-    );
+    let answered = answer(service, client, request, replies);
     wire.take(count);
     match answered {
         Ok(()) => Ok(Step::Request),
@@ -194,8 +168,8 @@ fn serve_at_hand<
 }
 
 // Takes the next request, for which the session may wait, and answers it. All replies are handed on before.
-fn serve_awaited<
-    W: Wait + Drop,
+fn step_awaited<
+    W: Follower + Drop,
     R: Wait,
     E: Evidence,
     K: Acknowledges<E>,
@@ -210,36 +184,23 @@ fn serve_awaited<
 ) -> Result<Step, SessionFault>
     requires table { client.old.table ≡ service.now.server.now }
     requires quiet { is_some client.old.asked ≡ false }
-    ensures step { MatchResult result
-        (λ step. Steps step (number_of client.old.who) client.old client.new wire.old.unread wire.new.unread
-        wire.old.written wire.new.written replies.old.items replies.new.items)
-        (λ fault. Fails fault (number_of client.old.who) client.old client.new wire.old.unread wire.new.unread
-        wire.old.written wire.new.written replies.old.items replies.new.items) }
-    ensures goes { MatchResult result
-        (λ step. GoesOn false (is_last step) (number_of client.old.who) client.old client.new wire.old.events
-        wire.new.events replies.old.items replies.new.items)
-        (λ fault. GoesUntil fault false (number_of client.old.who) client.old client.new wire.old.events
-        wire.new.events replies.old.items replies.new.items) }
+    ensures step { TakesStep result (number_of client.old.who) client.old client.new wire.old wire.new
+        replies.old.items replies.new.items }
+    ensures goes { GoesOnOrUntil result (number_of client.old.who) client.old client.new wire.old wire.new
+        replies.old.items replies.new.items }
     ensures same { AreAlike client.old client.new }
     ensures sound { IsSound client.old → IsSound client.new }
 {
     hand_on_in_time(service, client, wire, false, replies)?;
     let step = match wire.next_request(request) {
-        Ok(Found::Request) => Step::Request,
-        Ok(Found::Rest) => Step::Rest,
-        Ok(Found::Nothing) => return Ok(Step::Nothing),
+        Ok(NextRequest::Request) => Step::Request,
+        Ok(NextRequest::Rest) => Step::Rest,
+        Ok(NextRequest::Nothing) => return Ok(Step::Nothing),
         Err(RequestError::TooLong) => return tell_too_long(replies),
         Err(RequestError::Read) => return Err(SessionFault::Read),
         Err(RequestError::OutOfMemory) => return Err(SessionFault::OutOfMemory),
     };
-    let answered = answer(
-        service.rt,
-        service.alloc,
-        service.server,
-        client,
-        request.as_slice(),
-        replies,
-    );
+    let answered = answer(service, client, request.as_slice(), replies);
     match answered {
         Ok(()) => Ok(step),
         Err(_) => Err(SessionFault::OutOfMemory),
@@ -247,8 +208,8 @@ fn serve_awaited<
 }
 
 // Takes the next request, reads it alone, answers it, and adds the reply to those that are held.
-fn serve_alone<
-    W: Wait + Drop,
+fn step_alone<
+    W: Follower + Drop,
     R: Wait,
     E: Evidence,
     K: Acknowledges<E>,
@@ -263,29 +224,23 @@ fn serve_alone<
 ) -> Result<Step, SessionFault>
     requires table { client.old.table ≡ service.now.server.now }
     requires quiet { is_some client.old.asked ≡ false }
-    ensures step { MatchResult result
-        (λ step. Steps step (number_of client.old.who) client.old client.new wire.old.unread wire.new.unread
-        wire.old.written wire.new.written replies.old.items replies.new.items)
-        (λ fault. Fails fault (number_of client.old.who) client.old client.new wire.old.unread wire.new.unread
-        wire.old.written wire.new.written replies.old.items replies.new.items) }
-    ensures goes { MatchResult result
-        (λ step. GoesOn false (is_last step) (number_of client.old.who) client.old client.new wire.old.events
-        wire.new.events replies.old.items replies.new.items)
-        (λ fault. GoesUntil fault false (number_of client.old.who) client.old client.new wire.old.events
-        wire.new.events replies.old.items replies.new.items) }
+    ensures step { TakesStep result (number_of client.old.who) client.old client.new wire.old wire.new
+        replies.old.items replies.new.items }
+    ensures goes { GoesOnOrUntil result (number_of client.old.who) client.old client.new wire.old wire.new
+        replies.old.items replies.new.items }
     ensures same { AreAlike client.old client.new }
     ensures sound { IsSound client.old → IsSound client.new }
 {
     match request_length(wire.at_hand()) {
-        Some(count) => serve_at_hand(service, client, wire, count, replies),
-        None => serve_awaited(service, client, wire, request, replies),
+        Some(count) => step_at_hand(service, client, wire, count, replies),
+        None => step_awaited(service, client, wire, request, replies),
     }
 }
 
 /// Takes the next request, answers it, and adds the reply to those that are held. Where several stand whole at hand, they
 /// are read together, each before its turn.
-pub(crate) fn serve_next<
-    W: Wait + Drop,
+pub(crate) fn take_step<
+    W: Follower + Drop,
     R: Wait,
     E: Evidence,
     K: Acknowledges<E>,
@@ -301,23 +256,17 @@ pub(crate) fn serve_next<
     requires table { client.old.table ≡ service.now.server.now }
     requires quiet { is_some client.old.asked ≡ false }
     requires ahead { AskFirst wire.old.at_hand (asked_ahead requests.old.ahead) }
-    ensures step { MatchResult result
-        (λ step. Steps step (number_of client.old.who) client.old client.new wire.old.unread wire.new.unread
-        wire.old.written wire.new.written replies.old.items replies.new.items)
-        (λ fault. Fails fault (number_of client.old.who) client.old client.new wire.old.unread wire.new.unread
-        wire.old.written wire.new.written replies.old.items replies.new.items) }
-    ensures goes { MatchResult result
-        (λ step. GoesOn false (is_last step) (number_of client.old.who) client.old client.new wire.old.events
-        wire.new.events replies.old.items replies.new.items)
-        (λ fault. GoesUntil fault false (number_of client.old.who) client.old client.new wire.old.events
-        wire.new.events replies.old.items replies.new.items) }
+    ensures step { TakesStep result (number_of client.old.who) client.old client.new wire.old wire.new
+        replies.old.items replies.new.items }
+    ensures goes { GoesOnOrUntil result (number_of client.old.who) client.old client.new wire.old wire.new
+        replies.old.items replies.new.items }
     ensures ahead { OnOk result (AskFirst wire.new.at_hand (asked_ahead requests.new.ahead)) }
     ensures same { AreAlike client.old client.new }
     ensures sound { IsSound client.old → IsSound client.new }
 {
     requests.ahead.look(service.alloc, wire.at_hand());
     match requests.ahead.next() {
-        Some(request) => serve_ahead(service, client, wire, request, replies),
-        None => serve_alone(service, client, wire, &mut requests.alone, replies),
+        Some(request) => step_ahead(service, client, wire, request, replies),
+        None => step_alone(service, client, wire, &mut requests.alone, replies),
     }
 }

@@ -2,15 +2,15 @@
 ghost use Rattle.std.specs.Prelude.{◌≡◌, ◌≤◌, ℕ, List, [], ◌∷◌, Option, length, take, drop, IfOk, IfErr, MatchResult};
 ghost use Rattle.std.specs.Io.Buffered.{reader_buffer, reader_remaining};
 ghost use Rattle.std.specs.Io.KnownBytes.{Appends, Consumes};
-ghost use Rattle.session_requests.specs.Next.{IsFound, IsRequestFault};
-ghost use Rattle.ssb_report.specs.Written.{AppendsPart};
+ghost use Rattle.ssb_script.specs.NextRequest.{IsFound, IsRequestFault};
+ghost use Rattle.ssb_text.specs.Written.{AppendsPart};
 ghost use Rattle.stream_sessions.specs.Events.{WireRecord, Looks, Takes, Passes, most_covered};
 ghost use Rattle.stream_sessions.specs.Session.{most_bytes};
 
 use crate::acknowledges::Evidence;
 use crate::events::Events;
-use session_requests::{Found, MOST_BYTES, RequestError, next_request};
-use ssb_report::write_bytes;
+use ssb_script::{MOST_BYTES, NextRequest, RequestError, next_request};
+use ssb_text::write_bytes;
 use std::io::{BufRead, BufReader, Read, Write};
 use std::marker::{Model, PhantomData};
 use thiserror::Error;
@@ -110,7 +110,10 @@ impl<I: Read + Drop, O: Write + Drop, E: Evidence> Wire<I, O, E> {
     }
 
     /// Takes the next request, as [`next_request`] does. The session may wait for its client here, and nowhere else.
-    pub(crate) fn next_request(&mut self, request: &mut Vec<u8>) -> Result<Found, RequestError>
+    pub(crate) fn next_request(
+        &mut self,
+        request: &mut Vec<u8>,
+    ) -> Result<NextRequest, RequestError>
         ensures taken { Consumes self.old.unread self.new.unread request.new.items }
         ensures found { IfOk result (λ found. IsFound found self.old.unread request.new.items) }
         ensures fault { IfErr result (λ error. IsRequestFault error most_bytes self.old.unread request.new.items) }

@@ -1,4 +1,4 @@
-use Rattle.ssb_report.proofs.WrittenLaws.{part_longer, writes_next, writes_stopped}
+use Rattle.ssb_text.proofs.WrittenLaws.{part_longer, writes_next, writes_stopped}
 use Rattle.run_command.specs.Served.{client_line}
 use Rattle.run_command.proofs.printing.write_client.Goals as goal
 

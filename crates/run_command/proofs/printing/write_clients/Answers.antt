@@ -1,6 +1,6 @@
 use Rattle.std.proofs.Common.{Global, List, Vec, ℕ}
-use Rattle.ssb_report.proofs.WrittenLaws.{writes_stopped}
-use Rattle.run_command.proofs.RunLaws.{appends_client, part_client}
+use Rattle.ssb_text.proofs.WrittenLaws.{writes_stopped}
+use Rattle.run_command.proofs.PrintingLaws.{appends_client, part_client}
 use Rattle.run_command.proofs.printing.write_clients.Goals as goal
 
 pub returns-in_err-write_client : goal.returns-in_err-write_client

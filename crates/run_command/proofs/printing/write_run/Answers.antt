@@ -1,5 +1,5 @@
 use Rattle.std.proofs.Common.{map}
-use Rattle.ssb_report.proofs.WrittenLaws.{part_longer, writes_next, writes_stopped}
+use Rattle.ssb_text.proofs.WrittenLaws.{part_longer, writes_next, writes_stopped}
 use Rattle.run_command.specs.Served.{clients_text, commits_line}
 use Rattle.run_command.proofs.printing.write_run.Goals as goal
 

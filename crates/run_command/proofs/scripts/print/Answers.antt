@@ -1,6 +1,6 @@
 use Rattle.std.proofs.Common.{◌∙◌, map, sym}
 use Rattle.std.specs.Io.KnownBytes.{Appends}
-use Rattle.ssb_report.proofs.WrittenLaws.{part_of_short}
+use Rattle.ssb_text.proofs.WrittenLaws.{part_of_short}
 use Rattle.run_command.specs.Served.{run_text}
 use Rattle.ssb_files.proofs.FlushedLaws.{appended_kept, appended_whole}
 use Rattle.ssb_files.proofs.ResultLaws.{is_ok_of, is_err_of}

@@ -1,6 +1,6 @@
 use Rattle.std.proofs.Common.{◌∙◌, sym}
 use Rattle.std.specs.Io.KnownBytes.{Appends}
-use Rattle.ssb_report.proofs.WrittenLaws.{part_of_short}
+use Rattle.ssb_text.proofs.WrittenLaws.{part_of_short}
 use Rattle.ssb_trace.specs.TraceText.{trace_text}
 use Rattle.ssb_files.proofs.FlushedLaws.{appended_kept, appended_whole}
 use Rattle.ssb_files.proofs.ResultLaws.{from_ok, from_err}

@@ -5,7 +5,7 @@ use Rattle.std.proofs.lemmas.List.Elements.{All-tail}
 use Rattle.std.proofs.lemmas.Iterator.Adapters.{YieldsList-from_vec}
 use Rattle.std.proofs.lemmas.Iterator.Consumers.{YieldsList-end}
 use Rattle.ssb_serving.proofs.ListLaws.{map_push, to_the_end}
-use Rattle.ssb_server.specs.Tickets.{IsOf}
+use Rattle.ssb_clients.specs.Tickets.{IsOf}
 use Rattle.ssb_serving.proofs.dispatchers.start_dispatchers.Goals as goal
 
 pub loop-dispatcher-init : goal.loop-dispatcher-init

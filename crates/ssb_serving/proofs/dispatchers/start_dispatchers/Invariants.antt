@@ -1,6 +1,6 @@
 use Rattle.std.proofs.Common.{◌≡◌, ◌+◌, ◌++◌, map, length, vec_len, vec_capacity}
 use Rattle.std.specs.Prelude.{All}
-use Rattle.ssb_server.specs.Tickets.{IsOf}
+use Rattle.ssb_clients.specs.Tickets.{IsOf}
 use Rattle.ssb_serving.proofs.dispatchers.start_dispatchers.Given as goal
 
 abbrev pub invariant-loop-dispatcher : goal.invariant-loop-dispatcher

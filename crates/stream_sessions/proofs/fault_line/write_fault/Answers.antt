@@ -1,7 +1,7 @@
 use Rattle.std.proofs.Common.{[], ◌∷◌, codes, decimal}
 use Rattle.std.specs.List.{concat}
 use Rattle.stream_sessions.specs.FaultLine.{schema_text}
-use Rattle.ssb_report.proofs.WrittenLaws.{writes_stopped, writes_next, part_longer}
+use Rattle.ssb_text.proofs.WrittenLaws.{writes_stopped, writes_next, part_longer}
 use Rattle.stream_sessions.proofs.fault_line.write_fault.Goals as goal
 
 pub returns-in-NoCommit : goal.returns-in-NoCommit

@@ -1,7 +1,7 @@
 use Rattle.std.proofs.Common.{◌++◌, codes}
-use Rattle.ssb_report.specs.Numbers.{line_feed}
+use Rattle.ssb_text.specs.Numbers.{line_feed}
 use Rattle.stream_sessions.specs.FaultLine.{fault_text}
-use Rattle.ssb_report.proofs.WrittenLaws.{writes_stopped, writes_next, part_longer, appends_both, appends_part}
+use Rattle.ssb_text.proofs.WrittenLaws.{writes_stopped, writes_next, part_longer, appends_both, appends_part}
 use Rattle.stream_sessions.proofs.fault_line.write_fault_line.Goals as goal
 
 pub returns-in_err-write_pieces : goal.returns-in_err-write_pieces

@@ -1,8 +1,8 @@
 use Rattle.std.proofs.Common.{◌≡◌, false, ap, subst, sym, arith}
 use Rattle.history.specs.Members.{number_of}
-use Rattle.session_requests.specs.Ahead.{AskFirst}
-use Rattle.session_requests.proofs.AheadLaws.{ask_nothing}
-use Rattle.ssb_serving.proofs.RequestLaws.{alike_itself, alike_both}
+use Rattle.ssb_script.specs.Ahead.{AskFirst}
+use Rattle.ssb_script.proofs.AheadLaws.{ask_nothing}
+use Rattle.stream_sessions.proofs.RequestLaws.{alike_itself, alike_both}
 use Rattle.stream_sessions.specs.declared.step.Step.TheVariants as step
 use Rattle.stream_sessions.proofs.ConversationLaws.{begins, goes_so, until_so}
 use Rattle.stream_sessions.proofs.SessionLaws.{IsThrough, through_none, through_next}
@@ -32,8 +32,8 @@ loop-answered-preserved g c =
       through = through_next _ _ _ _ _ _ _ _ _ _ _ _ _ inv.through
           (steps_so _ step.Request _ _ _ _ _ _ _ _ _ _ arm.field-0-is (ap number_of inv.alike.who) arm.ensures.step);
       conversed = goes_so _ step.Request _ _ _ _ _ _ _ _ _ _ arm.field-0-is (ap number_of inv.alike.who) arm.ensures.goes inv.conversed;
-      alike = alike_both _ _ _ inv.alike c.serve_next.ensures.same;
-      sound = λ sound. c.serve_next.ensures.sound (inv.sound sound);
+      alike = alike_both _ _ _ inv.alike c.take_step.ensures.same;
+      sound = λ sound. c.take_step.ensures.sound (inv.sound sound);
       ahead = arm.ensures.ahead;
     }
 

@@ -1,8 +1,8 @@
 use Rattle.std.proofs.Common.{false}
 use Rattle.history.specs.Tokens.{IsSound}
 use Rattle.history.specs.Members.{number_of}
-use Rattle.session_requests.specs.Ahead.{AskFirst}
-use Rattle.ssb_serving.specs.Steps.{AreAlike}
+use Rattle.ssb_script.specs.Ahead.{AskFirst}
+use Rattle.stream_sessions.specs.OneRequest.{AreAlike}
 use Rattle.stream_sessions.specs.Conversation.{Converses}
 use Rattle.stream_sessions.specs.Steps.{asked_ahead}
 use Rattle.stream_sessions.proofs.SessionLaws.{IsThrough}

@@ -1,5 +1,5 @@
 use Rattle.std.proofs.Common.{◌≡◌, true, [], Err, refl, rules, ap, length, arith}
-use Rattle.ssb_report.proofs.WrittenLaws.{appends_none}
+use Rattle.ssb_text.proofs.WrittenLaws.{appends_none}
 use Rattle.stream_sessions.proofs.ConversationLaws.{err_is}
 use Rattle.stream_sessions.proofs.StepLaws.{not_both}
 use Rattle.stream_sessions.proofs.step.hand_on_in_time.Goals as goal

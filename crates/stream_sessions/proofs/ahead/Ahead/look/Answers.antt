@@ -1,7 +1,7 @@
 use Rattle.std.proofs.Common.{ap, map, subst, sym}
 use Rattle.ssb_script.specs.Requests.{request_of}
-use Rattle.session_requests.specs.Ahead.{AskFirst}
-use Rattle.session_requests.proofs.AheadLaws.{ask_first}
+use Rattle.ssb_script.specs.Ahead.{AskFirst}
+use Rattle.ssb_script.proofs.AheadLaws.{ask_first}
 use Rattle.stream_sessions.proofs.ahead.Ahead.look.Goals as goal
 
 pub returns-in-Some : goal.returns-in-Some

@@ -1,4 +1,0 @@
-pub mod TraceLaws
-pub mod AloneLaws
-pub mod SessionLaws
-mod RunLaws

@@ -1,4 +1,0 @@
-pub mod Traces
-pub mod Alone
-pub mod Sessions
-pub mod Run

@@ -1,0 +1,26 @@
+use Rattle.std.proofs.Common.{◌≡◌, List, ◌++◌, ◌∙◌, length, ap, subst, arith}
+use Rattle.history_core.specs.Events.{Questions}
+use Rattle.history_core.specs.Responses.{answers_in}
+use Rattle.stream_sessions.specs.Served.{IsAnswered}
+use Rattle.stream_sessions.proofs.RequestLaws.{answered, asked_same}
+use Rattle.stream_sessions.proofs.reply.answers_to.Goals as goal
+
+pub put_answers-requires : goal.put_answers-requires
+put_answers-requires g c =
+    let same = asked_same _ _ _ _ _ c.ask.ensures.asked c.await_answer-response.ensures.polled in
+    omega (
+      arith,
+      ap length same,
+      c.len.ensures,
+      c.in_ok-answers.ensures.capacity,
+      c.in_ok-answers.ensures.len,
+    )
+
+pub returns-clause-answered : goal.returns-clause-answered
+returns-clause-answered g c =
+    let are : c.put_answers.new.answers.items ≡ answers_in c.await_answer-response.result =
+    c.put_answers.ensures ∙ ap (λ l. l ++ answers_in c.await_answer-response.result)
+    c.in_ok-answers.ensures.items in
+    subst (λ (questions : Questions). IsAnswered c.args.client.now questions c.put_answers.new.answers.items
+    c.await_answer-response.new.self) c.in_ok-questions.ensures (answered _ _ _ _ _ _ c.ask.ensures.asked
+    c.ask.ensures.sound c.await_answer-response.ensures.polled c.await_answer-response.ensures.sound are)

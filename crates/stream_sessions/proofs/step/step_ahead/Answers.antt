@@ -1,0 +1,112 @@
+use Rattle.std.proofs.Common.{◌≡◌, ℕ, false, true, List, Option, Err, take, refl, sym, subst, inl, inr, rules, ◌∙◌}
+use Rattle.history.specs.Members.{number_of}
+use Rattle.ssb_script.specs.Ahead.{AsksFirst, IsWhole}
+use Rattle.ssb_script.proofs.AheadLaws.{asks_whole}
+use Rattle.ssb_script.specs.Requests.{request_of}
+use Rattle.stream_sessions.specs.Steps.{Fails, Steps, TakesRequest}
+use Rattle.stream_sessions.specs.declared.outcome.SessionFault.TheVariants as fault
+use Rattle.stream_sessions.specs.declared.step.Step.TheVariants as step
+use Rattle.stream_sessions.proofs.AheadLaws.{takes_front}
+use Rattle.stream_sessions.proofs.ConversationLaws.{err_is, goes_both, memory_fails, takes}
+use Rattle.stream_sessions.proofs.StepLaws.{runs_out, where_known}
+use Rattle.stream_sessions.proofs.step.step_ahead.Goals as goal
+
+pub unreachable-requires : goal.unreachable-requires
+unreachable-requires g c =
+    let first = c.requires.first in
+    c.in_default.ensures.none first.request first.more first.is
+    (c.at_hand.ensures ∙ c.hand_on_in_time.ensures.at_hand ∙ first.joined)
+
+pub take-requires : goal.take-requires
+take-requires g c = (subst (IsWhole c.in-Some.size) c.at_hand.ensures c.in-Some.ensures.whole).0
+
+pub returns-in_err-hand_on_in_time-clause-step : goal.returns-in_err-hand_on_in_time-clause-step
+returns-in_err-hand_on_in_time-clause-step g c =
+    let failed = c.in_err-hand_on_in_time in
+    let why = failed.field-0.0 in
+    let is : c.from_residual.result ≡ Err why = search rules in
+    err_is c.from_residual.result why _ _ is (inl (record {
+      is = failed.ensures.handed.1;
+      unchanged = refl;
+      unread_is = c.hand_on_in_time.ensures.unread;
+      written = failed.ensures.handed.0;
+    }))
+
+pub returns-in_err-hand_on_in_time-clause-goes : goal.returns-in_err-hand_on_in_time-clause-goes
+returns-in_err-hand_on_in_time-clause-goes g c =
+    let failed = c.in_err-hand_on_in_time in
+    let why = failed.field-0.0 in
+    let is : c.from_residual.result ≡ Err why = search rules in
+    err_is c.from_residual.result why _ _ is (failed.ensures.goes false (number_of c.args.client.now.who))
+
+pub returns-in-Ok-clause-step : goal.returns-in-Ok-clause-step
+returns-in-Ok-clause-step g c =
+    let wire = c.hand_on_in_time.new.wire in
+    let size = c.in-Some.size in
+    let first = subst (λ (bytes : List ℕ). AsksFirst bytes (request_of c.args.request)) (sym c.hand_on_in_time.ensures.at_hand)
+    c.requires.first in
+    let whole = subst (IsWhole size) c.at_hand.ensures c.in-Some.ensures.whole in
+    let text = take size wire.at_hand in
+    where_known (λ (u w : Option (List ℕ)). Steps step.Request (number_of c.args.client.now.who) c.args.client.now c.answer_read-answered.new.client u c.take.new.self.unread
+    c.args.wire.now.written w c.args.replies.now.items c.answer_read-answered.new.replies.items) c.args.wire.now.unread
+    c.hand_on_in_time.new.wire.unread c.hand_on_in_time.new.wire.written c.take.new.self.written c.hand_on_in_time.ensures.unread c.take.ensures.written
+    (record {
+      kept = c.hand_on_in_time.new.replies.items;
+      handed = c.in_ok-hand_on_in_time.ensures.handed;
+      bytes = text;
+      read = c.take.ensures.taken;
+      so = (whole.1, c.in-Ok.ensures.answered text (asks_whole wire.at_hand _ size first whole));
+    })
+
+pub returns-in-Err-clause-step : goal.returns-in-Err-clause-step
+returns-in-Err-clause-step g c =
+    let wire = c.hand_on_in_time.new.wire in
+    let size = c.in-Some.size in
+    let first = subst (λ (bytes : List ℕ). AsksFirst bytes (request_of c.args.request)) (sym c.hand_on_in_time.ensures.at_hand)
+    c.requires.first in
+    let whole = subst (IsWhole size) c.at_hand.ensures c.in-Some.ensures.whole in
+    let text = take size wire.at_hand in
+    where_known (λ (u w : Option (List ℕ)). Fails fault.OutOfMemory (number_of c.args.client.now.who) c.args.client.now c.answer_read-answered.new.client u c.take.new.self.unread
+    c.args.wire.now.written w c.args.replies.now.items c.answer_read-answered.new.replies.items) c.args.wire.now.unread
+    c.hand_on_in_time.new.wire.unread c.hand_on_in_time.new.wire.written c.take.new.self.written c.hand_on_in_time.ensures.unread c.take.ensures.written
+    (runs_out _ _ _ _ _ _ _ _ _ _ text text c.in_ok-hand_on_in_time.ensures.handed c.take.ensures.taken (inl whole.1) refl
+    (c.in-Err.ensures.answered text (asks_whole wire.at_hand _ size first whole)))
+
+pub returns-in-Ok-clause-goes : goal.returns-in-Ok-clause-goes
+returns-in-Ok-clause-goes g c =
+    let wire = c.hand_on_in_time.new.wire in
+    let size = c.in-Some.size in
+    let first = subst (λ (bytes : List ℕ). AsksFirst bytes (request_of c.args.request)) (sym c.hand_on_in_time.ensures.at_hand)
+    c.requires.first in
+    let whole = subst (IsWhole size) c.at_hand.ensures c.in-Some.ensures.whole in
+    let text = take size wire.at_hand in
+    goes_both false false false (number_of c.args.client.now.who) c.args.client.now c.args.client.now c.answer_read-answered.new.client c.args.wire.now.events
+    wire.events c.take.new.self.events c.args.replies.now.items c.hand_on_in_time.new.replies.items c.answer_read-answered.new.replies.items
+    (c.in_ok-hand_on_in_time.ensures.goes false (number_of c.args.client.now.who))
+    (takes false (number_of c.args.client.now.who) c.args.client.now c.answer_read-answered.new.client wire.events c.take.new.self.events text c.hand_on_in_time.new.replies.items
+    c.answer_read-answered.new.replies.items c.take.ensures.events c.in_ok-hand_on_in_time.ensures.few
+    (whole.1, c.in-Ok.ensures.answered text (asks_whole wire.at_hand _ size first whole)))
+
+pub returns-in-Err-clause-goes : goal.returns-in-Err-clause-goes
+returns-in-Err-clause-goes g c =
+    let wire = c.hand_on_in_time.new.wire in
+    let size = c.in-Some.size in
+    let first = subst (λ (bytes : List ℕ). AsksFirst bytes (request_of c.args.request)) (sym c.hand_on_in_time.ensures.at_hand)
+    c.requires.first in
+    let whole = subst (IsWhole size) c.at_hand.ensures c.in-Some.ensures.whole in
+    let text = take size wire.at_hand in
+    memory_fails (number_of c.args.client.now.who) c.args.client.now c.answer_read-answered.new.client c.args.wire.now.events
+    c.take.new.self.events c.args.replies.now.items c.answer_read-answered.new.replies.items
+    (goes_both false false true (number_of c.args.client.now.who) c.args.client.now c.args.client.now c.answer_read-answered.new.client c.args.wire.now.events
+    wire.events c.take.new.self.events c.args.replies.now.items c.hand_on_in_time.new.replies.items c.answer_read-answered.new.replies.items
+    (c.in_ok-hand_on_in_time.ensures.goes false (number_of c.args.client.now.who))
+    (takes true (number_of c.args.client.now.who) c.args.client.now c.answer_read-answered.new.client wire.events c.take.new.self.events text c.hand_on_in_time.new.replies.items
+    c.answer_read-answered.new.replies.items c.take.ensures.events c.in_ok-hand_on_in_time.ensures.few
+    (inr (inl (c.in-Err.ensures.answered text (asks_whole wire.at_hand _ size first whole))))))
+
+pub returns-in-Ok-clause-taken : goal.returns-in-Ok-clause-taken
+returns-in-Ok-clause-taken g c =
+    let wire = c.hand_on_in_time.new.wire in
+    let whole = subst (IsWhole c.in-Some.size) c.at_hand.ensures c.in-Some.ensures.whole in
+    subst (λ (bytes : List ℕ). TakesRequest bytes c.take.new.self.at_hand) c.hand_on_in_time.ensures.at_hand
+    (takes_front wire.at_hand c.take.new.self.at_hand c.in-Some.size whole c.take.ensures.at_hand)

@@ -1,0 +1,98 @@
+//! The reply to one request of a client.
+ghost use Rattle.std.specs.Prelude.{◌≡◌, false, OnErr, IfOk};
+ghost use Rattle.std.specs.Option.{is_some};
+ghost use Rattle.history.specs.Tokens.{IsSound};
+ghost use Rattle.history.specs.Members.{number_of};
+ghost use Rattle.history_core.specs.declared.event.Who.TheVariants.{Client as IsNumbered};
+ghost use Rattle.ssb_report.specs.Replies.{reply_text};
+ghost use Rattle.ssb_text.specs.Written.{Writes};
+ghost use Rattle.ssb_script.specs.Requests.{questions_in, request_of};
+ghost use Rattle.stream_sessions.specs.OneRequest.{AreAlike};
+ghost use Rattle.stream_sessions.specs.Replies.{reply_of};
+ghost use Rattle.stream_sessions.specs.Served.{IsAnswered, IsServed};
+
+use crate::service::Service;
+use row_store::{Follower, Receipt, RefreshError};
+use ssb_answers::Answer;
+use ssb_clients::Client;
+use ssb_report::{write_aborted, write_answers, write_reply};
+use ssb_script::{Asking, Request};
+use ssb_text::WriteFault;
+use std::alloc::AllocError;
+use std::io::Write;
+use std::sync::Wait;
+
+/// What a request is answered.
+#[derive(Drop)]
+pub enum Reply {
+    /// The receipt of a refresh, or why it was refused.
+    Refreshed(Result<Receipt, RefreshError>),
+    /// An answer to each question that was asked, in order.
+    Answered(Vec<Answer>),
+    /// What was begun is dropped.
+    Aborted,
+}
+
+impl Reply {
+    /// Writes the report of the reply.
+    pub(crate) fn write<O: Write>(&self, writer: &mut O) -> Result<(), WriteFault>
+        ensures { Writes (O.contents writer.old) (O.contents writer.new) result (reply_text (reply_of self.now)) }
+    {
+        match self {
+            Reply::Refreshed(result) => write_reply(writer, result),
+            Reply::Answered(answers) => write_answers(writer, answers.as_slice()),
+            Reply::Aborted => write_aborted(writer),
+        }
+    }
+}
+
+// Asks questions in one request. All memory is taken before.
+fn answers_to<W: Follower + Drop, R: Wait, K>(
+    service: &Service<'_, W, R, K>,
+    client: &mut Client<W>,
+    asking: Asking,
+) -> Result<Vec<Answer>, AllocError>
+    requires table { client.old.table ≡ service.now.server.now }
+    requires quiet { is_some client.old.asked ≡ false }
+    ensures answered { IfOk result (λ answers. IsAnswered client.old (questions_in asking) answers.items client.new) }
+    ensures refused { OnErr result (client.new ≡ client.old) }
+    ensures same { AreAlike client.old client.new }
+    ensures sound { IsSound client.old → IsSound client.new }
+{
+    let questions = asking.into_questions(service.alloc)?;
+    let mut answers = Vec::with_capacity(service.alloc, questions.len())?;
+    client.ask(service.server, questions);
+    let response = client.await_answer(service.rt, service.server);
+    response.put_answers(&mut answers);
+    Ok(answers)
+}
+
+/// The reply to a request of a client: the server was asked for what it asks. It waits for the rows and for answers.
+/// Where memory runs out, nothing was asked.
+pub(crate) fn reply_to<W: Follower + Drop, R: Wait, K>(
+    service: &Service<'_, W, R, K>,
+    client: &mut Client<W>,
+    number: u32,
+    request: Request,
+) -> Result<Reply, AllocError>
+    requires table { client.old.table ≡ service.now.server.now }
+    requires who { client.old.who ≡ IsNumbered number }
+    requires quiet { is_some client.old.asked ≡ false }
+    ensures served { IfOk result (λ reply. IsServed number client.old (request_of request) (reply_of reply)
+        client.new) }
+    ensures refused { OnErr result (client.new ≡ client.old) }
+    ensures same { AreAlike client.old client.new }
+    ensures sound { IsSound client.old → IsSound client.new }
+{
+    match request {
+        Request::Refresh(refresh) => {
+            let result = client.refresh(service.rt, service.server, refresh);
+            Ok(Reply::Refreshed(result))
+        }
+        Request::Ask(asking) => {
+            let answers = answers_to(service, client, asking)?;
+            Ok(Reply::Answered(answers))
+        }
+        Request::Abort => Ok(Reply::Aborted),
+    }
+}
