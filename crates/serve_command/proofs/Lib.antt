@@ -1,5 +1,10 @@
-pub mod StandingLaws
-pub mod StatusLaws
-pub mod SessionLaws
-pub mod ServedLaws
-pub mod JournaledLaws
+mod BeginningLaws
+mod ReadingLaws
+mod SeatLaws
+mod RemakingLaws
+mod RunLaws
+mod StandingLaws
+mod StatusLaws
+mod SessionLaws
+mod JournalLaws
+mod ServedLaws

@@ -11,8 +11,8 @@ use Rattle.serve_command.specs.Sessions.{AreSessions, HasConversed, HasEnded, Ha
 use Rattle.serve_command.specs.Sessions.{HasStreamed, most_told}
 use Rattle.serve_command.specs.declared.speakers.SessionEnd.{SessionEnd}
 use Rattle.serve_command.specs.declared.speakers.SessionEnd.TheVariants.{Last}
-use Rattle.session_requests.proofs.RequestLaws.{nothing_is_unfinished}
-use Rattle.ssb_report.proofs.WrittenLaws.{appends_none}
+use Rattle.ssb_script.proofs.RequestLaws.{nothing_is_unfinished}
+use Rattle.ssb_text.proofs.WrittenLaws.{appends_none}
 use Rattle.stream_sessions.specs.Conversation.{Converses, ConversesUntil}
 use Rattle.stream_sessions.specs.Events.{Event, most_covered}
 use Rattle.stream_sessions.specs.Session.{Serves, Breaks}

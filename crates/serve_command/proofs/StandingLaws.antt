@@ -1,6 +1,6 @@
 -- Questions that may not stand.
 use Rattle.std.proofs.Common.{◌≡◌, ℕ, List, subst}
-use Rattle.serve_command.specs.Standing.{HasTooManyGroups, MayNotStand}
+use Rattle.serve_command.specs.Standing.{MayHaveTooManyGroups, MayNotStand}
 use Rattle.ssb_base.specs.Base.{Tables}
 use Rattle.ssb_files.specs.Loaded.{IsLoadedToServe}
 use Rattle.ssb_questions.specs.declared.query.Query.{Query}
@@ -10,9 +10,9 @@ use Rattle.ssb_schema.specs.declared.table.Table.{Table}
 -- over the base that the texts spell, which was shared, as the questions were
 pub may_not_stand : (texts : Table → List ℕ) (base shared : Tables) (standing : List (Query × List Value))
     (seen : List (Query × List Value)) → shared ≡ base → seen ≡ standing → IsLoadedToServe texts base
-    → HasTooManyGroups shared seen → MayNotStand texts standing
+    → MayHaveTooManyGroups shared seen → MayNotStand texts standing
 may_not_stand texts base shared standing seen same these loaded many = record {
   base = base;
   loaded = loaded;
-  many = subst (HasTooManyGroups base) these (subst (λ tables. HasTooManyGroups tables seen) same many);
+  many = subst (MayHaveTooManyGroups base) these (subst (λ tables. MayHaveTooManyGroups tables seen) same many);
 }

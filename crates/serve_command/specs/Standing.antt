@@ -7,12 +7,12 @@ use Rattle.ssb_questions.specs.declared.query.Query.{Query}
 use Rattle.ssb_questions.specs.declared.value.Value.{Value}
 use Rattle.ssb_schema.specs.declared.table.Table.{Table}
 
--- one of these questions is the first that has too many groups over the base
-abbrev pub HasTooManyGroups : Tables → List (Query × List Value) → Type 0
-HasTooManyGroups base standing = (place : ℕ) × IsFirstOfMany base standing place
+-- one of these questions is the first that may have too many groups over the base
+abbrev pub MayHaveTooManyGroups : Tables → List (Query × List Value) → Type 0
+MayHaveTooManyGroups base standing = (place : ℕ) × IsFirstOfMany base standing place
 
--- the five texts spell a base over which one of these questions has too many groups
+-- the five texts spell a base over which one of these questions may have too many groups
 pub record MayNotStand (texts : Table → List ℕ) (standing : List (Query × List Value)) : Type 0 where
   pub base : Tables
   pub loaded : IsLoadedToServe texts base
-  pub many : HasTooManyGroups base standing
+  pub many : MayHaveTooManyGroups base standing

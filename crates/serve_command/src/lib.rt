@@ -1,48 +1,66 @@
-//! The word `serve`: the live server over streams of bytes, whose clients are served as their requests come.
+//! The word `serve`: the live server over streams of bytes, whose clients are served as their requests come, with a
+//! journal or without one.
 //!
 //! ```text
-//! tables ── base_to_serve ─▶ base ── serve_streams ─┬─ one client: standard input and output   (serve_stream)
-//!                             │               └─ 1 to 16, each with a thread that opens  (serve_clients)
-//!                             │                  its OUT and then its IN, again and again where they are kept
-//! journal's file ── open ─▶ commits ── serve_journaled ── the same clients                 (serve_source)
+//! tables ── base_of ─▶ base ── run_over ─┬─ serve_stream: one client, over a reader and a writer
+//!                                │       └─ serve_clients: 1 to 16, each with a thread that opens its OUT and then its
+//!                                │          IN, again and again where they are kept
+//!                                ├─ without a journal: from no commits, and told at once
+//!                                └─ behind the commits of a journal's file: told once they are on the disk
+//!
+//! journal's commits ── their clients make them again ─▶ live server ◀── sessions ──▶ replies
+//!                                                          │ log                        ▲ once all that the client
+//!                                                          ▼                            │ has seen is on the disk
+//!                                                      shared journal ── groups ──▶ disk
+//!
 //! terminal ── Prompted ─▶ its bytes; a prompt before each wait, and help where it is asked for
 //! ```
 //!
 //! The contract of [`serve_stream`] (`specs/Served.antt`): with status 0 the session of the only client of a live
 //! server, over the base that the texts spell, was served to its end, and the output has all that was told; where the
 //! session broke, what was told before, or a part of that where writing failed (`specs/Sessions.antt`). The server's
-//! history is legal, and all its commits are this client's. That of [`serve_clients`]: with status 0 there was such a
-//! server, each of whose clients had sessions, one after another, the last of which was served to its end; the history
-//! has the commits of these clients and no others. 1 tells of refused data, or of a question that may not stand, 2 of
-//! too many clients alone. Which questions stand changes nothing else of it.
+//! history is legal, and all its commits are of its clients. That of [`serve_clients`]: with status 0 there was such a
+//! server, each of whose clients had sessions, one after another, the last of which was served to its end. 1 tells of
+//! refused data, a refused journal, or a question that may not stand, 2 of too many clients alone. Which questions stand
+//! changes nothing else of it.
 //!
-//! With a journal (`specs/Journaled.antt`) the history begins with the commits that the journal's file keeps, and each
+//! With a journal (`specs/Journals.antt`) the history begins with the commits that the journal's file keeps, and each
 //! client has seen them before its first session; and whatever crashes after the run leaves at least as many commits as
-//! any client was told of. That is what its wires passed on, with evidence in hand, and no number of its own.
+//! any client was told of. That is what its wires passed on, with evidence in hand ([`Durable`]), and no number of its
+//! own. A server without one goes on from no commits. That of [`run_source`] (`specs/JournaledRun.antt`): it opens a
+//! server of sixteen clients with a reader of its log, has the clients make the journal's commits again, cuts off what
+//! a crash has torn, and runs the sessions; clients without a session rest. Nothing is written before all commits are
+//! made again: the first that is refused is a fault. One session writes all new commits as a group, the others wait for
+//! it, and what comes meanwhile is the next group. No thread is the journal's own.
 //!
 //! What the system opens, and what a terminal shows, is in no contract.
 //!
 //! ```text
-//! let status = serve_clients(rt, settings, tables, clients, screen);
+//! let ended = serve_clients(rt, settings, tables, place, clients, screen);     // place: None without a journal
 //! ```
 #![tactic(auto)]
 
+mod acknowledging;
 mod ends;
 mod fault;
-mod journal_fault;
-mod journaled;
+mod journal_source;
+mod journaled_run;
 mod loading;
 mod prompted;
+mod remaking;
+mod runs;
+mod server_log;
 mod serving;
 mod speakers;
+mod unserved;
 
+pub use acknowledging::Durable;
 pub use ends::{EndFault, EndPaths, Ends, open_ends, report_no_pipes};
-pub use journal_fault::JournalRefusal;
-pub use journaled::{
-    ClientsEnd, JournalPlace, JournalSource, JournaledEnd, serve_clients_journaled, serve_source,
-    serve_stream_journaled,
-};
+pub use fault::ServeRefusal;
+pub use journal_source::{JournalPlace, JournalSource, run_source};
+pub use journaled_run::JournaledRun;
 pub use prompted::Prompted;
-pub use serving::{
-    MOST_CLIENTS, PathClients, ServeSettings, StreamEnd, serve_clients, serve_stream,
-};
+pub use runs::ServeSettings;
+pub use serving::{ClientsEnd, MOST_CLIENTS, PathClients, StreamEnd, serve_clients, serve_stream};
+pub use speakers::StreamClient;
+pub use unserved::JournaledFault;

@@ -1,7 +1,7 @@
 //! The base as a server takes it, with the questions that are to stand.
 
 ghost use Rattle.std.specs.Prelude.{◌≡◌, ◌≢◌, IfOk, IfErr};
-ghost use Rattle.serve_command.specs.Standing.{HasTooManyGroups};
+ghost use Rattle.serve_command.specs.Standing.{MayHaveTooManyGroups};
 ghost use Rattle.ssb_files.specs.Status.{status_of};
 
 use ssb_base::Base;
@@ -12,7 +12,7 @@ use std::hash::RandomState;
 use std::sync::Arc;
 use std::thread::Threads;
 
-/// The base with these questions, which stand from then on. The first of them that has too many groups is refused.
+/// The base with these questions, which stand from then on. The first of them that may have too many groups is refused.
 pub(crate) fn load<R: Threads + Sync + AllocGlobal>(
     rt: &R,
     hashing: RandomState,
@@ -20,7 +20,7 @@ pub(crate) fn load<R: Threads + Sync + AllocGlobal>(
     standing: &[Question],
 ) -> Result<Loaded, Fault>
     ensures base { IfOk result (λ loaded. loaded ≡ base.now.value) }
-    ensures refused { IfErr result (λ fault. status_of fault ≡ 1 → HasTooManyGroups base.now.value standing.now) }
+    ensures refused { IfErr result (λ fault. status_of fault ≡ 1 → MayHaveTooManyGroups base.now.value standing.now) }
     ensures words { IfErr result (λ fault. status_of fault ≢ 2) }
 {
     match Loaded::new(rt, rt.alloc(), hashing, base, standing) {

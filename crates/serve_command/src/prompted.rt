@@ -1,6 +1,6 @@
 //! What a person at a terminal sees beside the replies: a prompt before each wait, and help where it is asked for.
 
-use session_requests::{Block, begun_behind, ends_request};
+use ssb_script::{BlockKind, begun_behind, ends_request};
 use std::alloc::Global;
 use std::io;
 use std::io::{Read, Write};
@@ -31,7 +31,7 @@ pub struct Prompted<'a, I: Read + Drop, E: Write + Drop> {
     help: &'a str,
     // The line that is being read, and the block that was begun before it.
     line: Vec<u8>,
-    begun: Option<Block>,
+    begun: Option<BlockKind>,
     is_greeted: bool,
 }
 
@@ -56,8 +56,8 @@ impl<'a, I: Read + Drop, E: Write + Drop> Prompted<'a, I, E> {
         }
         if self.line.is_empty() {
             let prompt = match self.begun {
-                Some(Block::Refreshing) => REFRESH_PROMPT,
-                Some(Block::Asking) => ASK_PROMPT,
+                Some(BlockKind::Refreshing) => REFRESH_PROMPT,
+                Some(BlockKind::Asking) => ASK_PROMPT,
                 None => PROMPT,
             };
             let _ = self.screen.write_all(prompt.as_bytes());

@@ -4,10 +4,11 @@ ghost use Rattle.std.specs.Prelude.{◌≡◌, ℕ, false, IsOk, IsTrue};
 ghost use Rattle.std.specs.Option.{is_some};
 ghost use Rattle.history.specs.Members.{number_of};
 ghost use Rattle.serve_command.specs.Sessions.{HasLeft, HasServedOnce, HasStreamed};
-ghost use Rattle.ssb_serving.specs.Steps.{AreAlike};
+ghost use Rattle.stream_sessions.specs.OneRequest.{AreAlike};
 
 use crate::ends::{EndFault, EndPaths, Ends, open_ends};
-use ssb_server::{Client, Server};
+use row_store::Follower;
+use ssb_clients::{Client, Server};
 use std::alloc::Global;
 use std::io::{BufReader, Print, Read, Write};
 use std::rt::Files;
@@ -42,8 +43,8 @@ pub struct StreamLeft<O: Write + Drop> {
 }
 
 // Serves a session to a client whose ends are open, and closes the one that is read.
-fn serve_over<
-    W: Wait + Drop,
+fn speak_over<
+    W: Follower + Drop,
     R: Wait,
     I: Read + Drop,
     O: Write + Drop,
@@ -102,7 +103,7 @@ impl<I: Read + Drop, O: Write + Drop> Speaker for StreamClient<I, O> {
 }
 
 impl<R: Wait, I: Read + Drop, O: Write + Drop, Y: Evidence> Speaks<R, Y> for StreamClient<I, O> {
-    fn speak<W: Wait + Drop, K: Acknowledges<Y>>(
+    fn speak<W: Follower + Drop, K: Acknowledges<Y>>(
         self,
         rt: &R,
         alloc: Global,
@@ -110,7 +111,7 @@ impl<R: Wait, I: Read + Drop, O: Write + Drop, Y: Evidence> Speaks<R, Y> for Str
         server: &Server<W>,
         client: &mut Client<W>,
     ) -> StreamLeft<O> {
-        serve_over::<W, R, I, O, Y, K>(rt, alloc, acknowledger, server, client, self)
+        speak_over::<W, R, I, O, Y, K>(rt, alloc, acknowledger, server, client, self)
     }
 }
 
@@ -188,7 +189,7 @@ impl<'a, F: Files, E: Print> PathClient<'a, F, E> {
 
     // Opens the ends, and serves a session over them. The end that is read is closed first. It tells of how many
     // commits was told, too.
-    fn serve_once<W: Wait + Drop, R: Wait, Y: Evidence, K: Acknowledges<Y>>(
+    fn speak_once<W: Follower + Drop, R: Wait, Y: Evidence, K: Acknowledges<Y>>(
         &self,
         rt: &R,
         alloc: Global,
@@ -216,7 +217,7 @@ impl<'a, F: Files, E: Print> PathClient<'a, F, E> {
             output: _,
             ended,
             told,
-        } = serve_over::<W, R, F::File, F::File, Y, K>(
+        } = speak_over::<W, R, F::File, F::File, Y, K>(
             rt,
             alloc,
             acknowledger,
@@ -251,7 +252,7 @@ impl<'a, F: Files, E: Print> Speaker for PathClient<'a, F, E> {
 }
 
 impl<'a, R: Wait + Clock, F: Files, E: Print, Y: Evidence> Speaks<R, Y> for PathClient<'a, F, E> {
-    fn speak<W: Wait + Drop, K: Acknowledges<Y>>(
+    fn speak<W: Follower + Drop, K: Acknowledges<Y>>(
         self,
         rt: &R,
         alloc: Global,
@@ -261,7 +262,7 @@ impl<'a, R: Wait + Clock, F: Files, E: Print, Y: Evidence> Speaks<R, Y> for Path
     ) -> PathLeft {
         let mut told: u64 = 0;
         for _ in rt.forever() {
-            let (end, now) = self.serve_once(rt, alloc, acknowledger, server, client);
+            let (end, now) = self.speak_once(rt, alloc, acknowledger, server, client);
             told = told.max(now);
             match end {
                 SessionEnd::Again => {

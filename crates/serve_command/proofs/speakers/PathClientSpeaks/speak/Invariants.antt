@@ -1,6 +1,6 @@
 use Rattle.history.specs.Members.{number_of}
 use Rattle.serve_command.specs.Sessions.{HasHad}
-use Rattle.ssb_serving.specs.Steps.{AreAlike}
+use Rattle.stream_sessions.specs.OneRequest.{AreAlike}
 use Rattle.serve_command.proofs.speakers.PathClientSpeaks.speak.Given as goal
 
 -- it is the same client, which has had sessions that told of so many commits at most
