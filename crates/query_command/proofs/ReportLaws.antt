@@ -8,7 +8,7 @@ use Rattle.ssb_answers.specs.declared.answer.Answer.{Answer}
 use Rattle.ssb_formats.specs.Formats.{shown, answers_shown}
 use Rattle.ssb_formats.specs.declared.format.Format.{Format}
 use Rattle.ssb_files.proofs.FlushedLaws.{appended_kept, appended_whole}
-use Rattle.ssb_report.specs.Written.{AppendsPart}
+use Rattle.ssb_text.specs.Written.{AppendsPart}
 use Rattle.ssb_schema.specs.declared.table.Table.{Table}
 
 pub report_of_answers : (format : Format) (texts : Table → List ℕ) (questions : List (Query × List Value))

@@ -11,7 +11,7 @@ use Rattle.ssb_answers.specs.declared.answer.Answer.TheVariants as answer
 use Rattle.ssb_answers.specs.declared.answer.Rows.{Rows}
 use Rattle.ssb_formats.specs.Formats.{shown, answers_shown}
 use Rattle.ssb_formats.specs.declared.format.Format.{Format}
-use Rattle.ssb_report.specs.Written.{AppendsPart}
+use Rattle.ssb_text.specs.Written.{AppendsPart}
 use Rattle.ssb_base.specs.Base.{Tables}
 use Rattle.ssb_schema.specs.Facts.{facts_of}
 use Rattle.ssb_base.specs.Limits.{limits_of}

@@ -8,7 +8,7 @@ ghost use Rattle.ssb_files.specs.Loaded.{AreRefused};
 ghost use Rattle.ssb_files.specs.Status.{status_of};
 ghost use Rattle.ssb_text.specs.Load.{AreTexts};
 ghost use Rattle.ssb_formats.specs.Formats.{answers_shown};
-ghost use Rattle.ssb_report.specs.Written.{AppendsPart};
+ghost use Rattle.ssb_text.specs.Written.{AppendsPart};
 ghost use Rattle.ssb_schema.specs.declared.table.Table.{Table};
 ghost use Rattle.std.specs.Io.KnownBytes.{Appends, Keeps};
 

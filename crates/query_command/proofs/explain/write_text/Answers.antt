@@ -1,7 +1,7 @@
 use Rattle.std.proofs.Common.{◌∙◌, subst, sym}
 use Rattle.std.specs.Io.KnownBytes.{Appends}
-use Rattle.ssb_report.specs.Written.{AppendsPart}
-use Rattle.ssb_report.proofs.WrittenLaws.{part_of_short}
+use Rattle.ssb_text.specs.Written.{AppendsPart}
+use Rattle.ssb_text.proofs.WrittenLaws.{part_of_short}
 use Rattle.ssb_files.proofs.FlushedLaws.{appended_kept, appended_whole}
 use Rattle.ssb_files.proofs.ResultLaws.{is_ok_of, is_err_of}
 use Rattle.query_command.proofs.explain.write_text.Goals as goal
