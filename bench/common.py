@@ -13,6 +13,7 @@ import tempfile
 HERE = pathlib.Path(__file__).resolve().parent
 LIVE = pathlib.Path(os.environ.get("SSB_LIVE", HERE.parent / "crates/ssb_live/out/ssb_live")).absolute()
 WORK = pathlib.Path(os.environ.get("WORK", pathlib.Path(tempfile.gettempdir()) / "ssb_bench")).absolute()
+TABLES = "customer supplier part date lineorder".split()
 NAMES = "Q1.1 Q1.2 Q1.3 Q2.1 Q2.2 Q2.3 Q3.1 Q3.2 Q3.3 Q3.4 Q4.1 Q4.2 Q4.3".split()
 
 

@@ -2,13 +2,13 @@
 import hashlib
 import re
 
+from common import TABLES
 from judge import Disagreement
 from traffic import Order, Withdrawal
 
 HEAD = re.compile(rb"1 (\d{15})\n")         # of a group that counts
 HEAD_BYTES, CHECKSUM_BYTES = 18, 33
 CLOSED = b"0"
-TABLES = ["customer", "supplier", "part", "date", "lineorder"]
 TEXT_FIELDS = {6, 7, 16}                    # of a lineorder row
 
 

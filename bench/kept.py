@@ -9,7 +9,6 @@ from journals import JournalReader
 from judge import ANSWERED, COMMITTED, Disagreement
 from traffic import Question
 
-TABLES = ["customer", "supplier", "part", "date", "lineorder"]
 REFUSED = re.compile(r"ssb_live: journal: (90 NotAJournal|91 OtherTables \w+|92 Refused .+|93 Damaged \d+|94 InUse)\n")
 PATIENCE = 60
 

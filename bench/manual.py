@@ -3,6 +3,12 @@ import dataclasses
 import re
 import subprocess
 
+# The texts that are packed beside the program, and what each is about.
+DOCUMENTS = {"SERVING.md": "How to serve clients, at a terminal or over pipes, and what a journal keeps.",
+             "FORMATS.md": "All that is read and written, and the status with which the program ends.",
+             "FAULTS.md": "Every error, by its number."}
+SERVICE_FILES = ["  /var/lib/ssb_live/tables     the five tables", "  /var/lib/ssb_live/journal    the commits",
+                 "  /run/ssb_live                the pipes in-1 and out-1 to in-4 and out-4"]
 WORD = re.compile(r" +(?:-\w, )?--([a-z]+)((?: <\w+>)*)")
 
 
@@ -75,7 +81,7 @@ def entries(lines):
 def manual(made):
     """The page of a program that is packed, in roff."""
     whole, commands = helps_of(made.path)
-    about, documents = " ".join(whole.text), escaped(f"/usr/share/doc/{made.name}")
+    about = " ".join(whole.text)
     lines = [f'.TH SSB_LIVE 1 {made.date} "ssb_live {made.version}" "User Commands"', ".SH NAME",
              f"ssb_live \\- {escaped(about.split('. ')[0])}", ".SH SYNOPSIS", ".nf", "ssb_live"]
     lines += [f"{escaped(one.usage)}" for one in commands.values()]
@@ -84,8 +90,9 @@ def manual(made):
         lines += [f".SH COMMAND {name.upper()}", *paragraphs(one.text), ".PP", f".B {escaped(one.usage)}"]
         for part in ("Arguments", "Options"):
             lines += entries(one.parts.get(part, []))
-    lines += [".SH FILES", f"All that is read and written: {documents}/FORMATS.md.", ".PP",
-              f"Every error by its number: {documents}/FAULTS.md."]
+    lines += [".SH FILES", *paragraphs(["Of the service ssb_live:", "", *SERVICE_FILES]), ".SH SEE ALSO"]
+    for name, has in DOCUMENTS.items():
+        lines += [".TP", escaped(f"/usr/share/doc/{made.name}/{name}"), has]
     return "".join(f"{line}\n" for line in lines)
 
 
@@ -94,40 +101,66 @@ def manual(made):
 COMPLETION = """\
 # bash completion of ssb_live, made of its help
 _ssb_live() {{
-    local word=${{COMP_WORDS[COMP_CWORD]}} before=${{COMP_WORDS[COMP_CWORD-1]}} earlier=${{COMP_WORDS[COMP_CWORD-2]}}
-    local words
-    COMPREPLY=()
+    local word=${{COMP_WORDS[COMP_CWORD]}} before=${{COMP_WORDS[COMP_CWORD-1]}} words= files=
     if (( COMP_CWORD == 1 )); then
         words="{commands} --help --version"
     else
+        case ${{COMP_WORDS[COMP_CWORD-2]}} in
+            {pairs}) before=${{COMP_WORDS[COMP_CWORD-2]}};;
+        esac
         case $before in
-            --data|--to) compopt -o filenames; COMPREPLY=($(compgen -d -- "$word")); return;;
-            --dispatchers) words="1 2 3 4";;
-            --format) words="{formats}";;
-            --trace|--journal|--client) compopt -o filenames; COMPREPLY=($(compgen -f -- "$word")); return;;
+{values}
             *) case ${{COMP_WORDS[1]}} in
-{cases}
+{words}
             esac;;
         esac
-        if [[ $word != -* && $earlier == --client || $word != -* && ${{COMP_WORDS[1]}} =~ ^(run|audit)$ ]]; then
-            compopt -o filenames; COMPREPLY=($(compgen -f -- "$word")); return
-        fi
     fi
-    COMPREPLY=($(compgen -W "$words" -- "$word"))
+    if [[ $files ]]; then
+        local IFS=$'\\n'
+        compopt -o filenames
+        COMPREPLY=($(compgen "$files" -- "$word"))
+    else
+        COMPREPLY=($(compgen -W "$words" -- "$word"))
+    fi
 }}
 complete -F _ssb_live ssb_live
 """
+# What a value is, by the name that the help gives it.
+FOLDERS, FILES = {"DIR", "FOLDER"}, {"FILE", "IN", "OUT", "SCRIPT", "TRACE"}
+
+
+def completed_by(values, choices):
+    """What bash does for a value: it knows folders, files, and the values that the help lists; else nothing."""
+    kind = "-d" if FOLDERS & set(values) else "-f" if FILES & set(values) else ""
+    return f"files={kind}" if kind else f'words="{" ".join(choices)}"'
+
+
+def choices_of(one):
+    """The possible values of each word of a command, where its help lists them."""
+    found, word = {}, None
+    for line in one.parts.get("Options", []):
+        head, listed = WORD.match(line), re.search(r"\[possible values: ([^\]]*)\]", line)
+        word = head[1] if head else word
+        if listed:
+            found[word] = listed[1].split(", ")
+    return found
 
 
 def completion(program):
-    """The script: commands, their words, folders and files behind these, the names of queries."""
+    """The script: commands, their words, what stands behind these, the names of queries."""
     _, commands = helps_of(program)
     names = re.search(r"The queries are (.*?)\.\s", " ".join(commands["query"].text))[1]
-    queries = re.findall(r"Q\d\.\d|star", names)
-    formats = re.search(r"\[possible values: ([^\]]*)\]", "\n".join(commands["query"].parts["Options"]))[1]
-    cases = []
+    queries, values, words, pairs = re.findall(r"Q\d\.\d|star", names), {}, [], []
     for name, one in commands.items():
-        words = [f"--{word}" for word in one.words()] + (queries if name == "query" else [])
-        cases.append(f'                {name}) words="{" ".join(words)}";;')
-    return COMPLETION.format(commands=" ".join([*commands, "help"]), formats=formats.replace(",", ""),
-                             cases="\n".join(cases))
+        choices, takes = choices_of(one), one.words()
+        for word, valued in takes.items():
+            if valued:
+                values.setdefault(f"--{word}", completed_by(valued, choices.get(word, [])))
+            if len(valued) == 2:
+                pairs.append(f"--{word}")
+        listed = [f"--{word}" for word in takes] + queries * (name == "query")
+        behind = " ".join(one.parts.get("Arguments", []))
+        files = "; [[ $word == -* ]] || files=-f" if FILES & set(re.findall(r"[A-Z]+", behind)) else ""
+        words.append(f'                {name}) words="{" ".join(listed)}"{files};;')
+    return COMPLETION.format(commands=" ".join([*commands, "help"]), words="\n".join(words), pairs="|".join(pairs),
+                             values="\n".join(f"            {word}) {how};;" for word, how in values.items()))
