@@ -11,12 +11,12 @@ import re
 HERE = pathlib.Path(__file__).resolve().parent
 TOP = HERE.parent
 
-Function = collections.namedtuple("Function", "crate owner name file line clauses parameters")
+Function = collections.namedtuple("Function", "crate owner name file line clauses ensured parameters")
 Constant = collections.namedtuple("Constant", "crate file line value public")
 
 OWNER = re.compile(r"^(?:pub(?:\([^)]*\))? )?(?:impl(?:<.*?>)? (?:.*? for )?|trait )(\w+)")
 FUNCTION = re.compile(r"\bfn\s+(\w+)")
-CLAUSE = re.compile(r"\b(?:ensures|requires|invariant)\s+(\w+)\s*\{")
+CLAUSE = re.compile(r"\b(ensures|requires|invariant)\s+(\w+)\s*\{")
 TYPE = re.compile(r"^\s*(?:pub(?:\([^)]*\))?\s+)?(?:struct|enum|trait|type)\s+(\w+)", re.M)
 CONSTANT = re.compile(r"^\s*(pub(?:\([^)]*\))?\s+)?const\s+([A-Z][A-Z0-9_]*)\s*:[^=]*=\s*([^;]*);", re.M)
 DEFINITION = re.compile(r"^(?: *(?:(?:abbrev|unfoldable|pub|core|record|data)\s+)+)?([^\W\d][\w'-]*)", re.M)
@@ -81,6 +81,7 @@ class Tree:
 
     def __init__(self, top=TOP):
         self.top = top
+        self.waiting = set()            # the crates with calls that may wait
         self.libraries = self._crates()
         self.crates = list(self.libraries)
         self.kit = {one for uses in self.libraries.values() for one in uses} - set(self.crates)
@@ -105,6 +106,8 @@ class Tree:
             head, found, uses = line.split("#")[0].partition(":")
             if found:
                 libraries[head.split()[0]] = uses.split()
+                if "may_wait=" in head:
+                    self.waiting.add(head.split()[0])
         return libraries
 
     def _sources(self):
@@ -151,10 +154,11 @@ class Tree:
             before = [owner for owner in owners if owner[0] < one.start()]
             inside = before and not any(before[-1][0] < end < one.start() for end in ends)
             line = text.count("\n", 0, one.start()) + 1
-            clauses = set(CLAUSE.findall(text[one.end():until]))
+            clauses = CLAUSE.findall(text[one.end():until])
             owner = before[-1][1] if inside else None
             self.functions[one.group(1)].append(
-                Function(crate, owner, one.group(1), path, line, clauses, count_parameters(text, one.end())))
+                Function(crate, owner, one.group(1), path, line, {name for _, name in clauses},
+                         {name for kind, name in clauses if kind == "ensures"}, count_parameters(text, one.end())))
 
     def _read_spec(self, crate, path, text):
         text = without_comments(text, "--")
