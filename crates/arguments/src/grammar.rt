@@ -143,9 +143,8 @@ fn explain_argument<'a>(alloc: Global) -> Result<Arg<'a>, AllocError> {
     flag(
         alloc,
         "explain",
-        "Says what is asked, in place of answering it; needs no tables",
+        "Says what is asked, in place of answering it; with --data also how many rows and groups it is about",
     )
-    .conflicts_with("data")?
     .conflicts_with("all")?
     .conflicts_with("format")?
     .conflicts_with("times")

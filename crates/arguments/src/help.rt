@@ -44,7 +44,8 @@ spells it. JSON has one object a line. An empty line parts the answers, but not 
 sums, each as long as its sum is great; that of a negative sum is drawn with another sign.
 
 With --explain it prints what is asked, and needs no tables: a request of star that asks the same, the printed columns,
-and what the rows are ordered by. With --sql it is one statement for that system, over the benchmark's tables.
+and what the rows are ordered by. With --data DIR also how many rows of each dimension the tests take, and how many
+groups there can be. With --sql it is one statement for that system, over the benchmark's tables.
 
 Examples:
   ssb_live query --data tables Q4.1

@@ -66,10 +66,13 @@ pub struct QueryWords<'a> {
 /// The words of `query --explain`.
 #[derive(Drop)]
 pub struct ExplainWords<'a> {
+    /// None where no tables are read.
+    pub data: Option<&'a str>,
     pub name: &'a str,
     pub constants: Vec<&'a str>,
     /// The system whose SQL is written; none where words are.
     pub sql: Option<System>,
+    pub quiet: bool,
 }
 
 /// The words of `run`.
@@ -198,9 +201,11 @@ fn explain_words<'a>(
     matches: &ArgMatches<'a>,
 ) -> Result<ExplainWords<'a>, AllocError> {
     Ok(ExplainWords {
+        data: matches.get_str("data"),
         name: word_of(matches, "name"),
         constants: words_of(alloc, matches, "constants")?,
         sql: system_of(matches),
+        quiet: matches.get_flag("quiet"),
     })
 }
 

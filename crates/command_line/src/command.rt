@@ -9,7 +9,9 @@ use audit_command::run_audit;
 use export_command::{ExportPlace, run_export};
 use journal_file::{JournalFile, torn_path};
 use journal_opening::{JournalPath, ReadPath};
-use query_command::{Settings, run_all, run_explain, run_query, standard_questions};
+use query_command::{
+    Settings, run_all, run_explain, run_explain_over, run_query, standard_questions,
+};
 use run_command::{RunSettings, demo, run_scripts};
 use serve_command::{
     EndPaths, JournalPlace, MOST_CLIENTS, PathClients, Prompted, ServeSettings, report_no_pipes,
@@ -138,15 +140,29 @@ fn questions_of<I: Read + Drop>(
     }
 }
 
-// Explains one question.
-fn explain_query<W: Write, E: Write>(
-    alloc: Global,
+// Explains one question; over the files of a folder where the words name one.
+fn explain_query<R, F: Files + AllocGlobal, P: Print, W: Write, E: Write>(
+    rt: &R,
+    files: &F,
     words: &ExplainWords<'_>,
+    terminal: Option<&P>,
     out: &mut W,
     err: &mut E,
-) -> u8 {
+) -> u8
+where
+    R: Clock + Threads + Sync + AllocGlobal,
+{
     let constants = words.constants.as_slice();
-    run_explain(alloc, words.name, constants, words.sql, out, err)
+    let Some(data) = words.data else {
+        return run_explain(rt.alloc(), words.name, constants, words.sql, out, err);
+    };
+    let tables = match open_tables(files, data) {
+        Ok(tables) => tables,
+        Err(fault) => return fault.tell(err),
+    };
+    let screen = screen_of(rt, words.quiet, terminal);
+    let tables = watch_tables(screen.as_ref(), tables);
+    run_explain_over(rt, tables, words.name, constants, out, err)
 }
 
 // The files of a run, opened, and how its scripts are served.
@@ -584,7 +600,7 @@ where
     match job {
         Job::Script => serve_script(rt, input, &mut output, err),
         Job::Query(words) => answer_query(rt, files, &words, terminal, &mut output, err),
-        Job::Explain(words) => explain_query(rt.alloc(), &words, &mut output, err),
+        Job::Explain(words) => explain_query(rt, files, &words, terminal, &mut output, err),
         Job::Run(words) => serve_scripts(rt, files, &words, terminal, &mut output, err),
         Job::Serve(words) => {
             let streams = Streams {

@@ -1,3 +1,4 @@
 pub mod AskedLaws
 pub mod OpeningLaws
 pub mod ReportLaws
+pub mod SizeLaws

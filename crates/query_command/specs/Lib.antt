@@ -1,3 +1,4 @@
 pub mod Asked
 pub mod Reported
+pub mod Sizes
 pub mod Explained

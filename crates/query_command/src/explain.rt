@@ -1,20 +1,29 @@
-//! `query --explain`: a question in words, or as one statement of SQL, for which no table is read.
+//! `query --explain`: a question in words, or as one statement of SQL, for which no table is read; or in words over
+//! tables, with how much it is about.
 
 ghost use Rattle.std.specs.Prelude.{◌≡◌, ◌≢◌, ◌⊎◌, ℕ, List, IfOk, IfErr, MatchResult, map};
 ghost use Rattle.std.specs.Io.KnownBytes.{Appends};
 ghost use Rattle.std.specs.String.{string_bytes};
 ghost use Rattle.query_command.specs.Asked.{AskNothing};
 ghost use Rattle.query_command.specs.Explained.{Explains, ExplainsPart, explained_text};
+ghost use Rattle.query_command.specs.Explained.{ExplainsOver, ExplainsOverPart, HasSized, sized_text};
+ghost use Rattle.ssb_files.specs.Loaded.{AreRefused};
 ghost use Rattle.ssb_files.specs.Status.{status_of};
 ghost use Rattle.ssb_report.specs.Written.{AppendsPart};
+ghost use Rattle.ssb_schema.specs.declared.table.Table.{Table};
+ghost use Rattle.ssb_text.specs.Load.{AreTexts};
 
 use crate::asked::ask;
+use crate::sizes::sizes;
+use ssb_base::Base;
 use ssb_explain::{System, explanation, sql_statement};
-use ssb_files::Fault;
-use ssb_questions::Question;
+use ssb_files::{Fault, base_of};
+use ssb_questions::{Question, question};
 use ssb_report::write_bytes;
+use ssb_text::Tables;
 use std::alloc::{AllocError, Global};
-use std::io::Write;
+use std::io::{Read, Write};
+use std::thread::Threads;
 
 // The text that explains a question.
 fn explained(alloc: Global, sql: Option<System>, question: &Question) -> Result<String, AllocError>
@@ -68,6 +77,70 @@ pub fn run_explain<W: Write, E: Write>(
     let text = match explained(alloc, sql, &question) {
         Ok(text) => text,
         Err(_) => return Fault::OutOfMemory.tell(err),
+    };
+    match write_text(out, text.as_str()) {
+        Ok(()) => 0,
+        Err(fault) => fault.tell(err),
+    }
+}
+
+// A question in words, and how much it is about over a base.
+fn sized(alloc: Global, base: &Base, question: &Question) -> Result<String, AllocError>
+    ensures { IfOk result (λ text. string_bytes text ≡ sized_text question.now base.now.dimensions) }
+{
+    let plan = question::plan(alloc, question)?;
+    let words = explanation(alloc, question)?;
+    let sizes = sizes(alloc, base, &plan)?;
+    [words.as_str(), sizes.as_str()].concat(alloc)
+}
+
+// The same over the base that the tables spell.
+fn sized_over<R: Threads + Sync + AllocGlobal, I: Read + Drop>(
+    rt: &R,
+    tables: Tables<I>,
+    question: &Question,
+) -> Result<String, Fault>
+    ensures text { IfOk result (λ text. (texts : Table → List ℕ) → AreTexts I.remaining tables texts
+        → HasSized texts question.now (string_bytes text)) }
+    ensures data { IfErr result (λ fault. status_of fault ≡ 1 → (texts : Table → List ℕ)
+        → AreTexts I.remaining tables texts → AreRefused texts) }
+    ensures later { IfErr result (λ fault. status_of fault ≢ 2) }
+{
+    let base = base_of(rt, rt.alloc(), tables)?;
+    let text = sized(rt.alloc(), &base, question)?;
+    Ok(text)
+}
+
+/// Writes what explains the question of this name and these constants in words, and then how many rows of each
+/// dimension its tests take, and how many groups there can be, over the base that the tables spell; or a fault line to
+/// `err`. The question is looked at first. The result is the exit status: 0 with nothing written to `err`, 1 where the
+/// data is refused, 2 where the question is, and else 4.
+pub fn run_explain_over<R: Threads + Sync + AllocGlobal, I: Read + Drop, W: Write, E: Write>(
+    rt: &R,
+    tables: Tables<I>,
+    name: &str,
+    constants: &[&str],
+    out: &mut W,
+    err: &mut E,
+) -> u8
+    ensures explained { result ≡ 0 → (texts : Table → List ℕ) → AreTexts I.remaining tables texts
+        → ExplainsOver texts name.now (map (λ word. word.now) constants.now) (W.contents out.old)
+        (W.contents out.new) }
+    ensures fault { result ≢ 0 → (W.contents out.new ≡ W.contents out.old)
+        ⊎ ((texts : Table → List ℕ) → AreTexts I.remaining tables texts
+        → ExplainsOverPart texts name.now (map (λ word. word.now) constants.now) (W.contents out.old)
+        (W.contents out.new)) }
+    ensures quiet { result ≡ 0 → err.new ≡ err.old }
+    ensures data { result ≡ 1 → (texts : Table → List ℕ) → AreTexts I.remaining tables texts → AreRefused texts }
+    ensures words { result ≡ 2 → AskNothing name.now (map (λ word. word.now) constants.now) }
+{
+    let question = match ask(rt.alloc(), name, constants) {
+        Ok(question) => question,
+        Err(fault) => return fault.tell(err),
+    };
+    let text = match sized_over(rt, tables, &question) {
+        Ok(text) => text,
+        Err(fault) => return fault.tell(err),
     };
     match write_text(out, text.as_str()) {
         Ok(()) => 0,

@@ -10,7 +10,8 @@
 //! written exactly the text of the answers in the format, as the benchmark defines them, over the base that the texts
 //! spell; else nothing, or a part of that text from its beginning; and status 1 tells of refused data alone, 2 of words
 //! that ask no question. [`run_explain`] (`specs/Explained.antt`) writes exactly the words, or the statement of SQL, that
-//! `ssb_explain` defines for the question.
+//! `ssb_explain` defines for the question; [`run_explain_over`] the words, and how many rows of each dimension and how
+//! many groups the question is about over five texts (`specs/Sizes.antt`).
 //!
 //! ```text
 //! let status = run_query(rt, settings, tables, "Q2.1", &["MFGR#12", "EUROPE"], &mut out, &mut err);
@@ -21,8 +22,9 @@ mod asked;
 mod explain;
 mod opening;
 mod query;
+mod sizes;
 mod stopwatch;
 
 pub use asked::standard_questions;
-pub use explain::run_explain;
+pub use explain::{run_explain, run_explain_over};
 pub use query::{Settings, run_all, run_query};
