@@ -87,14 +87,27 @@ fn over_tables<'a>(
         .arg(data_argument(alloc))
 }
 
-// The name of a query, which is not given where all are asked.
+// The name of a query, which is not given where all are asked, or those of a board.
 fn name_argument<'a>(alloc: Global) -> Result<Arg<'a>, AllocError> {
     Arg::new(alloc, "name")
         .value_name("NAME")
         .help("The query, for example Q4.1, or star")
         .action(ArgAction::Set)
-        .required_unless_present("all")?
-        .conflicts_with("all")
+        .required_unless_present_any(&["all", "board"])?
+        .conflicts_with("all")?
+        .conflicts_with("board")
+}
+
+// The file of the questions that are asked, each under a title.
+fn board_argument<'a>(alloc: Global) -> Result<Arg<'a>, AllocError> {
+    path_argument(
+        alloc,
+        "board",
+        "FILE",
+        "The questions of FILE in place of one: 1 to 64 lines 'Title|NAME|CONSTANT..', each answer under its title",
+    )
+    .conflicts_with("all")?
+    .conflicts_with("explain")
 }
 
 // The constants of a query.
@@ -112,7 +125,9 @@ fn format_argument<'a>(alloc: Global) -> Arg<'a> {
         .long("format")
         .value_name("FORMAT")
         .help("How the answers are written")
-        .value_parser(ValueParser::Names(&["report", "table", "csv", "json", "markdown", "bars"]))
+        .value_parser(ValueParser::Names(&[
+            "report", "table", "csv", "json", "markdown", "bars", "html",
+        ]))
         .default_value("report")
         .action(ArgAction::Set)
 }
@@ -177,6 +192,7 @@ fn query_command<'a>(alloc: Global) -> Result<Command<'a>, AllocError> {
             "all",
             "All thirteen queries with the benchmark's constants, in place of one",
         ))?
+        .arg(board_argument(alloc)?)?
         .arg(format_argument(alloc))?
         .arg(width_argument(alloc))?
         .arg(explain_argument(alloc)?)?

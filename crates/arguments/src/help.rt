@@ -41,7 +41,11 @@ D_YEARMONTH or D_WEEKNUMINYEAR.
 
 With any other --format than report the columns have heads: the names of the group columns, and the measure as star
 spells it. JSON has one object a line. An empty line parts the answers, but not those of JSON. Bars are drawn beside the
-sums, each as long as its sum is great; that of a negative sum is drawn with another sign.
+sums, each as long as its sum is great; that of a negative sum is drawn with another sign. HTML is a page for a browser,
+with tables and bars.
+
+With --board it prints the answers to the questions of FILE, in order, each under its title. A line of FILE is
+'Title|NAME' or 'Title|NAME|CONSTANT..'; there are 1 to 64.
 
 With --explain it prints what is asked, and needs no tables: a request of star that asks the same, the printed columns,
 and what the rows are ordered by. With --data DIR also how many rows of each dimension the tests take, and how many
@@ -54,6 +58,7 @@ Examples:
   ssb_live query --data tables --format csv Q4.1
   ssb_live query --data tables --format bars star LO_REVENUE D_YEAR C_REGION=ASIA
   ssb_live query --data tables --all --times
+  ssb_live query --data tables --board morning.board --format html > morning.html
   ssb_live query --explain Q2.1
   ssb_live query --explain --sql postgresql star COUNT C_REGION";
 

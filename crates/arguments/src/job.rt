@@ -39,6 +39,7 @@ pub enum FormatWord {
     Table,
     /// Bars, and how many columns a line may take.
     Bars(u32),
+    Html,
 }
 
 /// Which questions stand.
@@ -55,8 +56,10 @@ pub enum StandingWord<'a> {
 pub struct QueryWords<'a> {
     pub data: &'a str,
     pub all: bool,
+    /// The file of the questions; none where the words have them.
+    pub board: Option<&'a str>,
     pub format: FormatWord,
-    /// Empty where all are asked.
+    /// Empty where all are asked, or those of a board.
     pub name: &'a str,
     pub constants: Vec<&'a str>,
     pub times: bool,
@@ -150,6 +153,7 @@ fn format_of(matches: &ArgMatches<'_>, columns: Option<&str>) -> FormatWord {
         "markdown" => FormatWord::Markdown,
         "table" => FormatWord::Table,
         "bars" => FormatWord::Bars(bars_width(matches, columns)),
+        "html" => FormatWord::Html,
         _ => FormatWord::Report,
     }
 }
@@ -180,6 +184,7 @@ fn query_words<'a>(
     Ok(QueryWords {
         data: word_of(matches, "data"),
         all: matches.get_flag("all"),
+        board: matches.get_str("board"),
         format: format_of(matches, columns),
         name: word_of(matches, "name"),
         constants: words_of(alloc, matches, "constants")?,

@@ -10,7 +10,7 @@ use export_command::{ExportPlace, run_export};
 use journal_file::{JournalFile, torn_path};
 use journal_opening::{JournalPath, ReadPath};
 use query_command::{
-    Settings, run_all, run_explain, run_explain_over, run_query, standard_questions,
+    Settings, run_all, run_board, run_explain, run_explain_over, run_query, standard_questions,
 };
 use run_command::{RunSettings, demo, run_scripts};
 use serve_command::{
@@ -57,10 +57,22 @@ fn format_of(word: FormatWord) -> Format {
         FormatWord::Bars(width) => Format::Bars {
             width: width as usize,
         },
+        FormatWord::Html => Format::Html,
     }
 }
 
-// Answers one question, or all, over the files of a folder.
+// Opens the board that the words name, if they name one.
+fn open_board<F: Files + AllocGlobal>(
+    files: &F,
+    words: &QueryWords<'_>,
+) -> Result<Option<F::File>, Fault> {
+    match words.board {
+        Some(path) => Ok(Some(open_file(files, path)?)),
+        None => Ok(None),
+    }
+}
+
+// Answers one question, all, or those of a board, over the files of a folder.
 fn answer_query<R, F: Files + AllocGlobal, P: Print, W: Write, E: Write>(
     rt: &R,
     files: &F,
@@ -76,6 +88,10 @@ where
         Ok(tables) => tables,
         Err(fault) => return fault.tell(err),
     };
+    let board = match open_board(files, words) {
+        Ok(board) => board,
+        Err(fault) => return fault.tell(err),
+    };
     let Ok(hashing) = RandomState::new(rt) else {
         return Fault::NoRandomness.tell(err);
     };
@@ -86,6 +102,9 @@ where
         times: words.times,
         format: format_of(words.format),
     };
+    if let Some(source) = board {
+        return run_board(rt, settings, source, tables, out, err);
+    }
     if words.all {
         return run_all(rt, settings, tables, out, err);
     }

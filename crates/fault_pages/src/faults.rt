@@ -2,6 +2,7 @@
 
 use export_command::NotEmpty;
 use journal_file::OpenError;
+use query_command::{LineFault, NoReports};
 use row_store::Cause;
 use session_requests::RequestError;
 use ssb_audit::AuditFault;
@@ -83,6 +84,31 @@ impl ListsFaults for ConstantsFault {
             ConstantsFault::WrongCount(_) => Some(ConstantsFault::BadConstant(4)),
             ConstantsFault::BadConstant(_) => None,
         }
+    }
+}
+
+impl ListsFaults for LineFault {
+    fn first() -> LineFault {
+        LineFault::NoTitle
+    }
+
+    // What is wrong with a question has the number that it has anywhere.
+    fn next(&self) -> Option<LineFault> {
+        match self {
+            LineFault::NoTitle => Some(LineFault::NotUtf8),
+            LineFault::NotUtf8 => Some(LineFault::TooManyReports),
+            LineFault::TooManyReports | LineFault::NoSuchQuery(_) | LineFault::Constants(_) => None,
+        }
+    }
+}
+
+impl ListsFaults for NoReports {
+    fn first() -> NoReports {
+        NoReports
+    }
+
+    fn next(&self) -> Option<NoReports> {
+        None
     }
 }
 
@@ -275,6 +301,8 @@ pub fn all_lines(alloc: Global) -> Result<Vec<String>, AllocError> {
     push_lines::<LoadError>(alloc, &mut lines)?;
     push_lines::<NoSuchQuery>(alloc, &mut lines)?;
     push_lines::<ConstantsFault>(alloc, &mut lines)?;
+    push_lines::<LineFault>(alloc, &mut lines)?;
+    push_lines::<NoReports>(alloc, &mut lines)?;
     push_lines::<Cause>(alloc, &mut lines)?;
     push_lines::<OpenFault>(alloc, &mut lines)?;
     push_lines::<ScriptError>(alloc, &mut lines)?;

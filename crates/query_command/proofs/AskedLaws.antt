@@ -66,7 +66,3 @@ is_refused name words query constants made (Err why) named given fault is = λ t
       fault = found.0;
       is = ap (constants_fault query) (sym given) ∙ (sym fault ∙ found.1);
     })
-
--- the benchmark is one batch
-pub few_standard : length standard_questions ≤ 16
-few_standard = lit≤ tt

@@ -6,4 +6,6 @@ pub mod Title
 pub mod Alignment
 pub mod TableText
 pub mod BarsText
+pub mod HtmlText
 pub mod Formats
+pub mod Titled

@@ -1,14 +1,15 @@
 //! Answers, written in a format.
 
-ghost use Rattle.std.specs.Prelude.{◌≡◌, ◌∷◌, IfOk, MatchOption, MatchResult, flat_map, is_err};
+ghost use Rattle.std.specs.Prelude.{◌≡◌, ◌∷◌, ◌++◌, IfOk, MatchOption, MatchResult, OnOk, flat_map, is_err};
 ghost use Rattle.std.specs.Io.KnownBytes.{Appends};
-ghost use Rattle.ssb_formats.specs.Formats.{Shows, answers_shown, next_shown, parting, shown};
+ghost use Rattle.ssb_formats.specs.Formats.{Shows, answers_parted, answers_shown, next_shown, opening, parting, shown};
 ghost use Rattle.ssb_report.specs.AnswerText.{answer_text};
 ghost use Rattle.ssb_report.specs.Written.{AppendsPart};
 
 use crate::bars_text::bars_text;
 use crate::csv_text::csv_text;
 use crate::fault::FormatFault;
+use crate::html_text::{html_text, push_page_head, unserved_html};
 use crate::json_text::json_text;
 use crate::markdown_text::markdown_text;
 use crate::table_text::table_text;
@@ -36,15 +37,17 @@ pub enum Format {
         /// The columns of a terminal that a line may take.
         width: usize,
     },
+    /// A page of HTML, with bars.
+    Html,
 }
 
 impl Format {
     // What parts an answer from the next.
-    fn parting(self) -> &'static str
+    pub(crate) fn parting(self) -> &'static str
         ensures { result.now ≡ parting self }
     {
         match self {
-            Format::Report | Format::Json => "",
+            Format::Report | Format::Json | Format::Html => "",
             Format::Csv | Format::Markdown | Format::Table | Format::Bars { .. } => "\n",
         }
     }
@@ -75,7 +78,43 @@ fn text_of(alloc: Global, format: Format, answer: &Answer) -> Result<Option<Vec<
             let text = bars_text(alloc, width, query.query(), &plan, *at, rows.as_slice())?;
             Ok(Some(text))
         }
+        (Format::Html, Answer::Rows { query, at, rows }) => {
+            let plan = plan(alloc, query)?;
+            let text = html_text(alloc, query.query(), &plan, *at, rows.as_slice())?;
+            Ok(Some(text))
+        }
+        (Format::Html, Answer::Unserved { query, cause }) => {
+            Ok(Some(unserved_html(alloc, query.query(), *cause)?))
+        }
         _ => Ok(None),
+    }
+}
+
+/// Adds what stands before all answers.
+pub(crate) fn push_opening(text: &mut Vec<u8>, format: Format) -> Result<(), AllocError>
+    ensures { OnOk result (text.new.items ≡ text.old.items ++ opening format) }
+{
+    match format {
+        Format::Html => push_page_head(text),
+        _ => Ok(()),
+    }
+}
+
+/// Adds the text of an answer.
+pub(crate) fn push_shown(
+    alloc: Global,
+    text: &mut Vec<u8>,
+    format: Format,
+    answer: &Answer,
+) -> Result<(), AllocError>
+    ensures { OnOk result (text.new.items ≡ text.old.items ++ shown format answer.now) }
+{
+    match text_of(alloc, format, answer)? {
+        Some(shown) => text.extend_from_slice(shown.as_slice()),
+        None => match write_answer(text, answer) {
+            Ok(()) => Ok(()),
+            Err(_) => Err(AllocError),
+        },
     }
 }
 
@@ -88,7 +127,7 @@ fn outcome(written: Result<(), WriteFault>) -> Result<(), FormatFault>
     }
 }
 
-fn write_text<W: Write>(writer: &mut W, text: &[u8]) -> Result<(), FormatFault>
+pub(crate) fn write_text<W: Write>(writer: &mut W, text: &[u8]) -> Result<(), FormatFault>
     ensures { Shows (W.contents writer.old) (W.contents writer.new) result text.now }
 {
     outcome(write_bytes(writer, text))
@@ -151,10 +190,35 @@ fn write_first_and_others<W: Write>(
     others: &[Answer],
 ) -> Result<(), FormatFault>
     ensures { Shows (W.contents writer.old) (W.contents writer.new) result
-        (answers_shown format (first.now ∷ others.now)) }
+        (answers_parted format (first.now ∷ others.now)) }
 {
     write_shown(alloc, writer, format, first)?;
     write_others(alloc, writer, format, others)
+}
+
+// Writes what stands before all answers.
+fn write_opening<W: Write>(alloc: Global, writer: &mut W, format: Format) -> Result<(), FormatFault>
+    ensures { Shows (W.contents writer.old) (W.contents writer.new) result (opening format) }
+{
+    let mut text = Vec::new(alloc);
+    match push_opening(&mut text, format) {
+        Ok(()) => write_text(writer, text.as_slice()),
+        Err(_) => Err(FormatFault::OutOfMemory),
+    }
+}
+
+fn write_parted<W: Write>(
+    alloc: Global,
+    writer: &mut W,
+    format: Format,
+    answers: &[Answer],
+) -> Result<(), FormatFault>
+    ensures { Shows (W.contents writer.old) (W.contents writer.new) result (answers_parted format answers.now) }
+{
+    match answers {
+        [] => Ok(()),
+        [first, others @ ..] => write_first_and_others(alloc, writer, format, first, others),
+    }
 }
 
 /// Writes answers in a format, one after another. The memory that it takes is that of the text of one answer; the
@@ -169,8 +233,6 @@ pub fn write_formatted<W: Write>(
         (λ _. Appends (W.contents writer.old) (W.contents writer.new) (answers_shown format answers.now))
         (λ _. AppendsPart (W.contents writer.old) (W.contents writer.new) (answers_shown format answers.now)) }
 {
-    match answers {
-        [] => Ok(()),
-        [first, others @ ..] => write_first_and_others(alloc, writer, format, first, others),
-    }
+    write_opening(alloc, writer, format)?;
+    write_parted(alloc, writer, format, answers)
 }
