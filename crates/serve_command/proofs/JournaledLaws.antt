@@ -9,9 +9,9 @@ use Rattle.journal.specs.Groups.{recovered}
 use Rattle.journal_opening.specs.Kept.{HasCommits, IsKnown}
 use Rattle.journal_opening.specs.Sizes.{AreSizes}
 use Rattle.journal_opening.specs.Status.{kept_status}
-use Rattle.journaled_sessions.specs.Served.{IsJournaledFault, IsServedAfter}
-use Rattle.journaled_sessions.specs.declared.fault.JournaledFault.{JournaledFault}
-use Rattle.journaled_sessions.specs.declared.fault.JournaledFault.TheVariants as journaled
+use Rattle.serve_command.specs.JournaledRun.{IsJournaledFault, IsServedAfter}
+use Rattle.serve_command.specs.declared.unserved.JournaledFault.{JournaledFault}
+use Rattle.serve_command.specs.declared.unserved.JournaledFault.TheVariants as journaled
 use Rattle.row_store.specs.History.{CommitRecord}
 use Rattle.row_store.specs.Legal.{IsLegal}
 use Rattle.serve_command.specs.Journaled.{AreOnDisk, EndsAloneJournaled, GoesOn, GoesOnOver, IsRefusedFile}

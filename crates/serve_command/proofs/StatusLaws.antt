@@ -17,8 +17,8 @@ use Rattle.journal_file.specs.declared.file_disk.OpenError.TheVariants as file
 use Rattle.journal_opening.specs.Status.{file_status, kept_status, opening_status, replay_status}
 use Rattle.journal_opening.specs.declared.fault.OpeningFault.{OpeningFault}
 use Rattle.journal_opening.specs.declared.fault.OpeningFault.TheVariants as opening
-use Rattle.journaled_sessions.specs.declared.fault.JournaledFault.{JournaledFault}
-use Rattle.journaled_sessions.specs.declared.fault.JournaledFault.TheVariants as journaled
+use Rattle.serve_command.specs.declared.unserved.JournaledFault.{JournaledFault}
+use Rattle.serve_command.specs.declared.unserved.JournaledFault.TheVariants as journaled
 use Rattle.serve_command.specs.Status.{journal_status, journaled_status, serving_status, session_status}
 use Rattle.serve_command.specs.declared.fault.NotServed.{NotServed}
 use Rattle.serve_command.specs.declared.fault.NotServed.TheVariants as not_served

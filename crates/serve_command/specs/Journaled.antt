@@ -8,7 +8,7 @@ use Rattle.history_core.specs.declared.event.Who.TheVariants.{Client}
 use Rattle.journal.specs.Groups.{behind, recovered}
 use Rattle.journal_opening.specs.Kept.{HasCommits, IsKnown}
 use Rattle.journal_opening.specs.Sizes.{AreSizes}
-use Rattle.journaled_sessions.specs.Served.{HasRested, IsJournaledRun}
+use Rattle.serve_command.specs.JournaledRun.{HasRested, IsJournaledRun}
 use Rattle.row_store.specs.History.{CommitRecord, IsPrefix}
 use Rattle.row_store.specs.Legal.{IsLegal}
 use Rattle.row_store.specs.declared.refusal.Cause.{Cause}

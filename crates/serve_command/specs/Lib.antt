@@ -2,4 +2,8 @@ pub mod Standing
 pub mod Status
 pub mod Sessions
 pub mod Served
+pub mod Reading
+pub mod Seated
+pub mod Remade
+pub mod JournaledRun
 pub mod Journaled

@@ -7,8 +7,8 @@ use Rattle.serve_command.specs.declared.fault.NotServed.TheVariants as not_serve
 use Rattle.serve_command.specs.declared.journal_fault.JournalRefusal.{JournalRefusal}
 use Rattle.serve_command.specs.declared.journal_fault.JournalRefusal.TheVariants as journal_refusal
 use Rattle.journal_opening.specs.Status.{opening_status, replay_status}
-use Rattle.journaled_sessions.specs.declared.fault.JournaledFault.{JournaledFault}
-use Rattle.journaled_sessions.specs.declared.fault.JournaledFault.TheVariants as journaled
+use Rattle.serve_command.specs.declared.unserved.JournaledFault.{JournaledFault}
+use Rattle.serve_command.specs.declared.unserved.JournaledFault.TheVariants as journaled
 use Rattle.stream_sessions.specs.declared.outcome.Served.{Served}
 use Rattle.stream_sessions.specs.declared.outcome.SessionError.{SessionError}
 

@@ -3,8 +3,8 @@
 ghost use Rattle.std.specs.Prelude.{◌≡◌};
 ghost use Rattle.serve_command.specs.Status.{journal_status};
 
+use crate::unserved::JournaledFault;
 use journal_opening::OpeningFault;
-use journaled_sessions::JournaledFault;
 use ssb_files::{Finding, JobFault};
 use ssb_journal::ReplayFault;
 use std::fmt;

@@ -14,7 +14,9 @@ ghost use Rattle.ssb_journal.specs.Counts.{IsLeft};
 ghost use Rattle.ssb_schema.specs.declared.table.Table.{Table};
 ghost use Rattle.ssb_text.specs.Load.{AreTexts};
 
+use crate::acknowledging::Durable;
 use crate::journal_fault::{JournalRefusal, JournalServingFault};
+use crate::journaled_run::{JournaledRun, Recovered, run_journaled};
 use crate::loading::load;
 use crate::serving::{
     MOST_CLIENTS, PathClients, ServeSettings, StreamEnd, clients_status, speakers_of, tell_ended,
@@ -23,7 +25,6 @@ use crate::serving::{
 use crate::speakers::{StreamClient, StreamLeft};
 use journal::{Disk, KeepsTorn};
 use journal_opening::{OpeningFault, OpensJournal, table_sizes};
-use journaled_sessions::{Durable, JournaledRun, Recovered, serve_journaled};
 use ssb_files::{Fault, TableBytes, base_to_serve};
 use ssb_journal::{TableSize, open};
 use ssb_server::Loaded;
@@ -140,7 +141,7 @@ where
         sizes,
         keeper: &keeper,
     };
-    match serve_journaled(rt, rt.alloc(), loaded, speakers, dispatchers, recovered) {
+    match run_journaled(rt, rt.alloc(), loaded, speakers, dispatchers, recovered) {
         Ok(run) => Ok(run),
         Err(unserved) => Err(JournalRefusal::NotServed(unserved.fault)),
     }

@@ -27,22 +27,30 @@
 //! ```
 #![tactic(auto)]
 
+mod acknowledging;
 mod ends;
 mod fault;
 mod journal_fault;
 mod journaled;
+mod journaled_run;
 mod loading;
 mod prompted;
+mod remaking;
+mod server_log;
 mod serving;
 mod speakers;
+mod unserved;
 
+pub use acknowledging::Durable;
 pub use ends::{EndFault, EndPaths, Ends, open_ends, report_no_pipes};
 pub use journal_fault::JournalRefusal;
 pub use journaled::{
     ClientsEnd, JournalPlace, JournalSource, JournaledEnd, serve_clients_journaled, serve_source,
     serve_stream_journaled,
 };
+pub use journaled_run::JournaledRun;
 pub use prompted::Prompted;
 pub use serving::{
     MOST_CLIENTS, PathClients, ServeSettings, StreamEnd, serve_clients, serve_stream,
 };
+pub use unserved::JournaledFault;

@@ -1,5 +1,0 @@
-mod BeginningLaws
-mod ReadingLaws
-mod SeatLaws
-mod RemakingLaws
-mod ServingLaws

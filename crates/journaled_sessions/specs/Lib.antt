@@ -1,4 +1,0 @@
-pub mod Reading
-pub mod Seated
-pub mod Remade
-pub mod Served

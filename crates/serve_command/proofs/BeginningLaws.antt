@@ -1,0 +1,227 @@
+-- A server with a journal begins where the journal ends, and is opened with quiet clients and a reader of its log.
+use Rattle.std.proofs.Common.{◌≡◌, ◌⊎◌, inl, inr, ⊎_elim, ℕ, List, [], ◌∷◌, ◌++◌, length, Result, Ok, Err}
+use Rattle.std.proofs.Common.{Some, refl, sym, ◌∙◌, arith}
+use Rattle.std.proofs.Common.{subst}
+use Rattle.std.specs.Prelude.{All, IfErr, IfOk}
+use Rattle.std.specs.List.{range_with_len}
+use Rattle.std.proofs.lemmas.List.Elements.{All-map, All-pop}
+use Rattle.history.specs.Tokens.{TableRecord, TokenRecord, new_token, new_dispatchers}
+use Rattle.history_core.specs.declared.event.Who.TheVariants.{Dispatcher}
+use Rattle.row_store.proofs.PrefixLaws.{begins_with_itself}
+use Rattle.row_store.specs.History.{CommitRecord, IsPrefix}
+use Rattle.ssb_base.specs.Base.{Tables}
+use Rattle.journal.proofs.MomentLaws.{leaves}
+use Rattle.journal.specs.Disk.{LeavesOnly}
+use Rattle.ssb_journal.proofs.CountLaws.{beginning_of_longer}
+use Rattle.ssb_journal.proofs.KeptLaws.{spell_none}
+use Rattle.ssb_journal.specs.Counts.{Begun, KeepsBeginning, KeepsFirst, KeepsSince}
+use Rattle.ssb_journal.specs.Kept.{IsAsItWasOrNew, KeepsCommits, SpellCommits}
+use Rattle.ssb_journal.specs.Opening.{IsKept}
+use Rattle.ssb_journal.specs.Texts.{AreSealed}
+use Rattle.ssb_journal.specs.declared.opening.KeptCommits.{KeptCommits}
+use Rattle.ssb_journal.specs.declared.head.TableSize.{TableSize}
+use Rattle.ssb_server.specs.Opening.{IsOpenFault}
+use Rattle.ssb_server.specs.Tickets.{IsOf}
+use Rattle.ssb_server.specs.declared.opening.OpenFault.{OpenFault}
+use Rattle.ssb_server.specs.declared.opening.OpenFault.TheVariants as opening
+use Rattle.ssb_serving.specs.RunFaults.{IsRunFault, fault_of}
+use Rattle.ssb_serving.specs.Members.{IsStill}
+use Rattle.ssb_serving.specs.declared.run_fault.RunFault.{RunFault}
+use Rattle.serve_command.specs.JournaledRun.{HasKept, IsBegunOn, IsFoundOrKept, IsJournaledFault, IsJournaledRun}
+use Rattle.serve_command.specs.JournaledRun.{IsOpenedFault, KeepsAll, KeepsRecovered, begun_on}
+use Rattle.serve_command.specs.declared.unserved.JournaledFault.{JournaledFault}
+use Rattle.serve_command.specs.declared.unserved.JournaledFault.TheVariants as fault
+
+-- a journal keeps the first commits of the log of who has seen just those
+pub keeps_first : (sizes : List TableSize) (commits seen : List CommitRecord) (count : ℕ) (file : List ℕ)
+    → ((sizes : List TableSize) (commits log : List CommitRecord) (file : List ℕ)
+    → KeepsCommits sizes commits file → IsPrefix commits log → KeepsFirst (length commits) log file)
+    → seen ≡ commits → count ≡ length commits → KeepsCommits sizes commits file → KeepsFirst count seen file
+keeps_first sizes commits seen count file first same many keeps =
+    subst (λ n. KeepsFirst n seen file) (sym many) (subst (λ l. KeepsFirst (length commits) l file) (sym same)
+    (first sizes commits commits file keeps (begins_with_itself commits)))
+
+keeps_all : (sizes : List TableSize) (commits log : List CommitRecord) (file : List ℕ)
+    → ((sizes : List TableSize) (commits log : List CommitRecord) (file : List ℕ)
+    → KeepsCommits sizes commits file → IsPrefix commits log → KeepsFirst (length commits) log file)
+    → IsPrefix commits log → KeepsCommits sizes commits file → KeepsBeginning (length commits) log file
+keeps_all sizes commits log file first goes_on keeps =
+    record { count = length commits; enough = omega arith; first = first sizes commits log file keeps goes_on }
+
+-- a journal has a head
+no_head : (sizes : List TableSize) (texts : List (List ℕ)) → AreSealed sizes texts [] → ⊥
+no_head sizes texts is = absurd cc
+
+-- what a crash leaves while the journal is begun keeps all that was recovered
+pub as_it_was : (sizes : List TableSize) (kept : KeptCommits) (groups : List (List ℕ)) (log : List CommitRecord)
+    (file : List ℕ) → ((sizes : List TableSize) (commits log : List CommitRecord) (file : List ℕ)
+    → KeepsCommits sizes commits file → IsPrefix commits log → KeepsFirst (length commits) log file)
+    → IsKept sizes groups kept → IsPrefix kept.commits.items log → IsAsItWasOrNew sizes groups file
+    → KeepsRecovered kept.commits.items log file
+as_it_was sizes kept groups log file first is goes_on left =
+    ⊎_elim
+    (λ new_one. ⊎_elim (λ same. inr (new_one.2, same ∙ new_one.1))
+    (λ made. inl (keeps_all sizes kept.commits.items log file first goes_on (record {
+      texts = [];
+      is_journal = made.1;
+      spelled = subst (SpellCommits []) (sym new_one.2) spell_none;
+    })))
+    left)
+    (λ old_one. ⊎_elim
+    (λ same. inl (keeps_all sizes kept.commits.items log file first goes_on (record {
+      texts = old_one.1.texts;
+      is_journal = same ∙ old_one.1.sealed;
+      spelled = old_one.1.spelled;
+    })))
+    (λ made. absurd (no_head sizes old_one.1.texts (sym made.0 ∙ old_one.1.sealed)))
+    left)
+    is
+
+-- from its beginning to its end
+pub kept_throughout : {D : Type 0} (moment : D → ℕ) (left_since : D → ℕ → List ℕ → Type 0) (found begun now : D)
+    (P : List ℕ → Type 0) (least count : ℕ) (recovered seen log : List CommitRecord)
+    → LeavesOnly moment left_since found begun P → least ≡ length recovered
+    → KeepsSince (begun_on moment left_since begun least) (moment now) (left_since now) count seen → IsPrefix seen log
+    → ((file : List ℕ) → P file → KeepsRecovered recovered log file)
+    → LeavesOnly moment left_since found now (KeepsRecovered recovered log)
+kept_throughout moment left_since found begun now P least count recovered seen log first many since begins means =
+    let longer : (file : List ℕ) → KeepsBeginning least seen file → KeepsRecovered recovered log file =
+    λ file kept. inl (subst (λ n. KeepsBeginning n log file) many
+    (beginning_of_longer least seen log file begins kept)) in
+    record {
+      later = omega (arith, first.later, since.later);
+      each = λ file left. ⊎_elim (λ was. means file (first.each file was)) (longer file)
+          (since.before (moment found) file first.later left);
+      before = λ t file le left. ⊎_elim
+          (λ was. ⊎_elim (λ then. inl then) (λ now. inr (means file now)) (first.before t file le was))
+          (λ kept. inr (longer file kept)) (since.before t file (omega (arith, le, first.later)) left);
+    }
+
+-- as it is begun
+pub since_begun : {D : Type 0} (moment : D → ℕ) (left_since : D → ℕ → List ℕ → Type 0) (begun : Begun) (disk : D)
+    (count : ℕ) (log : List CommitRecord) → IsBegunOn moment left_since begun disk count
+    → KeepsSince begun (moment disk) (left_since disk) count log
+since_begun moment left_since begun disk count log is = record {
+  later = omega (arith, is.moment_is);
+  enough = omega (arith, is.count_is);
+  before = λ t file le left. inl ((is.past_is t file).1 left);
+}
+
+pub since_begun_on : {D : Type 0} (moment : D → ℕ) (left_since : D → ℕ → List ℕ → Type 0) (begun : Begun)
+    (disk now : D) (least count : ℕ) (log : List CommitRecord) → IsBegunOn moment left_since begun disk least
+    → KeepsSince begun (moment now) (left_since now) count log
+    → KeepsSince (begun_on moment left_since disk least) (moment now) (left_since now) count log
+since_begun_on moment left_since begun disk now least count log is since = record {
+  later = omega (arith, is.moment_is, since.later);
+  enough = omega (arith, is.count_is, since.enough);
+  before = λ t file le left. ⊎_elim (λ was. inl ((is.past_is t file).0 was))
+      (λ kept. inr (subst (λ n. KeepsBeginning n log file) is.count_is kept))
+      (since.before t file (omega (arith, le, is.moment_is)) left);
+}
+
+-- a crash while the journal is begun leaves all that was recovered
+pub kept_in_beginning : {D : Type 0} (moment : D → ℕ) (left_since : D → ℕ → List ℕ → Type 0) (found disk : D)
+    (sizes : List TableSize) (kept : KeptCommits) (groups : List (List ℕ))
+    → ((sizes : List TableSize) (commits log : List CommitRecord) (file : List ℕ)
+    → KeepsCommits sizes commits file → IsPrefix commits log → KeepsFirst (length commits) log file)
+    → IsKept sizes groups kept → LeavesOnly moment left_since found disk (IsAsItWasOrNew sizes groups)
+    → IsFoundOrKept moment left_since found kept.commits.items disk
+kept_in_beginning moment left_since found disk sizes kept groups first is run =
+    let all = kept.commits.items in
+    inr (leaves moment left_since found disk (IsAsItWasOrNew sizes groups) (KeepsAll all) run
+    (λ file left. (
+      all,
+      begins_with_itself all,
+      as_it_was sizes kept groups all file first is (begins_with_itself all) left,
+    )))
+
+-- and so does one at any moment since then
+pub kept_since : {D : Type 0} (moment : D → ℕ) (left_since : D → ℕ → List ℕ → Type 0) (found begun disk : D)
+    (sizes : List TableSize) (kept : KeptCommits) (groups : List (List ℕ)) (least : ℕ) (seen : List CommitRecord)
+    → ((sizes : List TableSize) (commits log : List CommitRecord) (file : List ℕ)
+    → KeepsCommits sizes commits file → IsPrefix commits log → KeepsFirst (length commits) log file)
+    → IsKept sizes groups kept → LeavesOnly moment left_since found begun (IsAsItWasOrNew sizes groups)
+    → least ≡ length kept.commits.items → seen ≡ kept.commits.items
+    → HasKept moment left_since begun least seen disk
+    → IsFoundOrKept moment left_since found kept.commits.items disk
+kept_since moment left_since found begun disk sizes kept groups least seen first is run many same has =
+    let all = kept.commits.items in
+    let begins : IsPrefix all has.log = subst (λ l. IsPrefix l has.log) same has.begins in
+    inr (leaves moment left_since found disk (KeepsRecovered all has.log) (KeepsAll all)
+    (kept_throughout moment left_since found begun disk (IsAsItWasOrNew sizes groups) least has.count all has.log has.log
+    run many has.since (begins_with_itself has.log)
+    (λ file left. as_it_was sizes kept groups has.log file first is begins left))
+    (λ file keeps. (has.log, begins, keeps)))
+
+-- that a journal was out, or memory ran out, tells nothing of its commits
+pub unserved_fault : (base : Tables) (commits : List CommitRecord) (why : JournaledFault)
+    → (why ≡ fault.Disturbed) ⊎ (why ≡ fault.OutOfMemory) → IsOpenedFault base commits why
+unserved_fault base commits why is =
+    ⊎_elim (λ one. subst (IsOpenedFault base commits) (sym one) tt)
+    (λ other. subst (IsOpenedFault base commits) (sym other) tt) is
+
+-- what an opened server does not serve is not served
+not_served : (base : Tables) (commits : List CommitRecord) (dispatchers : ℕ) (why : JournaledFault)
+    → IsOpenedFault base commits why → IsJournaledFault base commits dispatchers why
+not_served base commits dispatchers (fault.NotRun why) is = absurd is
+not_served base commits dispatchers (fault.Replay why) is = is
+not_served base commits dispatchers fault.Disturbed is = tt
+not_served base commits dispatchers fault.Write is = tt
+not_served base commits dispatchers fault.OutOfMemory is = tt
+
+pub fault_over : {X E : Type 0} (fault_in : E → JournaledFault) (result : Result X E) (opened base : Tables)
+    (commits : List CommitRecord) (dispatchers : ℕ) → opened ≡ base
+    → IfErr result (λ e. IsOpenedFault opened commits (fault_in e))
+    → IfErr result (λ e. IsJournaledFault base commits dispatchers (fault_in e))
+fault_over fault_in (Ok run) opened base commits dispatchers same is = tt
+fault_over fault_in (Err why) opened base commits dispatchers same is =
+    subst (λ b. IsJournaledFault b commits dispatchers (fault_in why)) same
+    (not_served opened commits dispatchers (fault_in why) is)
+
+-- no server was opened
+pub run_fault : (clients dispatchers : ℕ) (why : OpenFault) (told : RunFault) → told ≡ fault_of why
+    → IsOpenFault clients dispatchers why → IsRunFault clients dispatchers told
+run_fault clients dispatchers opening.ClientCount told same is =
+    subst (IsRunFault clients dispatchers) (sym same) ((λ e. cc), is)
+run_fault clients dispatchers opening.DispatcherCount told same is =
+    subst (IsRunFault clients dispatchers) (sym same) ((λ e. cc), is)
+run_fault clients dispatchers opening.NoReader told same is =
+    subst (IsRunFault clients dispatchers) (sym same) ((λ e. cc), is)
+run_fault clients dispatchers opening.OutOfMemory told same is =
+    subst (IsRunFault clients dispatchers) (sym same) is
+
+-- the run of an opened server is one over its base, with its dispatchers
+pub run_over : {S L E X : Type 0} (Spoken : S → TokenRecord → TokenRecord → L → Type 0) (left_in : X → List L)
+    (log_in : X → List CommitRecord) (result : Result X E) (opened base : Tables)
+    (commits : List CommitRecord) (speakers : List S) (there dispatchers : ℕ) → opened ≡ base → there ≡ dispatchers
+    → IfOk result (λ run. IsJournaledRun Spoken opened commits speakers there (left_in run) (log_in run))
+    → IfOk result (λ run. IsJournaledRun Spoken base commits speakers dispatchers (left_in run) (log_in run))
+run_over {S} {L} {E} {X} Spoken left_in log_in result opened base commits speakers there dispatchers same as_many run =
+    subst (λ n. IfOk result (λ run. IsJournaledRun Spoken base commits speakers n (left_in run) (log_in run))) as_many
+    (subst (λ b. IfOk result (λ run. IsJournaledRun Spoken b commits speakers there (left_in run) (log_in run)))
+    same run)
+
+-- who reads the log has seen nothing yet
+abbrev pub IsUnread : TableRecord → TokenRecord → Type 0
+IsUnread table t = (t.table ≡ table) × (t.seen ≡ [])
+
+new_unread : (table : TableRecord) → All (IsUnread table) (new_dispatchers table)
+new_unread table = All-map (IsUnread table) (λ number. new_token table (Dispatcher number))
+    (range_with_len 1 table.dispatchers) (λ k d low. (refl, refl))
+
+pub opened_reader : (table : TableRecord) (dispatchers : List TokenRecord) (reader : TokenRecord)
+    → dispatchers ++ reader ∷ [] ≡ new_dispatchers table
+    → All (IsUnread table) dispatchers × ((reader.table ≡ table) × (reader.seen ≡ []))
+opened_reader table dispatchers reader new =
+    All-pop (IsUnread table) (dispatchers ++ reader ∷ []) dispatchers (Some reader) refl
+    (subst (All (IsUnread table)) (sym new) (new_unread table))
+
+pub opened_dispatchers : (table : TableRecord) (dispatchers : List TokenRecord) (reader : TokenRecord)
+    → dispatchers ++ reader ∷ [] ≡ new_dispatchers table → All (IsOf table) dispatchers
+opened_dispatchers table dispatchers reader new =
+    λ k d low. ((opened_reader table dispatchers reader new).0 k d low).0
+
+-- who reads the log is still at its table
+pub begun_table : (table : TableRecord) (opened begun : TokenRecord) → opened.table ≡ table → IsStill opened begun
+    → begun.table ≡ table
+begun_table table opened begun of still = still.table ∙ of

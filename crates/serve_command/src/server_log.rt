@@ -1,0 +1,108 @@
+//! The log of a live server, as a journal reads it.
+
+ghost use Rattle.std.specs.Prelude.{◌≡◌, ◌≤◌, None, Option, Some, IfSome};
+ghost use Rattle.std.specs.Option.{ForSome};
+ghost use Rattle.history.specs.Tokens.{TokenRecord};
+ghost use Rattle.ssb_journal.specs.Counts.{Begun, IsLeft, KeepsSince, nothing_said};
+ghost use Rattle.serve_command.specs.Reading.{IsLater};
+
+use journal::Disk;
+use row_store::Commit;
+use ssb_journal::{LogSource, SharedJournal};
+use ssb_server::{LogReader, Server};
+use std::alloc::{AllocError, Global};
+use std::marker::{Brand, PhantomData};
+use std::sync::Wait;
+
+/// The reader of the log before the sessions, which the one behind the journal's lock stays, and the journal as it was
+/// begun. Each call picks them.
+pub(crate) trait LogStart {
+    ghost reader: { Option TokenRecord };
+
+    ghost begun: { Begun };
+}
+
+impl LogStart for Brand {
+    ghost reader = { None };
+
+    ghost begun = { nothing_said };
+}
+
+/// A server, and the reader of its log.
+#[derive(Drop)]
+pub(crate) struct ServerLog<'a, W: Wait + Drop, K: LogStart> {
+    server: &'a Server<W>,
+    reader: LogReader<W>,
+    opened: PhantomData<K>,
+    ghost of_server: { reader.table ≡ server.now },
+    ghost few: { server.now.clients ≤ 16 },
+    ghost later: { ForSome K.reader (λ first. IsLater first reader) },
+}
+
+impl<'a, W: Wait + Drop, K: LogStart> ServerLog<'a, W, K> {
+    /// The log of a server, by the reader that the call picked.
+    pub(crate) fn new(server: &'a Server<W>, reader: LogReader<W>) -> ServerLog<'a, W, K>
+        requires table { reader.table ≡ server.now }
+        requires few { server.now.clients ≤ 16 }
+        requires picked { K.reader ≡ Some reader }
+        ensures { result.reader ≡ reader }
+    {
+        ServerLog {
+            server,
+            reader,
+            opened: PhantomData,
+        }
+    }
+}
+
+impl<'a, W: Wait + Drop, K: LogStart> LogSource for ServerLog<'a, W, K> {
+    ghost log = { λ source. source.reader.seen };
+
+    ghost begun = { K.begun };
+
+    fn commits_from<R: Wait>(
+        &mut self,
+        rt: &R,
+        _alloc: Global,
+        taken: u64,
+    ) -> Result<Vec<Commit>, AllocError> {
+        let commits = self.reader.commits_from(rt, self.server, taken);
+        // For the proof: the log is no longer than a number of 64 bits tells.
+        let _count = self.reader.seen();
+        commits
+    }
+}
+
+/// What is left of a journal that sessions shared: its disk, the reader of the log, how many of its commits are on the
+/// disk, and whether it was written to the end.
+#[derive(Drop)]
+pub(crate) struct JournalLeft<D: Disk + Drop, W: Wait + Drop> {
+    pub(crate) disk: D,
+    pub(crate) reader: LogReader<W>,
+    pub(crate) count: u64,
+    pub(crate) is_whole: bool,
+}
+
+/// What is left of the journal; none where one has it out.
+pub(crate) fn left_of<D: Disk + Drop, W: Wait + Drop, K: LogStart>(
+    journal: SharedJournal<D, ServerLog<'_, W, K>>,
+) -> Option<JournalLeft<D, W>>
+    ensures later { IfSome result (λ left. ForSome K.reader (λ first. IsLater first left.reader)) }
+    ensures left { IfSome result (λ left. IsLeft (D.may_leave left.disk) (D.seen left.disk) left.count
+        left.reader.seen left.is_whole) }
+    ensures since { IfSome result (λ left. KeepsSince K.begun (D.moment left.disk) (D.left_since left.disk) left.count
+        left.reader.seen) }
+{
+    match journal.into_left() {
+        Some(left) => {
+            let (disk, source, count, is_whole) = left.into_parts();
+            Some(JournalLeft {
+                disk,
+                reader: source.reader,
+                count,
+                is_whole,
+            })
+        },
+        None => None,
+    }
+}
