@@ -12,8 +12,8 @@ use journal_opening::{JournalPath, ReadPath};
 use query_command::{Settings, run_all, run_explain, run_query, standard_questions};
 use run_command::{RunSettings, demo, run_scripts};
 use serve_command::{
-    EndPaths, JournalPlace, MOST_CLIENTS, PathClients, Prompted, ServeSettings, report_no_pipes,
-    serve_clients, serve_clients_journaled, serve_stream, serve_stream_journaled,
+    EndPaths, JournalPlace, MOST_CLIENTS, PathClients, Prompted, ServeSettings, StreamClient,
+    report_no_pipes, serve_clients, serve_stream,
 };
 use ssb_files::{
     Fault, InputSource, PathUse, Screen, TableBytes, UsedPath, check_paths, count_tables,
@@ -258,15 +258,6 @@ struct OpenedServer<O: Drop> {
     journal: Option<String>,
 }
 
-// Whom a live server serves.
-#[derive(Drop)]
-enum Served<'a, F: Files, I: Drop, O: Drop> {
-    // Clients, each over its own two ends.
-    Paths(PathClients<'a, F>),
-    // One, over standard input and output.
-    Streams(I, O),
-}
-
 // Looks whether a live server would write over a file that it reads or writes, or that a client is answered to.
 fn check_server_paths<F: Files + AllocGlobal>(
     files: &F,
@@ -348,36 +339,6 @@ fn journal_place<'a, 'f, F: Files + AllocGlobal>(
     })
 }
 
-// Serves clients with a journal, or without one.
-fn serve_whom<R, F, T: Read + Drop, I: Read + Drop + Send, W: Write + Drop + Send, E: Print + Sync>(
-    rt: &R,
-    journal: Option<&JournalPlace<'_, JournalPath<'_, F>>>,
-    settings: ServeSettings,
-    tables: Tables<T>,
-    whom: Served<'_, F, I, W>,
-    errors: &E,
-) -> u8
-where
-    R: Clock + RandomSource + Threads + Sync + Wait + AllocGlobal,
-    F: Files + Sync + AllocGlobal,
-    F::File: JournalFile + Send,
-    F::Dir: Send,
-{
-    match (whom, journal) {
-        (Served::Paths(clients), None) => serve_clients(rt, settings, tables, clients, errors),
-        (Served::Paths(clients), Some(place)) => {
-            serve_clients_journaled(rt, settings, tables, place, clients, errors).status
-        }
-        (Served::Streams(input, output), None) => {
-            serve_stream(rt, settings, tables, input, output, errors).status
-        }
-        (Served::Streams(input, output), Some(place)) => {
-            let ended = serve_stream_journaled(rt, settings, tables, place, input, output, errors);
-            ended.end.status
-        }
-    }
-}
-
 // Serves clients over tables that are loaded and counted now: those that the words name, or else standard input and
 // output.
 fn serve_loading<R, F, T, I: Read + Drop + Send, W: Write + Drop + Send, E: Print + Sync>(
@@ -412,22 +373,21 @@ where
     let tables = count_tables(&bytes, tables);
     let path = journal_path(files, journal.as_ref());
     let place = journal_place(path.as_ref(), &bytes, words.quiet);
-    let journal = place.as_ref();
     if !clients.is_empty() {
-        let whom: Served<'_, F, I, W> = Served::Paths(PathClients {
+        let clients = PathClients {
             files,
             ends: clients,
             keeps: words.keep,
-        });
-        return serve_whom(rt, journal, settings, tables, whom, errors);
+        };
+        return serve_clients(rt, settings, tables, place, clients, errors).status;
     }
     if is_typed {
-        let typed = Prompted::new(rt.alloc(), input, io::writer(errors), TERMINAL_HELP);
-        let whom = Served::Streams(typed, output);
-        return serve_whom(rt, journal, settings, tables, whom, errors);
+        let input = Prompted::new(rt.alloc(), input, io::writer(errors), TERMINAL_HELP);
+        let client = StreamClient { input, output };
+        return serve_stream(rt, settings, tables, place, client, errors).status;
     }
-    let whom = Served::Streams(input, output);
-    serve_whom(rt, journal, settings, tables, whom, errors)
+    let client = StreamClient { input, output };
+    serve_stream(rt, settings, tables, place, client, errors).status
 }
 
 // Serves clients over the files of a folder.

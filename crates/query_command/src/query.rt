@@ -16,7 +16,7 @@ use crate::asked::{ask, standard_questions};
 use crate::opening::opening_answers;
 use crate::stopwatch::{Stopwatch, TimedStep};
 use ssb_answers::Answer;
-use ssb_files::{Fault, base_of};
+use ssb_files::{Fault, LoadedFor, base_of};
 use ssb_formats::{Format, FormatFault, write_formatted};
 use ssb_questions::Question;
 use ssb_text::Tables;
@@ -52,7 +52,7 @@ fn answers<R: Threads + Sync + Clock + AllocGlobal, I: Read + Drop>(
         → AreTexts I.remaining tables texts → AreRefused texts) }
     ensures later { IfErr result (λ fault. status_of fault ≢ 2) }
 {
-    let base = base_of(rt, rt.alloc(), tables)?;
+    let base = base_of(rt, rt.alloc(), tables, LoadedFor::Reports)?;
     watch.lap(rt, TimedStep::Load);
     let answers = opening_answers(rt, rt.alloc(), hashing, base, questions, watch)?;
     Ok(answers)

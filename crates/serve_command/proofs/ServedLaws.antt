@@ -1,34 +1,30 @@
 -- What the run of a server says of its only client, and of all clients.
-use Rattle.std.proofs.Common.{◌≡◌, ◌∙◌, ℕ, ◌+◌, List, [], ◌∷◌, ◌++◌, length, Option, Result, Ok, Err, refl, sym, ap}
-use Rattle.std.proofs.Common.{Bool, arith, length-append, subst}
-use Rattle.std.specs.Prelude.{◌≢◌, All, IsTrue, slice_get}
+use Rattle.std.proofs.Common.{◌≡◌, ◌∙◌, ◌<◌, ◌⊎◌, ℕ, ◌+◌, List, [], ◌∷◌, ◌++◌, length, Option, None, Some, Result}
+use Rattle.std.proofs.Common.{Bool, ap, arith, length-append, refl, subst, sym}
+use Rattle.std.specs.Prelude.{◌≢◌, All, IsErr, IsOk, IsSome, IsTrue, slice_get}
 use Rattle.std.specs.List.{AllPass, list_all}
 use Rattle.std.proofs.lemmas.List.Sums.{AllPass-from_list_all}
 use Rattle.std.proofs.lemmas.Option.{slice_get_within}
-use Rattle.history.specs.Closing.{IsLogOf}
 use Rattle.history.specs.Members.{number_of}
 use Rattle.history.specs.Tokens.{TableRecord, TokenRecord, new_token}
-use Rattle.history_core.specs.OwnCommits.{IsOfClients}
+use Rattle.history_core.specs.declared.event.Who.{Who}
 use Rattle.history_core.specs.declared.event.Who.TheVariants.{Client}
+use Rattle.journal_opening.specs.Sizes.{AreSizes}
+use Rattle.row_store.proofs.PrefixLaws.{prefix_empty}
 use Rattle.row_store.specs.History.{CommitRecord}
 use Rattle.row_store.specs.Legal.{IsLegal}
-use Rattle.serve_command.specs.Served.{BreaksAlone, EndsAlone, IsOnlyClient, IsRunOver, IsServedToEnd, ServesAlone}
+use Rattle.serve_command.specs.Journals.{GoesOnFrom, IsMet, Journal, clients_in}
+use Rattle.serve_command.specs.Served.{EndsAlone, HasEndedAlone, HasHadSessions, IsRunOver, IsServedBy, IsServer}
 use Rattle.serve_command.specs.Served.{ServesClients}
-use Rattle.serve_command.specs.Sessions.{HasLeft, HasStreamed}
-use Rattle.serve_command.specs.Status.{session_status}
+use Rattle.serve_command.specs.Sessions.{HasLeft, HasStreamed, most_told}
+use Rattle.serve_command.specs.declared.speakers.PathLeft.{PathLeft}
 use Rattle.ssb_base.specs.Base.{Tables}
 use Rattle.ssb_files.specs.Loaded.{IsLoadedToServe}
 use Rattle.ssb_schema.specs.declared.table.Table.{Table}
 use Rattle.ssb_serving.proofs.PlaceLaws.{all_at, get_below}
-use Rattle.serve_command.specs.declared.speakers.PathLeft.{PathLeft}
-use Rattle.stream_sessions.specs.Streams.{IsSpokenTo, IsStreamRun}
+use Rattle.stream_sessions.specs.Streams.{IsStreamRun}
 use Rattle.stream_sessions.specs.declared.outcome.Served.{Served}
 use Rattle.stream_sessions.specs.declared.outcome.SessionError.{SessionError}
-
-the_only : {X : Type 0} (xs : List X) → length xs ≡ 1 → (x : X) × (xs ≡ x ∷ [])
-the_only [] one = absurd cc
-the_only (x ∷ []) one = (x, refl)
-the_only (x ∷ y ∷ ys) one = absurd cc
 
 -- what is pushed to an empty list, and what is popped from a list of one, is all of it
 pub first_pushed : {X : Type 0} (before after : List X) (x : X) → before ≡ [] → after ≡ before ++ x ∷ []
@@ -41,86 +37,180 @@ only_popped [] whole x popped one = popped
 only_popped (y ∷ front) whole x popped one =
     absurd (omega (arith, one, ap length popped, length-append front (x ∷ [])))
 
--- a run over a base that the texts spell
-pub run_over : {S L : Type 0} (Spoken : S → TokenRecord → TokenRecord → L → Type 0) (texts : Table → List ℕ)
-    (was base : Tables) (speakers : List S) (dispatchers : ℕ) (left : List L) (log : List CommitRecord) → was ≡ base
-    → IsLoadedToServe texts base → IsStreamRun Spoken was speakers dispatchers left log
-    → IsRunOver Spoken texts speakers dispatchers left log
-run_over Spoken texts was base speakers dispatchers left log same loaded run = record {
-  base = was;
-  loaded = subst (IsLoadedToServe texts) (sym same) loaded;
-  run = run;
+-- a run without a journal goes on from no commits
+pub over_none : {S L : Type 0} (Spoken : S → TokenRecord → TokenRecord → L → Type 0) (texts : Table → List ℕ)
+    (base : Tables) (speakers : List S) (dispatchers : ℕ) (left : List L) (log : List CommitRecord)
+    → IsLoadedToServe texts base → IsStreamRun Spoken base speakers dispatchers left log
+    → IsRunOver Spoken None texts speakers dispatchers left log
+over_none Spoken texts base speakers dispatchers left log loaded run = record {
+  server = record {
+    table = run.table;
+    loaded = subst (IsLoadedToServe texts) (sym run.base_is) loaded;
+    clients_are = run.clients_are;
+    dispatchers_are = run.dispatchers_are;
+    kept = [];
+    goes_on = refl;
+    log = log;
+    begins = prefix_empty log;
+    legal = subst (λ (b : Tables). IsLegal b log) (sym run.base_is) run.legal;
+    named = run.named;
+    closed = run.closed;
+    all_closed = run.one_each;
+    rested = λ i client behind here.
+        absurd (omega (arith, behind, slice_get_within run.closed i client here, run.one_each));
+    ended = run.ended;
+    true_log = run.true_log;
+  };
+  log_is = refl;
+  one_left = run.one_left;
+  served = λ i speaker client one at_speaker at_client at_left.
+      let is = run.served i speaker client one at_speaker at_client at_left in
+      record {
+        client = new_token run.table (Client (i + 1));
+        met = refl;
+        spoken = is.spoken;
+        begins = is.begins;
+        made = is.made;
+      };
 }
 
--- the only speaker had the only client, and spoke to it
-pub record IsAlone {S L : Type 0} (Spoken : S → TokenRecord → TokenRecord → L → Type 0) (texts : Table → List ℕ)
-    (speaker : S) (dispatchers : ℕ) (one : L) : Type 0 where
-  pub table : TableRecord
-  pub client : TokenRecord
-  pub only : IsOnlyClient texts dispatchers table client
-  pub spoken : Spoken speaker (new_token table (Client 1)) client one
-
-alone_of : {S L : Type 0} (Spoken : S → TokenRecord → TokenRecord → L → Type 0) (texts : Table → List ℕ) (speaker : S)
-    (dispatchers : ℕ) (one : L) (log : List CommitRecord)
-    → IsRunOver Spoken texts (speaker ∷ []) dispatchers (one ∷ []) log → IsAlone Spoken texts speaker dispatchers one
-alone_of Spoken texts speaker dispatchers one log over =
-    let run = over.run in
-    let found = the_only run.closed run.one_each in
-    let client = found.0 in
-    let told = run.served 0 speaker client one refl (ap (λ tokens. slice_get tokens 0) found.1) refl in
-    record {
-      table = run.table;
-      client = client;
-      only = record {
-        loaded = subst (IsLoadedToServe texts) (sym run.base_is) over.loaded;
+-- and with one from the commits of its file
+pub over_journal : {S L : Type 0} (Spoken : S → TokenRecord → TokenRecord → L → Type 0) (texts : Table → List ℕ)
+    (known : Option (List ℕ)) (base : Tables) (speakers : List S) (dispatchers : ℕ) (left : List L)
+    (log : List CommitRecord) → IsLoadedToServe texts base
+    → GoesOnFrom Spoken known base speakers dispatchers left log
+    → IsRunOver Spoken (Some known) texts speakers dispatchers left log
+over_journal Spoken texts known base speakers dispatchers left log loaded from =
+    let run = from.goes_on.run in record {
+      server = record {
+        table = run.table;
+        loaded = subst (IsLoadedToServe texts) (sym run.base_is) loaded;
         clients_are = run.clients_are;
         dispatchers_are = run.dispatchers_are;
+        kept = from.goes_on.kept;
+        goes_on = record {
+          sizes = from.sizes;
+          sized = subst (λ (b : Tables). AreSizes b from.sizes) (sym run.base_is) from.sized;
+          file = from.file;
+          is_file = from.is_file;
+          has = from.goes_on.has;
+        };
         log = log;
-        begins = told.begins;
-        made = told.made;
+        begins = run.goes_on;
+        legal = subst (λ (b : Tables). IsLegal b log) (sym run.base_is) run.legal;
         named = run.named;
-        legal = subst (λ (base : Tables). IsLegal base log) (sym run.base_is) run.legal;
+        closed = run.closed;
+        all_closed = run.all_closed;
+        rested = run.rested;
         ended = run.ended;
-        true_log = subst (λ (tokens : List TokenRecord). IsLogOf run.table tokens run.ended log) found.1 run.true_log;
+        true_log = run.true_log;
       };
-      spoken = told.spoken;
+      log_is = refl;
+      one_left = run.one_left;
+      served = λ i speaker client one at_speaker at_client at_left.
+          let is = run.served i speaker client one at_speaker at_client at_left in
+          record {
+            client = is.client;
+            met = (is.table_is, is.who_is, is.seen);
+            spoken = is.spoken.spoken;
+            begins = is.begins;
+            made = is.made;
+          };
     }
 
-pub is_alone : {S L : Type 0} (Spoken : S → TokenRecord → TokenRecord → L → Type 0) (texts : Table → List ℕ)
-    (speakers : List S) (speaker : S) (dispatchers : ℕ) (left : List L) (one : L) (log : List CommitRecord)
-    → IsRunOver Spoken texts speakers dispatchers left log → speakers ≡ speaker ∷ [] → left ≡ one ∷ []
-    → IsAlone Spoken texts speaker dispatchers one
-is_alone {L = L} Spoken texts speakers speaker dispatchers left one log over of_one left_one =
-    alone_of Spoken texts speaker dispatchers one log
-    (subst (λ (ls : List L). IsRunOver Spoken texts (speaker ∷ []) dispatchers ls log) left_one
-    (subst (λ xs. IsRunOver Spoken texts xs dispatchers left log) of_one over))
+-- the number of a client that a session finds
+met_number : (journal : Journal) (table : TableRecord) (kept : List CommitRecord) (number : ℕ) (client : TokenRecord)
+    → IsMet journal table kept number client → client.who ≡ Client number
+met_number None table kept number client met = ap (λ (t : TokenRecord). t.who) met
+met_number (Some known) table kept number client met = met.1
 
--- what a session's status says of it
-pub serves_alone : (outcome : Result Served SessionError) (texts : Table → List ℕ) (dispatchers : ℕ)
-    (unread before after : Option (List ℕ)) → EndsAlone outcome texts dispatchers unread before after
-    → session_status outcome ≡ 0 → ServesAlone texts dispatchers unread before after
-serves_alone (Ok served) texts dispatchers unread before after alone is = record { served = served; alone = alone }
-serves_alone (Err error) texts dispatchers unread before after alone is = absurd cc
+-- at least those who have sessions
+some_client : (journal : Journal) → 0 < clients_in journal 1
+some_client None = omega arith
+some_client (Some known) = omega arith
 
-pub breaks_alone : (outcome : Result Served SessionError) (texts : Table → List ℕ) (dispatchers : ℕ)
-    (unread before after : Option (List ℕ)) → EndsAlone outcome texts dispatchers unread before after
-    → session_status outcome ≢ 0 → BreaksAlone texts dispatchers unread before after
-breaks_alone (Ok served) texts dispatchers unread before after alone broke = absurd (broke refl)
-breaks_alone (Err error) texts dispatchers unread before after alone broke = record { error = error; alone = alone }
+-- the only speaker had client 1
+pub record IsAlone {S L : Type 0} (Spoken : S → TokenRecord → TokenRecord → L → Type 0) (journal : Journal)
+    (texts : Table → List ℕ) (dispatchers : ℕ) (log : List CommitRecord) (speaker : S) (one : L) : Type 0 where
+  pub server : IsServer journal texts 1 dispatchers
+  pub log_is : server.log ≡ log
+  pub closed : TokenRecord
+  pub is_closed : slice_get server.closed 0 ≡ Some closed
+  pub by : IsServedBy Spoken journal server.table server.kept server.log 1 speaker closed one
 
--- the only session of a run
-pub ends_alone : (outcome : Result Served SessionError) (texts : Table → List ℕ) (dispatchers told : ℕ)
-    (unread before after : Option (List ℕ)) (table : TableRecord) (client : TokenRecord)
-    → IsOnlyClient texts dispatchers table client
-    → HasStreamed 1 (new_token table (Client 1)) client unread before after outcome told
-    → EndsAlone outcome texts dispatchers unread before after
-ends_alone outcome texts dispatchers told unread before after table client only streamed = record {
-  table = table;
-  client = client;
-  only = only;
-  ended = streamed.ended;
-  events = streamed.events;
-  conversed = streamed.conversed;
+alone_of : {S L : Type 0} (Spoken : S → TokenRecord → TokenRecord → L → Type 0) (journal : Journal)
+    (texts : Table → List ℕ) (speaker : S) (dispatchers : ℕ) (one : L) (log : List CommitRecord)
+    → IsRunOver Spoken journal texts (speaker ∷ []) dispatchers (one ∷ []) log
+    → IsAlone Spoken journal texts dispatchers log speaker one
+alone_of Spoken journal texts speaker dispatchers one log over =
+    let all : length over.server.closed ≡ clients_in journal 1 = over.server.all_closed in
+    let found = get_below over.server.closed 0 (omega (arith, some_client journal, all)) in record {
+      server = over.server;
+      log_is = over.log_is;
+      closed = found.0;
+      is_closed = found.1;
+      by = over.served 0 speaker found.0 one refl found.1 refl;
+    }
+
+pub is_alone : {S L : Type 0} (Spoken : S → TokenRecord → TokenRecord → L → Type 0) (journal : Journal)
+    (texts : Table → List ℕ) (speakers : List S) (speaker : S) (dispatchers : ℕ) (left : List L) (one : L)
+    (log : List CommitRecord) → IsRunOver Spoken journal texts speakers dispatchers left log
+    → speakers ≡ speaker ∷ [] → left ≡ one ∷ [] → IsAlone Spoken journal texts dispatchers log speaker one
+is_alone {L = L} Spoken journal texts speakers speaker dispatchers left one log over of_one left_one =
+    alone_of Spoken journal texts speaker dispatchers one log
+    (subst (λ (ls : List L). IsRunOver Spoken journal texts (speaker ∷ []) dispatchers ls log) left_one
+    (subst (λ xs. IsRunOver Spoken journal texts xs dispatchers left log) of_one over))
+
+-- its session, by its number
+pub ended_alone : {S L : Type 0} (Spoken : S → TokenRecord → TokenRecord → L → Type 0)
+    (outcome : Result Served SessionError) (journal : Journal) (texts : Table → List ℕ) (dispatchers told : ℕ)
+    (unread before after : Option (List ℕ)) (AreKept : List CommitRecord → ℕ → Type 0) (log : List CommitRecord)
+    (speaker : S) (one : L) (alone : IsAlone Spoken journal texts dispatchers log speaker one)
+    → HasStreamed (number_of alone.by.client.who) alone.by.client alone.closed unread before after outcome told
+    → AreKept log told → HasEndedAlone outcome journal texts dispatchers unread before after AreKept
+ended_alone Spoken outcome journal texts dispatchers told unread before after AreKept log speaker one alone had kept =
+    let by = alone.by in
+    let streamed = subst
+    (λ (w : Who). HasStreamed (number_of w) by.client alone.closed unread before after outcome told)
+    (met_number journal alone.server.table alone.server.kept 1 by.client by.met) had in record {
+      server = alone.server;
+      client = by.client;
+      closed = alone.closed;
+      is_closed = alone.is_closed;
+      met = by.met;
+      ended = streamed.ended;
+      events = streamed.events;
+      conversed = streamed.conversed;
+      begins = by.begins;
+      made = by.made;
+      kept = subst (AreKept alone.server.log) streamed.told_is
+          (subst (λ (l : List CommitRecord). AreKept l told) (sym alone.log_is) kept);
+    }
+
+-- with an exit status
+pub ends_alone : (outcome : Result Served SessionError) (status : ℕ) (journal : Journal) (texts : Table → List ℕ)
+    (dispatchers : ℕ) (unread before after : Option (List ℕ)) (AreKept AreThen : List CommitRecord → ℕ → Type 0)
+    → HasEndedAlone outcome journal texts dispatchers unread before after AreKept
+    → ((log : List CommitRecord) (told : ℕ) → AreKept log told → AreThen log told) → (status ≡ 0 → IsOk outcome)
+    → (status ≢ 0 → IsErr outcome ⊎ IsSome journal)
+    → EndsAlone status journal texts dispatchers unread before after AreThen
+ends_alone outcome status journal texts dispatchers unread before after AreKept AreThen is still well broke = record {
+  outcome = outcome;
+  alone = record {
+    server = is.server;
+    client = is.client;
+    closed = is.closed;
+    is_closed = is.is_closed;
+    met = is.met;
+    ended = is.ended;
+    events = is.events;
+    conversed = is.conversed;
+    begins = is.begins;
+    made = is.made;
+    kept = still is.server.log _ is.kept;
+  };
+  well = well;
+  broke = broke;
 }
 
 -- what is left of all clients says that they were served
@@ -131,42 +221,52 @@ all_served shown all result is well same =
     (AllPass-from_list_all (λ (left : PathLeft). left.was_served) shown (sym is ∙ well))
 
 -- one of the clients of a run, by its place
-served_at : {S : Type 0} (table : TableRecord) (log : List CommitRecord) (place : ℕ) (speaker : S)
-    (client : TokenRecord) (left : PathLeft)
-    → IsSpokenTo (λ (s : S) old new one. HasLeft (number_of old.who) old new one) table log (place + 1) speaker client
-    left
-    → IsTrue left.was_served → IsServedToEnd table log (place + 1) client
-served_at table log place speaker client left to well = record {
-  sessions = to.spoken.sessions;
-  are = to.spoken.are;
-  well = to.spoken.ended well;
-  begins = to.begins;
-  made = to.made;
+had_at : {S : Type 0} (status : ℕ) (journal : Journal) (table : TableRecord) (kept log : List CommitRecord)
+    (AreKept : List CommitRecord → ℕ → Type 0) (place : ℕ) (speaker : S) (closed : TokenRecord) (left : PathLeft)
+    → IsServedBy (λ (s : S) old new one. HasLeft (number_of old.who) old new one) journal table kept log (place + 1)
+    speaker closed left
+    → AreKept log left.told → (status ≡ 0 → IsTrue left.was_served)
+    → HasHadSessions status journal table kept log AreKept (place + 1) closed
+had_at status journal table kept log AreKept place speaker closed left by told well =
+    let had = subst (λ (w : Who). HasLeft (number_of w) by.client closed left)
+    (met_number journal table kept (place + 1) by.client by.met) by.spoken in record {
+      client = by.client;
+      met = by.met;
+      sessions = had.sessions;
+      are = had.are;
+      well = λ zero. had.ended (well zero);
+      begins = by.begins;
+      made = by.made;
+      told = subst (AreKept log) had.told_is told;
+    }
+
+serves_all : {S : Type 0} (status : ℕ) (journal : Journal) (texts : Table → List ℕ) (speakers : List S)
+    (dispatchers : ℕ) (left : List PathLeft) (log : List CommitRecord) (AreKept : List CommitRecord → ℕ → Type 0)
+    → IsRunOver (λ (s : S) old new one. HasLeft (number_of old.who) old new one) journal texts speakers dispatchers left
+    log
+    → ((place : ℕ) (one : PathLeft) → slice_get left place ≡ Some one → AreKept log one.told)
+    → (status ≡ 0 → All (λ one. IsTrue one.was_served) left)
+    → ServesClients status journal texts (length speakers) dispatchers AreKept
+serves_all status journal texts speakers dispatchers left log AreKept over told well = record {
+  server = over.server;
+  served = λ i client within here.
+      let speaker = get_below speakers i within in
+      let one = get_below left i (omega (arith, within, over.one_left)) in
+      had_at status journal over.server.table over.server.kept over.server.log AreKept i speaker.0 client one.0
+      (over.served i speaker.0 client one.0 speaker.1 here one.1)
+      (subst (λ (l : List CommitRecord). AreKept l one.0.told) (sym over.log_is) (told i one.0 one.1))
+      (λ zero. all_at (λ (l : PathLeft). IsTrue l.was_served) left i one.0 (well zero) one.1);
 }
 
 -- all clients of a run
-pub serves_clients : {S : Type 0} (texts : Table → List ℕ) (speakers : List S) (clients dispatchers : ℕ)
-    (left : List PathLeft) (log : List CommitRecord)
-    → IsRunOver (λ (s : S) old new one. HasLeft (number_of old.who) old new one) texts speakers dispatchers left log
-    → length speakers ≡ clients → All (λ one. IsTrue one.was_served) left → ServesClients texts clients dispatchers
-serves_clients texts speakers clients dispatchers left log over many well =
-    let run = over.run in record {
-      table = run.table;
-      loaded = subst (IsLoadedToServe texts) (sym run.base_is) over.loaded;
-      clients_are = run.clients_are ∙ many;
-      dispatchers_are = run.dispatchers_are;
-      log = log;
-      closed = run.closed;
-      one_each = run.one_each ∙ many;
-      served = λ i client here.
-          let within = slice_get_within run.closed i client here in
-          let speaker = get_below speakers i (omega (arith, within, run.one_each)) in
-          let one = get_below left i (omega (arith, within, run.one_each, run.one_left)) in
-          served_at run.table log i speaker.0 client one.0
-          (run.served i speaker.0 client one.0 speaker.1 here one.1)
-          (all_at (λ (l : PathLeft). IsTrue l.was_served) left i one.0 well one.1);
-      legal = subst (λ (base : Tables). IsLegal base log) (sym run.base_is) run.legal;
-      named = subst (λ (n : ℕ). IsOfClients n log) many run.named;
-      ended = run.ended;
-      true_log = run.true_log;
-    }
+pub serves_clients : {S : Type 0} (status : ℕ) (journal : Journal) (texts : Table → List ℕ) (speakers : List S)
+    (clients dispatchers : ℕ) (left : List PathLeft) (log : List CommitRecord)
+    (AreKept : List CommitRecord → ℕ → Type 0)
+    → IsRunOver (λ (s : S) old new one. HasLeft (number_of old.who) old new one) journal texts speakers dispatchers left
+    log → length speakers ≡ clients
+    → ((place : ℕ) (one : PathLeft) → slice_get left place ≡ Some one → AreKept log one.told)
+    → (status ≡ 0 → All (λ one. IsTrue one.was_served) left)
+    → ServesClients status journal texts clients dispatchers AreKept
+serves_clients status journal texts speakers clients dispatchers left log AreKept over many told well =
+    subst (λ (n : ℕ). ServesClients status journal texts n dispatchers AreKept) many
+    (serves_all status journal texts speakers dispatchers left log AreKept over told well)

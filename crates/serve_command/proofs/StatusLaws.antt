@@ -1,7 +1,7 @@
 -- The exit statuses that there are.
-use Rattle.std.proofs.Common.{◌≡◌, ℕ, ◌⊎◌, inl, inr, Result, Ok, Err, refl, arith}
+use Rattle.std.proofs.Common.{◌≡◌, ℕ, ◌⊎◌, inl, inr, refl, arith}
 use Rattle.std.specs.Prelude.{◌≢◌}
-use Rattle.ssb_files.specs.Status.{data_status, job_status, questions_status, script_status, status_of}
+use Rattle.ssb_files.specs.Status.{data_status, questions_status, script_status, status_of}
 use Rattle.ssb_files.specs.declared.fault.Fault.{Fault}
 use Rattle.ssb_files.specs.declared.fault.Fault.TheVariants as fault
 use Rattle.ssb_files.specs.declared.job.JobFault.{JobFault}
@@ -19,18 +19,14 @@ use Rattle.journal_opening.specs.declared.fault.OpeningFault.{OpeningFault}
 use Rattle.journal_opening.specs.declared.fault.OpeningFault.TheVariants as opening
 use Rattle.serve_command.specs.declared.unserved.JournaledFault.{JournaledFault}
 use Rattle.serve_command.specs.declared.unserved.JournaledFault.TheVariants as journaled
-use Rattle.serve_command.specs.Status.{journal_status, journaled_status, serving_status, session_status}
-use Rattle.serve_command.specs.declared.fault.NotServed.{NotServed}
-use Rattle.serve_command.specs.declared.fault.NotServed.TheVariants as not_served
-use Rattle.serve_command.specs.declared.journal_fault.JournalRefusal.{JournalRefusal}
-use Rattle.serve_command.specs.declared.journal_fault.JournalRefusal.TheVariants as journal_refusal
+use Rattle.serve_command.specs.Status.{journaled_status, serving_status}
+use Rattle.serve_command.specs.declared.fault.ServeRefusal.{ServeRefusal}
+use Rattle.serve_command.specs.declared.fault.ServeRefusal.TheVariants as refusal
 use Rattle.ssb_journal.specs.declared.fault.JournalFault.TheVariants as journal
 use Rattle.ssb_journal.specs.declared.opening.JournalOpenFault.{JournalOpenFault}
 use Rattle.ssb_journal.specs.declared.opening.JournalOpenFault.TheVariants as kept
 use Rattle.ssb_journal.specs.declared.replaying.ReplayFault.{ReplayFault}
 use Rattle.ssb_journal.specs.declared.replaying.ReplayFault.TheVariants as replay
-use Rattle.stream_sessions.specs.declared.outcome.Served.{Served}
-use Rattle.stream_sessions.specs.declared.outcome.SessionError.{SessionError}
 
 -- refused data, wrong words, or a failure
 abbrev IsFaultStatus : ℕ → Type 0
@@ -76,38 +72,15 @@ of_program (fault.Trace why) = of_script why
 of_program fault.WriteFailed = inr (inr refl)
 of_program fault.OutOfMemory = inr (inr refl)
 
-of_serving : (why : JobFault NotServed) → IsFaultStatus (serving_status why)
-of_serving (job.Program why) = of_program why
-of_serving (job.Found not_served.TooManyClients) = inr (inl refl)
-of_serving (job.Found (not_served.NotRun why)) = inr (inr refl)
-
 else_failed : (status : ℕ) → IsFaultStatus status → status ≢ 1 → status ≢ 2 → status ≡ 4
 else_failed status (inl is) no_data no_words = absurd (no_data is)
 else_failed status (inr (inl is)) no_data no_words = absurd (no_words is)
 else_failed status (inr (inr is)) no_data no_words = is
 
--- what is no refusal of data, and no wrong word, is a failure
-pub serving_failed : (why : JobFault NotServed) → serving_status why ≢ 1 → serving_status why ≢ 2
-    → serving_status why ≡ 4
-serving_failed why = else_failed (serving_status why) (of_serving why)
-
 no_zero : (status : ℕ) → IsFaultStatus status → status ≢ 0
 no_zero status (inl is) zero = omega (arith, is, zero)
 no_zero status (inr (inl is)) zero = omega (arith, is, zero)
 no_zero status (inr (inr is)) zero = omega (arith, is, zero)
-
--- a fault is told by no 0
-pub serving_told : (why : JobFault NotServed) → serving_status why ≢ 0
-serving_told why = no_zero (serving_status why) (of_serving why)
-
--- of a session
-pub session_broke : (outcome : Result Served SessionError) → session_status outcome ≢ 0 → session_status outcome ≡ 4
-session_broke (Ok served) broke = absurd (broke refl)
-session_broke (Err error) broke = refl
-
-pub session_refuses_nothing : (outcome : Result Served SessionError) → session_status outcome ≢ 1
-session_refuses_nothing (Ok served) is = absurd cc
-session_refuses_nothing (Err error) is = absurd cc
 
 -- a refused journal, or a failure
 abbrev IsJournalStatus : ℕ → Type 0
@@ -160,16 +133,17 @@ a_fault : (status : ℕ) → IsJournalStatus status → IsFaultStatus status
 a_fault status (inl is) = inl is
 a_fault status (inr is) = inr (inr is)
 
-of_journal_serving : (why : JobFault JournalRefusal) → IsFaultStatus (job_status journal_status why)
-of_journal_serving (job.Program why) = of_program why
-of_journal_serving (job.Found journal_refusal.TooManyClients) = inr (inl refl)
-of_journal_serving (job.Found (journal_refusal.Journal why)) = a_fault _ (of_opening why)
-of_journal_serving (job.Found (journal_refusal.NotServed why)) = a_fault _ (of_journaled why)
+of_serving : (why : JobFault ServeRefusal) → IsFaultStatus (serving_status why)
+of_serving (job.Program why) = of_program why
+of_serving (job.Found refusal.TooManyClients) = inr (inl refl)
+of_serving (job.Found (refusal.Journal why)) = a_fault _ (of_opening why)
+of_serving (job.Found (refusal.NotServed why)) = a_fault _ (of_journaled why)
 
--- the same as `serving_failed` and `serving_told`, with a journal
-pub journal_failed : (why : JobFault JournalRefusal) → job_status journal_status why ≢ 1
-    → job_status journal_status why ≢ 2 → job_status journal_status why ≡ 4
-journal_failed why = else_failed (job_status journal_status why) (of_journal_serving why)
+-- what is no refusal of data, and no wrong word, is a failure
+pub serving_failed : (why : JobFault ServeRefusal) → serving_status why ≢ 1 → serving_status why ≢ 2
+    → serving_status why ≡ 4
+serving_failed why = else_failed (serving_status why) (of_serving why)
 
-pub journal_told : (why : JobFault JournalRefusal) → job_status journal_status why ≢ 0
-journal_told why = no_zero (job_status journal_status why) (of_journal_serving why)
+-- a fault is told by no 0
+pub serving_told : (why : JobFault ServeRefusal) → serving_status why ≢ 0
+serving_told why = no_zero (serving_status why) (of_serving why)

@@ -11,6 +11,7 @@ use Rattle.row_store.specs.Legal.{IsLegal}
 use Rattle.ssb_base.specs.Base.{Tables}
 use Rattle.ssb_journal.specs.Counts.{Begun, KeepsBeginning, KeepsSince}
 use Rattle.ssb_journal.specs.Replays.{IsReplayFault}
+use Rattle.ssb_server.specs.Opening.{most_clients}
 use Rattle.ssb_serving.specs.Members.{AreStill}
 use Rattle.ssb_serving.specs.RunFaults.{IsRunFault}
 use Rattle.stream_sessions.specs.Streams.{IsSpoken}
@@ -83,10 +84,10 @@ pub record IsJournaledRun {S L : Type 0} (Spoken : S → TokenRecord → TokenRe
     : Type 0 where
   pub table : TableRecord
   pub base_is : table.base ≡ base
-  pub clients_are : table.clients ≡ 16
+  pub clients_are : table.clients ≡ most_clients
   pub dispatchers_are : table.dispatchers ≡ dispatchers
   pub closed : List TokenRecord
-  pub all_closed : length closed ≡ 16
+  pub all_closed : length closed ≡ most_clients
   pub one_left : length left ≡ length speakers
   pub served : (i : ℕ) (speaker : S) (client : TokenRecord) (one : L) → slice_get speakers i ≡ Some speaker
       → slice_get closed i ≡ Some client → slice_get left i ≡ Some one
@@ -99,7 +100,7 @@ pub record IsJournaledRun {S L : Type 0} (Spoken : S → TokenRecord → TokenRe
   pub goes_on : IsPrefix recovered log
   pub true_log : IsLogOf table closed ended log
   pub legal : IsLegal base log
-  pub named : IsOfClients 16 log
+  pub named : IsOfClients most_clients log
 
 -- why an opened server served nothing: a commit of the journal is refused, and then it is the first that is; the others
 -- tell nothing of the journal's commits
@@ -110,9 +111,9 @@ IsOpenedFault base recovered fault.Disturbed = Unit {0}
 IsOpenedFault base recovered fault.Write = Unit {0}
 IsOpenedFault base recovered fault.OutOfMemory = Unit {0}
 
--- why nothing was served: no server was opened for 16 clients and so many dispatchers; or an opened one served nothing
+-- why nothing was served: no server was opened for as many clients as there can be and so many dispatchers; or an opened one served nothing
 abbrev pub IsJournaledFault : Tables → List CommitRecord → ℕ → JournaledFault → Type 0
-IsJournaledFault base recovered dispatchers (fault.NotRun why) = IsRunFault 16 dispatchers why
+IsJournaledFault base recovered dispatchers (fault.NotRun why) = IsRunFault most_clients dispatchers why
 IsJournaledFault base recovered dispatchers (fault.Replay why) = IsOpenedFault base recovered (fault.Replay why)
 IsJournaledFault base recovered dispatchers fault.Disturbed = IsOpenedFault base recovered fault.Disturbed
 IsJournaledFault base recovered dispatchers fault.Write = IsOpenedFault base recovered fault.Write

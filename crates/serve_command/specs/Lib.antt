@@ -1,9 +1,8 @@
-pub mod Standing
 pub mod Status
-pub mod Sessions
-pub mod Served
 pub mod Reading
 pub mod Seated
 pub mod Remade
 pub mod JournaledRun
-pub mod Journaled
+pub mod Journals
+pub mod Sessions
+pub mod Served

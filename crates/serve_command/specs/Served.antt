@@ -1,87 +1,106 @@
--- What a live server over table files leaves.
-use Rattle.std.specs.Prelude.{◌≡◌, ℕ, ◌+◌, List, [], ◌∷◌, length, Option, Some, Result, Ok, Err, slice_get}
+-- What a live server over table files leaves, with a journal or without one.
+use Rattle.std.specs.Prelude.{◌≡◌, ◌≢◌, ◌<◌, ◌≤◌, ◌⊎◌, ℕ, ◌+◌, List, [], length, Option, Some, Result, IsErr, IsOk}
+use Rattle.std.specs.Prelude.{IsSome, slice_get}
 use Rattle.history.specs.Closing.{IsLogOf}
-use Rattle.history.specs.Tokens.{TableRecord, TokenRecord, new_token}
+use Rattle.history.specs.Tokens.{TableRecord, TokenRecord}
 use Rattle.history_core.specs.OwnCommits.{IsOfClients, commits_of}
-use Rattle.history_core.specs.declared.event.Who.TheVariants.{Client}
 use Rattle.row_store.specs.History.{CommitRecord, IsPrefix}
 use Rattle.row_store.specs.Legal.{IsLegal}
-use Rattle.serve_command.specs.Sessions.{AreSessions, EndWell, HasConversed, HasEnded, SessionRecord}
-use Rattle.ssb_base.specs.Base.{Tables}
+use Rattle.serve_command.specs.JournaledRun.{HasRested}
+use Rattle.serve_command.specs.Journals.{AreKeptIn, IsMet, Journal, clients_in, dispatchers_in}
+use Rattle.serve_command.specs.Sessions.{AreSessions, EndWell, HasConversed, HasEnded, SessionRecord, most_told}
 use Rattle.ssb_files.specs.Loaded.{IsLoadedToServe}
 use Rattle.ssb_schema.specs.declared.table.Table.{Table}
-use Rattle.stream_sessions.specs.Events.{Event}
-use Rattle.stream_sessions.specs.Streams.{IsStreamRun}
+use Rattle.stream_sessions.specs.Events.{Event, most_covered}
 use Rattle.stream_sessions.specs.declared.outcome.Served.{Served}
 use Rattle.stream_sessions.specs.declared.outcome.SessionError.{SessionError}
 
--- a server over the base that the five texts spell served these speakers by so many dispatchers: this is what they
--- left, and the log
-pub record IsRunOver {S L : Type 0} (Spoken : S → TokenRecord → TokenRecord → L → Type 0) (texts : Table → List ℕ)
-    (speakers : List S) (dispatchers : ℕ) (left : List L) (log : List CommitRecord) : Type 0 where
-  pub base : Tables
-  pub loaded : IsLoadedToServe texts base
-  pub run : IsStreamRun Spoken base speakers dispatchers left log
-
--- this was the only client of a server over the base that the five texts spell, with so many dispatchers, when the
--- server was closed: the log is legal, what the client sees is a beginning of it, and the commits that the client made
--- are those of the log
-pub record IsOnlyClient (texts : Table → List ℕ) (dispatchers : ℕ) (table : TableRecord) (client : TokenRecord) : Type 0
-  where
-    pub loaded : IsLoadedToServe texts table.base
-    pub clients_are : table.clients ≡ 1
-    pub dispatchers_are : table.dispatchers ≡ dispatchers
-    pub log : List CommitRecord
-    pub begins : IsPrefix client.seen log
-    pub made : client.mine ≡ commits_of 1 log
-    pub named : IsOfClients 1 log
-    pub legal : IsLegal table.base log
-    pub ended : List TokenRecord
-    pub true_log : IsLogOf table (client ∷ []) ended log
-
--- the only client of such a server was new, and its session ended so; what went over its wire is a conversation
-pub record EndsAlone (outcome : Result Served SessionError) (texts : Table → List ℕ) (dispatchers : ℕ)
-    (unread before after : Option (List ℕ)) : Type 0 where
-  pub table : TableRecord
-  pub client : TokenRecord
-  pub only : IsOnlyClient texts dispatchers table client
-  pub ended : HasEnded outcome 1 (new_token table (Client 1)) client unread before after
-  pub events : List Event
-  pub conversed : HasConversed outcome 1 (new_token table (Client 1)) client [] events
-
--- its session was served to its end: known bytes grow by all that was told
-pub record ServesAlone (texts : Table → List ℕ) (dispatchers : ℕ) (unread before after : Option (List ℕ)) : Type 0 where
-  pub served : Served
-  pub alone : EndsAlone (Ok served) texts dispatchers unread before after
-
--- its session broke: known bytes grow by what was told before
-pub record BreaksAlone (texts : Table → List ℕ) (dispatchers : ℕ) (unread before after : Option (List ℕ)) : Type 0 where
-  pub error : SessionError
-  pub alone : EndsAlone (Err error) texts dispatchers unread before after
-
--- a client of a server had these sessions, from the first when it was new, and the last of them was served to its end;
--- what it sees then is a beginning of the log, and the commits that it made are those of its number in the log
-pub record IsServedToEnd (table : TableRecord) (log : List CommitRecord) (number : ℕ) (closed : TokenRecord) : Type 0
-  where
-    pub sessions : List SessionRecord
-    pub are : AreSessions number (new_token table (Client number)) sessions closed
-    pub well : EndWell sessions
-    pub begins : IsPrefix closed.seen log
-    pub made : closed.mine ≡ commits_of number log
-
--- a server over the base that the five texts spell had so many clients and dispatchers, and was closed when all clients
--- had been served to their ends; the log is legal, has their commits and no others, and is that of a true run
-pub record ServesClients (texts : Table → List ℕ) (clients dispatchers : ℕ) : Type 0 where
+-- a server over the base that the five texts spell went on from what its journal kept, or from nothing, and was closed
+-- when all had ended, of whom the first so many had sessions and the others rested: the log begins with what was kept,
+-- is legal, has commits of its clients alone, and is that of a true run
+pub record IsServer (journal : Journal) (texts : Table → List ℕ) (clients dispatchers : ℕ) : Type 0 where
   pub table : TableRecord
   pub loaded : IsLoadedToServe texts table.base
-  pub clients_are : table.clients ≡ clients
-  pub dispatchers_are : table.dispatchers ≡ dispatchers
+  pub clients_are : table.clients ≡ clients_in journal clients
+  pub dispatchers_are : table.dispatchers ≡ dispatchers_in journal dispatchers
+  pub kept : List CommitRecord
+  pub goes_on : AreKeptIn journal table.base kept
   pub log : List CommitRecord
-  pub closed : List TokenRecord
-  pub one_each : length closed ≡ clients
-  pub served : (i : ℕ) (client : TokenRecord) → slice_get closed i ≡ Some client
-      → IsServedToEnd table log (i + 1) client
+  pub begins : IsPrefix kept log
   pub legal : IsLegal table.base log
-  pub named : IsOfClients clients log
+  pub named : IsOfClients (clients_in journal clients) log
+  pub closed : List TokenRecord
+  pub all_closed : length closed ≡ clients_in journal clients
+  pub rested : (i : ℕ) (client : TokenRecord) → clients ≤ i → slice_get closed i ≡ Some client
+      → HasRested table kept log (i + 1) client
   pub ended : List TokenRecord
   pub true_log : IsLogOf table closed ended log
+
+-- the client of this number was served by its speaker, which kept what it promises; what it sees at the end is a
+-- beginning of the log, and the commits that it made, those kept among them, are those of its number in the log
+pub record IsServedBy {S L : Type 0} (Spoken : S → TokenRecord → TokenRecord → L → Type 0) (journal : Journal)
+    (table : TableRecord) (kept log : List CommitRecord) (number : ℕ) (speaker : S) (closed : TokenRecord) (left : L)
+    : Type 0 where
+  pub client : TokenRecord
+  pub met : IsMet journal table kept number client
+  pub spoken : Spoken speaker client closed left
+  pub begins : IsPrefix closed.seen log
+  pub made : closed.mine ≡ commits_of number log
+
+-- such a server had these speakers, each for a client of its own, by number from 1: this is what they left, and the log
+pub record IsRunOver {S L : Type 0} (Spoken : S → TokenRecord → TokenRecord → L → Type 0) (journal : Journal)
+    (texts : Table → List ℕ) (speakers : List S) (dispatchers : ℕ) (left : List L) (log : List CommitRecord) : Type 0
+  where
+    pub server : IsServer journal texts (length speakers) dispatchers
+    pub log_is : server.log ≡ log
+    pub one_left : length left ≡ length speakers
+    pub served : (i : ℕ) (speaker : S) (client : TokenRecord) (one : L) → slice_get speakers i ≡ Some speaker
+        → slice_get server.closed i ≡ Some client → slice_get left i ≡ Some one
+        → IsServedBy Spoken journal server.table server.kept server.log (i + 1) speaker client one
+
+-- of such a server client 1 had the only session, which ended so; what went over its wire is a conversation. What it
+-- sees at the end is a beginning of the log, and its commits are those of its number in the log. As many commits as it
+-- was told of at most are kept
+pub record HasEndedAlone (outcome : Result Served SessionError) (journal : Journal) (texts : Table → List ℕ)
+    (dispatchers : ℕ) (unread before after : Option (List ℕ)) (AreKept : List CommitRecord → ℕ → Type 0) : Type 0 where
+  pub server : IsServer journal texts 1 dispatchers
+  pub client : TokenRecord
+  pub closed : TokenRecord
+  pub is_closed : slice_get server.closed 0 ≡ Some closed
+  pub met : IsMet journal server.table server.kept 1 client
+  pub ended : HasEnded outcome 1 client closed unread before after
+  pub events : List Event
+  pub conversed : HasConversed outcome 1 client closed [] events
+  pub begins : IsPrefix closed.seen server.log
+  pub made : closed.mine ≡ commits_of 1 server.log
+  pub kept : AreKept server.log (most_covered events)
+
+-- the same with an exit status: with 0 its session was served to its end, so that known bytes grow by all that was told.
+-- Else it broke, and they grow by what was told before; or the journal could not be written to its end
+pub record EndsAlone (status : ℕ) (journal : Journal) (texts : Table → List ℕ) (dispatchers : ℕ)
+    (unread before after : Option (List ℕ)) (AreKept : List CommitRecord → ℕ → Type 0) : Type 0 where
+  pub outcome : Result Served SessionError
+  pub alone : HasEndedAlone outcome journal texts dispatchers unread before after AreKept
+  pub well : status ≡ 0 → IsOk outcome
+  pub broke : status ≢ 0 → IsErr outcome ⊎ IsSome journal
+
+-- a client of such a server had these sessions, and with status 0 the last of them was served to its end. What it sees
+-- then is a beginning of the log, and its commits are those of its number in the log. As many commits as it was told of
+-- at most are kept
+pub record HasHadSessions (status : ℕ) (journal : Journal) (table : TableRecord) (kept log : List CommitRecord)
+    (AreKept : List CommitRecord → ℕ → Type 0) (number : ℕ) (closed : TokenRecord) : Type 0 where
+  pub client : TokenRecord
+  pub met : IsMet journal table kept number client
+  pub sessions : List SessionRecord
+  pub are : AreSessions number client sessions closed
+  pub well : status ≡ 0 → EndWell sessions
+  pub begins : IsPrefix closed.seen log
+  pub made : closed.mine ≡ commits_of number log
+  pub told : AreKept log (most_told sessions)
+
+-- so many clients of such a server had sessions
+pub record ServesClients (status : ℕ) (journal : Journal) (texts : Table → List ℕ) (clients dispatchers : ℕ)
+    (AreKept : List CommitRecord → ℕ → Type 0) : Type 0 where
+  pub server : IsServer journal texts clients dispatchers
+  pub served : (i : ℕ) (client : TokenRecord) → i < clients → slice_get server.closed i ≡ Some client
+      → HasHadSessions status journal server.table server.kept server.log AreKept (i + 1) client

@@ -8,6 +8,7 @@ ghost use Rattle.journal.specs.Disk.{LeavesOnly};
 ghost use Rattle.ssb_journal.specs.Counts.{IsLeft, KeepsFirst, KeepsSince};
 ghost use Rattle.ssb_journal.specs.Kept.{IsAsItWasOrNew};
 ghost use Rattle.ssb_journal.specs.Opening.{IsKept};
+ghost use Rattle.ssb_server.specs.Opening.{most_clients};
 ghost use Rattle.ssb_server.specs.Tickets.{IsOf, IsQuiet};
 ghost use Rattle.ssb_serving.specs.Members.{AreStill, IsReady, IsStill};
 ghost use Rattle.stream_sessions.specs.Streams.{AreSpoken, IsClosedWith};
@@ -193,7 +194,7 @@ where
     requires clients { All (IsQuiet server.now) seated.items }
     requires dispatchers { All (IsOf server.now) dispatchers.items }
     requires speakers { vec_len seated ≡ vec_len speakers }
-    requires few { server.now.clients ≤ 16 }
+    requires few { server.now.clients ≤ most_clients }
     requires reader { begun.reader.table ≡ server.now }
     requires picked { K.reader ≡ Some begun.reader }
     requires begun { IsBegunOn D.moment D.left_since K.begun begun.journal begun.count }
@@ -320,12 +321,12 @@ where
     R: Wait + Threads + Sync,
     S: Speaks<R, Durable> + Drop + Send,
     S::Left: Drop + Send,
-    requires few { vec_len speakers ≤ 16 }
+    requires few { vec_len speakers ≤ most_clients }
     requires kept { IsKept recovered.sizes.now (recovered_groups (D.seen recovered.opened.found))
         recovered.opened.kept }
     requires torn { AreTorn (D.seen recovered.opened.found) recovered.opened.torn.items }
     requires clients { opened.clients.items ≡ new_clients opened.server }
-    requires sixteen { opened.server.clients ≡ 16 }
+    requires full { opened.server.clients ≡ most_clients }
     requires dispatchers { opened.dispatchers.items ++ opened.reader ∷ [] ≡ new_dispatchers opened.server }
     ensures served { IfOk result (λ run. IsJournaledRun S.spoken opened.server.base
         recovered.entry.opened.kept.commits.items speakers.items opened.server.dispatchers run.left.items run.log) }
@@ -390,7 +391,7 @@ where
     R: Wait + Threads + Sync,
     S: Speaks<R, Durable> + Drop + Send,
     S::Left: Drop + Send,
-    requires few { vec_len speakers ≤ 16 }
+    requires few { vec_len speakers ≤ most_clients }
     requires kept { IsKept recovered.sizes.now (recovered_groups (D.seen recovered.opened.found))
         recovered.opened.kept }
     requires torn { AreTorn (D.seen recovered.opened.found) recovered.opened.torn.items }

@@ -4,7 +4,7 @@
 //! tables ── base_to_serve ─▶ base ── serve_streams ─┬─ one client: standard input and output   (serve_stream)
 //!                             │               └─ 1 to 16, each with a thread that opens  (serve_clients)
 //!                             │                  its OUT and then its IN, again and again where they are kept
-//! journal's file ── open ─▶ commits ── serve_journaled ── the same clients                 (serve_source)
+//! journal's file ── open ─▶ commits ── serve_journaled ── the same clients                 (run_source)
 //! terminal ── Prompted ─▶ its bytes; a prompt before each wait, and help where it is asked for
 //! ```
 //!
@@ -30,12 +30,11 @@
 mod acknowledging;
 mod ends;
 mod fault;
-mod journal_fault;
-mod journaled;
+mod journal_source;
 mod journaled_run;
-mod loading;
 mod prompted;
 mod remaking;
+mod runs;
 mod server_log;
 mod serving;
 mod speakers;
@@ -43,14 +42,11 @@ mod unserved;
 
 pub use acknowledging::Durable;
 pub use ends::{EndFault, EndPaths, Ends, open_ends, report_no_pipes};
-pub use journal_fault::JournalRefusal;
-pub use journaled::{
-    ClientsEnd, JournalPlace, JournalSource, JournaledEnd, serve_clients_journaled, serve_source,
-    serve_stream_journaled,
-};
+pub use fault::ServeRefusal;
+pub use journal_source::{JournalPlace, JournalSource, run_source};
 pub use journaled_run::JournaledRun;
 pub use prompted::Prompted;
-pub use serving::{
-    MOST_CLIENTS, PathClients, ServeSettings, StreamEnd, serve_clients, serve_stream,
-};
+pub use runs::ServeSettings;
+pub use serving::{ClientsEnd, MOST_CLIENTS, PathClients, StreamEnd, serve_clients, serve_stream};
+pub use speakers::StreamClient;
 pub use unserved::JournaledFault;

@@ -4,6 +4,7 @@ ghost use Rattle.std.specs.Prelude.{◌≡◌, ◌≤◌, None, Option, Some, If
 ghost use Rattle.std.specs.Option.{ForSome};
 ghost use Rattle.history.specs.Tokens.{TokenRecord};
 ghost use Rattle.ssb_journal.specs.Counts.{Begun, IsLeft, KeepsSince, nothing_said};
+ghost use Rattle.ssb_server.specs.Opening.{most_clients};
 ghost use Rattle.serve_command.specs.Reading.{IsLater};
 
 use journal::Disk;
@@ -35,7 +36,7 @@ pub(crate) struct ServerLog<'a, W: Wait + Drop, K: LogStart> {
     reader: LogReader<W>,
     opened: PhantomData<K>,
     ghost of_server: { reader.table ≡ server.now },
-    ghost few: { server.now.clients ≤ 16 },
+    ghost few: { server.now.clients ≤ most_clients },
     ghost later: { ForSome K.reader (λ first. IsLater first reader) },
 }
 
@@ -43,7 +44,7 @@ impl<'a, W: Wait + Drop, K: LogStart> ServerLog<'a, W, K> {
     /// The log of a server, by the reader that the call picked.
     pub(crate) fn new(server: &'a Server<W>, reader: LogReader<W>) -> ServerLog<'a, W, K>
         requires table { reader.table ≡ server.now }
-        requires few { server.now.clients ≤ 16 }
+        requires few { server.now.clients ≤ most_clients }
         requires picked { K.reader ≡ Some reader }
         ensures { result.reader ≡ reader }
     {

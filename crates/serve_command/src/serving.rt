@@ -1,121 +1,137 @@
-//! The word `serve`: clients over the base of five table files.
+//! The word `serve`: clients over the base of five table files, with a journal or without one.
 
-ghost use Rattle.std.specs.Prelude.{◌≡◌, ◌≢◌, ◌⊎◌, ◌↔◌, ◌<◌, ℕ, List, IfOk, IfErr, OnOk, IsTrue, vec_len};
+ghost use Rattle.std.specs.Prelude.{◌≡◌, ◌≢◌, ◌⊎◌, ◌↔◌, ◌<◌, ℕ, List, true, false, IfOk, IfErr, IfSome, IsErr, IsNone};
+ghost use Rattle.std.specs.Prelude.{IsOk, IsSome, IsTrue, MatchOption, None, is_some, vec_len};
 ghost use Rattle.std.specs.List.{list_all};
-ghost use Rattle.std.specs.Option.{option_and_then};
-ghost use Rattle.serve_command.specs.Served.{BreaksAlone, EndsAlone, IsRunOver, ServesAlone, ServesClients};
-ghost use Rattle.serve_command.specs.Standing.{MayNotStand};
-ghost use Rattle.serve_command.specs.Status.{serving_status, session_status};
-ghost use Rattle.ssb_files.specs.Loaded.{AreRefusedToServe};
+ghost use Rattle.std.specs.Option.{option_map};
+ghost use Rattle.serve_command.specs.Journals.{AreOnDisk, AreRefused};
+ghost use Rattle.serve_command.specs.Served.{EndsAlone, HasEndedAlone, ServesClients};
+ghost use Rattle.serve_command.specs.Status.{serving_status};
 ghost use Rattle.ssb_schema.specs.declared.table.Table.{Table};
-ghost use Rattle.ssb_server.specs.Opening.{AreCounts};
+ghost use Rattle.ssb_server.specs.Opening.{AreCounts, most_clients};
 ghost use Rattle.ssb_text.specs.Load.{AreTexts};
 
 use crate::ends::EndPaths;
-use crate::fault::{NotServed, ServingFault};
-use crate::loading::load;
+use crate::fault::{ServeFault, ServeRefusal};
+use crate::journal_source::JournalPlace;
+use crate::runs::{KeptLog, ServeSettings, SessionsRun, run_over};
 use crate::speakers::{PathClient, PathLeft, StreamClient, StreamLeft};
-use ssb_files::base_to_serve;
-use ssb_questions::Question;
+use journal::KeepsTorn;
+use journal_opening::OpensJournal;
+use ssb_files::Fault;
 use ssb_text::Tables;
 use std::alloc::AllocError;
-use std::hash::RandomState;
 use std::io;
 use std::io::{Print, Read, Write};
 use std::rt::Files;
-use std::sync::{Arc, Wait};
+use std::sync::Wait;
 use std::thread::Threads;
 use std::time::Clock;
-use stream_sessions::{Nothing, Served, SessionError, Speaks, StreamRun, serve_streams};
+use stream_sessions::{Served, SessionError};
 
 /// How many clients a server has.
 pub const MOST_CLIENTS: usize = 16;
 
-/// How clients are served, whoever they are.
-#[derive(Drop)]
-pub struct ServeSettings {
-    /// Hashes the keys of the server's orders; at random, so that no client can make them collide.
-    pub hashing: RandomState,
-    /// 1 to 4, else no server is opened.
-    pub dispatchers: u32,
-    /// The questions that stand: their totals follow the commits. Which they are changes no reply.
-    pub standing: Vec<Question>,
-}
-
 /// How serving one client ended.
 #[derive(Drop)]
-pub struct StreamEnd<O: Drop> {
+pub struct StreamEnd<O: Drop, D: Drop> {
     /// The exit status.
     pub status: u8,
     /// The output, where a server was opened and closed.
     pub output: Option<O>,
+    /// The journal's file, where there is one, and a server was opened and closed.
+    pub disk: Option<D>,
 }
 
-// Serves clients at once over the base that the tables spell.
-fn serve<R, I: Read + Drop, S: Speaks<R, Nothing> + Drop + Send>(
+// What the only client's session left, and the journal, where there is one.
+#[derive(Drop)]
+struct AloneLeft<O: Write + Drop, D: Drop> {
+    one: StreamLeft<O>,
+    kept: Option<KeptLog<D>>,
+}
+
+// Serves one client alone.
+fn run_alone<R, P, I, J, O, E>(
     rt: &R,
     settings: ServeSettings,
     tables: Tables<I>,
-    speakers: Vec<S>,
-) -> Result<StreamRun<S::Left>, ServingFault>
+    place: Option<JournalPlace<'_, P>>,
+    client: StreamClient<J, O>,
+    screen: &E,
+) -> Result<AloneLeft<O, P::Opened>, ServeFault>
 where
     R: Threads + Sync + Wait + Clock + AllocGlobal,
-    S::Left: Drop + Send,
-    ensures run { IfOk result (λ run. (texts : Table → List ℕ) → AreTexts I.remaining tables texts
-        → IsRunOver S.spoken texts speakers.items settings.dispatchers run.left.items run.log) }
-    ensures left { IfOk result (λ run. vec_len run.left ≡ vec_len speakers) }
-    ensures counts { OnOk result (AreCounts (vec_len speakers) settings.dispatchers) }
-    ensures refused { IfErr result (λ fault. serving_status fault ≡ 1 → (texts : Table → List ℕ)
-        → AreTexts I.remaining tables texts
-        → AreRefusedToServe texts ⊎ MayNotStand texts settings.standing.items) }
-    ensures words { IfErr result (λ fault. serving_status fault ≢ 2) }
-{
-    let base = base_to_serve(rt, rt.alloc(), tables)?;
-    let base = Arc::new(rt.alloc(), base)?;
-    let ServeSettings {
-        hashing,
-        dispatchers,
-        standing,
-    } = settings;
-    let loaded = load(rt, hashing, &base, &standing)?;
-    match serve_streams(rt, rt.alloc(), loaded, speakers, dispatchers) {
-        Ok(run) => Ok(run),
-        Err(fault) => Err(ServingFault::Found(NotServed::NotRun(fault))),
-    }
-}
-
-// A client over a reader and a writer, alone.
-fn serve_one<R, I: Read + Drop, J: Read + Drop + Send, O: Write + Drop + Send>(
-    rt: &R,
-    settings: ServeSettings,
-    tables: Tables<I>,
-    input: J,
-    output: O,
-) -> Result<StreamLeft<O>, ServingFault>
-where
-    R: Threads + Sync + Wait + Clock + AllocGlobal,
+    P: OpensJournal + KeepsTorn,
+    P::Opened: Send,
+    P::Kept: Drop,
+    I: Read + Drop,
+    J: Read + Drop + Send,
+    O: Write + Drop + Send,
+    E: Print,
     ensures ended { IfOk result (λ left. (texts : Table → List ℕ) → AreTexts I.remaining tables texts
-        → EndsAlone left.ended texts settings.dispatchers (J.remaining input) (O.contents output)
-        (O.contents left.output)) }
+        → HasEndedAlone left.one.ended (option_map (λ place. P.holds place.file.now) place.entry) texts
+        settings.dispatchers (J.remaining client.input) (O.contents client.output) (O.contents left.one.output)
+        (λ log told. IfSome left.kept (λ kept. AreOnDisk (P.Opened.may_leave kept.disk) (P.Opened.seen kept.disk)
+        (IsTrue kept.was_written) log told))) }
+    ensures journal { IfOk result (λ left. is_some left.kept ≡ is_some place.entry) }
     ensures refused { IfErr result (λ fault. serving_status fault ≡ 1 → (texts : Table → List ℕ)
-        → AreTexts I.remaining tables texts
-        → AreRefusedToServe texts ⊎ MayNotStand texts settings.standing.items) }
+        → AreTexts I.remaining tables texts → AreRefused texts settings.standing.items
+        (option_map (λ place. P.holds place.file.now) place.entry)
+        (IfSome place.entry (λ place. P.is_taken place.file.now))) }
     ensures words { IfErr result (λ fault. serving_status fault ≢ 2) }
 {
     let mut speakers = Vec::new(rt.alloc());
-    speakers.push(StreamClient { input, output })?;
-    let run = serve(rt, settings, tables, speakers)?;
-    let mut left = run.left;
+    speakers.push(client)?;
+    let run = run_over(rt, settings, tables, place, speakers, screen)?;
+    let SessionsRun {
+        mut left,
+        log: _,
+        kept,
+    } = run;
     let Some(one) = left.pop() else {
         unreachable!()
     };
-    Ok(one)
+    Ok(AloneLeft { one, kept })
 }
 
-/// Tells what broke the only client's session, and gives the exit status.
-pub(crate) fn tell_ended<E: Write>(ended: &Result<Served, SessionError>, err: &mut E) -> u8
-    ensures { result ≡ session_status ended.now }
+// Whether the journal was written to its end, where there is one.
+fn was_written<D: Drop>(kept: &Option<KeptLog<D>>) -> bool
+    ensures { MatchOption kept.now (result ≡ true) (λ kept. result ≡ kept.was_written) }
 {
+    match kept {
+        Some(kept) => kept.was_written,
+        None => true,
+    }
+}
+
+// The journal's disk, where there is one.
+fn disk_of<D: Drop>(kept: Option<KeptLog<D>>) -> Option<D>
+    ensures { result ≡ option_map (λ kept. kept.disk) kept }
+{
+    match kept {
+        Some(kept) => Some(kept.disk),
+        None => None,
+    }
+}
+
+// Tells that the journal could not be written, and gives the exit status.
+fn tell_not_written<E: Write>(err: &mut E) -> u8
+    ensures { result ≡ 4 }
+{
+    let _ = writeln!(err, "ssb_live: journal write failed");
+    4
+}
+
+// Tells what broke the only client's session, or that the journal could not be written, and gives the exit status.
+fn tell_end<E: Write>(ended: &Result<Served, SessionError>, written: bool, err: &mut E) -> u8
+    ensures written { result ≡ 0 → IsTrue written }
+    ensures served { result ≡ 0 → IsOk ended.now }
+    ensures broken { result ≢ 0 → (written ≡ false) ⊎ IsErr ended.now }
+    ensures others { result ≢ 0 → result ≡ 4 }
+{
+    if !written {
+        return tell_not_written(err);
+    }
     match ended {
         Ok(_) => 0,
         Err(error) => {
@@ -125,46 +141,61 @@ pub(crate) fn tell_ended<E: Write>(ended: &Result<Served, SessionError>, err: &m
     }
 }
 
-/// Serves one client over the base that the tables spell: its requests are read from the input as they come, and
-/// answered to the output, until the input ends. A fault is a line to the screen.
+/// Serves one client over the base that the tables spell, behind the commits of the journal where there is one: its
+/// requests are read from the input as they come, and answered to the output, until the input ends. With a journal it is
+/// told nothing before it is on the disk. A fault is a line to the screen.
 ///
-/// The exit status is 0 where all was answered, 1 where the data or a question that is to stand is refused, and else 4.
-pub fn serve_stream<R, I: Read + Drop, J: Read + Drop + Send, O: Write + Drop + Send, E: Print>(
+/// The exit status is 0 where all was answered, 1 where the data, a question that is to stand or the journal is refused,
+/// and else 4.
+pub fn serve_stream<R, P, I, J, O, E>(
     rt: &R,
     settings: ServeSettings,
     tables: Tables<I>,
-    input: J,
-    output: O,
+    place: Option<JournalPlace<'_, P>>,
+    client: StreamClient<J, O>,
     screen: &E,
-) -> StreamEnd<O>
+) -> StreamEnd<O, P::Opened>
 where
     R: Threads + Sync + Wait + Clock + AllocGlobal,
-    ensures served { result.status ≡ 0 → (texts : Table → List ℕ) → AreTexts I.remaining tables texts
-        → ServesAlone texts settings.dispatchers (J.remaining input) (O.contents output)
-        (option_and_then O.contents result.output) }
-    ensures broken { result.status ≢ 0 → (result.output ≡ None) ⊎ ((texts : Table → List ℕ)
-        → AreTexts I.remaining tables texts
-        → BreaksAlone texts settings.dispatchers (J.remaining input) (O.contents output)
-        (option_and_then O.contents result.output)) }
+    P: OpensJournal + KeepsTorn,
+    P::Opened: Send,
+    P::Kept: Drop,
+    I: Read + Drop,
+    J: Read + Drop + Send,
+    O: Write + Drop + Send,
+    E: Print,
+    ensures ended { IfSome result.output (λ output. (texts : Table → List ℕ) → AreTexts I.remaining tables texts
+        → EndsAlone result.status (option_map (λ place. P.holds place.file.now) place.entry) texts settings.dispatchers
+        (J.remaining client.input) (O.contents client.output) (O.contents output)
+        (λ log told. IfSome result.disk (λ disk. AreOnDisk (P.Opened.may_leave disk) (P.Opened.seen disk)
+        (result.status ≡ 0) log told))) }
+    ensures closed { result.status ≡ 0 → IsSome result.output }
+    ensures disk { MatchOption result.output (result.disk ≡ None) (λ _. is_some result.disk ≡ is_some place.entry) }
     ensures refused { result.status ≡ 1 → (texts : Table → List ℕ) → AreTexts I.remaining tables texts
-        → AreRefusedToServe texts ⊎ MayNotStand texts settings.standing.items }
+        → AreRefused texts settings.standing.items (option_map (λ place. P.holds place.file.now) place.entry)
+        (IfSome place.entry (λ place. P.is_taken place.file.now)) }
     ensures others { result.status ≢ 0 → result.status ≢ 1 → result.status ≡ 4 }
 {
     let mut err = io::writer(screen);
-    match serve_one(rt, settings, tables, input, output) {
-        Ok(
-            StreamLeft {
+    match run_alone(rt, settings, tables, place, client, screen) {
+        Ok(left) => {
+            let AloneLeft { one, kept } = left;
+            let StreamLeft {
                 output,
                 ended,
                 told: _,
-            },
-        ) => StreamEnd {
-            status: tell_ended(&ended, &mut err),
-            output: Some(output),
-        },
+            } = one;
+            let written = was_written(&kept);
+            StreamEnd {
+                status: tell_end(&ended, written, &mut err),
+                output: Some(output),
+                disk: disk_of(kept),
+            }
+        }
         Err(fault) => StreamEnd {
             status: fault.tell(&mut err),
             output: None,
+            disk: None,
         },
     }
 }
@@ -179,8 +210,8 @@ pub struct PathClients<'a, F: Files> {
     pub keeps: bool,
 }
 
-/// The clients of these ends, numbered from 1.
-pub(crate) fn speakers_of<'a, F: Files + AllocGlobal, E: Print>(
+// The clients of these ends, numbered from 1.
+fn speakers_of<'a, F: Files + AllocGlobal, E: Print>(
     clients: PathClients<'a, F>,
     screen: &'a E,
 ) -> Result<Vec<PathClient<'a, F, E>>, AllocError>
@@ -201,77 +232,99 @@ pub(crate) fn speakers_of<'a, F: Files + AllocGlobal, E: Print>(
     Ok(speakers)
 }
 
-/// Whether each of the clients was served to its end.
-pub(crate) fn were_served(all_left: &[PathLeft]) -> bool
+// Whether each of the clients was served to its end.
+fn were_served(all_left: &[PathLeft]) -> bool
     ensures { result ≡ list_all (λ left. left.was_served) all_left.now }
 {
     all_left.iter().all(|left| left.was_served)
 }
 
-/// The exit status of clients, each of whom was served to its end, or not.
-pub(crate) fn clients_status(all_served: bool) -> u8
+/// How serving clients ended.
+#[derive(Drop)]
+pub struct ClientsEnd<D: Drop> {
+    /// The exit status.
+    pub status: u8,
+    /// The journal's file, where there is one, and a server was opened and closed.
+    pub disk: Option<D>,
+}
+
+// The exit status of clients that were served to their ends, or not, by a journal that was written to the end, or not.
+fn tell_clients<E: Write>(was_written: bool, all_served: bool, err: &mut E) -> u8
+    ensures written { result ≡ 0 → IsTrue was_written }
     ensures served { result ≡ 0 → IsTrue all_served }
     ensures others { result ≢ 0 → result ≡ 4 }
 {
+    if !was_written {
+        return tell_not_written(err);
+    }
     if all_served { 0 } else { 4 }
 }
 
-// Serves the clients: whether each was served to its end.
-fn serve_all<R, F: Files + Sync + AllocGlobal, I: Read + Drop, E: Print + Sync>(
-    rt: &R,
-    settings: ServeSettings,
-    tables: Tables<I>,
-    clients: PathClients<'_, F>,
-    screen: &E,
-) -> Result<bool, ServingFault>
-where
-    R: Threads + Sync + Wait + Clock + AllocGlobal,
-    F::File: Send,
-    F::Dir: Send,
-    ensures served { IfOk result (λ were_served. IsTrue were_served → (texts : Table → List ℕ)
-        → AreTexts I.remaining tables texts → ServesClients texts (vec_len clients.entry.ends) settings.dispatchers) }
-    ensures counts { OnOk result (AreCounts (vec_len clients.entry.ends) settings.dispatchers) }
-    ensures refused { IfErr result (λ fault. serving_status fault ≡ 1 → (texts : Table → List ℕ)
-        → AreTexts I.remaining tables texts
-        → AreRefusedToServe texts ⊎ MayNotStand texts settings.standing.items) }
-    ensures words { IfErr result (λ fault. serving_status fault ≢ 2) }
-{
-    let speakers = speakers_of(clients, screen)?;
-    let run = serve(rt, settings, tables, speakers)?;
-    Ok(were_served(&run.left))
-}
-
-/// Serves 1 to 16 clients at once over the base that the tables spell, each over its own two ends, which its thread
-/// opens. A client's faults are lines to the screen when they come, and end that client alone. Where they are kept, a
+/// Serves 1 to 16 clients at once over the base that the tables spell, behind the commits of the journal where there is
+/// one, each over its own two ends, which its thread opens. With a journal they are told nothing before it is on the
+/// disk. A client's faults are lines to the screen when they come, and end that client alone. Where they are kept, a
 /// client's named pipes are opened again for its next session.
 ///
-/// The result is the exit status: 0 where all clients were served to their ends, 1 where the data or a question that is
-/// to stand is refused, 2 where there are more than 16 clients, and else 4.
-pub fn serve_clients<R, F: Files + Sync + AllocGlobal, I: Read + Drop, E: Print + Sync>(
+/// The exit status is 0 where all clients were served to their ends, 1 where the data, a question that is to stand or
+/// the journal is refused, 2 where there are more than 16 clients, and else 4.
+pub fn serve_clients<R, F, P, I, E>(
     rt: &R,
     settings: ServeSettings,
     tables: Tables<I>,
+    place: Option<JournalPlace<'_, P>>,
     clients: PathClients<'_, F>,
     screen: &E,
-) -> u8
+) -> ClientsEnd<P::Opened>
 where
     R: Threads + Sync + Wait + Clock + AllocGlobal,
+    F: Files + Sync + AllocGlobal,
     F::File: Send,
     F::Dir: Send,
-    ensures served { result ≡ 0 → (texts : Table → List ℕ) → AreTexts I.remaining tables texts
-        → ServesClients texts (vec_len clients.entry.ends) settings.dispatchers }
-    ensures counts { result ≡ 0 → AreCounts (vec_len clients.entry.ends) settings.dispatchers }
-    ensures refused { result ≡ 1 → (texts : Table → List ℕ) → AreTexts I.remaining tables texts
-        → AreRefusedToServe texts ⊎ MayNotStand texts settings.standing.items }
-    ensures many { (result ≡ 2) ↔ (16 < vec_len clients.entry.ends) }
-    ensures others { result ≢ 0 → result ≢ 1 → result ≢ 2 → result ≡ 4 }
+    P: OpensJournal + KeepsTorn,
+    P::Opened: Send,
+    P::Kept: Drop,
+    I: Read + Drop,
+    E: Print + Sync,
+    ensures served { (result.status ≡ 0) ⊎ IsSome result.disk → (texts : Table → List ℕ)
+        → AreTexts I.remaining tables texts
+        → ServesClients result.status (option_map (λ place. P.holds place.file.now) place.entry) texts
+        (vec_len clients.entry.ends) settings.dispatchers
+        (λ log told. IfSome result.disk (λ disk. AreOnDisk (P.Opened.may_leave disk) (P.Opened.seen disk)
+        (result.status ≡ 0) log told)) }
+    ensures disk { result.status ≡ 0 → is_some result.disk ≡ is_some place.entry }
+    ensures counts { result.status ≡ 0 → IsNone place.entry
+        → AreCounts (vec_len clients.entry.ends) settings.dispatchers }
+    ensures refused { result.status ≡ 1 → (texts : Table → List ℕ) → AreTexts I.remaining tables texts
+        → AreRefused texts settings.standing.items (option_map (λ place. P.holds place.file.now) place.entry)
+        (IfSome place.entry (λ place. P.is_taken place.file.now)) }
+    ensures many { (result.status ≡ 2) ↔ (most_clients < vec_len clients.entry.ends) }
+    ensures others { result.status ≢ 0 → result.status ≢ 1 → result.status ≢ 2 → result.status ≡ 4 }
 {
     let mut err = io::writer(screen);
     if clients.ends.len() > MOST_CLIENTS {
-        return ServingFault::Found(NotServed::TooManyClients).tell(&mut err);
+        return ClientsEnd {
+            status: ServeFault::Found(ServeRefusal::TooManyClients).tell(&mut err),
+            disk: None,
+        };
     }
-    match serve_all(rt, settings, tables, clients, screen) {
-        Ok(all_served) => clients_status(all_served),
-        Err(fault) => fault.tell(&mut err),
+    let Ok(speakers) = speakers_of(clients, screen) else {
+        return ClientsEnd {
+            status: Fault::OutOfMemory.tell(&mut err),
+            disk: None,
+        };
+    };
+    match run_over(rt, settings, tables, place, speakers, screen) {
+        Ok(run) => {
+            let SessionsRun { left, log: _, kept } = run;
+            let written = was_written(&kept);
+            ClientsEnd {
+                status: tell_clients(written, were_served(&left), &mut err),
+                disk: disk_of(kept),
+            }
+        }
+        Err(fault) => ClientsEnd {
+            status: fault.tell(&mut err),
+            disk: None,
+        },
     }
 }

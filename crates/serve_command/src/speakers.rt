@@ -42,7 +42,7 @@ pub struct StreamLeft<O: Write + Drop> {
 }
 
 // Serves a session to a client whose ends are open, and closes the one that is read.
-fn serve_over<
+fn speak_over<
     W: Wait + Drop,
     R: Wait,
     I: Read + Drop,
@@ -110,7 +110,7 @@ impl<R: Wait, I: Read + Drop, O: Write + Drop, Y: Evidence> Speaks<R, Y> for Str
         server: &Server<W>,
         client: &mut Client<W>,
     ) -> StreamLeft<O> {
-        serve_over::<W, R, I, O, Y, K>(rt, alloc, acknowledger, server, client, self)
+        speak_over::<W, R, I, O, Y, K>(rt, alloc, acknowledger, server, client, self)
     }
 }
 
@@ -188,7 +188,7 @@ impl<'a, F: Files, E: Print> PathClient<'a, F, E> {
 
     // Opens the ends, and serves a session over them. The end that is read is closed first. It tells of how many
     // commits was told, too.
-    fn serve_once<W: Wait + Drop, R: Wait, Y: Evidence, K: Acknowledges<Y>>(
+    fn speak_once<W: Wait + Drop, R: Wait, Y: Evidence, K: Acknowledges<Y>>(
         &self,
         rt: &R,
         alloc: Global,
@@ -216,7 +216,7 @@ impl<'a, F: Files, E: Print> PathClient<'a, F, E> {
             output: _,
             ended,
             told,
-        } = serve_over::<W, R, F::File, F::File, Y, K>(
+        } = speak_over::<W, R, F::File, F::File, Y, K>(
             rt,
             alloc,
             acknowledger,
@@ -261,7 +261,7 @@ impl<'a, R: Wait + Clock, F: Files, E: Print, Y: Evidence> Speaks<R, Y> for Path
     ) -> PathLeft {
         let mut told: u64 = 0;
         for _ in rt.forever() {
-            let (end, now) = self.serve_once(rt, alloc, acknowledger, server, client);
+            let (end, now) = self.speak_once(rt, alloc, acknowledger, server, client);
             told = told.max(now);
             match end {
                 SessionEnd::Again => {

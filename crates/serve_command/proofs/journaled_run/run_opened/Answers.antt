@@ -38,7 +38,7 @@ serve_sessions-requires-clause-clients g c κs within =
     let each : length clients.items ≡ c.args.opened.server.clients =
     ap length c.requires.clients ∙ length-map-range_with_len _ 1 c.args.opened.server.clients in
     let few : length speakers.items ≤ c.args.opened.server.clients =
-    omega (arith, c.requires.few, c.requires.sixteen, speakers.ok.0, speakers.ok.1) in
+    omega (arith, c.requires.few, c.requires.full, speakers.ok.0, speakers.ok.1) in
     let whole : clients.len ≡ c.args.opened.server.clients = omega (arith, each, clients.ok.0, clients.ok.1) in
     let parts = parted_again c.args.opened.server c.args.recovered.opened.kept.commits.items (length speakers.items)
     c.len.result clients.len clients.items c.begin_again.new.clients c.split_off.new.self.items
@@ -69,7 +69,7 @@ close-requires g c =
     let each : length clients.items ≡ c.args.opened.server.clients =
     ap length c.requires.clients ∙ length-map-range_with_len _ 1 c.args.opened.server.clients in
     let few : length speakers.items ≤ c.args.opened.server.clients =
-    omega (arith, c.requires.few, c.requires.sixteen, speakers.ok.0, speakers.ok.1) in
+    omega (arith, c.requires.few, c.requires.full, speakers.ok.0, speakers.ok.1) in
     let whole : clients.len ≡ c.args.opened.server.clients = omega (arith, each, clients.ok.0, clients.ok.1) in
     let parts = parted_again c.args.opened.server c.args.recovered.opened.kept.commits.items (length speakers.items)
     c.len.result clients.len clients.items c.begin_again.new.clients c.split_off.new.self.items
@@ -90,7 +90,7 @@ returns-clause-served g c =
     let each : length clients.items ≡ c.args.opened.server.clients =
     ap length c.requires.clients ∙ length-map-range_with_len _ 1 c.args.opened.server.clients in
     let few : length speakers.items ≤ c.args.opened.server.clients =
-    omega (arith, c.requires.few, c.requires.sixteen, speakers.ok.0, speakers.ok.1) in
+    omega (arith, c.requires.few, c.requires.full, speakers.ok.0, speakers.ok.1) in
     let whole : clients.len ≡ c.args.opened.server.clients = omega (arith, each, clients.ok.0, clients.ok.1) in
     let parts = parted_again c.args.opened.server c.args.recovered.opened.kept.commits.items (length speakers.items)
     c.len.result clients.len clients.items c.begin_again.new.clients c.split_off.new.self.items
@@ -100,7 +100,7 @@ returns-clause-served g c =
     c.in_ok-closed.closed.log c.args.speakers.items c.split_off.new.self.items c.in-Ok.resting.items _ _
     c.in_ok-closed.closed.left.items c.args.opened.dispatchers.items c.in_ok-ended.ended.dispatchers.items
     c.args.opened.reader c.in_ok-begun.begun.reader c.in_ok-ended.left.reader parts c.in_ok-ended.ensures.served
-    c.requires.sixteen c.in_ok-begun.ensures.seen c.requires.dispatchers c.in_ok-ended.ensures.dispatchers
+    c.requires.full c.in_ok-begun.ensures.seen c.requires.dispatchers c.in_ok-ended.ensures.dispatchers
     c.in_ok-begun.ensures.reader
     c.in_ok-ended.ensures.reader
     c.in_ok-closed.ensures.left c.in_ok-closed.ensures.closed

@@ -1,13 +1,28 @@
-use Rattle.std.proofs.Common.{◌∙◌, sym}
+use Rattle.std.proofs.Common.{◌∙◌, ⊎_elim, sym}
+use Rattle.serve_command.proofs.JournalLaws.{all_written, disk_there, told_is_kept}
+use Rattle.serve_command.proofs.ServedLaws.{all_served, serves_clients}
 use Rattle.serve_command.proofs.StatusLaws.{serving_failed, serving_told}
 use Rattle.serve_command.proofs.serving.serve_clients.Goals as goal
 
-pub returns-in-Ok-clause-served : goal.returns-in-Ok-clause-served
-returns-in-Ok-clause-served g c = λ status texts are.
-    c.in-Ok.ensures.served (c.clients_status.ensures.served status) texts are
+pub returns-in-Ok-run_over-clause-served : goal.returns-in-Ok-run_over-clause-served
+returns-in-Ok-run_over-clause-served g c = λ closed texts are.
+    serves_clients _ _ texts _ _ _ _ _ _ (c.in-Ok-run_over.ensures.run texts are)
+    (sym c.in-Ok.speakers.ok.0 ∙ c.in-Ok.ensures)
+    (λ place one here. told_is_kept g.P.Opened.Disk.may_leave g.P.Opened.Disk.seen (λ left. left.told) _ _ _ _ place one
+    _ c.in-Ok-run_over.ensures.kept c.in-Ok-run_over.ensures.told here c.disk_of.ensures
+    (λ zero. all_written _ _ c.was_written-written.ensures (c.tell_clients.ensures.written zero)))
+    (λ zero. all_served _ _ _ c.were_served.ensures (c.tell_clients.ensures.served zero) c.deref.ensures.value)
+
+pub returns-in-Ok-run_over-clause-disk : goal.returns-in-Ok-run_over-clause-disk
+returns-in-Ok-run_over-clause-disk g c = λ status. disk_there _ _ c.disk_of.ensures ∙ c.in-Ok-run_over.ensures.journal
 
 pub returns-in-Err-clause-served : goal.returns-in-Err-clause-served
-returns-in-Err-clause-served g c = λ status. absurd (serving_told _ (sym c.tell-in-Err.ensures ∙ status))
+returns-in-Err-clause-served g c = λ closed. absurd (
+    ⊎_elim (λ status. serving_told _ (sym c.tell-in-Err.ensures ∙ status)) (λ some. absurd cc) closed
+    )
+
+pub returns-in-Err-clause-disk : goal.returns-in-Err-clause-disk
+returns-in-Err-clause-disk g c = λ status. absurd (serving_told _ (sym c.tell-in-Err.ensures ∙ status))
 
 pub returns-in-Err-clause-counts : goal.returns-in-Err-clause-counts
 returns-in-Err-clause-counts g c = λ status. absurd (serving_told _ (sym c.tell-in-Err.ensures ∙ status))

@@ -1,25 +1,23 @@
-use Rattle.std.proofs.Common.{◌∙◌, inr, sym}
-use Rattle.serve_command.proofs.ServedLaws.{breaks_alone, serves_alone}
-use Rattle.serve_command.proofs.StatusLaws.{serving_failed, serving_told, session_broke, session_refuses_nothing}
+use Rattle.std.proofs.Common.{◌∙◌, ⊎_elim, inl, inr, sym}
+use Rattle.serve_command.proofs.JournalLaws.{all_written, disk_there, kept_on_disk, one_unwritten}
+use Rattle.serve_command.proofs.ServedLaws.{ends_alone}
+use Rattle.serve_command.proofs.StatusLaws.{serving_failed, serving_told}
 use Rattle.serve_command.proofs.serving.serve_stream.Goals as goal
 
-pub returns-in-Ok-clause-served : goal.returns-in-Ok-clause-served
-returns-in-Ok-clause-served g c = λ status texts are.
-    serves_alone _ _ _ _ _ _ (c.in-Ok.ensures.ended texts are) (sym c.tell_ended.ensures ∙ status)
+pub returns-in-Ok-clause-ended : goal.returns-in-Ok-clause-ended
+returns-in-Ok-clause-ended g c = λ texts are.
+    ends_alone _ _ _ texts _ _ _ _ _ _ (c.in-Ok.ensures.ended texts are)
+    (λ log told kept. kept_on_disk g.P.Opened.Disk.may_leave g.P.Opened.Disk.seen _ _ log told _ kept c.disk_of.ensures
+    (λ zero. all_written _ _ c.was_written-written.ensures (c.tell_end.ensures.written zero)))
+    c.tell_end.ensures.served
+    (λ broke. ⊎_elim (λ not. inr (one_unwritten _ _ c.args.place _ c.was_written-written.ensures not
+    c.in-Ok.ensures.journal)) (λ err. inl err) (c.tell_end.ensures.broken broke))
 
-pub returns-in-Ok-clause-broken : goal.returns-in-Ok-clause-broken
-returns-in-Ok-clause-broken g c = λ broke. inr (λ texts are.
-    breaks_alone _ _ _ _ _ _ (c.in-Ok.ensures.ended texts are) (λ zero. broke (c.tell_ended.ensures ∙ zero)))
+pub returns-in-Ok-clause-disk : goal.returns-in-Ok-clause-disk
+returns-in-Ok-clause-disk g c = disk_there _ _ c.disk_of.ensures ∙ c.in-Ok.ensures.journal
 
-pub returns-in-Ok-clause-refused : goal.returns-in-Ok-clause-refused
-returns-in-Ok-clause-refused g c = λ status. absurd (session_refuses_nothing _ (sym c.tell_ended.ensures ∙ status))
-
-pub returns-in-Ok-clause-others : goal.returns-in-Ok-clause-others
-returns-in-Ok-clause-others g c = λ broke no_data.
-    c.tell_ended.ensures ∙ session_broke _ (λ zero. broke (c.tell_ended.ensures ∙ zero))
-
-pub returns-in-Err-clause-served : goal.returns-in-Err-clause-served
-returns-in-Err-clause-served g c = λ status. absurd (serving_told _ (sym c.tell.ensures ∙ status))
+pub returns-in-Err-clause-closed : goal.returns-in-Err-clause-closed
+returns-in-Err-clause-closed g c = λ status. absurd (serving_told _ (sym c.tell.ensures ∙ status))
 
 pub returns-in-Err-clause-refused : goal.returns-in-Err-clause-refused
 returns-in-Err-clause-refused g c = λ status. c.in-Err.ensures.refused (sym c.tell.ensures ∙ status)

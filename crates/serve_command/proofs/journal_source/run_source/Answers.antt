@@ -1,8 +1,8 @@
 use Rattle.std.proofs.Common.{subst, sym}
 use Rattle.journal.specs.Groups.{recovered}
 use Rattle.ssb_journal.specs.Opening.{IsKept}
-use Rattle.serve_command.proofs.JournaledLaws.{has_kept, refused_open, refused_replay}
-use Rattle.serve_command.proofs.journaled.serve_source.Goals as goal
+use Rattle.serve_command.proofs.JournalLaws.{has_kept, refused_open, refused_replay}
+use Rattle.serve_command.proofs.journal_source.run_source.Goals as goal
 
 -- the file was read, and is as it was
 pub run_journaled-requires-clause-kept : goal.run_journaled-requires-clause-kept

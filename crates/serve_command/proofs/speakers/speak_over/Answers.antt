@@ -2,7 +2,7 @@ use Rattle.std.proofs.Common.{◌∙◌, ap}
 use Rattle.serve_command.proofs.SessionLaws.{fresh_reader, has_streamed, nothing_streamed}
 use Rattle.ssb_serving.proofs.RequestLaws.{alike_itself}
 use Rattle.stream_sessions.specs.Events.{WireRecord}
-use Rattle.serve_command.proofs.speakers.serve_over.Goals as goal
+use Rattle.serve_command.proofs.speakers.speak_over.Goals as goal
 
 pub returns-in-Err-clause-same : goal.returns-in-Err-clause-same
 returns-in-Err-clause-same g c = alike_itself _ c.requires.quiet

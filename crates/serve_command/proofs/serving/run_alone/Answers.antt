@@ -1,20 +1,24 @@
-use Rattle.std.proofs.Common.{◌≡◌, ◌⊎◌, Err, List, length, arith, rules, ℕ}
-use Rattle.ssb_files.specs.Loaded.{AreRefusedToServe}
+use Rattle.std.proofs.Common.{◌≡◌, Err, List, length, arith, refl, rules, subst, sym, ℕ, Some}
+use Rattle.std.specs.Prelude.{IfSome, slice_get}
+use Rattle.std.specs.Option.{option_map}
+use Rattle.serve_command.proofs.JournalLaws.{told_is_kept_here}
+use Rattle.serve_command.proofs.ServedLaws.{ended_alone, first_pushed, is_alone, only_popped}
+use Rattle.serve_command.specs.Journals.{AreRefused}
+use Rattle.serve_command.specs.Status.{serving_status}
 use Rattle.ssb_files.specs.declared.fault.Fault.TheVariants as common
 use Rattle.ssb_files.specs.declared.job.JobFault.TheVariants.{Program}
 use Rattle.ssb_schema.specs.declared.table.Table.{Table}
 use Rattle.ssb_text.specs.Load.{AreTexts}
-use Rattle.serve_command.specs.Standing.{MayNotStand}
-use Rattle.serve_command.specs.Status.{serving_status}
-use Rattle.serve_command.proofs.ServedLaws.{ends_alone, first_pushed, is_alone, only_popped}
-use Rattle.serve_command.proofs.serving.serve_one.Goals as goal
+use Rattle.serve_command.proofs.serving.run_alone.Goals as goal
 
 pub returns-in_err-push-clause-refused : goal.returns-in_err-push-clause-refused
 returns-in_err-push-clause-refused g c =
     let is : c.from_residual.result ≡ Err (Program common.OutOfMemory) = search rules in
     let here : serving_status (Program common.OutOfMemory) ≡ 1 → (texts : Table → List ℕ)
     → AreTexts g.I.Read.remaining c.args.tables texts
-    → AreRefusedToServe texts ⊎ MayNotStand texts c.args.settings.standing.items
+    → AreRefused texts c.args.settings.standing.items
+    (option_map (λ place. g.P.OpensJournal.holds place.file.now) c.args.place)
+    (IfSome c.args.place (λ place. g.P.OpensJournal.is_taken place.file.now))
     = λ status texts are. absurd (omega (arith, status)) in
     rw is here
 
@@ -34,5 +38,7 @@ returns-clause-ended g c = λ texts are.
       c.new-speakers.ensures.len,
     ) in
     let popped = only_popped _ _ _ c.in-Some.ensures.items count in
-    let alone = is_alone _ texts _ _ _ _ _ _ (c.in_ok-run.ensures.run texts are) pushed popped in
-    ends_alone _ texts _ _ _ _ _ alone.table alone.client alone.only alone.spoken
+    let alone = is_alone _ _ texts _ _ _ _ _ _ (c.in_ok-run.ensures.run texts are) pushed popped in
+    ended_alone _ _ _ texts _ _ _ _ _ _ _ _ _ alone alone.by.spoken
+    (told_is_kept_here g.P.Opened.Disk.may_leave g.P.Opened.Disk.seen (λ one. one.told) c.in_ok-run.run'.kept _ _ 0 _
+    c.in_ok-run.ensures.kept c.in_ok-run.ensures.told (subst (λ xs. slice_get xs 0 ≡ Some _) (sym popped) refl))

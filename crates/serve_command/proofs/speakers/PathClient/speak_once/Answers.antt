@@ -1,7 +1,7 @@
 use Rattle.std.proofs.Common.{inr, refl}
 use Rattle.serve_command.proofs.SessionLaws.{served_once}
 use Rattle.ssb_serving.proofs.RequestLaws.{alike_itself}
-use Rattle.serve_command.proofs.speakers.PathClient.serve_once.Goals as goal
+use Rattle.serve_command.proofs.speakers.PathClient.speak_once.Goals as goal
 
 pub returns-in-Err-clause-same : goal.returns-in-Err-clause-same
 returns-in-Err-clause-same g c = alike_itself _ c.requires.quiet
@@ -11,4 +11,4 @@ returns-in-Err-clause-served g c = inr (λ is. absurd cc, refl, refl)
 
 pub returns-clause-served : goal.returns-clause-served
 returns-clause-served g c =
-    served_once _ _ _ _ _ _ _ _ _ c.serve_over-ended.ensures.streamed c.end_of-end.ensures.last
+    served_once _ _ _ _ _ _ _ _ _ c.speak_over-ended.ensures.streamed c.end_of-end.ensures.last

@@ -1,0 +1,170 @@
+-- Of a journal's file: the commits that it keeps, why it is refused, and that what was told is on its disk.
+use Rattle.std.proofs.Common.{◌≡◌, ◌≤◌, ◌⊎◌, ℕ, List, [], ◌∷◌, Bool, Option, None, Some, inl, inr, ap, arith, sym, ◌∙◌}
+use Rattle.std.proofs.Common.{false, refl, subst, true}
+use Rattle.std.specs.Prelude.{◌≢◌, All, IfSome, IsSome, IsTrue, MatchOption, is_some, slice_get}
+use Rattle.std.specs.Option.{option_map}
+use Rattle.journal.specs.Groups.{recovered}
+use Rattle.journal_opening.specs.Kept.{HasCommits, IsKnown}
+use Rattle.journal_opening.specs.Sizes.{AreSizes}
+use Rattle.journal_opening.specs.Status.{kept_status}
+use Rattle.row_store.specs.History.{CommitRecord}
+use Rattle.serve_command.specs.JournaledRun.{IsJournaledFault}
+use Rattle.serve_command.specs.Journals.{AreOnDisk, AreRefused, GoesOn, GoesOnFrom, IsRefusedFile, Journal, RefusesFile}
+use Rattle.ssb_files.specs.Standing.{MayNotStandToServe}
+use Rattle.serve_command.specs.Status.{journaled_status}
+use Rattle.serve_command.specs.declared.runs.KeptLog.{KeptLog}
+use Rattle.serve_command.specs.declared.unserved.JournaledFault.{JournaledFault}
+use Rattle.serve_command.specs.declared.unserved.JournaledFault.TheVariants as journaled
+use Rattle.ssb_base.specs.Base.{Tables}
+use Rattle.ssb_files.specs.Loaded.{AreRefusedToServe, IsLoadedToServe}
+use Rattle.ssb_journal.specs.Counts.{IsLeft}
+use Rattle.ssb_journal.specs.Opening.{IsKept, TellsOpenFault}
+use Rattle.ssb_journal.specs.declared.fault.JournalFault.{JournalFault}
+use Rattle.ssb_journal.specs.declared.fault.JournalFault.TheVariants as journal
+use Rattle.ssb_journal.specs.declared.head.TableSize.{TableSize}
+use Rattle.ssb_journal.specs.declared.opening.JournalOpenFault.{JournalOpenFault}
+use Rattle.ssb_journal.specs.declared.opening.JournalOpenFault.TheVariants as kept
+use Rattle.ssb_journal.specs.declared.opening.KeptCommits.{KeptCommits}
+use Rattle.ssb_journal.specs.declared.replaying.ReplayFault.TheVariants as replay
+use Rattle.ssb_questions.specs.declared.query.Query.{Query}
+use Rattle.ssb_questions.specs.declared.value.Value.{Value}
+use Rattle.ssb_schema.specs.declared.table.Table.{Table}
+use Rattle.ssb_serving.proofs.PlaceLaws.{all_at}
+use Rattle.history.specs.Tokens.{TokenRecord}
+
+-- what was read of a file are the commits that it keeps
+pub has_kept : (sizes : List TableSize) (file : List ℕ) (kept : KeptCommits) → IsKept sizes (recovered file) kept
+    → HasCommits sizes kept.commits.items file
+has_kept sizes file kept (inl new) = inr (new.1, new.2)
+has_kept sizes file kept (inr is) =
+    inl (record { texts = is.1.texts; is_journal = is.1.sealed; spelled = is.1.spelled })
+
+memory_is_four : (fault : JournalFault) → fault ≡ journal.OutOfMemory → kept_status (kept.Journal fault) ≢ 1
+memory_is_four fault is one =
+    let four : kept_status (kept.Journal fault) ≡ 4 = ap (λ (f : JournalFault). kept_status (kept.Journal f)) is in
+    omega (arith, one, four)
+
+-- a refused journal is told of a refused file
+pub refused_open : (base : Tables) (sizes : List TableSize) (file : List ℕ) (why : JournalOpenFault)
+    → TellsOpenFault sizes file why → kept_status why ≡ 1 → IsRefusedFile base sizes file
+refused_open base sizes file (kept.Disk error) tells status = absurd (omega (arith, status))
+refused_open base sizes file (kept.Journal fault) (inl memory) status = absurd (memory_is_four fault memory status)
+refused_open base sizes file (kept.Journal fault) (inr is) status = inl (fault, is)
+
+pub refused_replay : (base : Tables) (sizes : List TableSize) (file : List ℕ) (commits : List CommitRecord)
+    (dispatchers : ℕ) (why : JournaledFault) → HasCommits sizes commits file
+    → IsJournaledFault base commits dispatchers why → journaled_status why ≡ 1 → IsRefusedFile base sizes file
+refused_replay base sizes file commits dispatchers (journaled.Replay (replay.Refused number action cause)) has is
+    status = inr (record { commits = commits; has = has; number = number; action = action; cause = cause; first = is })
+refused_replay base sizes file commits dispatchers (journaled.Replay replay.OutOfMemory) has is status =
+    absurd (omega (arith, status))
+refused_replay base sizes file commits dispatchers (journaled.NotRun why) has is status = absurd (omega (arith, status))
+refused_replay base sizes file commits dispatchers journaled.Disturbed has is status = absurd (omega (arith, status))
+refused_replay base sizes file commits dispatchers journaled.Write has is status = absurd (omega (arith, status))
+refused_replay base sizes file commits dispatchers journaled.OutOfMemory has is status = absurd (omega (arith, status))
+
+-- what speaks against a base is refused with a journal, and without one
+pub refused_base : (texts : Table → List ℕ) (standing : List (Query × List Value)) (server : Journal) (Taken : Type 0)
+    → AreRefusedToServe texts ⊎ MayNotStandToServe texts standing → AreRefused texts standing server Taken
+refused_base texts standing None Taken is = is
+refused_base texts standing (Some known) Taken (inl refused) = inl refused
+refused_base texts standing (Some known) Taken (inr many) = inr (inl many)
+
+-- and so is a file that another has, or that is refused over the base
+pub refused_file : (texts : Table → List ℕ) (standing : List (Query × List Value)) (known : Option (List ℕ))
+    (Taken : Type 0) (base : Tables) → IsLoadedToServe texts base → Taken ⊎ RefusesFile base known
+    → AreRefused texts standing (Some known) Taken
+refused_file texts standing known Taken base loaded (inl taken) = inr (inr (inl taken))
+refused_file texts standing known Taken base loaded (inr file) =
+    inr (inr (inr (record { base = base; loaded = loaded; file = file })))
+
+-- the file that was opened over the base is refused
+pub refuses_file : (known : Option (List ℕ)) (loaded base : Tables) (sizes : List TableSize) (file : List ℕ)
+    → loaded ≡ base → AreSizes base sizes → IsKnown known file → IsRefusedFile loaded sizes file
+    → RefusesFile loaded known
+refuses_file known loaded base sizes file same sized is_file refused = record {
+  sizes = sizes;
+  sized = subst (λ (b : Tables). AreSizes b sizes) (sym same) sized;
+  file = file;
+  is_file = is_file;
+  refused = refused;
+}
+
+-- a server went on from it
+pub goes_on_from : {S L : Type 0} (Spoken : S → TokenRecord → TokenRecord → L → Type 0) (known : Option (List ℕ))
+    (loaded base : Tables) (sizes : List TableSize) (file : List ℕ) (speakers : List S) (dispatchers : ℕ)
+    (left : List L) (log : List CommitRecord) → loaded ≡ base → AreSizes base sizes → IsKnown known file
+    → GoesOn Spoken loaded sizes file speakers dispatchers left log
+    → GoesOnFrom Spoken known loaded speakers dispatchers left log
+goes_on_from Spoken known loaded base sizes file speakers dispatchers left log same sized is_file goes_on = record {
+  sizes = sizes;
+  sized = subst (λ (b : Tables). AreSizes b sizes) (sym same) sized;
+  file = file;
+  is_file = is_file;
+  goes_on = goes_on;
+}
+
+-- of a journal at the end of the sessions, where there is one, and of one of those that were told
+pub told_is_kept_here : {D L : Type 0} (may_leave : D → List ℕ → Type 0) (seen : D → List ℕ) (told : L → ℕ)
+    (end : Option (KeptLog D)) (log : List CommitRecord) (left : List L) (place : ℕ) (one : L)
+    → IfSome end (λ k. IsLeft (may_leave k.disk) (seen k.disk) k.count log k.was_written)
+    → IfSome end (λ k. All (λ l. told l ≤ k.count) left) → slice_get left place ≡ Some one
+    → IfSome end (λ k. AreOnDisk (may_leave k.disk) (seen k.disk) (IsTrue k.was_written) log (told one))
+told_is_kept_here may_leave seen told None log left place one is few here = tt
+told_is_kept_here may_leave seen told (Some k) log left place one is few here = record {
+  crash = λ file leaves. let kept = is.crash file leaves in
+      record {
+        count = kept.count;
+        enough = omega (arith, all_at (λ l. told l ≤ k.count) left place one few here, kept.enough);
+        first = kept.first;
+      };
+  written = λ whole. record {
+    count = k.count;
+    enough = all_at (λ l. told l ≤ k.count) left place one few here;
+    first = is.written whole;
+  };
+}
+
+-- the same of its disk, with an end that says that it was written
+pub kept_on_disk : {D : Type 0} (may_leave : D → List ℕ → Type 0) (seen : D → List ℕ) (end : Option (KeptLog D))
+    (disk : Option D) (log : List CommitRecord) (told : ℕ) (Well : Type 0)
+    → IfSome end (λ k. AreOnDisk (may_leave k.disk) (seen k.disk) (IsTrue k.was_written) log told)
+    → disk ≡ option_map (λ k. k.disk) end → (Well → IfSome end (λ k. IsTrue k.was_written))
+    → IfSome disk (λ d. AreOnDisk (may_leave d) (seen d) Well log told)
+kept_on_disk may_leave seen None disk log told Well is same well =
+    subst (λ ds. IfSome ds (λ d. AreOnDisk (may_leave d) (seen d) Well log told)) (sym same) tt
+kept_on_disk may_leave seen (Some k) disk log told Well is same well =
+    subst (λ ds. IfSome ds (λ d. AreOnDisk (may_leave d) (seen d) Well log told)) (sym same)
+    (record { crash = is.crash; written = λ zero. is.written (well zero) })
+
+pub told_is_kept : {D L : Type 0} (may_leave : D → List ℕ → Type 0) (seen : D → List ℕ) (told : L → ℕ)
+    (end : Option (KeptLog D)) (disk : Option D) (log : List CommitRecord) (left : List L) (place : ℕ) (one : L)
+    (Well : Type 0)
+    → IfSome end (λ k. IsLeft (may_leave k.disk) (seen k.disk) k.count log k.was_written)
+    → IfSome end (λ k. All (λ l. told l ≤ k.count) left) → slice_get left place ≡ Some one
+    → disk ≡ option_map (λ k. k.disk) end → (Well → IfSome end (λ k. IsTrue k.was_written))
+    → IfSome disk (λ d. AreOnDisk (may_leave d) (seen d) Well log (told one))
+told_is_kept may_leave seen told end disk log left place one Well is few here same well =
+    kept_on_disk may_leave seen end disk log (told one) Well
+    (told_is_kept_here may_leave seen told end log left place one is few here) same well
+
+-- a journal was written to its end, where there is one
+pub all_written : {D : Type 0} (end : Option (KeptLog D)) (written : Bool)
+    → MatchOption end (written ≡ true) (λ k. written ≡ k.was_written) → IsTrue written
+    → IfSome end (λ k. IsTrue k.was_written)
+all_written None written is whole = tt
+all_written (Some k) written is whole = sym is ∙ whole
+
+-- or there is one
+pub one_unwritten : {D X Y : Type 0} (end : Option (KeptLog D)) (written : Bool) (place : Option X) (f : X → Y)
+    → MatchOption end (written ≡ true) (λ k. written ≡ k.was_written) → written ≡ false
+    → is_some end ≡ is_some place → IsSome (option_map f place)
+one_unwritten None written place f is not same = absurd cc
+one_unwritten (Some k) written None f is not same = absurd cc
+one_unwritten (Some k) written (Some x) f is not same = refl
+
+-- the journal's disk is there, where a journal is
+pub disk_there : {D : Type 0} (end : Option (KeptLog D)) (disk : Option D) → disk ≡ option_map (λ k. k.disk) end
+    → is_some disk ≡ is_some end
+disk_there None disk same = ap is_some same
+disk_there (Some k) disk same = ap is_some same

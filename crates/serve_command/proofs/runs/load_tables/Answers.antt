@@ -1,0 +1,41 @@
+use Rattle.std.proofs.Common.{◌≡◌, ◌∙◌, ◌⊎◌, Err, List, arith, inl, inr, refl, rules, subst, sym, ℕ}
+use Rattle.std.specs.Prelude.{◌≢◌}
+use Rattle.ssb_files.specs.Loaded.{AreRefusedToServe, IsLoadedToServe}
+use Rattle.ssb_files.specs.Status.{status_of}
+use Rattle.ssb_files.specs.declared.fault.Fault.TheVariants as common
+use Rattle.ssb_schema.specs.declared.table.Table.{Table}
+use Rattle.ssb_text.specs.Load.{AreTexts}
+use Rattle.ssb_files.proofs.StandingLaws.{may_have_too_many, may_not_stand}
+use Rattle.ssb_files.specs.Standing.{MayNotStandToServe}
+use Rattle.serve_command.proofs.runs.load_tables.Goals as goal
+
+pub returns-in_err-base-clause-refused : goal.returns-in_err-base-clause-refused
+returns-in_err-base-clause-refused g c =
+    let is : c.from_residual.result ≡ Err c.in_err-base.field-0.0 = search rules in
+    let here : status_of c.in_err-base.field-0.0 ≡ 1 → (texts : Table → List ℕ)
+    → AreTexts g.I.Read.remaining c.args.tables texts → AreRefusedToServe texts ⊎ MayNotStandToServe texts c.args.standing.now
+    = λ status texts are. inl (c.in_err-base.ensures.data status texts are) in
+    rw is here
+
+pub returns-in_err-base-2-clause-refused : goal.returns-in_err-base-2-clause-refused
+returns-in_err-base-2-clause-refused g c =
+    let is : c.from_residual-in_err-base-2.result ≡ Err common.OutOfMemory = search rules in
+    let here : status_of common.OutOfMemory ≡ 1 → (texts : Table → List ℕ)
+    → AreTexts g.I.Read.remaining c.args.tables texts → AreRefusedToServe texts ⊎ MayNotStandToServe texts c.args.standing.now
+    = λ status texts are. absurd (omega (arith, status)) in
+    rw is here
+
+pub returns-in_err-loaded-clause-refused : goal.returns-in_err-loaded-clause-refused
+returns-in_err-loaded-clause-refused g c =
+    let is : c.from_residual-in_err-loaded.result ≡ Err c.in_err-loaded.field-0.0 = search rules in
+    let same : c.in_ok-base-2.base.value ≡ c.in_ok-base.base = search rules in
+    let here : status_of c.in_err-loaded.field-0.0 ≡ 1 → (texts : Table → List ℕ)
+    → AreTexts g.I.Read.remaining c.args.tables texts → AreRefusedToServe texts ⊎ MayNotStandToServe texts c.args.standing.now
+    = λ status texts are. inr (may_not_stand texts c.in_ok-base.base c.in_ok-base-2.base.value c.args.standing.now
+    c.args.standing.now same refl (c.in_ok-base.ensures.base texts are) (c.in_err-loaded.ensures.refused status)) in
+    rw is here
+
+pub returns-clause-base : goal.returns-clause-base
+returns-clause-base g c = λ texts are.
+    let same : c.in_ok-base-2.base.value ≡ c.in_ok-base.base = search rules in
+    subst (IsLoadedToServe texts) (sym (c.in_ok-loaded.ensures.base ∙ same)) (c.in_ok-base.ensures.base texts are)

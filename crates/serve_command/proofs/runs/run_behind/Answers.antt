@@ -1,0 +1,18 @@
+use Rattle.std.proofs.Common.{◌≡◌, ◌∙◌, Err, inl, inr, rules, sym}
+use Rattle.serve_command.proofs.JournalLaws.{goes_on_from, refuses_file}
+use Rattle.serve_command.proofs.runs.run_behind.Goals as goal
+
+pub returns-in_err-disk-clause-refused : goal.returns-in_err-disk-clause-refused
+returns-in_err-disk-clause-refused g c =
+    let is : c.from_residual.result ≡ Err c.in_err-disk.field-0.0 = search rules in
+    rw is (λ status. inl (c.in_err-disk.ensures.taken status))
+
+pub returns-in-Err-clause-refused : goal.returns-in-Err-clause-refused
+returns-in-Err-clause-refused g c = λ status.
+    inr (refuses_file _ _ _ _ _ (c.requires.same ∙ sym c.deref.ensures.value) c.table_sizes-sizes.ensures
+    c.in_ok-disk.ensures.held (c.in-Err.ensures.refused status))
+
+pub returns-clause-run : goal.returns-clause-run
+returns-clause-run g c =
+    goes_on_from g.S.Speaker.spoken _ _ _ _ _ _ _ _ _ (c.requires.same ∙ sym c.deref.ensures.value)
+    c.table_sizes-sizes.ensures c.in_ok-disk.ensures.held c.in-Ok.ensures.served

@@ -1,0 +1,26 @@
+use Rattle.std.proofs.Common.{◌≡◌, ◌⊎◌, Err, List, rules, subst, ℕ}
+use Rattle.std.specs.Prelude.{IfSome}
+use Rattle.std.specs.Option.{option_map}
+use Rattle.serve_command.proofs.JournalLaws.{refused_base, refused_file}
+use Rattle.serve_command.proofs.ServedLaws.{over_journal, over_none}
+use Rattle.serve_command.specs.Journals.{AreRefused}
+use Rattle.ssb_files.specs.Standing.{MayNotStandToServe}
+use Rattle.serve_command.specs.Status.{serving_status}
+use Rattle.ssb_files.specs.Loaded.{AreRefusedToServe}
+use Rattle.ssb_files.specs.declared.job.JobFault.TheVariants.{Program}
+use Rattle.ssb_schema.specs.declared.table.Table.{Table}
+use Rattle.ssb_text.specs.Load.{AreTexts}
+use Rattle.serve_command.proofs.runs.run_over.Goals as goal
+
+pub returns-in_err-tables-clause-refused : goal.returns-in_err-tables-clause-refused
+returns-in_err-tables-clause-refused g c =
+    let is : c.from_residual.result ≡ Err (Program c.in_err-tables.field-0.0) = search rules in
+    let here : serving_status (Program c.in_err-tables.field-0.0) ≡ 1 → (texts : Table → List ℕ)
+    → AreTexts g.I.Read.remaining c.args.tables texts
+    → AreRefused texts c.args.settings.standing.items
+    (option_map (λ place. g.P.OpensJournal.holds place.file.now) c.args.place)
+    (IfSome c.args.place (λ place. g.P.OpensJournal.is_taken place.file.now))
+    = λ status texts are. refused_base texts c.args.settings.standing.items _ _
+    (subst (λ s. AreRefusedToServe texts ⊎ MayNotStandToServe texts s) c.deref.ensures.value
+    (c.in_err-tables.ensures.refused status texts are)) in
+    rw is here

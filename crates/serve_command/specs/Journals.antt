@@ -1,0 +1,118 @@
+-- What a server goes on from, with a journal or without one; and the files that are refused. Without a journal it goes
+-- on from no commits.
+use Rattle.std.specs.Prelude.{◌≡◌, ◌⊎◌, ℕ, ◌+◌, List, [], Option, None, Some, IfSome}
+use Rattle.history.specs.Tokens.{TableRecord, TokenRecord, new_token}
+use Rattle.history_core.specs.declared.event.Who.TheVariants.{Client}
+use Rattle.journal.specs.Groups.{behind, recovered}
+use Rattle.journal_opening.specs.Kept.{HasCommits, IsKnown}
+use Rattle.journal_opening.specs.Sizes.{AreSizes}
+use Rattle.row_store.specs.History.{CommitRecord}
+use Rattle.row_store.specs.declared.refusal.Cause.{Cause}
+use Rattle.serve_command.specs.JournaledRun.{IsJournaledRun}
+use Rattle.ssb_files.specs.Standing.{MayNotStandToServe}
+use Rattle.ssb_base.specs.Base.{Tables}
+use Rattle.ssb_files.specs.Loaded.{AreRefusedToServe, IsLoadedToServe}
+use Rattle.ssb_journal.specs.Counts.{KeepsBeginning}
+use Rattle.ssb_journal.specs.Opening.{IsOpenFault}
+use Rattle.ssb_journal.specs.Replays.{IsFirstRefused}
+use Rattle.ssb_journal.specs.declared.fault.JournalFault.{JournalFault}
+use Rattle.ssb_journal.specs.declared.head.TableSize.{TableSize}
+use Rattle.ssb_questions.specs.declared.query.Query.{Query}
+use Rattle.ssb_questions.specs.declared.value.Value.{Value}
+use Rattle.ssb_schema.specs.declared.table.Table.{Table}
+use Rattle.ssb_server.specs.Opening.{most_clients}
+
+-- a server's journal: there is none, or its file is the known one, where one is known
+abbrev pub Journal : Type 0
+Journal = Option (Option (List ℕ))
+
+-- a server over the base, whose tables have these sizes, went on from the commits that its journal's file kept, and
+-- served these speakers by so many dispatchers and one more, who read the log for the journal: this is what they left,
+-- and the log
+pub record GoesOn {S L : Type 0} (Spoken : S → TokenRecord → TokenRecord → L → Type 0) (base : Tables)
+    (sizes : List TableSize) (file : List ℕ) (speakers : List S) (dispatchers : ℕ) (left : List L)
+    (log : List CommitRecord) : Type 0 where
+  pub kept : List CommitRecord
+  pub has : HasCommits sizes kept file
+  pub run : IsJournaledRun Spoken base kept speakers (dispatchers + 1) left log
+
+-- the same of the journal over the tables of the base; its file is the known one, where one is known
+pub record GoesOnFrom {S L : Type 0} (Spoken : S → TokenRecord → TokenRecord → L → Type 0) (known : Option (List ℕ))
+    (base : Tables) (speakers : List S) (dispatchers : ℕ) (left : List L) (log : List CommitRecord) : Type 0 where
+  pub sizes : List TableSize
+  pub sized : AreSizes base sizes
+  pub file : List ℕ
+  pub is_file : IsKnown known file
+  pub goes_on : GoesOn Spoken base sizes file speakers dispatchers left log
+
+-- a journal's file, the known one where one is known, keeps these commits over the tables of the base
+pub record AreInFile (known : Option (List ℕ)) (base : Tables) (kept : List CommitRecord) : Type 0 where
+  pub sizes : List TableSize
+  pub sized : AreSizes base sizes
+  pub file : List ℕ
+  pub is_file : IsKnown known file
+  pub has : HasCommits sizes kept file
+
+-- the commits that a server over the base goes on from: those of its journal's file, or none
+abbrev pub AreKeptIn : Journal → Tables → List CommitRecord → Type 0
+AreKeptIn None base kept = kept ≡ []
+AreKeptIn (Some known) base kept = AreInFile known base kept
+
+-- how many clients it has where so many have sessions: a journal's commits may be of any of as many as there can be
+abbrev pub clients_in : Journal → ℕ → ℕ
+clients_in None clients = clients
+clients_in (Some known) clients = most_clients
+
+-- and how many dispatchers: one more reads the log for the journal
+abbrev pub dispatchers_in : Journal → ℕ → ℕ
+dispatchers_in None dispatchers = dispatchers
+dispatchers_in (Some known) dispatchers = dispatchers + 1
+
+-- the client of this number at the table, as its sessions find it: new; behind a journal's commits it has seen just
+-- those
+abbrev pub IsMet : Journal → TableRecord → List CommitRecord → ℕ → TokenRecord → Type 0
+IsMet None table kept number client = client ≡ new_token table (Client number)
+IsMet (Some known) table kept number client =
+    (client.table ≡ table) × (client.who ≡ Client number) × (client.seen ≡ kept)
+
+-- of a log at least so many first commits are on a disk: whatever crashes now leaves a journal of them; and so does the
+-- end of a run that went well
+pub record AreOnDisk (may_leave : List ℕ → Type 0) (file : List ℕ) (Well : Type 0) (log : List CommitRecord) (told : ℕ)
+    : Type 0 where
+  pub crash : (left : List ℕ) → may_leave left → KeepsBeginning told log left
+  pub written : Well → KeepsBeginning told log file
+
+-- a file keeps commits, one of which is refused over the base
+pub record KeepsRefused (base : Tables) (sizes : List TableSize) (file : List ℕ) : Type 0 where
+  pub commits : List CommitRecord
+  pub has : HasCommits sizes commits file
+  pub number : ℕ
+  pub action : ℕ
+  pub cause : Cause
+  pub first : IsFirstRefused base commits number action cause
+
+-- a file is refused over a base, whose tables have these sizes: it is no journal over them, or keeps what is refused
+abbrev pub IsRefusedFile : Tables → List TableSize → List ℕ → Type 0
+IsRefusedFile base sizes file =
+    ((fault : JournalFault) × IsOpenFault sizes (recovered file) (behind file) fault) ⊎ KeepsRefused base sizes file
+
+-- over the base a journal's file is refused; it is the known one, where one is known
+pub record RefusesFile (base : Tables) (known : Option (List ℕ)) : Type 0 where
+  pub sizes : List TableSize
+  pub sized : AreSizes base sizes
+  pub file : List ℕ
+  pub is_file : IsKnown known file
+  pub refused : IsRefusedFile base sizes file
+
+-- the five texts spell a base over which a journal's file is refused
+pub record RefusesJournal (texts : Table → List ℕ) (known : Option (List ℕ)) : Type 0 where
+  pub base : Tables
+  pub loaded : IsLoadedToServe texts base
+  pub file : RefusesFile base known
+
+-- what is refused: the five texts; one of the questions that are to stand; where there is a journal, its file, which
+-- another has, or what it holds
+abbrev pub AreRefused : (Table → List ℕ) → List (Query × List Value) → Journal → Type 0 → Type 0
+AreRefused texts standing None Taken = AreRefusedToServe texts ⊎ MayNotStandToServe texts standing
+AreRefused texts standing (Some known) Taken =
+    AreRefusedToServe texts ⊎ (MayNotStandToServe texts standing ⊎ (Taken ⊎ RefusesJournal texts known))

@@ -1,0 +1,231 @@
+//! The sessions of a server over the base of five tables, with a journal or without one.
+
+ghost use Rattle.std.specs.Prelude.{◌≡◌, ◌≢◌, ◌⊎◌, ◌≤◌, ℕ, List, All, None, Some, IfOk, IfErr, IfSome, IsNone, OnOk};
+ghost use Rattle.std.specs.Prelude.{is_some, vec_len};
+ghost use Rattle.std.specs.Option.{option_map};
+ghost use Rattle.serve_command.specs.Journals.{AreRefused, GoesOnFrom, RefusesFile};
+ghost use Rattle.serve_command.specs.Served.{IsRunOver};
+ghost use Rattle.serve_command.specs.Status.{serving_status};
+ghost use Rattle.ssb_files.specs.Loaded.{AreRefusedToServe, IsLoadedToServe};
+ghost use Rattle.ssb_files.specs.Standing.{MayNotStandToServe};
+ghost use Rattle.ssb_files.specs.Status.{status_of};
+ghost use Rattle.ssb_journal.specs.Counts.{IsLeft};
+ghost use Rattle.ssb_schema.specs.declared.table.Table.{Table};
+ghost use Rattle.ssb_server.specs.Opening.{AreCounts, most_clients};
+ghost use Rattle.ssb_text.specs.Load.{AreTexts};
+ghost use Rattle.stream_sessions.specs.Streams.{IsStreamRun};
+
+use crate::acknowledging::Durable;
+use crate::fault::{ServeFault, ServeRefusal};
+use crate::journal_source::{JournalPlace, JournalSource, open_file, run_source};
+use crate::journaled_run::JournaledRun;
+use crate::unserved::JournaledFault;
+use journal::KeepsTorn;
+use journal_opening::{OpensJournal, table_sizes};
+use row_store::Log;
+use ssb_base::Base;
+use ssb_files::{Fault, LoadedFor, base_of};
+use ssb_questions::Question;
+use ssb_server::Loaded;
+use ssb_text::Tables;
+use std::hash::RandomState;
+use std::io::{Print, Read};
+use std::sync::{Arc, Wait};
+use std::thread::Threads;
+use std::time::Clock;
+use stream_sessions::{Nothing, Speaks, serve_streams};
+
+/// How clients are served, whoever they are.
+#[derive(Drop)]
+pub struct ServeSettings {
+    /// Hashes the keys of the server's orders; at random, so that no client can make them collide.
+    pub hashing: RandomState,
+    /// 1 to 4, else no server is opened.
+    pub dispatchers: u32,
+    /// The questions that stand: their totals follow the commits. Which they are changes no reply.
+    pub standing: Vec<Question>,
+}
+
+/// A journal at the end of the sessions: its disk, how many commits of the log are on that, and whether it was written to
+/// the end.
+#[derive(Drop)]
+pub(crate) struct KeptLog<D: Drop> {
+    pub(crate) disk: D,
+    pub(crate) count: u64,
+    pub(crate) was_written: bool,
+}
+
+/// What sessions leave: what each speaker left, in their order, the log, and the journal, where there is one.
+#[derive(Drop)]
+pub(crate) struct SessionsRun<L: Drop, D: Drop> {
+    pub(crate) left: Vec<L>,
+    pub(crate) log: Log,
+    pub(crate) kept: Option<KeptLog<D>>,
+}
+
+// The base of five tables, and what a server takes of it.
+#[derive(Drop)]
+struct LoadedTables {
+    base: Arc<Base>,
+    loaded: Loaded,
+}
+
+// The base that the tables spell, with the questions that stand from then on.
+fn load_tables<R: Threads + Sync + AllocGlobal, I: Read + Drop>(
+    rt: &R,
+    hashing: RandomState,
+    standing: &[Question],
+    tables: Tables<I>,
+) -> Result<LoadedTables, Fault>
+    ensures base { IfOk result (λ made. (texts : Table → List ℕ) → AreTexts I.remaining tables texts
+        → IsLoadedToServe texts made.loaded) }
+    ensures same { IfOk result (λ made. made.loaded ≡ made.base.value) }
+    ensures refused { IfErr result (λ fault. status_of fault ≡ 1 → (texts : Table → List ℕ)
+        → AreTexts I.remaining tables texts → AreRefusedToServe texts ⊎ MayNotStandToServe texts standing.now) }
+    ensures words { IfErr result (λ fault. status_of fault ≢ 2) }
+{
+    let base = base_of(rt, rt.alloc(), tables, LoadedFor::Serving)?;
+    let base = Arc::new(rt.alloc(), base)?;
+    let loaded = Loaded::new(rt, rt.alloc(), hashing, &base, standing)?;
+    Ok(LoadedTables { base, loaded })
+}
+
+// Serves clients at once, one for each speaker, without a journal.
+fn run_without<R, S, D: Drop>(
+    rt: &R,
+    dispatchers: u32,
+    loaded: Loaded,
+    speakers: Vec<S>,
+) -> Result<SessionsRun<S::Left, D>, ServeFault>
+where
+    R: Threads + Sync + Wait + AllocGlobal,
+    S: Speaks<R, Nothing> + Drop + Send,
+    S::Left: Drop + Send,
+    ensures run { IfOk result (λ run. IsStreamRun S.spoken loaded speakers.items dispatchers run.left.items run.log) }
+    ensures left { IfOk result (λ run. vec_len run.left ≡ vec_len speakers) }
+    ensures counts { OnOk result (AreCounts (vec_len speakers) dispatchers) }
+    ensures kept { IfOk result (λ run. run.kept ≡ None) }
+    ensures failed { IfErr result (λ fault. serving_status fault ≡ 4) }
+{
+    match serve_streams(rt, rt.alloc(), loaded, speakers, dispatchers) {
+        Ok(run) => Ok(SessionsRun {
+            left: run.left,
+            log: run.log,
+            kept: None,
+        }),
+        Err(fault) => {
+            let fault = JournaledFault::NotRun(fault);
+            Err(ServeFault::Found(ServeRefusal::NotServed(fault)))
+        }
+    }
+}
+
+// Serves clients at once, one for each speaker, behind the commits of the journal at this place.
+fn run_behind<R, P, S, E>(
+    rt: &R,
+    dispatchers: u32,
+    place: &JournalPlace<'_, P>,
+    tables: LoadedTables,
+    speakers: Vec<S>,
+    screen: &E,
+) -> Result<SessionsRun<S::Left, P::Opened>, ServeFault>
+where
+    R: Threads + Sync + Wait + Clock + AllocGlobal,
+    P: OpensJournal + KeepsTorn,
+    P::Opened: Send,
+    P::Kept: Drop,
+    S: Speaks<R, Durable> + Drop + Send,
+    S::Left: Drop + Send,
+    E: Print,
+    requires few { vec_len speakers ≤ most_clients }
+    requires same { tables.loaded ≡ tables.base.value }
+    ensures run { IfOk result (λ run. GoesOnFrom S.spoken (P.holds place.now.file.now) tables.loaded speakers.items
+        dispatchers run.left.items run.log) }
+    ensures left { IfOk result (λ run. vec_len run.left ≡ vec_len speakers) }
+    ensures kept { IfOk result (λ run. IfSome run.kept (λ kept. IsLeft (P.Opened.may_leave kept.disk)
+        (P.Opened.seen kept.disk) kept.count run.log kept.was_written)) }
+    ensures told { IfOk result (λ run. IfSome run.kept (λ kept. All (λ left. S.told left ≤ kept.count)
+        run.left.items)) }
+    ensures journal { IfOk result (λ run. is_some run.kept ≡ true) }
+    ensures refused { IfErr result (λ fault. serving_status fault ≡ 1
+        → P.is_taken place.now.file.now ⊎ RefusesFile tables.loaded (P.holds place.now.file.now)) }
+    ensures words { IfErr result (λ fault. serving_status fault ≢ 2) }
+{
+    let LoadedTables { base, loaded } = tables;
+    let sizes = table_sizes(&base, place.bytes);
+    let disk = open_file(rt.alloc(), place.file)?;
+    let source = JournalSource {
+        loaded,
+        sizes: &sizes,
+        disk,
+    };
+    let run = match run_source(rt, dispatchers, place, source, speakers, screen) {
+        Ok(run) => run,
+        Err(refusal) => return Err(ServeFault::Found(refusal)),
+    };
+    let JournaledRun {
+        left,
+        log,
+        disk,
+        count,
+        was_written,
+        batches: _,
+    } = run;
+    Ok(SessionsRun {
+        left,
+        log,
+        kept: Some(KeptLog {
+            disk,
+            count,
+            was_written,
+        }),
+    })
+}
+
+/// Serves clients at once, one for each speaker, over the base that the tables spell, behind the commits of the journal
+/// where there is one.
+pub(crate) fn run_over<R, P, I, S, E>(
+    rt: &R,
+    settings: ServeSettings,
+    tables: Tables<I>,
+    place: Option<JournalPlace<'_, P>>,
+    speakers: Vec<S>,
+    screen: &E,
+) -> Result<SessionsRun<S::Left, P::Opened>, ServeFault>
+where
+    R: Threads + Sync + Wait + Clock + AllocGlobal,
+    P: OpensJournal + KeepsTorn,
+    P::Opened: Send,
+    P::Kept: Drop,
+    I: Read + Drop,
+    S: Speaks<R, Nothing> + Speaks<R, Durable> + Drop + Send,
+    S::Left: Drop + Send,
+    E: Print,
+    requires few { vec_len speakers ≤ most_clients }
+    ensures run { IfOk result (λ run. (texts : Table → List ℕ) → AreTexts I.remaining tables texts
+        → IsRunOver S.spoken (option_map (λ place. P.holds place.file.now) place.entry) texts speakers.items
+        settings.dispatchers run.left.items run.log) }
+    ensures left { IfOk result (λ run. vec_len run.left ≡ vec_len speakers) }
+    ensures counts { OnOk result (IsNone place.entry → AreCounts (vec_len speakers) settings.dispatchers) }
+    ensures kept { IfOk result (λ run. IfSome run.kept (λ kept. IsLeft (P.Opened.may_leave kept.disk)
+        (P.Opened.seen kept.disk) kept.count run.log kept.was_written)) }
+    ensures told { IfOk result (λ run. IfSome run.kept (λ kept. All (λ left. S.told left ≤ kept.count)
+        run.left.items)) }
+    ensures journal { IfOk result (λ run. is_some run.kept ≡ is_some place.entry) }
+    ensures refused { IfErr result (λ fault. serving_status fault ≡ 1 → (texts : Table → List ℕ)
+        → AreTexts I.remaining tables texts → AreRefused texts settings.standing.items
+        (option_map (λ place. P.holds place.file.now) place.entry)
+        (IfSome place.entry (λ place. P.is_taken place.file.now))) }
+    ensures words { IfErr result (λ fault. serving_status fault ≢ 2) }
+{
+    let ServeSettings {
+        hashing,
+        dispatchers,
+        standing,
+    } = settings;
+    let tables = load_tables(rt, hashing, &standing, tables)?;
+    match place {
+        Some(place) => run_behind(rt, dispatchers, &place, tables, speakers, screen),
+        None => run_without(rt, dispatchers, tables.loaded, speakers),
+    }
+}
