@@ -1,40 +1,7 @@
 -- Laws of the number that digits write.
-use Rattle.std.proofs.Common.{
-  ◌≡◌,
-  ◌<◌,
-  ◌≤◌,
-  ◌+◌,
-  ◌-◌,
-  ◌*◌,
-  ◌^◌,
-  ℕ,
-  Bool,
-  true,
-  false,
-  ◌&&◌,
-  nat_lt,
-  nat_le,
-  List,
-  [],
-  ◌∷◌,
-  ◌++◌,
-  Some,
-  None,
-  length,
-  take,
-  drop,
-  append-nil,
-  append_assoc,
-  get_or,
-  length-append,
-  pow-suc,
-  add-one,
-  lit≤,
-  refl,
-  ap,
-  ◌∙◌,
-  arith,
-}
+use Rattle.std.proofs.Common.{◌≡◌, ◌<◌, ◌≤◌, ◌+◌, ◌-◌, ◌*◌, ◌^◌, ℕ, Bool, true, false, ◌&&◌, nat_lt, nat_le, List, []}
+use Rattle.std.proofs.Common.{◌∷◌, ◌++◌, Some, None, length, take, drop, append-nil, append_assoc, get_or}
+use Rattle.std.proofs.Common.{length-append, pow-suc, add-one, lit≤, refl, ap, ◌∙◌, arith}
 use Rattle.std.specs.List.{list_all}
 use Rattle.std.specs.Char.{is_ascii_digit}
 use Rattle.std.proofs.lemmas.Bool.{le-ltb, lt-ltb, le-leb}

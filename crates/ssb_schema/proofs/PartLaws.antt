@@ -1,5 +1,6 @@
 -- Three texts that lie one behind the other.
-use Rattle.std.proofs.Common.{◌≡◌, ◌+◌, ◌-◌, ℕ, List, ◌++◌, append_assoc, length, length-append, take, drop, take_at, drop_at, refl, ◌∙◌, arith}
+use Rattle.std.proofs.Common.{◌≡◌, ◌+◌, ◌-◌, ℕ, List, ◌++◌, append_assoc, length, length-append, take, drop, take_at}
+use Rattle.std.proofs.Common.{drop_at, refl, ◌∙◌, arith}
 use Rattle.ssb_schema.specs.Kept.{part}
 
 -- the bytes hold these three

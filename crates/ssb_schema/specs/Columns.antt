@@ -117,6 +117,10 @@ columns_of table.Lineorder =
     ∷ column 16 (codes "LO_COMMITDATE") key
     ∷ column 17 (codes "LO_SHIPMODE") text ∷ []
 
+-- the most columns of a table
+abbrev pub most_columns : ℕ
+most_columns = 17
+
 -- what each column of a table takes, in order
 abbrev pub kinds_of : Table → List Kind
 kinds_of t = map (λ described. described.kind) (columns_of t)

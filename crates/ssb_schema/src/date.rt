@@ -5,8 +5,8 @@ ghost use Rattle.ssb_schema.specs.declared.table.Table.TheVariants as table;
 ghost use Rattle.ssb_schema.specs.Keys.{date_key};
 ghost use Rattle.ssb_schema.specs.Rows.{date_values};
 
-use crate::fault::SchemaFault;
-use crate::kind::{Cell, check};
+use crate::cells::Cells;
+use crate::kind::Cell;
 use crate::row::{Fields, Keyed, Row};
 use crate::table::Table;
 use crate::text::Text;
@@ -62,8 +62,8 @@ impl Fields for DateFields {
         Table::Date
     }
 
-    fn fault(&self) -> Option<SchemaFault> {
-        let cells = [
+    fn cells(&self) -> Cells<'_> {
+        Cells::of(&[
             Cell::Number(self.key),
             Cell::Text(self.field2.as_str()),
             Cell::Text(self.field3.as_str()),
@@ -81,8 +81,7 @@ impl Fields for DateFields {
             Cell::Text(self.field15.as_str()),
             Cell::Text(self.field16.as_str()),
             Cell::Text(self.field17.as_str()),
-        ];
-        check(Table::Date, &cells)
+        ])
     }
 }
 

@@ -151,8 +151,8 @@ fn cell_fault(column: Column, kind: Kind, cell: &Cell<'_>) -> Option<SchemaFault
     }
 }
 
-/// The first fault of a row's values, in the order of the table's columns.
-pub fn check(table: Table, cells: &[Cell<'_>]) -> Option<SchemaFault>
+/// The first fault of a row's cells, in the order of the table's columns.
+pub(crate) fn check(table: Table, cells: &[Cell<'_>]) -> Option<SchemaFault>
     requires { length cells.now ≡ length (kinds_of table) }
     ensures { result ≡ row_fault table (map value_of cells.now) }
 {

@@ -1,13 +1,14 @@
 //! Lines of orders, the rows of the fact table.
 
-ghost use Rattle.std.specs.Prelude.{◌≡◌, IfOk, IfErr, None};
+ghost use Rattle.std.specs.Prelude.{◌≡◌, IfOk, IfErr, None, map};
 ghost use Rattle.ssb_schema.specs.declared.table.Table.TheVariants as table;
-ghost use Rattle.ssb_schema.specs.Columns.{row_fault};
+ghost use Rattle.ssb_schema.specs.Columns.{row_fault, value_of};
 ghost use Rattle.ssb_schema.specs.Rows.{line_values};
 
+use crate::cells::Cells;
 use crate::fact::Fact;
-use crate::fault::{Refused, SchemaFault};
-use crate::kind::{Cell, check};
+use crate::fault::Refused;
+use crate::kind::Cell;
 use crate::row::{Fields, Row};
 use crate::table::Table;
 use crate::texts::LineTexts;
@@ -94,8 +95,8 @@ impl Fields for LineFields {
         Table::Lineorder
     }
 
-    fn fault(&self) -> Option<SchemaFault> {
-        let cells = [
+    fn cells(&self) -> Cells<'_> {
+        Cells::of(&[
             Cell::Number(self.order_key),
             Cell::Number(self.line_number),
             Cell::Number(self.customer_key),
@@ -113,8 +114,7 @@ impl Fields for LineFields {
             Cell::Number(self.tax),
             Cell::Number(self.commit_date),
             Cell::Text(self.texts.ship_mode()),
-        ];
-        check(Table::Lineorder, &cells)
+        ])
     }
 }
 
@@ -156,11 +156,30 @@ impl Line {
         }
     }
 
-    /// The schema finds no fault in any line. The law alone: it does nothing.
-    pub fn soundness(&self)
-        ensures { row_fault table.Lineorder (line_values self.now) ≡ None }
+    /// The values of its columns, as cells.
+    pub fn cells(&self) -> Cells<'_>
+        ensures values { map value_of result ≡ line_values self.now }
+        ensures sound { row_fault table.Lineorder (line_values self.now) ≡ None }
     {
-        let _field = &self.order_key;
+        Cells::of(&[
+            Cell::Number(self.order_key),
+            Cell::Number(u64::from(self.line_number)),
+            Cell::Number(self.customer_key),
+            Cell::Number(self.part_key),
+            Cell::Number(self.supplier_key),
+            Cell::Number(self.order_date),
+            Cell::Text(self.texts.order_priority()),
+            Cell::Text(self.texts.ship_priority()),
+            Cell::Number(u64::from(self.quantity)),
+            Cell::Number(u64::from(self.extended_price)),
+            Cell::Number(u64::from(self.order_total_price)),
+            Cell::Number(u64::from(self.discount)),
+            Cell::Number(u64::from(self.revenue)),
+            Cell::Number(u64::from(self.supply_cost)),
+            Cell::Number(u64::from(self.tax)),
+            Cell::Number(self.commit_date),
+            Cell::Text(self.texts.ship_mode()),
+        ])
     }
 
     /// What queries and columns read of the line.
@@ -223,82 +242,5 @@ impl Line {
         ensures { result ≡ self.now.order_date }
     {
         self.order_date
-    }
-
-    /// LO_ORDERPRIORITY.
-    pub fn order_priority(&self) -> &str
-        ensures { result.now ≡ self.now.texts.order_priority }
-    {
-        self.texts.order_priority()
-    }
-
-    /// LO_SHIPPRIORITY.
-    pub fn ship_priority(&self) -> &str
-        ensures { result.now ≡ self.now.texts.ship_priority }
-    {
-        self.texts.ship_priority()
-    }
-
-    /// LO_QUANTITY.
-    pub fn quantity(&self) -> u8
-        ensures { result ≡ self.now.quantity }
-    {
-        self.quantity
-    }
-
-    /// LO_EXTENDEDPRICE.
-    pub fn extended_price(&self) -> u32
-        ensures { result ≡ self.now.extended_price }
-    {
-        self.extended_price
-    }
-
-    /// LO_ORDTOTALPRICE.
-    pub fn order_total_price(&self) -> u32
-        ensures { result ≡ self.now.order_total_price }
-    {
-        self.order_total_price
-    }
-
-    /// LO_DISCOUNT.
-    pub fn discount(&self) -> u8
-        ensures { result ≡ self.now.discount }
-    {
-        self.discount
-    }
-
-    /// LO_REVENUE.
-    pub fn revenue(&self) -> u32
-        ensures { result ≡ self.now.revenue }
-    {
-        self.revenue
-    }
-
-    /// LO_SUPPLYCOST.
-    pub fn supply_cost(&self) -> u32
-        ensures { result ≡ self.now.supply_cost }
-    {
-        self.supply_cost
-    }
-
-    /// LO_TAX.
-    pub fn tax(&self) -> u8
-        ensures { result ≡ self.now.tax }
-    {
-        self.tax
-    }
-
-    /// LO_COMMITDATE.
-    pub fn commit_date(&self) -> u64
-        ensures { result ≡ self.now.commit_date }
-    {
-        self.commit_date
-    }
-
-    /// LO_SHIPMODE.
-    pub fn ship_mode(&self) -> &str
-        ensures { result.now ≡ self.now.texts.ship_mode }
-    {
-        self.texts.ship_mode()
     }
 }

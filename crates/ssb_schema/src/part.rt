@@ -4,8 +4,8 @@ ghost use Rattle.ssb_schema.specs.declared.table.Table.TheVariants as table;
 ghost use Rattle.ssb_schema.specs.Keys.{part_key};
 ghost use Rattle.ssb_schema.specs.Rows.{part_values};
 
-use crate::fault::SchemaFault;
-use crate::kind::{Cell, check};
+use crate::cells::Cells;
+use crate::kind::Cell;
 use crate::row::{Fields, Keyed, Row};
 use crate::table::Table;
 use crate::text::Text;
@@ -45,8 +45,8 @@ impl Fields for PartFields {
         Table::Part
     }
 
-    fn fault(&self) -> Option<SchemaFault> {
-        let cells = [
+    fn cells(&self) -> Cells<'_> {
+        Cells::of(&[
             Cell::Number(self.key),
             Cell::Text(self.name.as_str()),
             Cell::Text(self.manufacturer.as_str()),
@@ -56,8 +56,7 @@ impl Fields for PartFields {
             Cell::Text(self.part_type.as_str()),
             Cell::Text(self.size.as_str()),
             Cell::Text(self.container.as_str()),
-        ];
-        check(Table::Part, &cells)
+        ])
     }
 }
 

@@ -1,10 +1,12 @@
 //! A row of a table: values that the schema takes.
 
-ghost use Rattle.std.specs.Prelude.{◌≡◌, ℕ, IfOk, IfErr, List, None};
+ghost use Rattle.std.specs.Prelude.{◌≡◌, ℕ, IfOk, IfErr, List, None, length, map};
 ghost use Rattle.ssb_schema.specs.declared.table.Table.{Table};
-ghost use Rattle.ssb_schema.specs.Columns.{Value, row_fault};
+ghost use Rattle.ssb_schema.specs.Columns.{Value, kinds_of, row_fault, value_of};
 
+use crate::cells::Cells;
 use crate::fault::{Refused, SchemaFault};
+use crate::kind::check;
 use crate::table::Table;
 use std::marker::Model;
 
@@ -20,9 +22,17 @@ pub trait Fields: Drop {
     fn table() -> Table
         ensures { result ≡ of_table };
 
+    /// The values of its columns, as cells: one for each column of the table.
+    fn cells(&self) -> Cells<'_>
+        ensures values { map value_of result ≡ values self.now }
+        ensures columns { length result ≡ length (kinds_of of_table) };
+
     /// The first fault of the columns.
     fn fault(&self) -> Option<SchemaFault>
-        ensures { result ≡ row_fault of_table (values self.now) };
+        ensures { result ≡ row_fault of_table (values self.now) }
+    {
+        check(Self::table(), self.cells().as_slice())
+    }
 }
 
 /// The values of a row of a dimension, which has a primary key.
@@ -67,13 +77,6 @@ impl<F: Fields> Row<F> {
             });
         }
         Ok(Row { fields })
-    }
-
-    /// The schema finds no fault in any row. The law alone: it does nothing.
-    pub fn soundness(&self)
-        ensures { row_fault F.of_table (F.values self.now) ≡ None }
-    {
-        let _fields = &self.fields;
     }
 
     /// The values, which are within their columns' limits.

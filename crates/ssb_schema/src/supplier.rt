@@ -4,8 +4,8 @@ ghost use Rattle.ssb_schema.specs.declared.table.Table.TheVariants as table;
 ghost use Rattle.ssb_schema.specs.Keys.{supplier_key};
 ghost use Rattle.ssb_schema.specs.Rows.{supplier_values};
 
-use crate::fault::SchemaFault;
-use crate::kind::{Cell, check};
+use crate::cells::Cells;
+use crate::kind::Cell;
 use crate::row::{Fields, Keyed, Row};
 use crate::table::Table;
 use crate::text::Text;
@@ -41,8 +41,8 @@ impl Fields for SupplierFields {
         Table::Supplier
     }
 
-    fn fault(&self) -> Option<SchemaFault> {
-        let cells = [
+    fn cells(&self) -> Cells<'_> {
+        Cells::of(&[
             Cell::Number(self.key),
             Cell::Text(self.name.as_str()),
             Cell::Text(self.address.as_str()),
@@ -50,8 +50,7 @@ impl Fields for SupplierFields {
             Cell::Text(self.nation.as_str()),
             Cell::Text(self.region.as_str()),
             Cell::Text(self.phone.as_str()),
-        ];
-        check(Table::Supplier, &cells)
+        ])
     }
 }
 

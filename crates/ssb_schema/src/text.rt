@@ -14,7 +14,7 @@ use std::{fmt, str};
 
 // Up to 30 bytes lie in the value itself, and more in memory of their own: both forms take 32 bytes.
 #[derive(Clone, Drop)]
-enum Held {
+enum HeldText {
     Short { len: u8, bytes: [u8; 30] },
     Long(String),
 }
@@ -22,7 +22,7 @@ enum Held {
 /// A text, which contracts see as its UTF-8 bytes. It is compared and ordered by them.
 #[derive(Clone, Drop)]
 pub struct Text {
-    held: Held,
+    held: HeldText,
 }
 
 impl Model for Text {
@@ -46,7 +46,7 @@ impl Text {
         let mut bytes = [0u8; 30];
         bytes[..len].copy_from_slice(text.as_bytes());
         Text {
-            held: Held::Short {
+            held: HeldText::Short {
                 len: len as u8,
                 bytes,
             },
@@ -61,7 +61,7 @@ impl Text {
             return Text::short(text.as_str());
         }
         Text {
-            held: Held::Long(text),
+            held: HeldText::Long(text),
         }
     }
 
@@ -73,7 +73,7 @@ impl Text {
             return Ok(Text::short(text));
         }
         Ok(Text {
-            held: Held::Long(String::from_str(alloc, text)?),
+            held: HeldText::Long(String::from_str(alloc, text)?),
         })
     }
 
@@ -82,10 +82,10 @@ impl Text {
         ensures { result.now ≡ self.now }
     {
         match &self.held {
-            Held::Short { len, bytes } => unsafe {
+            HeldText::Short { len, bytes } => unsafe {
                 str::from_utf8_unchecked(&bytes[..*len as usize])
             },
-            Held::Long(text) => text.as_str(),
+            HeldText::Long(text) => text.as_str(),
         }
     }
 }

@@ -1,5 +1,6 @@
 -- What is known of the bytes of a source while blocks are cut from them.
-use Rattle.std.proofs.Common.{◌≡◌, ◌<◌, ℕ, true, List, [], ◌∷◌, ◌++◌, append-nil, append_assoc, length, take, drop, get_or, drop-cons, Option, Some, None, refl, sym, ap, ◌∙◌}
+use Rattle.std.proofs.Common.{◌≡◌, ◌<◌, ℕ, true, List, [], ◌∷◌, ◌++◌, append-nil, append_assoc, length, take, drop}
+use Rattle.std.proofs.Common.{get_or, drop-cons, Option, Some, None, refl, sym, ap, ◌∙◌}
 use Rattle.std.proofs.lemmas.List.{take-append-drop}
 use Rattle.std.specs.Io.KnownBytes.{Consumes, IsAtEnd, prepend_known}
 use Rattle.ssb_text.specs.Blocks.{AreCut, Follows, GivesBlock, GivesBlocks, WasAll, joined, starts_line}

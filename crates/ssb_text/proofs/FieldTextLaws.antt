@@ -1,30 +1,6 @@
 -- Fields that are kept as they are: their bytes are plain, and no space at the end is taken away.
-use Rattle.std.proofs.Common.{
-  ◌≡◌,
-  ℕ,
-  ◌-◌,
-  Bool,
-  true,
-  false,
-  ◌&&◌,
-  nat_eq,
-  List,
-  [],
-  ◌∷◌,
-  ◌++◌,
-  length,
-  drop,
-  Some,
-  refl,
-  suc,
-  sym,
-  ap,
-  ◌∙◌,
-  subst,
-  arith,
-  inl,
-  inr,
-}
+use Rattle.std.proofs.Common.{◌≡◌, ℕ, ◌-◌, Bool, true, false, ◌&&◌, nat_eq, List, [], ◌∷◌, ◌++◌, length, drop, Some}
+use Rattle.std.proofs.Common.{refl, suc, sym, ap, ◌∙◌, subst, arith, inl, inr}
 use Rattle.std.specs.Prelude.{◌==◌, not}
 use Rattle.std.specs.List.{list_all}
 use Rattle.std.specs.Str.{IsUtf8}

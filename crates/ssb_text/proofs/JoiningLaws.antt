@@ -1,5 +1,6 @@
 -- What the lines of a block say of the text before it, with it and behind it.
-use Rattle.std.proofs.Common.{◌≡◌, ◌<◌, ◌≤◌, ◌+◌, ℕ, zero, suc, List, [], ◌∷◌, ◌++◌, append-nil, append_assoc, length, take, drop, get_or, Option, Some, None, Err, refl, sym, ap, ◌∙◌, ◌⊎◌, inl, inr, arith}
+use Rattle.std.proofs.Common.{◌≡◌, ◌<◌, ◌≤◌, ◌+◌, ℕ, zero, suc, List, [], ◌∷◌, ◌++◌, append-nil, append_assoc, length}
+use Rattle.std.proofs.Common.{take, drop, get_or, Option, Some, None, Err, refl, sym, ap, ◌∙◌, ◌⊎◌, inl, inr, arith}
 use Rattle.std.specs.List.{AllZip}
 use Rattle.std.proofs.lemmas.List.{length-take-le, take-append-drop, take_more}
 use Rattle.rayon.proofs.ListFacts.{AllZip-append}
@@ -9,13 +10,8 @@ use Rattle.ssb_schema.specs.declared.fault.SchemaFault.TheVariants as schema
 use Rattle.ssb_text.specs.Records.{BeginsWith, HasRecords}
 use Rattle.ssb_text.specs.Blocks.{AreCut, Follows, joined}
 use Rattle.ssb_text.proofs.BlockLaws.{follows_block, line_follows}
-use Rattle.ssb_text.proofs.RecordLaws.{
-  BeginsWith-first,
-  HasRecords-begins,
-  begins-append,
-  begins-longer,
-  records-append,
-}
+use Rattle.ssb_text.proofs.RecordLaws.{BeginsWith-first, HasRecords-begins, begins-append, begins-longer}
+use Rattle.ssb_text.proofs.RecordLaws.{records-append}
 use Rattle.ssb_text.specs.Row.{Fails, row_of}
 use Rattle.ssb_text.specs.Tables.{IsFirstFault, IsReadFault, SpellsRow, in_row}
 use Rattle.ssb_text.specs.declared.error.LineFault.{LineFault}

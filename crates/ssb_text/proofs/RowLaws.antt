@@ -1,24 +1,6 @@
 -- When a record's row is taken, and when it is refused.
-use Rattle.std.proofs.Common.{
-  ◌≡◌,
-  true,
-  ℕ,
-  ◌+◌,
-  List,
-  [],
-  ◌∷◌,
-  ◌++◌,
-  length,
-  get_or,
-  Some,
-  None,
-  Result,
-  Ok,
-  Err,
-  refl,
-  add-zero,
-  arith,
-}
+use Rattle.std.proofs.Common.{◌≡◌, true, ℕ, ◌+◌, List, [], ◌∷◌, ◌++◌, length, get_or, Some, None, Result, Ok, Err, refl}
+use Rattle.std.proofs.Common.{add-zero, arith}
 use Rattle.ssb_schema.specs.Columns.{Value, kinds_of, row_fault}
 use Rattle.ssb_schema.specs.declared.kind.Kind.{Kind}
 use Rattle.ssb_schema.specs.declared.table.Table.{Table}

@@ -1,29 +1,6 @@
 -- Laws of the spaces at a field's end.
-use Rattle.std.proofs.Common.{
-  ◌≡◌,
-  ◌<◌,
-  ◌≤◌,
-  ℕ,
-  ◌+◌,
-  ◌-◌,
-  Bool,
-  true,
-  false,
-  ◌&&◌,
-  nat_eq,
-  List,
-  [],
-  ◌∷◌,
-  ◌++◌,
-  length,
-  take,
-  get_or,
-  refl,
-  sym,
-  ◌∙◌,
-  ap,
-  arith,
-}
+use Rattle.std.proofs.Common.{◌≡◌, ◌<◌, ◌≤◌, ℕ, ◌+◌, ◌-◌, Bool, true, false, ◌&&◌, nat_eq, List, [], ◌∷◌, ◌++◌, length}
+use Rattle.std.proofs.Common.{take, get_or, refl, sym, ◌∙◌, ap, arith}
 use Rattle.std.specs.List.{list_all}
 use Rattle.std.specs.Prelude.{◌==◌}
 use Rattle.std.proofs.lemmas.List.{take_more}

@@ -8,7 +8,7 @@ use Rattle.ssb_text.specs.Blocks.{GivesBlocks, WasAll, bytes_left}
 use Rattle.ssb_text.specs.Joining.{Joins}
 use Rattle.ssb_text.specs.Parsing.{IsParsedOk}
 use Rattle.ssb_text.specs.declared.blocks.Block.{Block}
-use Rattle.ssb_text.specs.declared.ahead.Ahead.{Ahead}
+use Rattle.ssb_text.specs.declared.ahead.ReadAhead.{ReadAhead}
 use Rattle.ssb_text.specs.declared.ahead.Reading.{Reading}
 use Rattle.ssb_text.specs.declared.parsing.Parsed.{Parsed}
 
@@ -30,7 +30,7 @@ pub record IsBegun {R : Type 0} (remaining : R → Option (List ℕ)) (known : O
 
 -- what was parsed was joined to these lines, and the next blocks were read
 pub record GoesAhead {R : Type 0} (remaining : R → Option (List ℕ)) (limit : ℕ) (rows : List (List Value))
-    (parsed : List (Result Parsed ReadError)) (left : Option (List ℕ)) (ahead : Ahead R) : Type 0 where
+    (parsed : List (Result Parsed ReadError)) (left : Option (List ℕ)) (ahead : ReadAhead R) : Type 0 where
   pub few : length ahead.lines.items ≤ limit
   pub joins : Joins IsParsedOk parsed rows (map line_values ahead.lines.items)
   pub gives : Gives left (bytes_left remaining ahead.source) (block_bytes ahead.blocks.items)

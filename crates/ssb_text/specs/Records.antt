@@ -1,34 +1,8 @@
 -- The records of a text whose fields are parted by `|`, and how far a reader has come in them.
-use Rattle.std.specs.Prelude.{
-  ◌≡◌,
-  ℕ,
-  ◌+◌,
-  ◌&&◌,
-  ◌||◌,
-  Bool,
-  true,
-  false,
-  List,
-  [],
-  ◌∷◌,
-  ◌++◌,
-  length,
-  get_or,
-  Option,
-  Some,
-  ◌==◌,
-}
-use Rattle.csv.specs.Reading.{
-  AreRecords,
-  Reached,
-  Ready,
-  default_config,
-  reader_config,
-  reader_state,
-  reader_trim,
-  source_of,
-  strip_bom,
-}
+use Rattle.std.specs.Prelude.{◌≡◌, ℕ, ◌+◌, ◌&&◌, ◌||◌, Bool, true, false, List, [], ◌∷◌, ◌++◌, length, get_or, Option}
+use Rattle.std.specs.Prelude.{Some, ◌==◌}
+use Rattle.csv.specs.Reading.{AreRecords, Reached, Ready, default_config, reader_config, reader_state, reader_trim}
+use Rattle.csv.specs.Reading.{source_of, strip_bom}
 use Rattle.csv.specs.declared.error.ErrorKind.{ErrorKind}
 use Rattle.csv.specs.declared.error.ErrorKind.TheVariants as kind
 use Rattle.csv.specs.declared.parser.Config.{Config}

@@ -36,7 +36,7 @@ pub(crate) struct Reading<R> {
 
 /// What one thread does while others parse: the lines with those that were parsed before, and the next blocks.
 #[derive(Drop)]
-pub(crate) struct Ahead<R> {
+pub(crate) struct ReadAhead<R> {
     pub(crate) lines: Vec<Line>,
     pub(crate) blocks: Vec<Block>,
     pub(crate) source: Blocks<R>,
@@ -76,7 +76,7 @@ fn go_ahead<R: Read + Drop>(
     mut lines: Vec<Line>,
     parsed: Vec<Result<Parsed, ReadError>>,
     mut source: Blocks<R>,
-) -> Result<Ahead<R>, LoadError>
+) -> Result<ReadAhead<R>, LoadError>
     requires small { limit < 2 ^ 32 }
     requires few { length lines.items ≤ limit }
     ensures ahead { IfOk result (GoesAhead R.remaining limit (map line_values lines.items) parsed.items
@@ -85,7 +85,7 @@ fn go_ahead<R: Read + Drop>(
 {
     let rooms = join_blocks(alloc, &mut lines, parsed, limit)?;
     match source.next_blocks(alloc, BLOCKS, rooms) {
-        Ok(blocks) => Ok(Ahead {
+        Ok(blocks) => Ok(ReadAhead {
             lines,
             blocks,
             source,
@@ -118,7 +118,7 @@ fn step<R: Read + Drop>(
             ensures { IfOk result (λ parsed. AllZip (λ block read. IsParsedOk block.bytes.items read) blocks.items
                 parsed.items) }
         { parse_blocks(rt, alloc, blocks) },
-        move || -> Result<Ahead<R>, LoadError>
+        move || -> Result<ReadAhead<R>, LoadError>
             requires small { limit < 2 ^ 32 }
             requires few { length lines.items ≤ limit }
             ensures ahead { IfOk result (GoesAhead R.remaining limit (map line_values lines.items) parsed.items

@@ -1,6 +1,6 @@
-//! The cells of a row.
+//! The cells of a row, written.
 
-ghost use Rattle.std.specs.Prelude.{◌≡◌, ◌≤◌, ◌∷◌, flat_map, length, map};
+ghost use Rattle.std.specs.Prelude.{◌≡◌, ◌∷◌, flat_map, map};
 ghost use Rattle.std.specs.List.{AllByRecursion};
 ghost use Rattle.ssb_schema.specs.Columns.{value_of};
 ghost use Rattle.ssb_text.specs.Piece.{after_bar, piece_text};
@@ -11,51 +11,6 @@ ghost use Rattle.ssb_text.specs.Written.{Writes};
 use crate::piece::{Piece, WriteFault, write_pieces};
 use ssb_schema::Cell;
 use std::io::Write;
-use std::marker::Model;
-
-// No table has more columns.
-const MOST_COLUMNS: usize = 17;
-
-/// The cells of a row, column by column. Contracts see them as a list.
-#[derive(Drop)]
-pub struct Cells<'a> {
-    // The cells, and then some in the place of which others could stand.
-    all: [Cell<'a>; MOST_COLUMNS],
-    count: usize,
-}
-
-impl<'a> Model for Cells<'a> {
-    ghost use Rattle.std.specs.Prelude.{◌≤◌, List, take};
-    ghost use Rattle.ssb_schema.specs.declared.kind.Cell.{Cell};
-
-    ghost Value = { List Cell };
-
-    ghost view = { λ cells. take cells.count cells.all };
-
-    ghost invariant = { λ cells. cells.count ≤ 17 };
-}
-
-impl<'a> Cells<'a> {
-    /// These cells.
-    pub(crate) fn of(cells: &[Cell<'a>]) -> Cells<'a>
-        requires { length cells.now ≤ 17 }
-        ensures { result ≡ cells.now }
-    {
-        let mut all = [Cell::Number(0); MOST_COLUMNS];
-        all[..cells.len()].copy_from_slice(cells);
-        Cells {
-            all,
-            count: cells.len(),
-        }
-    }
-
-    /// The cells.
-    pub fn as_slice(&self) -> &[Cell<'a>]
-        ensures { result.now ≡ self.now }
-    {
-        &self.all[..self.count]
-    }
-}
 
 fn piece_of<'a>(cell: &Cell<'a>) -> Piece<'a>
     ensures { piece_text result ≡ cell_text cell.now }

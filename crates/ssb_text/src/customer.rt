@@ -1,10 +1,9 @@
-//! Customers from records, and their cells.
+//! Customers from records.
 
-use crate::cells::Cells;
 use crate::error::LineFault;
-use crate::row::{DimensionFields, RecordFields, read_number, read_text};
+use crate::row::{RecordFields, read_number, read_text};
 use csv::ByteRecord;
-use ssb_schema::{Cell, Column, CustomerFields, Table};
+use ssb_schema::{Column, CustomerFields, Table};
 use std::alloc::Global;
 
 impl RecordFields for CustomerFields {
@@ -21,20 +20,5 @@ impl RecordFields for CustomerFields {
             phone: read_text(alloc, record, Column { table, place: 7 })?,
             market_segment: read_text(alloc, record, Column { table, place: 8 })?,
         })
-    }
-}
-
-impl DimensionFields for CustomerFields {
-    fn cells(&self) -> Cells<'_> {
-        Cells::of(&[
-            Cell::Number(self.key),
-            Cell::Text(self.name.as_str()),
-            Cell::Text(self.address.as_str()),
-            Cell::Text(self.city.as_str()),
-            Cell::Text(self.nation.as_str()),
-            Cell::Text(self.region.as_str()),
-            Cell::Text(self.phone.as_str()),
-            Cell::Text(self.market_segment.as_str()),
-        ])
     }
 }

@@ -1,15 +1,14 @@
-//! Dates from records, and their cells.
+//! Dates from records.
 
 ghost use Rattle.std.specs.Prelude.{◌≡◌};
 ghost use Rattle.csv.specs.Records.{fields_of};
 ghost use Rattle.ssb_schema.specs.declared.table.Table.TheVariants as table;
 ghost use Rattle.ssb_text.specs.Row.{Gives, values_from};
 
-use crate::cells::Cells;
 use crate::error::LineFault;
-use crate::row::{DimensionFields, RecordFields, read_number, read_text};
+use crate::row::{RecordFields, read_number, read_text};
 use csv::ByteRecord;
-use ssb_schema::{Cell, Column, DateFields, Table, Text};
+use ssb_schema::{Column, DateFields, Table, Text};
 use std::alloc::Global;
 
 // The first seven columns of a date.
@@ -105,29 +104,5 @@ impl RecordFields for DateFields {
             field16: last.field16,
             field17: last.field17,
         })
-    }
-}
-
-impl DimensionFields for DateFields {
-    fn cells(&self) -> Cells<'_> {
-        Cells::of(&[
-            Cell::Number(self.key),
-            Cell::Text(self.field2.as_str()),
-            Cell::Text(self.field3.as_str()),
-            Cell::Text(self.field4.as_str()),
-            Cell::Number(self.year),
-            Cell::Number(self.year_month_number),
-            Cell::Text(self.year_month.as_str()),
-            Cell::Text(self.field8.as_str()),
-            Cell::Text(self.field9.as_str()),
-            Cell::Text(self.field10.as_str()),
-            Cell::Text(self.field11.as_str()),
-            Cell::Number(self.week),
-            Cell::Text(self.field13.as_str()),
-            Cell::Text(self.field14.as_str()),
-            Cell::Text(self.field15.as_str()),
-            Cell::Text(self.field16.as_str()),
-            Cell::Text(self.field17.as_str()),
-        ])
     }
 }

@@ -1,4 +1,4 @@
-//! Lines from records, and their cells.
+//! Lines from records.
 
 ghost use Rattle.std.specs.Prelude.{◌≡◌, IfOk, drop};
 ghost use Rattle.csv.specs.Records.{fields_of};
@@ -6,12 +6,11 @@ ghost use Rattle.ssb_schema.specs.declared.table.Table.TheVariants as table;
 ghost use Rattle.ssb_schema.specs.Rows.{line_values};
 ghost use Rattle.ssb_text.specs.Row.{Gives, row_of};
 
-use crate::cells::Cells;
 use crate::error::LineFault;
 use crate::fields::field_at;
 use crate::row::{RecordFields, TableRow, read_number, read_str, row_from};
 use csv::ByteRecord;
-use ssb_schema::{Cell, Column, Fields, Line, LineFields, LineTexts, Table};
+use ssb_schema::{Cells, Column, Fields, Line, LineFields, LineTexts, Table};
 use std::alloc::{AllocError, Global};
 
 impl RecordFields for LineFields {
@@ -69,26 +68,7 @@ impl TableRow for Line {
     }
 
     fn cells(&self) -> Cells<'_> {
-        self.soundness();
-        Cells::of(&[
-            Cell::Number(self.order_key()),
-            Cell::Number(u64::from(self.line_number())),
-            Cell::Number(self.customer_key()),
-            Cell::Number(self.part_key()),
-            Cell::Number(self.supplier_key()),
-            Cell::Number(self.order_date()),
-            Cell::Text(self.order_priority()),
-            Cell::Text(self.ship_priority()),
-            Cell::Number(u64::from(self.quantity())),
-            Cell::Number(u64::from(self.extended_price())),
-            Cell::Number(u64::from(self.order_total_price())),
-            Cell::Number(u64::from(self.discount())),
-            Cell::Number(u64::from(self.revenue())),
-            Cell::Number(u64::from(self.supply_cost())),
-            Cell::Number(u64::from(self.tax())),
-            Cell::Number(self.commit_date()),
-            Cell::Text(self.ship_mode()),
-        ])
+        self.cells()
     }
 }
 

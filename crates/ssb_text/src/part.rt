@@ -1,10 +1,9 @@
-//! Parts from records, and their cells.
+//! Parts from records.
 
-use crate::cells::Cells;
 use crate::error::LineFault;
-use crate::row::{DimensionFields, RecordFields, read_number, read_text};
+use crate::row::{RecordFields, read_number, read_text};
 use csv::ByteRecord;
-use ssb_schema::{Cell, Column, PartFields, Table};
+use ssb_schema::{Column, PartFields, Table};
 use std::alloc::Global;
 
 impl RecordFields for PartFields {
@@ -22,21 +21,5 @@ impl RecordFields for PartFields {
             size: read_text(alloc, record, Column { table, place: 8 })?,
             container: read_text(alloc, record, Column { table, place: 9 })?,
         })
-    }
-}
-
-impl DimensionFields for PartFields {
-    fn cells(&self) -> Cells<'_> {
-        Cells::of(&[
-            Cell::Number(self.key),
-            Cell::Text(self.name.as_str()),
-            Cell::Text(self.manufacturer.as_str()),
-            Cell::Text(self.category.as_str()),
-            Cell::Text(self.brand.as_str()),
-            Cell::Text(self.color.as_str()),
-            Cell::Text(self.part_type.as_str()),
-            Cell::Text(self.size.as_str()),
-            Cell::Text(self.container.as_str()),
-        ])
     }
 }

@@ -6,12 +6,11 @@ ghost use Rattle.ssb_schema.specs.declared.table.Table.{Table};
 ghost use Rattle.ssb_schema.specs.Columns.{Value, kinds_of, row_fault, value_of};
 ghost use Rattle.ssb_text.specs.Row.{Gives, number_at, row_of, text_at, values_from};
 
-use crate::cells::Cells;
 use crate::error::LineFault;
 use crate::fields::{has_columns, trimmed_at};
 use crate::spelling::text;
 use csv::ByteRecord;
-use ssb_schema::{Column, Fields, Row, Table, Text, number};
+use ssb_schema::{Cells, Column, Fields, Row, Table, Text, number};
 use std::alloc::Global;
 
 /// The values of a row, which a record spells.
@@ -20,13 +19,6 @@ pub trait RecordFields: Fields {
     fn of_record(alloc: Global, record: &ByteRecord) -> Result<Self, LineFault>
         ensures { Gives Self.values result (values_from Self.of_table 0 (kinds_of Self.of_table)
             (fields_of record.now)) };
-}
-
-/// The values of a row of a dimension.
-pub trait DimensionFields: RecordFields {
-    /// The values, as cells.
-    fn cells(&self) -> Cells<'_>
-        ensures { map value_of result ≡ Self.values self.now };
 }
 
 /// A row of one of the five tables.
@@ -67,7 +59,7 @@ pub(crate) fn row_from<F: RecordFields>(
     }
 }
 
-impl<F: DimensionFields> TableRow for Row<F> {
+impl<F: RecordFields> TableRow for Row<F> {
     ghost values = { F.values };
 
     ghost of_table = { F.of_table };

@@ -1,10 +1,9 @@
-//! Suppliers from records, and their cells.
+//! Suppliers from records.
 
-use crate::cells::Cells;
 use crate::error::LineFault;
-use crate::row::{DimensionFields, RecordFields, read_number, read_text};
+use crate::row::{RecordFields, read_number, read_text};
 use csv::ByteRecord;
-use ssb_schema::{Cell, Column, SupplierFields, Table};
+use ssb_schema::{Column, SupplierFields, Table};
 use std::alloc::Global;
 
 impl RecordFields for SupplierFields {
@@ -20,19 +19,5 @@ impl RecordFields for SupplierFields {
             region: read_text(alloc, record, Column { table, place: 6 })?,
             phone: read_text(alloc, record, Column { table, place: 7 })?,
         })
-    }
-}
-
-impl DimensionFields for SupplierFields {
-    fn cells(&self) -> Cells<'_> {
-        Cells::of(&[
-            Cell::Number(self.key),
-            Cell::Text(self.name.as_str()),
-            Cell::Text(self.address.as_str()),
-            Cell::Text(self.city.as_str()),
-            Cell::Text(self.nation.as_str()),
-            Cell::Text(self.region.as_str()),
-            Cell::Text(self.phone.as_str()),
-        ])
     }
 }

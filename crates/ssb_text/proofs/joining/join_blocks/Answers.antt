@@ -3,15 +3,7 @@ use Rattle.std.specs.Vec.Iter.{into_iter_items}
 use Rattle.ssb_schema.specs.Rows.{line_values}
 use Rattle.ssb_text.specs.Joining.{Joins, Stops}
 use Rattle.ssb_text.specs.Parsing.{IsParsed, IsParsedOk}
-use Rattle.ssb_text.proofs.JoiningLaws.{
-  joins_as,
-  joins_more,
-  joins_none,
-  no_items,
-  stops_as,
-  stops_later,
-  stops_now,
-}
+use Rattle.ssb_text.proofs.JoiningLaws.{joins_as, joins_more, joins_none, no_items, stops_as, stops_later, stops_now}
 use Rattle.ssb_text.proofs.joining.join_blocks.Goals as goal
 
 pub loop-block-preserved : goal.loop-block-preserved

@@ -1,21 +1,5 @@
-use Rattle.std.proofs.Common.{
-  ◌≡◌,
-  ℕ,
-  ◌-◌,
-  ◌≤◌,
-  List,
-  ◌++◌,
-  length,
-  take,
-  drop,
-  ◌∙◌,
-  ap,
-  sym,
-  refl,
-  arith,
-  append_assoc,
-  length-drop,
-}
+use Rattle.std.proofs.Common.{◌≡◌, ℕ, ◌-◌, ◌≤◌, List, ◌++◌, length, take, drop, ◌∙◌, ap, sym, refl, arith, append_assoc}
+use Rattle.std.proofs.Common.{length-drop}
 use Rattle.std.proofs.lemmas.List.{take-append-drop, take_all}
 use Rattle.ssb_text.proofs.WrittenLaws.{appends_both}
 use Rattle.ssb_text.proofs.piece.write_bytes.Goals as goal

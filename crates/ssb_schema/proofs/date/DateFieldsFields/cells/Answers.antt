@@ -1,8 +1,8 @@
 use Rattle.std.proofs.Common.{refl}
-use Rattle.ssb_text.proofs.date.DateFieldsDimensionFields.cells.Goals as goal
+use Rattle.ssb_schema.proofs.date.DateFieldsFields.cells.Goals as goal
 
-pub returns : goal.returns
-returns c = rw (
+pub returns-clause-values : goal.returns-clause-values
+returns-clause-values c = rw (
   c.of.ensures,
   c.as_str.ensures,
   c.as_str-2.ensures,
