@@ -20,7 +20,7 @@ use Rattle.dimension_index.specs.Classes.{are_alike, class_at, classes_by, class
 use Rattle.dimension_index.specs.Classes.{rows_in}
 use Rattle.dimension_index.specs.Values.{values_of}
 use Rattle.ssb_schema.specs.declared.column.Column.{Column}
-use Rattle.dimension_index.specs.Told.{Told, same_told, told_at, told_rows, first_in, noted}
+use Rattle.dimension_index.specs.Told.{RowCodes, same_told, told_at, told_rows, first_in, noted}
 use Rattle.dimension_index.proofs.CodeLaws.{same_codes}
 
 both : (a b : Bool) → (a && b) ≡ true → (a ≡ true) × (b ≡ true)
@@ -28,7 +28,7 @@ both true b e = (refl, e)
 both false b e = absurd (cc)
 
 -- the same codes are equal
-told_equal : (x y : Told) → same_told x y ≡ true → x ≡ y
+told_equal : (x y : RowCodes) → same_told x y ≡ true → x ≡ y
 told_equal x y same =
     let first = both ((nat_eq x.0 y.0 && nat_eq x.1 y.1) && nat_eq x.2 y.2) (nat_eq x.3 y.3) same in
     let second = both (nat_eq x.0 y.0 && nat_eq x.1 y.1) (nat_eq x.2 y.2) first.0 in
@@ -41,8 +41,8 @@ told_equal x y same =
     )
 
 -- codes that were seen are not noted again
-pub seen_before : (places : Told → Option ℕ) (told : Told) (place at : ℕ) (other : Told) → places told ≡ Some place
-    → places other ≡ noted places told at other
+pub seen_before : (places : RowCodes → Option ℕ) (told : RowCodes) (place at : ℕ) (other : RowCodes)
+    → places told ≡ Some place → places other ≡ noted places told at other
 seen_before places told place at other seen = step (same_told told other) refl
   where
     kept : (o p : Option ℕ) (q : ℕ) → o ≡ Some q → o ≡ option_or o p
@@ -60,7 +60,7 @@ seen_before places told place at other seen = step (same_told told other) refl
         (sym apart)
 
 -- codes that are new are noted
-pub seen_now : (places later : Told → Option ℕ) (told : Told) (at : ℕ) (other : Told) → places told ≡ None
+pub seen_now : (places later : RowCodes → Option ℕ) (told : RowCodes) (at : ℕ) (other : RowCodes) → places told ≡ None
     → later other ≡ cond (same_told told other) (Some at) (places other)
     → later other ≡ noted places told at other
 seen_now places later told at other new is = is ∙ step (same_told told other) refl
@@ -95,11 +95,11 @@ position_push test a (x ∷ xs) y =
     step true = refl
     step false = refl
 
-pub first_push : (other : Told) (rows : List Told) (told : Told)
+pub first_push : (other : RowCodes) (rows : List RowCodes) (told : RowCodes)
     → position (λ own. same_told own other) (rows ++ told ∷ []) ≡ option_or (position (λ own. same_told own other) rows)
     (if same_told told other then Some (length rows) else None)
 first_push other rows told =
-    let test : Told → Bool = λ own. same_told own other in
+    let test : RowCodes → Bool = λ own. same_told own other in
     let start : 0 + length rows ≡ length rows = omega arith in
     position_from-zero test (rows ++ told ∷ [])
     ∙ position_push test 0 rows told
@@ -137,10 +137,10 @@ classes_told a b c d like_b like_c like_d =
     columns : List (List Value)
     columns = a ∷ b ∷ c ∷ d ∷ []
 
-    told : ℕ → Told
+    told : ℕ → RowCodes
     told = told_at (codes_of a) (codes_of b) (codes_of c) (codes_of d)
 
-    rows : List Told
+    rows : List RowCodes
     rows = told_rows (codes_of a) (codes_of b) (codes_of c) (codes_of d)
 
     count : ℕ
@@ -163,7 +163,7 @@ classes_told a b c d like_b like_c like_d =
 
     each : (p : ℕ) → p < 0 + count → first_in rows (told p) ≡ class_at columns count p
     each p at_p =
-        let test : Told → Bool = λ own. same_told own (told p) in
+        let test : RowCodes → Bool = λ own. same_told own (told p) in
         ap (λ o. unwrap_or o 0) (position_from-zero test rows
         ∙ positions_agree told test (are_alike columns p) 0 count 0
         (λ q at_q. alike p q (omega (arith, at_p)) (omega (arith, at_q)))
@@ -232,25 +232,25 @@ first_at test a other (x ∷ xs) (suc i) d within passes =
     step true rest = refl
     step false rest = rest ∙ ap (unwrap_or (position_from test (a + 1) (take i xs))) next
 
-same_self : (x : Told) → same_told x x ≡ true
+same_self : (x : RowCodes) → same_told x x ≡ true
 same_self x = λ i. ((eq-eqb x.0 x.0 refl i && eq-eqb x.1 x.1 refl i) && eq-eqb x.2 x.2 refl i) && eq-eqb x.3 x.3 refl i
 
 -- where codes stand first is known from the rows before them
-pub first_known : (rows : List Told) (i : ℕ) (told : Told) → i < length rows → told ≡ get_or rows i told
+pub first_known : (rows : List RowCodes) (i : ℕ) (told : RowCodes) → i < length rows → told ≡ get_or rows i told
     → first_in rows told ≡ unwrap_or (position (λ own. same_told own told) (take i rows)) i
 first_known rows i told within is =
-    let test : Told → Bool = λ own. same_told own told in
+    let test : RowCodes → Bool = λ own. same_told own told in
     let start : 0 + i ≡ i = omega arith in
     ap (λ o. unwrap_or o 0) (position_from-zero test rows)
     ∙ first_at test 0 0 rows i told within (ap test (sym is) ∙ same_self told)
     ∙ (λ j. unwrap_or (sym (position_from-zero test (take i rows)) j) (start j))
 
 -- one row more is noted
-pub noted_more : (rows : List Told) (i : ℕ) (told other : Told) → i < length rows → told ≡ get_or rows i told
+pub noted_more : (rows : List RowCodes) (i : ℕ) (told other : RowCodes) → i < length rows → told ≡ get_or rows i told
     → option_or (position (λ own. same_told own other) (take i rows))
     (if same_told told other then Some i else None) ≡ position (λ own. same_told own other) (take (i + 1) rows)
 noted_more rows i told other within is =
-    let before : List Told = take i rows in
+    let before : List RowCodes = take i rows in
     let long : length before ≡ i = length-take-le i rows (omega (arith, within)) in
     ap (λ n. option_or (position (λ own. same_told own other) before) (if same_told told other then Some n else None))
     (sym long)

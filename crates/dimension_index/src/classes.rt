@@ -2,17 +2,21 @@
 ghost use Rattle.std.specs.Prelude.{◌≡◌, ◌<◌, ◌^◌, ◌∷◌, [], map, length, slice_get, Some, IfOk, OnOk, unwrap_or};
 ghost use Rattle.std.specs.HashMap.{get};
 ghost use Rattle.dimension_index.specs.Classes.{classes_by, extent_of};
-ghost use Rattle.dimension_index.specs.Told.{Told as Codes, same_told, told_at, told_rows, first_in, noted};
+ghost use Rattle.dimension_index.specs.Told.{RowCodes as Codes, same_told, told_at, told_rows, first_in, noted};
 
 use crate::coded::CodedColumn;
 use std::alloc::{AllocError, Global};
 use std::collections::HashMap;
 
 /// What queries can tell of a row: its codes in four columns.
-type Told = (u32, u32, u32, u32);
+type RowCodes = (u32, u32, u32, u32);
 
 // Where the codes were seen first: here, if they are new.
-fn first_place(seen: &mut HashMap<Told, u32>, told: &Told, here: u32) -> Result<u32, AllocError>
+fn first_place(
+    seen: &mut HashMap<RowCodes, u32>,
+    told: &RowCodes,
+    here: u32,
+) -> Result<u32, AllocError>
     ensures place { IfOk result (λ place. place ≡ unwrap_or (get same_told seen.old told.now) here) }
     ensures seen { OnOk result ((other : Codes) → get same_told seen.new other ≡ noted (get same_told seen.old) told.now
         here other) }
@@ -27,7 +31,7 @@ fn first_place(seen: &mut HashMap<Told, u32>, told: &Told, here: u32) -> Result<
 }
 
 // The codes of a row.
-fn row_at(rows: &[Told], row: usize) -> Told
+fn row_at(rows: &[RowCodes], row: usize) -> RowCodes
     requires { row < length rows.now }
     ensures { Some result ≡ slice_get rows.now row }
 {
@@ -35,11 +39,11 @@ fn row_at(rows: &[Told], row: usize) -> Told
 }
 
 // Of each row, where its codes stand first.
-fn first_places(alloc: Global, rows: &[Told]) -> Result<Vec<u32>, AllocError>
+fn first_places(alloc: Global, rows: &[RowCodes]) -> Result<Vec<u32>, AllocError>
     requires { length rows.now < 2 ^ 32 }
     ensures { IfOk result (λ places. places.items ≡ map (first_in rows.now) rows.now) }
 {
-    let mut seen: HashMap<Told, u32> = HashMap::new(alloc);
+    let mut seen: HashMap<RowCodes, u32> = HashMap::new(alloc);
     let mut places = Vec::with_capacity(alloc, rows.len())?;
     for row in 0..rows.len() {
         let told = row_at(rows, row);
@@ -50,7 +54,7 @@ fn first_places(alloc: Global, rows: &[Told]) -> Result<Vec<u32>, AllocError>
 }
 
 // The codes of a row in four columns.
-fn row_codes(first: &[u32], second: &[u32], third: &[u32], fourth: &[u32], row: usize) -> Told
+fn row_codes(first: &[u32], second: &[u32], third: &[u32], fourth: &[u32], row: usize) -> RowCodes
     requires first { row < length first.now }
     requires second { row < length second.now }
     requires third { row < length third.now }
@@ -67,7 +71,7 @@ fn told_rows(
     second: &[u32],
     third: &[u32],
     fourth: &[u32],
-) -> Result<Vec<Told>, AllocError>
+) -> Result<Vec<RowCodes>, AllocError>
     requires second { length second.now ≡ length first.now }
     requires third { length third.now ≡ length first.now }
     requires fourth { length fourth.now ≡ length first.now }

@@ -2,7 +2,7 @@
 use Rattle.std.proofs.Common.{◌≡◌, ℕ, ◌-◌, ◌<◌, ◌≤◌, Vec, Global, List, length, filter, arith, ap, sym, subst, ◌∙◌}
 use Rattle.std.specs.List.{All, range_with_len}
 use Rattle.std.specs.Prelude.{slice_index_or}
-use Rattle.scan_kernel.specs.declared.batch.Found.{Found}
+use Rattle.scan_kernel.specs.declared.batch.FoundPlaces.{FoundPlaces}
 use Rattle.scan_kernel.specs.declared.columns.Grouping.{Grouping}
 use Rattle.scan_kernel.specs.declared.columns.LineColumns.{LineColumns}
 use Rattle.scan_kernel.specs.declared.masks.Masks.{Masks}
@@ -13,7 +13,7 @@ use Rattle.scan_kernel.specs.Totals.{CanSum, taken}
 use Rattle.scan_kernel.proofs.DealtLaws.{filter_few}
 use Rattle.scan_kernel.proofs.FoundLaws.{found_are_all, filter_all, all_in_range}
 
-module _ (lines : LineColumns) (masks : Masks) (found : Found) (number : ℕ) (lists : Lists) (one : Vec ℕ Global)
+module _ (lines : LineColumns) (masks : Masks) (found : FoundPlaces) (number : ℕ) (lists : Lists) (one : Vec ℕ Global)
     (places : List ℕ) (few : number < 16) (are : AreFound lines masks found)
     (dealt : AreDealt (mask_at lines masks) found.places.now lists) (is : one ≡ slice_index_or lists number one)
     (same : places ≡ one.items) where

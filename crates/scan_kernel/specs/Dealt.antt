@@ -3,6 +3,7 @@ use Rattle.std.specs.Prelude.{ℕ, ◌≡◌, ◌<◌, ◌≤◌, ◌++◌, List
 use Rattle.std.specs.Prelude.{vec_len, vec_capacity}
 use Rattle.std.specs.declared.alloc.Global.{Global}
 use Rattle.std.specs.Int.{bit_at}
+use Rattle.scan_kernel.specs.Masks.{questions_a_pass}
 
 -- a list for each bit of a mask
 abbrev pub Lists : Type 0
@@ -18,21 +19,22 @@ len_of lists k list = vec_len (slice_index_or lists k list)
 abbrev pub room_of : Lists → ℕ → Vec ℕ Global → ℕ
 room_of lists k list = vec_capacity (slice_index_or lists k list)
 
--- they are sixteen, and each has room for so many elements
+-- there is one for each bit, and each has room for so many elements
 pub record AreListsFor (count : ℕ) (lists : Lists) : Type 0 where
-  pub all : length lists ≡ 16
-  pub room : (k : ℕ) (list : Vec ℕ Global) → k < 16 → count ≤ room_of lists k list
+  pub all : length lists ≡ questions_a_pass
+  pub room : (k : ℕ) (list : Vec ℕ Global) → k < questions_a_pass → count ≤ room_of lists k list
 
 -- each has the room that it had
 pub record KeepRoom (old new : Lists) : Type 0 where
   pub all : length new ≡ length old
-  pub room : (k : ℕ) (list : Vec ℕ Global) → k < 16 → room_of new k list ≡ room_of old k list
+  pub room : (k : ℕ) (list : Vec ℕ Global) → k < questions_a_pass → room_of new k list ≡ room_of old k list
 
 -- a place was added to the lists of the bits that its mask has
 pub record GivesPlace (place mask : ℕ) (old new : Lists) : Type 0 where
-  pub given : (k : ℕ) (list : Vec ℕ Global) → k < 16 → bit_at mask k ≡ 1
+  pub given : (k : ℕ) (list : Vec ℕ Global) → k < questions_a_pass → bit_at mask k ≡ 1
       → in_list new k list ≡ in_list old k list ++ place ∷ []
-  pub left : (k : ℕ) (list : Vec ℕ Global) → k < 16 → bit_at mask k ≡ 0 → in_list new k list ≡ in_list old k list
+  pub left : (k : ℕ) (list : Vec ℕ Global) → k < questions_a_pass → bit_at mask k ≡ 0
+      → in_list new k list ≡ in_list old k list
 
 -- the list of each bit has those places whose mask has it, in order
 abbrev pub AreDealt : (ℕ → ℕ) → List ℕ → Lists → Type 0

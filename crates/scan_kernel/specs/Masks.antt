@@ -6,6 +6,10 @@ use Rattle.ssb_questions.specs.declared.plan.Plan.{Plan}
 use Rattle.ssb_answers.specs.RowValues.{customer_value, supplier_value, part_value, date_value, pass}
 use Rattle.ssb_answers.specs.Combination.{Combination, passes, is_in_ranges}
 
+-- the most questions of a batch, and of a pass over the columns: a mask has a bit for each
+abbrev pub questions_a_pass : ℕ
+questions_a_pass = 16
+
 -- bit k is set where plan k passes
 abbrev pub IsMask : (Plan → Bool) → List Plan → ℕ → Type 0
 IsMask test plans mask =

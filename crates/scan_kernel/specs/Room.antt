@@ -2,15 +2,19 @@
 use Rattle.std.specs.Prelude.{ℕ, ◌≡◌, ◌≤◌, ◌-◌, length, map, filter, nat_lt, vec_len}
 use Rattle.scan_kernel.specs.Dealt.{AreListsFor}
 use Rattle.std.specs.List.{range_with_len}
-use Rattle.scan_kernel.specs.declared.batch.Found.{Found}
+use Rattle.scan_kernel.specs.declared.batch.FoundPlaces.{FoundPlaces}
 use Rattle.scan_kernel.specs.declared.batch.Dealt.{Dealt}
 use Rattle.scan_kernel.specs.declared.columns.LineColumns.{LineColumns}
 use Rattle.scan_kernel.specs.declared.masks.Masks.{Masks}
 use Rattle.scan_kernel.specs.declared.range.Room.{Room}
 use Rattle.scan_kernel.specs.Places.{mask_at}
 
+-- how many places a chunk has, if it is not the last
+abbrev pub chunk_size : ℕ
+chunk_size = 2048
+
 -- the places of a range that some question takes, each with its mask
-pub record AreFound (lines : LineColumns) (masks : Masks) (found : Found) : Type 0 where
+pub record AreFound (lines : LineColumns) (masks : Masks) (found : FoundPlaces) : Type 0 where
   pub within : found.to ≤ length lines.customer.now
   pub order : found.from ≤ found.to
   pub places_are : found.places.now ≡ filter (λ place. nat_lt 0 (mask_at lines masks place))

@@ -5,6 +5,7 @@ use Rattle.scan_kernel.specs.declared.columns.LineColumns.{LineColumns}
 use Rattle.scan_kernel.specs.declared.columns.Grouping.{Grouping}
 use Rattle.scan_kernel.specs.declared.masks.Masks.{Masks}
 use Rattle.scan_kernel.specs.declared.totals.Totals.{Totals}
+use Rattle.scan_kernel.specs.Masks.{questions_a_pass}
 use Rattle.scan_kernel.specs.Places.{CanNumber, CanSearch, has_bit, group_at, gain_at, loss_at}
 use Rattle.scan_kernel.specs.Sums.{Adds}
 
@@ -43,9 +44,9 @@ abbrev pub CanSumAll : LineColumns → Masks → List Grouping → Type 0
 CanSumAll lines masks groupings =
     (k : ℕ) (grouping : Grouping) → k < length groupings → CanSum lines masks k (slice_index_or groupings k grouping)
 
--- a batch of at most 16 questions can be summed over the lines, and each row of a line has its masks
+-- a batch can be summed over the lines, and each row of a line has its masks
 pub record CanScan (lines : LineColumns) (masks : Masks) (groupings : List Grouping) : Type 0 where
-  pub few : length groupings ≤ 16
+  pub few : length groupings ≤ questions_a_pass
   pub small : length lines.customer.now ≤ 2 ^ 32
   pub covers : CanSearch lines masks
   pub can_sum : CanSumAll lines masks groupings

@@ -2,6 +2,7 @@
 ghost use Rattle.std.specs.Prelude.{◌≡◌, ◌≤◌, ◌-◌, length, vec_len};
 ghost use Rattle.std.specs.List.{range_with_len};
 ghost use Rattle.scan_kernel.specs.Dealt.{KeepRoom};
+ghost use Rattle.scan_kernel.specs.Masks.{questions_a_pass};
 ghost use Rattle.scan_kernel.specs.Room.{AreFound, HasDealtRoom};
 ghost use Rattle.scan_kernel.specs.Totals.{CanSumAll, HaveSizes, AddsBatch};
 
@@ -13,7 +14,7 @@ use crate::totals::Totals;
 
 /// The places from `from` up to `to` that some question takes, each with its mask.
 #[derive(Clone, Copy)]
-pub struct Found<'a> {
+pub struct FoundPlaces<'a> {
     pub from: usize,
     pub to: usize,
     pub places: &'a [u32],
@@ -33,11 +34,11 @@ pub fn add_found(
     lines: &LineColumns<'_>,
     masks: &Masks,
     groupings: &[Grouping<'_>],
-    found: Found<'_>,
+    found: FoundPlaces<'_>,
     dealt: &mut Dealt,
     totals: &mut [Totals],
 )
-    requires few { length groupings.now ≤ 16 }
+    requires few { length groupings.now ≤ questions_a_pass }
     requires found { AreFound lines.now masks.now found }
     requires room { HasDealtRoom (length found.places.now) dealt.old }
     requires can_sum { CanSumAll lines.now masks.now groupings.now }

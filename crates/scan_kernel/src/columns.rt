@@ -3,7 +3,7 @@ ghost use Rattle.std.specs.Prelude.{◌≡◌, length};
 
 use ssb_questions::Measure;
 
-/// The columns of the fact table that queries read, side by side: what stands at one index of each belongs to one place.
+/// The columns of the fact table that queries read, side by side: what stands at one index of each is of one place.
 #[derive(Clone, Copy)]
 pub struct LineColumns<'a> {
     /// The row of the line's customer, as the masks count them; likewise the next three.

@@ -2,8 +2,8 @@
 //! table for a batch of questions.
 //!
 //! A question is known to the loops by its bit in the masks of the dimensions' rows, and by the columns that it groups
-//! by: each lists its values by code, and the codes make the number of a group. What tests and values stand behind them,
-//! the crates above know.
+//! by: each lists its values by code, and the codes make the number of a group. What tests and values stand behind
+//! them, the crates above know.
 //!
 //! ```text
 //! chunk of places ─ search ─▶ places that some question takes, with their masks
@@ -14,8 +14,8 @@
 //!
 //! The contracts: for each question and group the totals are the number of the lines that it takes there, and what they
 //! add to the measure and take away from it, modulo 2^64, also in several threads (`AreBatchTotals` in
-//! `specs/Totals.antt`); rows made from the counts and sums of any lines, by number, are the answer to the question over
-//! those lines (`AnswersAll` in `specs/Dense.antt`, from which the law `answers_lines` has `AnswersLines` of
+//! `specs/Totals.antt`); rows made from the counts and sums of any lines, by number, are the answer to the question
+//! over those lines (`AnswersAll` in `specs/Dense.antt`, from which the law `answers_lines` has `AnswersLines` of
 //! `specs/Scan.antt`; the answer is that of `ssb_answers`). Where a question has too many groups for a number each,
 //! `sparse_totals` walks over the places for it alone and keeps the sums of the groups that lines have
 //! (`specs/Sparse.antt`), and `answer_sparse` makes the rows of those (`specs/SparseRows.antt`).
@@ -43,7 +43,7 @@ mod taking;
 mod totals;
 
 pub use columns::{GroupColumn, Grouping, LineColumns};
-pub use masks::Masks;
+pub use masks::{Masks, QUESTIONS_A_PASS};
 pub use parts::parallel_totals;
 pub use rows::answer_rows;
 pub use sparse::{GroupSums, SparseColumn, SparseGrouping, SparseTotals, sparse_totals};

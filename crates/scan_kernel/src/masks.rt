@@ -1,7 +1,10 @@
 //! Which questions of a batch take a row, as a bit for each question.
 use ssb_schema::Items;
 
-/// The masks of a batch of at most 16 questions: bit k says whether question k takes the row at that
+/// The most questions of a batch, and of a pass over the columns: a mask has a bit for each.
+pub const QUESTIONS_A_PASS: usize = 16;
+
+/// The masks of a batch: bit k says whether question k takes the row at that
 /// position. A dimension that no question tests has none.
 #[derive(Drop)]
 pub struct Masks {

@@ -1,6 +1,7 @@
 //! The totals of a batch over all places, in as many threads as there are processors.
 ghost use Rattle.std.specs.Prelude.{◌≡◌, ℕ, ◌<◌, ◌≤◌, ◌^◌, true, All, IfOk, IsPermutation, length, slice_index_or, vec_len};
 ghost use Rattle.std.specs.List.{range_with_len};
+ghost use Rattle.scan_kernel.specs.Masks.{questions_a_pass};
 ghost use Rattle.scan_kernel.specs.Places.{CanSearch};
 ghost use Rattle.scan_kernel.specs.Parts.{MergesTotals, MergesBatch};
 ghost use Rattle.scan_kernel.specs.Sums.{Merges};
@@ -99,7 +100,7 @@ pub fn parallel_totals(
     masks: &Masks,
     groupings: &[Grouping<'_>],
 ) -> Result<Vec<Totals>, AllocError>
-    requires few { length groupings.now ≤ 16 }
+    requires few { length groupings.now ≤ questions_a_pass }
     requires small { length lines.now.customer.now < 2 ^ 32 }
     requires covers { CanSearch lines.now masks.now }
     requires can_sum { CanSumAll lines.now masks.now groupings.now }

@@ -2,14 +2,15 @@
 ghost use Rattle.std.specs.Prelude.{◌≡◌, ℕ, ◌<◌, ◌≤◌, ◌-◌, ◌^◌, IfOk, length, replicate, vec_len, slice_index_or};
 ghost use Rattle.std.specs.List.{range_with_len};
 ghost use Rattle.scan_kernel.specs.Dealt.{AreListsFor};
-ghost use Rattle.scan_kernel.specs.Room.{HasRoom};
+ghost use Rattle.scan_kernel.specs.Room.{HasRoom, chunk_size};
 ghost use Rattle.scan_kernel.specs.declared.columns.Grouping.{Grouping};
 ghost use Rattle.scan_kernel.specs.declared.totals.Totals.{Totals};
 ghost use Rattle.scan_kernel.specs.Totals.{CanScan, HaveSizes, AddsBatch, AreBatchTotals, AreZeros};
 
-use crate::batch::{Dealt, Found, add_found};
+use crate::batch::{Dealt, FoundPlaces, add_found};
 use crate::columns::Grouping;
 use crate::input::ScanInput;
+use crate::masks::QUESTIONS_A_PASS;
 use crate::search::search;
 use crate::totals::Totals;
 use std::alloc::{AllocError, Global};
@@ -45,7 +46,7 @@ fn add_chunk(input: ScanInput<'_>, from: usize, to: usize, room: &mut Room, tota
         &mut room.places,
         &mut room.masks,
     );
-    let found = Found {
+    let found = FoundPlaces {
         from,
         to,
         places: &room.places[..count],
@@ -72,9 +73,9 @@ pub fn add_range(
     requires scan { CanScan input.lines.now input.masks.now input.groupings.now }
     requires within { to ≤ length input.lines.now.customer.now }
     requires order { from ≤ to }
-    requires room { HasRoom 2048 room.old }
+    requires room { HasRoom chunk_size room.old }
     requires sizes { HaveSizes input.groupings.now totals.old }
-    ensures room { HasRoom 2048 room.new }
+    ensures room { HasRoom chunk_size room.new }
     ensures sizes { HaveSizes input.entry.groupings.now totals.new }
     ensures added { AddsBatch input.entry.lines.now input.entry.masks.now input.entry.groupings.now
         (range_with_len from (to - from)) totals.old totals.new }
@@ -110,8 +111,8 @@ fn places_room(alloc: Global, count: usize) -> Result<Vec<u32>, AllocError>
 fn lists_room(alloc: Global, count: usize) -> Result<Vec<Vec<u32>>, AllocError>
     ensures { IfOk result (λ lists. AreListsFor count lists.items) }
 {
-    let mut lists = Vec::with_capacity(alloc, 16)?;
-    for _bit in 0..16usize {
+    let mut lists = Vec::with_capacity(alloc, QUESTIONS_A_PASS)?;
+    for _bit in 0..QUESTIONS_A_PASS {
         lists.push(Vec::with_capacity(alloc, count)?)?;
     }
     Ok(lists)

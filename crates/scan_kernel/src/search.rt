@@ -9,7 +9,7 @@ use ssb_schema::Items;
 
 /// Which dimensions some question tests.
 #[derive(Clone, Copy)]
-struct Tested {
+struct TestedDimensions {
     customers: bool,
     suppliers: bool,
     parts: bool,
@@ -18,8 +18,8 @@ struct Tested {
 
 /// The masks as slices, of which an untested dimension has none.
 #[derive(Clone, Copy)]
-struct Tables<'a> {
-    tested: Tested,
+struct MaskSlices<'a> {
+    tested: TestedDimensions,
     customers: &'a [u16],
     suppliers: &'a [u16],
     parts: &'a [u16],
@@ -44,7 +44,7 @@ fn mask_in<const TESTED: bool>(masks: &[u16], positions: &[u32], place: usize) -
 #[inline(always)]
 fn line_mask<const C: bool, const S: bool, const P: bool, const D: bool>(
     lines: LineColumns<'_>,
-    tables: Tables<'_>,
+    tables: MaskSlices<'_>,
     place: usize,
 ) -> u16
     requires within { place < length lines.customer.now }
@@ -63,7 +63,7 @@ fn line_mask<const C: bool, const S: bool, const P: bool, const D: bool>(
 #[inline(never)]
 fn find_places<const C: bool, const S: bool, const P: bool, const D: bool>(
     lines: LineColumns<'_>,
-    tables: Tables<'_>,
+    tables: MaskSlices<'_>,
     from: usize,
     to: usize,
     places: &mut [u32],
@@ -93,7 +93,7 @@ fn find_places<const C: bool, const S: bool, const P: bool, const D: bool>(
 /// The search where it is known which of customers and suppliers are tested.
 fn search_with<const C: bool, const S: bool>(
     lines: LineColumns<'_>,
-    tables: Tables<'_>,
+    tables: MaskSlices<'_>,
     from: usize,
     to: usize,
     places: &mut [u32],
@@ -119,7 +119,7 @@ fn search_with<const C: bool, const S: bool>(
 /// The search where it is given which dimensions are tested.
 fn search_tables(
     lines: LineColumns<'_>,
-    tables: Tables<'_>,
+    tables: MaskSlices<'_>,
     from: usize,
     to: usize,
     places: &mut [u32],
@@ -171,8 +171,8 @@ pub fn search(
     requires covers { CanSearch lines.now masks.now }
     ensures { IsSearch lines.now masks.now from to result places.old places.new found.old found.new }
 {
-    let tables = Tables {
-        tested: Tested {
+    let tables = MaskSlices {
+        tested: TestedDimensions {
             customers: masks.customers.is_some(),
             suppliers: masks.suppliers.is_some(),
             parts: masks.parts.is_some(),

@@ -3,15 +3,16 @@ ghost use Rattle.std.specs.Prelude.{◌≡◌, ℕ, [], ◌<◌, ◌≤◌, ◌+
 ghost use Rattle.std.specs.Prelude.{slice_index};
 ghost use Rattle.std.specs.declared.alloc.Global.{Global};
 ghost use Rattle.scan_kernel.specs.Dealt.{AreDealt, AreListsFor, GivesPlace, KeepRoom, in_list, len_of, room_of};
+ghost use Rattle.scan_kernel.specs.Masks.{questions_a_pass};
 ghost use Rattle.scan_kernel.specs.Places.{part_at, group_at, CanNumber};
 
 use crate::columns::GroupColumn;
 
 // Takes all places out of the lists.
 fn clear_lists(lists: &mut [Vec<u32>])
-    requires { length lists.old ≡ 16 }
+    requires { length lists.old ≡ questions_a_pass }
     ensures room { KeepRoom lists.old lists.new }
-    ensures none { (k : ℕ) (list : Vec ℕ Global) → k < 16 → in_list lists.new k list ≡ [] }
+    ensures none { (k : ℕ) (list : Vec ℕ Global) → k < questions_a_pass → in_list lists.new k list ≡ [] }
 {
     for number in 0..lists.len() {
         let list = &mut lists[number];
@@ -22,8 +23,9 @@ fn clear_lists(lists: &mut [Vec<u32>])
 // Adds a place to the lists of the bits that its mask has, from the lowest on: most places have one or two.
 #[inline(always)]
 fn deal_place(place: u32, mask: u16, lists: &mut [Vec<u32>])
-    requires all { length lists.old ≡ 16 }
-    requires room { (k : ℕ) (list : Vec ℕ Global) → k < 16 → len_of lists.old k list < room_of lists.old k list }
+    requires all { length lists.old ≡ questions_a_pass }
+    requires room { (k : ℕ) (list : Vec ℕ Global) → k < questions_a_pass
+        → len_of lists.old k list < room_of lists.old k list }
     ensures room { KeepRoom lists.old lists.new }
     ensures gives { GivesPlace place mask lists.old lists.new }
 {

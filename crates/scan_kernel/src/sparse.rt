@@ -1,6 +1,7 @@
 //! The totals of one question whose groups are too many for a number each: of the groups that lines have alone.
 ghost use Rattle.std.specs.Prelude.{◌≡◌, ℕ, ◌<◌, ◌%◌, ◌^◌, All, IfOk, OnOk, length, slice_index, true};
 ghost use Rattle.std.specs.List.{range_with_len, sum_by};
+ghost use Rattle.scan_kernel.specs.Masks.{questions_a_pass};
 ghost use Rattle.scan_kernel.specs.Places.{CanNumber, CanSearch, Covers, has_bit, mask_at, mask_in, group_at, gain_at};
 ghost use Rattle.scan_kernel.specs.Places.{loss_at};
 ghost use Rattle.scan_kernel.specs.Sparse.{as_group_column, as_group_columns, wide_part_at, sums_in, AddsLine};
@@ -70,7 +71,7 @@ fn mask_of(lines: &LineColumns<'_>, masks: &Masks, place: usize) -> u16
 
 /// Whether a question takes the line at a place.
 fn takes(lines: &LineColumns<'_>, masks: &Masks, number: usize, place: usize) -> bool
-    requires few { number < 16 }
+    requires few { number < questions_a_pass }
     requires place { place < length lines.now.customer.now }
     requires covers { CanSearch lines.now masks.now }
     ensures { result ≡ has_bit lines.now masks.now number place }
@@ -167,7 +168,7 @@ pub fn sparse_totals(
     grouping: SparseGrouping<'_>,
     size: u128,
 ) -> Result<SparseTotals, AllocError>
-    requires few { number < 16 }
+    requires few { number < questions_a_pass }
     requires covers { CanSearch lines.now masks.now }
     requires columns { All (λ column. CanNumber (length lines.now.customer.now) (as_group_column column))
         grouping.columns.now }

@@ -1,7 +1,7 @@
 //! The parts that the places are divided into, and threads that take one after another and add it up.
 ghost use Rattle.std.specs.Prelude.{◌≡◌, ◌≤◌, ◌+◌, ◌/◌, ◌^◌, All, IfOk, length};
 ghost use Rattle.scan_kernel.specs.Parts.{bound, part_places, part_size};
-ghost use Rattle.scan_kernel.specs.Room.{HasRoom};
+ghost use Rattle.scan_kernel.specs.Room.{HasRoom, chunk_size};
 ghost use Rattle.scan_kernel.specs.Taken.{IsOfParts, IsOfPartsOk};
 ghost use Rattle.scan_kernel.specs.Totals.{CanScan, HaveSizes, AddsBatch};
 
@@ -13,8 +13,8 @@ use std::alloc::{AllocError, Global};
 use std::sync::atomic::{AtomicU32, Ordering};
 use std::thread::{Threads, map_indices};
 
-/// How many places a part has: there are many more parts than processors, so that a thread that is held up takes fewer of
-/// them, and holds nobody up.
+/// How many places a part has: there are many more parts than processors, so that a thread that is held up takes fewer
+/// of them, and holds nobody up.
 const PART: usize = 65_536;
 
 /// The parts that a thread took, by number, and the totals of their places.
@@ -43,9 +43,9 @@ fn part_bound(places: usize, part: usize) -> usize
 // Adds the places of a part to the totals of each question.
 fn add_part(input: ScanInput<'_>, number: u32, room: &mut Room, totals: &mut [Totals])
     requires scan { CanScan input.lines.now input.masks.now input.groupings.now }
-    requires room { HasRoom 2048 room.old }
+    requires room { HasRoom chunk_size room.old }
     requires sizes { HaveSizes input.groupings.now totals.old }
-    ensures room { HasRoom 2048 room.new }
+    ensures room { HasRoom chunk_size room.new }
     ensures sizes { HaveSizes input.entry.groupings.now totals.new }
     ensures added { AddsBatch input.entry.lines.now input.entry.masks.now input.entry.groupings.now
         (part_places (length input.entry.lines.now.customer.now) number) totals.old totals.new }

@@ -1,9 +1,11 @@
 -- The questions of a batch, made ready one after another.
-use Rattle.std.proofs.Common.{ℕ, ◌≡◌, ◌+◌, ◌<◌, List, [], ◌∷◌, ◌++◌, length, get_or, Some, sym, ap, subst, ◌∙◌, arith}
+use Rattle.std.proofs.Common.{ℕ, ◌≡◌, ◌+◌, ◌<◌, ◌≤◌, List, [], ◌∷◌, ◌++◌, length, get_or, Some, sym, ap, subst, ◌∙◌}
+use Rattle.std.proofs.Common.{arith}
 use Rattle.std.specs.Prelude.{slice_get}
 use Rattle.std.proofs.lemmas.List.{length-map, get_or-map, ext_get_or}
 use Rattle.std.proofs.lemmas.Option.{slice_get-get_or}
 use Rattle.ssb_base.specs.Base.{Tables, IsSound}
+use Rattle.ssb_base.specs.Limits.{most_dimension_rows}
 use Rattle.ssb_schema.specs.declared.column.Column.{Column}
 use Rattle.ssb_schema.specs.declared.table.Table.{Table}
 use Rattle.ssb_schema.specs.declared.table.Table.TheVariants as table
@@ -25,6 +27,36 @@ use Rattle.shared_scan.proofs.EachLaws.{each_more, item_of}
 pub few_rows : (base : Tables) → IsSound base → (column : Column) → length (values_of base column) < 4294967295
 few_rows base sound column = by_table column.table column.place where
   by_table : (t : Table) (place : ℕ) → length (values_at base t place) < 4294967295
+  by_table table.Customer place = omega (
+    arith,
+    length-map base.dimensions.customers (customer_value place),
+    sound.customers.few,
+    base.limits.dimension_rows_range.1,
+  )
+  by_table table.Supplier place = omega (
+    arith,
+    length-map base.dimensions.suppliers (supplier_value place),
+    sound.suppliers.few,
+    base.limits.dimension_rows_range.1,
+  )
+  by_table table.Part place = omega (
+    arith,
+    length-map base.dimensions.parts (part_value place),
+    sound.parts.few,
+    base.limits.dimension_rows_range.1,
+  )
+  by_table table.Date place = omega (
+    arith,
+    length-map base.dimensions.dates (date_value place),
+    sound.dates.few,
+    base.limits.dimension_rows_range.1,
+  )
+  by_table table.Lineorder place = omega arith
+
+-- no column of a dimension has more values than a dimension may have rows
+pub few_values : (base : Tables) → IsSound base → (column : Column) → length (values_of base column) ≤ most_dimension_rows
+few_values base sound column = by_table column.table column.place where
+  by_table : (t : Table) (place : ℕ) → length (values_at base t place) ≤ most_dimension_rows
   by_table table.Customer place = omega (
     arith,
     length-map base.dimensions.customers (customer_value place),

@@ -227,5 +227,5 @@ pub answers_classed : (base : Tables) (questions : List (Query × List Value)) (
     answers_over base.dimensions (live_facts base.dimensions places) questions
 answers_classed base [] places sound sound_first own = refl
 answers_classed base (question ∷ questions) places sound sound_first own =
-    λ j. record { query = question; list = answer_classed base question places sound sound_first own j }
+    λ j. record { question = question; list = answer_classed base question places sound sound_first own j }
     ∷ answers_classed base questions places sound sound_first own j

@@ -20,7 +20,7 @@ pub answers_ignore_order : (dimensions : Dimensions) (facts other : List Fact) (
     → IsPermutation facts other → answers_over dimensions facts questions ≡ answers_over dimensions other questions
 answers_ignore_order dimensions facts other [] moved = refl
 answers_ignore_order dimensions facts other (question ∷ questions) moved =
-    λ j. record { query = question; list = questions_ignore_order question dimensions facts other moved j } ∷
+    λ j. record { question = question; list = questions_ignore_order question dimensions facts other moved j } ∷
     answers_ignore_order dimensions facts other questions moved j
 
 -- the places of the columns are of their base

@@ -15,6 +15,7 @@ pub mod PartLaws
 pub mod GroupedLaws
 pub mod GroupColumnLaws
 pub mod BatchLaws
+pub mod PlanLaws
 pub mod CanScanLaws
 pub mod CanSumLaws
 pub mod ReadyLaws

@@ -238,7 +238,7 @@ module _ (base : Tables) (places : List Place) (lines : LineColumns) (masks : Ma
     module _ (list : List Rows) (right : AreBatchRows base lines masks all totals list) where
       rows_at : (k : ℕ) (r : Ready) (t : Totals) (rows : Rows) → k < length all
           → get_or list k rows ≡ record {
-            query = (get_or all k r).question;
+            question = (get_or all k r).question;
             list = answer_of (get_or all k r).question base.dimensions (live_facts base.dimensions places);
           }
       rows_at k r t rows below =
@@ -251,13 +251,13 @@ module _ (base : Tables) (places : List Place) (lines : LineColumns) (masks : Ma
           (plan_at base masks all ready k r below) (ready_at base masks all ready k r below)
           (summed.each k g t of_groupings)
           this.groups.parts refl (grouped.each k r g below) one.right in
-          λ j. record { query = one.query_is j; list = answer j }
+          λ j. record { question = one.question_is j; list = answer j }
 
       -- the rows answer the batch over the live facts
       pub rows_answer : list ≡ answers_over base.dimensions (live_facts base.dimensions places) (questions_of all)
       rows_answer =
           let answered : Query × List Value → Rows = λ question.
-          record { query = question; list = answer_of question base.dimensions (live_facts base.dimensions places) }
+          record { question = question; list = answer_of question base.dimensions (live_facts base.dimensions places) }
           in
           ext_get_or no_rows list (map answered (questions_of all))
           (right.len ∙ sym (length-map (questions_of all) answered ∙ length-map all (λ r. r.question))) (λ i below.
@@ -272,4 +272,4 @@ module _ (base : Tables) (places : List Place) (lines : LineColumns) (masks : Ma
           ∙ ap answered (get_or-map (λ (s : Ready). s.question) all i r r.question inside)))
         where
           no_rows : Rows
-          no_rows = record { query = (Q1_1, []); list = [] }
+          no_rows = record { question = (Q1_1, []); list = [] }

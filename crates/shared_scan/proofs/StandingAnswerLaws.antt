@@ -89,7 +89,7 @@ module _ (base : Tables) (masks : Masks) (all : List Ready) (totals : List Total
     pub is_answered : (rows : Rows)
         → AreRowsOf (reduced base) lines masks k (get_or all k r) (get_or totals k t) rows
         → rows ≡ record {
-          query = (get_or all k r).question;
+          question = (get_or all k r).question;
           list = answer_of (get_or all k r).question base.dimensions (live_facts base.dimensions places);
         }
     is_answered rows right =
@@ -97,7 +97,7 @@ module _ (base : Tables) (masks : Masks) (all : List Ready) (totals : List Total
         few k (get_or all k r) g (get_or totals k t) rows.list (plan_at (reduced base) masks all follow.ready k r below)
         (ready_at (reduced base) masks all follow.ready k r below) sums (get_or all k r).groups.parts refl grouped
         right.right ∙ answer_classed base (get_or all k r).question places sound_all sound of_base.within in
-        λ j. record { query = right.query_is j; list = list j }
+        λ j. record { question = right.question_is j; list = list j }
 
 -- the answer over the live facts of columns is that after any history that the columns stand for
 pub answer_of_history : (columns : Stored) (history : List CommitRecord) (question : Query × List Value)
@@ -105,7 +105,7 @@ pub answer_of_history : (columns : Stored) (history : List CommitRecord) (questi
     → answer_of question columns.base.dimensions (live_facts columns.base.dimensions columns.places)
     ≡ answer_of question columns.base.dimensions (facts_of (lines_after columns.base history))
 answer_of_history columns history question read stands =
-    ap (λ (list : List Rows). (get_or list 0 (record { query = question; list = [] })).list)
+    ap (λ (list : List Rows). (get_or list 0 (record { question = question; list = [] })).list)
     (answers_of_history columns history (question ∷ []) read stands)
 
 -- the columns of places of a base can be searched

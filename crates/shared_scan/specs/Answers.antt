@@ -26,7 +26,7 @@ pub record AreSnapshot (columns : Stored) : Type 0 where
 -- each question with its rows over these facts, as if it had been alone
 abbrev pub answers_over : Dimensions → List Fact → List (Query × List Value) → List Rows
 answers_over dimensions facts questions = map (λ question.
-    record { query = question; list = answer_of question dimensions facts }) questions
+    record { question = question; list = answer_of question dimensions facts }) questions
 
 -- each question with its rows after a history
 abbrev pub answers_after : Tables → List CommitRecord → List (Query × List Value) → List Rows

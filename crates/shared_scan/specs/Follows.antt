@@ -6,6 +6,7 @@ use Rattle.ssb_questions.specs.declared.query.Query.{Query}
 use Rattle.ssb_questions.specs.declared.value.Value.{Value}
 use Rattle.dimension_index.specs.Classes.{reduced}
 use Rattle.fact_columns.specs.declared.scanned_line.ScannedLine.{ScannedLine}
+use Rattle.scan_kernel.specs.Masks.{questions_a_pass}
 use Rattle.scan_kernel.specs.declared.masks.Masks.{Masks}
 use Rattle.scan_kernel.specs.declared.totals.Totals.{Totals}
 use Rattle.shared_scan.specs.Prepared.{AreMasksOf}
@@ -18,7 +19,7 @@ use Rattle.shared_scan.specs.declared.standing.Standing.{Standing}
 -- questions that are made ready over rows that begin a class, each with its totals over the lines
 pub record FollowWith (base : Tables) (masks : Masks) (all : List Ready) (totals : List Totals)
     (lines : List ScannedLine) : Type 0 where
-  pub few : length all ≤ 16
+  pub few : length all ≤ questions_a_pass
   pub one_each : length totals ≡ length all
   pub masks_tell : AreMasksOf (plans_of (questions_of all)) base.dimensions masks
   pub masks_cover : CoverRows base.dimensions masks
@@ -39,7 +40,7 @@ FollowsOver standing base lines = (standing.batch.value.index.value ≡ base) ×
 pub record Changes (old new : Standing) (line : ScannedLine) (comes : Bool) : Type 0 where
   pub batch_is : new.batch.value ≡ old.batch.value
   pub len : length new.totals.items ≡ length old.totals.items
-  pub shifted : length old.batch.value.questions.items ≤ 16
+  pub shifted : length old.batch.value.questions.items ≤ questions_a_pass
       → length old.totals.items ≡ length old.batch.value.questions.items
       → ShiftsBatch (reduced old.batch.value.index.value) old.batch.value.masks old.batch.value.questions.items line
       comes old.totals.items new.totals.items

@@ -12,6 +12,7 @@ use Rattle.ssb_questions.specs.Queries.{plan_over}
 use Rattle.ssb_answers.specs.RowValues.{customer_value, supplier_value, part_value, date_value, pass}
 use Rattle.dimension_index.specs.Codes.{distinct}
 use Rattle.scan_kernel.specs.Groups.{size_of}
+use Rattle.shared_scan.specs.Parts.{most_dense}
 
 -- what the rows that pass all tests have at a place of their columns
 abbrev pub values_passing : {R : Type 0} → List Test → (ℕ → R → Value) → List R → ℕ → List Value
@@ -39,10 +40,10 @@ most_groups base question = most_groups_of base.dimensions (plan_over question.0
 
 -- so many that no totals are kept of it
 abbrev pub has_many_groups : Tables → Query × List Value → Bool
-has_many_groups base question = nat_lt 65536 (most_groups base question)
+has_many_groups base question = nat_lt most_dense (most_groups base question)
 
 abbrev pub HasFewGroups : Tables → Query × List Value → Type 0
-HasFewGroups base question = most_groups base question ≤ 65536
+HasFewGroups base question = most_groups base question ≤ most_dense
 
 -- the question at this place, counted from 0, is the first of these that has many
 abbrev pub IsFirstOfMany : Tables → List (Query × List Value) → ℕ → Type 0

@@ -2,6 +2,7 @@
 use Rattle.std.specs.Prelude.{ℕ, pos, ◌≡◌, ◌<◌, ◌≤◌, ◌^◌, ◌-ℤ◌, All, List, Some, length, map, slice_get, slice_index}
 use Rattle.std.specs.List.{range_with_len}
 use Rattle.ssb_base.specs.Base.{Tables, IsSound}
+use Rattle.ssb_base.specs.Limits.{most_lines}
 use Rattle.ssb_questions.specs.declared.plan.Plan.{Plan}
 use Rattle.ssb_questions.specs.declared.value.Value.{Value}
 use Rattle.ssb_questions.specs.declared.query.Query.{Query}
@@ -37,7 +38,7 @@ TotalsAnswer =
     (lines : LineColumns) (masks : Masks) (columns : List (List Value)) (grouping : Grouping) (totals : Totals)
     (rows : List ResultRow)
     → IsSound base → All (IsWithin base.dimensions) places → AreLinesOf places lines
-    → length (live_facts base.dimensions places) ≤ 33554432
+    → length (live_facts base.dimensions places) ≤ most_lines
     → slice_get plans k ≡ Some (plan_over question.0 question.1) → AreMasksOf plans base.dimensions masks
     → IsGroupingOf base masks k lines (plan_over question.0 question.1) columns grouping
     → AreTotals lines masks k grouping (range_with_len 0 (length places)) totals

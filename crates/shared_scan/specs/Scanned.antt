@@ -1,6 +1,7 @@
 -- A question that is scanned.
 use Rattle.std.specs.Prelude.{ℕ, ℤ, pos, ◌≡◌, ◌≤◌, ◌-ℤ◌, All, List, Some, length, slice_get}
 use Rattle.ssb_base.specs.Base.{Tables, IsSound}
+use Rattle.ssb_base.specs.Limits.{most_lines}
 use Rattle.ssb_questions.specs.declared.plan.Plan.{Plan}
 use Rattle.ssb_questions.specs.Queries.{plan_over}
 use Rattle.fact_columns.specs.declared.place.Place.{Place}
@@ -19,7 +20,7 @@ pub record IsScanned (base : Tables) (lines : LineColumns) (masks : Masks) (k : 
   pub places : List Place
   pub sound : IsSound base
   pub within : All (IsWithin base.dimensions) places
-  pub few_live : length (live_facts base.dimensions places) ≤ 33554432
+  pub few_live : length (live_facts base.dimensions places) ≤ most_lines
   pub are : AreLinesOf places lines
   pub at_k : slice_get plans k ≡ Some (plan_over ready.question.0 ready.question.1)
   pub tell : AreMasksOf plans base.dimensions masks

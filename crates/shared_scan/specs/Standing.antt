@@ -15,6 +15,7 @@ use Rattle.fact_columns.specs.declared.scanned_line.ScannedLine.{ScannedLine}
 use Rattle.scan_kernel.specs.declared.masks.Masks.{Masks}
 use Rattle.scan_kernel.specs.declared.totals.Totals.{Totals}
 use Rattle.scan_kernel.specs.Places.{mask_in}
+use Rattle.shared_scan.specs.Parts.{most_dense}
 use Rattle.shared_scan.specs.declared.parts.Parts.{Parts}
 use Rattle.shared_scan.specs.declared.parts.Parts.TheVariants.{Narrow, Wide}
 use Rattle.shared_scan.specs.declared.ready.Ready.{Ready}
@@ -151,4 +152,4 @@ pub record HaveNumbersOf (old new : List Totals) : Type 0 where
 
 -- the question was made ready with more groups than totals are kept of
 abbrev pub has_many_numbers : Ready → Bool
-has_many_numbers ready = nat_lt 65536 ready.groups.size
+has_many_numbers ready = nat_lt most_dense ready.groups.size

@@ -55,7 +55,7 @@ AreRowsWith base lines masks k ready (Wide parts) totals rows = AreRowsOver base
 
 pub record AreRowsOf (base : Tables) (lines : LineColumns) (masks : Masks) (k : ℕ) (ready : Ready) (totals : Totals)
     (rows : Rows) : Type 0 where
-  pub query_is : rows.query ≡ ready.question
+  pub question_is : rows.question ≡ ready.question
   pub right : AreRowsWith base lines masks k ready ready.groups.parts totals rows.list
 
 -- so for each question of a batch

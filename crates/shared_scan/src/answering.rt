@@ -3,6 +3,7 @@ ghost use Rattle.std.specs.Prelude.{◌≡◌, ◌≤◌, List, IfOk, length};
 ghost use Rattle.row_store.specs.History.{CommitRecord};
 ghost use Rattle.row_store.specs.State.{StandsFor};
 ghost use Rattle.fact_columns.specs.Stored.{columns_state};
+ghost use Rattle.scan_kernel.specs.Masks.{questions_a_pass};
 ghost use Rattle.shared_scan.specs.Answers.{AreSnapshot, answers_after};
 
 use crate::prepared::PreparedBatch;
@@ -19,9 +20,9 @@ pub fn answer<R: Threads + Sync>(
     columns: &Columns,
     questions: &[Question],
 ) -> Result<Vec<Rows>, AllocError>
-    requires few { length questions.now ≤ 16 }
+    requires few { length questions.now ≤ questions_a_pass }
     requires snapshot { AreSnapshot columns.now }
-    ensures { (history : List CommitRecord) → StandsFor (columns_state columns.now) history
+    ensures answers { (history : List CommitRecord) → StandsFor (columns_state columns.now) history
         → IfOk result (λ rows. rows.items ≡ answers_after columns.now.base history questions.now) }
 {
     let batch = PreparedBatch::new(alloc, columns, questions)?;

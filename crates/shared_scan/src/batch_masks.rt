@@ -1,5 +1,6 @@
 //! The masks of a batch.
 ghost use Rattle.std.specs.Prelude.{◌≤◌, IfOk, length};
+ghost use Rattle.scan_kernel.specs.Masks.{questions_a_pass};
 ghost use Rattle.shared_scan.specs.Prepared.{AreMasksOf};
 ghost use Rattle.shared_scan.specs.Masking.{CoverRows};
 
@@ -12,7 +13,7 @@ use std::alloc::{AllocError, Global};
 
 /// The masks of the rows of all dimensions, and of all codes of quantity and discount.
 pub fn batch_masks(alloc: Global, index: &FirstRows, plans: &[Plan]) -> Result<Masks, AllocError>
-    requires few { length plans.now ≤ 16 }
+    requires few { length plans.now ≤ questions_a_pass }
     ensures tell { IfOk result (AreMasksOf plans.now index.now.dimensions) }
     ensures cover { IfOk result (CoverRows index.now.dimensions) }
 {

@@ -3,6 +3,8 @@ ghost use Rattle.std.specs.Prelude.{◌≡◌, ◌≢◌, ℕ, ◌<◌, ◌≤�
 ghost use Rattle.std.specs.Prelude.{slice_index_or};
 ghost use Rattle.ssb_questions.specs.declared.value.Value.TheVariants.{Number};
 ghost use Rattle.dimension_index.specs.Values.{values_of};
+ghost use Rattle.ssb_base.specs.Limits.{most_dimension_rows};
+ghost use Rattle.scan_kernel.specs.Masks.{questions_a_pass};
 ghost use Rattle.shared_scan.specs.Numbering.{HasMasks, IsPreparedColumn};
 
 use crate::numbering::{NONE, number_codes};
@@ -72,14 +74,14 @@ pub fn prepare(
     question: usize,
     step: u128,
 ) -> Result<GroupPart, AllocError>
-    requires question { question < 16 }
-    requires few { length (values_of index.now column) ≤ 1048576 }
+    requires question { question < questions_a_pass }
+    requires few { length (values_of index.now column) ≤ most_dimension_rows }
     requires step { step ≤ 2 ^ 60 }
     requires masks { (p : ℕ) → p < length (values_of index.now column) → HasMasks masks.now p }
     ensures column { IfOk result (λ part. part.column ≡ column) }
     ensures prepared { IfOk result (λ part. IsPreparedColumn (values_of index.now column) masks.now question step
         part.values part.parts.items) }
-    ensures few { IfOk result (λ part. length part.values ≤ 1048576) }
+    ensures few { IfOk result (λ part. length part.values ≤ most_dimension_rows) }
 {
     let codes = index.codes_of(column);
     let numbering = number_codes(alloc, codes, index.codes(column), masks, question)?;

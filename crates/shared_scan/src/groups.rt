@@ -1,5 +1,7 @@
 //! All group columns of a question, made ready.
 ghost use Rattle.std.specs.Prelude.{◌≡◌, ℕ, ◌<◌, ◌≤◌, IfOk, length};
+ghost use Rattle.ssb_base.specs.Limits.{most_dimension_rows};
+ghost use Rattle.scan_kernel.specs.Masks.{questions_a_pass};
 ghost use Rattle.scan_kernel.specs.Groups.{counts_of, size_of};
 ghost use Rattle.dimension_index.specs.Values.{values_of};
 ghost use Rattle.ssb_schema.specs.declared.column.Column.{Column as GroupedBy};
@@ -45,9 +47,9 @@ pub fn prepare_groups(
     columns: &[Column],
     question: usize,
 ) -> Result<Groups, AllocError>
-    requires question { question < 16 }
+    requires question { question < questions_a_pass }
     requires four { length columns.now ≤ 4 }
-    requires few { (column : GroupedBy) → length (values_of index.now column) ≤ 1048576 }
+    requires few { (column : GroupedBy) → length (values_of index.now column) ≤ most_dimension_rows }
     requires masks { HaveMasks index.now masks.now }
     ensures prepared { IfOk result (λ groups. ArePrepared index.now masks.now question columns.now groups.columns.items
         1 (parts_in groups.parts)) }

@@ -3,13 +3,13 @@
 //! Each distinct value of a tested column is looked at once for each plan, and has a mask of its own: a plan that does
 //! not test the column takes every value. A row's mask is then the `&` of those of its values.
 ghost use Rattle.std.specs.Prelude.{◌≡◌, ℕ, ◌≤◌, ◌<◌, ◌/◌, ◌%◌, ◌&&◌, All, length, IfOk, bit_and, slice_index};
-ghost use Rattle.scan_kernel.specs.Masks.{IsMask};
+ghost use Rattle.scan_kernel.specs.Masks.{IsMask, questions_a_pass};
 ghost use Rattle.ssb_answers.specs.RowValues.{is_within};
 ghost use Rattle.dimension_index.specs.Keys.{keys_of};
 ghost use Rattle.shared_scan.specs.Masking.{AreCodeMasks, AreRowMasks, TellDimension, TellTerms};
 
 use crate::plan_tests::tested_places;
-use crate::tested::{Cell, Terms, Tested};
+use crate::tested::{DimensionCell, LineTerms, Tested};
 use dimension_index::{Dictionary, FirstRows};
 use ssb_answers::Plan;
 use ssb_schema::{Column, Items, Table};
@@ -17,7 +17,7 @@ use std::alloc::{AllocError, Global};
 
 /// Bit k is set where plan k takes it.
 fn mask_of<T: Tested>(plans: &[Plan], item: &T) -> u16
-    requires few { length plans.now ≤ 16 }
+    requires few { length plans.now ≤ questions_a_pass }
     ensures { IsMask (λ plan. T.takes plan item.now) plans.now result }
 {
     let mut mask = 0u16;
@@ -36,12 +36,12 @@ fn code_masks(
     column: Column,
     dictionary: &Dictionary,
 ) -> Result<Vec<u16>, AllocError>
-    requires few { length plans.now ≤ 16 }
+    requires few { length plans.now ≤ questions_a_pass }
     ensures { IfOk result (λ masks. AreCodeMasks column plans.now dictionary.now masks.items) }
 {
     let mut masks = Vec::with_capacity(alloc, dictionary.len())?;
     for code in 0..dictionary.len() {
-        let cell = Cell {
+        let cell = DimensionCell {
             table: column.table,
             place: column.place,
             value: dictionary.column_value(code),
@@ -73,7 +73,7 @@ fn row_masks(
     table: Table,
     places: &[usize],
 ) -> Result<Vec<u16>, AllocError>
-    requires few { length plans.now ≤ 16 }
+    requires few { length plans.now ≤ questions_a_pass }
     ensures { IfOk result (λ masks. AreRowMasks index.now table plans.now places.now masks.items) }
 {
     let mut masks = vec![in alloc; u16::MAX; index.positions(table)]?;
@@ -95,7 +95,7 @@ pub fn dimension_masks(
     plans: &[Plan],
     table: Table,
 ) -> Result<Option<Items<u16>>, AllocError>
-    requires few { length plans.now ≤ 16 }
+    requires few { length plans.now ≤ questions_a_pass }
     ensures { IfOk result (λ masks. TellDimension index.now table plans.now masks) }
 {
     let places = tested_places(alloc, plans, table)?;
@@ -108,7 +108,7 @@ pub fn dimension_masks(
 
 /// The mask of a code of quantity and discount; a quantity of 0 is that of a free place, which no plan takes.
 fn terms_mask(plans: &[Plan], code: u16) -> u16
-    requires few { length plans.now ≤ 16 }
+    requires few { length plans.now ≤ questions_a_pass }
     requires code { code < 1024 }
     ensures free { code < 16 → result ≡ 0 }
     ensures live { 16 ≤ code → IsMask (λ plan. is_within plan.quantity (code / 16) && is_within plan.discount
@@ -117,7 +117,7 @@ fn terms_mask(plans: &[Plan], code: u16) -> u16
     if code < 16 {
         return 0;
     }
-    let terms = Terms {
+    let terms = LineTerms {
         quantity: (code / 16) as u8,
         discount: (code % 16) as u8,
     };
@@ -126,7 +126,7 @@ fn terms_mask(plans: &[Plan], code: u16) -> u16
 
 /// The masks of all codes of quantity and discount.
 pub fn terms_masks(alloc: Global, plans: &[Plan]) -> Result<Vec<u16>, AllocError>
-    requires few { length plans.now ≤ 16 }
+    requires few { length plans.now ≤ questions_a_pass }
     ensures { IfOk result (λ masks. TellTerms plans.now masks.items) }
 {
     let mut masks = Vec::with_capacity(alloc, 1024)?;

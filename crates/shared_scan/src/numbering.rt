@@ -2,6 +2,7 @@
 ghost use Rattle.std.specs.Prelude.{◌≡◌, ◌≢◌, ◌⊎◌, ℕ, ◌<◌, ◌≤◌, ◌+◌, [], ◌∷◌, ◌++◌, All, IfOk, OnOk, length};
 ghost use Rattle.std.specs.Prelude.{slice_index, vec_len, nat_eq};
 ghost use Rattle.std.specs.Int.{bit_at};
+ghost use Rattle.scan_kernel.specs.Masks.{questions_a_pass};
 ghost use Rattle.scan_kernel.specs.Places.{mask_in};
 ghost use Rattle.shared_scan.specs.Numbering.{AreNumbered, HasMasks, IsTaken, IsUsed};
 
@@ -49,7 +50,7 @@ fn number_code(numbering: &mut Numbering, code: u32) -> Result<(), AllocError>
 
 /// Whether a mask has the bit of a question.
 pub fn has_bit(mask: u16, question: usize) -> bool
-    requires { question < 16 }
+    requires { question < questions_a_pass }
     ensures { result ≡ nat_eq (bit_at mask question) 1 }
 {
     (mask >> question) & 1 == 1
@@ -80,9 +81,9 @@ fn seen_by(
     requires within { All (λ code. code < count) codes.now }
     requires masks { (p : ℕ) → p < length codes.now → HasMasks masks.now p }
     ensures len { IfOk result (λ seen. length seen.items ≡ count) }
-    ensures each { IfOk result (λ seen. (p k : ℕ) → p < length codes.now → k < 16 → bit_at (mask_in masks.now p) k ≡ 1
-        → bit_at (slice_index seen.items (slice_index codes.now p)) k ≡ 1) }
-    ensures only { IfOk result (λ seen. (code k : ℕ) → code < count → k < 16 → IsUsed codes.now code
+    ensures each { IfOk result (λ seen. (p k : ℕ) → p < length codes.now → k < questions_a_pass
+        → bit_at (mask_in masks.now p) k ≡ 1 → bit_at (slice_index seen.items (slice_index codes.now p)) k ≡ 1) }
+    ensures only { IfOk result (λ seen. (code k : ℕ) → code < count → k < questions_a_pass → IsUsed codes.now code
         → bit_at (slice_index seen.items code) k ≡ 1 → IsTaken codes.now masks.now k code) }
 {
     match masks {
@@ -97,7 +98,7 @@ fn seen_by(
 
 /// Numbers the codes that a question sees, in their order.
 fn number_seen(alloc: Global, seen: &[u16], question: usize) -> Result<Numbering, AllocError>
-    requires question { question < 16 }
+    requires question { question < questions_a_pass }
     requires few { length seen.now < 4294967295 }
     ensures len { IfOk result (λ numbering. vec_len numbering.numbers ≡ length seen.now) }
     ensures few { IfOk result (λ numbering. vec_len numbering.kept ≤ length seen.now) }
@@ -128,7 +129,7 @@ pub fn number_codes(
     masks: &Option<Items<u16>>,
     question: usize,
 ) -> Result<Numbering, AllocError>
-    requires question { question < 16 }
+    requires question { question < questions_a_pass }
     requires few { count < 4294967295 }
     requires within { All (λ code. code < count) codes.now }
     requires masks { (p : ℕ) → p < length codes.now → HasMasks masks.now p }

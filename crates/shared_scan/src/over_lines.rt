@@ -8,7 +8,8 @@ ghost use Rattle.shared_scan.specs.Lines.{AreOfBase, HavePlaces};
 
 use crate::grouping::groupings;
 use crate::prepared::PreparedBatch;
-use crate::sums::{Scan, batch_rows};
+use crate::scan::Scan;
+use crate::sums::batch_rows;
 use scan_kernel::{LineColumns, parallel_totals};
 use ssb_answers::Rows;
 use std::alloc::{AllocError, Global};

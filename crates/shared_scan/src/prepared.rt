@@ -3,6 +3,7 @@ ghost use Rattle.std.specs.Prelude.{◌≡◌, ◌≤◌, List, IfOk, length};
 ghost use Rattle.row_store.specs.History.{CommitRecord};
 ghost use Rattle.row_store.specs.State.{StandsFor};
 ghost use Rattle.fact_columns.specs.Stored.{columns_state};
+ghost use Rattle.scan_kernel.specs.Masks.{questions_a_pass};
 ghost use Rattle.shared_scan.specs.Answers.{AreSnapshot, answers_after};
 
 use crate::batch_masks::batch_masks;
@@ -42,9 +43,9 @@ impl<'a> PreparedBatch<'a> {
         columns: &'a Columns,
         questions: &[Question],
     ) -> Result<PreparedBatch<'a>, AllocError>
-        requires few { length questions.now ≤ 16 }
+        requires few { length questions.now ≤ questions_a_pass }
         requires snapshot { AreSnapshot columns.now }
-        ensures { IfOk result (λ batch. batch ≡ record { columns = columns.now; questions = questions.now }) }
+        ensures prepared { IfOk result (λ batch. batch ≡ record { columns = columns.now; questions = questions.now }) }
     {
         columns.soundness();
         let rows = columns.index().first_rows();
@@ -52,8 +53,9 @@ impl<'a> PreparedBatch<'a> {
         let plans = plans_of(alloc, questions)?;
         let masks = batch_masks(alloc, rows, &plans)?;
         let mut all = Vec::with_capacity(alloc, questions.len())?;
-        for number in 0..questions.len() {
-            all.push(prepare_question(alloc, rows, &masks, &questions[number], number)?)?;
+        for plan in plans {
+            let number = all.len();
+            all.push(prepare_question(alloc, rows, &masks, &questions[number], plan, number)?)?;
         }
         Ok(PreparedBatch {
             columns,
@@ -65,7 +67,7 @@ impl<'a> PreparedBatch<'a> {
     /// For each question, in order, its rows as if it had been alone, by as many threads as there are processors. Fails
     /// for want of memory alone.
     pub fn scan<R: Threads + Sync>(&self, rt: &R, alloc: Global) -> Result<Vec<Rows>, AllocError>
-        ensures { (history : List CommitRecord) → StandsFor (columns_state self.now.columns) history
+        ensures answers { (history : List CommitRecord) → StandsFor (columns_state self.now.columns) history
             → IfOk result (λ rows. rows.items ≡ answers_after self.now.columns.base history self.now.questions) }
     {
         scan_lines(rt, alloc, self.columns.line_columns(), self)

@@ -1,5 +1,6 @@
 //! The totals of questions with a line more, or a line less.
 ghost use Rattle.std.specs.Prelude.{◌≡◌, ◌<◌, ◌≤◌, length};
+ghost use Rattle.scan_kernel.specs.Masks.{questions_a_pass};
 ghost use Rattle.scan_kernel.specs.Sums.{add_at};
 ghost use Rattle.shared_scan.specs.Standing.{Shifts, ShiftsLine, ShiftsWhere, ShiftsBatch, group_of_line};
 
@@ -79,7 +80,7 @@ pub fn shift_line(
     comes: bool,
     totals: &mut [Totals],
 )
-    requires few { length all.now ≤ 16 }
+    requires few { length all.now ≤ questions_a_pass }
     requires one_each { length totals.old ≡ length all.now }
     ensures len { length totals.new ≡ length totals.old }
     ensures shifted { ShiftsBatch index.now masks.now all.now line.now comes totals.old totals.new }

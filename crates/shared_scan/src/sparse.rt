@@ -1,6 +1,7 @@
 //! The rows of a question whose groups are too many for a number each.
 ghost use Rattle.std.specs.Prelude.{◌≡◌, ℕ, ◌<◌, ◌^◌, IfOk, Some, length, map, nat_eq};
 ghost use Rattle.indexmap.specs.IndexMap.{get, keys, values};
+ghost use Rattle.scan_kernel.specs.Masks.{questions_a_pass};
 ghost use Rattle.scan_kernel.specs.declared.sparse.GroupSums.{GroupSums as Sums};
 ghost use Rattle.scan_kernel.specs.Places.{CanSearch};
 ghost use Rattle.scan_kernel.specs.Sparse.{as_group_column, as_group_columns};
@@ -11,10 +12,11 @@ ghost use Rattle.shared_scan.specs.Summed.{AreRowsOver};
 
 use crate::grouping::positions;
 use crate::ready::Ready;
+use crate::scan::Scan;
 use crate::sums::difference;
 use dimension_index::FirstRows;
 use scan_kernel::{
-    GroupSums, LineColumns, Masks, SparseColumn, SparseGrouping, SparseTotals, answer_sparse,
+    GroupSums, LineColumns, SparseColumn, SparseGrouping, SparseTotals, answer_sparse,
     sparse_totals,
 };
 use ssb_answers::ResultRow;
@@ -92,26 +94,26 @@ fn list_groups(alloc: Global, totals: &SparseTotals) -> Result<Listed, AllocErro
 /// The rows of a question, by one walk over the places that keeps the sums of the groups that it meets.
 pub fn sparse_rows(
     alloc: Global,
-    index: &FirstRows,
-    lines: &LineColumns<'_>,
-    masks: &Masks,
+    scan: Scan<'_>,
     ready: &Ready,
     parts: &[Items<u128>],
     number: usize,
 ) -> Result<Vec<ResultRow>, AllocError>
-    requires few { number < 16 }
-    requires covers { CanSearch lines.now masks.now }
+    requires few { number < questions_a_pass }
+    requires covers { CanSearch scan.lines scan.masks.now }
     requires parts { parts_in ready.now.groups.parts ≡ parts.now }
-    requires scanned { IsScanned index.now lines.now masks.now number ready.now }
-    ensures { IfOk result (λ rows. AreRowsOver index.now lines.now masks.now number ready.now rows.items) }
+    requires scanned { IsScanned scan.index.now scan.lines scan.masks.now number ready.now }
+    ensures { IfOk result (λ rows. AreRowsOver scan.entry.index.now scan.entry.lines scan.entry.masks.now number
+        ready.now rows.items) }
 {
-    let columns = sparse_columns(alloc, index, lines, ready.plan.groups.as_slice(), parts)?;
+    let groups = ready.plan.groups.as_slice();
+    let columns = sparse_columns(alloc, scan.index, &scan.lines, groups, parts)?;
     let grouping = SparseGrouping {
         measure: ready.plan.measure,
         columns: &columns,
     };
     let size = ready.groups.size;
-    let totals = sparse_totals(alloc, lines, masks, number, grouping, size)?;
+    let totals = sparse_totals(alloc, &scan.lines, scan.masks, number, grouping, size)?;
     let list = list_groups(alloc, &totals)?;
     answer_sparse(
         alloc,

@@ -9,6 +9,7 @@ ghost use Rattle.row_store.specs.State.{StandsFor};
 ghost use Rattle.ssb_answers.specs.Answer.{answer_of};
 ghost use Rattle.fact_columns.specs.declared.scanned_line.ScannedLine.{ScannedLine as PlainLine};
 ghost use Rattle.fact_columns.specs.Stored.{columns_state};
+ghost use Rattle.scan_kernel.specs.Masks.{questions_a_pass};
 ghost use Rattle.shared_scan.specs.Answers.{AreSnapshot};
 ghost use Rattle.shared_scan.specs.Batch.{questions_of};
 ghost use Rattle.fact_columns.specs.Watching.{live_lines};
@@ -21,12 +22,13 @@ use crate::grouping::{grouping, groupings};
 use crate::parts::MOST_DENSE;
 use crate::prepared::PreparedBatch;
 use crate::ready::Ready;
+use crate::scan::Scan;
 use crate::shifting::shift_line;
 use crate::standing_error::StandingError;
-use crate::sums::{Scan, question_rows};
+use crate::sums::question_rows;
 use dimension_index::DimIndex;
 use fact_columns::{Columns, ScannedLine, Watch};
-use scan_kernel::{Masks, Totals, parallel_totals};
+use scan_kernel::{Masks, QUESTIONS_A_PASS, Totals, parallel_totals};
 use ssb_answers::{Question, Rows};
 use std::alloc::{AllocError, Global};
 use std::sync::Arc;
@@ -79,7 +81,7 @@ impl Standing {
         columns: &Columns,
         questions: &[Question],
     ) -> Result<Standing, StandingError>
-        requires few { length questions.now ≤ 16 }
+        requires few { length questions.now ≤ questions_a_pass }
         requires base { index.value ≡ columns.now.base }
         requires snapshot { AreSnapshot columns.now }
         ensures questions { IfOk result (λ standing. questions_of standing.batch.value.questions.items
@@ -116,7 +118,7 @@ impl Standing {
         columns: &Columns,
         questions: &[Question],
     ) -> Result<Standing, AllocError>
-        requires few { length questions.now ≤ 16 }
+        requires few { length questions.now ≤ questions_a_pass }
         requires base { index.value ≡ columns.now.base }
         requires snapshot { AreSnapshot columns.now }
         ensures base { IfOk result (λ standing. standing.batch.value.index.value ≡ columns.now.base) }
@@ -161,7 +163,7 @@ impl Standing {
         ensures { Changes self.old self.new line.now comes }
     {
         let batch: &ReadyBatch = &self.batch;
-        if batch.questions.len() > 16 || self.totals.len() != batch.questions.len() {
+        if batch.questions.len() > QUESTIONS_A_PASS || self.totals.len() != batch.questions.len() {
             return;
         }
         let rows = batch.index.first_rows();
@@ -194,11 +196,11 @@ impl Standing {
         requires there { number < length self.now.batch.value.questions.items }
         requires snapshot { AreSnapshot columns.now }
         requires follows { FollowsOver self.now columns.now.base (live_lines columns.now.places) }
-        ensures { (history : List CommitRecord) (question : Asked × List Constant)
+        ensures answer { (history : List CommitRecord) (question : Asked × List Constant)
             → StandsFor (columns_state columns.now) history
             → slice_get (questions_of self.now.batch.value.questions.items) number ≡ Some question
             → IfOk result (λ rows. rows ≡ record {
-              query = question;
+              question = question;
               list = answer_of question columns.now.base.dimensions (facts_of (lines_after columns.now.base history));
             }) }
     {

@@ -1,6 +1,7 @@
 //! The rows of questions from their totals.
 ghost use Rattle.std.specs.Prelude.{◌≡◌, ℕ, List, ◌<◌, ◌≤◌, ◌^◌, ◌-ℤ◌, pos, IfOk, length, slice_index, slice_index_or};
 ghost use Rattle.std.specs.Prelude.{vec_len};
+ghost use Rattle.scan_kernel.specs.Masks.{questions_a_pass};
 ghost use Rattle.scan_kernel.specs.Groups.{counts_of, size_of};
 ghost use Rattle.scan_kernel.specs.Scan.{AnswersLines};
 ghost use Rattle.ssb_questions.specs.Plan.{OrdersAllGroups};
@@ -13,9 +14,9 @@ ghost use Rattle.shared_scan.specs.TotalRows.{AreBatchRows};
 
 use crate::parts::Parts;
 use crate::ready::Ready;
+use crate::scan::Scan;
 use crate::sparse::sparse_rows;
-use dimension_index::FirstRows;
-use scan_kernel::{LineColumns, Masks, Totals, answer_rows};
+use scan_kernel::{Totals, answer_rows};
 use ssb_answers::{Plan, ResultRow, Rows, Value};
 use ssb_schema::Items;
 use std::alloc::{AllocError, Global};
@@ -83,14 +84,6 @@ fn dense_rows(alloc: Global, ready: &Ready, totals: &Totals) -> Result<Vec<Resul
     rows_of(alloc, &ready.plan, &ready.groups.columns, totals)
 }
 
-/// The lines that a batch goes over, and the masks of their rows.
-#[derive(Clone, Copy)]
-pub struct Scan<'a> {
-    pub index: &'a FirstRows,
-    pub lines: LineColumns<'a>,
-    pub masks: &'a Masks,
-}
-
 /// A question that is made ready, with its rows.
 pub fn question_rows(
     alloc: Global,
@@ -99,7 +92,7 @@ pub fn question_rows(
     number: usize,
     totals: &Totals,
 ) -> Result<Rows, AllocError>
-    requires few { number < 16 }
+    requires few { number < questions_a_pass }
     requires covers { CanSearch scan.lines scan.masks.now }
     requires can { CanAnswer scan.index.now scan.lines scan.masks.now number ready.now totals.now }
     ensures { IfOk result (AreRowsOf scan.entry.index.now scan.entry.lines scan.entry.masks.now number ready.now
@@ -107,18 +100,10 @@ pub fn question_rows(
 {
     let list = match &ready.groups.parts {
         Parts::Narrow(_) => dense_rows(alloc, ready, totals)?,
-        Parts::Wide(parts) => sparse_rows(
-            alloc,
-            scan.index,
-            &scan.lines,
-            scan.masks,
-            ready,
-            parts,
-            number,
-        )?,
+        Parts::Wide(parts) => sparse_rows(alloc, scan, ready, parts, number)?,
     };
     Ok(Rows {
-        query: ready.question.share()?,
+        question: ready.question.share()?,
         list: Items::from_vec(list),
     })
 }
@@ -131,7 +116,7 @@ pub fn batch_rows(
     totals: &[Totals],
 ) -> Result<Vec<Rows>, AllocError>
     requires len { length totals.now ≡ length all.now }
-    requires few { length all.now ≤ 16 }
+    requires few { length all.now ≤ questions_a_pass }
     requires covers { CanSearch scan.lines scan.masks.now }
     requires can { CanAnswerAll scan.index.now scan.lines scan.masks.now all.now totals.now }
     ensures { IfOk result (λ rows. AreBatchRows scan.entry.index.now scan.entry.lines scan.entry.masks.now all.now

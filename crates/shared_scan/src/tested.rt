@@ -28,13 +28,13 @@ fn passes_at(tests: &[Test], place: usize, value: ColumnValue<'_>) -> bool
 
 /// A value in a column of a dimension, which is given by its place.
 #[derive(Clone, Copy)]
-pub struct Cell<'a> {
+pub struct DimensionCell<'a> {
     pub table: Table,
     pub place: usize,
     pub value: ColumnValue<'a>,
 }
 
-impl Tested for Cell<'_> {
+impl Tested for DimensionCell<'_> {
     ghost use Rattle.ssb_questions.specs.Cond.{column_value};
     ghost use Rattle.shared_scan.specs.Tests.{passes_at, tests_of};
 
@@ -47,12 +47,12 @@ impl Tested for Cell<'_> {
 
 /// A line's quantity and discount.
 #[derive(Clone, Copy)]
-pub struct Terms {
+pub struct LineTerms {
     pub quantity: u8,
     pub discount: u8,
 }
 
-impl Tested for Terms {
+impl Tested for LineTerms {
     ghost use Rattle.std.specs.Prelude.{◌&&◌};
     ghost use Rattle.ssb_answers.specs.RowValues.{is_within};
 

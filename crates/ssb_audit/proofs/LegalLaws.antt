@@ -1,34 +1,6 @@
 -- Nothing speaks against a trace exactly where it is legal.
-use Rattle.std.proofs.Common.{
-  ◌≡◌,
-  ℕ,
-  zero,
-  suc,
-  ◌+◌,
-  ◌<◌,
-  ◌≤◌,
-  ◌⊎◌,
-  inl,
-  inr,
-  Bool,
-  true,
-  false,
-  List,
-  [],
-  ◌∷◌,
-  ◌++◌,
-  length,
-  take,
-  refl,
-  ap,
-  sym,
-  subst,
-  ◌∙◌,
-  arith,
-  add-one,
-  eqb-true,
-  eq-eqb,
-}
+use Rattle.std.proofs.Common.{◌≡◌, ℕ, zero, suc, ◌+◌, ◌<◌, ◌≤◌, ◌⊎◌, inl, inr, Bool, true, false, List, [], ◌∷◌, ◌++◌}
+use Rattle.std.proofs.Common.{length, take, refl, ap, sym, subst, ◌∙◌, arith, add-one, eqb-true, eq-eqb}
 use Rattle.std.specs.Prelude.{Option, Some, None, slice_get, nat_lt, find, if◌then◌else◌}
 use Rattle.std.specs.Option.{option_or, option_map, option_map_or}
 use Rattle.std.specs.Cmp.Lexicographic.{pointwise}
@@ -43,20 +15,8 @@ use Rattle.ssb_answers.specs.AnswerEqLaws.{row_Decides}
 use Rattle.row_store.specs.History.{CommitRecord}
 use Rattle.row_store.specs.Refusals.{refusal_of}
 use Rattle.ssb_audit.specs.Legal.{IsTrueOf, NeverGoBack, IsLegalTrace, NoFaultIsLegal}
-use Rattle.ssb_audit.specs.Traces.{
-  first_from,
-  commit_fault,
-  is_to,
-  turn_of,
-  last_of,
-  went_back,
-  order_fault,
-  rows_after,
-  rows_fault,
-  fault_after,
-  answer_fault,
-  trace_fault,
-}
+use Rattle.ssb_audit.specs.Traces.{first_from, commit_fault, is_to, turn_of, last_of, went_back, order_fault}
+use Rattle.ssb_audit.specs.Traces.{rows_after, rows_fault, fault_after, answer_fault, trace_fault}
 use Rattle.ssb_audit.specs.declared.fault.AuditFault.{AuditFault}
 use Rattle.ssb_audit.specs.declared.fault.AuditFault.TheVariants.{CommitRefused, WrongRows, WentBack, AtTooLarge}
 use Rattle.ssb_audit.specs.declared.trace.Told.{Told}

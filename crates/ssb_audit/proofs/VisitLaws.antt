@@ -1,27 +1,6 @@
 -- The visits to the answers of a trace.
-use Rattle.std.proofs.Common.{
-  ◌≡◌,
-  ℕ,
-  zero,
-  suc,
-  ◌+◌,
-  ◌<◌,
-  List,
-  [],
-  ◌∷◌,
-  ◌++◌,
-  length,
-  take,
-  map,
-  get_or,
-  refl,
-  ap,
-  sym,
-  subst,
-  ◌∙◌,
-  arith,
-  zero-add,
-}
+use Rattle.std.proofs.Common.{◌≡◌, ℕ, zero, suc, ◌+◌, ◌<◌, List, [], ◌∷◌, ◌++◌, length, take, map, get_or, refl, ap}
+use Rattle.std.proofs.Common.{sym, subst, ◌∙◌, arith, zero-add}
 use Rattle.std.specs.Prelude.{Option, Some, None, slice_get, All, Contains, IsPermutation}
 use Rattle.std.specs.List.{enumerate_from}
 use Rattle.std.proofs.lemmas.List.{take_more, get_or-map, length-take, length-map, map-append}

@@ -1,35 +1,6 @@
 -- The walk over the commits, batch by batch.
-use Rattle.std.proofs.Common.{
-  ◌≡◌,
-  ℕ,
-  zero,
-  suc,
-  ◌+◌,
-  ◌-◌,
-  ◌<◌,
-  ◌≤◌,
-  ◌⊎◌,
-  inl,
-  inr,
-  min,
-  Bool,
-  true,
-  false,
-  List,
-  [],
-  ◌∷◌,
-  length,
-  take,
-  drop,
-  get_or,
-  refl,
-  ap,
-  sym,
-  subst,
-  ◌∙◌,
-  arith,
-  zero-add,
-}
+use Rattle.std.proofs.Common.{◌≡◌, ℕ, zero, suc, ◌+◌, ◌-◌, ◌<◌, ◌≤◌, ◌⊎◌, inl, inr, min, Bool, true, false, List, []}
+use Rattle.std.proofs.Common.{◌∷◌, length, take, drop, get_or, refl, ap, sym, subst, ◌∙◌, arith, zero-add}
 use Rattle.std.specs.Prelude.{Option, Some, slice_get, slice_index_or, if◌then◌else◌, All, IsPermutation}
 use Rattle.std.specs.Option.{option_map}
 use Rattle.std.specs.List.{AllWithin}
@@ -45,18 +16,8 @@ use Rattle.ssb_answers.specs.declared.answer.Rows.{Rows}
 use Rattle.row_store.specs.History.{CommitRecord, lines_after}
 use Rattle.shared_scan.specs.Answers.{answers_after}
 use Rattle.ssb_audit.specs.Traces.{rows_after}
-use Rattle.ssb_audit.specs.Visits.{
-  visits_of,
-  IsIn,
-  AreAsked,
-  has_rows,
-  has_its_rows,
-  IsOther,
-  IsFirstOther,
-  IsWrongOf,
-  IsFirstWrongOf,
-  IsFirstWrong,
-}
+use Rattle.ssb_audit.specs.Visits.{visits_of, IsIn, AreAsked, has_rows, has_its_rows, IsOther, IsFirstOther, IsWrongOf}
+use Rattle.ssb_audit.specs.Visits.{IsFirstWrongOf, IsFirstWrong}
 use Rattle.ssb_audit.specs.declared.trace.Told.{Told}
 use Rattle.ssb_audit.specs.declared.visits.Visit.{Visit}
 use Rattle.ssb_audit.proofs.VisitLaws.{each_visited}
@@ -170,17 +131,17 @@ found_at : (base : Tables) (history : List CommitRecord) (questions : List (Quer
     (k : ℕ) (question : Query × List Value)
     → found ≡ answers_after base history questions → slice_get questions k ≡ Some question
     → slice_get found k ≡ Some (record {
-      query = question;
+      question = question;
       list = answer_of question base.dimensions (facts_of (lines_after base history));
     })
 found_at base history questions found k question is asked =
     ap (λ rows. slice_get rows k) is
     ∙ slice_get-map (λ (q : Query × List Value). record {
-      query = q;
+      question = q;
       list = answer_of q base.dimensions (facts_of (lines_after base history));
     }) questions k
     ∙ ap (option_map (λ (q : Query × List Value). record {
-      query = q;
+      question = q;
       list = answer_of q base.dimensions (facts_of (lines_after base history));
     })) asked
 
@@ -197,7 +158,7 @@ wrong_from_other base history answers visits questions found limit place asked i
         → slice_get answers visit.place ≡ Some told
         → visit.place < place → has_rows told (rows_after base history told) ≡ true
     right k visit told visited there less =
-        first.same k visit told (record { query = told.question; list = rows_after base history told })
+        first.same k visit told (record { question = told.question; list = rows_after base history told })
         (slice_get_within visits k visit visited) visited there
         (found_at base history questions found k told.question is (asked.each k visit told visited there)) less
 
@@ -205,9 +166,9 @@ wrong_from_other base history answers visits questions found limit place asked i
         ⊎ IsWrongOf base history answers visits place
     wrong (inl none) = inl none
     wrong (inr other) =
-        let same : other.rows ≡ record { query = other.told.question; list = rows_after base history other.told } =
+        let same : other.rows ≡ record { question = other.told.question; list = rows_after base history other.told } =
         one_at found other.k other.k other.rows (record
-        { query = other.told.question; list = rows_after base history other.told }) other.found_is
+        { question = other.told.question; list = rows_after base history other.told }) other.found_is
         (found_at base history questions found other.k other.told.question is
         (asked.each other.k other.visit other.told other.visited other.there)) refl in
         inr (record {

@@ -1,27 +1,6 @@
 -- What speaks against a trace.
-use Rattle.std.specs.Prelude.{
-  ◌≡◌,
-  ℕ,
-  ◌+◌,
-  ◌⊎◌,
-  Bool,
-  false,
-  ◌==◌,
-  nat_lt,
-  if◌then◌else◌,
-  List,
-  [],
-  ◌∷◌,
-  length,
-  take,
-  find,
-  reverse,
-  Option,
-  Some,
-  None,
-  Result,
-  MatchResult,
-}
+use Rattle.std.specs.Prelude.{◌≡◌, ℕ, ◌+◌, ◌⊎◌, Bool, false, ◌==◌, nat_lt, if◌then◌else◌, List, [], ◌∷◌, length, take}
+use Rattle.std.specs.Prelude.{find, reverse, Option, Some, None, Result, MatchResult}
 use Rattle.std.specs.List.{count_by}
 use Rattle.std.specs.Option.{option_or, option_map, option_map_or}
 use Rattle.std.specs.Cmp.Lexicographic.{pointwise}
@@ -35,13 +14,8 @@ use Rattle.row_store.specs.Refusals.{refusal_of}
 use Rattle.ssb_audit.specs.declared.trace.Told.{Told}
 use Rattle.ssb_audit.specs.declared.trace.Trace.{Trace}
 use Rattle.ssb_audit.specs.declared.fault.AuditFault.{AuditFault}
-use Rattle.ssb_audit.specs.declared.fault.AuditFault.TheVariants.{
-  CommitRefused,
-  WrongRows,
-  WentBack,
-  AtTooLarge,
-  OutOfMemory,
-}
+use Rattle.ssb_audit.specs.declared.fault.AuditFault.TheVariants.{CommitRefused, WrongRows, WentBack, AtTooLarge}
+use Rattle.ssb_audit.specs.declared.fault.AuditFault.TheVariants.{OutOfMemory}
 
 -- the first fault of a list whose elements are judged by their places, the first of which is given
 abbrev pub first_from : {X : Type 0} → (ℕ → X → Option AuditFault) → ℕ → List X → Option AuditFault

@@ -3,13 +3,12 @@
 ghost use Rattle.std.specs.Prelude.{◌≡◌, ◌+◌, ◌<◌, ◌≤◌, length, slice_index_or, IfOk, IsPermutation};
 ghost use Rattle.std.specs.List.{AllWithin};
 ghost use Rattle.std.specs.List.Sorted.{IsNonDecreasingBy};
+ghost use Rattle.scan_kernel.specs.Masks.{questions_a_pass};
 ghost use Rattle.ssb_audit.specs.Visits as spec;
 
 use crate::trace::Told;
+use scan_kernel::QUESTIONS_A_PASS;
 use std::alloc::{AllocError, Global};
-
-// The most questions of one pass.
-const MOST_QUESTIONS: usize = 16;
 
 /// A visit to an answer: after how many commits, and the answer's place in the trace, counted from 0.
 #[derive(Clone, Copy)]
@@ -31,17 +30,18 @@ pub(crate) fn visits_of(alloc: Global, answers: &[Told]) -> Result<Vec<Visit>, A
     Ok(visits)
 }
 
-/// The end of the batch that begins with a visit: those that follow it at the same number of commits, up to 16 in all.
+/// The end of the batch that begins with a visit: those that follow it at the same number of commits, as many as one
+/// pass answers.
 pub(crate) fn batch_end(visits: &[Visit], begin: usize) -> usize
     requires { begin < length visits.now }
     ensures some { begin < result }
-    ensures most { result ≤ begin + 16 }
+    ensures most { result ≤ begin + questions_a_pass }
     ensures within { result ≤ length visits.now }
     ensures same { (first : Visit)
         → AllWithin (λ visit. visit.at ≡ (slice_index_or visits.now begin first).at) visits.now begin result }
 {
     let at = visits[begin].at;
-    let most = begin + (visits.len() - begin).min(MOST_QUESTIONS);
+    let most = begin + (visits.len() - begin).min(QUESTIONS_A_PASS);
     for end in begin + 1..most {
         if visits[end].at != at {
             return end;

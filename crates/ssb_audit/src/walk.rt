@@ -7,6 +7,7 @@ ghost use Rattle.row_store.specs.History.{CommitRecord};
 ghost use Rattle.row_store.specs.Legal.{IsLegal};
 ghost use Rattle.row_store.specs.State.{StandsFor, state_of};
 ghost use Rattle.fact_columns.specs.Stored.{columns_state};
+ghost use Rattle.scan_kernel.specs.Masks.{questions_a_pass};
 ghost use Rattle.shared_scan.specs.Answers.{AreSnapshot};
 ghost use Rattle.ssb_audit.specs.Visits as spec;
 ghost use Rattle.ssb_audit.specs.Visits.{IsIn, AreAsked, has_rows, IsFirstOther, IsFirstWrongOf, IsFirstWrong};
@@ -75,7 +76,7 @@ fn check_batch<R: Threads + Sync>(
     visits: &[Visit],
     limit: usize,
 ) -> Result<usize, AllocError>
-    requires few { length visits.now ≤ 16 }
+    requires few { length visits.now ≤ questions_a_pass }
     requires answers { All (IsIn answers.now) visits.now }
     requires snapshot { AreSnapshot columns.now }
     ensures { (history : List CommitRecord) → StandsFor (columns_state columns.now) history

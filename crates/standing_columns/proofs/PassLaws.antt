@@ -12,7 +12,7 @@ use Rattle.row_store.specs.History.{CommitRecord, lines_after}
 -- a question with its rows after a history
 abbrev pub row_of : Tables → List CommitRecord → Query × List Value → Rows
 row_of base history question = record {
-  query = question;
+  question = question;
   list = answer_of question base.dimensions (facts_of (lines_after base history));
 }
 

@@ -9,8 +9,9 @@ ghost use Rattle.shared_scan.specs.Answers.{AreSnapshot, answers_after};
 ghost use Rattle.standing_columns.specs.Standing.{AllFollow, stands};
 
 use crate::columns::StandingColumns;
-use crate::questions::{QUESTIONS_A_PASS, StandingQuestions};
+use crate::questions::StandingQuestions;
 use fact_columns::Columns;
+use scan_kernel::QUESTIONS_A_PASS;
 use ssb_answers::{Question, Rows};
 use std::alloc::{AllocError, Global};
 use std::thread::Threads;

@@ -1,4 +1,4 @@
-//! Standing questions, in batches of at most sixteen.
+//! Standing questions, in batches.
 ghost use Rattle.std.specs.Prelude.{◌≡◌, ℕ, ◌==◌, List, All, Err, IfOk, IfSome, count_by, is_some, vec_len};
 ghost use Rattle.ssb_base.specs.Base.{Tables};
 ghost use Rattle.ssb_schema.specs.Facts.{facts_of};
@@ -18,14 +18,12 @@ ghost use Rattle.standing_columns.specs.Standing.{AllFollow, each_once, place_of
 use crate::once::each_once;
 use dimension_index::DimIndex;
 use fact_columns::{Columns, ScannedLine, Watch};
+use scan_kernel::QUESTIONS_A_PASS;
 use shared_scan::{Standing, StandingError};
 use ssb_answers::{Question, Rows};
 use std::alloc::{AllocError, Global};
 use std::sync::Arc;
 use std::thread::Threads;
-
-/// The most questions of one batch, and of one pass over the columns: one bit of a mask for each.
-pub(crate) const QUESTIONS_A_PASS: usize = 16;
 
 /// Questions that stand, with their totals over some lines. As a watch they follow the lines that come and go.
 #[derive(Drop)]
@@ -42,7 +40,7 @@ fn place_of(asked: &[Question], question: &Question) -> Option<usize>
 
 impl StandingQuestions {
     /// The questions, of equal ones the first, with their totals over the live lines of columns, by a pass for each
-    /// sixteen of them. The first question that has more than 65,536 groups is an error.
+    /// batch of them. The first question that has more than 65,536 groups is an error.
     pub fn new<R: Threads + Sync>(
         rt: &R,
         alloc: Global,
@@ -130,7 +128,7 @@ impl StandingQuestions {
         ensures stands { IfOk result (λ found. is_some found ≡ stands self.now question.now) }
         ensures rows { (history : List CommitRecord) → StandsFor (columns_state columns.now) history
             → IfOk result (λ found. IfSome found (λ rows. rows ≡ record {
-              query = question.now;
+              question = question.now;
               list = answer_of question.now columns.now.base.dimensions
                   (facts_of (lines_after columns.now.base history));
             })) }

@@ -3,7 +3,7 @@ use Rattle.std.proofs.lemmas.List.{length-map}
 use Rattle.std.proofs.lemmas.List.FromFn.{length-map-range_with_len}
 use Rattle.dimension_index.specs.Codes.{codes_of}
 use Rattle.dimension_index.specs.Classes.{classes_by}
-use Rattle.dimension_index.specs.Told.{Told, told_rows, first_in}
+use Rattle.dimension_index.specs.Told.{RowCodes, told_rows, first_in}
 use Rattle.dimension_index.proofs.ClassLaws.{classes_told}
 use Rattle.dimension_index.proofs.classes.classes_by.Goals as goal
 
@@ -24,6 +24,6 @@ returns c =
     c.deref.ensures.value ∙ c.in_ok-rows.ensures ∙ (λ i. told_rows (c.codes.ensures i) (c.codes-2.ensures i)
     (c.codes-3.ensures i) (c.codes-4.ensures i)) in
     let same : map (first_in c.deref.result.now) c.deref.result.now ≡ classes_by (a ∷ b ∷ d ∷ e ∷ []) (length a) =
-    ap (λ (l : List Told). map (first_in l) l) rows ∙ classes_told a b d e c.requires.second c.requires.third
+    ap (λ (l : List RowCodes). map (first_in l) l) rows ∙ classes_told a b d e c.requires.second c.requires.third
     c.requires.fourth in
     subst (λ (l : List ℕ). IfOk c.first_places.result (λ v. v.items ≡ l)) same c.first_places.ensures

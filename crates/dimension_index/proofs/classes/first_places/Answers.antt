@@ -3,15 +3,15 @@ use Rattle.std.specs.Prelude.{if◌then◌else◌}
 use Rattle.std.specs.Option.{option_or}
 use Rattle.std.proofs.lemmas.List.{map_more}
 use Rattle.std.proofs.lemmas.Option.{get_or_from_slice_get}
-use Rattle.dimension_index.specs.Told.{Told, same_told, first_in}
+use Rattle.dimension_index.specs.Told.{RowCodes, same_told, first_in}
 use Rattle.dimension_index.proofs.ClassLaws.{first_known, noted_more}
 use Rattle.dimension_index.proofs.classes.first_places.Goals as goal
 
 pub loop-row-preserved : goal.loop-row-preserved
 loop-row-preserved c =
-    let rows : List Told = c.args.rows.now in
+    let rows : List RowCodes = c.args.rows.now in
     let row : ℕ = c.loop-row.row in
-    let told : Told = c.row_at-told.result in
+    let told : RowCodes = c.row_at-told.result in
     let within = c.loop-row-test.true in
     let is : told ≡ get_or rows row told = sym (get_or_from_slice_get rows row told told (sym c.row_at-told.ensures)) in
     let place : c.in_ok-place.place ≡ first_in rows told =

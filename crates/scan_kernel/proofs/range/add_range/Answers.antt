@@ -1,5 +1,6 @@
 use Rattle.std.proofs.Common.{◌≡◌, ℕ, ◌-◌, ◌≤◌, arith, subst}
 use Rattle.std.specs.List.{range_with_len}
+use Rattle.scan_kernel.specs.Room.{chunk_size}
 use Rattle.scan_kernel.specs.Totals.{AddsBatch}
 use Rattle.scan_kernel.proofs.BatchLaws.{batch_none, batch_on}
 use Rattle.scan_kernel.proofs.range.add_range.Goals as goal
@@ -17,7 +18,7 @@ loop-at-preserved c =
     record {
       order = omega (arith, old.order);
       within = inside;
-      room = c.add_chunk.ensures.room 2048 old.room;
+      room = c.add_chunk.ensures.room chunk_size old.room;
       sizes = c.add_chunk.ensures.sizes;
       added = batch_on c.args.input.lines.now c.args.input.masks.now c.args.input.groupings.now c.args.from at end
           c.args.totals.now

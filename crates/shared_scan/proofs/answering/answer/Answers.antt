@@ -5,7 +5,9 @@ use Rattle.shared_scan.specs.Answers.{Prepared, answers_after}
 use Rattle.shared_scan.proofs.answering.answer.Goals as goal
 
 pub returns : goal.returns
-returns g c = λ history stands.
-    let P : Prepared → Type 0 = λ p. StandsFor (columns_state p.columns) history
-    → IfOk c.scan.result (λ rows. rows.items ≡ answers_after p.columns.base history p.questions) in
-    subst P c.in_ok-batch.ensures (c.scan.ensures history) stands
+returns g c = record {
+  answers = λ history stands.
+      let P : Prepared → Type 0 = λ p. StandsFor (columns_state p.columns) history
+      → IfOk c.scan.result (λ rows. rows.items ≡ answers_after p.columns.base history p.questions) in
+      subst P c.in_ok-batch.ensures.prepared (c.scan.ensures.answers history) stands;
+}

@@ -29,21 +29,21 @@ sparse_columns-requires c =
     let ready = c.args.ready.now in
     let prepared = c.requires.scanned.is_ready.prepared in
     ap length (sym c.requires.parts)
-    ∙ (prepared_lengths c.args.index.now c.args.masks.now c.args.number ready.plan.groups ready.groups.columns.items 1
-    _ prepared).1 ∙ sym (ap length c.as_slice.ensures)
+    ∙ (prepared_lengths c.args.scan.index.now c.args.scan.masks.now c.args.number ready.plan.groups
+    ready.groups.columns.items 1 _ prepared).1 ∙ sym (ap length c.as_slice-groups.ensures)
 
 pub sparse_totals-requires-clause-columns : goal.sparse_totals-requires-clause-columns
 sparse_totals-requires-clause-columns c =
     let ready = c.args.ready.now in
     let of = c.requires.scanned in
     let groups = as_group_columns c.in_ok-columns.columns.items in
-    let P : List (List ℕ) → Type 0 = λ ps. AreGroupColumns c.args.index.now c.args.lines.now ready.plan.groups ps groups
-    in
-    let made : P c.args.parts.now = rw c.as_slice.ensures at c.in_ok-columns.ensures in
-    let can = can_group c.args.index.now c.args.masks.now c.args.number of.places c.args.lines.now of.plans
+    let P : List (List ℕ) → Type 0 = λ ps. AreGroupColumns c.args.scan.index.now c.args.scan.lines ready.plan.groups ps
+    groups in
+    let made : P c.args.parts.now = rw c.as_slice-groups.ensures at c.in_ok-columns.ensures in
+    let can = can_group c.args.scan.index.now c.args.scan.masks.now c.args.number of.places c.args.scan.lines of.plans
     ready.question ready groups of.sound of.within of.are of.at_k of.tell of.is_ready
     (subst P (sym c.requires.parts) made) in
-    rw c.deref.ensures.value (all_unmapped (CanNumber (length c.args.lines.now.customer.now))
+    rw c.deref.ensures.value (all_unmapped (CanNumber (length c.args.scan.lines.customer.now))
     c.in_ok-columns.columns.items can.0)
 
 pub sparse_totals-requires-clause-groups : goal.sparse_totals-requires-clause-groups
@@ -51,26 +51,26 @@ sparse_totals-requires-clause-groups c =
     let ready = c.args.ready.now in
     let of = c.requires.scanned in
     let groups = as_group_columns c.in_ok-columns.columns.items in
-    let P : List (List ℕ) → Type 0 = λ ps. AreGroupColumns c.args.index.now c.args.lines.now ready.plan.groups ps groups
-    in
-    let made : P c.args.parts.now = rw c.as_slice.ensures at c.in_ok-columns.ensures in
-    let can = can_group c.args.index.now c.args.masks.now c.args.number of.places c.args.lines.now of.plans
+    let P : List (List ℕ) → Type 0 = λ ps. AreGroupColumns c.args.scan.index.now c.args.scan.lines ready.plan.groups ps
+    groups in
+    let made : P c.args.parts.now = rw c.as_slice-groups.ensures at c.in_ok-columns.ensures in
+    let can = can_group c.args.scan.index.now c.args.scan.masks.now c.args.number of.places c.args.scan.lines of.plans
     ready.question ready groups of.sound of.within of.are of.at_k of.tell of.is_ready
     (subst P (sym c.requires.parts) made) in
     rw c.deref.ensures.value can.1
 
 pub list_groups-requires : goal.list_groups-requires
 list_groups-requires c = λ g sums at.
-    let base = c.args.index.now in
-    let lines = c.args.lines.now in
-    let masks = c.args.masks.now in
+    let base = c.args.scan.index.now in
+    let lines = c.args.scan.lines in
+    let masks = c.args.scan.masks.now in
     let k = c.args.number in
     let ready = c.args.ready.now in
     let of = c.requires.scanned in
     let totals = c.in_ok-totals.totals in
     let groups = as_group_columns c.in_ok-columns.columns.items in
     let P : List (List ℕ) → Type 0 = λ ps. AreGroupColumns base lines ready.plan.groups ps groups in
-    let made : P c.args.parts.now = rw c.as_slice.ensures at c.in_ok-columns.ensures in
+    let made : P c.args.parts.now = rw c.as_slice-groups.ensures at c.in_ok-columns.ensures in
     let grouped = is_grouping base masks k lines ready.question ready groups of.is_ready
     (subst P (sym c.requires.parts) made) in
     let are : AreSparseTotals lines ready.plan.measure groups
@@ -98,7 +98,7 @@ pub answer_sparse-requires-clause-columns : goal.answer_sparse-requires-clause-c
 answer_sparse-requires-clause-columns c =
     let ready = c.args.ready.now in
     let is = c.requires.scanned.is_ready in
-    ap length c.deref-2.ensures.value ∙ (prepared_lengths c.args.index.now c.args.masks.now c.args.number
+    ap length c.deref-2.ensures.value ∙ (prepared_lengths c.args.scan.index.now c.args.scan.masks.now c.args.number
     ready.plan.groups ready.groups.columns.items 1 _ is.prepared).0
 
 pub answer_sparse-requires-clause-ordered : goal.answer_sparse-requires-clause-ordered
@@ -119,9 +119,9 @@ answer_sparse-requires-clause-below c =
 
 pub returns : goal.returns
 returns c =
-    let base = c.args.index.now in
-    let lines = c.args.lines.now in
-    let masks = c.args.masks.now in
+    let base = c.args.scan.index.now in
+    let lines = c.args.scan.lines in
+    let masks = c.args.scan.masks.now in
     let k = c.args.number in
     let ready = c.args.ready.now in
     let of = c.requires.scanned in
@@ -129,7 +129,7 @@ returns c =
     let columns : List (List Value) = ready.groups.columns.items in
     let groups = as_group_columns c.in_ok-columns.columns.items in
     let P : List (List ℕ) → Type 0 = λ ps. AreGroupColumns base lines ready.plan.groups ps groups in
-    let made : P c.args.parts.now = rw c.as_slice.ensures at c.in_ok-columns.ensures in
+    let made : P c.args.parts.now = rw c.as_slice-groups.ensures at c.in_ok-columns.ensures in
     let grouped = is_grouping base masks k lines ready.question ready groups of.is_ready
     (subst P (sym c.requires.parts) made) in
     let are : AreSparseTotals lines ready.plan.measure groups

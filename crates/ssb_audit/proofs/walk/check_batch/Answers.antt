@@ -13,5 +13,5 @@ returns g c history stands =
     c.as_slice-2.ensures.value c.first_other.ensures in
     wrong_from_other c.args.columns.now.base history answers visits c.in_ok-questions.questions.items found c.args.limit
     c.first_other.result c.in_ok-questions.ensures
-    (c.in_ok-found.ensures history stands ∙ ap (answers_after c.args.columns.now.base history) c.as_slice.ensures.value)
+    (c.in_ok-found.ensures.answers history stands ∙ ap (answers_after c.args.columns.now.base history) c.as_slice.ensures.value)
     first

@@ -22,16 +22,18 @@ scan_lines-requires g c =
     )
 
 pub returns : goal.returns
-returns g c = λ history stands.
-    let columns = c.self.inside.columns.now in
-    let P : Prepared → Type 0 = λ p. AreOfBase p.columns.base columns.places
-    → IfOk c.scan_lines.result (λ rows. rows.items ≡ answers_over p.columns.base.dimensions
-    (live_facts p.columns.base.dimensions columns.places) p.questions) in
-    let answered = subst P (sym c.self.view_is)
-    (c.scan_lines.ensures columns.places c.line_columns.ensures.columns)
-    (of_base columns c.line_columns.ensures.read c.self.invariant.small) in
-    let Q : Prepared → Type 0 = λ p. StandsFor (columns_state p.columns) history
-    → IfOk c.scan_lines.result (λ rows. rows.items ≡ answers_after p.columns.base history p.questions) in
-    subst Q c.self.view_is (λ own. if_ok_then c.scan_lines.result _ _ answered
-    (λ rows is. is ∙ answers_of_history columns history (questions_of c.self.inside.questions.items)
-    c.line_columns.ensures.read own)) stands
+returns g c = record {
+  answers = λ history stands.
+      let columns = c.self.inside.columns.now in
+      let P : Prepared → Type 0 = λ p. AreOfBase p.columns.base columns.places
+      → IfOk c.scan_lines.result (λ rows. rows.items ≡ answers_over p.columns.base.dimensions
+      (live_facts p.columns.base.dimensions columns.places) p.questions) in
+      let answered = subst P (sym c.self.view_is)
+      (c.scan_lines.ensures columns.places c.line_columns.ensures.columns)
+      (of_base columns c.line_columns.ensures.read c.self.invariant.small) in
+      let Q : Prepared → Type 0 = λ p. StandsFor (columns_state p.columns) history
+      → IfOk c.scan_lines.result (λ rows. rows.items ≡ answers_after p.columns.base history p.questions) in
+      subst Q c.self.view_is (λ own. if_ok_then c.scan_lines.result _ _ answered
+      (λ rows is. is ∙ answers_of_history columns history (questions_of c.self.inside.questions.items)
+      c.line_columns.ensures.read own)) stands;
+}

@@ -26,7 +26,7 @@ parallel_totals-requires-clause-covers g c = λ κs within.
     let columns = c.args.columns.now in
     let inside = c.batch.inside in
     let same : inside.columns.now ≡ columns = ap (λ (p : Prepared). p.columns)
-    (c.batch.view_is ∙ c.in_ok-batch.ensures) in
+    (c.batch.view_is ∙ c.in_ok-batch.ensures.prepared) in
     let S : Stored → Type 0 = λ s. length s.facts ≤ 33554432 in
     let V : Stored → Type 0 = λ s. CoverRows (reduced s.base).dimensions inside.masks in
     scan_searches columns.base columns.places c.line_columns-lines.result inside.masks
@@ -41,7 +41,7 @@ parallel_totals-requires-clause-can_sum g c = λ κs within.
     let lines = c.line_columns-lines.result in
     let groupings = c.in_ok-groupings.groupings.items in
     let same : inside.columns.now ≡ columns = ap (λ (p : Prepared). p.columns)
-    (c.batch.view_is ∙ c.in_ok-batch.ensures) in
+    (c.batch.view_is ∙ c.in_ok-batch.ensures.prepared) in
     let first : c.first_rows-rows.result.now ≡ reduced columns.base = c.first_rows-rows.ensures
     ∙ ap reduced (c.deref-2.ensures ∙ c.requires.base) in
     let S : Stored → Type 0 = λ s. length s.facts ≤ 33554432 in
@@ -63,7 +63,7 @@ returns-clause-follows g c =
     let groupings = c.in_ok-groupings.groupings.items in
     let totals : List Totals = c.in_ok-totals.totals.items in
     let same : inside.columns.now ≡ columns = ap (λ (p : Prepared). p.columns)
-    (c.batch.view_is ∙ c.in_ok-batch.ensures) in
+    (c.batch.view_is ∙ c.in_ok-batch.ensures.prepared) in
     let first : c.first_rows-rows.result.now ≡ reduced columns.base = c.first_rows-rows.ensures
     ∙ ap reduced (c.deref-2.ensures ∙ c.requires.base) in
     let S : Stored → Type 0 = λ s. length s.facts ≤ 33554432 in
