@@ -22,8 +22,8 @@ use Rattle.history.specs.declared.view.SlotValue.TheVariants.{Writer}
 use Rattle.history_core.specs.OwnCommits.{IsOfClients}
 use Rattle.history_core.specs.declared.event.Who.{Who}
 use Rattle.history_core.specs.declared.event.Who.TheVariants.{Dispatcher}
-use Rattle.history_core.specs.declared.event.Reply.{Reply}
-use Rattle.history_core.specs.declared.event.Reply.TheVariants.{NotEnabled}
+use Rattle.history_core.specs.declared.event.EventReply.{EventReply}
+use Rattle.history_core.specs.declared.event.EventReply.TheVariants.{NotEnabled}
 use Rattle.history_core.specs.Events.{Questions, Event}
 use Rattle.history_core.specs.declared.mailbox.Mailbox.{Mailbox}
 use Rattle.history_core.specs.declared.mailbox.Mailbox.TheVariants.{Empty as empty, Asked as asked, InHand as in_hand}
@@ -75,7 +75,7 @@ apart_from : (key : Terms) (place p : ℕ) (me who : Who) → me ≡ who_at key.
 apart_from key place p me who is is' other e = other (who_same key.clients p place (sym is' ∙ (e ∙ is)))
 
 -- a member did one event more
-pub told_more : (deeds : List Deed) (w w' : World) (m m' : Member) (event : Event) (reply : Reply)
+pub told_more : (deeds : List Deed) (w w' : World) (m m' : Member) (event : Event) (reply : EventReply)
     → IsTold deeds w m → m'.who ≡ m.who → actor_of event ≡ m.who → part_of w' m.who ≡ Some (part m')
     → m'.did ≡ m.did ++ record { event = event; reply = reply } ∷ []
     → IsTold (deeds ++ record { event = event; reply = reply } ∷ []) w' m'
@@ -119,7 +119,7 @@ module _ {W : Type 0} where
       pub vacant : (p : ℕ) → p ≢ place → IsUnopened homes w p → IsUnopened homes' w' p
 
   -- an event that changes no mailbox, with a change of the slot of a part
-  pub part_grows : (deeds : List Deed) (w : World) (event : Event) (reply : Reply) (me : Who) (p : Part)
+  pub part_grows : (deeds : List Deed) (w : World) (event : Event) (reply : EventReply) (me : Who) (p : Part)
       (holder : Option Who) (taker : Option ℕ) (log : List CommitRecord)
       (s : PartStepped w event reply me p holder taker log) (homes : Homes W) (k : ℕ) (y : maybe.Option (Slot W))
       (place : ℕ) → k < 2 → actor_of event ≡ me → IsPrefix w.history log
@@ -328,7 +328,8 @@ module _ {W : Type 0} (base_of : W → Tables) (taken : W → List CommitRecord)
 
   -- the rule after an event that changes no mailbox, where the stepping member changed to this one
   part_rule : (s : State (Slot W) View) (r : ShowsWorld base_of taken key s) (id place : ℕ) (v : View)
-      → get_elem? s.views id ≡ some v → v.role ≡ Token place → (event : Event) (reply : Reply) (holder : Option Who)
+      → get_elem? s.views id ≡ some v → v.role ≡ Token place → (event : Event) (reply : EventReply)
+      (holder : Option Who)
       (taker : Option ℕ) (log : List CommitRecord) (m' : Member)
       (did : PartStepped r.1 event reply v.member.who (part m') holder taker log)
       (i x k : ℕ) (y : maybe.Option (Slot W)) (holds holds' : Bool) (beside : List (List CommitRecord))
@@ -376,7 +377,8 @@ module _ {W : Type 0} (base_of : W → Tables) (taken : W → List CommitRecord)
 
   -- where it is an event on the rows
   pub rows_rule : (s : State (Slot W) View) (r : ShowsWorld base_of taken key s) (id place : ℕ) (v : View)
-      → get_elem? s.views id ≡ some v → v.role ≡ Token place → (event : Event) (reply : Reply) (holder : Option Who)
+      → get_elem? s.views id ≡ some v → v.role ≡ Token place → (event : Event) (reply : EventReply)
+      (holder : Option Who)
       (log : List CommitRecord) (m' : Member)
       (did : PartStepped r.1 event reply v.member.who (part m') holder r.1.writer log)
       (x : ℕ) (y : maybe.Option (Slot W)) (holds : Bool) (beside : List (List CommitRecord))
@@ -410,7 +412,7 @@ module _ {W : Type 0} (base_of : W → Tables) (taken : W → List CommitRecord)
 
   -- and where it is one on the writer
   pub writer_rule : (s : State (Slot W) View) (r : ShowsWorld base_of taken key s) (id place : ℕ) (v : View)
-      → get_elem? s.views id ≡ some v → v.role ≡ Token place → (event : Event) (reply : Reply) (taker : Option ℕ)
+      → get_elem? s.views id ≡ some v → v.role ≡ Token place → (event : Event) (reply : EventReply) (taker : Option ℕ)
       (m' : Member) (did : PartStepped r.1 event reply v.member.who (part m') r.1.rows taker r.1.history)
       (x : ℕ) (y : maybe.Option (Slot W)) (holds : Bool) (beside : List (List CommitRecord))
       → reply ≢ NotEnabled → actor_of event ≡ v.member.who

@@ -20,8 +20,8 @@ use Rattle.history_core.specs.declared.response.Response.TheVariants.{Rows, Unse
 use Rattle.row_store.specs.History.{CommitRecord, IsPrefix}
 use Rattle.history_core.specs.declared.event.Who.{Who}
 use Rattle.history_core.specs.declared.event.Who.TheVariants.{Client, Dispatcher}
-use Rattle.history_core.specs.declared.event.Reply.{Reply}
-use Rattle.history_core.specs.declared.event.Reply.TheVariants.{NotEnabled, Done, Asked as Told}
+use Rattle.history_core.specs.declared.event.EventReply.{EventReply}
+use Rattle.history_core.specs.declared.event.EventReply.TheVariants.{NotEnabled, Done, Asked as Told}
 use Rattle.history_core.specs.Events.{Questions, Event, Post, Grab, Answer as Answering, GiveUp, Collect}
 use Rattle.history_core.specs.declared.mailbox.Mailbox.{Mailbox}
 use Rattle.history_core.specs.declared.mailbox.Mailbox.TheVariants.{Empty as empty, Asked as asked, InHand as in_hand}
@@ -101,7 +101,7 @@ module _ {W : Type 0} where
 
   -- a mailbox that the stepping member may change: its own, or one that is not empty and keeps its request; and no
   -- other has it in hand
-  box_grows : (deeds : List Deed) (w : World) (event : Event) (reply : Reply) (me : Who) (m' : Member) (client : ℕ)
+  box_grows : (deeds : List Deed) (w : World) (event : Event) (reply : EventReply) (me : Who) (m' : Member) (client : ℕ)
       (old box : Mailbox) (did : BoxStepped w event reply me (part m') (client + 1) box) (homes : Homes W)
       (y : maybe.Option (Slot W)) (place : ℕ) → actor_of event ≡ me → mailbox_at w (client + 1) ≡ Some old
       → (client ≡ place) ⊎ (((o : Option PostedRequest) → Asks o old → Asks o box) × (old ≢ empty))
@@ -155,7 +155,7 @@ module _ {W : Type 0} (base_of : W → Tables) (taken : W → List CommitRecord)
 
   -- the rule after an event that changes a client's mailbox, where the stepping member changed to this one
   box_rule : (s : State (Slot W) View) (r : Rule s) (id place : ℕ) (v : View) → get_elem? s.views id ≡ some v
-      → v.role ≡ Token place → (event : Event) (reply : Reply) (m' : Member) (client : ℕ) (old box : Mailbox)
+      → v.role ≡ Token place → (event : Event) (reply : EventReply) (m' : Member) (client : ℕ) (old box : Mailbox)
       (did : BoxStepped r.1 event reply v.member.who (part m') (client + 1) box) (x : ℕ) (y : maybe.Option (Slot W))
       (posted' : Option PostedRequest) (grabbed' : List Held) (beside' : List (List CommitRecord))
       → reply ≢ NotEnabled → actor_of event ≡ v.member.who → client < key.clients

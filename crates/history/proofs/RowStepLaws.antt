@@ -20,7 +20,7 @@ use Rattle.history.specs.declared.view.Role.TheVariants.{Token}
 use Rattle.history.specs.declared.view.View.{View}
 use Rattle.history_core.specs.declared.event.Who.{Who}
 use Rattle.history_core.specs.declared.event.Who.TheVariants.{Client}
-use Rattle.history_core.specs.declared.event.Reply.TheVariants.{Done, Committed, Length}
+use Rattle.history_core.specs.declared.event.EventReply.TheVariants.{Done, Committed, Length}
 use Rattle.history_core.specs.Events.{TakeRows, PutRows, Look}
 use Rattle.history_core.specs.World.{World}
 use Rattle.history_core.specs.Kept.{WorldKept}

@@ -17,7 +17,7 @@ use Rattle.history.specs.declared.view.View.{View}
 use Rattle.history.specs.declared.view.SlotValue.TheVariants.{Writer}
 use Rattle.history_core.specs.declared.event.Who.{Who}
 use Rattle.history_core.specs.declared.event.Who.TheVariants.{Dispatcher}
-use Rattle.history_core.specs.declared.event.Reply.TheVariants.{Done}
+use Rattle.history_core.specs.declared.event.EventReply.TheVariants.{Done}
 use Rattle.history_core.specs.Events.{TakeWriter, PutWriter}
 use Rattle.history_core.specs.World.{World}
 use Rattle.history_core.specs.Parts.{part_of}

@@ -5,8 +5,8 @@ use Rattle.history_core.specs.declared.response.Response.TheVariants.{Rows, Unse
 use Rattle.row_store.specs.History.{CommitRecord}
 use Rattle.history_core.specs.declared.event.Who.{Who}
 use Rattle.history_core.specs.declared.event.Who.TheVariants.{Client, Dispatcher}
-use Rattle.history_core.specs.declared.event.Reply.{Reply}
-use Rattle.history_core.specs.declared.event.Reply.TheVariants as told
+use Rattle.history_core.specs.declared.event.EventReply.{EventReply}
+use Rattle.history_core.specs.declared.event.EventReply.TheVariants as told
 use Rattle.history_core.specs.Events.{Event}
 use Rattle.history_core.specs.Events as event
 use Rattle.history_core.specs.Parts.{Part, mark_after}
@@ -27,7 +27,7 @@ newcomer clients place =
 
 -- what each event changes of the member that acts
 
-abbrev pub with_deed : Event → Reply → Member → Member
+abbrev pub with_deed : Event → EventReply → Member → Member
 with_deed what reply m = record m { did = m.did ++ record { event = what; reply = reply } ∷ [] }
 
 abbrev pub takes_rows : List CommitRecord → Member → Member
@@ -71,7 +71,7 @@ answers client request reply m =
     record m { given = m.given ++ given_to (client + 1) request reply ∷ [] }
 
 -- what a client is told that collects this answer
-abbrev pub told_by : Response → Reply
+abbrev pub told_by : Response → EventReply
 told_by (Rows questions at found) = told.Rows questions at found
 told_by (Unserved questions cause) = told.Unserved questions cause
 

@@ -1,4 +1,5 @@
 -- What a token and a table keep.
+use Rattle.history_core.specs.Counts.{most_clients}
 use Rattle.std.specs.Prelude.{◌≡◌, ℕ, ◌+◌, ◌<◌, ◌≤◌, Bool, true, false, All, nat_lt, if◌then◌else◌, List, [], ◌∷◌}
 use Rattle.std.specs.Prelude.{map, length, Option, Some, None}
 use Rattle.atomic_table.specs.Seated.{TableId}
@@ -85,7 +86,7 @@ module _ {W : Type 0} where
     pub carried : p.seat.me.1
         ≡ hands 0 p.seat.me.0.holds_rows (hands 1 p.seat.me.0.holds_writer (boxes p.seat.me.0 p.place))
     pub in_hand : IsInHand p.seat.me.0 p.place
-    pub few : p.seat.me.0.terms.clients ≤ 16
+    pub few : p.seat.me.0.terms.clients ≤ most_clients
     pub near : All (λ (h : Held). h.place < p.seat.me.0.terms.clients) p.seat.me.0.grabbed
     pub apart : AreApart p.seat.me.0.grabbed
     pub gathered : p.seat.me.0.gathered ≡ []

@@ -11,8 +11,8 @@ use Rattle.row_store.specs.Refusals.{refusal_of}
 use Rattle.row_store.specs.Legal.{IsLegal}
 use Rattle.history_core.specs.declared.event.Who.{Who}
 use Rattle.history_core.specs.declared.event.Who.TheVariants.{Client, Dispatcher}
-use Rattle.history_core.specs.declared.event.Reply.{Reply}
-use Rattle.history_core.specs.declared.event.Reply.TheVariants.{Done, Committed, Length, Asked as Asks}
+use Rattle.history_core.specs.declared.event.EventReply.{EventReply}
+use Rattle.history_core.specs.declared.event.EventReply.TheVariants.{Done, Committed, Length, Asked as Asks}
 use Rattle.history_core.specs.Events.{Questions}
 use Rattle.history_core.specs.OwnCommits.{IsOfClients}
 use Rattle.history_core.specs.Events.{Event}
@@ -94,7 +94,7 @@ pub record IsSound (t : TokenRecord) : Type 0 where
   pub owns : Owns t.who t.mine t.seen
 
 -- the token's record with one event more, and its reply
-abbrev pub did_more : TokenRecord → Event → Reply → List Deed
+abbrev pub did_more : TokenRecord → Event → EventReply → List Deed
 did_more t event reply = t.did ++ record { event = event; reply = reply } ∷ []
 
 -- the token has looked: what it sees begins with what it had seen and with what it had beside that

@@ -1,12 +1,12 @@
 //! What a client or a dispatcher did at the table, and what it was told. Contracts alone speak of it; no value is made.
 
-use history_core::{Event, Reply};
+use history_core::{Event, EventReply};
 use std::marker::Model;
 
 /// An event of the protocol, and the reply to it.
 pub struct Deed {
     event: Event,
-    reply: Reply,
+    reply: EventReply,
 }
 
 impl Model for Deed {

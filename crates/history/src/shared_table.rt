@@ -3,6 +3,7 @@ ghost use Rattle.std.specs.Prelude.{◌≡◌, ◌+◌, ◌-◌, ◌<◌, ◌≤
 ghost use Rattle.std.specs.Prelude.{MatchOption};
 ghost use Rattle.row_store.specs.History.{IsPrefix};
 ghost use Rattle.row_store.specs.Legal.{IsLegal};
+ghost use Rattle.history_core.specs.Counts.{most_clients};
 ghost use Rattle.history_core.specs.OwnCommits.{IsOfClients};
 ghost use Rattle.history.specs.Words.{store, Owns};
 ghost use Rattle.history.specs.Rule.{dealer, terms_of};
@@ -76,7 +77,7 @@ fn open<W: Follower + Drop>(
     writer: W,
     opening: &Opening,
 ) -> Result<(RuledTable<W>, TableSeat<W>), AllocError>
-    requires few { opening.now.clients ≤ 16 }
+    requires few { opening.now.clients ≤ most_clients }
     requires parts { (rows ≡ store opening.now.base.value []) × (W.base writer ≡ opening.now.base.value)
         × (W.commits writer ≡ []) }
     ensures { IfOk result (λ t. (t.0.shared.table_id.words ≡ 2 + opening.now.clients)
@@ -104,7 +105,7 @@ fn deal<W: Follower + Drop>(
     requires table { (dealer.old.table_id ≡ ruled.now.shared.table_id) × (0 < ruled.now.shared.table_id.words) }
     requires dealer { IsDealer dealer.old (terms_of ruled.now.shared.key) place }
     requires room { (place < ruled.now.shared.key.clients + ruled.now.shared.key.dispatchers) × (place < 2 ^ 31) }
-    requires key { (clients ≡ ruled.now.shared.key.clients) × (clients ≤ 16) }
+    requires key { (clients ≡ ruled.now.shared.key.clients) × (clients ≤ most_clients) }
     ensures dealt { result ≡ new_token (table_of ruled.now.shared.table_id (terms_of ruled.now.shared.key))
         (who_at clients place) }
     ensures dealer { (dealer.new.table_id ≡ dealer.old.table_id)
@@ -133,7 +134,7 @@ impl<W: Follower + Drop> SharedTable<W> {
         clients: u32,
         dispatchers: u32,
     ) -> Result<OpenedTable<W>, AllocError>
-        requires clients { (1 ≤ clients) × (clients ≤ 16) }
+        requires clients { (1 ≤ clients) × (clients ≤ most_clients) }
         requires dispatchers { (1 ≤ dispatchers) × (dispatchers ≤ 5) }
         requires rows { rows.log ≡ [] }
         requires writer { (W.base writer ≡ rows.base) × (W.commits writer ≡ []) }
@@ -256,7 +257,7 @@ impl<W: Follower + Drop> SharedTable<W> {
         let place = client - 1;
         let turns = position(token.hand.as_slice(), place);
         steps::turn_by(&mut token.seat, turns);
-        steps::serve(&self.ruled, &mut token.seat, own, place as usize, answer);
+        steps::put_answer(&self.ruled, &mut token.seat, own, place as usize, answer);
         token.hand.remove(turns);
         steps::turn_by(&mut token.seat, token.hand.len() - turns);
     }

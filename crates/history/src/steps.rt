@@ -1,6 +1,7 @@
 //! What a token's seat does at the table.
 ghost use Rattle.std.specs.Prelude.{◌≡◌, ◌+◌, ◌<◌, true, false, ◌∷◌, length, None, MatchOption};
 ghost use Rattle.atomic_table.specs.Table.{rest};
+ghost use Rattle.history_core.specs.Counts.{most_clients};
 ghost use Rattle.history.specs.Words.{store};
 ghost use Rattle.history.specs.Rule.{terms_of, IsElsewhere};
 ghost use Rattle.history.specs.Plays.{gathers, gave_back, hears, note_of, opened, posted, grabbed, without_writer};
@@ -153,7 +154,7 @@ pub(crate) fn post<W: Follower + Drop>(
     place: usize,
     request: PostedRequest,
 )
-    requires table { (place < 16) × Has ruled.now.shared.table_id (2 + place)
+    requires table { (place < most_clients) × Has ruled.now.shared.table_id (2 + place)
         × (seat.old.table_id ≡ ruled.now.shared.table_id) }
     requires token { IsClientAt seat.old place }
     requires mailbox { (seat.old.me.0.has_box ≡ true) × (seat.old.me.0.asked ≡ None) × Carries (2 + place) seat.old }
@@ -173,7 +174,7 @@ pub(crate) fn grab<W: Follower + Drop>(
     place: usize,
     client: usize,
 ) -> Option<PostedRequest>
-    requires table { (client < 16) × Has ruled.now.shared.table_id (2 + client)
+    requires table { (client < most_clients) × Has ruled.now.shared.table_id (2 + client)
         × (seat.old.table_id ≡ ruled.now.shared.table_id) }
     requires token { IsDispatcherAt seat.old place × (client < seat.old.me.0.terms.clients) }
     ensures { MatchOption result (Becomes seat.old seat.old.me.0 seat.old.me.1 seat.new)
@@ -196,14 +197,14 @@ pub(crate) fn grab<W: Follower + Drop>(
 }
 
 /// A dispatcher puts an answer into the mailbox of a client whose request it has in hand.
-pub(crate) fn serve<W: Follower + Drop>(
+pub(crate) fn put_answer<W: Follower + Drop>(
     ruled: &RuledTable<W>,
     seat: &mut TableSeat<W>,
     place: usize,
     client: usize,
     answer: Response,
 )
-    requires table { (client < 16) × Has ruled.now.shared.table_id (2 + client)
+    requires table { (client < most_clients) × Has ruled.now.shared.table_id (2 + client)
         × (seat.old.table_id ≡ ruled.now.shared.table_id) }
     requires token { IsDispatcherAt seat.old place × (client < seat.old.me.0.terms.clients) }
     requires answer { MayServe seat.old client answer }
@@ -222,7 +223,7 @@ pub(crate) fn collect<W: Follower + Drop>(
     seat: &mut TableSeat<W>,
     place: usize,
 ) -> Option<Response>
-    requires table { (place < 16) × Has ruled.now.shared.table_id (2 + place)
+    requires table { (place < most_clients) × Has ruled.now.shared.table_id (2 + place)
         × (seat.old.table_id ≡ ruled.now.shared.table_id) }
     requires token { IsClientAt seat.old place × (seat.old.me.0.has_box ≡ true) }
     ensures { MatchOption result (Becomes seat.old seat.old.me.0 seat.old.me.1 seat.new)

@@ -7,8 +7,8 @@ use Rattle.std.specs.Prelude.{filter}
 use Rattle.ssb_base.specs.Base.{Tables}
 use Rattle.history_core.specs.declared.event.Who.{Who}
 use Rattle.history_core.specs.declared.event.Who.TheVariants.{Client, Dispatcher}
-use Rattle.history_core.specs.declared.event.Reply.{Reply}
-use Rattle.history_core.specs.declared.event.Reply.TheVariants.{NotEnabled}
+use Rattle.history_core.specs.declared.event.EventReply.{EventReply}
+use Rattle.history_core.specs.declared.event.EventReply.TheVariants.{NotEnabled}
 use Rattle.history_core.specs.Events.{Event}
 use Rattle.history_core.specs.World.{World, is_same, step_of, opening_world}
 use Rattle.history_core.specs.TrueRun.{IsTrueRun}
@@ -36,12 +36,12 @@ done_none before = record {
   enabled = All-nil (λ (d : Deed). d.reply ≢ NotEnabled);
 }
 
-pub done_next : (before : World) (deeds : List Deed) (w : World) (event : Event) (reply : Reply) (after : World)
+pub done_next : (before : World) (deeds : List Deed) (w : World) (event : Event) (reply : EventReply) (after : World)
     → HasDone before deeds w → step_of w event ≡ (after, reply) → reply ≢ NotEnabled
     → HasDone before (deeds ++ record { event = event; reply = reply } ∷ []) after
 done_next before deeds w event reply after has step enabled = let last : Deed =
     record { event = event; reply = reply } in record {
-      ran = subst (λ (x : List Event × List Reply). HasRun before x.0 x.1 after)
+      ran = subst (λ (x : List Event × List EventReply). HasRun before x.0 x.1 after)
           (λ i. (
             sym (map-append (λ (d : Deed). d.event) deeds (last ∷ [])) i,
             sym (map-append (λ (d : Deed). d.reply) deeds (last ∷ [])) i,

@@ -5,7 +5,7 @@ use Rattle.ssb_schema.specs.declared.refresh.Action.{Action}
 use Rattle.row_store.specs.declared.refusal.Refusal.{Refusal}
 use Rattle.history_core.specs.declared.event.Who.{Who}
 use Rattle.history_core.specs.declared.event.Who.TheVariants.{Client, Dispatcher}
-use Rattle.history_core.specs.declared.event.Reply.TheVariants.{NotEnabled, Done, Committed, Rows, Unserved}
+use Rattle.history_core.specs.declared.event.EventReply.TheVariants.{NotEnabled, Done, Committed, Rows, Unserved}
 use Rattle.history_core.specs.Events.{Questions}
 use Rattle.history_core.specs.Numbered.{numbered}
 use Rattle.history_core.specs.World.{World, ClientState, Mailbox, empty, asked, in_hand, answered}

@@ -6,9 +6,9 @@ use Rattle.std.specs.Prelude.{map, slice_get}
 use Rattle.ssb_schema.specs.declared.refresh.Action.{Action}
 use Rattle.row_store.specs.History.{CommitRecord, Warehouse, with_commit}
 use Rattle.row_store.specs.Refusals.{refusal_of}
-use Rattle.history_core.specs.declared.client.Client.{Client}
-use Rattle.history_core.specs.declared.dispatcher.Dispatcher.{Dispatcher}
-use Rattle.history_core.specs.declared.event.Reply.TheVariants.{Committed}
+use Rattle.history_core.specs.declared.client.WorldClient.{WorldClient}
+use Rattle.history_core.specs.declared.dispatcher.WorldDispatcher.{WorldDispatcher}
+use Rattle.history_core.specs.declared.event.EventReply.TheVariants.{Committed}
 use Rattle.history_core.specs.declared.world.World.TheInside.{Inside}
 use Rattle.history_core.specs.Numbered.{revised, numbered, renewed}
 use Rattle.history_core.specs.World.{World, commit_by}
@@ -54,7 +54,7 @@ module _ (history : List CommitRecord) (commit : CommitRecord) where
   longer : length history ≤ length (history ++ commit ∷ [])
   longer = let l = length-append history (commit ∷ []) in omega arith
 
-  pub clients_more : (clients : List Client) → ClientsFit (length history) clients
+  pub clients_more : (clients : List WorldClient) → ClientsFit (length history) clients
       → ClientsFit (length (history ++ commit ∷ [])) clients
   clients_more clients are =
       record {
@@ -62,14 +62,14 @@ module _ (history : List CommitRecord) (commit : CommitRecord) where
             let more = longer in (h.0, omega arith);
       }
 
-  pub dispatchers_more : (dispatchers : List Dispatcher) → DispatchersFit (length history) dispatchers
+  pub dispatchers_more : (dispatchers : List WorldDispatcher) → DispatchersFit (length history) dispatchers
       → DispatchersFit (length (history ++ commit ∷ [])) dispatchers
   dispatchers_more dispatchers are = record {
     own = λ number d at. let h = are.own number d at in let seen = h.0 in
         let more = longer in (omega arith, within_more d.mark _ _ more h.1, within_more d.version _ _ more h.2);
   }
 
-  pub dispatchers_grown : (dispatchers : List Dispatcher) → DispatchersFit (length history) dispatchers
+  pub dispatchers_grown : (dispatchers : List WorldDispatcher) → DispatchersFit (length history) dispatchers
       → map (dispatcher_in (history ++ commit ∷ [])) dispatchers ≡ map (dispatcher_in history) dispatchers
   dispatchers_grown dispatchers are =
       map_agree (dispatcher_in (history ++ commit ∷ [])) (dispatcher_in history) dispatchers
@@ -77,7 +77,7 @@ module _ (history : List CommitRecord) (commit : CommitRecord) where
       are.own (suc place) d at in
       ap (λ l. record (dispatcher_in history d) { seen = l }) (take-append-le d.seen history (commit ∷ []) h.0))
 
-  pub clients_grown : (clients : List Client) (number : ℕ) → commit.client ≡ number
+  pub clients_grown : (clients : List WorldClient) (number : ℕ) → commit.client ≡ number
       → ClientsFit (length history) clients
       → map (client_in (history ++ commit ∷ [])) clients ≡ renewed (map (client_in history) clients) number
       (λ c. record c { mine = c.mine ++ commit ∷ [] })

@@ -6,8 +6,8 @@ use Rattle.std.specs.Prelude.{filter, nat_lt, slice_get}
 use Rattle.ssb_base.specs.Base.{Tables}
 use Rattle.ssb_answers.specs.declared.answer.ResultRow.{ResultRow}
 use Rattle.row_store.specs.History.{CommitRecord}
-use Rattle.history_core.specs.declared.event.Reply.{Reply}
-use Rattle.history_core.specs.declared.event.Reply.TheVariants.{Rows}
+use Rattle.history_core.specs.declared.event.EventReply.{EventReply}
+use Rattle.history_core.specs.declared.event.EventReply.TheVariants.{Rows}
 use Rattle.history_core.specs.Events.{Questions, Event, Grab, Collect}
 use Rattle.history_core.specs.TrueRun.{Happens, is_committed, Outstanding, IsTrueRun}
 use Rattle.history_core.proofs.HistoryLaws.{some_injective}
@@ -25,8 +25,8 @@ takes_more {A = A} test (suc n) (suc m) (x ∷ xs) h = go (takes_more test n m x
     go k false e = rw e k
 
 -- the earlier of two collects of one client stands before the Post of the later
-before_post : (es : List Event) (rs : List Reply) (client : ℕ) (questions q : Questions) (rows : List (List ResultRow)) (at : ℕ)
-    (first second : ℕ) (o : Outstanding es rs client questions second)
+before_post : (es : List Event) (rs : List EventReply) (client : ℕ) (questions q : Questions)
+    (rows : List (List ResultRow)) (at : ℕ) (first second : ℕ) (o : Outstanding es rs client questions second)
     → Happens es rs first (Collect client) (Rows q at rows) → first < second → first < o.grabbed
 before_post es rs client questions q rows at first second o h less = go (nat_lt o.posted first) refl
   where
@@ -37,7 +37,7 @@ before_post es rs client questions q rows at first second o h less = go (nat_lt 
         some_injective _ _ (sym h.0 ∙ (ap (slice_get es) same ∙ o.was_grabbed.0)) in absurd (cc clash)
     go false e = let low : first ≤ o.posted = grind (arith, nat_tests) in let early = o.posted_first in omega arith
 
-pub never_back : (base : Tables) (es : List Event) (rs : List Reply) (history : List CommitRecord)
+pub never_back : (base : Tables) (es : List Event) (rs : List EventReply) (history : List CommitRecord)
     → IsTrueRun base es rs history → (client first second : ℕ) (p q : Questions) (early late : ℕ) (f g : List (List ResultRow))
     → first < second
     → Happens es rs first (Collect client) (Rows p early f) → Happens es rs second (Collect client) (Rows q late g)

@@ -16,9 +16,9 @@ use Rattle.row_store.proofs.HistoryLaws.{accepted_stays_legal}
 use Rattle.history_core.specs.declared.dispatcher.Outcome.TheVariants.{Served, GivenUp}
 use Rattle.history_core.specs.declared.event.Who.{Who}
 use Rattle.history_core.specs.declared.event.Who.TheVariants.{Client, Dispatcher}
-use Rattle.history_core.specs.declared.event.Reply.{Reply}
-use Rattle.history_core.specs.declared.event.Reply.TheVariants.{NotEnabled, Done, Committed, Refused}
-use Rattle.history_core.specs.declared.event.Reply.TheVariants.{Length, Asked as Asks, Rows, Unserved}
+use Rattle.history_core.specs.declared.event.EventReply.{EventReply}
+use Rattle.history_core.specs.declared.event.EventReply.TheVariants.{NotEnabled, Done, Committed, Refused}
+use Rattle.history_core.specs.declared.event.EventReply.TheVariants.{Length, Asked as Asks, Rows, Unserved}
 use Rattle.history_core.specs.Events.{Questions, Event, TakeRows, PutRows, Look, Post, Grab}
 use Rattle.history_core.specs.Events.{TakeWriter, PutWriter, Answer, GiveUp, Collect}
 use Rattle.history_core.specs.Numbered.{numbered, renewed}
@@ -37,9 +37,9 @@ use Rattle.history_core.proofs.KeepingLaws.{version_marks, mail_kept, step_kept,
 use Rattle.history_core.proofs.TraceLaws.{MailTraced, Traced, before_front, outstanding_on}
 use Rattle.history_core.proofs.TraceLaws.{outstanding_grabbed, posted_now, run_on, run_same, mail_on}
 
-module _ (base : Tables) (clients : ℕ) (es : List Event) (rs : List Reply) (w : World) (kept : WorldKept base clients w)
-    (k : Traced es rs w) where
-  abbrev pub Next : Event → World × Reply → Type 0
+module _ (base : Tables) (clients : ℕ) (es : List Event) (rs : List EventReply) (w : World)
+    (kept : WorldKept base clients w) (k : Traced es rs w) where
+  abbrev pub Next : Event → World × EventReply → Type 0
   Next e next = Traced (es ++ e ∷ []) (rs ++ next.1 ∷ []) next.0
 
   even : length rs ≡ length es
@@ -48,8 +48,8 @@ module _ (base : Tables) (clients : ℕ) (es : List Event) (rs : List Reply) (w 
   high_marks : (number mark : ℕ) → Marks w.dispatchers number mark → mark ≤ length w.history
   high_marks number mark has = (kept.dispatcher number has.0 has.1).marks mark has.2
 
-  moved : (e : Event) (r : Reply) (rows : Option Who) (writer : Option ℕ) (number : ℕ) (f : ClientState → ClientState)
-      (ds : List DispatcherState)
+  moved : (e : Event) (r : EventReply) (rows : Option Who) (writer : Option ℕ) (number : ℕ)
+      (f : ClientState → ClientState) (ds : List DispatcherState)
       → is_committed r ≡ false
       → IsTrueReply w.base es rs w.history (length rs) e r
       → Later w ds
@@ -75,7 +75,7 @@ module _ (base : Tables) (clients : ℕ) (es : List Event) (rs : List Reply) (w 
   }
 
   -- nothing is done to a request
-  quieted : (e : Event) (r : Reply) (rows : Option Who) (writer : Option ℕ) (number : ℕ)
+  quieted : (e : Event) (r : EventReply) (rows : Option Who) (writer : Option ℕ) (number : ℕ)
       (f : ClientState → ClientState) (ds : List DispatcherState)
       → is_committed r ≡ false
       → IsTrueReply w.base es rs w.history (length rs) e r
@@ -127,7 +127,7 @@ module _ (base : Tables) (clients : ℕ) (es : List Event) (rs : List Reply) (w 
   committed : (number : ℕ) (actions : List Action) → refusal_of w.base w.history actions ≡ None
       → Next (PutRows (Client number) (Some actions)) (committing w number actions None)
   committed number actions accepted = let commit : CommitRecord = commit_by number actions in
-      let e : Event = PutRows (Client number) (Some actions) in let r : Reply = Committed (length w.history + 1) in
+      let e : Event = PutRows (Client number) (Some actions) in let r : EventReply = Committed (length w.history + 1) in
       let now : List CommitRecord = w.history ++ commit ∷ [] in
       let f : ClientState → ClientState = λ c. record c { seen = now; mine = c.mine ++ commit ∷ [] } in
       let here : commits_before (rs ++ r ∷ []) (length rs) ≡ length w.history =
@@ -330,13 +330,14 @@ module _ (base : Tables) (clients : ℕ) (es : List Event) (rs : List Reply) (w 
   step_traced (Collect client) = collects client (mailbox_of (numbered w.clients client)) refl
 
 -- and so does any list of events
-pub run_traced : (base : Tables) (clients : ℕ) (events : List Event) (es : List Event) (rs : List Reply) (w : World)
+pub run_traced : (base : Tables) (clients : ℕ) (events : List Event) (es : List Event) (rs : List EventReply)
+    (w : World)
     → WorldKept base clients w → Traced es rs w → Traced (es ++ events) (rs ++ (run_of w events).0) (run_of w events).1
 run_traced base clients [] es rs w kept k =
-    subst (λ (l : List Event × List Reply). Traced l.0 l.1 w)
+    subst (λ (l : List Event × List EventReply). Traced l.0 l.1 w)
     (λ i. (sym (append-nil es) i, sym (append-nil rs) i)) k
 run_traced base clients (e ∷ events) es rs w kept k = let next = step_of w e in
-    subst (λ (l : List Event × List Reply). Traced l.0 l.1 (run_of w (e ∷ events)).1)
+    subst (λ (l : List Event × List EventReply). Traced l.0 l.1 (run_of w (e ∷ events)).1)
     (λ i. (append_assoc es (e ∷ []) events i, append_assoc rs (next.1 ∷ []) (run_of next.0 events).0 i))
     (run_traced base clients events (es ++ e ∷ []) (rs ++ next.1 ∷ []) next.0 (step_kept base clients w kept e)
     (step_traced base clients es rs w kept k e))
@@ -358,7 +359,7 @@ opening_traced base clients dispatchers = record {
 pub every_run : EveryRunIsTrue
 every_run base clients dispatchers events =
     let last : World = (run_of (opening_world base clients dispatchers) events).1 in
-    let replies : List Reply = (run_of (opening_world base clients dispatchers) events).0 in
+    let replies : List EventReply = (run_of (opening_world base clients dispatchers) events).0 in
     let kept : WorldKept base clients last = every_world base clients dispatchers events in
     let k : Traced events replies last =
     run_traced base clients events [] [] (opening_world base clients dispatchers)

@@ -4,8 +4,8 @@ use Rattle.std.proofs.Common.{Some, None, refl, ap, sym, subst, ◌∙◌, arith
 use Rattle.std.specs.Prelude.{map, slice_get}
 use Rattle.ssb_base.specs.Base.{Tables}
 use Rattle.row_store.specs.History.{Warehouse}
-use Rattle.history_core.specs.declared.client.Client.{Client}
-use Rattle.history_core.specs.declared.dispatcher.Dispatcher.{Dispatcher}
+use Rattle.history_core.specs.declared.client.WorldClient.{WorldClient}
+use Rattle.history_core.specs.declared.dispatcher.WorldDispatcher.{WorldDispatcher}
 use Rattle.history_core.specs.declared.world.World.TheInside.{Inside}
 use Rattle.history_core.specs.Numbered.{copies, numbered}
 use Rattle.history_core.specs.World.{ClientState, DispatcherState, empty, opening_world}
@@ -18,25 +18,26 @@ all_same : {A B : Type 0} (f : A → B) (l : List A) (y : B)
 all_same f [] y same = refl
 all_same f (x ∷ xs) y same = λ i. same zero x refl i ∷ all_same f xs y (λ place z at. same (suc place) z at) i
 
-new_clients : (commits count : ℕ) (clients : List Client) → OpeningClients count clients → ClientsFit commits clients
+new_clients : (commits count : ℕ) (clients : List WorldClient) → OpeningClients count clients
+    → ClientsFit commits clients
 new_clients commits count clients new = record { own = own }
   where
-    own : (number : ℕ) (client : Client) → numbered clients number ≡ Some client → (client.number ≡ number)
+    own : (number : ℕ) (client : WorldClient) → numbered clients number ≡ Some client → (client.number ≡ number)
         × (client.seen ≤ commits)
     own zero client at = absurd (some_ne_none client (sym at))
     own (suc place) client at = let is = new.each place client at in
-        let n : client.number ≡ place + 1 = ap (λ (c : Client). c.number) is in
-        let s : client.seen ≡ 0 = ap (λ (c : Client). c.seen) is in (omega arith, omega arith)
+        let n : client.number ≡ place + 1 = ap (λ (c : WorldClient). c.number) is in
+        let s : client.seen ≡ 0 = ap (λ (c : WorldClient). c.seen) is in (omega arith, omega arith)
 
-idle_dispatchers : (commits count : ℕ) (dispatchers : List Dispatcher) → OpeningDispatchers count dispatchers
+idle_dispatchers : (commits count : ℕ) (dispatchers : List WorldDispatcher) → OpeningDispatchers count dispatchers
     → DispatchersFit commits dispatchers
 idle_dispatchers commits count dispatchers idle = record { own = own }
   where
-    own : (number : ℕ) (d : Dispatcher) → numbered dispatchers number ≡ Some d → (d.seen ≤ commits)
+    own : (number : ℕ) (d : WorldDispatcher) → numbered dispatchers number ≡ Some d → (d.seen ≤ commits)
         × IsWithin d.mark commits × IsWithin d.version commits
     own zero d at = absurd (some_ne_none d (sym at))
     own (suc place) d at =
-        subst (λ (x : Dispatcher). (x.seen ≤ commits) × IsWithin x.mark commits × IsWithin x.version commits)
+        subst (λ (x : WorldDispatcher). (x.seen ≤ commits) × IsWithin x.mark commits × IsWithin x.version commits)
         (sym (idle.each place d at)) (zero-le, tt, tt)
 
 pub opening_kept : (w : Inside) (clients dispatchers : ℕ) → w.base.value ≡ w.store.base

@@ -15,14 +15,15 @@ use Rattle.row_store.specs.Refusals.{refusal_of}
 use Rattle.history_core.specs.declared.dispatcher.Outcome.TheVariants.{Served, GivenUp}
 use Rattle.history_core.specs.declared.event.Who.{Who}
 use Rattle.history_core.specs.declared.event.Who.TheVariants.{Client, Dispatcher}
-use Rattle.history_core.specs.declared.event.Reply.{Reply}
-use Rattle.history_core.specs.declared.event.Reply.TheVariants.{NotEnabled, Done, Committed, Length}
-use Rattle.history_core.specs.declared.event.Reply.TheVariants.{Asked as Asks, Rows, Unserved}
+use Rattle.history_core.specs.declared.event.EventReply.{EventReply}
+use Rattle.history_core.specs.declared.event.EventReply.TheVariants.{NotEnabled, Done, Committed, Length}
+use Rattle.history_core.specs.declared.event.EventReply.TheVariants.{Asked as Asks, Rows, Unserved}
 use Rattle.history_core.specs.Events.{Questions, Event, TakeRows, PutRows, Look, Post, Grab}
 use Rattle.history_core.specs.Events.{TakeWriter, PutWriter, Answer, GiveUp, Collect}
 use Rattle.history_core.specs.Numbered.{copies, revised, numbered, renewed, is_there}
 use Rattle.history_core.specs.World.{World, ClientState, DispatcherState, Mailbox, empty, asked, in_hand, answered}
-use Rattle.history_core.specs.World.{unserved, opening_world, is_known, holds_rows, holds_writer, mailbox_of, version_of}
+use Rattle.history_core.specs.World.{unserved, opening_world, is_known, holds_rows, holds_writer, mailbox_of}
+use Rattle.history_core.specs.World.{version_of}
 use Rattle.history_core.specs.World.{with_client, with_dispatcher, into_mailbox, unmarked, gave, commit_by}
 use Rattle.history_core.specs.World.{all_rows_after, taking_rows, committing, putting_rows, looking, posting, grabbing}
 use Rattle.history_core.specs.World.{taking_writer, putting_writer, answering, giving_up, collecting, step_of}
@@ -128,7 +129,7 @@ module _ (cs : List ClientState) (ds : List DispatcherState) where
       (numbered_else ds n j f (λ e. apart (ap (λ k. Dispatcher k) e)))
 
 -- an event is enabled, with this reply: then its actor has this part, all others theirs as before
-pub record Stepped (w : World) (event : Event) (reply : Reply) (me : Who) (p : Part) (holder : Option Who)
+pub record Stepped (w : World) (event : Event) (reply : EventReply) (me : Who) (p : Part) (holder : Option Who)
     (taker : Option ℕ) (log : List CommitRecord) : Type 0 where
   pub after : World
   pub is : step_of w event ≡ (after, reply)
@@ -140,13 +141,14 @@ pub record Stepped (w : World) (event : Event) (reply : Reply) (me : Who) (p : P
   pub others : (who : Who) → who ≢ me → part_of after who ≡ part_of w who
 
 -- and no mailbox changes
-pub record PartStepped (w : World) (event : Event) (reply : Reply) (me : Who) (p : Part) (holder : Option Who)
+pub record PartStepped (w : World) (event : Event) (reply : EventReply) (me : Who) (p : Part) (holder : Option Who)
     (taker : Option ℕ) (log : List CommitRecord) : Type 0 where
   pub step : Stepped w event reply me p holder taker log
   pub mail : (n : ℕ) → mailbox_at step.after n ≡ mailbox_at w n
 
 -- or this one does
-pub record BoxStepped (w : World) (event : Event) (reply : Reply) (me : Who) (p : Part) (number : ℕ) (box : Mailbox) :
+pub record BoxStepped (w : World) (event : Event) (reply : EventReply) (me : Who) (p : Part) (number : ℕ)
+    (box : Mailbox) :
     Type 0 where
   pub step : Stepped w event reply me p w.rows w.writer w.history
   pub box_is : mailbox_at step.after number ≡ Some box
@@ -161,7 +163,7 @@ module _ (w : World) where
   holding who e = ap (λ r. holds_rows r who) e ∙ same_self who
 
   -- only what was seen, and who holds what, changes
-  client_saw : (n : ℕ) (p : Part) (e : Event) (r : Reply) (holder : Option Who)
+  client_saw : (n : ℕ) (p : Part) (e : Event) (r : EventReply) (holder : Option Who)
       → step_of w e ≡ (with_client record w { rows = holder } n (λ c. record c { seen = w.history }), r)
       → part_of w (Client n) ≡ Some p
       → PartStepped w e r (Client n) record p { seen = w.history } holder w.writer w.history
@@ -179,7 +181,7 @@ module _ (w : World) where
     mail = look_same mailbox_of w.clients n f (λ c. refl);
   }
 
-  dispatcher_did : (n : ℕ) (p : Part) (e : Event) (r : Reply) (holder : Option Who) (taker : Option ℕ)
+  dispatcher_did : (n : ℕ) (p : Part) (e : Event) (r : EventReply) (holder : Option Who) (taker : Option ℕ)
       (f : DispatcherState → DispatcherState) (g : Part → Part)
       → step_of w e ≡ (with_dispatcher record w { rows = holder; writer = taker } n f, r)
       → ((d : DispatcherState) → dispatcher_part (f d) ≡ g (dispatcher_part d))
@@ -261,7 +263,7 @@ module _ (w : World) where
       (λ q. record q { version = q.mark }) (λ i. putting_writer w n (known (Dispatcher n) p at i) (holds i)) (λ d. refl) at
 
   -- a client's mailbox changes
-  client_box : (n : ℕ) (p : Part) (e : Event) (r : Reply) (f : ClientState → ClientState) (old box : Mailbox)
+  client_box : (n : ℕ) (p : Part) (e : Event) (r : EventReply) (f : ClientState → ClientState) (old box : Mailbox)
       → step_of w e ≡ (with_client w n f, r) → ((c : ClientState) → client_part (f c) ≡ client_part c)
       → ((c : ClientState) → numbered w.clients n ≡ Some c → (f c).mailbox ≡ box)
       → mailbox_at w n ≡ Some old → part_of w (Client n) ≡ Some p → BoxStepped w e r (Client n) p n box
@@ -304,7 +306,7 @@ module _ (w : World) where
       (λ c there. refl) hand at
 
   -- a dispatcher's part changes, and a client's mailbox
-  dispatcher_box : (n client : ℕ) (p : Part) (e : Event) (r : Reply) (f : DispatcherState → DispatcherState)
+  dispatcher_box : (n client : ℕ) (p : Part) (e : Event) (r : EventReply) (f : DispatcherState → DispatcherState)
       (g : Part → Part) (old box : Mailbox) → step_of w e ≡ (with_dispatcher (into_mailbox w client box) n f, r)
       → ((d : DispatcherState) → dispatcher_part (f d) ≡ g (dispatcher_part d))
       → mailbox_at w client ≡ Some old → part_of w (Dispatcher n) ≡ Some p
@@ -341,7 +343,7 @@ module _ (w : World) where
       (answered questions number (all_rows_after w.base questions (take number w.history)))
   answers n client questions floor number p at version hand = let self : (n == n) ≡ true = grind (arith, nat_tests) in
       let box : Mailbox = answered questions number (all_rows_after w.base questions (take number w.history)) in
-      let next : World × Reply =
+      let next : World × EventReply =
       (with_dispatcher (into_mailbox w client box) n (gave client floor (Served number)), Done) in
       let d = found dispatcher_part (numbered w.dispatchers n) p at in
       let versions : version_of (numbered w.dispatchers n) ≡ Some number =
@@ -358,7 +360,7 @@ module _ (w : World) where
       record p { given = p.given ++ record { client = client; floor = floor; outcome = GivenUp cause } ∷ [] } client
       (unserved questions cause)
   gives_up n client questions floor cause p at hand = let self : (n == n) ≡ true = grind (arith, nat_tests) in
-      let box : Mailbox = unserved questions cause in let next : World × Reply =
+      let box : Mailbox = unserved questions cause in let next : World × EventReply =
       (with_dispatcher (into_mailbox w client box) n (gave client floor (GivenUp cause)), Done) in
       dispatcher_box n client p (GiveUp n client cause) Done (gave client floor (GivenUp cause))
       (λ q. record q { given = q.given ++ record { client = client; floor = floor; outcome = GivenUp cause } ∷ [] })

@@ -4,7 +4,7 @@ use Rattle.std.proofs.Common.{take, slice_index_or, refl, ap, sym, subst, ◌∙
 use Rattle.std.proofs.Math.Seq.{take-suc}
 use Rattle.std.proofs.lemmas.List.{map-append}
 use Rattle.std.specs.Prelude.{map}
-use Rattle.history_core.specs.declared.event.Reply.{Reply}
+use Rattle.history_core.specs.declared.event.EventReply.{EventReply}
 use Rattle.history_core.specs.declared.event.Event.{Event as Given}
 use Rattle.history_core.specs.Events.{Event, event_of}
 use Rattle.history_core.specs.World.{World, step_of, run_of, opening_world}
@@ -22,19 +22,20 @@ world_push : (w : World) (es : List Event) (e : Event) → (run_of w (es ++ e �
 world_push w [] e = refl
 world_push w (x ∷ xs) e = world_push (step_of w x).0 xs e
 
-pub run_push : (w : World) (es : List Event) (e : Event) (replies : List Reply) (now after : World) (reply : Reply)
+pub run_push : (w : World) (es : List Event) (e : Event) (replies : List EventReply) (now after : World)
+    (reply : EventReply)
     → HasRun w es replies now → step_of now e ≡ (after, reply) → HasRun w (es ++ e ∷ []) (replies ++ reply ∷ []) after
 run_push w es e replies now after reply has step =
     let here : step_of (run_of w es).1 e ≡ (after, reply) = ap (λ x. step_of x e) (sym has.led) ∙ step in record {
       replied =
           ap (λ l. l ++ reply ∷ []) has.replied
-          ∙ (ap (λ (x : World × Reply). (run_of w es).0 ++ x.1 ∷ []) (sym here) ∙ sym (replies_push w es e));
-      led = ap (λ (x : World × Reply). x.0) (sym here) ∙ sym (world_push w es e);
+          ∙ (ap (λ (x : World × EventReply). (run_of w es).0 ++ x.1 ∷ []) (sym here) ∙ sym (replies_push w es e));
+      led = ap (λ (x : World × EventReply). x.0) (sym here) ∙ sym (world_push w es e);
     }
 
 -- a run over the first events, by the next
-pub run_next : (w : World) (es : List Given) (i : ℕ) (replies : List Reply) (now after : World) (reply : Reply)
-    (d : Given) → i < length es → HasRun w (map event_of (take i es)) replies now
+pub run_next : (w : World) (es : List Given) (i : ℕ) (replies : List EventReply) (now after : World)
+    (reply : EventReply) (d : Given) → i < length es → HasRun w (map event_of (take i es)) replies now
     → step_of now (event_of (slice_index_or es i d)) ≡ (after, reply)
     → HasRun w (map event_of (take (i + 1) es)) (replies ++ reply ∷ []) after
 run_next w es i replies now after reply d low has step = let next : suc i ≡ i + 1 = omega arith in
@@ -45,7 +46,7 @@ run_next w es i replies now after reply d low has step = let next : suc i ≡ i 
     subst (λ l. HasRun w l (replies ++ reply ∷ []) after) longer
     (run_push w (map event_of (take i es)) (event_of x) replies now after reply has step)
 
-pub true_from_opening : (before : World) (events : List Event) (replies : List Reply) (after : World)
+pub true_from_opening : (before : World) (events : List Event) (replies : List EventReply) (after : World)
     → HasRun before events replies after → IsTrueFromOpening before events replies after
 true_from_opening before events replies after has base clients dispatchers opening =
     let t = every_run base clients dispatchers events in
@@ -53,7 +54,7 @@ true_from_opening before events replies after has base clients dispatchers openi
     ap (λ v. (run_of v events).1) (sym opening) ∙ sym has.led in
     let said : (run_of (opening_world base clients dispatchers) events).0 ≡ replies =
     ap (λ v. (run_of v events).0) (sym opening) ∙ sym has.replied in (
-      subst (λ (x : (List Reply) × World). IsTrueRun base events x.0 x.1.history) (λ i. (said i, led i)) t.0,
+      subst (λ (x : (List EventReply) × World). IsTrueRun base events x.0 x.1.history) (λ i. (said i, led i)) t.0,
       subst (OwnCommits clients) led t.1,
     )
 
@@ -64,7 +65,7 @@ take_full (suc n) [] h = refl
 take_full (suc n) (x ∷ xs) h = ap (λ l. x ∷ l) (take_full n xs (omega arith))
 
 -- the loop is at its end
-pub true_at_end : (before : World) (events : List Given) (n : ℕ) (replies : List Reply) (after : World)
+pub true_at_end : (before : World) (events : List Given) (n : ℕ) (replies : List EventReply) (after : World)
     → length events ≤ n → HasRun before (map event_of (take n events)) replies after
     → IsTrueFromOpening before (map event_of events) replies after
 true_at_end before events n replies after long has =
@@ -72,7 +73,7 @@ true_at_end before events n replies after long has =
     (subst (λ l. HasRun before (map event_of l) replies after) (take_full n events long) has)
 
 -- it stopped before a step
-pub true_before : (before : World) (events : List Given) (n index : ℕ) (replies : List Reply) (now after : World)
+pub true_before : (before : World) (events : List Given) (n index : ℕ) (replies : List EventReply) (now after : World)
     → n ≡ index → after ≡ now → HasRun before (map event_of (take index events)) replies now
     → IsTrueFromOpening before (map event_of (take n events)) replies after
 true_before before events n index replies now after same unchanged has =

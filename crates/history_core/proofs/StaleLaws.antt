@@ -4,8 +4,8 @@ use Rattle.ssb_schema.specs.declared.refresh.Action.{Action}
 use Rattle.ssb_base.specs.Base.{Tables}
 use Rattle.ssb_answers.specs.declared.answer.ResultRow.{ResultRow}
 use Rattle.history_core.specs.declared.event.Who.TheVariants.{Client}
-use Rattle.history_core.specs.declared.event.Reply.{Reply}
-use Rattle.history_core.specs.declared.event.Reply.TheVariants.{Done, Committed, Asked as Asks, Rows}
+use Rattle.history_core.specs.declared.event.EventReply.{EventReply}
+use Rattle.history_core.specs.declared.event.EventReply.TheVariants.{Done, Committed, Asked as Asks, Rows}
 use Rattle.history_core.specs.Events.{Questions, Event, TakeRows, PutRows, Post, Grab, Answer, Collect}
 use Rattle.history_core.specs.World.{commit_by}
 use Rattle.history_core.specs.TrueRun.{Happens, commits_before, Outstanding, IsTrueRun}
@@ -16,7 +16,7 @@ module _ (base : Tables) (actions : List Action) (questions : Questions) (rows :
   events =
       TakeRows (Client 1) ∷ PutRows (Client 1) (Some actions) ∷ Post 1 questions ∷ Grab 1 1 ∷ Answer 1 1 ∷ Collect 1 ∷ []
 
-  abbrev replies : List Reply
+  abbrev replies : List EventReply
   replies = Done ∷ Committed 1 ∷ Done ∷ Asks questions ∷ Done ∷ Rows questions 0 rows ∷ []
 
   no_grab : (place dispatcher : ℕ) → Happens events replies place (Grab dispatcher 1) (Asks questions)

@@ -9,9 +9,9 @@ use Rattle.ssb_base.specs.Base.{Tables}
 use Rattle.row_store.specs.History.{CommitRecord}
 use Rattle.row_store.specs.Refusals.{refusal_of}
 use Rattle.row_store.specs.Legal.{IsLegal}
-use Rattle.history_core.specs.declared.event.Reply.{Reply}
-use Rattle.history_core.specs.declared.event.Reply.TheVariants.{NotEnabled, Done, Committed, Refused}
-use Rattle.history_core.specs.declared.event.Reply.TheVariants.{Length, Asked as Asks, Rows, Unserved}
+use Rattle.history_core.specs.declared.event.EventReply.{EventReply}
+use Rattle.history_core.specs.declared.event.EventReply.TheVariants.{NotEnabled, Done, Committed, Refused}
+use Rattle.history_core.specs.declared.event.EventReply.TheVariants.{Length, Asked as Asks, Rows, Unserved}
 use Rattle.history_core.specs.Events.{Questions, Event, Post, Grab}
 use Rattle.history_core.specs.Numbered.{numbered}
 use Rattle.history_core.specs.World.{World, ClientState, DispatcherState, Mailbox, empty}
@@ -22,14 +22,14 @@ use Rattle.history_core.specs.TrueRun.{IsOfRequest, Outstanding, IsTrueReply, Is
 use Rattle.history_core.proofs.HistoryLaws.{at_front, at_last, at_end, in_range, filter_take}
 
 -- the client posted these questions, and nothing was done to a request of it since
-abbrev pub Posted : List Event → List Reply → ℕ → Questions → Type 0
+abbrev pub Posted : List Event → List EventReply → ℕ → Questions → Type 0
 Posted es rs client questions =
     (posted : ℕ) × Happens es rs posted (Post client questions) Done
-    × ((other : ℕ) (event : Event) (reply : Reply) → posted < other → Happens es rs other event reply
+    × ((other : ℕ) (event : Event) (reply : EventReply) → posted < other → Happens es rs other event reply
     → IsOfRequest client event reply → ⊥)
 
 -- what a mailbox tells of the run so far
-abbrev pub MailTraced : List Event → List Reply → List DispatcherState → ℕ → Mailbox → Type 0
+abbrev pub MailTraced : List Event → List EventReply → List DispatcherState → ℕ → Mailbox → Type 0
 MailTraced es rs ds client empty = Unit {0}
 MailTraced es rs ds client (asked questions floor) = Posted es rs client questions
 MailTraced es rs ds client (in_hand holder questions floor) =
@@ -40,21 +40,21 @@ MailTraced es rs ds client (answered questions at rows) =
 MailTraced es rs ds client (unserved questions cause) = Outstanding es rs client questions (length rs)
 
 -- a run so far, and what the mailboxes tell of it
-pub record Traced (es : List Event) (rs : List Reply) (w : World) : Type 0 where
+pub record Traced (es : List Event) (rs : List EventReply) (w : World) : Type 0 where
   pub run : IsTrueRun w.base es rs w.history
   pub mail : (client : ℕ) (c : ClientState) → numbered w.clients client ≡ Some c
       → MailTraced es rs w.dispatchers client c.mailbox
 
 -- a run with one event more
-module _ (es : List Event) (rs : List Reply) (even : length rs ≡ length es) (e : Event) (r : Reply) where
-  pub happens_front : (place : ℕ) (a : Event) (b : Reply) → Happens es rs place a b
+module _ (es : List Event) (rs : List EventReply) (even : length rs ≡ length es) (e : Event) (r : EventReply) where
+  pub happens_front : (place : ℕ) (a : Event) (b : EventReply) → Happens es rs place a b
       → Happens (es ++ e ∷ []) (rs ++ r ∷ []) place a b
   happens_front place a b h = (at_front es (e ∷ []) place a h.0, at_front rs (r ∷ []) place b h.1)
 
   pub happens_last : Happens (es ++ e ∷ []) (rs ++ r ∷ []) (length rs) e r
   happens_last = (ap (slice_get (es ++ e ∷ [])) even ∙ at_last es e, at_last rs r)
 
-  pub happens_end : (place : ℕ) (a : Event) (b : Reply) → Happens (es ++ e ∷ []) (rs ++ r ∷ []) place a b
+  pub happens_end : (place : ℕ) (a : Event) (b : EventReply) → Happens (es ++ e ∷ []) (rs ++ r ∷ []) place a b
       → ((place < length rs) × Happens es rs place a b) ⊎ ((place ≡ length rs) × (e ≡ a) × (r ≡ b))
   happens_end place a b h = ⊎_elim
       (λ (t : (place < length rs) × (slice_get rs place ≡ Some b)). ⊎_elim
@@ -107,7 +107,7 @@ module _ (es : List Event) (rs : List Reply) (even : length rs ≡ length es) (e
         (λ (t : (other < length rs) × Happens es rs other a b). o.alone other a b after t.0 t.1 of_request)
         (λ (t : (other ≡ length rs) × (e ≡ a) × (r ≡ b)). absurd
         (apart
-        (subst (λ (x : Event × Reply). IsOfRequest client x.0 x.1) (λ i. (sym t.1 i, sym t.2 i)) of_request)))
+        (subst (λ (x : Event × EventReply). IsOfRequest client x.0 x.1) (λ i. (sym t.1 i, sym t.2 i)) of_request)))
         (happens_end other a b happens);
   }
 
@@ -121,7 +121,7 @@ module _ (es : List Event) (rs : List Reply) (even : length rs ≡ length es) (e
     dispatcher = number;
     was_posted = happens_front p.0 (Post client questions) Done p.1;
     was_grabbed =
-        subst (λ (x : Event × Reply). Happens (es ++ e ∷ []) (rs ++ r ∷ []) (length rs) x.0 x.1)
+        subst (λ (x : Event × EventReply). Happens (es ++ e ∷ []) (rs ++ r ∷ []) (length rs) x.0 x.1)
         (λ i. (is i, replies i)) happens_last;
     posted_first = in_range rs p.0 Done p.1.1;
     grabbed_before = let long = longer in omega arith;
@@ -139,7 +139,7 @@ module _ (es : List Event) (rs : List Reply) (even : length rs ≡ length es) (e
     λ other a b after happens of_request. ⊎_elim
         (λ (t : (other < length rs) × Happens es rs other a b). p.2 other a b after t.1 of_request)
         (λ (t : (other ≡ length rs) × (e ≡ a) × (r ≡ b)). apart
-        (subst (λ (x : Event × Reply). IsOfRequest client x.0 x.1) (λ i. (sym t.1 i, sym t.2 i)) of_request))
+        (subst (λ (x : Event × EventReply). IsOfRequest client x.0 x.1) (λ i. (sym t.1 i, sym t.2 i)) of_request))
         (happens_end other a b happens),
   )
 
@@ -147,7 +147,7 @@ module _ (es : List Event) (rs : List Reply) (even : length rs ≡ length es) (e
       → Posted (es ++ e ∷ []) (rs ++ r ∷ []) client questions
   posted_now client questions is replies = (
     length rs,
-    subst (λ (x : Event × Reply). Happens (es ++ e ∷ []) (rs ++ r ∷ []) (length rs) x.0 x.1)
+    subst (λ (x : Event × EventReply). Happens (es ++ e ∷ []) (rs ++ r ∷ []) (length rs) x.0 x.1)
         (λ i. (is i, replies i)) happens_last,
     λ other a b after happens of_request. ⊎_elim
         (λ (t : (other < length rs) × Happens es rs other a b). let short = t.0 in omega arith)
@@ -155,15 +155,15 @@ module _ (es : List Event) (rs : List Reply) (even : length rs ≡ length es) (e
         (happens_end other a b happens),
   )
 
-pub before_whole : (rs : List Reply) → commits_before rs (length rs) ≡ length (filter is_committed rs)
+pub before_whole : (rs : List EventReply) → commits_before rs (length rs) ≡ length (filter is_committed rs)
 before_whole rs =
     ap (λ l. length (filter is_committed l)) (ap (take (length rs)) (sym (append-nil rs)) ∙ take-append_seam rs [])
 
-pub before_most : (rs : List Reply) (place : ℕ) → commits_before rs place ≤ commits_before rs (length rs)
+pub before_most : (rs : List EventReply) (place : ℕ) → commits_before rs place ≤ commits_before rs (length rs)
 before_most rs place = let h = filter_take is_committed place rs in let whole = before_whole rs in omega arith
 
 -- the number of Committed replies after one reply more
-pub before_last : (rs : List Reply) (r : Reply)
+pub before_last : (rs : List EventReply) (r : EventReply)
     → commits_before (rs ++ r ∷ []) (length (rs ++ r ∷ [])) ≡ commits_before rs (length rs) + length
     (filter is_committed (r ∷ []))
 before_last rs r =
@@ -172,7 +172,7 @@ before_last rs r =
     ∙ (length-append (filter is_committed rs) (filter is_committed (r ∷ []))
     ∙ ap (λ n. n + length (filter is_committed (r ∷ []))) (sym (before_whole rs))))
 
-pub uncounted : (r : Reply) → is_committed r ≡ false → length (filter is_committed (r ∷ [])) ≡ 0
+pub uncounted : (r : EventReply) → is_committed r ≡ false → length (filter is_committed (r ∷ [])) ≡ 0
 uncounted r e = rw e refl
 
 -- the first commits of a history are those of a longer one
@@ -181,9 +181,9 @@ pub front_taken : (history more : List CommitRecord) (at : ℕ) → at ≤ lengt
 front_taken history more at h = take-append-le at history more h
 
 -- a reply stays true as the run goes on
-pub reply_later : (base : Tables) (es : List Event) (rs : List Reply) (history : List CommitRecord)
-    (even : length rs ≡ length es) (e : Event) (r : Reply) (more : List CommitRecord)
-    → length history ≡ commits_before rs (length rs) → (place : ℕ) (a : Event) (b : Reply)
+pub reply_later : (base : Tables) (es : List Event) (rs : List EventReply) (history : List CommitRecord)
+    (even : length rs ≡ length es) (e : Event) (r : EventReply) (more : List CommitRecord)
+    → length history ≡ commits_before rs (length rs) → (place : ℕ) (a : Event) (b : EventReply)
     → place ≤ length rs → IsTrueReply base es rs history place a b
     → IsTrueReply base (es ++ e ∷ []) (rs ++ r ∷ []) (history ++ more) place a b
 reply_later base es rs history even e r more counted place a NotEnabled low t = tt
@@ -223,8 +223,8 @@ reply_later base es rs history even e r more counted place a (Unserved questions
     (t.0, t.1, outstanding_front es rs even e r t.0 questions place low t.2)
 
 -- one event more, with a true reply
-pub run_on : (base : Tables) (es : List Event) (rs : List Reply) (history : List CommitRecord) (e : Event) (r : Reply)
-    (more : List CommitRecord) → IsTrueRun base es rs history → IsLegal base (history ++ more)
+pub run_on : (base : Tables) (es : List Event) (rs : List EventReply) (history : List CommitRecord) (e : Event)
+    (r : EventReply) (more : List CommitRecord) → IsTrueRun base es rs history → IsLegal base (history ++ more)
     → length more ≡ length (filter is_committed (r ∷ []))
     → IsTrueReply base (es ++ e ∷ []) (rs ++ r ∷ []) (history ++ more) (length rs) e r
     → IsTrueRun base (es ++ e ∷ []) (rs ++ r ∷ []) (history ++ more)
@@ -239,14 +239,14 @@ run_on base es rs history e r more k legal many new = let even = k.replied in re
       reply_later base es rs history even e r more k.no_others place a b (omega arith)
       (k.true_replies place a b t.1))
       (λ (t : (place ≡ length rs) × (e ≡ a) × (r ≡ b)). subst
-      (λ (x : ℕ × Event × Reply). IsTrueReply base (es ++ e ∷ []) (rs ++ r ∷ []) (history ++ more) x.0 x.1 x.2)
+      (λ (x : ℕ × Event × EventReply). IsTrueReply base (es ++ e ∷ []) (rs ++ r ∷ []) (history ++ more) x.0 x.1 x.2)
       (λ i. (sym t.0 i, t.1 i, t.2 i)) new)
       (happens_end es rs even e r place a b happens);
 }
 
 -- one event more, with no commit
-pub run_same : (base : Tables) (es : List Event) (rs : List Reply) (history : List CommitRecord) (e : Event)
-    (r : Reply) → IsTrueRun base es rs history → is_committed r ≡ false
+pub run_same : (base : Tables) (es : List Event) (rs : List EventReply) (history : List CommitRecord) (e : Event)
+    (r : EventReply) → IsTrueRun base es rs history → is_committed r ≡ false
     → IsTrueReply base es rs history (length rs) e r → IsTrueRun base (es ++ e ∷ []) (rs ++ r ∷ []) history
 run_same base es rs history e r k quiet new =
     let whole = append-nil history in subst (IsTrueRun base (es ++ e ∷ []) (rs ++ r ∷ [])) whole
@@ -255,8 +255,8 @@ run_same base es rs history e r k quiet new =
 
 -- a mailbox tells the same after an event that does nothing to its request, where marks are as before or as high as the
 -- history was long
-pub mail_on : (es : List Event) (rs : List Reply) (even : length rs ≡ length es) (e : Event)
-    (r : Reply) (history : List CommitRecord) → length history ≡ commits_before rs (length rs)
+pub mail_on : (es : List Event) (rs : List EventReply) (even : length rs ≡ length es) (e : Event)
+    (r : EventReply) (history : List CommitRecord) → length history ≡ commits_before rs (length rs)
     → (ds after : List DispatcherState)
     → ((number mark : ℕ) → Marks after number mark → (Marks ds number mark) ⊎ (mark ≡ length history))
     → (client : ℕ) (box : Mailbox) → (IsOfRequest client e r → ⊥) → MailTraced es rs ds client box

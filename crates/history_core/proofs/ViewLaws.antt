@@ -5,8 +5,8 @@ use Rattle.std.proofs.Math.Seq.{take-append_seam}
 use Rattle.std.specs.Prelude.{map, slice_set, slice_index_or, IfSome}
 use Rattle.std.specs.Option.{option_map}
 use Rattle.row_store.specs.History.{CommitRecord}
-use Rattle.history_core.specs.declared.client.Client.{Client}
-use Rattle.history_core.specs.declared.dispatcher.Dispatcher.{Dispatcher}
+use Rattle.history_core.specs.declared.client.WorldClient.{WorldClient}
+use Rattle.history_core.specs.declared.dispatcher.WorldDispatcher.{WorldDispatcher}
 use Rattle.history_core.specs.declared.world.World.TheInside.{Inside}
 use Rattle.history_core.specs.Numbered.{numbered, place_within}
 use Rattle.history_core.specs.World.{World, ClientState, DispatcherState, mailbox_of, with_client, with_dispatcher}
@@ -20,18 +20,18 @@ take_all n history is =
     ap (λ m. take m history) is
     ∙ (ap (take (length history)) (sym (append-nil history)) ∙ take-append_seam history [])
 
-abbrev HasClient : ℕ → ℕ → Client → Type 0
+abbrev HasClient : ℕ → ℕ → WorldClient → Type 0
 HasClient commits number client = (client.number ≡ number) × (client.seen ≤ commits)
 
-abbrev HasDispatcher : ℕ → Dispatcher → Type 0
+abbrev HasDispatcher : ℕ → WorldDispatcher → Type 0
 HasDispatcher commits dispatcher =
     (dispatcher.seen ≤ commits) × IsWithin dispatcher.mark commits × IsWithin dispatcher.version commits
 
 -- one client or dispatcher, which has this number among so many and lies at this place, is another now
 module _ (w : Inside) (k : IsWorld w) (number place count : ℕ) (is : Some place ≡ place_within number count) where
-  pub clients_fit : (g : Client → Client) (x : Client) → x ≡ slice_index_or w.clients.items place x
+  pub clients_fit : (g : WorldClient → WorldClient) (x : WorldClient) → x ≡ slice_index_or w.clients.items place x
       → count ≡ length w.clients.items
-      → ((n : ℕ) (c : Client) → HasClient (length w.store.log) n c → HasClient (length w.store.log) n (g c))
+      → ((n : ℕ) (c : WorldClient) → HasClient (length w.store.log) n c → HasClient (length w.store.log) n (g c))
       → ClientsFit (length w.store.log) (slice_set w.clients.items place (g x))
   clients_fit g x there len here =
       subst (ClientsFit (length w.store.log)) (sym (renewed_write w.clients.items number place count g x there len is))
@@ -41,9 +41,9 @@ module _ (w : Inside) (k : IsWorld w) (number place count : ℕ) (is : Some plac
             k.clients.own (λ c at h. here number c h) (λ n c apart at h. h);
       }
 
-  pub dispatchers_fit : (g : Dispatcher → Dispatcher) (x : Dispatcher)
+  pub dispatchers_fit : (g : WorldDispatcher → WorldDispatcher) (x : WorldDispatcher)
       → x ≡ slice_index_or w.dispatchers.items place x → count ≡ length w.dispatchers.items
-      → ((d : Dispatcher) → HasDispatcher (length w.store.log) d → HasDispatcher (length w.store.log) (g d))
+      → ((d : WorldDispatcher) → HasDispatcher (length w.store.log) d → HasDispatcher (length w.store.log) (g d))
       → DispatchersFit (length w.store.log) (slice_set w.dispatchers.items place (g x))
   dispatchers_fit g x there len here =
       subst (DispatchersFit (length w.store.log))
@@ -55,9 +55,9 @@ module _ (w : Inside) (k : IsWorld w) (number place count : ℕ) (is : Some plac
       }
 
 module _ (w : Inside) (now : World) (view : world_in w ≡ now) (number : ℕ) where
-  pub client_renewed : (place count : ℕ) (g : Client → Client) (f : World → ClientState → ClientState)
-      (x : Client)
-      → ((c : Client) → client_in w.store.log (g c) ≡ f (world_in w) (client_in w.store.log c))
+  pub client_renewed : (place count : ℕ) (g : WorldClient → WorldClient) (f : World → ClientState → ClientState)
+      (x : WorldClient)
+      → ((c : WorldClient) → client_in w.store.log (g c) ≡ f (world_in w) (client_in w.store.log c))
       → x ≡ slice_index_or w.clients.items place x → count ≡ length w.clients.items
       → Some place ≡ place_within number count
       → record (world_in w) { clients = map (client_in w.store.log) (slice_set w.clients.items place (g x)) }
@@ -68,9 +68,9 @@ module _ (w : Inside) (now : World) (view : world_in w ≡ now) (number : ℕ) w
       ∙ renewed_map (client_in w.store.log) w.clients.items number g (f (world_in w)) same)
       ∙ ap (λ (v : World). with_client v number (f v)) view
 
-  pub dispatcher_renewed : (place count : ℕ) (g : Dispatcher → Dispatcher)
-      (f : World → DispatcherState → DispatcherState) (x : Dispatcher)
-      → ((d : Dispatcher) → dispatcher_in w.store.log (g d) ≡ f (world_in w) (dispatcher_in w.store.log d))
+  pub dispatcher_renewed : (place count : ℕ) (g : WorldDispatcher → WorldDispatcher)
+      (f : World → DispatcherState → DispatcherState) (x : WorldDispatcher)
+      → ((d : WorldDispatcher) → dispatcher_in w.store.log (g d) ≡ f (world_in w) (dispatcher_in w.store.log d))
       → x ≡ slice_index_or w.dispatchers.items place x → count ≡ length w.dispatchers.items
       → Some place ≡ place_within number count
       → record (world_in w) {
@@ -103,14 +103,14 @@ module _ (w : Inside) (now : World) (view : world_in w ≡ now) (number : ℕ) w
 
   -- the mailbox of a client, shown
   pub mailbox_shown : mailbox_of (numbered now.clients number)
-      ≡ option_map (λ (c : Client). c.mailbox) (numbered w.clients.items number)
+      ≡ option_map (λ (c : WorldClient). c.mailbox) (numbered w.clients.items number)
   mailbox_shown =
       ap (λ (v : World). mailbox_of (numbered v.clients number)) (sym view)
       ∙ (ap mailbox_of (numbered_map (client_in w.store.log) w.clients.items number)
       ∙ go (numbered w.clients.items number))
     where
-      go : (o : Option Client)
-          → mailbox_of (option_map (client_in w.store.log) o) ≡ option_map (λ (c : Client). c.mailbox) o
+      go : (o : Option WorldClient)
+          → mailbox_of (option_map (client_in w.store.log) o) ≡ option_map (λ (c : WorldClient). c.mailbox) o
       go None = refl
       go (Some c) = refl
 

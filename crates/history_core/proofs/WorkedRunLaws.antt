@@ -17,8 +17,8 @@ use Rattle.ssb_questions.specs.Queries.{standard_constants}
 use Rattle.ssb_answers.specs.declared.answer.Unserved.TheVariants.{OutOfMemory}
 use Rattle.row_store.specs.declared.refusal.Cause.TheVariants.{Absent}
 use Rattle.history_core.specs.declared.event.Who.TheVariants.{Client, Dispatcher}
-use Rattle.history_core.specs.declared.event.Reply.TheVariants.{NotEnabled, Done, Committed, Refused}
-use Rattle.history_core.specs.declared.event.Reply.TheVariants.{Length, Asked as Asks, Rows, Unserved}
+use Rattle.history_core.specs.declared.event.EventReply.TheVariants.{NotEnabled, Done, Committed, Refused}
+use Rattle.history_core.specs.declared.event.EventReply.TheVariants.{Length, Asked as Asks, Rows, Unserved}
 use Rattle.history_core.specs.Events.{Question, Questions, TakeRows, PutRows, Look, Post, Grab}
 use Rattle.history_core.specs.Events.{TakeWriter, PutWriter, Answer, GiveUp, Collect}
 use Rattle.history_core.specs.World.{opening_world, run_of}

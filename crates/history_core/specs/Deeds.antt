@@ -2,8 +2,8 @@
 use Rattle.std.specs.Prelude.{◌≢◌, All, List, map, filter}
 use Rattle.history_core.specs.declared.event.Who.{Who}
 use Rattle.history_core.specs.declared.event.Who.TheVariants.{Client, Dispatcher}
-use Rattle.history_core.specs.declared.event.Reply.{Reply}
-use Rattle.history_core.specs.declared.event.Reply.TheVariants.{NotEnabled}
+use Rattle.history_core.specs.declared.event.EventReply.{EventReply}
+use Rattle.history_core.specs.declared.event.EventReply.TheVariants.{NotEnabled}
 use Rattle.history_core.specs.Events.{Event, TakeRows, PutRows, Look, Post, Grab}
 use Rattle.history_core.specs.Events.{TakeWriter, PutWriter, Answer, GiveUp, Collect}
 use Rattle.history_core.specs.World.{World, is_same}
@@ -12,12 +12,12 @@ use Rattle.history_core.specs.Runs.{HasRun}
 -- an event, and the reply to it
 pub record Deed : Type 0 where
   pub event : Event
-  pub reply : Reply
+  pub reply : EventReply
 
 abbrev pub events_of : List Deed → List Event
 events_of deeds = map (λ (d : Deed). d.event) deeds
 
-abbrev pub replies_of : List Deed → List Reply
+abbrev pub replies_of : List Deed → List EventReply
 replies_of deeds = map (λ (d : Deed). d.reply) deeds
 
 -- who does an event

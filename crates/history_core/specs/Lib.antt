@@ -12,3 +12,4 @@ pub mod Mailboxes
 pub mod Applying
 pub mod View
 pub mod Kept
+pub mod Counts

@@ -15,11 +15,12 @@ use Rattle.history_core.specs.declared.dispatcher.Outcome.{Outcome}
 use Rattle.history_core.specs.declared.dispatcher.Outcome.TheVariants.{Served, GivenUp}
 use Rattle.history_core.specs.declared.event.Who.{Who}
 use Rattle.history_core.specs.declared.event.Who.TheVariants.{Client, Dispatcher}
-use Rattle.history_core.specs.declared.event.Reply.{Reply}
-use Rattle.history_core.specs.declared.event.Reply.TheVariants.{NotEnabled, Done, Committed, Refused}
-use Rattle.history_core.specs.declared.event.Reply.TheVariants.{Length, Asked as Asks, Rows, Unserved}
+use Rattle.history_core.specs.declared.event.EventReply.{EventReply}
+use Rattle.history_core.specs.declared.event.EventReply.TheVariants.{NotEnabled, Done, Committed, Refused}
+use Rattle.history_core.specs.declared.event.EventReply.TheVariants.{Length, Asked as Asks, Rows, Unserved}
 pub use Rattle.history_core.specs.declared.mailbox.Mailbox.{Mailbox}
-pub use Rattle.history_core.specs.declared.mailbox.Mailbox.TheVariants.{Empty as empty, Asked as asked, InHand as in_hand}
+pub use Rattle.history_core.specs.declared.mailbox.Mailbox.TheVariants.{Empty as empty, Asked as asked}
+pub use Rattle.history_core.specs.declared.mailbox.Mailbox.TheVariants.{InHand as in_hand}
 pub use Rattle.history_core.specs.declared.mailbox.Mailbox.TheVariants.{Answered as answered, Unserved as unserved}
 use Rattle.history_core.specs.Events.{Question, Questions, Event, TakeRows, PutRows, Look, Post, Grab}
 use Rattle.history_core.specs.Events.{TakeWriter, PutWriter, Answer, GiveUp, Collect}
@@ -119,12 +120,12 @@ all_rows_after base questions history = map (λ question. rows_after base questi
 
 -- each event: what is known, who holds, or what lies in the mailbox decides whether it is enabled
 
-abbrev pub taking_rows : World → Who → Bool → Option Who → World × Reply
+abbrev pub taking_rows : World → Who → Bool → Option Who → World × EventReply
 taking_rows w who true None = (seen_by record w { rows = Some who } who, Done)
 taking_rows w who known holder = (w, NotEnabled)
 
 -- a refresh is applied, or refused
-abbrev pub committing : World → ℕ → List Action → Option Refusal → World × Reply
+abbrev pub committing : World → ℕ → List Action → Option Refusal → World × EventReply
 committing w number actions None =
     let commit = commit_by number actions in
     let now = w.history ++ commit ∷ [] in
@@ -133,7 +134,7 @@ committing w number actions None =
 committing w number actions (Some refusal) =
     (seen_by record w { rows = None } (Client number), Refused (length w.history) refusal.action refusal.cause)
 
-abbrev pub putting_rows : World → Who → Option (List Action) → Bool → Bool → World × Reply
+abbrev pub putting_rows : World → Who → Option (List Action) → Bool → Bool → World × EventReply
 putting_rows w (Client number) None true true = (seen_by record w { rows = None } (Client number), Done)
 putting_rows w (Client number) (Some actions) true true =
     committing w number actions (refusal_of w.base w.history actions)
@@ -143,30 +144,30 @@ putting_rows w (Dispatcher number) None true true =
     (with_dispatcher record w { rows = None } number marks, Done)
 putting_rows w who refresh known holds = (w, NotEnabled)
 
-abbrev pub looking : World → Who → Bool → World × Reply
+abbrev pub looking : World → Who → Bool → World × EventReply
 looking w who true = (seen_by w who, Length (length w.history))
 looking w who false = (w, NotEnabled)
 
-abbrev pub posting : World → ℕ → Questions → Option Mailbox → World × Reply
+abbrev pub posting : World → ℕ → Questions → Option Mailbox → World × EventReply
 posting w client questions (Some empty) =
     (with_client w client (λ c. record c { mailbox = asked questions (length c.seen) }), Done)
 posting w client questions other = (w, NotEnabled)
 
-abbrev pub grabbing : World → ℕ → ℕ → Bool → Option Mailbox → World × Reply
+abbrev pub grabbing : World → ℕ → ℕ → Bool → Option Mailbox → World × EventReply
 grabbing w number client true (Some (asked questions floor)) =
     (with_dispatcher (into_mailbox w client (in_hand number questions floor)) number unmarked, Asks questions)
 grabbing w number client known other = (w, NotEnabled)
 
-abbrev pub taking_writer : World → ℕ → Bool → Option ℕ → World × Reply
+abbrev pub taking_writer : World → ℕ → Bool → Option ℕ → World × EventReply
 taking_writer w number true None = (with_dispatcher record w { writer = Some number } number unmarked, Done)
 taking_writer w number known holder = (w, NotEnabled)
 
-abbrev pub putting_writer : World → ℕ → Bool → Bool → World × Reply
+abbrev pub putting_writer : World → ℕ → Bool → Bool → World × EventReply
 putting_writer w number true true =
     (with_dispatcher record w { writer = None } number (λ d. record d { version = d.mark }), Done)
 putting_writer w number known holds = (w, NotEnabled)
 
-abbrev pub answering : World → ℕ → ℕ → Option ℕ → Option Mailbox → World × Reply
+abbrev pub answering : World → ℕ → ℕ → Option ℕ → Option Mailbox → World × EventReply
 answering w number client (Some at) (Some (in_hand holder questions floor)) =
     let box = answered questions at (all_rows_after w.base questions (take at w.history)) in
     if holder == number then
@@ -174,7 +175,7 @@ answering w number client (Some at) (Some (in_hand holder questions floor)) =
     else (w, NotEnabled)
 answering w number client version other = (w, NotEnabled)
 
-abbrev pub giving_up : World → ℕ → ℕ → Cause → Bool → Option Mailbox → World × Reply
+abbrev pub giving_up : World → ℕ → ℕ → Cause → Bool → Option Mailbox → World × EventReply
 giving_up w number client cause true (Some (in_hand holder questions floor)) =
     let box = unserved questions cause in
     if holder == number then
@@ -182,13 +183,13 @@ giving_up w number client cause true (Some (in_hand holder questions floor)) =
     else (w, NotEnabled)
 giving_up w number client cause known other = (w, NotEnabled)
 
-abbrev pub collecting : World → ℕ → Option Mailbox → World × Reply
+abbrev pub collecting : World → ℕ → Option Mailbox → World × EventReply
 collecting w client (Some (answered questions at rows)) = (into_mailbox w client empty, Rows questions at rows)
 collecting w client (Some (unserved questions cause)) = (into_mailbox w client empty, Unserved questions cause)
 collecting w client other = (w, NotEnabled)
 
 -- what an event leaves of a world, and the reply to it. An unknown number is never enabled
-abbrev pub step_of : World → Event → World × Reply
+abbrev pub step_of : World → Event → World × EventReply
 step_of w (TakeRows who) = taking_rows w who (is_known w who) w.rows
 step_of w (PutRows who refresh) = putting_rows w who refresh (is_known w who) (holds_rows w.rows who)
 step_of w (Look who) = looking w who (is_known w who)
@@ -204,6 +205,6 @@ step_of w (GiveUp number client cause) =
 step_of w (Collect client) = collecting w client (mailbox_of (numbered w.clients client))
 
 -- the replies to these events in turn, and the world at their end
-abbrev pub run_of : World → List Event → (List Reply) × World
+abbrev pub run_of : World → List Event → (List EventReply) × World
 run_of w [] = ([], w)
 run_of w (event ∷ events) = let next = step_of w event in let rest = run_of next.0 events in (next.1 ∷ rest.0, rest.1)

@@ -60,7 +60,7 @@ impl GivenList {
 
 /// How many commits a dispatcher has seen, its mark, its version, and the answers that it gave.
 #[derive(Drop)]
-pub struct Dispatcher {
+pub struct WorldDispatcher {
     pub seen: usize,
     pub mark: Option<u64>,
     pub version: Option<u64>,
@@ -68,12 +68,12 @@ pub struct Dispatcher {
 }
 
 /// So many dispatchers, numbered from 1, which have seen nothing and have given no answer.
-pub fn opening_dispatchers(alloc: Global, count: u32) -> Result<Vec<Dispatcher>, AllocError>
+pub fn opening_dispatchers(alloc: Global, count: u32) -> Result<Vec<WorldDispatcher>, AllocError>
     ensures { IfOk result (λ list. OpeningDispatchers count list.items) }
 {
     let mut list = Vec::new(alloc);
     for _ in 0..count {
-        list.push(Dispatcher {
+        list.push(WorldDispatcher {
             seen: 0,
             mark: None,
             version: None,

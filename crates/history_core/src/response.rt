@@ -33,11 +33,11 @@ fn put_rows(
     ensures { answers.new.items ≡ answers.old.items ++ answers_with at questions.items rows.items }
 {
     let mut lists = rows.into_iter();
-    for query in questions {
+    for question in questions {
         let Some(rows) = lists.next() else {
             return;
         };
-        answers.push_reserved(Answer::Rows { query, at, rows });
+        answers.push_reserved(Answer::Rows { question, at, rows });
     }
 }
 
@@ -46,8 +46,8 @@ fn put_unserved(questions: Vec<Question>, cause: Unserved, answers: &mut Vec<Ans
     requires { vec_len answers.old + vec_len questions ≤ vec_capacity answers.old }
     ensures { answers.new.items ≡ answers.old.items ++ map (λ question. WithoutRows question cause) questions.items }
 {
-    for query in questions {
-        answers.push_reserved(Answer::Unserved { query, cause });
+    for question in questions {
+        answers.push_reserved(Answer::Unserved { question, cause });
     }
 }
 

@@ -4,6 +4,7 @@ ghost use Rattle.std.specs.Prelude.{◌≡◌, ◌≤◌, ◌<◌, length, take,
 ghost use Rattle.row_store.specs.Legal.{IsLegal};
 ghost use Rattle.history_core.specs.declared.event.Who.TheVariants.{Client, Dispatcher};
 ghost use Rattle.history_core.specs.Applying.{applied};
+ghost use Rattle.history_core.specs.Counts.{most_clients};
 ghost use Rattle.history_core.specs.Events.{event_of, TakeRows, PutRows, Look, Post};
 ghost use Rattle.history_core.specs.Events.{Grab, TakeWriter, PutWriter, Answer, GiveUp};
 ghost use Rattle.history_core.specs.Mailboxes.{floor_of, asked_of, held_of, left_in, collected_of};
@@ -15,7 +16,7 @@ ghost use Rattle.history_core.specs.World.{with_dispatcher, seen_by, into_mailbo
 
 use crate::client::{self, opening_clients};
 use crate::dispatcher::{self, Given, Outcome, opening_dispatchers};
-use crate::event::{Event, Reply, Who};
+use crate::event::{Event, EventReply, Who};
 use crate::mailbox::Mailbox;
 use crate::numbered::{find, place_of};
 use crate::questions::share;
@@ -40,8 +41,8 @@ pub struct World {
     commits: Vec<Commit>,
     rows: Option<Who>,
     writer: Option<u32>,
-    clients: Vec<client::Client>,
-    dispatchers: Vec<dispatcher::Dispatcher>,
+    clients: Vec<client::WorldClient>,
+    dispatchers: Vec<dispatcher::WorldDispatcher>,
 }
 
 impl Model for World {
@@ -60,7 +61,7 @@ impl Model for World {
 #[derive(Drop)]
 pub struct Stopped {
     pub events: usize,
-    pub replies: Vec<Reply>,
+    pub replies: Vec<EventReply>,
 }
 
 fn same(holder: Who, who: Who) -> bool
@@ -83,7 +84,7 @@ impl World {
         clients: u32,
         dispatchers: u32,
     ) -> Result<World, AllocError>
-        requires clients { (1 ≤ clients) × (clients ≤ 16) }
+        requires clients { (1 ≤ clients) × (clients ≤ most_clients) }
         requires dispatchers { (1 ≤ dispatchers) × (dispatchers ≤ 4) }
         ensures { IfOk result (λ world. world ≡ opening_world base.value clients dispatchers) }
     {
@@ -105,7 +106,7 @@ impl World {
 
     /// Takes an event and replies to it. An event that is not enabled changes nothing, and neither does running
     /// out of memory.
-    pub fn step(&mut self, event: &Event) -> Result<Reply, AllocError>
+    pub fn step(&mut self, event: &Event) -> Result<EventReply, AllocError>
         ensures stepped { IfOk result (λ reply. step_of self.old (event_of event.now) ≡ (self.new, reply)) }
         ensures unchanged { OnErr result (self.new ≡ self.old) }
     {
@@ -115,7 +116,7 @@ impl World {
             Event::PutRows(Who::Client(number), Some(refresh)) => {
                 self.put_refresh(*number, refresh)
             }
-            Event::PutRows(Who::Dispatcher(_), Some(_)) => Ok(Reply::NotEnabled),
+            Event::PutRows(Who::Dispatcher(_), Some(_)) => Ok(EventReply::NotEnabled),
             Event::Look(who) => Ok(self.look(*who)),
             Event::Post(client, questions) => self.post(*client, questions),
             Event::Grab(dispatcher, client) => self.grab(*dispatcher, *client),
@@ -130,7 +131,7 @@ impl World {
     }
 
     /// Takes the events in turn. The room for each reply is taken before its event, so that no reply is lost.
-    pub fn run(&mut self, events: &[Event]) -> Result<Vec<Reply>, Stopped>
+    pub fn run(&mut self, events: &[Event]) -> Result<Vec<EventReply>, Stopped>
         ensures ran { IfOk result (λ replies. HasRun self.old (map event_of events.now) replies.items self.new) }
         ensures true_run { IfOk result (λ replies.
             IsTrueFromOpening self.old (map event_of events.now) replies.items self.new) }
@@ -164,55 +165,55 @@ impl World {
 // The events.
 impl World {
     // The row store is given out, while it is home, and its holder sees the whole history.
-    fn take_rows(&mut self, who: Who) -> Reply
+    fn take_rows(&mut self, who: Who) -> EventReply
         ensures { step_of self.old (TakeRows who) ≡ (self.new, result) }
     {
         if !self.knows(who) {
-            return Reply::NotEnabled;
+            return EventReply::NotEnabled;
         }
         if self.rows.is_some() {
-            return Reply::NotEnabled;
+            return EventReply::NotEnabled;
         }
         self.hold_rows(Some(who));
         self.see(who);
-        Reply::Done
+        EventReply::Done
     }
 
     // The row store comes home as it was.
-    fn return_rows(&mut self, who: Who) -> Reply
+    fn return_rows(&mut self, who: Who) -> EventReply
         ensures { step_of self.old (PutRows who None) ≡ (self.new, result) }
     {
         if !self.knows(who) {
-            return Reply::NotEnabled;
+            return EventReply::NotEnabled;
         }
         if !self.holds_rows(who) {
-            return Reply::NotEnabled;
+            return EventReply::NotEnabled;
         }
         self.hold_rows(None);
         match who {
             Who::Client(_) => {
                 self.see(who);
-                Reply::Done
+                EventReply::Done
             }
             Who::Dispatcher(number) => {
                 self.mark(number);
-                Reply::Done
+                EventReply::Done
             }
         }
     }
 
     // The row store comes home with a client's refresh.
-    fn put_refresh(&mut self, client: u32, refresh: &Arc<Refresh>) -> Result<Reply, AllocError>
+    fn put_refresh(&mut self, client: u32, refresh: &Arc<Refresh>) -> Result<EventReply, AllocError>
         ensures stepped { IfOk result (λ reply.
             step_of self.old (PutRows (Client client) (Some refresh.now.value)) ≡ (self.new, reply)) }
         ensures unchanged { OnErr result (self.new ≡ self.old) }
     {
         let who = Who::Client(client);
         if !self.knows(who) {
-            return Ok(Reply::NotEnabled);
+            return Ok(EventReply::NotEnabled);
         }
         if !self.holds_rows(who) {
-            return Ok(Reply::NotEnabled);
+            return Ok(EventReply::NotEnabled);
         }
         let reply = self.apply(client, refresh)?;
         self.hold_rows(None);
@@ -221,40 +222,40 @@ impl World {
     }
 
     // The whole history is seen.
-    fn look(&mut self, who: Who) -> Reply
+    fn look(&mut self, who: Who) -> EventReply
         ensures { step_of self.old (Look who) ≡ (self.new, result) }
     {
         if !self.knows(who) {
-            return Reply::NotEnabled;
+            return EventReply::NotEnabled;
         }
         let length = self.store.len();
         self.see(who);
-        Reply::Length(length as u64)
+        EventReply::Length(length as u64)
     }
 
     // Questions go into the client's empty mailbox, with what the client has seen as their floor.
-    fn post(&mut self, client: u32, questions: &Items<Question>) -> Result<Reply, AllocError>
+    fn post(&mut self, client: u32, questions: &Items<Question>) -> Result<EventReply, AllocError>
         ensures stepped { IfOk result (λ reply. step_of self.old (Post client questions.now) ≡ (self.new, reply)) }
         ensures unchanged { OnErr result (self.new ≡ self.old) }
     {
         let Some(floor) = self.floor(client) else {
-            return Ok(Reply::NotEnabled);
+            return Ok(EventReply::NotEnabled);
         };
         let questions = share(self.alloc, questions)?;
         self.put(client, Mailbox::Asked { questions, floor });
-        Ok(Reply::Done)
+        Ok(EventReply::Done)
     }
 
     // A request goes from its mailbox into the hand of a dispatcher, whose mark and version are void.
-    fn grab(&mut self, number: u32, client: u32) -> Result<Reply, AllocError>
+    fn grab(&mut self, number: u32, client: u32) -> Result<EventReply, AllocError>
         ensures stepped { IfOk result (λ reply. step_of self.old (Grab number client) ≡ (self.new, reply)) }
         ensures unchanged { OnErr result (self.new ≡ self.old) }
     {
         if !self.knows(Who::Dispatcher(number)) {
-            return Ok(Reply::NotEnabled);
+            return Ok(EventReply::NotEnabled);
         }
         let Some((questions, floor)) = self.asked(client)? else {
-            return Ok(Reply::NotEnabled);
+            return Ok(EventReply::NotEnabled);
         };
         let shared = share(self.alloc, &questions)?;
         let mailbox = Mailbox::InHand {
@@ -264,49 +265,49 @@ impl World {
         };
         self.put(client, mailbox);
         self.unmark(number);
-        Ok(Reply::Asked(shared))
+        Ok(EventReply::Asked(shared))
     }
 
     // The writer is given out, while it is home. The mark and the version of its holder are void.
-    fn take_writer(&mut self, number: u32) -> Reply
+    fn take_writer(&mut self, number: u32) -> EventReply
         ensures { step_of self.old (TakeWriter number) ≡ (self.new, result) }
     {
         if !self.knows(Who::Dispatcher(number)) {
-            return Reply::NotEnabled;
+            return EventReply::NotEnabled;
         }
         if self.writer.is_some() {
-            return Reply::NotEnabled;
+            return EventReply::NotEnabled;
         }
         self.hold_writer(Some(number));
         self.unmark(number);
-        Reply::Done
+        EventReply::Done
     }
 
     // The writer comes home: the mark is the version.
-    fn put_writer(&mut self, number: u32) -> Reply
+    fn put_writer(&mut self, number: u32) -> EventReply
         ensures { step_of self.old (PutWriter number) ≡ (self.new, result) }
     {
         if !self.knows(Who::Dispatcher(number)) {
-            return Reply::NotEnabled;
+            return EventReply::NotEnabled;
         }
         if !self.holds_writer(number) {
-            return Reply::NotEnabled;
+            return EventReply::NotEnabled;
         }
         self.hold_writer(None);
         self.set_version(number);
-        Reply::Done
+        EventReply::Done
     }
 
     // The request in hand is answered at the version. All that can fail comes before the first change.
-    fn answer(&mut self, number: u32, client: u32) -> Result<Reply, AllocError>
+    fn answer(&mut self, number: u32, client: u32) -> Result<EventReply, AllocError>
         ensures stepped { IfOk result (λ reply. step_of self.old (Answer number client) ≡ (self.new, reply)) }
         ensures unchanged { OnErr result (self.new ≡ self.old) }
     {
         let Some(at) = self.version(number) else {
-            return Ok(Reply::NotEnabled);
+            return Ok(EventReply::NotEnabled);
         };
         let Some((questions, floor)) = self.held(number, client)? else {
-            return Ok(Reply::NotEnabled);
+            return Ok(EventReply::NotEnabled);
         };
         let rows = self.all_rows_after(&questions, at)?;
         let given = Given {
@@ -323,19 +324,24 @@ impl World {
                 rows,
             },
         );
-        Ok(Reply::Done)
+        Ok(EventReply::Done)
     }
 
     // The request in hand is given up.
-    fn give_up(&mut self, number: u32, client: u32, cause: Unserved) -> Result<Reply, AllocError>
+    fn give_up(
+        &mut self,
+        number: u32,
+        client: u32,
+        cause: Unserved,
+    ) -> Result<EventReply, AllocError>
         ensures stepped { IfOk result (λ reply. step_of self.old (GiveUp number client cause) ≡ (self.new, reply)) }
         ensures unchanged { OnErr result (self.new ≡ self.old) }
     {
         if !self.knows(Who::Dispatcher(number)) {
-            return Ok(Reply::NotEnabled);
+            return Ok(EventReply::NotEnabled);
         }
         let Some((questions, floor)) = self.held(number, client)? else {
-            return Ok(Reply::NotEnabled);
+            return Ok(EventReply::NotEnabled);
         };
         let given = Given {
             client,
@@ -344,7 +350,7 @@ impl World {
         };
         self.give(number, given)?;
         self.put(client, Mailbox::Unserved { questions, cause });
-        Ok(Reply::Done)
+        Ok(EventReply::Done)
     }
 }
 
@@ -505,13 +511,13 @@ impl World {
     }
 
     // Hands out the answer in a client's mailbox, if there is one.
-    fn collect(&mut self, client: u32) -> Reply
+    fn collect(&mut self, client: u32) -> EventReply
         ensures left { self.new ≡ with_client self.old client (λ c. record c { mailbox = left_in c.mailbox }) }
         ensures reply { result ≡ collected_of (mailbox_of (numbered self.old.clients client)) }
     {
         match place_of(client, self.clients.len()) {
             Some(place) => self.clients[place].mailbox.collect(),
-            None => Reply::NotEnabled,
+            None => EventReply::NotEnabled,
         }
     }
 
@@ -559,7 +565,7 @@ impl World {
     }
 
     // Applies a client's refresh, which is accepted or refused.
-    fn apply(&mut self, client: u32, refresh: &Arc<Refresh>) -> Result<Reply, AllocError>
+    fn apply(&mut self, client: u32, refresh: &Arc<Refresh>) -> Result<EventReply, AllocError>
         ensures applied { IfOk result (λ reply. applied self.old client refresh.now.value ≡ (self.new, reply)) }
         ensures unchanged { OnErr result (self.new ≡ self.old) }
     {
@@ -569,7 +575,7 @@ impl World {
         let receipt = match self.store.apply(client, refresh) {
             Ok(receipt) => receipt,
             Err(ApplyError::Refused(refusal)) => {
-                return Ok(Reply::Refused {
+                return Ok(EventReply::Refused {
                     at: self.store.len() as u64,
                     action: refusal.action,
                     cause: refusal.cause,
@@ -582,6 +588,6 @@ impl World {
             refresh: kept,
         };
         self.commits.push_reserved(commit);
-        Ok(Reply::Committed(receipt.number))
+        Ok(EventReply::Committed(receipt.number))
     }
 }

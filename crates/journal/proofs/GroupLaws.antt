@@ -1,11 +1,15 @@
 -- What files of groups stand for.
-use Rattle.std.proofs.Common.{◌≡◌, ◌≢◌, inl, inr, ℕ, zero, suc, ◌+◌, ◌<◌, ◌≤◌, true, false, nat_eq, nat_le, List, [], ◌∷◌, ◌++◌, length, take, drop, refl, sym, ◌∙◌, ap, subst, arith, append_assoc, length-append, length-drop, take-append-drop, Some, None}
+use Rattle.std.proofs.Common.{◌≡◌, ◌≢◌, inl, inr, ℕ, zero, suc, ◌+◌, ◌<◌, ◌≤◌, true, false, nat_eq, nat_le, List, []}
+use Rattle.std.proofs.Common.{◌∷◌, ◌++◌, length, take, drop, refl, sym, ◌∙◌, ap, subst, arith, append_assoc}
+use Rattle.std.proofs.Common.{length-append, length-drop, take-append-drop, Some, None}
 use Rattle.std.specs.List.{starts_with}
-use Rattle.std.proofs.lemmas.Bool.{cases_Bool, both_ways, and_parts, and_from, and_left, and_right, leb-true, le-leb, lt-leb, ne_eqb, cond-true, cond-false}
+use Rattle.std.proofs.lemmas.Bool.{cases_Bool, both_ways, and_parts, and_from, and_left, and_right, leb-true, le-leb}
+use Rattle.std.proofs.lemmas.Bool.{lt-leb, ne_eqb, cond-true, cond-false}
 use Rattle.std.proofs.lemmas.Bool.Decides.{Decides-eqb}
 use Rattle.std.proofs.lemmas.List.{append-nil, take_at, drop_at, drop-drop, length-take-le}
 use Rattle.std.proofs.lemmas.Slice.Eq.{starts_is}
-use Rattle.journal.specs.Groups.{digits, number_from, head, block, blocks, told, is_whole, whole_length, recovered_in, recovered, IsFirst}
+use Rattle.journal.specs.Groups.{digits, number_from, head, block, blocks, told, is_whole, whole_length, recovered_in}
+use Rattle.journal.specs.Groups.{recovered, IsFirst}
 use Rattle.journal.proofs.DigitLaws.{length-digits}
 
 -- fifteen digits tell its length

@@ -1,13 +1,17 @@
 -- What a crash leaves in each step of an append and of a recovery.
-use Rattle.std.proofs.Common.{◌≡◌, inl, inr, ℕ, ◌+◌, ◌-◌, ◌≤◌, ◌^◌, false, List, [], ◌∷◌, ◌++◌, refl, length, get_or, take, drop, sym, ◌∙◌, ap, subst, arith, append_assoc, length-append, length-drop, take-append-drop}
+use Rattle.std.proofs.Common.{◌≡◌, inl, inr, ℕ, ◌+◌, ◌-◌, ◌≤◌, ◌^◌, false, List, [], ◌∷◌, ◌++◌, refl, length, get_or}
+use Rattle.std.proofs.Common.{take, drop, sym, ◌∙◌, ap, subst, arith, append_assoc, length-append, length-drop}
+use Rattle.std.proofs.Common.{take-append-drop}
 use Rattle.std.proofs.lemmas.Bool.{cases_eq}
 use Rattle.std.proofs.lemmas.List.{take_at, drop_at, drop_more, take_all, drop_all, append-nil}
 use Rattle.std.proofs.Math.Seq.{take-append-add}
 use Rattle.journal.specs.Disk.{Holds, Torn, Cut, Only}
-use Rattle.journal.specs.Groups.{head, block, is_whole, recovered, blocks, at_rest, IsSettled, IsBeforeOrAfter, IsMending, IsAppending, behind_gate}
+use Rattle.journal.specs.Groups.{head, block, is_whole, recovered, blocks, at_rest, IsSettled, IsBeforeOrAfter}
+use Rattle.journal.specs.Groups.{IsMending, IsAppending, behind_gate}
 use Rattle.journal.specs.declared.gated.GatedFile.{GatedFile}
 use Rattle.journal.proofs.DigitLaws.{number-digits}
-use Rattle.journal.proofs.GroupLaws.{IsTold, AllTold, recovered-blocks, recovered_then_none, blocks-push, closed, short_none, length-head, parts, front_nothing}
+use Rattle.journal.proofs.GroupLaws.{IsTold, AllTold, recovered-blocks, recovered_then_none, blocks-push, closed}
+use Rattle.journal.proofs.GroupLaws.{short_none, length-head, parts, front_nothing}
 
 -- what is written behind the closed gate
 abbrev pub tail : List ℕ → List ℕ

@@ -1,27 +1,6 @@
 -- A commit's action on lines, told apart: the earlier lines that stay, and what comes behind them.
-use Rattle.std.proofs.Common.{
-  ◌≡◌,
-  ℕ,
-  Bool,
-  true,
-  false,
-  cond,
-  not,
-  ◌||◌,
-  eqb,
-  List,
-  [],
-  ◌∷◌,
-  ◌++◌,
-  sym,
-  refl,
-  ap,
-  ◌∙◌,
-  arith,
-  flat_map,
-  append_assoc,
-  append-nil,
-}
+use Rattle.std.proofs.Common.{◌≡◌, ℕ, Bool, true, false, cond, not, ◌||◌, eqb, List, [], ◌∷◌, ◌++◌, sym, refl, ap, ◌∙◌}
+use Rattle.std.proofs.Common.{arith, flat_map, append_assoc, append-nil}
 use Rattle.std.specs.List.{list_any}
 use Rattle.std.proofs.lemmas.Bool.Decides.{nat_tests}
 use Rattle.std.proofs.lemmas.List.Elements.{filter-append}

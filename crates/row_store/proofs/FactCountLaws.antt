@@ -1,31 +1,6 @@
 -- How often each fact counts: after one fact more, after a list of facts, and without an order.
-use Rattle.std.proofs.Common.{
-  ◌≡◌,
-  ℕ,
-  zero,
-  suc,
-  ◌+◌,
-  ◌<◌,
-  Bool,
-  true,
-  false,
-  cond,
-  not,
-  eqb,
-  List,
-  [],
-  ◌∷◌,
-  fold,
-  unwrap_or,
-  Option,
-  Some,
-  None,
-  sym,
-  refl,
-  ap,
-  ◌∙◌,
-  arith,
-}
+use Rattle.std.proofs.Common.{◌≡◌, ℕ, zero, suc, ◌+◌, ◌<◌, Bool, true, false, cond, not, eqb, List, [], ◌∷◌, fold}
+use Rattle.std.proofs.Common.{unwrap_or, Option, Some, None, sym, refl, ap, ◌∙◌, arith}
 use Rattle.std.specs.List.{count_by}
 use Rattle.std.specs.Ordering.{is_eq}
 use Rattle.std.specs.FinMap as map
@@ -34,15 +9,8 @@ use Rattle.std.proofs.lemmas.List.Sums.{sum_by-cons, fold-append}
 use Rattle.std.proofs.lemmas.List.Sorted.{sum_by-IsPermutation}
 use Rattle.ssb_schema.specs.declared.fact.Fact.{Fact}
 use Rattle.row_store.specs.State.{Counts, fact_cmp, is_same, occurrences, count_of, with_fact, counts_without}
-use Rattle.row_store.specs.Laws.{
-  SameFactsAreEqual,
-  CountsTellOccurrences,
-  OneFactCountsOnce,
-  WithoutAnOrder,
-  AppendedFactsCount,
-  FactsCommute,
-  RearrangedCountEqual,
-}
+use Rattle.row_store.specs.Laws.{SameFactsAreEqual, CountsTellOccurrences, OneFactCountsOnce, WithoutAnOrder}
+use Rattle.row_store.specs.Laws.{AppendedFactsCount, FactsCommute, RearrangedCountEqual}
 use Rattle.row_store.proofs.StateLaws.{total_order, only_equal, tied, get_kept}
 
 pub same_facts_are_equal : SameFactsAreEqual

@@ -1,47 +1,8 @@
 -- The loaded lines in the order of an index.
-use Rattle.std.proofs.Common.{
-  ◌≡◌,
-  ◌≢◌,
-  ℕ,
-  ◌+◌,
-  ◌-◌,
-  ◌<◌,
-  ◌≤◌,
-  Bool,
-  true,
-  false,
-  cond,
-  not,
-  ◌&&◌,
-  eqb,
-  ltb,
-  ne_eqb,
-  List,
-  [],
-  ◌∷◌,
-  ◌++◌,
-  length,
-  take,
-  drop,
-  get_or,
-  slice_get,
-  slice_range,
-  slice_index,
-  All,
-  Option,
-  Some,
-  sym,
-  refl,
-  ap,
-  ◌∙◌,
-  subst,
-  arith,
-  zero,
-  suc,
-  length-append,
-  length-drop,
-  append_assoc,
-}
+use Rattle.std.proofs.Common.{◌≡◌, ◌≢◌, ℕ, ◌+◌, ◌-◌, ◌<◌, ◌≤◌, Bool, true, false, cond, not, ◌&&◌, eqb, ltb, ne_eqb}
+use Rattle.std.proofs.Common.{List, [], ◌∷◌, ◌++◌, length, take, drop, get_or, slice_get, slice_range, slice_index, All}
+use Rattle.std.proofs.Common.{Option, Some, sym, refl, ap, ◌∙◌, subst, arith, zero, suc, length-append, length-drop}
+use Rattle.std.proofs.Common.{append_assoc}
 use Rattle.std.proofs.Math.Seq.{take-add}
 use Rattle.std.specs.Option.{option_map_or}
 use Rattle.std.specs.Ordering.{nat_cmp, is_lt}
@@ -57,7 +18,7 @@ use Rattle.std.proofs.lemmas.List.Sorted.{All-permutation, sum_by-IsPermutation}
 use Rattle.std.proofs.lemmas.List.FromFn.{get_or-range_with_len, length-range_with_len}
 use Rattle.ssb_schema.specs.declared.line.LineFields.{LineFields}
 use Rattle.row_store.specs.Lines.{is_of, lines_of}
-use Rattle.row_store.specs.declared.place.Place.{Place}
+use Rattle.row_store.specs.declared.place.OrderPlace.{OrderPlace}
 use Rattle.row_store.specs.declared.place.Source.TheVariants.{Loaded}
 use Rattle.row_store.specs.Keyed.{Sources, IsAt, Located, key_at, lines_at}
 use Rattle.row_store.proofs.CountedLaws.{HaveKey, lines_of-own, lines_of-append}
@@ -319,7 +280,7 @@ module _ (lines : List LineFields) (index : List ℕ) (inside : All (λ i. i < l
       ap length own ∙ length-lines_at lines run run_inside ∙ length-run in
       omega (arith, few, count, outer, inner, long)
 
-  pub next_located : (f g : ℕ → Option Place) (key : ℕ)
+  pub next_located : (f g : ℕ → Option OrderPlace) (key : ℕ)
       → key ≡ key_at lines (slice_index index first) → length (lines_of key (lines_at lines index)) ≤ 7
       → ((q : ℕ) → g q ≡ cond (eqb key q) (Some (record { lines = end - first; source = Loaded first })) (f q))
       → Located (record { loaded = lines; index = index }) f (lines_at lines (take first index))
@@ -327,7 +288,7 @@ module _ (lines : List LineFields) (index : List ℕ) (inside : All (λ i. i < l
   unfolding run
   next_located f g key same few now each =
       let sources : Sources = record { loaded = lines; index = index } in
-      let place : Place = record { lines = end - first; source = Loaded first } in
+      let place : OrderPlace = record { lines = end - first; source = Loaded first } in
       let at : IsAt sources place (lines_at lines run) = record {
         found = refl;
         count = sym (length-lines_at lines run run_inside ∙ length-run);

@@ -1,46 +1,26 @@
 -- What a change at one key does to the places.
-use Rattle.std.proofs.Common.{
-  ◌≡◌,
-  ℕ,
-  Bool,
-  true,
-  false,
-  cond,
-  eqb,
-  List,
-  [],
-  ◌∷◌,
-  ◌++◌,
-  slice_get,
-  Option,
-  Some,
-  None,
-  sym,
-  refl,
-  ap,
-  ◌∙◌,
-  subst,
-}
+use Rattle.std.proofs.Common.{◌≡◌, ℕ, Bool, true, false, cond, eqb, List, [], ◌∷◌, ◌++◌, slice_get, Option, Some, None}
+use Rattle.std.proofs.Common.{sym, refl, ap, ◌∙◌, subst}
 use Rattle.std.specs.Option.{option_map_or}
 use Rattle.std.proofs.lemmas.Bool.{eqb-true, eq-eqb}
 use Rattle.ssb_schema.specs.declared.line.LineFields.{LineFields}
 use Rattle.ssb_schema.specs.declared.refresh.Action.{Action}
 use Rattle.row_store.specs.Lines.{added_by, lines_of, lines_without}
-use Rattle.row_store.specs.declared.place.Place.{Place}
+use Rattle.row_store.specs.declared.place.OrderPlace.{OrderPlace}
 use Rattle.row_store.specs.Keyed.{Sources, Located, Lies, IsAt, order_at}
 use Rattle.row_store.proofs.CountedLaws.{HaveKey, lines_more, lines_other, lines_gone, lines_kept}
 
 differs : (a b : ℕ) → eqb a b ≡ false → (a ≡ b → ⊥)
 differs a b is e = let same : eqb a b ≡ true = eq-eqb a b e in absurd (cc)
 
-moved : (sources : Sources) (a b : Option Place) (xs ys : List LineFields) → a ≡ b → xs ≡ ys → Lies sources b ys
+moved : (sources : Sources) (a b : Option OrderPlace) (xs ys : List LineFields) → a ≡ b → xs ≡ ys → Lies sources b ys
     → Lies sources a xs
-moved sources a b xs ys e f h = subst (λ (p : Option Place × List LineFields). Lies sources p.0 p.1)
+moved sources a b xs ys e f h = subst (λ (p : Option OrderPlace × List LineFields). Lies sources p.0 p.1)
     (λ i. (sym e i, sym f i)) h
 
 -- the places after a change at one key
-located_change : (sources : Sources) (f g : ℕ → Option Place) (before after : List LineFields) (key : ℕ)
-    (place : Option Place) → ((q : ℕ) → g q ≡ cond (eqb key q) place (f q))
+located_change : (sources : Sources) (f g : ℕ → Option OrderPlace) (before after : List LineFields) (key : ℕ)
+    (place : Option OrderPlace) → ((q : ℕ) → g q ≡ cond (eqb key q) place (f q))
     → Lies sources place (lines_of key after) → ((q : ℕ) → (key ≡ q → ⊥) → lines_of q after ≡ lines_of q before)
     → Located sources f before → Located sources g after
 located_change sources f g before after key place now at others each q = step (eqb key q) refl
@@ -51,9 +31,9 @@ located_change sources f g before after key place now at others each q = step (e
     step false is = moved sources (g q) (f q) (lines_of q after) (lines_of q before)
         (now q ∙ ap (λ b. cond b place (f q)) is) (others q (differs key q is)) (each q)
 
-module _ (sources : Sources) (f g : ℕ → Option Place) (lines : List LineFields) where
+module _ (sources : Sources) (f g : ℕ → Option OrderPlace) (lines : List LineFields) where
   -- an order more, whose key had no lines
-  pub located_more : (order : List LineFields) (key : ℕ) (place : Place)
+  pub located_more : (order : List LineFields) (key : ℕ) (place : OrderPlace)
       → ((q : ℕ) → g q ≡ cond (eqb key q) (Some place) (f q)) → IsAt sources place order → HaveKey key order
       → lines_of key lines ≡ []
       → Located sources f lines → Located sources g (lines ++ order)
@@ -68,7 +48,7 @@ module _ (sources : Sources) (f g : ℕ → Option Place) (lines : List LineFiel
       located_change sources f g lines (lines_without key lines) key None now (lines_gone key key lines refl)
       (λ q apart. lines_kept q key lines apart) each
 
-  pub located_amended : (order : List LineFields) (key : ℕ) (place : Place)
+  pub located_amended : (order : List LineFields) (key : ℕ) (place : OrderPlace)
       → ((q : ℕ) → g q ≡ cond (eqb key q) (Some place) (f q)) → IsAt sources place order → HaveKey key order
       → Located sources f lines → Located sources g (lines_without key lines ++ order)
   located_amended order key place now at alike each =
@@ -82,6 +62,6 @@ pub order_at-action : (actions : List Action) (k : ℕ) (action : Action) → sl
     → order_at actions k ≡ added_by action
 order_at-action actions k action here = ap (λ o. option_map_or added_by o []) here
 
-pub moves : (f g : ℕ → Option Place) (sources : Sources) (lines : List LineFields) → ((q : ℕ) → g q ≡ f q)
+pub moves : (f g : ℕ → Option OrderPlace) (sources : Sources) (lines : List LineFields) → ((q : ℕ) → g q ≡ f q)
     → Located sources f lines → Located sources g lines
 moves f g sources lines same each q = subst (λ p. Lies sources p (lines_of q lines)) (sym (same q)) (each q)

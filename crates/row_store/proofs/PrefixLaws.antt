@@ -1,33 +1,11 @@
 -- Beginnings of lists of commits.
-use Rattle.std.proofs.Common.{
-  ◌≡◌,
-  ℕ,
-  List,
-  [],
-  ◌∷◌,
-  ◌++◌,
-  length,
-  take,
-  drop,
-  refl,
-  ap,
-  sym,
-  ◌∙◌,
-  arith,
-  length-append,
-  append_assoc,
-}
+use Rattle.std.proofs.Common.{◌≡◌, ℕ, List, [], ◌∷◌, ◌++◌, length, take, drop, refl, ap, sym, ◌∙◌, arith, length-append}
+use Rattle.std.proofs.Common.{append_assoc}
 use Rattle.std.proofs.lemmas.List.{append-nil, take-append-drop, take-append-le}
 use Rattle.std.proofs.Math.Seq.{take-append_seam, drop-append_seam}
 use Rattle.row_store.specs.History.{CommitRecord, IsPrefix}
-use Rattle.row_store.specs.Laws.{
-  BeginsWithItself,
-  BeginningsChain,
-  OneMoreBeginsWithIt,
-  BeginningsOfOneAgree,
-  BeginningsAreShorter,
-  AsLongIsTheWhole,
-}
+use Rattle.row_store.specs.Laws.{BeginsWithItself, BeginningsChain, OneMoreBeginsWithIt, BeginningsOfOneAgree}
+use Rattle.row_store.specs.Laws.{BeginningsAreShorter, AsLongIsTheWhole}
 
 pub begins_with_itself : BeginsWithItself
 begins_with_itself history = record { rest = []; whole = sym (append-nil history) }

@@ -1,36 +1,11 @@
 -- Lists that have each fact as often are rearrangements of one another.
-use Rattle.std.proofs.Common.{
-  ℕ,
-  suc,
-  ◌≡◌,
-  ◌+◌,
-  ◌<◌,
-  Bool,
-  true,
-  false,
-  cond,
-  List,
-  [],
-  ◌∷◌,
-  length,
-  get_or,
-  sym,
-  refl,
-  ap,
-  ◌∙◌,
-  arith,
-}
+use Rattle.std.proofs.Common.{ℕ, suc, ◌≡◌, ◌+◌, ◌<◌, Bool, true, false, cond, List, [], ◌∷◌, length, get_or, sym, refl}
+use Rattle.std.proofs.Common.{ap, ◌∙◌, arith}
 use Rattle.std.specs.Prelude.{IsPermutation, remove}
 use Rattle.std.specs.Bool.{Decides}
 use Rattle.std.specs.List.{count_by}
-use Rattle.std.proofs.lemmas.List.Sorted.{
-  sum_by-IsPermutation,
-  IsPermutation-refl,
-  IsPermutation-sym,
-  IsPermutation-trans,
-  IsPermutation-cons,
-  IsPermutation-remove,
-}
+use Rattle.std.proofs.lemmas.List.Sorted.{sum_by-IsPermutation, IsPermutation-refl, IsPermutation-sym}
+use Rattle.std.proofs.lemmas.List.Sorted.{IsPermutation-trans, IsPermutation-cons, IsPermutation-remove}
 use Rattle.ssb_schema.specs.Facts.{facts_of}
 use Rattle.row_store.specs.History.{lines_after}
 use Rattle.row_store.specs.State.{is_same, count_of, state_after}

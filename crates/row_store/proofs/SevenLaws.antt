@@ -1,34 +1,6 @@
 -- Lines of one key with distinct numbers from 1 to 7 are at most seven.
-use Rattle.std.proofs.Common.{
-  ◌≡◌,
-  ℕ,
-  suc,
-  ◌+◌,
-  ◌<◌,
-  ◌≤◌,
-  Bool,
-  true,
-  false,
-  cond,
-  ◌&&◌,
-  ◌||◌,
-  eqb,
-  ne_eqb,
-  List,
-  [],
-  ◌∷◌,
-  length,
-  map,
-  take,
-  get_or,
-  All,
-  slice_get,
-  Some,
-  sym,
-  refl,
-  subst,
-  arith,
-}
+use Rattle.std.proofs.Common.{◌≡◌, ℕ, suc, ◌+◌, ◌<◌, ◌≤◌, Bool, true, false, cond, ◌&&◌, ◌||◌, eqb, ne_eqb, List, []}
+use Rattle.std.proofs.Common.{◌∷◌, length, map, take, get_or, All, slice_get, Some, sym, refl, subst, arith}
 use Rattle.std.specs.List.{IsDistinct, AllByRecursion, list_any}
 use Rattle.std.proofs.lemmas.Bool.{eqb-true}
 use Rattle.std.proofs.lemmas.Bool.Decides.{nat_tests}

@@ -1,31 +1,6 @@
 -- The state follows the lines: what an action does to the counts is what it does to the lines.
-use Rattle.std.proofs.Common.{
-  ◌≡◌,
-  ℕ,
-  ◌+◌,
-  Bool,
-  true,
-  false,
-  cond,
-  not,
-  eqb,
-  List,
-  [],
-  ◌∷◌,
-  ◌++◌,
-  length,
-  fold,
-  unwrap_or,
-  Option,
-  Some,
-  None,
-  sym,
-  refl,
-  ap,
-  ◌∙◌,
-  length-append,
-  append_assoc,
-}
+use Rattle.std.proofs.Common.{◌≡◌, ℕ, ◌+◌, Bool, true, false, cond, not, eqb, List, [], ◌∷◌, ◌++◌, length, fold}
+use Rattle.std.proofs.Common.{unwrap_or, Option, Some, None, sym, refl, ap, ◌∙◌, length-append, append_assoc}
 use Rattle.std.specs.List.{filter}
 use Rattle.std.specs.Ordering.{eq_by_cmp, is_eq}
 use Rattle.std.specs.declared.cmp.Ordering.{Ordering}
@@ -44,19 +19,8 @@ use Rattle.ssb_schema.specs.Facts.{fact_of, facts_of}
 use Rattle.ssb_schema.specs.Orders.{order_key}
 use Rattle.row_store.specs.Lines.{is_of, lines_without, lines_after_action, lines_after_refresh}
 use Rattle.row_store.specs.History.{CommitRecord, lines_after}
-use Rattle.row_store.specs.State.{
-  Counts,
-  fact_values,
-  fact_from,
-  fact_cmp,
-  count_of,
-  with_fact,
-  counts_without,
-  fact_counts,
-  counts_after_action,
-  state_after,
-  state_of,
-}
+use Rattle.row_store.specs.State.{Counts, fact_values, fact_from, fact_cmp, count_of, with_fact, counts_without}
+use Rattle.row_store.specs.State.{fact_counts, counts_after_action, state_after, state_of}
 
 pub total_order : IsTotalOrder fact_cmp
 total_order = on_texts fact_values

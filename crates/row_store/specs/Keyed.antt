@@ -9,7 +9,7 @@ use Rattle.row_store.specs.Lines.{lines_of, added_by}
 use Rattle.row_store.specs.History.{CommitRecord, lines_after}
 use Rattle.row_store.specs.Legal.{IsLegal}
 use Rattle.row_store.specs.Last.{AreLast}
-use Rattle.row_store.specs.declared.place.Place.{Place}
+use Rattle.row_store.specs.declared.place.OrderPlace.{OrderPlace}
 use Rattle.row_store.specs.declared.place.Source.{Source}
 use Rattle.row_store.specs.declared.place.Source.TheVariants.{Loaded, Added}
 
@@ -41,7 +41,7 @@ IsWithin sources count (Loaded first) = first + count ≤ length sources.index
 IsWithin sources count (Added refresh action) = Unit {0}
 
 -- these lines lie at the place, and there are one to seven
-pub record IsAt (sources : Sources) (place : Place) (lines : List LineFields) : Type 0 where
+pub record IsAt (sources : Sources) (place : OrderPlace) (lines : List LineFields) : Type 0 where
   pub found : lines_from sources place.lines place.source ≡ lines
   pub count : place.lines ≡ length lines
   pub some : 0 < place.lines
@@ -49,16 +49,16 @@ pub record IsAt (sources : Sources) (place : Place) (lines : List LineFields) : 
   pub within : IsWithin sources place.lines place.source
 
 -- an order with no place has no lines
-abbrev pub Lies : Sources → Option Place → List LineFields → Type 0
+abbrev pub Lies : Sources → Option OrderPlace → List LineFields → Type 0
 Lies sources None lines = lines ≡ []
 Lies sources (Some place) lines = IsAt sources place lines
 
 -- each key's place is that of its lines
-abbrev pub Located : Sources → (ℕ → Option Place) → List LineFields → Type 0
+abbrev pub Located : Sources → (ℕ → Option OrderPlace) → List LineFields → Type 0
 Located sources orders lines = (key : ℕ) → Lies sources (orders key) (lines_of key lines)
 
 -- each key has its place, the lines are counted together and within the limit, and the index names loaded lines
-pub record IsKeyed (base : Tables) (sources : Sources) (orders : ℕ → Option Place) (line_count : ℕ)
+pub record IsKeyed (base : Tables) (sources : Sources) (orders : ℕ → Option OrderPlace) (line_count : ℕ)
     (lines : List LineFields) : Type 0 where
   pub each : Located sources orders lines
   pub total : line_count ≡ length lines
@@ -67,7 +67,7 @@ pub record IsKeyed (base : Tables) (sources : Sources) (orders : ℕ → Option 
 
 -- the orders by key stand for the lines that the log leaves, the log is legal, and its last commits are at hand
 pub record IsStore (base : Tables) (index : List ℕ) (log recent : List CommitRecord) (count : ℕ)
-    (orders : ℕ → Option Place) (line_count : ℕ) : Type 0 where
+    (orders : ℕ → Option OrderPlace) (line_count : ℕ) : Type 0 where
   pub keyed : IsKeyed base (record { loaded = base.lines; index = index }) orders line_count (lines_after base log)
   pub legal : IsLegal base log
   pub last : AreLast log recent count

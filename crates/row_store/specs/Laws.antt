@@ -1,24 +1,6 @@
 -- Laws of histories and of states.
-use Rattle.std.specs.Prelude.{
-  ◌≡◌,
-  ℕ,
-  ◌+◌,
-  ◌≤◌,
-  ◌==◌,
-  if◌then◌else◌,
-  List,
-  [],
-  ◌∷◌,
-  ◌++◌,
-  length,
-  fold,
-  None,
-  Some,
-  Result,
-  Ok,
-  Err,
-  IsPermutation,
-}
+use Rattle.std.specs.Prelude.{◌≡◌, ℕ, ◌+◌, ◌≤◌, ◌==◌, if◌then◌else◌, List, [], ◌∷◌, ◌++◌, length, fold, None, Some}
+use Rattle.std.specs.Prelude.{Result, Ok, Err, IsPermutation}
 use Rattle.std.specs.Bool.{Decides}
 use Rattle.ssb_schema.specs.declared.refresh.Action.{Action}
 use Rattle.ssb_schema.specs.declared.fact.Fact.{Fact}
@@ -28,18 +10,8 @@ use Rattle.row_store.specs.Lines.{lines_after_refresh}
 use Rattle.row_store.specs.History.{CommitRecord, IsPrefix, lines_after}
 use Rattle.row_store.specs.Refusals.{refusal_of}
 use Rattle.row_store.specs.Legal.{IsLegal, warehouse_reply, warehouse_after, IsRefreshReply, Tells}
-use Rattle.row_store.specs.State.{
-  State,
-  StandsFor,
-  Counts,
-  is_same,
-  occurrences,
-  count_of,
-  with_fact,
-  counts_without,
-  fact_counts,
-  state_after,
-}
+use Rattle.row_store.specs.State.{State, StandsFor, Counts, is_same, occurrences, count_of, with_fact, counts_without}
+use Rattle.row_store.specs.State.{fact_counts, state_after}
 use Rattle.row_store.specs.declared.commit.Receipt.{Receipt}
 use Rattle.row_store.specs.declared.refusal.Refusal.{Refusal}
 use Rattle.row_store.specs.declared.refusal.RefreshError.{RefreshError}

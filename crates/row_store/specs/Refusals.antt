@@ -1,20 +1,6 @@
 -- Which refresh is refused, and why. Each cause is a test over whole lists.
-use Rattle.std.specs.Prelude.{
-  ℕ,
-  ◌+◌,
-  Bool,
-  not,
-  nat_lt,
-  nat_le,
-  if◌then◌else◌,
-  List,
-  [],
-  ◌∷◌,
-  length,
-  Option,
-  Some,
-  None,
-}
+use Rattle.std.specs.Prelude.{ℕ, ◌+◌, Bool, not, nat_lt, nat_le, if◌then◌else◌, List, [], ◌∷◌, length, Option, Some}
+use Rattle.std.specs.Prelude.{None}
 use Rattle.std.specs.Option.{option_or, option_map}
 use Rattle.std.specs.List.{list_any}
 use Rattle.ssb_schema.specs.declared.line.LineFields.{LineFields}
@@ -25,17 +11,8 @@ use Rattle.ssb_base.specs.Base.{Tables, Dimensions, has_key, customer_key, suppl
 use Rattle.row_store.specs.Lines.{is_present, lines_without, lines_after_action}
 use Rattle.row_store.specs.History.{CommitRecord, lines_after}
 use Rattle.row_store.specs.declared.refusal.Cause.{Cause}
-use Rattle.row_store.specs.declared.refusal.Cause.TheVariants.{
-  LogFull,
-  Present,
-  UnknownCustomer,
-  UnknownSupplier,
-  UnknownPart,
-  UnknownDate,
-  LinesFull,
-  Absent,
-  AmendAbsent,
-}
+use Rattle.row_store.specs.declared.refusal.Cause.TheVariants.{LogFull, Present, UnknownCustomer, UnknownSupplier}
+use Rattle.row_store.specs.declared.refusal.Cause.TheVariants.{UnknownPart, UnknownDate, LinesFull, Absent, AmendAbsent}
 use Rattle.row_store.specs.declared.refusal.Refusal.{Refusal}
 
 -- the line names a row that the dimension lacks

@@ -8,7 +8,7 @@ ghost use Rattle.ssb_schema.specs.Rows.{IsWithinLimits};
 ghost use Rattle.row_store.specs.Lines.{lines_of};
 ghost use Rattle.row_store.specs.Keyed.{Located, key_at, lines_at};
 
-use crate::place::{Place, Places, Source};
+use crate::place::{OrderPlace, OrderPlaces, Source};
 use ssb_schema::Line;
 use std::alloc::{AllocError, Global};
 
@@ -71,7 +71,7 @@ fn run_end(lines: &[Line], index: &[u32], first: usize) -> usize
 
 // Puts each run of the index into the orders by key, of which there are none yet.
 pub(crate) fn place_runs(
-    orders: &mut Places,
+    orders: &mut OrderPlaces,
     lines: &[Line],
     index: &[u32],
 ) -> Result<(), AllocError>
@@ -87,7 +87,7 @@ pub(crate) fn place_runs(
     while first < index.len() {
         let end = run_end(lines, index, first);
         let key = key_at(lines, index[first]);
-        let place = Place {
+        let place = OrderPlace {
             lines: (end - first) as u32,
             source: Source::Loaded(first as u32),
         };

@@ -8,7 +8,7 @@ use std::marker::Model;
 
 /// Where the lines of an order are held.
 #[derive(Clone, Copy)]
-enum Held<'a> {
+enum HeldLines<'a> {
     /// At these positions of the loaded lines.
     Loaded(&'a [Line], &'a [u32]),
     /// As the lines of an action.
@@ -18,7 +18,7 @@ enum Held<'a> {
 /// The live lines of one order, in place. Contracts see them as a list.
 #[derive(Drop)]
 pub struct OrderLines<'a> {
-    held: Held<'a>,
+    held: HeldLines<'a>,
 }
 
 impl<'a> Model for OrderLines<'a> {
@@ -59,7 +59,7 @@ impl<'a> OrderLines<'a> {
         ensures { result ≡ lines_at lines.now positions.now }
     {
         OrderLines {
-            held: Held::Loaded(lines, positions),
+            held: HeldLines::Loaded(lines, positions),
         }
     }
 
@@ -69,7 +69,7 @@ impl<'a> OrderLines<'a> {
         ensures { result ≡ lines.now }
     {
         OrderLines {
-            held: Held::Added(lines),
+            held: HeldLines::Added(lines),
         }
     }
 
@@ -79,8 +79,8 @@ impl<'a> OrderLines<'a> {
         ensures range { (1 ≤ result) × (result ≤ 7) }
     {
         match self.held {
-            Held::Loaded(_, positions) => positions.len(),
-            Held::Added(lines) => lines.len(),
+            HeldLines::Loaded(_, positions) => positions.len(),
+            HeldLines::Added(lines) => lines.len(),
         }
     }
 
@@ -89,8 +89,8 @@ impl<'a> OrderLines<'a> {
         ensures { option_copied result ≡ slice_get self.now place }
     {
         match self.held {
-            Held::Loaded(lines, positions) => loaded_line(lines, positions, place),
-            Held::Added(lines) => line_at(lines, place),
+            HeldLines::Loaded(lines, positions) => loaded_line(lines, positions, place),
+            HeldLines::Added(lines) => line_at(lines, place),
         }
     }
 }

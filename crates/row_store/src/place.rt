@@ -15,7 +15,7 @@ use std::sync::Arc;
 
 /// Where the lines of an order lie, and how many they are.
 #[derive(Drop)]
-pub(crate) struct Place {
+pub(crate) struct OrderPlace {
     pub(crate) lines: u32,
     pub(crate) source: Source,
 }
@@ -30,7 +30,7 @@ pub(crate) enum Source {
 }
 
 /// The places of the live orders, by key. A client picks the keys, so they hash with random keys.
-pub(crate) type Places = HashMap<u64, Place, RandomState>;
+pub(crate) type OrderPlaces = HashMap<u64, OrderPlace, RandomState>;
 
 // The lines that an action adds.
 pub(crate) fn added(action: &Action) -> &[Line]
@@ -96,7 +96,7 @@ pub(crate) fn count_after(held: u32, earlier: &[Action], key: u64) -> u64
 }
 
 // Puts an action into the orders by key. There is room for one more.
-fn put(orders: &mut Places, action: &Action, source: Source)
+fn put(orders: &mut OrderPlaces, action: &Action, source: Source)
     requires { 0 < spare orders.old }
     ensures each { (base : Tables) (sources : Sources) (lines : List LineFields)
         → lines_from sources (length (added_by action.now)) source ≡ added_by action.now
@@ -109,11 +109,11 @@ fn put(orders: &mut Places, action: &Action, source: Source)
     match action {
         Action::Add(order) => {
             let lines = order.lines().len() as u32;
-            let _ = orders.insert(order.key(), Place { lines, source });
+            let _ = orders.insert(order.key(), OrderPlace { lines, source });
         }
         Action::Amend(order) => {
             let lines = order.lines().len() as u32;
-            let _ = orders.insert(order.key(), Place { lines, source });
+            let _ = orders.insert(order.key(), OrderPlace { lines, source });
         }
         Action::Withdraw(key) => {
             orders.remove(key);
@@ -138,7 +138,11 @@ pub(crate) fn share_all(
 }
 
 // Puts the actions of a refresh into the orders by key, each with a share of the refresh. There is room for all.
-pub(crate) fn place_all(orders: &mut Places, actions: &[Action], shares: &mut Vec<Arc<Refresh>>)
+pub(crate) fn place_all(
+    orders: &mut OrderPlaces,
+    actions: &[Action],
+    shares: &mut Vec<Arc<Refresh>>,
+)
     requires room { length actions.now ≤ spare orders.old }
     requires few { length actions.now ≤ 64 }
     requires shares { length actions.now ≤ length shares.old.items }

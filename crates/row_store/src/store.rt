@@ -13,7 +13,7 @@ use crate::commit::{Commit, Receipt};
 use crate::index::{index_of, look_through, place_runs};
 use crate::log::Log;
 use crate::order_lines::OrderLines;
-use crate::place::{Places, Source, count_after, order_at, place_all, share_all};
+use crate::place::{OrderPlaces, Source, count_after, order_at, place_all, share_all};
 use crate::refusal::{ApplyError, Cause, RefreshError, Refusal};
 use ghost_list::GhostList;
 use ssb_base::Base;
@@ -31,7 +31,7 @@ pub struct RowStore {
     base: Arc<Base>,
     // The positions of the loaded lines, in the order of their order keys.
     index: Vec<u32>,
-    orders: Places,
+    orders: OrderPlaces,
     line_count: usize,
     // All commits. No memory holds them.
     history: GhostList<Commit>,

@@ -10,7 +10,8 @@ use Rattle.ssb_questions.specs.declared.value.Value.{Value}
 use Rattle.ssb_questions.specs.declared.plan.Plan.{Plan}
 use Rattle.ssb_answers.specs.Combination.{Combination}
 use Rattle.ssb_answers.specs.Answer.{amount, sum_over, in_group, group_of, groups_cmp}
-use Rattle.ssb_answers.specs.Totals.{Totals, SumsFit, HasRoom, Adds, AddsAll, AddsOneLine, IsAmount, IsWithin, most}
+use Rattle.ssb_answers.specs.Totals.{SumsByGroup, SumsFit, HasRoom, Adds, AddsAll, AddsOneLine, IsAmount, IsWithin}
+use Rattle.ssb_answers.specs.Totals.{most}
 use Rattle.ssb_answers.proofs.OrderLaws.{tied_by_test, groups_cmp-same}
 use Rattle.ssb_answers.proofs.SumLaws.{group_sum_push}
 
@@ -24,7 +25,7 @@ within_added lines sum more h a = (omega (arith, ints, h, a), omega (arith, ints
 within_first : (lines : ℕ) (more : ℤ) → IsAmount more → IsWithin (lines + 1) (pos 0 +ℤ more)
 within_first lines more a = (omega (arith, ints, a), omega (arith, ints, a))
 
-pub keeps_one_line : (totals : Totals) → AddsOneLine totals totals
+pub keeps_one_line : (totals : SumsByGroup) → AddsOneLine totals totals
 keeps_one_line totals lines within groups sum e = within_one_more lines sum (within groups sum e)
 
 fits_first : (more : ℤ) → IsAmount more → FitsSigned w64 (pos 0 +ℤ more)
@@ -34,7 +35,7 @@ fits_added : (sum more : ℤ) → (pos 0 ≤ℤ (sum +ℤ pos (2 ^ 63 - most))) 
     → FitsSigned w64 (sum +ℤ more)
 fits_added sum more h a = omega (arith, ints, h, a)
 
-pub room : (totals : Totals) (groups : List Value) (more : ℤ) → SumsFit totals → IsAmount more
+pub room : (totals : SumsByGroup) (groups : List Value) (more : ℤ) → SumsFit totals → IsAmount more
     → HasRoom totals groups more
 room totals groups more fit a =
     elim (get groups_cmp totals groups) as (λ o. get groups_cmp totals groups ≡ o
@@ -43,7 +44,7 @@ room totals groups more fit a =
       | Some sum ↦ λ e. fits_added sum more (fit groups sum e) a
     ] refl
 
-pub adds_one_line : (old new : Totals) (groups : List Value) (more : ℤ) → IsAmount more → Adds old new groups more
+pub adds_one_line : (old new : SumsByGroup) (groups : List Value) (more : ℤ) → IsAmount more → Adds old new groups more
     → AddsOneLine old new
 adds_one_line old new groups more a adds lines within other sum e =
     let split : cond (is_eq (groups_cmp groups other)) (Some (unwrap_or (get groups_cmp old groups) (pos 0) +ℤ more))
@@ -64,7 +65,7 @@ adds_one_line old new groups more a adds lines within other sum e =
     same x y e = cc
 
 -- where a combination's amount is added at its group, the sums are those with it besides
-pub adds_combination : (plan : Plan) (old new : Totals) (c : Combination)
+pub adds_combination : (plan : Plan) (old new : SumsByGroup) (c : Combination)
     → Adds old new (group_of plan c) (amount plan.measure c.fact) → AddsAll plan (c ∷ []) old new
 adds_combination plan old new c adds found totals other =
     adds other

@@ -16,7 +16,7 @@ abbrev pub row_eq : ResultRow → ResultRow → Bool
 row_eq a b = pointwise (eq_by_cmp value_cmp) a.groups b.groups && option_eq int_eq a.sum b.sum
 
 abbrev pub rows_eq : Rows → Rows → Bool
-rows_eq a b = question_eq a.query b.query && pointwise row_eq a.list b.list
+rows_eq a b = question_eq a.question b.question && pointwise row_eq a.list b.list
 
 abbrev pub cause_eq : Unserved → Unserved → Bool
 cause_eq OutOfMemory OutOfMemory = true
@@ -24,8 +24,8 @@ cause_eq (Twin told found) (Twin other_told other_found) = nat_eq told other_tol
 cause_eq _ _ = false
 
 abbrev pub answer_eq : Answer → Answer → Bool
-answer_eq (answer.Rows query at rows) (answer.Rows other_query other_at other_rows) =
-    question_eq query other_query && nat_eq at other_at && pointwise row_eq rows other_rows
-answer_eq (answer.Unserved query cause) (answer.Unserved other_query other_cause) =
-    question_eq query other_query && cause_eq cause other_cause
+answer_eq (answer.Rows question at rows) (answer.Rows other_question other_at other_rows) =
+    question_eq question other_question && nat_eq at other_at && pointwise row_eq rows other_rows
+answer_eq (answer.Unserved question cause) (answer.Unserved other_question other_cause) =
+    question_eq question other_question && cause_eq cause other_cause
 answer_eq _ _ = false

@@ -51,14 +51,15 @@ list_Decides a b = slice_eq-Decides row_Decides a b (pointwise row_eq a b) refl
 
 pub rows_Decides : (a b : Rows) → Decides (rows_eq a b) (a ≡ b)
 rows_Decides a b =
-    let query = question_Decides a.query b.query in
+    let question = question_Decides a.question b.question in
     let list = list_Decides a.list b.list in (
-      λ t. same_fields a b (query.0 (first_so _ _ t)) (list.0 (second_so _ _ t)),
-      λ e. both_true _ _ (query.1 (ap (λ (rows : Rows). rows.query) e)) (list.1 (ap (λ (rows : Rows). rows.list) e)),
+      λ t. same_fields a b (question.0 (first_so _ _ t)) (list.0 (second_so _ _ t)),
+      λ e. both_true _ _ (question.1 (ap (λ (rows : Rows). rows.question) e))
+          (list.1 (ap (λ (rows : Rows). rows.list) e)),
     )
   where
-    same_fields : (a b : Rows) → a.query ≡ b.query → a.list ≡ b.list → a ≡ b
-    same_fields a b p q = λ i. record { query = p i; list = q i }
+    same_fields : (a b : Rows) → a.question ≡ b.question → a.list ≡ b.list → a ≡ b
+    same_fields a b p q = λ i. record { question = p i; list = q i }
 
 pub cause_Decides : (a b : Unserved) → Decides (cause_eq a b) (a ≡ b)
 cause_Decides OutOfMemory OutOfMemory = (λ _. refl, λ _. refl)
@@ -80,46 +81,47 @@ cause_Decides (Twin told found) (Twin told2 found2) = (
     found_of (Twin told found) = found
 
 -- the parts of an answer
-abbrev query_of : Answer → Query × List Value
-query_of (answer.Rows query at rows) = query
-query_of (answer.Unserved query cause) = query
+abbrev question_of : Answer → Query × List Value
+question_of (answer.Rows question at rows) = question
+question_of (answer.Unserved question cause) = question
 
 abbrev at_of : Answer → ℕ
-at_of (answer.Rows query at rows) = at
-at_of (answer.Unserved query cause) = 0
+at_of (answer.Rows question at rows) = at
+at_of (answer.Unserved question cause) = 0
 
 abbrev rows_of : List ResultRow → Answer → List ResultRow
-rows_of default (answer.Rows query at rows) = rows
-rows_of default (answer.Unserved query cause) = default
+rows_of default (answer.Rows question at rows) = rows
+rows_of default (answer.Unserved question cause) = default
 
 abbrev cause_of : Unserved → Answer → Unserved
-cause_of default (answer.Rows query at rows) = default
-cause_of default (answer.Unserved query cause) = cause
+cause_of default (answer.Rows question at rows) = default
+cause_of default (answer.Unserved question cause) = cause
 
 pub answer_Decides : (a b : Answer) → Decides (answer_eq a b) (a ≡ b)
-answer_Decides (answer.Rows query at rows) (answer.Rows query2 at2 rows2) =
-    let queries = question_Decides query query2 in
+answer_Decides (answer.Rows question at rows) (answer.Rows question2 at2 rows2) =
+    let questions = question_Decides question question2 in
     let ats = unsigned_Decides at at2 in
     let lists = list_Decides rows rows2 in (
       λ t.
-          let first = first_so (question_eq query query2 && nat_eq at at2) (pointwise row_eq rows rows2) t in
-          let p = queries.0 (first_so (question_eq query query2) (nat_eq at at2) first) in
-          let q = ats.0 (second_so (question_eq query query2) (nat_eq at at2) first) in
-          let r = lists.0 (second_so (question_eq query query2 && nat_eq at at2) (pointwise row_eq rows rows2) t) in
+          let first = first_so (question_eq question question2 && nat_eq at at2) (pointwise row_eq rows rows2) t in
+          let p = questions.0 (first_so (question_eq question question2) (nat_eq at at2) first) in
+          let q = ats.0 (second_so (question_eq question question2) (nat_eq at at2) first) in
+          let r = lists.0 (second_so (question_eq question question2 && nat_eq at at2)
+          (pointwise row_eq rows rows2) t) in
           λ i. answer.Rows (p i) (q i) (r i),
-      λ e. both_true _ _ (both_true _ _ (queries.1 (ap query_of e)) (ats.1 (ap at_of e)))
+      λ e. both_true _ _ (both_true _ _ (questions.1 (ap question_of e)) (ats.1 (ap at_of e)))
           (lists.1 (ap (rows_of rows) e)),
     )
-answer_Decides (answer.Rows query at rows) (answer.Unserved query2 cause2) = (λ t. cc, λ e. cc)
-answer_Decides (answer.Unserved query cause) (answer.Rows query2 at2 rows2) = (λ t. cc, λ e. cc)
-answer_Decides (answer.Unserved query cause) (answer.Unserved query2 cause2) =
-    let queries = question_Decides query query2 in
+answer_Decides (answer.Rows question at rows) (answer.Unserved question2 cause2) = (λ t. cc, λ e. cc)
+answer_Decides (answer.Unserved question cause) (answer.Rows question2 at2 rows2) = (λ t. cc, λ e. cc)
+answer_Decides (answer.Unserved question cause) (answer.Unserved question2 cause2) =
+    let questions = question_Decides question question2 in
     let causes = cause_Decides cause cause2 in (
       λ t.
-          let p = queries.0 (first_so (question_eq query query2) (cause_eq cause cause2) t) in
-          let q = causes.0 (second_so (question_eq query query2) (cause_eq cause cause2) t) in
+          let p = questions.0 (first_so (question_eq question question2) (cause_eq cause cause2) t) in
+          let q = causes.0 (second_so (question_eq question question2) (cause_eq cause cause2) t) in
           λ i. answer.Unserved (p i) (q i),
-      λ e. both_true _ _ (queries.1 (ap query_of e)) (causes.1 (ap (cause_of cause) e)),
+      λ e. both_true _ _ (questions.1 (ap question_of e)) (causes.1 (ap (cause_of cause) e)),
     )
 
 pub row_eq-equiv : IsEquivalence row_eq

@@ -11,11 +11,11 @@ use Rattle.ssb_answers.specs.Combination.{Combination}
 use Rattle.ssb_answers.specs.Answer.{groups_cmp, in_group, sum_over}
 
 -- sums by groups
-abbrev pub Totals : Type 0
-Totals = BTreeMap (List Value) ℤ
+abbrev pub SumsByGroup : Type 0
+SumsByGroup = BTreeMap (List Value) ℤ
 
 -- at each group the sum over its combinations, and nothing where it has none
-abbrev pub AreTotals : Plan → List Combination → Totals → Type 0
+abbrev pub AreTotals : Plan → List Combination → SumsByGroup → Type 0
 AreTotals plan found totals = (groups : List Value)
     → get groups_cmp totals groups ≡ sum_over plan.measure (in_group plan groups found)
 
@@ -27,7 +27,7 @@ abbrev pub IsWithin : ℕ → ℤ → Type 0
 IsWithin lines sum = (pos 0 ≤ℤ (sum +ℤ pos (lines * most))) × (sum ≤ℤ pos (lines * most))
 
 -- each sum is one that so many lines can make
-abbrev pub SumsWithin : ℕ → Totals → Type 0
+abbrev pub SumsWithin : ℕ → SumsByGroup → Type 0
 SumsWithin lines totals = (groups : List Value) (sum : ℤ) → get groups_cmp totals groups ≡ Some sum → IsWithin lines sum
 
 -- the row of a group and its sum
@@ -35,7 +35,7 @@ abbrev pub row_from : List Value × ℤ → ResultRow
 row_from (groups, sum) = record { groups = groups; sum = Some sum }
 
 -- the sum of the group is greater by the amount, and every other sum is as it was
-abbrev pub Adds : Totals → Totals → List Value → ℤ → Type 0
+abbrev pub Adds : SumsByGroup → SumsByGroup → List Value → ℤ → Type 0
 Adds old new groups amount =
     (other : List Value)
     → get groups_cmp new other
@@ -43,20 +43,20 @@ Adds old new groups amount =
     (unwrap_or (get groups_cmp old groups) (pos 0) +ℤ amount) else get groups_cmp old other)
 
 -- the sum of the group can take the amount
-abbrev pub HasRoom : Totals → List Value → ℤ → Type 0
+abbrev pub HasRoom : SumsByGroup → List Value → ℤ → Type 0
 HasRoom totals groups amount = FitsSigned w64 (unwrap_or (get groups_cmp totals groups) (pos 0) +ℤ amount)
 
 -- each sum can take the most that one line adds or takes away
-abbrev pub SumsFit : Totals → Type 0
+abbrev pub SumsFit : SumsByGroup → Type 0
 SumsFit totals = (groups : List Value) (sum : ℤ) → get groups_cmp totals groups ≡ Some sum
     → (pos 0 ≤ℤ (sum +ℤ pos (2 ^ 63 - most))) × (sum ≤ℤ pos (2 ^ 63 - 1 - most))
 
 -- where the old sums were those of some combinations, the new ones are those with these besides
-abbrev pub AddsAll : Plan → List Combination → Totals → Totals → Type 0
+abbrev pub AddsAll : Plan → List Combination → SumsByGroup → SumsByGroup → Type 0
 AddsAll plan more old new = (found : List Combination) → AreTotals plan found old → AreTotals plan (found ++ more) new
 
 -- the sums are those of one line more
-abbrev pub AddsOneLine : Totals → Totals → Type 0
+abbrev pub AddsOneLine : SumsByGroup → SumsByGroup → Type 0
 AddsOneLine old new = (lines : ℕ) → SumsWithin lines old → SumsWithin (lines + 1) new
 
 -- what one line adds, or takes away

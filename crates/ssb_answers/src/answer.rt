@@ -18,7 +18,7 @@ pub struct ResultRow {
 /// The rows that answer a question, in the order of its plan.
 #[derive(Debug, Drop)]
 pub struct Rows {
-    pub query: Question,
+    pub question: Question,
     pub list: Items<ResultRow>,
 }
 
@@ -27,13 +27,13 @@ pub struct Rows {
 pub enum Answer {
     /// The rows over the warehouse as it stood after the first `at` commits.
     Rows {
-        query: Question,
+        question: Question,
         at: u64,
         rows: Items<ResultRow>,
     },
     /// No rows; the client may ask again.
     Unserved {
-        query: Question,
+        question: Question,
         cause: Unserved,
     },
 }
@@ -74,7 +74,7 @@ impl PartialEq for Rows {
         ensures value { result ≡ rows_eq self.now other.now }
         ensures same { IsTrue result ↔ (self.now ≡ other.now) }
     {
-        self.query == other.query && self.list == other.list
+        self.question == other.question && self.list == other.list
     }
 }
 
@@ -120,20 +120,20 @@ impl PartialEq for Answer {
     {
         match (self, other) {
             (
-                Answer::Rows { query, at, rows },
+                Answer::Rows { question, at, rows },
                 Answer::Rows {
-                    query: other_query,
+                    question: other_question,
                     at: other_at,
                     rows: other_rows,
                 },
-            ) => query == other_query && at == other_at && rows == other_rows,
+            ) => question == other_question && at == other_at && rows == other_rows,
             (
-                Answer::Unserved { query, cause },
+                Answer::Unserved { question, cause },
                 Answer::Unserved {
-                    query: other_query,
+                    question: other_question,
                     cause: other_cause,
                 },
-            ) => query == other_query && cause == other_cause,
+            ) => question == other_question && cause == other_cause,
             _ => false,
         }
     }

@@ -11,7 +11,7 @@ ghost use Rattle.ssb_answers.specs.Totals.{AreTotals, SumsFit, AddsAll, AddsOneL
 use crate::answer::{ResultRow, Rows};
 use crate::joined::passing;
 use crate::sort::sort_rows;
-use crate::totals::{Totals, add, into_rows};
+use crate::totals::{SumsByGroup, add, into_rows};
 use ssb_base::{Base, MOST_LINES};
 use ssb_questions::question::plan;
 use ssb_questions::{Measure, Plan, Question};
@@ -45,7 +45,7 @@ fn amount(measure: Measure, fact: Fact) -> i64
 /// Adds what a line's combination adds, if it has one that passes.
 fn add_line(
     alloc: Global,
-    totals: &mut Totals,
+    totals: &mut SumsByGroup,
     base: &Base,
     plan: &Plan,
     line: &Line,
@@ -66,7 +66,12 @@ fn add_line(
 }
 
 /// The sums over all lines, by group.
-fn totals_of(alloc: Global, base: &Base, lines: &[Line], plan: &Plan) -> Result<Totals, AllocError>
+fn totals_of(
+    alloc: Global,
+    base: &Base,
+    lines: &[Line],
+    plan: &Plan,
+) -> Result<SumsByGroup, AllocError>
     requires sound { IsSound base.now }
     requires few { length lines.now ≤ MOST_LINES }
     ensures { IfOk result (AreTotals plan.now (combinations plan.now base.now.dimensions (facts_of lines.now))) }
@@ -79,7 +84,7 @@ fn totals_of(alloc: Global, base: &Base, lines: &[Line], plan: &Plan) -> Result<
 }
 
 /// The one row of a plan without group columns.
-fn total_row(alloc: Global, totals: &Totals) -> Result<Vec<ResultRow>, AllocError>
+fn total_row(alloc: Global, totals: &SumsByGroup) -> Result<Vec<ResultRow>, AllocError>
     ensures { IfOk result (λ rows. rows.items ≡ record { groups = []; sum = get groups_cmp totals.now [] } ∷ []) }
 {
     let groups = Items::from_vec(Vec::new(alloc));
@@ -122,14 +127,14 @@ pub fn evaluate(
     question: &Question,
 ) -> Result<Rows, AllocError>
     requires { length lines.now ≤ MOST_LINES }
-    ensures question { IfOk result (λ rows. rows.query ≡ question.now) }
+    ensures question { IfOk result (λ rows. rows.question ≡ question.now) }
     ensures rows { IfOk result (λ rows. rows.list ≡ answer_of question.now base.now.dimensions (facts_of lines.now)) }
 {
     base.soundness();
     let plan = plan(alloc, question)?;
     let rows = evaluate_plan(alloc, base, lines, &plan)?;
     Ok(Rows {
-        query: question.share()?,
+        question: question.share()?,
         list: Items::from_vec(rows),
     })
 }

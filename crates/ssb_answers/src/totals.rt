@@ -11,10 +11,10 @@ use std::alloc::{AllocError, Global};
 use std::collections::BTreeMap;
 
 /// Sums by groups.
-pub type Totals = BTreeMap<Items<Value>, i64>;
+pub type SumsByGroup = BTreeMap<Items<Value>, i64>;
 
 /// The sum of a group, or 0 where it has none.
-fn sum_of(totals: &Totals, groups: &Items<Value>) -> i64
+fn sum_of(totals: &SumsByGroup, groups: &Items<Value>) -> i64
     ensures { result ≡ unwrap_or (get groups_cmp totals.now groups.now) (pos 0) }
 {
     match totals.get(groups) {
@@ -24,7 +24,7 @@ fn sum_of(totals: &Totals, groups: &Items<Value>) -> i64
 }
 
 /// Adds an amount to the sum of a group.
-pub fn add(totals: &mut Totals, groups: Items<Value>, amount: i64) -> Result<(), AllocError>
+pub fn add(totals: &mut SumsByGroup, groups: Items<Value>, amount: i64) -> Result<(), AllocError>
     requires { HasRoom totals.old groups amount }
     ensures { OnOk result (Adds totals.old totals.new groups amount) }
 {
@@ -34,7 +34,7 @@ pub fn add(totals: &mut Totals, groups: Items<Value>, amount: i64) -> Result<(),
 }
 
 /// The rows of the groups.
-pub fn into_rows(alloc: Global, totals: Totals) -> Result<Vec<ResultRow>, AllocError>
+pub fn into_rows(alloc: Global, totals: SumsByGroup) -> Result<Vec<ResultRow>, AllocError>
     ensures rows { IfOk result (λ rows. rows.items ≡ map row_from totals.entries) }
     ensures ordered { OnOk result (IsOrdered groups_cmp totals) }
 {

@@ -1,5 +1,6 @@
 -- A set of numbers, a bit for each, as one is added.
-use Rattle.std.proofs.Common.{ℕ, ◌≡◌, ◌*◌, ◌/◌, ◌%◌, ◌^◌, ◌<◌, true, false, cond, List, length, set, get_or, sym, refl, ap, ◌∙◌, arith, bit_or}
+use Rattle.std.proofs.Common.{ℕ, ◌≡◌, ◌*◌, ◌/◌, ◌%◌, ◌^◌, ◌<◌, true, false, cond, List, length, set, get_or, sym, refl}
+use Rattle.std.proofs.Common.{ap, ◌∙◌, arith, bit_or}
 use Rattle.std.specs.Prelude.{nat_eq}
 use Rattle.std.specs.Cmp.{unsigned_Decides}
 use Rattle.std.specs.Int.{bit_at, w64}

@@ -11,7 +11,7 @@ use Rattle.history_core.specs.declared.response.Response.TheVariants.{Rows, Unse
 use Rattle.history.specs.declared.request.PostedRequest.{PostedRequest}
 use Rattle.history_core.specs.World.{all_rows_after}
 use Rattle.history_core.specs.Events.{Questions}
-use Rattle.history_core.specs.declared.event.Reply.TheVariants.{Done}
+use Rattle.history_core.specs.declared.event.EventReply.TheVariants.{Done}
 use Rattle.history.specs.Tokens.{TokenRecord, IsSound, Collected, Saw, posted}
 use Rattle.history.specs.Words.{IsRight, request}
 use Rattle.history_core.specs.Events as event

@@ -1,5 +1,6 @@
 -- A refresh inside the hold of the rows.
-use Rattle.std.proofs.Common.{◌≡◌, ℕ, inl, inr, List, [], ◌∷◌, ◌++◌, length, length-append, append_assoc, Some, None, false, Result, Ok, Err, ap, sym, subst, ◌∙◌}
+use Rattle.std.proofs.Common.{◌≡◌, ℕ, inl, inr, List, [], ◌∷◌, ◌++◌, length, length-append, append_assoc, Some, None}
+use Rattle.std.proofs.Common.{false, Result, Ok, Err, ap, sym, subst, ◌∙◌}
 use Rattle.std.specs.Prelude.{◌+◌, OnOk, OnErr}
 use Rattle.ssb_schema.specs.declared.refresh.Action.{Action}
 use Rattle.row_store.specs.History.{CommitRecord, Warehouse, IsPrefix, with_commit}
@@ -13,7 +14,7 @@ use Rattle.history_core.specs.declared.event.Who.TheVariants.{Client}
 use Rattle.history.specs.Tokens.{TokenRecord, Took, MayPut, Put, gave_back, committed}
 use Rattle.history_core.specs.Parts.{mark_after}
 use Rattle.history_core.specs.Events as event
-use Rattle.history_core.specs.declared.event.Reply.TheVariants.{Done, Committed}
+use Rattle.history_core.specs.declared.event.EventReply.TheVariants.{Done, Committed}
 use Rattle.ssb_clients.specs.Clients.{Refreshed, HandsBack}
 use Rattle.ssb_clients.specs.Deeds.{deed, handed_back}
 use Rattle.ssb_clients.specs.Deeds as deeds

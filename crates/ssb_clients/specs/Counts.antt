@@ -1,11 +1,7 @@
--- How many clients and dispatchers a server has.
+-- How many dispatchers a server has.
 use Rattle.std.specs.Prelude.{ℕ, ◌+◌, Bool, true, false}
 use Rattle.ssb_clients.specs.declared.unneeded.Keeps.{Keeps}
 use Rattle.ssb_clients.specs.declared.unneeded.Keeps.TheVariants.{All, Recent, Unread}
-
--- the most clients of a server
-abbrev pub most_clients : ℕ
-most_clients = 16
 
 -- the most dispatchers
 abbrev pub most_dispatchers : ℕ

@@ -4,14 +4,14 @@ use Rattle.ssb_schema.specs.declared.refresh.Action.{Action}
 use Rattle.history_core.specs.declared.response.Response.{Response}
 use Rattle.history_core.specs.Events.{Questions}
 use Rattle.history_core.specs.declared.event.Who.{Who}
-use Rattle.history_core.specs.declared.event.Reply.{Reply}
-use Rattle.history_core.specs.declared.event.Reply.TheVariants.{Done, Committed, Length}
+use Rattle.history_core.specs.declared.event.EventReply.{EventReply}
+use Rattle.history_core.specs.declared.event.EventReply.TheVariants.{Done, Committed, Length}
 use Rattle.history_core.specs.Events.{Event}
 use Rattle.history_core.specs.Events as event
 use Rattle.history_core.specs.Deeds.{Deed}
 use Rattle.history.specs.Members.{number_of, told_by}
 
-abbrev pub deed : Event → Reply → Deed
+abbrev pub deed : Event → EventReply → Deed
 deed event reply = record { event = event; reply = reply }
 
 -- it looked, and saw so many commits

@@ -1,7 +1,8 @@
 -- What a server keeps beside its table.
 use Rattle.std.specs.Prelude.{◌≡◌, ℕ, ◌≤◌}
 use Rattle.history.specs.Tokens.{TableRecord}
-use Rattle.ssb_clients.specs.Counts.{most_clients, most_at_table}
+use Rattle.history_core.specs.Counts.{most_clients}
+use Rattle.ssb_clients.specs.Counts.{most_at_table}
 
 -- the numbers of clients and dispatchers are the table's; who reads the log is one of the dispatchers
 pub record IsServed (table : TableRecord) (clients dispatchers : ℕ) : Type 0 where

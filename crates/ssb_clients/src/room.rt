@@ -1,6 +1,7 @@
 //! Room for the tokens that a server is closed with.
 ghost use Rattle.std.specs.Prelude.{◌≡◌, ◌≤◌, [], vec_capacity};
-ghost use Rattle.ssb_clients.specs.Counts.{most_clients, most_at_table};
+ghost use Rattle.history_core.specs.Counts.{most_clients};
+ghost use Rattle.ssb_clients.specs.Counts.{most_at_table};
 
 use crate::server::{MOST_AT_TABLE, MOST_CLIENTS};
 use history::Token;

@@ -1,6 +1,7 @@
 //! What clients and dispatchers share.
 ghost use Rattle.std.specs.Prelude.{◌≡◌, ◌≤◌, IfOk};
-ghost use Rattle.ssb_clients.specs.Counts.{most_clients, most_at_table};
+ghost use Rattle.history_core.specs.Counts.{most_clients};
+ghost use Rattle.ssb_clients.specs.Counts.{most_at_table};
 
 use crate::bells::Bells;
 use crate::pace::Pace;

@@ -1,5 +1,6 @@
 -- Lists that a loop makes of others, one item more at a time, and texts put together.
-use Rattle.std.proofs.Common.{◌≡◌, ◌∙◌, ℕ, ◌<◌, ◌+◌, List, [], ◌∷◌, ◌++◌, length, take, get_or, map, flat_map, ap, refl, sym}
+use Rattle.std.proofs.Common.{◌≡◌, ◌∙◌, ℕ, ◌<◌, ◌+◌, List, [], ◌∷◌, ◌++◌, length, take, get_or, map, flat_map, ap, refl}
+use Rattle.std.proofs.Common.{sym}
 use Rattle.std.proofs.Common.{append_assoc, append-nil}
 use Rattle.std.specs.List.{join_by}
 use Rattle.std.proofs.lemmas.List.{take_more, map-append}

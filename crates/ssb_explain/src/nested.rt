@@ -191,7 +191,7 @@ fn grouped_tables(alloc: Global, plan: &Plan) -> Result<Vec<Table>, AllocError>
 
 // What is read so far: a source of rows, the conditions that are still to stand behind it, and its group columns.
 #[derive(Drop)]
-struct Source {
+struct RowSource {
     text: String,
     tested: String,
     columns: Vec<String>,
@@ -201,7 +201,7 @@ struct Source {
 fn joined_last(
     alloc: Global,
     plan: &Plan,
-    source: &Source,
+    source: &RowSource,
     table: Table,
 ) -> Result<String, AllocError>
     ensures { IfOk result (λ text. string_bytes text ≡ spec.last_join plan.now (string_bytes source.now.text)
@@ -215,7 +215,7 @@ fn joined_last(
 fn joined_text(
     alloc: Global,
     plan: &Plan,
-    source: &Source,
+    source: &RowSource,
     table: Table,
     kept: &[String],
 ) -> Result<String, AllocError>
@@ -237,7 +237,7 @@ fn joined_text(
 fn columns_with(
     alloc: Global,
     plan: &Plan,
-    source: &Source,
+    source: &RowSource,
     table: Table,
 ) -> Result<Vec<String>, AllocError>
     ensures { IfOk result (λ columns. map string_bytes columns.items
@@ -254,10 +254,10 @@ fn columns_with(
 fn joined_once(
     alloc: Global,
     plan: &Plan,
-    source: &Source,
+    source: &RowSource,
     table: Table,
     outer: &[Table],
-) -> Result<Source, AllocError>
+) -> Result<RowSource, AllocError>
     ensures text { IfOk result (λ made. string_bytes made.text
         ≡ spec.next_rows plan.now (string_bytes source.now.text) (string_bytes source.now.tested)
         (map string_bytes source.now.columns.items) table outer.now) }
@@ -268,7 +268,7 @@ fn joined_once(
     let columns = columns_with(alloc, plan, source, table)?;
     let kept = kept(alloc, plan, outer, columns.as_slice())?;
     let text = joined_text(alloc, plan, source, table, kept.as_slice())?;
-    Ok(Source {
+    Ok(RowSource {
         text,
         tested: String::new(alloc),
         columns,
@@ -280,7 +280,7 @@ fn joined_once(
 fn joined_from(
     alloc: Global,
     plan: &Plan,
-    source: Source,
+    source: RowSource,
     table: Table,
     outer: &[Table],
 ) -> Result<String, AllocError>
@@ -310,7 +310,7 @@ fn joined_source(
     match tables {
         [] => ["lineorder", tested.as_str()].concat(alloc),
         [table, outer @ ..] => {
-            let source = Source {
+            let source = RowSource {
                 text: String::from_str(alloc, "lineorder")?,
                 tested,
                 columns: Vec::new(alloc),

@@ -1,5 +1,6 @@
 -- What texts of a journal spell.
-use Rattle.std.proofs.Common.{◌≡◌, ℕ, ◌+◌, ◌<◌, ◌≤◌, inl, inr, ⊎_elim, List, [], ◌∷◌, ◌++◌, Vec, Global, length, get_or, take, map, Some, refl, sym, ◌∙◌, ap, subst, arith}
+use Rattle.std.proofs.Common.{◌≡◌, ℕ, ◌+◌, ◌<◌, ◌≤◌, inl, inr, ⊎_elim, List, [], ◌∷◌, ◌++◌, Vec, Global, length, get_or}
+use Rattle.std.proofs.Common.{take, map, Some, refl, sym, ◌∙◌, ap, subst, arith}
 use Rattle.std.specs.Prelude.{◌⊎◌, Result, Ok, Err, IfOk, IfErr}
 use Rattle.std.specs.List.{AllByRecursion, AllZip, flat_map}
 use Rattle.std.proofs.lemmas.List.{append-nil, take_more, get_or-map, length-map, map_push}
@@ -18,7 +19,8 @@ use Rattle.ssb_script.specs.declared.error.ScriptError.{ScriptError}
 use Rattle.ssb_script.specs.declared.error.ScriptError.TheVariants as error
 use Rattle.ssb_trace.specs.Laws.{HasOneReading}
 use Rattle.ssb_trace.specs.Traces.{IsTraceFault, SpellsTrace}
-use Rattle.ssb_journal.specs.Kept.{trace_of, SpellsBatch, SpellCommits, SpellsNoBatch, IsFirstNoBatch, KeepsCommits, KeepsWithOrWithout, IsGroupOf, batch_fault}
+use Rattle.ssb_journal.specs.Kept.{trace_of, SpellsBatch, SpellCommits, SpellsNoBatch, IsFirstNoBatch, KeepsCommits}
+use Rattle.ssb_journal.specs.Kept.{KeepsWithOrWithout, IsGroupOf, batch_fault}
 
 -- each has P, and where it has P it has Q
 pub all_meet : {A : Type 0} (P Q : A → Type 0) (xs : List A) → AllByRecursion P xs → AllByRecursion (λ x. P x → Q x) xs → AllByRecursion Q xs

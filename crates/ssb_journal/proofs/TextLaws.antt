@@ -1,5 +1,6 @@
 -- The texts of groups, one after another.
-use Rattle.std.proofs.Common.{◌≡◌, ℕ, ◌+◌, ◌<◌, List, [], ◌∷◌, ◌++◌, Vec, Global, length, get_or, take, map, Some, sym, ◌∙◌, ap, arith}
+use Rattle.std.proofs.Common.{◌≡◌, ℕ, ◌+◌, ◌<◌, List, [], ◌∷◌, ◌++◌, Vec, Global, length, get_or, take, map, Some, sym}
+use Rattle.std.proofs.Common.{◌∙◌, ap, arith}
 use Rattle.std.proofs.lemmas.List.{take_more, get_or-map, length-map, map_push}
 use Rattle.std.proofs.lemmas.Option.{slice_get-get_or}
 use Rattle.journal.specs.Groups.{lists}

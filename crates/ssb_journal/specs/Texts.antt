@@ -1,5 +1,6 @@
 -- What a file of groups is to a journal of texts.
-use Rattle.std.specs.Prelude.{◌≡◌, ◌⊎◌, ◌≤◌, List, ℕ, [], ◌∷◌, length, map, take, drop, nat_eq, true, slice_index, slice_get, Some}
+use Rattle.std.specs.Prelude.{◌≡◌, ◌⊎◌, ◌≤◌, List, ℕ, [], ◌∷◌, length, map, take, drop, nat_eq, true, slice_index}
+use Rattle.std.specs.Prelude.{slice_get, Some}
 use Rattle.std.specs.List.{starts_with}
 use Rattle.journal.specs.Groups.{recovered, behind, behind_gate}
 use Rattle.ssb_journal.specs.Heads.{head_text, IsHeadFault}

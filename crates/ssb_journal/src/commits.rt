@@ -92,13 +92,13 @@ fn is_closed(text: &[u8]) -> bool
 
 // The first texts, joined, and how many they are.
 #[derive(Drop)]
-struct Gathered {
+struct JoinedTexts {
     count: usize,
     text: Vec<u8>,
 }
 
 // The first texts that are closed, of few bytes together.
-fn gather(alloc: Global, texts: &[Vec<u8>]) -> Result<Gathered, AllocError>
+fn gather(alloc: Global, texts: &[Vec<u8>]) -> Result<JoinedTexts, AllocError>
     ensures within { IfOk result (λ all. all.count ≤ length texts.now) }
     ensures text { IfOk result (λ all. all.text.items ≡ concat (take all.count (lists texts.now))) }
     ensures closed { IfOk result (λ all. AllByRecursion IsClosed (take all.count (lists texts.now))) }
@@ -107,11 +107,11 @@ fn gather(alloc: Global, texts: &[Vec<u8>]) -> Result<Gathered, AllocError>
     for count in 0..texts.len() {
         let text = &texts[count];
         if all.len() >= MOST_TOGETHER || !is_closed(text) {
-            return Ok(Gathered { count, text: all });
+            return Ok(JoinedTexts { count, text: all });
         }
         all.extend_from_slice(text)?;
     }
-    Ok(Gathered {
+    Ok(JoinedTexts {
         count: texts.len(),
         text: all,
     })
@@ -130,7 +130,7 @@ fn commits_together(alloc: Global, texts: &[Vec<u8>]) -> Result<Together, AllocE
     ensures commits { IfOk result (λ found. IfSome found.commits
         (λ batch. SpellCommits (take found.count (lists texts.now)) batch.items)) }
 {
-    let Gathered { count, text } = gather(alloc, texts)?;
+    let JoinedTexts { count, text } = gather(alloc, texts)?;
     let Ok(trace) = read_trace(alloc, text.as_slice(), u64::MAX) else {
         return Ok(Together {
             count,

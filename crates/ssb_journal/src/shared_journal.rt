@@ -21,7 +21,7 @@ pub struct JournalFailed {
 
 // Where the journal is.
 #[derive(Drop)]
-enum Place<J, F> {
+enum Whereabouts<J, F> {
     // Here, for the next who needs more commits on the disk.
     Here(J),
     // With one who appends. So many commits were on the disk before.
@@ -32,7 +32,7 @@ enum Place<J, F> {
 
 // What is left to do for one who needs commits on the disk.
 #[derive(Drop)]
-enum Turn<J> {
+enum JournalTurn<J> {
     // Nothing: they are.
     Reached(OnDisk),
     // To append, for all.
@@ -43,32 +43,35 @@ enum Turn<J> {
     Failed(JournalFailed),
 }
 
-impl<D: Disk + Drop, L: LogSource + Drop> Place<JournaledLog<D, L>, LeftLog<D, L>> {
+impl<D: Disk + Drop, L: LogSource + Drop> Whereabouts<JournaledLog<D, L>, LeftLog<D, L>> {
     // The turn of one who needs so many commits. Who is to append takes the journal away.
-    fn turn(&mut self, commits: u64) -> Turn<JournaledLog<D, L>>
+    fn turn(&mut self, commits: u64) -> JournalTurn<JournaledLog<D, L>>
         ensures { HasEnough commits result }
     {
-        match mem::replace(self, Place::Failed(JournalFailed { cause: None }, None)) {
-            Place::Here(log) => {
+        match mem::replace(
+            self,
+            Whereabouts::Failed(JournalFailed { cause: None }, None),
+        ) {
+            Whereabouts::Here(log) => {
                 let on_disk = log.on_disk();
                 if on_disk.commits() >= commits {
-                    *self = Place::Here(log);
-                    return Turn::Reached(on_disk);
+                    *self = Whereabouts::Here(log);
+                    return JournalTurn::Reached(on_disk);
                 }
-                *self = Place::Away(on_disk);
-                Turn::Append(log)
+                *self = Whereabouts::Away(on_disk);
+                JournalTurn::Append(log)
             },
-            Place::Away(on_disk) => {
-                *self = Place::Away(on_disk);
+            Whereabouts::Away(on_disk) => {
+                *self = Whereabouts::Away(on_disk);
                 if on_disk.commits() >= commits {
-                    Turn::Reached(on_disk)
+                    JournalTurn::Reached(on_disk)
                 } else {
-                    Turn::Wait
+                    JournalTurn::Wait
                 }
             },
-            Place::Failed(failed, left) => {
-                *self = Place::Failed(failed, left);
-                Turn::Failed(failed)
+            Whereabouts::Failed(failed, left) => {
+                *self = Whereabouts::Failed(failed, left);
+                JournalTurn::Failed(failed)
             },
         }
     }
@@ -78,7 +81,7 @@ impl<D: Disk + Drop, L: LogSource + Drop> Place<JournaledLog<D, L>, LeftLog<D, L
 /// meanwhile is the next group.
 #[derive(Drop)]
 pub struct SharedJournal<D: Disk + Drop, L: LogSource + Drop> {
-    place: Mutex<Place<JournaledLog<D, L>, LeftLog<D, L>>>,
+    place: Mutex<Whereabouts<JournaledLog<D, L>, LeftLog<D, L>>>,
     changed: Condvar,
 }
 
@@ -86,13 +89,13 @@ impl<D: Disk + Drop, L: LogSource + Drop> SharedJournal<D, L> {
     /// Shares a journal.
     pub fn new(log: JournaledLog<D, L>) -> SharedJournal<D, L> {
         SharedJournal {
-            place: Mutex::new(Place::Here(log)),
+            place: Mutex::new(Whereabouts::Here(log)),
             changed: Condvar::new(),
         }
     }
 
     // Puts the journal back, and wakes all who wait.
-    fn put_back<R: Wait>(&self, rt: &R, place: Place<JournaledLog<D, L>, LeftLog<D, L>>) {
+    fn put_back<R: Wait>(&self, rt: &R, place: Whereabouts<JournaledLog<D, L>, LeftLog<D, L>>) {
         *self.place.lock(rt) = place;
         self.changed.notify_all();
     }
@@ -111,12 +114,12 @@ impl<D: Disk + Drop, L: LogSource + Drop> SharedJournal<D, L> {
             Ok(log) => log,
             Err((error, left)) => {
                 let failed = JournalFailed { cause: Some(error) };
-                self.put_back(rt, Place::Failed(failed, Some(left)));
+                self.put_back(rt, Whereabouts::Failed(failed, Some(left)));
                 return Err(failed);
             },
         };
         let on_disk = log.on_disk();
-        self.put_back(rt, Place::Here(log));
+        self.put_back(rt, Whereabouts::Here(log));
         if on_disk.commits() < commits {
             return Err(JournalFailed { cause: None });
         }
@@ -136,13 +139,13 @@ impl<D: Disk + Drop, L: LogSource + Drop> SharedJournal<D, L> {
         let mut place = self.place.lock(rt);
         for _ in rt.forever() {
             match place.turn(commits) {
-                Turn::Reached(on_disk) => return Ok(on_disk),
-                Turn::Append(taken) => {
+                JournalTurn::Reached(on_disk) => return Ok(on_disk),
+                JournalTurn::Append(taken) => {
                     drop(place);
                     return self.append_for_all(rt, alloc, taken, commits);
                 },
-                Turn::Wait => place = self.changed.wait(rt, place),
-                Turn::Failed(failed) => return Err(failed),
+                JournalTurn::Wait => place = self.changed.wait(rt, place),
+                JournalTurn::Failed(failed) => return Err(failed),
             }
         }
         unreachable!()
@@ -152,9 +155,9 @@ impl<D: Disk + Drop, L: LogSource + Drop> SharedJournal<D, L> {
     pub fn into_left(self) -> Option<LeftLog<D, L>> {
         let SharedJournal { place, changed: _ } = self;
         match place.into_inner() {
-            Place::Here(log) => Some(log.into_left()),
-            Place::Away(_) => None,
-            Place::Failed(_, left) => left,
+            Whereabouts::Here(log) => Some(log.into_left()),
+            Whereabouts::Away(_) => None,
+            Whereabouts::Failed(_, left) => left,
         }
     }
 }

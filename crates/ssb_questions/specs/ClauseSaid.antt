@@ -3,7 +3,8 @@ use Rattle.std.specs.Prelude.{ℕ, List}
 use Rattle.std.specs.Borrow.{Bor}
 use Rattle.ssb_questions.specs.Clause as spec
 use Rattle.ssb_questions.specs.declared.clause.Clause.{Clause}
-use Rattle.ssb_questions.specs.declared.clause.Clause.TheVariants.{Sums, GroupsBy, Is, FromTo, QuantityIn, DiscountIn, BySum}
+use Rattle.ssb_questions.specs.declared.clause.Clause.TheVariants.{Sums, GroupsBy, Is, FromTo, QuantityIn, DiscountIn}
+use Rattle.ssb_questions.specs.declared.clause.Clause.TheVariants.{BySum}
 use Rattle.ssb_questions.specs.declared.clause.Spelled.{Spelled}
 use Rattle.ssb_questions.specs.declared.clause.Spelled.TheVariants.{Text, Number}
 use Rattle.ssb_questions.specs.declared.value.Value.{Value}

@@ -7,7 +7,8 @@ use Rattle.ssb_schema.specs.declared.column.Column.{Column}
 use Rattle.ssb_questions.specs.Clause.{Clause, Sums, GroupsBy, Is, FromTo, QuantityIn, DiscountIn, BySum, clause_of}
 use Rattle.ssb_questions.specs.Text.{text_eq}
 use Rattle.ssb_questions.specs.declared.clauses.Subject.{Subject}
-use Rattle.ssb_questions.specs.declared.clauses.Subject.TheVariants.{Measure, Group, OneValue, Range, Quantity, Discount, Order}
+use Rattle.ssb_questions.specs.declared.clauses.Subject.TheVariants.{Measure, Group, OneValue, Range, Quantity}
+use Rattle.ssb_questions.specs.declared.clauses.Subject.TheVariants.{Discount, Order}
 use Rattle.ssb_questions.specs.declared.value.Value.{Value}
 use Rattle.ssb_questions.specs.declared.value.Value.TheVariants as value
 

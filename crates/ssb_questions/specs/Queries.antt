@@ -16,7 +16,8 @@ use Rattle.ssb_questions.specs.declared.plan.OrderKey.{OrderKey}
 use Rattle.ssb_questions.specs.declared.plan.OrderKey.TheVariants.{Group, SumDescending}
 use Rattle.ssb_questions.specs.declared.plan.Plan.{Plan}
 use Rattle.ssb_questions.specs.declared.query.Query.{Query}
-use Rattle.ssb_questions.specs.declared.query.Query.TheVariants.{Q1_1, Q1_2, Q1_3, Q2_1, Q2_2, Q2_3, Q3_1, Q3_2, Q3_3, Q3_4}
+use Rattle.ssb_questions.specs.declared.query.Query.TheVariants.{Q1_1, Q1_2, Q1_3, Q2_1, Q2_2, Q2_3, Q3_1, Q3_2, Q3_3}
+use Rattle.ssb_questions.specs.declared.query.Query.TheVariants.{Q3_4}
 use Rattle.ssb_questions.specs.declared.query.Query.TheVariants.{Q4_1, Q4_2, Q4_3, Star}
 
 -- the constants of each query where a question gives none, in the order in which it gives its own; `star` has none

@@ -11,7 +11,8 @@ use Rattle.row_store.specs.Legal.{IsRefreshReply}
 use Rattle.row_store.specs.declared.commit.Receipt.{Receipt}
 use Rattle.row_store.specs.declared.refusal.RefreshError.{RefreshError}
 use Rattle.ssb_script.specs.Requests.{RequestRecord, Refresh, Ask, Abort, questions_in}
-use Rattle.ssb_report.specs.Replies.{Reply, Refreshed, Answered, Aborted, true_reply, warehouse_answer, AreAnswers, IsReply}
+use Rattle.ssb_report.specs.Replies.{Reply, Refreshed, Answered, Aborted, true_reply, warehouse_answer, AreAnswers}
+use Rattle.ssb_report.specs.Replies.{IsReply}
 use Rattle.ssb_report.specs.Replies.{committed_by, with_commits}
 use Rattle.ssb_report.specs.Laws.{true_replies, any_unserved, gives_up, TrueRepliesAnswer, OthersGiveUp}
 

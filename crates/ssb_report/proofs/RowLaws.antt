@@ -1,22 +1,6 @@
 -- The line of a row, in the order in which its parts are written.
-use Rattle.std.proofs.Common.{
-  ◌≡◌,
-  ℕ,
-  true,
-  false,
-  List,
-  [],
-  ◌∷◌,
-  ◌++◌,
-  map,
-  flat_map,
-  refl,
-  sym,
-  ◌∙◌,
-  ap,
-  append_assoc,
-  append-nil,
-}
+use Rattle.std.proofs.Common.{◌≡◌, ℕ, true, false, List, [], ◌∷◌, ◌++◌, map, flat_map, refl, sym, ◌∙◌, ap, append_assoc}
+use Rattle.std.proofs.Common.{append-nil}
 use Rattle.std.specs.List.{join_with_byte}
 use Rattle.ssb_questions.specs.Query.{sum_first}
 use Rattle.ssb_questions.specs.declared.query.Query.{Query}

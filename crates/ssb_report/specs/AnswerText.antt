@@ -45,8 +45,8 @@ unserved_text query (unserved.Twin told found) = concat
 
 -- the report of an answer
 abbrev pub answer_text : Answer → List ℕ
-answer_text (answer.Rows query at rows) = rows_text query.0 at rows
-answer_text (answer.Unserved query cause) = unserved_text query.0 cause
+answer_text (answer.Rows question at rows) = rows_text question.0 at rows
+answer_text (answer.Unserved question cause) = unserved_text question.0 cause
 
 -- a value with a | behind it
 abbrev pub with_bar : Value → List ℕ

@@ -20,8 +20,8 @@ true_replies client warehouse (request ∷ requests) =
 -- whether one of the answers has no rows
 abbrev pub any_unserved : List Answer → Bool
 any_unserved [] = false
-any_unserved (Rows query at rows ∷ answers) = any_unserved answers
-any_unserved (Unserved query cause ∷ answers) = true
+any_unserved (Rows question at rows ∷ answers) = any_unserved answers
+any_unserved (Unserved question cause ∷ answers) = true
 
 -- whether a reply tells that its request was given up
 abbrev pub gives_up : Reply → Bool

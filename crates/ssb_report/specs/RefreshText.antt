@@ -3,17 +3,8 @@ use Rattle.std.specs.Prelude.{ℕ, List, [], ◌∷◌, ◌++◌, codes, decimal
 use Rattle.std.specs.List.{concat}
 use Rattle.row_store.specs.declared.commit.Receipt.{Receipt}
 use Rattle.row_store.specs.declared.refusal.Cause.{Cause}
-use Rattle.row_store.specs.declared.refusal.Cause.TheVariants.{
-  LogFull,
-  Present,
-  UnknownCustomer,
-  UnknownSupplier,
-  UnknownPart,
-  UnknownDate,
-  LinesFull,
-  Absent,
-  AmendAbsent,
-}
+use Rattle.row_store.specs.declared.refusal.Cause.TheVariants.{LogFull, Present, UnknownCustomer, UnknownSupplier}
+use Rattle.row_store.specs.declared.refusal.Cause.TheVariants.{UnknownPart, UnknownDate, LinesFull, Absent, AmendAbsent}
 use Rattle.row_store.specs.declared.refusal.RefreshError.{RefreshError}
 use Rattle.row_store.specs.declared.refusal.RefreshError.TheVariants as refresh
 use Rattle.ssb_text.specs.Numbers.{line_feed}

@@ -134,10 +134,10 @@ pub fn write_answer<W: Write>(writer: &mut W, answer: &Answer) -> Result<(), Wri
     ensures fault { OnErr result (StopsShort (W.contents writer.old) (W.contents writer.new) (answer_text answer.now)) }
 {
     match answer {
-        Answer::Rows { query, at, rows } => {
-            write_head_and_rows(writer, query.query(), *at, rows.as_slice())
+        Answer::Rows { question, at, rows } => {
+            write_head_and_rows(writer, question.query(), *at, rows.as_slice())
         }
-        Answer::Unserved { query, cause } => write_unserved(writer, query.query(), *cause),
+        Answer::Unserved { question, cause } => write_unserved(writer, question.query(), *cause),
     }
 }
 

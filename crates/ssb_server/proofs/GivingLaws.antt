@@ -1,25 +1,6 @@
 -- Requests leave the hand one after another, and each is given an answer.
-use Rattle.std.proofs.Common.{
-  ◌≡◌,
-  ℕ,
-  ◌+◌,
-  cond,
-  List,
-  [],
-  ◌∷◌,
-  ◌++◌,
-  length,
-  map,
-  take,
-  Some,
-  refl,
-  ap,
-  sym,
-  subst,
-  ◌∙◌,
-  arith,
-  append_assoc,
-}
+use Rattle.std.proofs.Common.{◌≡◌, ℕ, ◌+◌, cond, List, [], ◌∷◌, ◌++◌, length, map, take, Some, refl, ap, sym, subst}
+use Rattle.std.proofs.Common.{◌∙◌, arith, append_assoc}
 use Rattle.std.proofs.lemmas.Bool.{eq-eqb}
 use Rattle.std.proofs.lemmas.List.{take_all, append-nil, length_push, map_push}
 use Rattle.std.proofs.lemmas.List.Elements.{All-nil, All-push, All-head}
@@ -33,7 +14,7 @@ use Rattle.history_core.specs.declared.response.Response.{Response}
 use Rattle.history_core.specs.declared.response.Response.TheVariants as response
 use Rattle.ssb_answers.specs.declared.answer.Unserved.{Unserved}
 use Rattle.history_core.specs.World.{all_rows_after}
-use Rattle.history_core.specs.declared.event.Reply.TheVariants.{Done}
+use Rattle.history_core.specs.declared.event.EventReply.TheVariants.{Done}
 use Rattle.history_core.specs.Events as event
 use Rattle.history_core.specs.Deeds.{Deed}
 use Rattle.history.specs.declared.request.PostedRequest.{PostedRequest}

@@ -2,7 +2,7 @@
 use Rattle.std.proofs.Common.{◌≡◌, ℕ, List, [], ◌∷◌, ◌++◌, length, None, refl, ap, sym, ◌∙◌, subst, arith, append_assoc}
 use Rattle.std.proofs.lemmas.List.{append-nil, length_push}
 use Rattle.history_core.specs.Events.{Questions}
-use Rattle.history_core.specs.declared.event.Reply.TheVariants.{Asked as Asks}
+use Rattle.history_core.specs.declared.event.EventReply.TheVariants.{Asked as Asks}
 use Rattle.history_core.specs.Events as event
 use Rattle.history_core.specs.Deeds.{Deed}
 use Rattle.history.specs.declared.request.Grabbed.{Grabbed}

@@ -1,5 +1,6 @@
 -- The rows that passes find, question by question, are those of the requests.
-use Rattle.std.proofs.Common.{◌≡◌, ℕ, ◌+◌, ◌<◌, List, [], ◌∷◌, ◌++◌, length, map, take, drop, get_or, refl, ap, sym, ◌∙◌, append_assoc, length-append}
+use Rattle.std.proofs.Common.{◌≡◌, ℕ, ◌+◌, ◌<◌, List, [], ◌∷◌, ◌++◌, length, map, take, drop, get_or, refl, ap, sym}
+use Rattle.std.proofs.Common.{◌∙◌, append_assoc, length-append}
 use Rattle.std.proofs.lemmas.List.{map-append, length-map, take_at, drop_at, drop_more}
 use Rattle.ssb_schema.specs.Facts.{facts_of}
 use Rattle.ssb_base.specs.Base.{Tables}
@@ -16,14 +17,14 @@ use Rattle.ssb_server.specs.Turns.{answers_after}
 module _ (base : Tables) (history : List CommitRecord) where
   abbrev pub row_of : Question → Rows
   row_of question = record {
-    query = question;
+    question = question;
     list = answer_of question base.dimensions (facts_of (lines_after base history));
   }
 
   abbrev pub found_for : List Question → List Rows
   found_for questions = scan.answers_after base history questions
 
-  asked_of : (questions : Questions) → map (λ (one : Rows). one.query) (found_for questions) ≡ questions
+  asked_of : (questions : Questions) → map (λ (one : Rows). one.question) (found_for questions) ≡ questions
   asked_of [] = refl
   asked_of (question ∷ questions) = ap (λ l. question ∷ l) (asked_of questions)
 

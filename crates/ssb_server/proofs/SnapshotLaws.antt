@@ -1,44 +1,17 @@
 -- Beginnings of histories, and what an entered copy stands for.
-use Rattle.std.proofs.Common.{
-  ◌≡◌,
-  map,
-  ℕ,
-  ◌<◌,
-  ◌≤◌,
-  ◌≢◌,
-  List,
-  [],
-  ◌∷◌,
-  ◌++◌,
-  length,
-  take,
-  drop,
-  refl,
-  ap,
-  sym,
-  subst,
-  ◌∙◌,
-  arith,
-  append_assoc,
-}
+use Rattle.std.proofs.Common.{◌≡◌, map, ℕ, ◌<◌, ◌≤◌, ◌≢◌, List, [], ◌∷◌, ◌++◌, length, take, drop, refl, ap, sym, subst}
+use Rattle.std.proofs.Common.{◌∙◌, arith, append_assoc}
 use Rattle.std.proofs.lemmas.List.{append-nil}
 use Rattle.std.specs.Prelude.{All, Result, Ok, Err, MatchResult, OnOk, OnErr, is_err, false, true, Some, None}
 use Rattle.std.specs.declared.alloc.AllocError.{AllocError}
 use Rattle.std.proofs.lemmas.List.{map-id}
 use Rattle.row_store.specs.History.{CommitRecord, IsPrefix}
-use Rattle.row_store.proofs.PrefixLaws.{
-  begins_with_itself,
-  beginnings_chain,
-  beginnings_are_shorter,
-  as_long_is_the_whole,
-  prefix_take,
-  prefix_drop,
-  prefix_behind,
-}
+use Rattle.row_store.proofs.PrefixLaws.{begins_with_itself, beginnings_chain, beginnings_are_shorter}
+use Rattle.row_store.proofs.PrefixLaws.{as_long_is_the_whole, prefix_take, prefix_drop, prefix_behind}
 use Rattle.row_store.specs.State.{State, StandsFor}
 use Rattle.ssb_base.specs.Base.{Tables}
 use Rattle.ssb_answers.specs.declared.answer.Unserved.TheVariants.{Twin}
-use Rattle.history_core.specs.declared.event.Reply.TheVariants.{Done}
+use Rattle.history_core.specs.declared.event.EventReply.TheVariants.{Done}
 use Rattle.history_core.specs.Events as event
 use Rattle.history.specs.Members.{number_of}
 use Rattle.history.specs.Tokens.{TableRecord, TokenRecord, IsSound, with_writer, without_writer}

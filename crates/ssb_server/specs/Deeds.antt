@@ -1,7 +1,7 @@
 -- What a turn adds to the record of what a dispatcher did.
 use Rattle.std.specs.Prelude.{ℕ, List, [], ◌∷◌, ◌++◌, map}
 use Rattle.history_core.specs.declared.event.Who.{Who}
-use Rattle.history_core.specs.declared.event.Reply.TheVariants.{Done, Asked as Asks}
+use Rattle.history_core.specs.declared.event.EventReply.TheVariants.{Done, Asked as Asks}
 use Rattle.history_core.specs.Events.{Event}
 use Rattle.history_core.specs.Events as event
 use Rattle.history_core.specs.Deeds.{Deed}

@@ -6,7 +6,8 @@ use Rattle.history.specs.Tokens.{TokenRecord, IsSound, IsFree}
 use Rattle.twin_cell.specs.Twin.{Reading}
 use Rattle.row_store.specs.State.{state_of}
 use Rattle.fact_columns.specs.Stored.{columns_state}
-use Rattle.ssb_clients.specs.Counts.{most_clients, most_dispatchers, has_reader}
+use Rattle.history_core.specs.Counts.{most_clients}
+use Rattle.ssb_clients.specs.Counts.{most_dispatchers, has_reader}
 use Rattle.ssb_clients.specs.declared.unneeded.Keeps.{Keeps}
 use Rattle.ssb_server.specs.declared.loaded.Loaded.TheInside.{Inside}
 use Rattle.ssb_server.specs.declared.opening.OpenFault.{OpenFault}

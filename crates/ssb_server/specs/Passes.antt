@@ -15,7 +15,7 @@ request_rows questions rows = record { questions = questions; rows = rows }
 
 -- the rows of the questions of one request
 abbrev pub joined : List Rows → RequestRows
-joined found = request_rows (map (λ (one : Rows). one.query) found) (map (λ (one : Rows). one.list) found)
+joined found = request_rows (map (λ (one : Rows). one.question) found) (map (λ (one : Rows). one.list) found)
 
 -- rows of questions, cut into those of these requests
 abbrev pub grouped : List Questions → List Rows → List RequestRows

@@ -1,6 +1,6 @@
 //! The requests that a dispatcher has in hand.
 ghost use Rattle.std.specs.Prelude.{◌≡◌, ◌+◌, ◌<◌, ◌≤◌, [], ◌∷◌, ◌++◌, length, IfOk, MatchOption, nat_eq};
-ghost use Rattle.ssb_clients.specs.Counts.{most_clients};
+ghost use Rattle.history_core.specs.Counts.{most_clients};
 
 use ssb_clients::MOST_CLIENTS;
 use ssb_questions::Question;
@@ -17,7 +17,7 @@ pub struct Batch {
 
 impl Model for Batch {
     ghost use Rattle.std.specs.Prelude.{◌≡◌, ◌≤◌, vec_len, vec_capacity};
-    ghost use Rattle.ssb_clients.specs.Counts.{most_clients};
+    ghost use Rattle.history_core.specs.Counts.{most_clients};
     ghost use Rattle.ssb_server.specs.Hand.{Hand};
 
     ghost Value = { Hand };

@@ -1,6 +1,6 @@
 //! The start of a turn: what the clients have asked.
 ghost use Rattle.std.specs.Prelude.{◌≡◌, ◌≤◌, [], length};
-ghost use Rattle.ssb_clients.specs.Counts.{most_clients};
+ghost use Rattle.history_core.specs.Counts.{most_clients};
 ghost use Rattle.ssb_clients.specs.Fetching.{IsDispatcher};
 ghost use Rattle.ssb_server.specs.Turns.{HoldsNothing, HasGrabbed};
 

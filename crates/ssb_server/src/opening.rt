@@ -2,7 +2,8 @@
 ghost use Rattle.std.specs.Prelude.{◌≡◌, ℕ, ◌≤◌, [], ◌∷◌, ◌++◌, All, length, IfOk, OnOk, IfErr, MatchOption};
 ghost use Rattle.std.specs.Option.{is_some};
 ghost use Rattle.history.specs.Tokens.{new_clients, new_dispatchers};
-ghost use Rattle.ssb_clients.specs.Counts.{most_clients, most_dispatchers, most_at_table, at_table, has_reader};
+ghost use Rattle.history_core.specs.Counts.{most_clients};
+ghost use Rattle.ssb_clients.specs.Counts.{most_dispatchers, most_at_table, at_table, has_reader};
 ghost use Rattle.ssb_clients.specs.Tickets.{with_reader};
 ghost use Rattle.ssb_server.specs.Opening.{AreCounts, IsDispatcherCount, IsOpenFault, IsNewReader, IsNewDispatcher};
 ghost use Rattle.ssb_server.specs.Opening.{AreSeats, MayRead};

@@ -51,8 +51,8 @@ fn join_rows(alloc: Global, found: Vec<Rows>) -> Result<RequestRows, AllocError>
     let mut questions = Vec::new(alloc);
     let mut rows = Vec::new(alloc);
     for one in found {
-        let Rows { query, list } = one;
-        questions.push(query)?;
+        let Rows { question, list } = one;
+        questions.push(question)?;
         rows.push(list)?;
     }
     Ok(RequestRows {

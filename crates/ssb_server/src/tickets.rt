@@ -4,7 +4,8 @@ ghost use Rattle.std.specs.Prelude.{vec_len, vec_capacity};
 ghost use Rattle.history.specs.Tokens.{TokenRecord};
 ghost use Rattle.history.specs.Members.{number_of};
 ghost use Rattle.history.specs.Closing.{AreNumbered};
-ghost use Rattle.ssb_clients.specs.Counts.{most_clients, most_at_table};
+ghost use Rattle.history_core.specs.Counts.{most_clients};
+ghost use Rattle.ssb_clients.specs.Counts.{most_at_table};
 ghost use Rattle.ssb_clients.specs.Tickets.{IsResting, IsLeft, with_reader};
 
 use crate::dispatcher::Dispatcher;

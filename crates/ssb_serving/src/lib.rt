@@ -30,5 +30,5 @@ pub use batches::Batches;
 pub use clients::Spoken;
 pub use run_fault::RunFault;
 pub use streams::{StreamRun, run_opened, serve_opened, serve_streams};
-pub use threads::Ended;
-pub use watch::{NoWatch, Watch};
+pub use threads::EndedThreads;
+pub use watch::{NoWatch, WatchesRun};

@@ -11,8 +11,8 @@ ghost use Rattle.ssb_serving.specs.Streams.{AreSpoken, IsClosedWith, IsStreamRun
 use crate::batches::Batches;
 use crate::clients::{Seat, Spoken};
 use crate::run_fault::RunFault;
-use crate::threads::{Ended, run_threads};
-use crate::watch::{NoWatch, Watch};
+use crate::threads::{EndedThreads, run_threads};
+use crate::watch::{NoWatch, WatchesRun};
 use row_store::Log;
 use ssb_server::{Client, Closed, ColumnsWriter, Dispatcher, Keeps, Loaded, Opened, Server, open};
 use std::alloc::{AllocError, Global};
@@ -90,14 +90,14 @@ fn gather_left<W: Wait + Drop, L: Drop>(
 fn close_run<W: Wait + Drop, L: Drop>(
     alloc: Global,
     server: Server<W>,
-    ended: Ended<W, Spoken<W, L>>,
+    ended: EndedThreads<W, Spoken<W, L>>,
 ) -> Result<StreamRun<L>, AllocError>
     requires { IsReady server (map (λ one. one.client) ended.spoken.items) ended.dispatchers.items }
     ensures closed { IfOk result (λ run. IsClosedWith server (map (λ one. one.client) ended.spoken.items)
         ended.dispatchers.items run.log) }
     ensures left { IfOk result (λ run. run.left.items ≡ map (λ one. one.left) ended.spoken.items) }
 {
-    let Ended {
+    let EndedThreads {
         spoken,
         dispatchers,
         batches,
@@ -135,7 +135,7 @@ where
     R: Wait + Threads + Sync,
     S: Speaks<R, Nothing> + Drop + Send,
     S::Left: Drop + Send,
-    V: Watch,
+    V: WatchesRun,
     requires clients { opened.clients.items ≡ new_clients opened.server }
     requires dispatchers { opened.dispatchers.items ≡ new_dispatchers opened.server }
     requires speakers { opened.server.clients ≡ vec_len speakers }
@@ -163,7 +163,7 @@ pub fn serve_opened<W, R, E, K, S>(
     clients: Vec<Client<W>>,
     dispatchers: Vec<Dispatcher<W>>,
     speakers: Vec<S>,
-) -> Result<Ended<W, Spoken<W, S::Left>>, AllocError>
+) -> Result<EndedThreads<W, Spoken<W, S::Left>>, AllocError>
 where
     W: Wait + Drop + Send,
     R: Wait + Threads + Sync,

@@ -17,7 +17,7 @@ use std::thread::{Scope, Threads};
 
 /// All who took part, after their threads ended.
 #[derive(Drop)]
-pub struct Ended<W: Wait + Drop, P: Drop> {
+pub struct EndedThreads<W: Wait + Drop, P: Drop> {
     pub spoken: Vec<P>,
     pub dispatchers: Vec<Dispatcher<W>>,
     pub batches: Batches,
@@ -65,7 +65,7 @@ fn run_all<'s, E, W, T, P, R>(
     server: &'s Server<W>,
     stop: &'s AtomicBool,
     crew: Crew<W, T, P>,
-) -> Result<Ended<W, P>, AllocError>
+) -> Result<EndedThreads<W, P>, AllocError>
 where
     W: Wait + Drop + Send,
     T: TakesSeat<W, R, P> + Drop + Send + 's,
@@ -90,7 +90,7 @@ where
     join_clients(rt, speaking, &mut spoken);
     let (dispatchers, batches) = staff.end(rt, server, stop);
     started?;
-    Ok(Ended {
+    Ok(EndedThreads {
         spoken,
         dispatchers,
         batches,
@@ -103,7 +103,7 @@ fn run_in_scope<W, T, P, R>(
     alloc: Global,
     server: &Server<W>,
     crew: Crew<W, T, P>,
-) -> Result<Ended<W, P>, AllocError>
+) -> Result<EndedThreads<W, P>, AllocError>
 where
     W: Wait + Drop + Send,
     T: TakesSeat<W, R, P> + Drop + Send,
@@ -119,7 +119,7 @@ where
     thread::scope(
         thread::scope_env(),
         rt,
-        |scope| -> Result<Ended<W, P>, AllocError>
+        |scope| -> Result<EndedThreads<W, P>, AllocError>
             requires { All (λ seat. IsQuiet server.now (T.client seat)) crew.seats.items
                 × All (IsOf server.now) crew.staff }
             ensures spoken { IfOk result (λ ended. AllZip T.leaves crew.seats.items ended.spoken.items) }
@@ -135,7 +135,7 @@ pub(crate) fn run_threads<W, T, P, R>(
     server: &Server<W>,
     seats: Vec<T>,
     dispatchers: Vec<Dispatcher<W>>,
-) -> Result<Ended<W, P>, AllocError>
+) -> Result<EndedThreads<W, P>, AllocError>
 where
     W: Wait + Drop + Send,
     T: TakesSeat<W, R, P> + Drop + Send,

@@ -2,7 +2,7 @@
 
 /// Is told when the threads of a run begin and when all of them have ended, as a clock that takes the time. It promises
 /// nothing, and what is served is the same with any of them.
-pub trait Watch {
+pub trait WatchesRun {
     /// The first thread starts from here on.
     fn begin(&mut self);
 
@@ -14,7 +14,7 @@ pub trait Watch {
 #[derive(Clone, Copy, Debug)]
 pub struct NoWatch;
 
-impl Watch for NoWatch {
+impl WatchesRun for NoWatch {
     fn begin(&mut self) {}
 
     fn end(&mut self) {}

@@ -1,27 +1,6 @@
 -- Constants of a star question are read back: each is a text that a table file can hold, and has bytes.
-use Rattle.std.proofs.Common.{
-  ◌≡◌,
-  ◌∙◌,
-  ℕ,
-  zero,
-  suc,
-  true,
-  false,
-  nat_eq,
-  List,
-  [],
-  ◌∷◌,
-  length,
-  map,
-  Some,
-  None,
-  IsUtf8,
-  refl,
-  ap,
-  subst,
-  arith,
-  ne_eqb,
-}
+use Rattle.std.proofs.Common.{◌≡◌, ◌∙◌, ℕ, zero, suc, true, false, nat_eq, List, [], ◌∷◌, length, map, Some, None}
+use Rattle.std.proofs.Common.{IsUtf8, refl, ap, subst, arith, ne_eqb}
 use Rattle.std.specs.Prelude.{slice_get}
 use Rattle.std.specs.List.{AllByRecursion}
 use Rattle.std.proofs.lemmas.Option.{none-some}

@@ -1,29 +1,6 @@
 -- Of the lines of a commit, which are those of a refresh: no refresh begins inside another.
-use Rattle.std.proofs.Common.{
-  ◌≡◌,
-  ℕ,
-  ◌+◌,
-  true,
-  false,
-  List,
-  [],
-  ◌∷◌,
-  ◌++◌,
-  Option,
-  Some,
-  None,
-  Result,
-  Ok,
-  Err,
-  map,
-  refl,
-  sym,
-  ap,
-  ◌∙◌,
-  subst,
-  arith,
-  Bool,
-}
+use Rattle.std.proofs.Common.{◌≡◌, ℕ, ◌+◌, true, false, List, [], ◌∷◌, ◌++◌, Option, Some, None, Result, Ok, Err, map}
+use Rattle.std.proofs.Common.{refl, sym, ap, ◌∙◌, subst, arith, Bool}
 use Rattle.std.specs.List.{All, flat_map}
 use Rattle.std.specs.Option.{option_map}
 use Rattle.std.specs.Bool.{if◌then◌else◌}
@@ -40,17 +17,8 @@ use Rattle.ssb_script.specs.Begun.{Begun}
 use Rattle.ssb_script.specs.Begun as begun
 use Rattle.ssb_script.specs.Lines.{ScriptLine, alone, line_or_bad, line_or_refusal}
 use Rattle.ssb_script.specs.Lines as script
-use Rattle.ssb_script.specs.Requests.{
-  RequestRecord,
-  Refresh,
-  Ask,
-  Abort,
-  IsWholeAction,
-  IsWholeRequest,
-  lines_of_asking,
-  lines_of_refresh,
-  request_of,
-}
+use Rattle.ssb_script.specs.Requests.{RequestRecord, Refresh, Ask, Abort, IsWholeAction, IsWholeRequest}
+use Rattle.ssb_script.specs.Requests.{lines_of_asking, lines_of_refresh, request_of}
 use Rattle.ssb_script.specs.Scripts.{Spell, is_refreshing, lines_of_begun}
 use Rattle.ssb_script.specs.Steps.{AreTaken, Follows as FollowsInScript, asked, begun_in}
 use Rattle.ssb_script.specs.declared.begun.ScriptStep.{ScriptStep}

@@ -1,34 +1,6 @@
 -- The text of an answer's first record spells the answer's head.
-use Rattle.std.proofs.Common.{
-  eq-eqb,
-  ne_eqb,
-  ◌≡◌,
-  ℕ,
-  ◌+◌,
-  ◌≤◌,
-  true,
-  false,
-  List,
-  [],
-  ◌∷◌,
-  ◌++◌,
-  length,
-  map,
-  decimal,
-  codes,
-  Option,
-  Some,
-  None,
-  refl,
-  subst,
-  sym,
-  ap,
-  ◌∙◌,
-  append_assoc,
-  arith,
-  inl,
-  inr,
-}
+use Rattle.std.proofs.Common.{eq-eqb, ne_eqb, ◌≡◌, ℕ, ◌+◌, ◌≤◌, true, false, List, [], ◌∷◌, ◌++◌, length, map, decimal}
+use Rattle.std.proofs.Common.{codes, Option, Some, None, refl, subst, sym, ap, ◌∙◌, append_assoc, arith, inl, inr}
 use Rattle.std.specs.List.{AllByRecursion, AllZip, flat_map}
 use Rattle.std.specs.Option.{option_and_then}
 use Rattle.std.proofs.lemmas.Bool.{cases_Bool}
@@ -43,7 +15,8 @@ use Rattle.ssb_questions.specs.Query.{name_of}
 use Rattle.ssb_questions.specs.QuestionEq.{question_eq}
 use Rattle.ssb_questions.specs.declared.kind.ConstantKind.{ConstantKind}
 use Rattle.ssb_questions.specs.declared.query.Query.{Query}
-use Rattle.ssb_questions.specs.declared.query.Query.TheVariants.{Q1_1, Q1_2, Q1_3, Q2_1, Q2_2, Q2_3, Q3_1, Q3_2, Q3_3, Q3_4}
+use Rattle.ssb_questions.specs.declared.query.Query.TheVariants.{Q1_1, Q1_2, Q1_3, Q2_1, Q2_2, Q2_3, Q3_1, Q3_2, Q3_3}
+use Rattle.ssb_questions.specs.declared.query.Query.TheVariants.{Q3_4}
 use Rattle.ssb_questions.specs.declared.query.Query.TheVariants.{Q4_1, Q4_2, Q4_3, Star}
 use Rattle.ssb_questions.specs.declared.value.Value.{Value}
 use Rattle.ssb_report.specs.AnswerText.{value_text}

@@ -7,14 +7,8 @@ use Rattle.ssb_audit.specs.declared.trace.Told.{Told}
 use Rattle.ssb_audit.specs.declared.trace.Trace.{Trace}
 use Rattle.ssb_text.specs.Records.{HasRecords}
 use Rattle.ssb_script.specs.Requests.{IsWholeRequest, Refresh}
-use Rattle.ssb_trace.specs.Entries.{
-  IsWholeEntry,
-  answers_in,
-  commits_in,
-  lines_of_entries,
-  lines_of_commit,
-  lines_of_told,
-}
+use Rattle.ssb_trace.specs.Entries.{IsWholeEntry, answers_in, commits_in, lines_of_entries, lines_of_commit}
+use Rattle.ssb_trace.specs.Entries.{lines_of_told}
 use Rattle.ssb_trace.specs.Lines.{AreLines}
 use Rattle.ssb_trace.specs.Traces.{SpellsTrace}
 use Rattle.ssb_trace.specs.declared.entry.TraceEntry.{TraceEntry}

@@ -1,22 +1,6 @@
 -- A legal trace is allowed, where its parts are: its answers' rows are those of their questions.
-use Rattle.std.proofs.Common.{
-  ◌≡◌,
-  ℕ,
-  List,
-  [],
-  ◌∷◌,
-  Some,
-  IfSome,
-  FitsSigned,
-  refl,
-  suc,
-  zero,
-  subst,
-  inl,
-  inr,
-  slice_get,
-  take,
-}
+use Rattle.std.proofs.Common.{◌≡◌, ℕ, List, [], ◌∷◌, Some, IfSome, FitsSigned, refl, suc, zero, subst, inl, inr}
+use Rattle.std.proofs.Common.{slice_get, take}
 use Rattle.std.specs.Int.{w64}
 use Rattle.std.specs.List.{AllByRecursion}
 use Rattle.row_store.specs.History.{CommitRecord, lines_after}

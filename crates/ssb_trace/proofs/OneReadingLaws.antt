@@ -1,26 +1,7 @@
 -- A text spells no two traces: its records spell one list of lines, and the entries are read off its lines, from the
 -- last to the first.
-use Rattle.std.proofs.Common.{
-  ◌≡◌,
-  ℕ,
-  List,
-  [],
-  ◌∷◌,
-  ◌++◌,
-  map,
-  Option,
-  Some,
-  None,
-  Ok,
-  Err,
-  Result,
-  subst,
-  refl,
-  sym,
-  ap,
-  ◌∙◌,
-  append_assoc,
-}
+use Rattle.std.proofs.Common.{◌≡◌, ℕ, List, [], ◌∷◌, ◌++◌, map, Option, Some, None, Ok, Err, Result, subst, refl, sym}
+use Rattle.std.proofs.Common.{ap, ◌∙◌, append_assoc}
 use Rattle.std.specs.List.{flat_map}
 use Rattle.std.specs.Option.{option_map}
 use Rattle.std.proofs.lemmas.Option.{same_Some}
@@ -41,19 +22,8 @@ use Rattle.ssb_script.specs.declared.control.OrderOpening.TheVariants.{Add, Amen
 use Rattle.ssb_text.proofs.OneListLaws.{one_records}
 use Rattle.ssb_trace.specs.Entries.{answers_in, commits_in, in_commit, lines_of_entries}
 use Rattle.ssb_trace.specs.Laws.{HasOneReading}
-use Rattle.ssb_trace.specs.Lines.{
-  TraceLine,
-  Begin,
-  Inside,
-  Answer,
-  Row,
-  AreLines,
-  SaysAfter,
-  entry_begun,
-  line_inside,
-  row_after,
-  word_of,
-}
+use Rattle.ssb_trace.specs.Lines.{TraceLine, Begin, Inside, Answer, Row, AreLines, SaysAfter, entry_begun, line_inside}
+use Rattle.ssb_trace.specs.Lines.{row_after, word_of}
 use Rattle.ssb_trace.specs.declared.entry.TraceEntry.{TraceEntry}
 use Rattle.ssb_trace.specs.declared.entry.TraceEntry.TheVariants as entry
 use Rattle.ssb_trace.specs.declared.word.TraceWord.{TraceWord}

@@ -1,31 +1,6 @@
 -- What is known of a trace's text while it is read.
-use Rattle.std.proofs.Common.{
-  ◌≡◌,
-  ℕ,
-  ◌+◌,
-  ◌<◌,
-  ◌≤◌,
-  true,
-  false,
-  List,
-  [],
-  ◌∷◌,
-  ◌++◌,
-  Option,
-  Some,
-  Result,
-  Ok,
-  Err,
-  length,
-  refl,
-  sym,
-  ap,
-  ◌∙◌,
-  subst,
-  inl,
-  inr,
-  arith,
-}
+use Rattle.std.proofs.Common.{◌≡◌, ℕ, ◌+◌, ◌<◌, ◌≤◌, true, false, List, [], ◌∷◌, ◌++◌, Option, Some, Result, Ok, Err}
+use Rattle.std.proofs.Common.{length, refl, sym, ap, ◌∙◌, subst, inl, inr, arith}
 use Rattle.std.proofs.lemmas.List.Elements.{All-append, All-nil}
 use Rattle.std.specs.Result.{IfOk, IfErr}
 use Rattle.std.proofs.lemmas.Bool.{le-ltb, lt-ltb}
@@ -43,28 +18,12 @@ use Rattle.ssb_script.specs.Scripts.{first_of}
 use Rattle.ssb_script.specs.Steps.{IsFoundBy}
 use Rattle.ssb_script.specs.declared.error.ScriptError.{ScriptError}
 use Rattle.ssb_script.specs.declared.error.ScriptError.TheVariants as error
-use Rattle.ssb_trace.specs.Entries.{
-  IsWholeEntry,
-  answer_in,
-  answers_in,
-  commit_in,
-  commits_in,
-  lines_of_entry,
-  lines_of_entries,
-  lines_of_unfinished,
-}
+use Rattle.ssb_trace.specs.Entries.{IsWholeEntry, answer_in, answers_in, commit_in, commits_in, lines_of_entry}
+use Rattle.ssb_trace.specs.Entries.{lines_of_entries, lines_of_unfinished}
 use Rattle.ssb_trace.specs.Lines.{TraceLine, AreLines, Says, word_of}
 use Rattle.ssb_trace.specs.Steps.{Follows, TakesRecord, ended}
-use Rattle.ssb_trace.specs.Traces.{
-  EndsInBlock,
-  IsBegun,
-  IsFirstFault,
-  IsTraceFault,
-  Spells,
-  SpellsTrace,
-  checks_after,
-  fault_of,
-}
+use Rattle.ssb_trace.specs.Traces.{EndsInBlock, IsBegun, IsFirstFault, IsTraceFault, Spells, SpellsTrace, checks_after}
+use Rattle.ssb_trace.specs.Traces.{fault_of}
 use Rattle.ssb_trace.specs.declared.entry.TraceEntry.{TraceEntry}
 use Rattle.ssb_trace.specs.declared.unfinished.TraceStep.{TraceStep}
 use Rattle.ssb_trace.specs.declared.unfinished.Unfinished.{Unfinished}

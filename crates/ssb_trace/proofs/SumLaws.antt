@@ -1,26 +1,6 @@
 -- The text of a sum is read back as the sum.
-use Rattle.std.proofs.Common.{
-  le-leb,
-  lt-ltb,
-  ◌≡◌,
-  ℕ,
-  suc,
-  ◌^◌,
-  ◌<◌,
-  ◌≤◌,
-  true,
-  false,
-  nat_eq,
-  List,
-  [],
-  ◌∷◌,
-  length,
-  Some,
-  refl,
-  ap,
-  ◌∙◌,
-  arith,
-}
+use Rattle.std.proofs.Common.{le-leb, lt-ltb, ◌≡◌, ℕ, suc, ◌^◌, ◌<◌, ◌≤◌, true, false, nat_eq, List, [], ◌∷◌, length}
+use Rattle.std.proofs.Common.{Some, refl, ap, ◌∙◌, arith}
 use Rattle.std.specs.Prelude.{◌==◌, codes, decimal, ℤ, pos, negsuc}
 use Rattle.std.specs.Char.{is_ascii_digit}
 use Rattle.std.specs.Cmp.Lexicographic.{pointwise}

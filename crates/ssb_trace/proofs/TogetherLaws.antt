@@ -1,5 +1,6 @@
 -- The commits of texts that are read together are those of each.
-use Rattle.std.proofs.Common.{◌≡◌, ◌≢◌, ◌≤◌, ◌⊎◌, inl, inr, ℕ, List, [], ◌∷◌, ◌++◌, length, map, Some, None, refl, sym, ap, subst, ◌∙◌, append_assoc, append-nil, length-append, arith}
+use Rattle.std.proofs.Common.{◌≡◌, ◌≢◌, ◌≤◌, ◌⊎◌, inl, inr, ℕ, List, [], ◌∷◌, ◌++◌, length, map, Some, None, refl, sym}
+use Rattle.std.proofs.Common.{ap, subst, ◌∙◌, append_assoc, append-nil, length-append, arith}
 use Rattle.std.specs.List.{AllByRecursion, AllZip, concat, flat_map}
 use Rattle.std.proofs.lemmas.Bool.{ne_eqb}
 use Rattle.std.proofs.lemmas.Grind.{flat_map-append}
@@ -23,7 +24,8 @@ use Rattle.ssb_text.specs.TextLines.{HasNoLoneReturn, HasNoMark, IsLine}
 use Rattle.ssb_text.proofs.LineLaws.{line-append, text_has_lines}
 use Rattle.ssb_text.proofs.LineRecordLaws.{RecordsFrom, contents_of, lines_have, unmarked}
 use Rattle.ssb_text.proofs.MachineLaws.{Ended, records_in}
-use Rattle.ssb_trace.specs.Entries.{IsWholeEntry, answer_in, answers_in, commit_in, commits_in, in_commit, lines_of_entries, lines_of_entry}
+use Rattle.ssb_trace.specs.Entries.{IsWholeEntry, answer_in, answers_in, commit_in, commits_in, in_commit}
+use Rattle.ssb_trace.specs.Entries.{lines_of_entries, lines_of_entry}
 use Rattle.ssb_trace.specs.Lines.{TraceLine, Begin, Inside, Answer, Row, AreLines, SaysAfter, word_of}
 use Rattle.ssb_trace.specs.Traces.{SpellsTrace}
 use Rattle.ssb_trace.specs.declared.entry.TraceEntry.{TraceEntry}

@@ -1,25 +1,6 @@
 -- What one record of a trace spells.
-use Rattle.std.specs.Prelude.{
-  ◌≡◌,
-  ℕ,
-  Bool,
-  true,
-  false,
-  List,
-  [],
-  ◌∷◌,
-  drop,
-  find,
-  codes,
-  Option,
-  Some,
-  None,
-  option_map,
-  Result,
-  Ok,
-  Err,
-  nat_eq,
-}
+use Rattle.std.specs.Prelude.{◌≡◌, ℕ, Bool, true, false, List, [], ◌∷◌, drop, find, codes, Option, Some, None}
+use Rattle.std.specs.Prelude.{option_map, Result, Ok, Err, nat_eq}
 use Rattle.std.specs.Cmp.Lexicographic.{pointwise}
 use Rattle.ssb_questions.specs.declared.query.Query.{Query}
 use Rattle.ssb_questions.specs.declared.value.Value.{Value}
@@ -27,18 +8,8 @@ use Rattle.ssb_answers.specs.declared.answer.ResultRow.{ResultRow}
 use Rattle.ssb_text.specs.Row as row
 use Rattle.ssb_text.specs.Spelling.{field}
 use Rattle.ssb_schema.specs.declared.table.Table.TheVariants as table
-use Rattle.ssb_script.specs.Lines.{
-  ScriptLine,
-  RecordFault,
-  Open,
-  Withdraw,
-  Commit,
-  Bad,
-  alone,
-  key_of,
-  line_or_bad,
-  line_or_refusal,
-}
+use Rattle.ssb_script.specs.Lines.{ScriptLine, RecordFault, Open, Withdraw, Commit, Bad, alone, key_of, line_or_bad}
+use Rattle.ssb_script.specs.Lines.{line_or_refusal}
 use Rattle.ssb_script.specs.declared.control.OrderOpening.TheVariants.{Add, Amend}
 use Rattle.ssb_trace.specs.Heads.{commit_of, head_of}
 use Rattle.ssb_trace.specs.Rows.{row_of}

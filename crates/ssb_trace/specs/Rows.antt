@@ -1,30 +1,6 @@
 -- What a `row` record of a trace spells.
-use Rattle.std.specs.Prelude.{
-  ℤ,
-  pos,
-  ◌-ℤ◌,
-  ℕ,
-  ◌+◌,
-  ◌^◌,
-  Bool,
-  true,
-  false,
-  List,
-  [],
-  ◌∷◌,
-  map,
-  length,
-  codes,
-  Option,
-  Some,
-  None,
-  option_map,
-  nat_eq,
-  nat_lt,
-  nat_le,
-  ◌==◌,
-  if◌then◌else◌,
-}
+use Rattle.std.specs.Prelude.{ℤ, pos, ◌-ℤ◌, ℕ, ◌+◌, ◌^◌, Bool, true, false, List, [], ◌∷◌, map, length, codes, Option}
+use Rattle.std.specs.Prelude.{Some, None, option_map, nat_eq, nat_lt, nat_le, ◌==◌, if◌then◌else◌}
 use Rattle.std.specs.Option.{option_and_then}
 use Rattle.std.specs.Cmp.Lexicographic.{pointwise}
 use Rattle.ssb_text.specs.Records.{has_columns}

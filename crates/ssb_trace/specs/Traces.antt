@@ -1,21 +1,6 @@
 -- What the text of a trace spells, and its first fault.
-use Rattle.std.specs.Prelude.{
-  ◌≡◌,
-  ℕ,
-  ◌+◌,
-  ◌≤◌,
-  ◌⊎◌,
-  ◌++◌,
-  List,
-  [],
-  ◌∷◌,
-  length,
-  All,
-  Option,
-  Some,
-  None,
-  if◌then◌else◌,
-}
+use Rattle.std.specs.Prelude.{◌≡◌, ℕ, ◌+◌, ◌≤◌, ◌⊎◌, ◌++◌, List, [], ◌∷◌, length, All, Option, Some, None}
+use Rattle.std.specs.Prelude.{if◌then◌else◌}
 use Rattle.ssb_audit.specs.declared.trace.Trace.{Trace}
 use Rattle.ssb_text.specs.Records.{BeginsWith, HasRecords}
 use Rattle.ssb_script.specs.Begun.{Begun}
@@ -23,14 +8,8 @@ use Rattle.ssb_script.specs.Scripts.{checks_in, first_of, refusal_at_end, too_lo
 use Rattle.ssb_script.specs.Steps.{begun_in}
 use Rattle.ssb_script.specs.declared.error.ScriptError.{ScriptError}
 use Rattle.ssb_script.specs.declared.error.ScriptError.TheVariants as error
-use Rattle.ssb_trace.specs.Entries.{
-  IsUnfinished,
-  IsWholeEntry,
-  answers_in,
-  commits_in,
-  lines_of_entries,
-  lines_of_unfinished,
-}
+use Rattle.ssb_trace.specs.Entries.{IsUnfinished, IsWholeEntry, answers_in, commits_in, lines_of_entries}
+use Rattle.ssb_trace.specs.Entries.{lines_of_unfinished}
 use Rattle.ssb_trace.specs.Lines.{AreLines, entry_begun, is_line, line_inside, row_after, word_of}
 use Rattle.ssb_trace.specs.declared.entry.TraceEntry.{TraceEntry}
 use Rattle.ssb_trace.specs.declared.unfinished.Unfinished.{Unfinished}

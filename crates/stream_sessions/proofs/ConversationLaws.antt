@@ -1,44 +1,13 @@
 -- A conversation over a session's wire, and how it goes on.
-use Rattle.std.proofs.Common.{
-  ◌≡◌,
-  ℕ,
-  ◌≤◌,
-  ◌<◌,
-  Bool,
-  true,
-  false,
-  List,
-  [],
-  ◌∷◌,
-  ◌++◌,
-  length,
-  Option,
-  Result,
-  Ok,
-  Err,
-  refl,
-  sym,
-  ap,
-  ◌∙◌,
-  subst,
-  inl,
-  inr,
-}
+use Rattle.std.proofs.Common.{◌≡◌, ℕ, ◌≤◌, ◌<◌, Bool, true, false, List, [], ◌∷◌, ◌++◌, length, Option, Result, Ok, Err}
+use Rattle.std.proofs.Common.{refl, sym, ap, ◌∙◌, subst, inl, inr}
 use Rattle.std.specs.Prelude.{MatchResult, OnOk}
 use Rattle.history.specs.Tokens.{TokenRecord}
 use Rattle.ssb_script.specs.Cutting.{IsRequest}
 use Rattle.ssb_text.specs.Written.{AppendsPart}
 use Rattle.ssb_text.proofs.WrittenLaws.{appends_none}
-use Rattle.stream_sessions.specs.Conversation.{
-  AddsReply,
-  Converses,
-  ConversesInPart,
-  ConversesSoFar,
-  ConversesUntil,
-  GoesOn,
-  GoesUntil,
-  most_held,
-}
+use Rattle.stream_sessions.specs.Conversation.{AddsReply, Converses, ConversesInPart, ConversesSoFar, ConversesUntil}
+use Rattle.stream_sessions.specs.Conversation.{GoesOn, GoesUntil, most_held}
 use Rattle.stream_sessions.specs.Events.{Event, Looks, Takes, Passes}
 use Rattle.stream_sessions.specs.FaultLine.{too_long_line}
 use Rattle.stream_sessions.specs.Steps.{AddsAnswer, is_last}

@@ -1,32 +1,6 @@
 -- How a session ends.
-use Rattle.std.proofs.Common.{
-  ◌≡◌,
-  ℕ,
-  ◌+◌,
-  ◌<◌,
-  ◌≤◌,
-  List,
-  [],
-  ◌∷◌,
-  ◌++◌,
-  length,
-  take,
-  get_or,
-  Option,
-  Some,
-  Err,
-  refl,
-  sym,
-  ap,
-  ◌∙◌,
-  subst,
-  inl,
-  inr,
-  append_assoc,
-  append-nil,
-  length-append,
-  arith,
-}
+use Rattle.std.proofs.Common.{◌≡◌, ℕ, ◌+◌, ◌<◌, ◌≤◌, List, [], ◌∷◌, ◌++◌, length, take, get_or, Option, Some, Err, refl}
+use Rattle.std.proofs.Common.{sym, ap, ◌∙◌, subst, inl, inr, append_assoc, append-nil, length-append, arith}
 use Rattle.std.specs.Prelude.{slice_get}
 use Rattle.std.specs.List.{AllByRecursion, concat}
 use Rattle.std.specs.Io.KnownBytes.{Appends, Consumes}
@@ -42,19 +16,8 @@ use Rattle.ssb_text.specs.Written.{AppendsPart}
 use Rattle.ssb_text.proofs.WrittenLaws.{appends_both}
 use Rattle.stream_sessions.specs.Answers.{AreAnswered, BreaksOff}
 use Rattle.stream_sessions.specs.FaultLine.{too_long_line}
-use Rattle.stream_sessions.specs.Session.{
-  all_of,
-  answered_at,
-  last_line,
-  IsServed,
-  IsBroken,
-  IsWritten,
-  IsLast,
-  BreaksSo,
-  EndsSo,
-  Serves,
-  Breaks,
-}
+use Rattle.stream_sessions.specs.Session.{all_of, answered_at, last_line, IsServed, IsBroken, IsWritten, IsLast}
+use Rattle.stream_sessions.specs.Session.{BreaksSo, EndsSo, Serves, Breaks}
 use Rattle.stream_sessions.specs.Steps.{HandsOn, Steps, Fails, FailsAt, FailsWriting, IsHeld, EndsHeld}
 use Rattle.stream_sessions.specs.declared.outcome.Ending.TheVariants as ending
 use Rattle.stream_sessions.specs.declared.outcome.Served.{Served}

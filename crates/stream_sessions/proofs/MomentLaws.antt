@@ -1,20 +1,5 @@
 -- The answers to the questions of one request are of one moment.
-use Rattle.std.proofs.Common.{
-  ◌≡◌,
-  ◌⊎◌,
-  inl,
-  inr,
-  ℕ,
-  ◌≤◌,
-  List,
-  length,
-  map,
-  take,
-  ap,
-  ◌∙◌,
-  length-append,
-  arith,
-}
+use Rattle.std.proofs.Common.{◌≡◌, ◌⊎◌, inl, inr, ℕ, ◌≤◌, List, length, map, take, ap, ◌∙◌, length-append, arith}
 use Rattle.ssb_answers.specs.declared.answer.Answer.{Answer}
 use Rattle.ssb_answers.specs.declared.answer.Answer.TheVariants as answer
 use Rattle.row_store.specs.History.{CommitRecord, IsPrefix}

@@ -1,5 +1,6 @@
 -- What goes over the wire of a session, in order.
-use Rattle.std.specs.Prelude.{◌≡◌, ◌≤◌, ◌<◌, ℕ, Bool, true, false, List, [], ◌∷◌, ◌++◌, ◌⊎◌, length, Result, MatchResult}
+use Rattle.std.specs.Prelude.{◌≡◌, ◌≤◌, ◌<◌, ℕ, Bool, true, false, List, [], ◌∷◌, ◌++◌, ◌⊎◌, length, Result}
+use Rattle.std.specs.Prelude.{MatchResult}
 use Rattle.history.specs.Tokens.{TokenRecord}
 use Rattle.ssb_script.specs.Cutting.{IsRequest}
 use Rattle.stream_sessions.specs.Events.{Event, Looks, Takes, Passes, WireRecord}

@@ -1,5 +1,6 @@
 -- The steps of a session.
-use Rattle.std.specs.Prelude.{◌≡◌, ℕ, Bool, true, false, List, [], ◌∷◌, ◌++◌, ◌⊎◌, length, map, MatchOption, MatchResult, Option, Result, Ok, Err}
+use Rattle.std.specs.Prelude.{◌≡◌, ℕ, Bool, true, false, List, [], ◌∷◌, ◌++◌, ◌⊎◌, length, map, MatchOption}
+use Rattle.std.specs.Prelude.{MatchResult, Option, Result, Ok, Err}
 use Rattle.std.specs.Io.KnownBytes.{Appends, Consumes}
 use Rattle.std.specs.Vec.Iter.{into_iter_items}
 use Rattle.history.specs.Tokens.{TokenRecord}

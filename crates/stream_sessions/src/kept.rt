@@ -17,11 +17,11 @@ fn keep(told: &mut Vec<Told>, client: u32, answer: Answer)
     ensures len { vec_len told.new ≤ vec_len told.old + 1 }
     ensures capacity { vec_capacity told.new ≡ vec_capacity told.old }
 {
-    if let Answer::Rows { query, at, rows } = answer {
+    if let Answer::Rows { question, at, rows } = answer {
         told.push_reserved(Told {
             client,
             at,
-            question: query,
+            question,
             rows,
         });
     }

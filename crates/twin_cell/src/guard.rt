@@ -2,7 +2,7 @@
 ghost use Rattle.std.specs.Prelude.{◌≡◌};
 
 use crate::reader::TwinReader;
-use crate::rule::{Published, View};
+use crate::rule::{CellView, Published};
 use crate::side::Side;
 use left_right::reader::Reading;
 use row_store::Replica;
@@ -11,7 +11,7 @@ use std::marker::Model;
 /// A reader with a copy in hand. Contracts see the copy's state, a list of commits that it stands for, and those that
 /// the reader was told. A writer that goes waits for it, so it is not to outlive the writer in one thread.
 pub struct Guard<R: Replica + Drop> {
-    pub(crate) reading: Reading<Side<R>, View, Published>,
+    pub(crate) reading: Reading<Side<R>, CellView, Published>,
 }
 
 impl<R: Replica + Drop> Model for Guard<R> {

@@ -3,7 +3,7 @@ ghost use Rattle.std.specs.Prelude.{◌≡◌, IfOk};
 ghost use Rattle.left_right.specs.Sides.{view as view_of};
 ghost use Rattle.twin_cell.specs.Rule.{newcomer};
 
-use crate::reader::Seat;
+use crate::reader::ReaderSeat;
 use crate::rule::Tells;
 use crate::writer::Copies;
 use row_store::Replica;
@@ -14,7 +14,7 @@ use std::marker::Model;
 /// it takes over. Contracts see the base and those commits.
 #[derive(Drop)]
 pub struct Note<R: Replica + Drop> {
-    pub(crate) seat: Seat<R>,
+    pub(crate) seat: ReaderSeat<R>,
 }
 
 impl<R: Replica + Drop> Model for Note<R> {
@@ -29,7 +29,7 @@ impl<R: Replica + Drop> Model for Note<R> {
 }
 
 // A step under the rule: a new seat, which knows nothing.
-fn new_seat<R: Replica + Drop>(copies: &Copies<R>) -> Result<Seat<R>, AllocError>
+fn new_seat<R: Replica + Drop>(copies: &Copies<R>) -> Result<ReaderSeat<R>, AllocError>
     ensures newcomer { IfOk result (λ seat. view_of seat.place ≡ newcomer) }
     ensures table { IfOk result (λ seat. seat.place.table_id ≡ copies.now.desk.place.table_id) }
 {
@@ -37,7 +37,7 @@ fn new_seat<R: Replica + Drop>(copies: &Copies<R>) -> Result<Seat<R>, AllocError
 }
 
 // Two steps under the rule, by the play `Tells`: the writer cuts off a part of what it knows, and the seat takes it in.
-fn tell_seat<R: Replica + Drop>(copies: &mut Copies<R>, seat: &mut Seat<R>)
+fn tell_seat<R: Replica + Drop>(copies: &mut Copies<R>, seat: &mut ReaderSeat<R>)
     requires table { seat.old.place.table_id ≡ copies.old.desk.place.table_id }
     ensures shown { copies.new.desk.shown ≡ copies.old.desk.shown }
     ensures log { (copies.new.log ≡ copies.old.log) × (copies.new.behind ≡ copies.old.behind) }
@@ -48,7 +48,9 @@ fn tell_seat<R: Replica + Drop>(copies: &mut Copies<R>, seat: &mut Seat<R>)
 }
 
 // A new seat that knows what the writer knows.
-pub(crate) fn told_seat<R: Replica + Drop>(copies: &mut Copies<R>) -> Result<Seat<R>, AllocError>
+pub(crate) fn told_seat<R: Replica + Drop>(
+    copies: &mut Copies<R>,
+) -> Result<ReaderSeat<R>, AllocError>
     ensures shown { copies.new.desk.shown ≡ copies.old.desk.shown }
     ensures log { (copies.new.log ≡ copies.old.log) × (copies.new.behind ≡ copies.old.behind) }
     ensures kept { view_of copies.new.desk.place ≡ view_of copies.old.desk.place }

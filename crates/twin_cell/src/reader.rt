@@ -7,7 +7,7 @@ ghost use Rattle.twin_cell.specs.Rule.{HasSeen};
 
 use crate::guard::Guard;
 use crate::note::Note;
-use crate::rule::{Published, Sees, View};
+use crate::rule::{CellView, Published, Sees};
 use crate::side::Side;
 use left_right::reader::{Reader, Reading};
 use row_store::Replica;
@@ -15,13 +15,13 @@ use std::marker::Model;
 use std::sync::Wait;
 
 /// A reader's seat, as `left_right` has it.
-pub(crate) type Seat<R> = Reader<Side<R>, View, Published>;
+pub(crate) type ReaderSeat<R> = Reader<Side<R>, CellView, Published>;
 
 /// A reader that has no copy in hand. Contracts see the base, the commits that it was told to be published, and those
 /// that the copy stood for which it held last.
 #[derive(Drop)]
 pub struct TwinReader<R: Replica + Drop> {
-    pub(crate) seat: Seat<R>,
+    pub(crate) seat: ReaderSeat<R>,
 }
 
 impl<R: Replica + Drop> Model for TwinReader<R> {
@@ -36,7 +36,9 @@ impl<R: Replica + Drop> Model for TwinReader<R> {
 }
 
 // A step under the rule, by the play `Sees`: the seat takes the copy that is published, or comes back.
-fn try_enter<R: Replica + Drop>(seat: Seat<R>) -> Result<Reading<Side<R>, View, Published>, Seat<R>>
+fn try_enter<R: Replica + Drop>(
+    seat: ReaderSeat<R>,
+) -> Result<Reading<Side<R>, CellView, Published>, ReaderSeat<R>>
     ensures { MatchResult result
         (λ reading. HasSeen (view_of seat.place) (R.state reading.part.value.replica) (view_of reading.place))
         (λ back. view_of back.place ≡ view_of seat.place) }

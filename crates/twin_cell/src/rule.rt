@@ -10,7 +10,7 @@ use ssb_base::Base;
 use std::marker::{Brand, PhantomData};
 
 /// What a seat of the cell knows. No value of it is made.
-pub struct View {
+pub struct CellView {
     pub base: Option<Base>,
     // What it was told, or has published. A clause reads an array as a list, of any length.
     pub told: [Commit; 0],
@@ -21,7 +21,7 @@ pub struct View {
 /// The rule: the published replica stands for a list that begins with all that any seat was told.
 pub struct Published;
 
-impl<R: Replica> Protocol<Side<R>, View> for Published {
+impl<R: Replica> Protocol<Side<R>, CellView> for Published {
     ghost use Rattle.twin_cell.specs.Rule.{Follows, newcomer};
 
     ghost holds = { λ side. Follows (R.state side.replica) };
@@ -32,7 +32,7 @@ impl<R: Replica> Protocol<Side<R>, View> for Published {
 /// What a reader knows once it has entered.
 pub struct Sees;
 
-impl<R: Replica> Outcome<Side<R>, View> for Sees {
+impl<R: Replica> Outcome<Side<R>, CellView> for Sees {
     ghost use Rattle.twin_cell.specs.Rule.{HasSeen};
 
     ghost then = { λ before replaced entered after. HasSeen before (R.state entered.replica) after };
@@ -52,7 +52,7 @@ pub struct Adds<K> {
     commits: PhantomData<K>,
 }
 
-impl<R: Replica, K: Pending> Outcome<Side<R>, View> for Adds<K> {
+impl<R: Replica, K: Pending> Outcome<Side<R>, CellView> for Adds<K> {
     ghost use Rattle.twin_cell.specs.Rule.{HasPublished};
 
     ghost then = { λ before replaced shown after. HasPublished K.list before (R.state shown.replica) after };
@@ -61,13 +61,13 @@ impl<R: Replica, K: Pending> Outcome<Side<R>, View> for Adds<K> {
 /// The writer tells all that it knows, and a new reader takes it over.
 pub struct Tells;
 
-impl Split<View> for Tells {
+impl Split<CellView> for Tells {
     ghost left = { λ writer. writer };
 
     ghost right = { λ writer. writer };
 }
 
-impl Join<View> for Tells {
+impl Join<CellView> for Tells {
     ghost use Rattle.twin_cell.specs.Rule.{newcomer};
 
     ghost both = { λ reader told. told };

@@ -6,7 +6,7 @@ ghost use Rattle.twin_cell.specs.Rule.{HasPublished};
 
 use crate::ends::EndsCopies;
 use crate::note::{Note, told_seat};
-use crate::rule::{Adds, Pending, Published, View};
+use crate::rule::{Adds, CellView, Pending, Published};
 use crate::side::{Side, SideState};
 use left_right::Absorb;
 use left_right::writer::Writer;
@@ -16,7 +16,7 @@ use std::marker::{Brand, Model};
 use std::sync::Wait;
 
 /// The two copies, as `left_right` has them.
-pub(crate) type Copies<R> = Writer<Side<R>, Commit, View, Published>;
+pub(crate) type Copies<R> = Writer<Side<R>, Commit, CellView, Published>;
 
 /// Takes commits, and publishes them together. Contracts see the base and two lists of commits: those that readers
 /// take, and those that are pending. When it goes, it waits for every reader that holds a copy.
@@ -24,7 +24,7 @@ pub struct TwinWriter<R: Replica + Drop, W: EndsCopies + Drop>
 where
     Side<R>: Absorb<Commit, State = SideState>,
 {
-    pub(crate) copies: Writer<Side<R>, Commit, View, Published>,
+    pub(crate) copies: Writer<Side<R>, Commit, CellView, Published>,
     // How many commits it has taken: those published, and those pending.
     pub(crate) taken: u64,
     pub(crate) rt: W,

@@ -26,7 +26,7 @@ fn report(
     }
     let found = evaluate(alloc, base, lines, question)?;
     let answer = Answer::Rows {
-        query: found.query,
+        question: found.question,
         at: 0,
         rows: found.list,
     };

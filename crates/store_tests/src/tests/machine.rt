@@ -1,7 +1,7 @@
 //! A worked run of the machine without threads, which no program runs. Its replies were written by hand.
 
 use crate::tests::same;
-use history_core::{Event, Reply, Stopped, Who, World};
+use history_core::{Event, EventReply, Stopped, Who, World};
 use ssb_answers::{Query, Question, ResultRow, Unserved, Value};
 use ssb_schema::{Items, Text};
 use std::alloc::{AllocError, Global};
@@ -84,44 +84,44 @@ fn worked_events(alloc: Global) -> Result<Vec<Event>, Fail> {
 }
 
 // The reply with the rows of the first request, and that of the second one, which was given up.
-fn told(alloc: Global) -> Result<(Reply, Reply), Fail> {
+fn told(alloc: Global) -> Result<(EventReply, EventReply), Fail> {
     let profit = row_of_1997(alloc, -1330)?;
     let discounts = row_without_groups(alloc, 3000)?;
     let rows = vec![in alloc; profit, discounts]?;
-    let answered = Reply::Rows {
+    let answered = EventReply::Rows {
         questions: first_questions(alloc)?,
         at: 1,
         rows: Items::from_vec(rows),
     };
-    let given_up = Reply::Unserved {
+    let given_up = EventReply::Unserved {
         questions: second_questions(alloc)?,
         cause: Unserved::OutOfMemory,
     };
     Ok((answered, given_up))
 }
 
-fn worked_replies(alloc: Global) -> Result<Vec<Reply>, Fail> {
+fn worked_replies(alloc: Global) -> Result<Vec<EventReply>, Fail> {
     let first = first_questions(alloc)?;
     let second = second_questions(alloc)?;
     let (answered, given_up) = told(alloc)?;
     Ok(vec![in alloc;
-        Reply::Done,
-        Reply::Asked(first),
-        Reply::Done,
-        Reply::NotEnabled,
-        Reply::Committed(1),
-        Reply::Done,
-        Reply::Done,
-        Reply::Done,
-        Reply::Done,
-        Reply::Done,
+        EventReply::Done,
+        EventReply::Asked(first),
+        EventReply::Done,
+        EventReply::NotEnabled,
+        EventReply::Committed(1),
+        EventReply::Done,
+        EventReply::Done,
+        EventReply::Done,
+        EventReply::Done,
+        EventReply::Done,
         answered,
-        Reply::NotEnabled,
-        Reply::Length(1),
-        Reply::Done,
-        Reply::Asked(second),
-        Reply::NotEnabled,
-        Reply::Done,
+        EventReply::NotEnabled,
+        EventReply::Length(1),
+        EventReply::Done,
+        EventReply::Asked(second),
+        EventReply::NotEnabled,
+        EventReply::Done,
         given_up,
     ]?)
 }
@@ -176,14 +176,14 @@ fn opening<R: Threads + Sync + AllocGlobal + RandomSource>(rt: &R) -> Result<Wor
 }
 
 // Whether the reply to an event is this one.
-fn replies(world: &mut World, event: &Event, reply: &Reply) -> Result<bool, Fail> {
+fn replies(world: &mut World, event: &Event, reply: &EventReply) -> Result<bool, Fail> {
     Ok(world.step(event)? == *reply)
 }
 
 // The events are not enabled, one after another.
 fn none_is_enabled<A: Abort>(rt: &A, world: &mut World, events: &[Event]) -> Result<(), Fail> {
     for event in events {
-        same(rt, &replies(world, event, &Reply::NotEnabled)?, &true);
+        same(rt, &replies(world, event, &EventReply::NotEnabled)?, &true);
     }
     Ok(())
 }
@@ -192,7 +192,7 @@ fn none_is_enabled<A: Abort>(rt: &A, world: &mut World, events: &[Event]) -> Res
 fn step_among<A: Abort>(
     rt: &A,
     world: &mut World,
-    (events, wanted): (&[Event], &[Reply]),
+    (events, wanted): (&[Event], &[EventReply]),
     others: &[Event],
 ) -> Result<(), Fail> {
     for (event, reply) in events.iter().zip(wanted) {
@@ -217,7 +217,7 @@ fn an_unknown_number_is_never_enabled(rt: HostRuntime) -> Result<(), Fail> {
 }
 
 // Whether a run that was stopped and the rest of it have told what is wanted.
-fn continues(stopped: &Stopped, rest: &[Reply], wanted: &[Reply]) -> bool {
+fn continues(stopped: &Stopped, rest: &[EventReply], wanted: &[EventReply]) -> bool {
     let taken = stopped.events;
     match (wanted.get(..taken), wanted.get(taken..)) {
         (Some(told), Some(left)) => stopped.replies.as_slice() == told && rest == left,
@@ -226,7 +226,7 @@ fn continues(stopped: &Stopped, rest: &[Reply], wanted: &[Reply]) -> bool {
 }
 
 // Whether the world tells of the events what is wanted. Where it is stopped, it goes on.
-fn runs(world: &mut World, events: &[Event], wanted: &[Reply]) -> Result<bool, Fail> {
+fn runs(world: &mut World, events: &[Event], wanted: &[EventReply]) -> Result<bool, Fail> {
     match world.run(events) {
         Ok(found) => Ok(found.as_slice() == wanted),
         Err(stopped) => {

@@ -4,9 +4,9 @@ use Rattle.history_core.specs.Responses.{answers_with}
 use Rattle.history_core.proofs.response.put_rows.Given as goal
 
 -- the answers so far, and those to the questions that are left
-abbrev pub invariant-loop-query : goal.invariant-loop-query
-invariant-loop-query l = record {
-  room : vec_len l.answers + length l.query-iterator.rest.items ≤ vec_capacity l.answers;
-  said : l.answers.items ++ answers_with l.at l.query-iterator.rest.items (into_iter_items l.lists)
+abbrev pub invariant-loop-question : goal.invariant-loop-question
+invariant-loop-question l = record {
+  room : vec_len l.answers + length l.question-iterator.rest.items ≤ vec_capacity l.answers;
+  said : l.answers.items ++ answers_with l.at l.question-iterator.rest.items (into_iter_items l.lists)
       ≡ l.initial.answers.items ++ answers_with l.at l.fn.questions.items l.fn.rows.items;
 }

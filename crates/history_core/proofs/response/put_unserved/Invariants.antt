@@ -2,8 +2,8 @@ use Rattle.std.proofs.Common.{◌≡◌, ◌+◌, ◌≤◌, ◌++◌, length, m
 use Rattle.ssb_answers.specs.declared.answer.Answer.TheVariants.{Unserved}
 use Rattle.history_core.proofs.response.put_unserved.Given as goal
 
-abbrev pub invariant-loop-query : goal.invariant-loop-query
-invariant-loop-query l = record {
-  room : vec_len l.answers + length l.query-iterator.rest.items ≤ vec_capacity l.answers;
+abbrev pub invariant-loop-question : goal.invariant-loop-question
+invariant-loop-question l = record {
+  room : vec_len l.answers + length l.question-iterator.rest.items ≤ vec_capacity l.answers;
   said : l.answers.items ≡ l.initial.answers.items ++ map (λ question. Unserved question l.cause) l.yielded;
 }

@@ -3,7 +3,8 @@ use Rattle.journal.specs.Disk.{Holds, Torn, Cut}
 use Rattle.journal.specs.Groups.{recovered, IsMending}
 use Rattle.journal.proofs.GroupLaws.{parts}
 use Rattle.journal.proofs.MomentLaws.{leaves, then_leaves}
-use Rattle.journal.proofs.StepLaws.{inside, cut_keeps, cut_done, torn_end, mending_cut, mending_end, written_end, recovered-at_rest}
+use Rattle.journal.proofs.StepLaws.{inside, cut_keeps, cut_done, torn_end, mending_cut, mending_end, written_end}
+use Rattle.journal.proofs.StepLaws.{recovered-at_rest}
 use Rattle.journal.proofs.gated.repair.Goals as goal
 
 pub cut_through-requires-clause-inside : goal.cut_through-requires-clause-inside

@@ -1,4 +1,5 @@
-use Rattle.std.proofs.Common.{◌<◌, suc, lit<, ◌≡◌, ◌+◌, ◌*◌, ◌^◌, ◌≤◌, ℕ, get_or, drop, length, sym, ◌∙◌, ap, arith, add-one}
+use Rattle.std.proofs.Common.{◌<◌, suc, lit<, ◌≡◌, ◌+◌, ◌*◌, ◌^◌, ◌≤◌, ℕ, get_or, drop, length, sym, ◌∙◌, ap, arith}
+use Rattle.std.proofs.Common.{add-one}
 use Rattle.std.proofs.Math.Nat.{pow-succ', pow-le-pow_right}
 use Rattle.std.proofs.lemmas.List.{at_drop_more, at_drop_all}
 use Rattle.journal.specs.Groups.{number_from}

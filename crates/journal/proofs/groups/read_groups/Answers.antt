@@ -1,4 +1,5 @@
-use Rattle.std.proofs.Common.{◌≡◌, ℕ, ◌+◌, List, [], ◌∷◌, ◌++◌, Vec, length, drop, ◌∙◌, ap, subst, sym, arith, rules, append_assoc, length-drop, length-append, Global}
+use Rattle.std.proofs.Common.{◌≡◌, ℕ, ◌+◌, List, [], ◌∷◌, ◌++◌, Vec, length, drop, ◌∙◌, ap, subst, sym, arith, rules}
+use Rattle.std.proofs.Common.{append_assoc, length-drop, length-append, Global}
 use Rattle.std.proofs.lemmas.List.{map_push, drop-drop, take_rest}
 use Rattle.journal.specs.Groups.{recovered, block, blocks, lists, IsFirst}
 use Rattle.journal.proofs.GroupLaws.{blocks-push, length-block}

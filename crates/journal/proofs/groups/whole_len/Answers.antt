@@ -2,7 +2,8 @@ use Rattle.std.proofs.Common.{ℕ, List, ◌++◌, ◌∙◌, ap, sym, arith}
 use Rattle.journal.specs.Groups.{head}
 use Rattle.journal.proofs.GroupLaws.{no_head, whole_here, other_head, cut_short}
 use Rattle.journal.proofs.groups.whole_len.Goals as goal
-use Rattle.journal.proofs.groups.whole_len.Goals.{else-starts_with-via-then-starts_with+else-len-file, else-starts_with-via-else-starts_with}
+use Rattle.journal.proofs.groups.whole_len.Goals.{else-starts_with-via-then-starts_with+else-len-file}
+use Rattle.journal.proofs.groups.whole_len.Goals.{else-starts_with-via-else-starts_with}
 
 pub returns-then-file-lt-HEAD-clause-value : goal.returns-then-file-lt-HEAD-clause-value
 returns-then-file-lt-HEAD-clause-value c = no_head c.args.file.now (omega arith)

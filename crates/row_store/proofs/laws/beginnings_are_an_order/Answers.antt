@@ -1,9 +1,5 @@
-use Rattle.row_store.proofs.PrefixLaws.{
-  begins_with_itself,
-  beginnings_chain,
-  as_long_is_the_whole,
-  beginnings_are_shorter,
-}
+use Rattle.row_store.proofs.PrefixLaws.{begins_with_itself, beginnings_chain, as_long_is_the_whole}
+use Rattle.row_store.proofs.PrefixLaws.{beginnings_are_shorter}
 use Rattle.row_store.proofs.laws.beginnings_are_an_order.Goals as goal
 
 pub returns-clause-itself : goal.returns-clause-itself

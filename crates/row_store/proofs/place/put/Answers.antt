@@ -1,30 +1,11 @@
-use Rattle.std.proofs.Common.{
-  ◌≡◌,
-  ℕ,
-  ◌<◌,
-  ◌≤◌,
-  cond,
-  eqb,
-  List,
-  [],
-  ◌++◌,
-  Result,
-  Ok,
-  Err,
-  Some,
-  nat_eq,
-  ap,
-  sym,
-  ◌∙◌,
-  length,
-  subst,
-}
+use Rattle.std.proofs.Common.{◌≡◌, ℕ, ◌<◌, ◌≤◌, cond, eqb, List, [], ◌++◌, Result, Ok, Err, Some, nat_eq, ap, sym, ◌∙◌}
+use Rattle.std.proofs.Common.{length, subst}
 use Rattle.std.specs.Result.{IsOk, OnOk}
 use Rattle.std.specs.HashMap.{get}
 use Rattle.ssb_schema.specs.declared.line.LineFields.{LineFields}
 use Rattle.ssb_schema.specs.Orders.{order_key}
 use Rattle.row_store.specs.Lines.{lines_of, lines_without}
-use Rattle.row_store.specs.declared.place.Place.{Place}
+use Rattle.row_store.specs.declared.place.OrderPlace.{OrderPlace}
 use Rattle.row_store.specs.Keyed.{Located, IsAt, IsWithin, lines_from}
 use Rattle.row_store.proofs.CauseLaws.{new_key}
 use Rattle.row_store.proofs.CountedLaws.{HaveKey}
@@ -42,7 +23,7 @@ returns-in-Add-clause-each c base sources lines found within each none =
     let there : lines_from sources (length order) c.args.source ≡ order = rw c.in-Add.is at found in
     let inside : IsWithin sources (length order) c.args.source = rw c.in-Add.is at within in
     let count : length c.lines.result.now ≡ length order = ap length c.lines.ensures.lines in
-    let place : Place = record { lines = length c.lines.result.now; source = c.args.source } in
+    let place : OrderPlace = record { lines = length c.lines.result.now; source = c.args.source } in
     let at : IsAt sources place order = record {
       found = ap (λ n. lines_from sources n c.args.source) count ∙ there;
       count = count;
@@ -65,7 +46,7 @@ returns-in-Amend-clause-each c base sources lines found within each none =
     let there : lines_from sources (length order) c.args.source ≡ order = rw c.in-Amend.is at found in
     let inside : IsWithin sources (length order) c.args.source = rw c.in-Amend.is at within in
     let count : length c.lines-in-Amend.result.now ≡ length order = ap length c.lines-in-Amend.ensures.lines in
-    let place : Place = record { lines = length c.lines-in-Amend.result.now; source = c.args.source } in
+    let place : OrderPlace = record { lines = length c.lines-in-Amend.result.now; source = c.args.source } in
     let at : IsAt sources place order = record {
       found = ap (λ n. lines_from sources n c.args.source) count ∙ there;
       count = count;

@@ -1,12 +1,7 @@
 use Rattle.std.proofs.Common.{◌∙◌, ap, sym}
 use Rattle.history.specs.Tokens.{TokenRecord}
-use Rattle.ssb_server.proofs.SnapshotLaws.{
-  dispatcher_with,
-  dispatcher_fetched,
-  taken_with,
-  snapshot_fetched,
-  sound_without,
-}
+use Rattle.ssb_server.proofs.SnapshotLaws.{dispatcher_with, dispatcher_fetched, taken_with, snapshot_fetched}
+use Rattle.ssb_server.proofs.SnapshotLaws.{sound_without}
 use Rattle.ssb_server.proofs.following.follow.Goals as goal
 
 pub take_writer-writer-requires-clause-table : goal.take_writer-writer-requires-clause-table

@@ -3,13 +3,8 @@ use Rattle.std.specs.Prelude.{MatchResult}
 use Rattle.row_store.specs.History.{lines_after}
 use Rattle.history.specs.Tokens.{TokenRecord}
 use Rattle.ssb_server.specs.Turns.{Knows, StandsAt, Misses}
-use Rattle.ssb_server.proofs.SnapshotLaws.{
-  dispatcher_with,
-  dispatcher_fetched,
-  taken_with,
-  snapshot_fetched,
-  sound_without,
-}
+use Rattle.ssb_server.proofs.SnapshotLaws.{dispatcher_with, dispatcher_fetched, taken_with, snapshot_fetched}
+use Rattle.ssb_server.proofs.SnapshotLaws.{sound_without}
 use Rattle.ssb_server.proofs.snapshot.snapshot.Goals as goal
 
 pub take_writer-writer-requires-clause-table : goal.take_writer-writer-requires-clause-table

@@ -2,19 +2,8 @@ use Rattle.std.proofs.Common.{◌≡◌, ◌∙◌, ◌≤◌, sym, subst, ap, S
 use Rattle.std.specs.Prelude.{IfOk}
 use Rattle.history.specs.Tokens.{TableRecord}
 use Rattle.ssb_server.specs.Turns.{answers_after, Knows}
-use Rattle.ssb_server.proofs.TurningLaws.{
-  are_snapshot,
-  copy_stands,
-  copy_base,
-  left,
-  dispatcher_later,
-  nothing_later,
-  keeps_later,
-  version_later,
-  sound_finished,
-  seen_finished,
-  may_tell,
-}
+use Rattle.ssb_server.proofs.TurningLaws.{are_snapshot, copy_stands, copy_base, left, dispatcher_later, nothing_later}
+use Rattle.ssb_server.proofs.TurningLaws.{keeps_later, version_later, sound_finished, seen_finished, may_tell}
 use Rattle.ssb_server.proofs.turn.answer_hand.Goals as goal
 
 pub answer_batch-scanned-requires-clause-snapshot : goal.answer_batch-scanned-requires-clause-snapshot

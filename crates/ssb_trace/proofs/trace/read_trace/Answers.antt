@@ -1,14 +1,8 @@
 use Rattle.std.proofs.Common.{◌≡◌, ◌≤◌, ◌<◌, ◌+◌, refl, inl, inr, rules, arith, Err}
 use Rattle.std.proofs.lemmas.Result.{err_from_is_err_and}
 use Rattle.csv.specs.Records.{fields_of}
-use Rattle.ssb_trace.proofs.ReadingLaws.{
-  found_fault,
-  read_more,
-  read_nothing,
-  read_trace_all,
-  read_trace_ends,
-  too_long_fault,
-}
+use Rattle.ssb_trace.proofs.ReadingLaws.{found_fault, read_more, read_nothing, read_trace_all, read_trace_ends}
+use Rattle.ssb_trace.proofs.ReadingLaws.{too_long_fault}
 use Rattle.ssb_trace.proofs.trace.read_trace.Goals as goal
 
 pub loop-before-init : goal.loop-before-init

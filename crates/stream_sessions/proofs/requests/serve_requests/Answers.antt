@@ -2,7 +2,8 @@ use Rattle.std.proofs.Common.{◌≡◌, [], ◌∷◌, ◌++◌, length, map, r
 use Rattle.std.proofs.lemmas.List.{length-map}
 use Rattle.std.specs.Vec.Iter.{into_iter_items}
 use Rattle.ssb_script.specs.Requests.{request_of, requests_of}
-use Rattle.stream_sessions.proofs.RequestLaws.{serves_none, serves_more_still, ends_there_still, alike_itself, alike_both}
+use Rattle.stream_sessions.proofs.RequestLaws.{serves_none, serves_more_still, ends_there_still, alike_itself}
+use Rattle.stream_sessions.proofs.RequestLaws.{alike_both}
 use Rattle.stream_sessions.proofs.requests.serve_requests.Goals as goal
 
 pub loop-request-init : goal.loop-request-init

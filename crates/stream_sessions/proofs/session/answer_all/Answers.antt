@@ -7,13 +7,7 @@ use Rattle.stream_sessions.specs.declared.step.Step.TheVariants as step
 use Rattle.stream_sessions.proofs.ConversationLaws.{begins, goes_so, until_so}
 use Rattle.stream_sessions.proofs.SessionLaws.{IsThrough, through_none, through_next}
 use Rattle.stream_sessions.proofs.StepLaws.{steps_so, fails_so}
-use Rattle.stream_sessions.proofs.EndLaws.{
-  ends_with_rest,
-  ends_with_nothing,
-  ends_too_long,
-  breaks_held,
-  ends_at_bound,
-}
+use Rattle.stream_sessions.proofs.EndLaws.{ends_with_rest, ends_with_nothing, ends_too_long, breaks_held, ends_at_bound}
 use Rattle.stream_sessions.proofs.session.answer_all.Goals as goal
 
 pub loop-answered-init : goal.loop-answered-init

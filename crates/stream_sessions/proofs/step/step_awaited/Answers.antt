@@ -8,7 +8,8 @@ use Rattle.stream_sessions.specs.declared.outcome.SessionFault.{SessionFault}
 use Rattle.stream_sessions.specs.declared.outcome.SessionFault.TheVariants as fault
 use Rattle.stream_sessions.specs.declared.step.Step.{Step}
 use Rattle.stream_sessions.specs.declared.step.Step.TheVariants as step
-use Rattle.stream_sessions.proofs.ConversationLaws.{adds_last, adds_request, err_is, goes_both, looks_and_takes, memory_fails, read_fails, too_long_goes}
+use Rattle.stream_sessions.proofs.ConversationLaws.{adds_last, adds_request, err_is, goes_both, looks_and_takes}
+use Rattle.stream_sessions.proofs.ConversationLaws.{memory_fails, read_fails, too_long_goes}
 use Rattle.stream_sessions.proofs.StepLaws.{runs_out, too_long_told, where_known}
 use Rattle.stream_sessions.proofs.step.step_awaited.Goals.{in-Ok-Request, in-Ok-Rest}
 use Rattle.stream_sessions.proofs.step.step_awaited.Goals as goal

@@ -21,16 +21,16 @@ position-turns-requires g c = subst (λ l. Contains l (c.args.client - 1)) (sym 
     (in_hand c.token.inside c.args.token.now c.args.client c.requires.request.asked c.token.view_is c.token.invariant
     c.requires.request.held).contains
 
-pub serve-requires-clause-table : goal.serve-requires-clause-table
-serve-requires-clause-table g c = let is = c.token.invariant in let few = is.few in let near =
+pub put_answer-requires-clause-table : goal.put_answer-requires-clause-table
+put_answer-requires-clause-table g c = let is = c.token.invariant in let few = is.few in let near =
     (in_hand c.token.inside c.args.token.now c.args.client c.requires.request.asked c.token.view_is is
     c.requires.request.held).near in
     let table = ap (λ (t : TokenRecord). t.table) c.token.view_is ∙ (c.requires.table ∙ sym c.self.view_is) in let clients =
     ap (λ (h : TableRecord). h.clients) table in let words = c.self.invariant.words in
     (omega arith, omega arith, c.turn_by.ensures.0 ∙ ap (λ (h : TableRecord). h.id) table)
 
-pub serve-requires-clause-token : goal.serve-requires-clause-token
-serve-requires-clause-token g c = let is = c.token.invariant in let place = c.args.client - 1 in let near =
+pub put_answer-requires-clause-token : goal.put_answer-requires-clause-token
+put_answer-requires-clause-token g c = let is = c.token.invariant in let place = c.args.client - 1 in let near =
     (in_hand c.token.inside c.args.token.now c.args.client c.requires.request.asked c.token.view_is is
     c.requires.request.held).near in
     let far = is_behind c.token.inside c.args.token.now c.token.view_is is c.requires.dispatcher in
@@ -38,8 +38,8 @@ serve-requires-clause-token g c = let is = c.token.invariant in let place = c.ar
     × (m.0.terms.clients ≤ c.token.inside.place)) × (place < m.0.terms.clients)) (sym c.turn_by.ensures.2)
     ((is.role, far), near)
 
-pub serve-requires-clause-answer : goal.serve-requires-clause-answer
-serve-requires-clause-answer g c = let is = c.token.invariant in let p = c.token.inside in let place =
+pub put_answer-requires-clause-answer : goal.put_answer-requires-clause-answer
+put_answer-requires-clause-answer g c = let is = c.token.invariant in let p = c.token.inside in let place =
     c.args.client - 1 in let k = c.position-turns.result in let asked = c.requires.request.asked in
     let hand = in_hand p c.args.token.now c.args.client asked c.token.view_is is c.requires.request.held in let far =
     is_behind p c.args.token.now c.token.view_is is c.requires.dispatcher in
@@ -80,7 +80,7 @@ invariant_of-token g c = let is = c.token.invariant in let p = c.token.inside in
     let counts : n ≡ length found.back = ap (λ x. x - k) c.len.ensures.value ∙ count in
     answered_seated p c.remove.new.self c.turn_by-2.new.seat place asked c.args.answer is far rows writer hand.has left
     (c.turn_by-2.ensures.2 ∙ (ap (λ m. (m.0, turns n m.1))
-    (c.serve.ensures.0.2 ∙ ap (λ m. (served m.0 place c.args.answer, rest m.1)) c.turn_by.ensures.2)
+    (c.put_answer.ensures.0.2 ∙ ap (λ m. (served m.0 place c.args.answer, rest m.1)) c.turn_by.ensures.2)
     ∙ ap (λ cs. (served p.seat.me.0 place c.args.answer, cs))
     (slots_home p place k n found (dispatcher_carries p is far rows writer) counts)))
 
@@ -93,8 +93,8 @@ returns g c = let is = c.token.invariant in let p = c.token.inside in let place 
           (shown_token (passed p c.remove.new.self c.turn_by-2.new.seat p.seen_len))) c.token.view_is
           (answered_token p c.remove.new.self c.turn_by-2.new.seat place c.args.client asked c.args.answer _ hand.number
           hand.has
-          (c.serve.ensures.1 asked (ap (λ m. request_at place m.0.grabbed) c.turn_by.ensures.2 ∙ hand.has))
-          (c.turn_by-2.ensures.0 ∙ (c.serve.ensures.0.0 ∙ c.turn_by.ensures.0))
+          (c.put_answer.ensures.1 asked (ap (λ m. request_at place m.0.grabbed) c.turn_by.ensures.2 ∙ hand.has))
+          (c.turn_by-2.ensures.0 ∙ (c.put_answer.ensures.0.0 ∙ c.turn_by.ensures.0))
           (c.turn_by-2.ensures.2 ∙ ap (λ m. (m.0, turns n m.1))
-          (c.serve.ensures.0.2 ∙ ap (λ m. (served m.0 place c.args.answer, rest m.1)) c.turn_by.ensures.2)));
+          (c.put_answer.ensures.0.2 ∙ ap (λ m. (served m.0 place c.args.answer, rest m.1)) c.turn_by.ensures.2)));
     }

@@ -1,6 +1,6 @@
 use Rattle.std.proofs.Common.{rules, ap, sym, ◌∙◌, refl}
 use Rattle.std.specs.Option.{option_map}
-use Rattle.history_core.specs.declared.client.Client.{Client}
+use Rattle.history_core.specs.declared.client.WorldClient.{WorldClient}
 use Rattle.history_core.specs.Mailboxes.{left_in, collected_of}
 use Rattle.history_core.proofs.RenewalLaws.{numbered_read, numbered_nowhere}
 use Rattle.history_core.proofs.ViewLaws.{clients_fit, client_renewed, no_client, mailbox_shown}
@@ -30,7 +30,7 @@ returns-in-Some-clause-reply c =
     ∙ ap collected_of
     (sym
     (mailbox_shown c.self.inside c.args.self.now c.self.view_is c.args.client
-    ∙ ap (option_map (λ (x : Client). x.mailbox))
+    ∙ ap (option_map (λ (x : WorldClient). x.mailbox))
     (numbered_read c.self.inside.clients.items c.args.client c.in-Some.place c.len.result c.index_mut.result.now
     c.index_mut.ensures.value (search rules) c.in-Some.ensures.place)))
 
@@ -44,6 +44,6 @@ returns-in-None-clause-reply c =
     ap collected_of
     (sym
     (mailbox_shown c.self.inside c.args.self.now c.self.view_is c.args.client
-    ∙ ap (option_map (λ (x : Client). x.mailbox))
+    ∙ ap (option_map (λ (x : WorldClient). x.mailbox))
     (numbered_nowhere c.self.inside.clients.items c.args.client c.len.result (search rules)
     c.in-None.ensures.place)))

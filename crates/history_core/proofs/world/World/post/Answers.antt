@@ -1,5 +1,5 @@
 use Rattle.std.proofs.Common.{ap, sym, ◌∙◌}
-use Rattle.history_core.specs.declared.event.Reply.TheVariants.{Done}
+use Rattle.history_core.specs.declared.event.EventReply.TheVariants.{Done}
 use Rattle.history_core.specs.World.{World, asked, into_mailbox}
 use Rattle.history_core.proofs.EffectLaws.{posts}
 use Rattle.history_core.proofs.world.World.post.Goals as goal

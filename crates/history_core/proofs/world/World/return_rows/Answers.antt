@@ -1,5 +1,5 @@
 use Rattle.std.proofs.Common.{Some, length, ap, sym, ◌∙◌}
-use Rattle.history_core.specs.declared.event.Reply.TheVariants.{Done}
+use Rattle.history_core.specs.declared.event.EventReply.TheVariants.{Done}
 use Rattle.history_core.specs.World.{World, is_known, holds_rows, with_dispatcher}
 use Rattle.history_core.proofs.EffectLaws.{returned}
 use Rattle.history_core.proofs.world.World.return_rows.Goals as goal

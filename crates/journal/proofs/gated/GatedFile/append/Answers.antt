@@ -3,7 +3,8 @@ use Rattle.journal.specs.Disk.{Holds, Torn}
 use Rattle.journal.specs.Groups.{recovered, blocks, block, IsBeforeOrAfter, IsAppending}
 use Rattle.journal.proofs.GroupLaws.{parts, all_told_push, blocks-push, length-block}
 use Rattle.journal.proofs.MomentLaws.{leaves, then_leaves}
-use Rattle.journal.proofs.StepLaws.{tail, length-tail, short_told, torn_behind, appending_behind, written_behind, torn_gate, appending_gate, written_gate, settled}
+use Rattle.journal.proofs.StepLaws.{tail, length-tail, short_told, torn_behind, appending_behind, written_behind}
+use Rattle.journal.proofs.StepLaws.{torn_gate, appending_gate, written_gate, settled}
 use Rattle.journal.proofs.gated.GatedFile.append.Goals as goal
 
 -- the first write leaves the groups as they were

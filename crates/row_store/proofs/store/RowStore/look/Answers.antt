@@ -6,16 +6,8 @@ use Rattle.ssb_base.specs.Base.{Tables}
 use Rattle.row_store.specs.Lines.{lines_without, lines_after_refresh}
 use Rattle.row_store.specs.History.{lines_after}
 use Rattle.row_store.proofs.CountedLaws.{length_kept}
-use Rattle.row_store.proofs.CauseLaws.{
-  Joined,
-  cause_present,
-  cause_added,
-  cause_amend_absent,
-  cause_amended,
-  cause_absent,
-  cause_withdrawn,
-  joined,
-}
+use Rattle.row_store.proofs.CauseLaws.{Joined, cause_present, cause_added, cause_amend_absent, cause_amended}
+use Rattle.row_store.proofs.CauseLaws.{cause_absent, cause_withdrawn, joined}
 use Rattle.row_store.proofs.store.RowStore.look.Goals as goal
 
 pub returns-then-count-gt0 : goal.returns-then-count-gt0

@@ -6,7 +6,7 @@ use Rattle.history.specs.declared.view.SlotValue.TheVariants.{Answered}
 use Rattle.history.specs.Rule.{Slot, ShowsWorld, terms_of}
 use Rattle.history.specs.Plays.{Answers, served, request_at}
 use Rattle.history.proofs.MailStepLaws.{serves}
-use Rattle.history.proofs.steps.serve.Goals as goal
+use Rattle.history.proofs.steps.put_answer.Goals as goal
 
 pub store-requires : goal.store-requires
 store-requires g c = let base_of = g.W.Follower.base in let taken = g.W.Follower.commits in let key =
