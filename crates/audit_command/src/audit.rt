@@ -16,7 +16,7 @@ ghost use Rattle.ssb_trace.specs.Traces.{SpellsTrace};
 use crate::fault::{Against, AuditingFault};
 use ssb_audit::{Trace, audit};
 use ssb_base::Base;
-use ssb_files::{Fault, base_of};
+use ssb_files::{Fault, LoadedFor, base_of};
 use ssb_script::MOST_RECORDS;
 use ssb_text::{Piece, Tables, write_pieces};
 use ssb_trace::read_trace;
@@ -77,7 +77,7 @@ fn legal_trace<R: Threads + Sync + AllocGlobal, I: Read + Drop>(
         → AreTexts I.remaining tables texts → I.remaining source ≡ Some bytes → SpeaksAgainst texts bytes) }
     ensures words { IfErr result (λ fault. auditing_status fault ≢ 2) }
 {
-    let base = base_of(rt, rt.alloc(), tables)?;
+    let base = base_of(rt, rt.alloc(), tables, LoadedFor::Reports)?;
     let trace = trace_of(rt.alloc(), source)?;
     check(rt, hashing, base, &trace)?;
     Ok(trace)

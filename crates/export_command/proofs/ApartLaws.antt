@@ -1,24 +1,6 @@
 -- Lists of which no two elements are the same, by recursion.
-use Rattle.std.proofs.Common.{
-  ◌≡◌,
-  ℕ,
-  zero,
-  suc,
-  Bool,
-  true,
-  false,
-  cond,
-  List,
-  [],
-  ◌∷◌,
-  ◌++◌,
-  filter,
-  Some,
-  slice_get,
-  refl,
-  subst,
-  arith,
-}
+use Rattle.std.proofs.Common.{◌≡◌, ℕ, zero, suc, Bool, true, false, cond, List, [], ◌∷◌, ◌++◌, filter, Some, slice_get}
+use Rattle.std.proofs.Common.{refl, subst, arith}
 use Rattle.std.specs.List.{AllByRecursion}
 use Rattle.ssb_schema.specs.FirstFault.{AreDistinct}
 

@@ -1,5 +1,6 @@
 -- What an export leaves, of what was loaded, kept and written.
-use Rattle.std.proofs.Common.{◌≡◌, ◌∙◌, ℕ, List, [], length, Option, Result, Ok, Err, OnOk, ap, subst, sym, refl, arith, inl, inr}
+use Rattle.std.proofs.Common.{◌≡◌, ◌∙◌, ℕ, List, [], length, Option, Result, Ok, Err, OnOk, ap, subst, sym, refl, arith}
+use Rattle.std.proofs.Common.{inl, inr}
 use Rattle.std.specs.Prelude.{IfErr}
 use Rattle.ssb_base.specs.Base.{IsSound, Tables}
 use Rattle.ssb_base.specs.Limits.{limits_of}
@@ -25,7 +26,8 @@ use Rattle.ssb_text.specs.RoundTrip.{AreTableRows, TextsSpellTheirBase}
 use Rattle.ssb_text.specs.TableText.{base_texts}
 use Rattle.row_store.specs.Legal.{IsLegal}
 use Rattle.export_command.specs.After.{tables_after}
-use Rattle.export_command.specs.Exported.{AreReadBack, AreTablesAfter, Exports, HasSoMany, IsExport, IsFillFault, IsFindFault}
+use Rattle.export_command.specs.Exported.{AreReadBack, AreTablesAfter, Exports, HasSoMany, IsExport, IsFillFault}
+use Rattle.export_command.specs.Exported.{IsFindFault}
 use Rattle.export_command.specs.Exported.{IsNoneOrExport, LeftNoneOrExport, TellsExportFault, TellsJournalFault}
 use Rattle.export_command.specs.Exported.{TellsOverTexts}
 use Rattle.export_command.specs.declared.fault.ExportRefusal.{ExportRefusal}

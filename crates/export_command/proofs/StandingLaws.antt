@@ -1,30 +1,6 @@
 -- The lines after a history are the loaded lines that stand, and those that its actions added and that stand.
-use Rattle.std.proofs.Common.{
-  ◌≡◌,
-  ℕ,
-  suc,
-  ◌+◌,
-  not,
-  ◌||◌,
-  nat_eq,
-  List,
-  [],
-  ◌∷◌,
-  ◌++◌,
-  length,
-  drop,
-  filter,
-  flat_map,
-  fold,
-  refl,
-  sym,
-  ap,
-  ◌∙◌,
-  append_assoc,
-  length-append,
-  arith,
-  add-one,
-}
+use Rattle.std.proofs.Common.{◌≡◌, ℕ, suc, ◌+◌, not, ◌||◌, nat_eq, List, [], ◌∷◌, ◌++◌, length, drop, filter, flat_map}
+use Rattle.std.proofs.Common.{fold, refl, sym, ap, ◌∙◌, append_assoc, length-append, arith, add-one}
 use Rattle.std.specs.List.{list_any}
 use Rattle.std.proofs.lemmas.List.Elements.{filter-append}
 use Rattle.std.proofs.lemmas.List.Folds.{list_any-append}

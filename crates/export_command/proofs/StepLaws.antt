@@ -1,29 +1,6 @@
 -- What a loop over lines, actions or commits has written after one step more.
-use Rattle.std.proofs.Common.{
-  ◌≡◌,
-  ℕ,
-  ◌+◌,
-  ◌<◌,
-  true,
-  false,
-  List,
-  [],
-  ◌∷◌,
-  ◌++◌,
-  length,
-  take,
-  drop,
-  get_or,
-  Option,
-  refl,
-  sym,
-  ap,
-  ◌∙◌,
-  subst,
-  arith,
-  append-nil,
-  append_assoc,
-}
+use Rattle.std.proofs.Common.{◌≡◌, ℕ, ◌+◌, ◌<◌, true, false, List, [], ◌∷◌, ◌++◌, length, take, drop, get_or, Option}
+use Rattle.std.proofs.Common.{refl, sym, ap, ◌∙◌, subst, arith, append-nil, append_assoc}
 use Rattle.std.specs.Io.KnownBytes.{Appends}
 use Rattle.std.proofs.lemmas.List.{length-take-le}
 use Rattle.std.proofs.lemmas.List.Concat.{flat_map-append}
@@ -39,14 +16,8 @@ use Rattle.ssb_text.specs.TableText.{row_text}
 use Rattle.export_command.specs.After.{actions_of, standing, standing_added, stands}
 use Rattle.export_command.proofs.NextLaws.{all_of, next_of}
 use Rattle.export_command.proofs.StandingLaws.{added_both, standing_both}
-use Rattle.export_command.proofs.WritingLaws.{
-  HasWritten,
-  line_written,
-  lines_text,
-  stopped_before,
-  stopped_behind,
-  written_both,
-}
+use Rattle.export_command.proofs.WritingLaws.{HasWritten, line_written, lines_text, stopped_before, stopped_behind}
+use Rattle.export_command.proofs.WritingLaws.{written_both}
 
 -- one line more, which stands or does not
 one-line : (actions : List Action) (number : ℕ) (lines : List LineFields) (i : ℕ) (line : LineFields) → i < length lines

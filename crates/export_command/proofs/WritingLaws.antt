@@ -1,24 +1,6 @@
 -- What was written of lines so far, and how it grows.
-use Rattle.std.proofs.Common.{
-  ◌≡◌,
-  ℕ,
-  List,
-  [],
-  ◌∷◌,
-  ◌++◌,
-  map,
-  Option,
-  Result,
-  Ok,
-  Err,
-  refl,
-  sym,
-  ap,
-  ◌∙◌,
-  subst,
-  append-nil,
-  IsErrAnd,
-}
+use Rattle.std.proofs.Common.{◌≡◌, ℕ, List, [], ◌∷◌, ◌++◌, map, Option, Result, Ok, Err, refl, sym, ap, ◌∙◌, subst}
+use Rattle.std.proofs.Common.{append-nil, IsErrAnd}
 use Rattle.std.specs.Io.KnownBytes.{Appends}
 use Rattle.std.specs.List.{AllByRecursion}
 use Rattle.std.proofs.lemmas.List.Concat.{flat_map-append}

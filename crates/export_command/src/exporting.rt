@@ -17,7 +17,7 @@ use journal::Disk;
 use journal_opening::{OpeningFault, OpensJournal, table_sizes};
 use ssb_base::Base;
 use ssb_files::JobFault::{Found, Program};
-use ssb_files::{Fault, TableBytes, base_to_serve};
+use ssb_files::{Fault, LoadedFor, TableBytes, base_of};
 use ssb_journal::{OpenedJournal, TableSize, open, replay};
 use ssb_text::{Tables, tables_are_read_back};
 use std::alloc::Global;
@@ -213,7 +213,7 @@ pub fn export<R: Threads + Sync + AllocGlobal, F: Files, P: OpensJournal, I: Rea
 {
     let alloc = rt.alloc();
     let mut folder = find_folder(place.files, alloc, place.folder)?;
-    let base = base_to_serve(rt, alloc, tables)?;
+    let base = base_of(rt, alloc, tables, LoadedFor::Serving)?;
     let sizes = table_sizes(&base, place.bytes);
     let base = Arc::new(alloc, base)?;
     let disk = match place.journal.open(alloc) {

@@ -1,7 +1,7 @@
 //! The word `export`: the five tables as they are after a journal's commits, written into a folder.
 //!
 //! ```text
-//! tables ── base_to_serve ─▶ base ─┐
+//! tables ── base_of ─▶ base ───────┐
 //! journal ── open ─▶ commits ──── replay ─▶ history ── TablesAfter ─▶ lines after it ── fill ─▶ FOLDER
 //! ```
 //!

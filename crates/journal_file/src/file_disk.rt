@@ -51,8 +51,8 @@ pub struct FileDisk<O: Drop> {
     ghost same: { ForSome first (λ bytes. bytes.items ≡ seen_after transcript.calls) },
 }
 
-/// Syncs the folder in which a file lies, so that its name is on the disk.
-pub(crate) fn sync_folder<R: Files>(files: &R, path: &str) -> io::Result<()> {
+/// Syncs the folder in which this path lies, so that its name is on the disk.
+pub fn sync_name<R: Files>(files: &R, path: &str) -> io::Result<()> {
     let folder = match Path::new(path).parent() {
         Some(parent) if !parent.as_str().is_empty() => parent.as_str(),
         _ => ".",
@@ -102,7 +102,7 @@ impl<O: Read + OpenFile + JournalFile + Drop> FileDisk<O> {
     {
         file.lock_alone()?;
         file.sync_all()?;
-        sync_folder(files, path)?;
+        sync_name(files, path)?;
         let mut bytes = Vec::new(alloc);
         file.read_to_end(&mut bytes)?;
         let transcript = Transcript::new(&bytes);

@@ -26,5 +26,5 @@ mod file_disk;
 mod torn;
 mod transcript;
 
-pub use file_disk::{FileDisk, JournalFile, OpenError};
+pub use file_disk::{FileDisk, JournalFile, OpenError, sync_name};
 pub use torn::{TornFile, keep_torn, torn_path};

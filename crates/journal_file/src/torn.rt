@@ -1,7 +1,7 @@
 //! What a crash has torn, kept beside the journal.
 ghost use Rattle.std.specs.Prelude.{◌≡◌, List, ℕ, IfOk};
 
-use crate::file_disk::sync_folder;
+use crate::file_disk::sync_name;
 use std::alloc::{AllocError, Global};
 use std::fs::{OpenFile, OpenOptions};
 use std::io::{self, Write};
@@ -46,6 +46,6 @@ pub fn keep_torn<R: Files>(
         .open(files, beside.as_str())?;
     file.write_all(&torn)?;
     file.sync_all()?;
-    sync_folder(files, path)?;
+    sync_name(files, path)?;
     Ok(TornFile { bytes: torn })
 }

@@ -1,36 +1,6 @@
 -- A client alone: what it has made is what it sees, so its replies are the one-thread warehouse's.
-use Rattle.std.proofs.Common.{
-  ◌≡◌,
-  ◌≢◌,
-  ℕ,
-  ◌+◌,
-  ◌==◌,
-  not,
-  true,
-  false,
-  suc,
-  List,
-  [],
-  ◌∷◌,
-  ◌++◌,
-  length,
-  map,
-  take,
-  Some,
-  None,
-  Result,
-  Ok,
-  Err,
-  refl,
-  sym,
-  ◌∙◌,
-  ap,
-  subst,
-  inl,
-  inr,
-  length-append,
-  arith,
-}
+use Rattle.std.proofs.Common.{◌≡◌, ◌≢◌, ℕ, ◌+◌, ◌==◌, not, true, false, suc, List, [], ◌∷◌, ◌++◌, length, map, take}
+use Rattle.std.proofs.Common.{Some, None, Result, Ok, Err, refl, sym, ◌∙◌, ap, subst, inl, inr, length-append, arith}
 use Rattle.std.proofs.lemmas.Bool.Decides.{nat_tests}
 use Rattle.std.proofs.lemmas.List.{append_cancel_right, take_all}
 use Rattle.ssb_schema.specs.declared.refresh.Action.{Action}
@@ -59,20 +29,14 @@ use Rattle.std.specs.Option.{is_some}
 use Rattle.history_core.specs.declared.event.Who.TheVariants.{Client}
 use Rattle.ssb_script.specs.Requests.{RequestRecord, Refresh, Ask, Abort, questions_in}
 use Rattle.ssb_script.specs.declared.request.Asking.{Asking}
-use Rattle.ssb_report.specs.Replies.{Reply, Refreshed, Answered, Aborted, AreAnswers, IsReply, committed_by, with_commits}
+use Rattle.ssb_report.specs.Replies.{Reply, Refreshed, Answered, Aborted, AreAnswers, IsReply, committed_by}
+use Rattle.ssb_report.specs.Replies.{with_commits}
 use Rattle.ssb_report.specs.Replies.{warehouse_answer}
 use Rattle.ssb_report.specs.Report.{AreReplies, committed}
 use Rattle.ssb_report.proofs.CommitLaws.{with_none, with_both}
 use Rattle.ssb_clients.specs.Clients as client
-use Rattle.run_command.specs.Alone.{
-  IsAlone,
-  own,
-  may_be_told,
-  OneClientIsOneThread,
-  AloneSeesItsOwn,
-  AloneIsOneThread,
-  AloneEndsAsOneThread,
-}
+use Rattle.run_command.specs.Alone.{IsAlone, own, may_be_told, OneClientIsOneThread, AloneSeesItsOwn, AloneIsOneThread}
+use Rattle.run_command.specs.Alone.{AloneEndsAsOneThread}
 use Rattle.stream_sessions.specs.Served.{AreServed}
 use Rattle.stream_sessions.specs.declared.serve_error.ServeError.TheVariants as error
 use Rattle.stream_sessions.specs.OneRequest.{AreAlike}

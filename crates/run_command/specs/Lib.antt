@@ -3,6 +3,5 @@ pub mod Sessions
 pub mod Traces
 pub mod Run
 pub mod Served
-pub mod Standing
 pub mod Status
 pub mod Demo

@@ -1,7 +1,7 @@
 //! How long requests took.
 
 use crate::histogram::Histogram;
-use ssb_serving::Watch;
+use ssb_serving::WatchesRun;
 use std::alloc::{AllocError, Global};
 use std::time::{Clock, Duration, Instant};
 use stream_sessions::{Meter, RequestKind};
@@ -138,17 +138,17 @@ impl<'a, C: Clock> Meter for Timer<'a, C> {
 
 /// Takes the time of all threads together, or stands still: then it reads no clock.
 #[derive(Drop)]
-pub(crate) struct Stopwatch<'a, C: Clock> {
+pub(crate) struct RunStopwatch<'a, C: Clock> {
     clock: &'a C,
     runs: bool,
     since: Option<Instant>,
     time: Option<Duration>,
 }
 
-impl<'a, C: Clock> Stopwatch<'a, C> {
+impl<'a, C: Clock> RunStopwatch<'a, C> {
     /// A watch that runs, or one that stands still.
-    pub(crate) fn new(clock: &'a C, runs: bool) -> Stopwatch<'a, C> {
-        Stopwatch {
+    pub(crate) fn new(clock: &'a C, runs: bool) -> RunStopwatch<'a, C> {
+        RunStopwatch {
             clock,
             runs,
             since: None,
@@ -162,7 +162,7 @@ impl<'a, C: Clock> Stopwatch<'a, C> {
     }
 }
 
-impl<'a, C: Clock> Watch for Stopwatch<'a, C> {
+impl<'a, C: Clock> WatchesRun for RunStopwatch<'a, C> {
     fn begin(&mut self) {
         if self.runs {
             self.since = Instant::now(self.clock).ok();

@@ -6,7 +6,7 @@ ghost use Rattle.ssb_server.specs.Opening.{AreCounts};
 ghost use Rattle.ssb_serving.specs.RunFaults.{IsRunFault};
 ghost use Rattle.run_command.specs.Run.{IsMadeOf, IsRun};
 
-use crate::latency::{Latencies, Stopwatch, Times, joined, latencies_of};
+use crate::latency::{Latencies, RunStopwatch, Times, joined, latencies_of};
 use crate::speaker::{ScriptSession, ScriptSpeaker};
 use ssb_audit::{Told, Trace};
 use ssb_schema::Items;
@@ -149,7 +149,7 @@ fn speak_scripts<W: Wait + Drop + Send, R: Wait + Threads + Sync + Clock>(
         (map (λ report. report.items) run.reports.items) run.trace) }
 {
     let speakers = speakers_of(alloc, scripts, timed)?;
-    let mut watch = Stopwatch::new(rt, timed);
+    let mut watch = RunStopwatch::new(rt, timed);
     let streams = run_opened(rt, alloc, opened, speakers, &mut watch)?;
     run_left(alloc, streams, watch.time())
 }

@@ -6,14 +6,15 @@ ghost use Rattle.std.specs.Io.KnownBytes.{Appends};
 ghost use Rattle.std.specs.Option.{option_and_then};
 ghost use Rattle.ssb_files.specs.Loaded.{AreRefused};
 ghost use Rattle.ssb_files.specs.Scripts.{HasRefused};
+ghost use Rattle.ssb_files.specs.Standing.{MayHaveTooManyGroups, MayNotStand};
+ghost use Rattle.ssb_files.specs.Status.{status_of};
 ghost use Rattle.ssb_audit.specs.Legal.{IsLegalTrace};
 ghost use Rattle.run_command.specs.Served.{AreTold, AreToldInPart, IsServed, Serves, ServesPart, run_text};
-ghost use Rattle.run_command.specs.Standing.{HasTooManyGroups, MayNotStand};
 ghost use Rattle.run_command.specs.Status.{serving_status};
 ghost use Rattle.ssb_text.specs.Load.{AreTexts};
 ghost use Rattle.ssb_text.specs.Written.{AppendsPart};
 ghost use Rattle.run_command.specs.Run.{IsRun};
-ghost use Rattle.ssb_clients.specs.Counts.{most_clients};
+ghost use Rattle.history_core.specs.Counts.{most_clients};
 ghost use Rattle.ssb_schema.specs.declared.table.Table.{Table};
 ghost use Rattle.ssb_trace.specs.TraceText.{trace_text};
 
@@ -22,10 +23,10 @@ use crate::printing::write_run;
 use crate::run::{Run, serve_scripts};
 use crate::times::RunTimes;
 use ssb_base::Base;
-use ssb_files::{Fault, base_of, read_scripts};
+use ssb_files::{Fault, LoadedFor, base_of, read_scripts};
 use ssb_questions::Question;
 use ssb_script::Script;
-use ssb_server::{Loaded, MOST_CLIENTS, StandingError};
+use ssb_server::{Loaded, MOST_CLIENTS};
 use ssb_text::Tables;
 use ssb_trace::write_trace;
 use std::hash::RandomState;
@@ -57,26 +58,21 @@ pub struct RunInput<I: Read + Drop> {
     pub sources: Vec<I>,
 }
 
-// A base with these questions, which stand from then on. The first of them that has too many groups is refused.
+// A base with these questions, which stand from then on. The first of them that may have too many groups is refused.
 fn load<R: Threads + Sync + AllocGlobal>(
     rt: &R,
     hashing: RandomState,
     base: Base,
     standing: &[Question],
-) -> Result<Loaded, RunCommandFault>
+) -> Result<Loaded, Fault>
     ensures base { IfOk result (λ loaded. loaded ≡ base) }
-    ensures refused { IfErr result (λ fault. serving_status fault ≡ 1 → HasTooManyGroups base standing.now) }
-    ensures words { IfErr result (λ fault. serving_status fault ≢ 2) }
-    ensures trace { IfErr result (λ fault. serving_status fault ≢ 3) }
+    ensures refused { IfErr result (λ fault. status_of fault ≡ 1 → MayHaveTooManyGroups base standing.now) }
+    ensures words { IfErr result (λ fault. status_of fault ≢ 2) }
+    ensures trace { IfErr result (λ fault. status_of fault ≢ 3) }
 {
     let base = Arc::new(rt.alloc(), base)?;
-    match Loaded::new(rt, rt.alloc(), hashing, &base, standing) {
-        Ok(loaded) => Ok(loaded),
-        Err(StandingError::OutOfMemory) => Err(RunCommandFault::Program(Fault::OutOfMemory)),
-        Err(StandingError::TooManyGroups(place)) => {
-            Err(RunCommandFault::Program(Fault::too_many_groups(place)))
-        }
-    }
+    let loaded = Loaded::new(rt, rt.alloc(), hashing, &base, standing)?;
+    Ok(loaded)
 }
 
 // Serves scripts at once over a loaded base.
@@ -116,7 +112,7 @@ fn run_of<R: Threads + Sync + Wait + Clock + AllocGlobal, I: Read + Drop>(
     ensures trace { IfErr result (λ fault. serving_status fault ≢ 3) }
 {
     let RunInput { tables, sources } = input;
-    let base = base_of(rt, rt.alloc(), tables)?;
+    let base = base_of(rt, rt.alloc(), tables, LoadedFor::Reports)?;
     let scripts = read_scripts(rt.alloc(), sources)?;
     pace.end_load(rt);
     let RunSettings {

@@ -13,7 +13,7 @@ use crate::fault::{NotRun, RunCommandFault};
 use crate::run::serve_scripts;
 use small_data::tables;
 use ssb_base::Base;
-use ssb_files::{Fault, base_of};
+use ssb_files::{Fault, LoadedFor, base_of};
 use ssb_script::{MOST_RECORDS, Script, read_script};
 use ssb_server::Loaded;
 use ssb_text::write_bytes;
@@ -40,7 +40,7 @@ fn small_base(rt: &(impl Threads + Sync), alloc: Global) -> Result<Base, RunComm
     ensures base { IfOk result (λ base. IsLoaded small_texts base) }
     ensures data { IfErr result (λ fault. serving_status fault ≡ 1 → AreRefused small_texts) }
 {
-    let base = base_of(rt, alloc, tables())?;
+    let base = base_of(rt, alloc, tables(), LoadedFor::Reports)?;
     Ok(base)
 }
 

@@ -1,3 +1,4 @@
 pub mod FlushedLaws
 pub mod ResultLaws
 pub mod ScriptLaws
+pub mod StandingLaws

@@ -1,12 +1,19 @@
 -- The base that five texts spell, and the texts that spell none.
 use Rattle.std.specs.Prelude.{◌≡◌, ℕ, List}
 use Rattle.ssb_files.specs.Status.{data_status}
+use Rattle.ssb_files.specs.declared.loading.LoadedFor.{LoadedFor}
+use Rattle.ssb_files.specs.declared.loading.LoadedFor.TheVariants as purpose
 use Rattle.ssb_text.specs.Load.{IsLoadFault, SpellsBase}
 use Rattle.ssb_text.specs.declared.error.LoadError.{LoadError}
 use Rattle.ssb_base.specs.Base.{Tables}
 use Rattle.ssb_base.specs.Limits.{limits_of, most_commits, most_dimension_rows, most_lines, standard_commits}
 use Rattle.ssb_base.specs.declared.limits.Limits.{Limits}
 use Rattle.ssb_schema.specs.declared.table.Table.{Table}
+
+-- how many commits a base may get, by what it is loaded for
+abbrev pub commits_for : LoadedFor → ℕ
+commits_for purpose.Reports = standard_commits
+commits_for purpose.Serving = most_commits
 
 -- the five texts spell this base, within the greatest limits, with up to so many commits
 pub record IsLoadedFor (commits : ℕ) (texts : Table → List ℕ) (base : Tables) : Type 0 where

@@ -6,6 +6,8 @@ use Rattle.ssb_script.specs.declared.error.ScriptError.{ScriptError}
 use Rattle.ssb_script.specs.declared.error.ScriptError.TheVariants as script
 use Rattle.ssb_script.specs.declared.questions.QuestionsError.{QuestionsError}
 use Rattle.ssb_script.specs.declared.questions.QuestionsError.TheVariants as questions
+use Rattle.shared_scan.specs.declared.standing_error.StandingError.{StandingError}
+use Rattle.shared_scan.specs.declared.standing_error.StandingError.TheVariants as standing
 use Rattle.ssb_files.specs.declared.fault.Fault.{Fault}
 use Rattle.ssb_files.specs.declared.fault.Fault.TheVariants as fault
 use Rattle.ssb_files.specs.declared.job.JobFault.{JobFault}
@@ -27,6 +29,11 @@ abbrev pub questions_status : QuestionsError → ℕ
 questions_status (questions.NotAQuestion number) = 1
 questions_status questions.Read = 4
 questions_status questions.OutOfMemory = 4
+
+-- and of those that may not stand over the base
+abbrev pub not_standing_status : StandingError → ℕ
+not_standing_status (standing.TooManyGroups place) = 1
+not_standing_status standing.OutOfMemory = 4
 
 -- 1: the paths or the questions that are to stand are refused, as data is; 2: the words are wrong; 4: reading, writing
 -- or memory failed

@@ -1,11 +1,12 @@
 //! Why the program stops, and the status that it ends with.
 
 ghost use Rattle.std.specs.Prelude.{◌≡◌};
-ghost use Rattle.ssb_files.specs.Status.{questions_status, script_status, status_of};
+ghost use Rattle.ssb_files.specs.Status.{not_standing_status, questions_status, script_status, status_of};
 ghost use Rattle.ssb_files.specs.declared.fault.Fault.TheVariants.{OutOfMemory};
 
 use crate::path_fault::PathFault;
 use crate::standing::TooManyGroups;
+use shared_scan::StandingError;
 use ssb_questions::{ConstantsFault, NoSuchQuery};
 use ssb_script::{QuestionsError, ScriptError};
 use ssb_text::LoadError;
@@ -72,13 +73,6 @@ fn questions_status(fault: QuestionsError) -> u8
 }
 
 impl Fault {
-    /// That the question at this place, counted from 0, has too many groups. Its record has the number behind that.
-    pub fn too_many_groups(place: usize) -> Fault
-        ensures { status_of result ≡ 1 }
-    {
-        Fault::TooManyGroups(TooManyGroups((place as u64).saturating_add(1)))
-    }
-
     /// The exit status: 1 where paths, data, a script, a trace or a question that is to stand were refused, 2 for a
     /// wrong command line, 4 where reading, writing or memory failed.
     pub fn status(&self) -> u8
@@ -128,6 +122,20 @@ impl fmt::Display for Fault {
             Fault::Trace(fault) => write!(f, "trace: {fault}"),
             Fault::WriteFailed => f.write_str("write failed"),
             Fault::OutOfMemory => f.write_str("out of memory"),
+        }
+    }
+}
+
+impl From<StandingError> for Fault {
+    ghost from_gives = { λ error fault. status_of fault ≡ not_standing_status error };
+
+    // The record of a question has the number behind its place, which is counted from 0.
+    fn from(error: StandingError) -> Fault {
+        match error {
+            StandingError::OutOfMemory => Fault::OutOfMemory,
+            StandingError::TooManyGroups(place) => {
+                Fault::TooManyGroups(TooManyGroups((place as u64).saturating_add(1)))
+            }
         }
     }
 }

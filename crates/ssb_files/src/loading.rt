@@ -1,7 +1,8 @@
 //! The base that five tables spell.
 
 ghost use Rattle.std.specs.Prelude.{◌≡◌, ◌≢◌, ℕ, List, IfOk, IfErr};
-ghost use Rattle.ssb_files.specs.Loaded.{AreRefused, AreRefusedToServe, IsLoaded, IsLoadedToServe};
+ghost use Rattle.ssb_base.specs.Limits.{limits_of, most_dimension_rows, most_lines};
+ghost use Rattle.ssb_files.specs.Loaded.{AreRefusedFor, IsLoadedFor, commits_for};
 ghost use Rattle.ssb_files.specs.Status.{status_of};
 ghost use Rattle.ssb_text.specs.Load.{AreTexts};
 ghost use Rattle.ssb_schema.specs.declared.table.Table.{Table};
@@ -16,40 +17,41 @@ use std::thread::Threads;
 // How many bytes of lineorder one thread parses at a time. Of smaller blocks the load is slower.
 const BLOCK: u32 = 4 * 1024 * 1024;
 
-/// The base that the tables spell, with up to 1,000,000 commits and else within the greatest limits, by as many threads
-/// as there are processors.
+/// What a base is loaded for: that says how many commits it may get.
+#[derive(Clone, Copy, Debug, PartialEq, Eq)]
+pub enum LoadedFor {
+    /// Reports over it, with up to 1,000,000 commits.
+    Reports,
+    /// To be served live, with up to 2^56 commits.
+    Serving,
+}
+
+// The greatest limits, with as many commits as that takes.
+fn limits_for(purpose: LoadedFor) -> Limits
+    ensures { limits_of result ≡ (most_dimension_rows, most_lines, commits_for purpose) }
+{
+    match purpose {
+        LoadedFor::Reports => Limits::standard(),
+        LoadedFor::Serving => Limits::greatest(),
+    }
+}
+
+/// The base that the tables spell, within the greatest limits but for its commits, by as many threads as there are
+/// processors.
 pub fn base_of<I: Read + Drop>(
     rt: &(impl Threads + Sync),
     alloc: Global,
     tables: Tables<I>,
+    purpose: LoadedFor,
 ) -> Result<Base, Fault>
     ensures base { IfOk result (λ base. (texts : Table → List ℕ)
-        → AreTexts I.remaining tables texts → IsLoaded texts base) }
+        → AreTexts I.remaining tables texts → IsLoadedFor (commits_for purpose) texts base) }
     ensures data { IfErr result (λ fault. status_of fault ≡ 1 → (texts : Table → List ℕ)
-        → AreTexts I.remaining tables texts → AreRefused texts) }
+        → AreTexts I.remaining tables texts → AreRefusedFor (commits_for purpose) texts) }
     ensures later { IfErr result (λ fault. status_of fault ≢ 2) }
     ensures earlier { IfErr result (λ fault. status_of fault ≢ 3) }
 {
-    match load(rt, alloc, Limits::standard(), BLOCK, tables) {
-        Ok(base) => Ok(base),
-        Err(fault) => Err(Fault::Data(fault)),
-    }
-}
-
-/// The base that the tables spell, to be served live: the same, with up to 2^56 commits.
-pub fn base_to_serve<I: Read + Drop>(
-    rt: &(impl Threads + Sync),
-    alloc: Global,
-    tables: Tables<I>,
-) -> Result<Base, Fault>
-    ensures base { IfOk result (λ base. (texts : Table → List ℕ)
-        → AreTexts I.remaining tables texts → IsLoadedToServe texts base) }
-    ensures data { IfErr result (λ fault. status_of fault ≡ 1 → (texts : Table → List ℕ)
-        → AreTexts I.remaining tables texts → AreRefusedToServe texts) }
-    ensures later { IfErr result (λ fault. status_of fault ≢ 2) }
-    ensures earlier { IfErr result (λ fault. status_of fault ≢ 3) }
-{
-    match load(rt, alloc, Limits::greatest(), BLOCK, tables) {
+    match load(rt, alloc, limits_for(purpose), BLOCK, tables) {
         Ok(base) => Ok(base),
         Err(fault) => Err(Fault::Data(fault)),
     }

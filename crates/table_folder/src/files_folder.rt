@@ -6,11 +6,11 @@ ghost use Rattle.table_folder.specs.Noted.{calls_of};
 use crate::folder::TableFolder;
 use crate::transcript::{Noted, note, note_bytes};
 use ghost_list::GhostList;
+use journal_file::sync_name;
 use ssb_schema::Table;
 use std::alloc::Global;
 use std::fs::{self, OpenFile, OpenOptions};
 use std::io::{self, ErrorKind, Read, Write};
-use std::path::Path;
 use std::rt::Files;
 
 /// A folder for the tables, which was not there, or was empty.
@@ -92,11 +92,7 @@ impl<'a, F: Files> FilesFolder<'a, F> {
             Err(error) if error.kind() == ErrorKind::AlreadyExists => return Ok(()),
             Err(error) => return Err(error),
         }
-        let parent = match Path::new(self.path).parent() {
-            Some(parent) if !parent.as_str().is_empty() => parent.as_str(),
-            _ => ".",
-        };
-        fs::open(self.files, parent)?.sync_all()
+        sync_name(self.files, self.path)
     }
 
     // The path of a table's file, or of the one that becomes it.

@@ -4,7 +4,8 @@ use Rattle.ssb_files.specs.declared.job.JobFault.TheVariants.{Program}
 use Rattle.ssb_schema.specs.declared.table.Table.{Table}
 use Rattle.ssb_text.specs.Load.{AreTexts}
 use Rattle.export_command.specs.Exported.{TellsExportFault}
-use Rattle.export_command.proofs.ExportLaws.{exports, file_fault_tells, fill_fault_tells, find_fault_tells, if_err, on_ok}
+use Rattle.export_command.proofs.ExportLaws.{exports, file_fault_tells, fill_fault_tells, find_fault_tells, if_err}
+use Rattle.export_command.proofs.ExportLaws.{on_ok}
 use Rattle.export_command.proofs.exporting.export.Goals as goal
 
 pub returns-in_err-folder-clause-fault : goal.returns-in_err-folder-clause-fault

@@ -5,14 +5,8 @@ use Rattle.ssb_base.specs.Base.{Tables}
 use Rattle.export_command.specs.After.{actions_of, standing, standing_added}
 use Rattle.export_command.specs.Standing.{WritesLines}
 use Rattle.export_command.proofs.StandingLaws.{lines_stand}
-use Rattle.export_command.proofs.WritingLaws.{
-  HasWritten,
-  all_written,
-  lines_text,
-  stopped_before,
-  writes_behind,
-  writes_part,
-}
+use Rattle.export_command.proofs.WritingLaws.{HasWritten, all_written, lines_text, stopped_before, writes_behind}
+use Rattle.export_command.proofs.WritingLaws.{writes_part}
 use Rattle.export_command.proofs.writing.write_lines.Goals as goal
 
 pub returns-in_err-write_standing : goal.returns-in_err-write_standing

@@ -1,8 +1,8 @@
 use Rattle.std.proofs.Common.{◌≡◌, ◌∙◌, ◌⊎◌, Err, List, arith, inl, inr, map, rules, subst, sym, ℕ}
 use Rattle.ssb_files.specs.Loaded.{AreRefused, IsLoaded}
 use Rattle.ssb_files.specs.Scripts.{HasRefused}
+use Rattle.ssb_files.specs.Standing.{MayHaveTooManyGroups, MayNotStand}
 use Rattle.ssb_files.specs.declared.job.JobFault.TheVariants.{Program}
-use Rattle.run_command.specs.Standing.{HasTooManyGroups, MayNotStand}
 use Rattle.run_command.specs.Status.{serving_status}
 use Rattle.ssb_text.specs.Load.{AreTexts}
 use Rattle.ssb_schema.specs.declared.table.Table.{Table}
@@ -28,14 +28,14 @@ returns-in_err-scripts-clause-refused g c =
 
 pub returns-in_err-loaded-clause-refused : goal.returns-in_err-loaded-clause-refused
 returns-in_err-loaded-clause-refused g c =
-    let is : c.from_residual-in_err-loaded.result ≡ Err c.in_err-loaded.field-0.0 = search rules in
-    let here : serving_status c.in_err-loaded.field-0.0 ≡ 1 → (texts : Table → List ℕ)
+    let is : c.from_residual-in_err-loaded.result ≡ Err (Program c.in_err-loaded.field-0.0) = search rules in
+    let here : serving_status (Program c.in_err-loaded.field-0.0) ≡ 1 → (texts : Table → List ℕ)
     → AreTexts g.I.Read.remaining c.args.input.tables texts → AreRefused texts
     ⊎ HasRefused (map g.I.Read.remaining c.args.input.sources.items) ⊎ MayNotStand texts c.args.settings.standing.items
     = λ status texts are. inr (inr (record {
       base = c.in_ok-base.base;
       loaded = c.in_ok-base.ensures.base texts are;
-      many = subst (HasTooManyGroups c.in_ok-base.base) c.deref.ensures.value (c.in_err-loaded.ensures.refused status);
+      many = subst (MayHaveTooManyGroups c.in_ok-base.base) c.deref.ensures.value (c.in_err-loaded.ensures.refused status);
     })) in
     rw is here
 

@@ -1,22 +1,5 @@
-use Rattle.std.proofs.Common.{
-  ◌≡◌,
-  ◌+◌,
-  nat_eq,
-  [],
-  ◌∷◌,
-  ◌++◌,
-  Some,
-  length,
-  take,
-  rules,
-  arith,
-  sym,
-  ap,
-  ◌∙◌,
-  subst,
-  append_assoc,
-  length-append,
-}
+use Rattle.std.proofs.Common.{◌≡◌, ◌+◌, nat_eq, [], ◌∷◌, ◌++◌, Some, length, take, rules, arith, sym, ap, ◌∙◌, subst}
+use Rattle.std.proofs.Common.{append_assoc, length-append}
 use Rattle.std.specs.HashMap.{Updates, get}
 use Rattle.std.proofs.lemmas.List.{length-take-le}
 use Rattle.row_store.specs.Absorbing.{gone_by}
@@ -24,11 +7,8 @@ use Rattle.export_command.specs.After.{IsLastOf}
 use Rattle.export_command.specs.declared.last_gone.LastGone.{LastGone}
 use Rattle.export_command.proofs.LastGoneLaws.{none_go, some_go}
 use Rattle.export_command.proofs.NextLaws.{next_of}
-use Rattle.export_command.proofs.last_gone.LastGone.note_all.Goals.{
-  in-Add,
-  in-Amend+in_ok-insert-in-Amend,
-  in-Withdraw+in_ok-insert-in-Withdraw,
-}
+use Rattle.export_command.proofs.last_gone.LastGone.note_all.Goals.{in-Add, in-Amend+in_ok-insert-in-Amend}
+use Rattle.export_command.proofs.last_gone.LastGone.note_all.Goals.{in-Withdraw+in_ok-insert-in-Withdraw}
 use Rattle.export_command.proofs.last_gone.LastGone.note_all.Goals as goal
 
 pub loop-action-preserved : goal.loop-action-preserved

@@ -1,20 +1,5 @@
-use Rattle.std.proofs.Common.{
-  ◌≡◌,
-  ◌+◌,
-  ◌*◌,
-  ◌≤◌,
-  nat_eq,
-  ◌++◌,
-  length,
-  take,
-  rules,
-  arith,
-  sym,
-  ap,
-  ◌∙◌,
-  subst,
-  length-append,
-}
+use Rattle.std.proofs.Common.{◌≡◌, ◌+◌, ◌*◌, ◌≤◌, nat_eq, ◌++◌, length, take, rules, arith, sym, ap, ◌∙◌, subst}
+use Rattle.std.proofs.Common.{length-append}
 use Rattle.std.specs.HashMap.{get}
 use Rattle.export_command.specs.After.{IsLastOf, actions_of}
 use Rattle.export_command.proofs.StepLaws.{actions_more}

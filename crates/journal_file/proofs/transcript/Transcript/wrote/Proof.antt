@@ -15,7 +15,8 @@ use denote.Ref.{MutRef, mut_vals, mut_Tells}
 use denote.Slice.{ShrSlice, shr_slice_vals, shr_slice_Tells}
 use denote.Signature.{plain}
 use denote.Steps.{nothing, opens, closes}
-use denote.Triple.Walked.{says, Stays, walk_of, stay_ref, stay_dropped, stay_none_slice, Goes-ref, Goes-dropped, Goes-none_slice, ends_at}
+use denote.Triple.Walked.{says, Stays, walk_of, stay_ref, stay_dropped, stay_none_slice, Goes-ref, Goes-dropped}
+use denote.Triple.Walked.{Goes-none_slice, ends_at}
 use Rattle.journal.specs.Calls.{wrote}
 use Rattle.journal_file.specs.declared.transcript.Transcript.{Transcript}
 use Rattle.journal_file.specs.contracts.transcript.Transcript as T
