@@ -1,32 +1,8 @@
 -- The constants that words stand for, and the question that is made of them.
-use Rattle.std.proofs.Common.{
-  ◌≡◌,
-  ◌≤◌,
-  ◌∙◌,
-  ℕ,
-  List,
-  [],
-  ◌∷◌,
-  Some,
-  Result,
-  Ok,
-  Err,
-  IfErr,
-  true,
-  false,
-  length,
-  map,
-  nat_eq,
-  refl,
-  sym,
-  ap,
-  inr,
-  arith,
-  eqb-true,
-  lit≤,
-}
+use Rattle.std.proofs.Common.{◌≡◌, ◌∙◌, ℕ, List, [], ◌∷◌, Some, Result, Ok, Err, IfErr, true, false, length, map}
+use Rattle.std.proofs.Common.{nat_eq, refl, sym, ap, inr, arith, eqb-true}
 use Rattle.query_command.specs.Asked.{AskNothing, constants_asked, kinds_of}
-use Rattle.query_command.specs.Asked.{standard_questions, values_spelled}
+use Rattle.query_command.specs.Asked.{values_spelled}
 use Rattle.ssb_files.specs.Status.{status_of}
 use Rattle.ssb_files.specs.declared.fault.Fault.{Fault}
 use Rattle.ssb_questions.specs.Queries.{standard_constants}
@@ -66,7 +42,3 @@ is_refused name words query constants made (Err why) named given fault is = λ t
       fault = found.0;
       is = ap (constants_fault query) (sym given) ∙ (sym fault ∙ found.1);
     })
-
--- the benchmark is one batch
-pub few_standard : length standard_questions ≤ 16
-few_standard = lit≤ tt

@@ -2,3 +2,4 @@ pub mod AskedLaws
 pub mod OpeningLaws
 pub mod ReportLaws
 pub mod SizeLaws
+pub mod BoardLaws

@@ -2,3 +2,4 @@ pub mod Asked
 pub mod Reported
 pub mod Sizes
 pub mod Explained
+pub mod Board

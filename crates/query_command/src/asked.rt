@@ -14,6 +14,15 @@ use ssb_questions::{ConstantKind, QUERIES, Query, Question, QuestionError, Value
 use ssb_schema::{Text, number};
 use std::alloc::{AllocError, Global};
 
+/// The words that ask a question.
+#[derive(Clone, Copy)]
+pub struct QuestionWords<'a> {
+    /// The name of its query.
+    pub name: &'a str,
+    /// Its constants; without, the benchmark's are asked.
+    pub constants: &'a [&'a str],
+}
+
 // The constant of a kind that a word stands for: its number where the kind is one and the word spells it, else its
 // text.
 fn value(alloc: Global, kind: Option<&ConstantKind>, word: &str) -> Result<Value, AllocError>

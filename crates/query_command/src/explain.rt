@@ -17,7 +17,7 @@ use crate::asked::ask;
 use crate::sizes::sizes;
 use ssb_base::Base;
 use ssb_explain::{System, explanation, sql_statement};
-use ssb_files::{Fault, base_of};
+use ssb_files::{Fault, LoadedFor, base_of};
 use ssb_questions::{Question, question};
 use ssb_text::{Tables, write_bytes};
 use std::alloc::{AllocError, Global};
@@ -105,7 +105,7 @@ fn sized_over<R: Threads + Sync + AllocGlobal, I: Read + Drop>(
         → AreTexts I.remaining tables texts → AreRefused texts) }
     ensures later { IfErr result (λ fault. status_of fault ≢ 2) }
 {
-    let base = base_of(rt, rt.alloc(), tables)?;
+    let base = base_of(rt, rt.alloc(), tables, LoadedFor::Reports)?;
     let text = sized(rt.alloc(), &base, question)?;
     Ok(text)
 }

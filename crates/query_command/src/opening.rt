@@ -1,15 +1,17 @@
-//! The answers over the loaded lines, by one pass over their columns.
+//! The answers over the loaded lines, by passes over their columns.
 
 ghost use Rattle.std.specs.Prelude.{◌≡◌, ◌≤◌, [], List, IfOk, length, map};
 ghost use Rattle.fact_columns.specs.Stored.{columns_state};
 ghost use Rattle.row_store.specs.History.{CommitRecord};
 ghost use Rattle.row_store.specs.State.{StandsFor, state_of};
+ghost use Rattle.scan_kernel.specs.Masks.{questions_a_pass};
 ghost use Rattle.shared_scan.specs.Answers.{AreSnapshot, answers_after};
 ghost use Rattle.query_command.specs.Reported.{opened, opening_answer};
 
 use crate::stopwatch::{Stopwatch, TimedStep};
 use dimension_index::index_of;
 use fact_columns::Columns;
+use scan_kernel::QUESTIONS_A_PASS;
 use shared_scan::PreparedBatch;
 use ssb_answers::{Answer, Rows};
 use ssb_base::Base;
@@ -40,7 +42,7 @@ fn columns_of<R: Threads + Sync + Clock>(
     Ok(columns)
 }
 
-// The rows of the questions over the columns.
+// The rows of the questions, by one pass over the columns.
 fn rows_of<R: Threads + Sync + Clock>(
     rt: &R,
     alloc: Global,
@@ -48,7 +50,7 @@ fn rows_of<R: Threads + Sync + Clock>(
     questions: &[Question],
     watch: &mut Stopwatch,
 ) -> Result<Vec<Rows>, AllocError>
-    requires few { length questions.now ≤ 16 }
+    requires few { length questions.now ≤ questions_a_pass }
     requires snapshot { AreSnapshot columns.now }
     ensures { (history : List CommitRecord) → StandsFor (columns_state columns.now) history
         → IfOk result (λ rows. rows.items ≡ answers_after columns.now.base history questions.now) }
@@ -60,12 +62,35 @@ fn rows_of<R: Threads + Sync + Clock>(
     rows
 }
 
+// The rows of each question, in passes over the columns.
+fn all_rows<R: Threads + Sync + Clock>(
+    rt: &R,
+    alloc: Global,
+    columns: &Columns,
+    questions: &[Question],
+    watch: &mut Stopwatch,
+) -> Result<Vec<Rows>, AllocError>
+    requires snapshot { AreSnapshot columns.now }
+    ensures { (history : List CommitRecord) → StandsFor (columns_state columns.now) history
+        → IfOk result (λ rows. rows.items ≡ answers_after columns.now.base history questions.now) }
+{
+    let mut rows = Vec::new(alloc);
+    let mut rest = questions;
+    while !rest.is_empty() {
+        let (pass, later) = rest.split_at(rest.len().min(QUESTIONS_A_PASS));
+        let mut found = rows_of(rt, alloc, columns, pass, watch)?;
+        rows.append(&mut found)?;
+        rest = later;
+    }
+    Ok(rows)
+}
+
 // Rows as the answer of a warehouse without commits.
 fn opened(rows: Rows) -> Answer
     ensures { result ≡ opened rows }
 {
     Answer::Rows {
-        query: rows.query,
+        question: rows.question,
         at: 0,
         rows: rows.list,
     }
@@ -77,8 +102,8 @@ fn answers_of(alloc: Global, rows: Vec<Rows>) -> Result<Vec<Answer>, AllocError>
     rows.into_iter().map(|rows| opened(rows)).collect(alloc)
 }
 
-/// The answers to at most 16 questions over the loaded lines of a base, by as many threads as there are processors. The
-/// orders of the columns are found by keys that are hashed with `hashing`.
+/// The answers to questions over the loaded lines of a base, by a pass for each sixteen of them, by as many threads as
+/// there are processors. The orders of the columns are found by keys that are hashed with `hashing`.
 pub fn opening_answers<R: Threads + Sync + Clock>(
     rt: &R,
     alloc: Global,
@@ -87,10 +112,9 @@ pub fn opening_answers<R: Threads + Sync + Clock>(
     questions: &[Question],
     watch: &mut Stopwatch,
 ) -> Result<Vec<Answer>, AllocError>
-    requires { length questions.now ≤ 16 }
     ensures { IfOk result (λ answers. answers.items ≡ map (λ question. opening_answer base question) questions.now) }
 {
     let columns = columns_of(rt, alloc, hashing, base, watch)?;
-    let rows = rows_of(rt, alloc, &columns, questions, watch)?;
+    let rows = all_rows(rt, alloc, &columns, questions, watch)?;
     answers_of(alloc, rows)
 }

@@ -1,24 +1,29 @@
-//! `query`: the answers to one question or to all thirteen queries over five table files.
+//! `query`: the answers to one question, to all thirteen queries or to a board over five table files.
 
-ghost use Rattle.std.specs.Prelude.{◌≡◌, ◌≢◌, ◌⊎◌, ◌≤◌, ℕ, List, false, IfOk, IfErr, OnOk, OnErr, MatchResult};
-ghost use Rattle.std.specs.Prelude.{length, map};
+ghost use Rattle.std.specs.Prelude.{◌≡◌, ◌≢◌, ◌⊎◌, ℕ, List, false, IfOk, IfErr, OnOk, OnErr, MatchResult};
+ghost use Rattle.std.specs.Prelude.{Some, map};
 ghost use Rattle.query_command.specs.Asked.{AskNothing};
+ghost use Rattle.query_command.specs.Board.{IsRefusedBoard};
 ghost use Rattle.query_command.specs.Reported.{HaveAnswers, HaveReport, Reports, ReportsPart, ReportsAll, ReportsAllPart};
+ghost use Rattle.query_command.specs.Reported.{HasReports, ReportsBoard, ReportsBoardPart};
 ghost use Rattle.ssb_files.specs.Loaded.{AreRefused};
 ghost use Rattle.ssb_files.specs.Status.{status_of};
 ghost use Rattle.ssb_text.specs.Load.{AreTexts};
 ghost use Rattle.ssb_formats.specs.Formats.{answers_shown};
+ghost use Rattle.ssb_formats.specs.Titled.{board_shown};
 ghost use Rattle.ssb_text.specs.Written.{AppendsPart};
 ghost use Rattle.ssb_schema.specs.declared.table.Table.{Table};
 ghost use Rattle.std.specs.Io.KnownBytes.{Appends, Keeps};
 
-use crate::asked::{ask, standard_questions};
+use crate::asked::{QuestionWords, ask, standard_questions};
+use crate::board::{Board, read_board};
 use crate::opening::opening_answers;
 use crate::stopwatch::{Stopwatch, TimedStep};
 use ssb_answers::Answer;
-use ssb_files::{Fault, base_of};
-use ssb_formats::{Format, FormatFault, write_formatted};
+use ssb_files::{Fault, JobFault, LoadedFor, base_of};
+use ssb_formats::{Format, FormatFault, write_board, write_formatted};
 use ssb_questions::Question;
+use ssb_schema::Text;
 use ssb_text::Tables;
 use std::alloc::Global;
 use std::hash::RandomState;
@@ -45,14 +50,13 @@ fn answers<R: Threads + Sync + Clock + AllocGlobal, I: Read + Drop>(
     questions: &[Question],
     watch: &mut Stopwatch,
 ) -> Result<Vec<Answer>, Fault>
-    requires { length questions.now ≤ 16 }
     ensures answers { IfOk result (λ answers. (texts : Table → List ℕ) → AreTexts I.remaining tables texts
         → HaveAnswers texts questions.now answers.items) }
     ensures data { IfErr result (λ fault. status_of fault ≡ 1 → (texts : Table → List ℕ)
         → AreTexts I.remaining tables texts → AreRefused texts) }
     ensures later { IfErr result (λ fault. status_of fault ≢ 2) }
 {
-    let base = base_of(rt, rt.alloc(), tables)?;
+    let base = base_of(rt, rt.alloc(), tables, LoadedFor::Reports)?;
     watch.lap(rt, TimedStep::Load);
     let answers = opening_answers(rt, rt.alloc(), hashing, base, questions, watch)?;
     Ok(answers)
@@ -96,6 +100,25 @@ fn write<W: Write>(
     }
 }
 
+// Writes the answers to the questions of a board, each under its title, and has the writer hand on what it holds.
+fn write_titled<W: Write>(
+    alloc: Global,
+    format: Format,
+    titles: &[Text],
+    answers: &[Answer],
+    out: &mut W,
+) -> Result<(), Fault>
+    ensures written { MatchResult result
+        (λ _. Appends (W.contents out.old) (W.contents out.new) (board_shown format titles.now answers.now))
+        (λ _. AppendsPart (W.contents out.old) (W.contents out.new) (board_shown format titles.now answers.now)) }
+    ensures fault { IfErr result (λ fault. status_of fault ≡ 4) }
+{
+    match write_board(alloc, out, format, titles, answers) {
+        Ok(()) => hand_on(out),
+        Err(fault) => Err(fault_of(fault)),
+    }
+}
+
 // Writes the answers to the questions over the tables.
 fn report<R: Threads + Sync + Clock + AllocGlobal, I: Read + Drop, W: Write>(
     rt: &R,
@@ -105,7 +128,6 @@ fn report<R: Threads + Sync + Clock + AllocGlobal, I: Read + Drop, W: Write>(
     watch: &mut Stopwatch,
     out: &mut W,
 ) -> Result<(), Fault>
-    requires { length questions.now ≤ 16 }
     ensures report { OnOk result ((texts : Table → List ℕ) → AreTexts I.remaining tables texts
         → (report : List ℕ) × HaveReport settings.format texts questions.now report × Appends (W.contents out.old)
         (W.contents out.new) report) }
@@ -140,7 +162,6 @@ fn run<R: Threads + Sync + Clock + AllocGlobal, I: Read + Drop, W: Write, E: Wri
     out: &mut W,
     err: &mut E,
 ) -> u8
-    requires { length questions.now ≤ 16 }
     ensures report { result ≡ 0 → (texts : Table → List ℕ) → AreTexts I.remaining tables texts
         → (report : List ℕ) × HaveReport settings.format texts questions.now report × Appends (W.contents out.old)
         (W.contents out.new) report }
@@ -163,31 +184,29 @@ fn run<R: Threads + Sync + Clock + AllocGlobal, I: Read + Drop, W: Write, E: Wri
     }
 }
 
-/// Writes the answer to the question of this name and these constants (without constants, the benchmark's) over the
-/// base that the tables spell; or a fault line to `err`. The question is looked at first. The result is the exit
-/// status: 0 with nothing written to `err` but the times, where they are asked for; 1 where the data is refused, 2
-/// where the question is, and else 4.
+/// Writes the answer to the question that the words ask, over the base that the tables spell; or a fault line to
+/// `err`. The question is looked at first. The result is the exit status: 0 with nothing written to `err` but the
+/// times, where they are asked for; 1 where the data is refused, 2 where the question is, and else 4.
 pub fn run_query<R: Threads + Sync + Clock + AllocGlobal, I: Read + Drop, W: Write, E: Write>(
     rt: &R,
     settings: Settings,
     tables: Tables<I>,
-    name: &str,
-    constants: &[&str],
+    words: QuestionWords<'_>,
     out: &mut W,
     err: &mut E,
 ) -> u8
     ensures report { result ≡ 0 → (texts : Table → List ℕ) → AreTexts I.remaining tables texts
-        → Reports settings.format texts name.now (map (λ word. word.now) constants.now) (W.contents out.old)
-        (W.contents out.new) }
+        → Reports settings.format texts words.entry.name.now (map (λ word. word.now) words.entry.constants.now)
+        (W.contents out.old) (W.contents out.new) }
     ensures fault { result ≢ 0 → (W.contents out.new ≡ W.contents out.old)
         ⊎ ((texts : Table → List ℕ) → AreTexts I.remaining tables texts
-        → ReportsPart settings.format texts name.now (map (λ word. word.now) constants.now) (W.contents out.old)
-        (W.contents out.new)) }
+        → ReportsPart settings.format texts words.entry.name.now (map (λ word. word.now) words.entry.constants.now)
+        (W.contents out.old) (W.contents out.new)) }
     ensures quiet { result ≡ 0 → settings.times ≡ false → err.new ≡ err.old }
     ensures data { result ≡ 1 → (texts : Table → List ℕ) → AreTexts I.remaining tables texts → AreRefused texts }
-    ensures words { result ≡ 2 → AskNothing name.now (map (λ word. word.now) constants.now) }
+    ensures words { result ≡ 2 → AskNothing words.entry.name.now (map (λ word. word.now) words.entry.constants.now) }
 {
-    let question = match ask(rt.alloc(), name, constants) {
+    let question = match ask(rt.alloc(), words.name, words.constants) {
         Ok(question) => question,
         Err(fault) => return fault.tell(err),
     };
@@ -218,4 +237,69 @@ pub fn run_all<R: Threads + Sync + Clock + AllocGlobal, I: Read + Drop, W: Write
         Err(_) => return Fault::OutOfMemory.tell(err),
     };
     run(rt, settings, tables, questions.as_slice(), out, err)
+}
+
+// Writes the reports of a board over the tables.
+fn report_board<R: Threads + Sync + Clock + AllocGlobal, I: Read + Drop, W: Write>(
+    rt: &R,
+    settings: Settings,
+    tables: Tables<I>,
+    board: &Board,
+    watch: &mut Stopwatch,
+    out: &mut W,
+) -> Result<(), Fault>
+    ensures report { OnOk result ((texts : Table → List ℕ) → AreTexts I.remaining tables texts
+        → (report : List ℕ)
+        × HasReports settings.format texts board.now.titles.items board.now.questions.items report
+        × Appends (W.contents out.old) (W.contents out.new) report) }
+    ensures fault { OnErr result ((W.contents out.new ≡ W.contents out.old)
+        ⊎ ((texts : Table → List ℕ) → AreTexts I.remaining tables texts
+        → (report : List ℕ)
+        × HasReports settings.format texts board.now.titles.items board.now.questions.items report
+        × AppendsPart (W.contents out.old) (W.contents out.new) report)) }
+    ensures data { IfErr result (λ fault. status_of fault ≡ 1 → (texts : Table → List ℕ)
+        → AreTexts I.remaining tables texts → AreRefused texts) }
+    ensures later { IfErr result (λ fault. status_of fault ≢ 2) }
+{
+    let questions = board.questions.as_slice();
+    let answers = answers(rt, settings.hashing, tables, questions, watch)?;
+    let titles = board.titles.as_slice();
+    write_titled(rt.alloc(), settings.format, titles, answers.as_slice(), out)
+}
+
+/// Writes the answers to the questions that the board in `source` asks, in order and each under its title, over the
+/// base that the tables spell; or a fault line to `err`. The board is read first. The result is the exit status, as of
+/// `run_query`: 2 where the board is refused, and then nothing is written to `out`.
+pub fn run_board<
+    R: Threads + Sync + Clock + AllocGlobal,
+    B: Read + Drop,
+    I: Read + Drop,
+    W: Write,
+    E: Write,
+>(rt: &R, settings: Settings, source: B, tables: Tables<I>, out: &mut W, err: &mut E) -> u8
+    ensures reports { result ≡ 0 → (text : List ℕ) (texts : Table → List ℕ) → B.remaining source ≡ Some text
+        → AreTexts I.remaining tables texts
+        → ReportsBoard settings.format text texts (W.contents out.old) (W.contents out.new) }
+    ensures fault { result ≢ 0 → (W.contents out.new ≡ W.contents out.old)
+        ⊎ ((text : List ℕ) (texts : Table → List ℕ) → B.remaining source ≡ Some text
+        → AreTexts I.remaining tables texts
+        → ReportsBoardPart settings.format text texts (W.contents out.old) (W.contents out.new)) }
+    ensures quiet { result ≡ 0 → settings.times ≡ false → err.new ≡ err.old }
+    ensures data { result ≡ 1 → (texts : Table → List ℕ) → AreTexts I.remaining tables texts → AreRefused texts }
+    ensures refused { result ≡ 2 → (W.contents out.new ≡ W.contents out.old)
+        × ((text : List ℕ) → B.remaining source ≡ Some text → IsRefusedBoard text) }
+{
+    let board = match read_board(rt.alloc(), source) {
+        Ok(board) => board,
+        Err(fault) => return JobFault::Found(fault).tell(err),
+    };
+    let times = settings.times;
+    let mut watch = Stopwatch::start(rt, times);
+    match report_board(rt, settings, tables, &board, &mut watch, out) {
+        Ok(()) => {
+            tell_times(&watch, times, err);
+            0
+        }
+        Err(fault) => fault.tell(err),
+    }
 }

@@ -1,14 +1,14 @@
 -- No answer has a float.
-use Rattle.std.proofs.Common.{◌≡◌, ℤ, pos, negsuc, Bool, true, false, List, [], ◌∷◌, ◌++◌, map, Option, Some, None}
-use Rattle.std.proofs.Common.{refl, if◌then◌else◌}
-use Rattle.serde_json.specs.Data.{Data}
+use Rattle.std.proofs.Common.{◌≡◌, ℕ, ℤ, pos, negsuc, Bool, true, false, List, [], ◌∷◌, ◌++◌, map, Option, Some, None}
+use Rattle.std.proofs.Common.{refl, codes, if◌then◌else◌}
+use Rattle.serde_json.specs.Data.{Data, put}
 use Rattle.serde_json.specs.View.{items_of}
-use Rattle.serde_json.specs.Written.{has_float, items_have_float}
+use Rattle.serde_json.specs.Written.{has_float, items_have_float, members_have_float}
 use Rattle.ssb_answers.specs.declared.answer.Answer.{Answer}
 use Rattle.ssb_answers.specs.declared.answer.Answer.TheVariants.{Rows, Unserved}
 use Rattle.ssb_answers.specs.declared.answer.ResultRow.{ResultRow}
 use Rattle.ssb_formats.specs.Cells.{heads_of}
-use Rattle.ssb_formats.specs.JsonText.{answer_data, row_data, sum_data, text_data, value_data}
+use Rattle.ssb_formats.specs.JsonText.{answer_members, row_data, sum_data, text_data, value_data}
 use Rattle.ssb_questions.specs.Queries.{plan_over}
 use Rattle.ssb_questions.specs.Query.{sum_first}
 use Rattle.ssb_questions.specs.declared.query.Query.{Query}
@@ -43,9 +43,17 @@ placed_exact false sum values is = more_exact value_data values sum value_exact 
 row_exact : (query : Query) (row : ResultRow) → has_float (row_data query row) ≡ false
 row_exact query row = placed_exact (sum_first query) (sum_data row.sum) row.groups (sum_exact row.sum)
 
-pub answer_exact : (answer : Answer) → has_float (answer_data answer) ≡ false
+pub answer_exact : (answer : Answer) → members_have_float (answer_members answer) ≡ false
 answer_exact (Rows question at rows) =
     rw (items_exact text_data (heads_of question.0 (plan_over question.0 question.1)) (λ text. refl))
     (rw (items_exact value_data question.1 value_exact)
     (rw (items_exact (row_data question.0) rows (row_exact question.0)) refl))
 answer_exact (Unserved question cause) = rw (items_exact value_data question.1 value_exact) refl
+
+pub titled_exact : (title : List ℕ) (answer : Answer)
+    → members_have_float (put (codes "title") (text_data title) (answer_members answer)) ≡ false
+titled_exact title (Rows question at rows) =
+    rw (items_exact text_data (heads_of question.0 (plan_over question.0 question.1)) (λ text. refl))
+    (rw (items_exact value_data question.1 value_exact)
+    (rw (items_exact (row_data question.0) rows (row_exact question.0)) refl))
+titled_exact title (Unserved question cause) = rw (items_exact value_data question.1 value_exact) refl

@@ -1,31 +1,6 @@
 -- Writing one text after another, where a part of a text may be all of it.
-use Rattle.std.proofs.Common.{
-  ◌≡◌,
-  ℕ,
-  ◌+◌,
-  ◌<◌,
-  List,
-  [],
-  ◌∷◌,
-  ◌++◌,
-  length,
-  take,
-  drop,
-  get_or,
-  flat_map,
-  Option,
-  Result,
-  Ok,
-  Err,
-  IsErrAnd,
-  is_err,
-  refl,
-  sym,
-  ◌∙◌,
-  ap,
-  append_assoc,
-  append-nil,
-}
+use Rattle.std.proofs.Common.{◌≡◌, ℕ, ◌+◌, ◌<◌, List, [], ◌∷◌, ◌++◌, length, take, drop, get_or, flat_map, Option}
+use Rattle.std.proofs.Common.{Result, Ok, Err, IsErrAnd, is_err, refl, sym, ◌∙◌, ap, append_assoc, append-nil}
 use Rattle.std.specs.Io.KnownBytes.{Appends}
 use Rattle.std.proofs.lemmas.List.{take_more, take-append-drop}
 use Rattle.std.proofs.lemmas.List.Concat.{flat_map-append}

@@ -6,4 +6,7 @@ pub mod Title
 pub mod Alignment
 pub mod TableText
 pub mod BarsText
+pub mod Markup
+pub mod HtmlText
 pub mod Formats
+pub mod Titled

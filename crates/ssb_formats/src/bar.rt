@@ -28,7 +28,7 @@ fn room_beside(width: usize, alignments: &[Alignment]) -> usize
 }
 
 // How great a sum is.
-fn size_of(sum: Option<i64>) -> u64
+pub(crate) fn size_of(sum: Option<i64>) -> u64
     ensures { result ≡ size_of sum }
 {
     match sum {
@@ -38,7 +38,7 @@ fn size_of(sum: Option<i64>) -> u64
 }
 
 // How great the greatest sum is.
-fn greatest_of(rows: &[ResultRow]) -> u64
+pub(crate) fn greatest_of(rows: &[ResultRow]) -> u64
     ensures { result ≡ greatest_of rows.now }
 {
     let mut greatest = 0;
@@ -59,7 +59,7 @@ pub(crate) fn scale_of(width: usize, alignments: &[Alignment], rows: &[ResultRow
 }
 
 // The length of the bar of a sum.
-fn bar_length(scale: Scale, size: u64) -> usize
+pub(crate) fn bar_length(scale: Scale, size: u64) -> usize
     ensures { result ≡ bar_length scale size }
 {
     if scale.greatest == 0 {

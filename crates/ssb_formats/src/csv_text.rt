@@ -1,6 +1,6 @@
 //! An answer as CSV: a record of the heads, and one for each row.
 
-ghost use Rattle.std.specs.Prelude.{◌≡◌, IfOk, OnOk};
+ghost use Rattle.std.specs.Prelude.{◌≡◌, [], ◌∷◌, IfOk, OnOk};
 ghost use Rattle.std.specs.Io.KnownBytes.{Appends};
 ghost use Rattle.csv.specs.Records.{fields_of};
 ghost use Rattle.csv.specs.Writing.{row_text, text_written};
@@ -62,6 +62,23 @@ pub(crate) fn csv_text(
         let cells = row_cells(alloc, query, row)?;
         write_cells(&mut writer, &mut record, cells.as_slice())?;
     }
+    match writer.into_inner() {
+        Ok(text) => Ok(text),
+        Err(_) => Err(AllocError),
+    }
+}
+
+/// A record of a title alone.
+pub(crate) fn title_record(alloc: Global, title: &Text) -> Result<Vec<u8>, AllocError>
+    ensures { IfOk result (λ text. text.items ≡ row_text csv_setup (title.now ∷ [])) }
+{
+    let mut writer = WriterBuilder::new()
+        .flexible(true)
+        .from_writer(Vec::new(alloc));
+    let mut record = ByteRecord::new(alloc);
+    let mut cells = Vec::new(alloc);
+    cells.push(Text::from_str(alloc, title.as_str())?)?;
+    write_cells(&mut writer, &mut record, cells.as_slice())?;
     match writer.into_inner() {
         Ok(text) => Ok(text),
         Err(_) => Err(AllocError),

@@ -1,16 +1,18 @@
 //! Answers, written in a format.
 
-ghost use Rattle.std.specs.Prelude.{◌≡◌, ◌∷◌, IfOk, MatchOption, MatchResult, flat_map, is_err};
+ghost use Rattle.std.specs.Prelude.{◌≡◌, ◌∷◌, ◌++◌, IfOk, MatchOption, MatchResult, OnOk, flat_map, is_err};
 ghost use Rattle.std.specs.Io.KnownBytes.{Appends};
-ghost use Rattle.ssb_formats.specs.Formats.{Shows, answers_shown, next_shown, parting, shown};
+ghost use Rattle.ssb_formats.specs.Formats.{Shows, answers_parted, answers_shown, next_shown, opening, parting, shown};
 ghost use Rattle.ssb_report.specs.AnswerText.{answer_text};
 ghost use Rattle.ssb_text.specs.Written.{AppendsPart};
 
 use crate::bars_text::bars_text;
 use crate::csv_text::csv_text;
 use crate::fault::FormatFault;
+use crate::html_text::{html_text, unserved_html};
 use crate::json_text::json_text;
 use crate::markdown_text::markdown_text;
+use crate::markup::Markup;
 use crate::table_text::table_text;
 use ssb_answers::Answer;
 use ssb_questions::question::plan;
@@ -37,15 +39,17 @@ pub enum Format {
         /// The columns of a terminal that a line may take.
         width: usize,
     },
+    /// A page of HTML, with bars.
+    Html,
 }
 
 impl Format {
     // What parts an answer from the next.
-    fn parting(self) -> &'static str
+    pub(crate) fn parting(self) -> &'static str
         ensures { result.now ≡ parting self }
     {
         match self {
-            Format::Report | Format::Json => "",
+            Format::Report | Format::Json | Format::Html => "",
             Format::Csv | Format::Markdown | Format::Table | Format::Bars { .. } => "\n",
         }
     }
@@ -58,25 +62,61 @@ fn text_of(alloc: Global, format: Format, answer: &Answer) -> Result<Option<Vec<
 {
     match (format, answer) {
         (Format::Json, _) => Ok(Some(json_text(alloc, answer)?)),
-        (Format::Csv, Answer::Rows { query, rows, .. }) => {
-            let plan = plan(alloc, query)?;
-            Ok(Some(csv_text(alloc, query.query(), &plan, rows.as_slice())?))
+        (Format::Csv, Answer::Rows { question, rows, .. }) => {
+            let plan = plan(alloc, question)?;
+            Ok(Some(csv_text(alloc, question.query(), &plan, rows.as_slice())?))
         }
-        (Format::Markdown, Answer::Rows { query, rows, .. }) => {
-            let plan = plan(alloc, query)?;
-            Ok(Some(markdown_text(alloc, query.query(), &plan, rows.as_slice())?))
+        (Format::Markdown, Answer::Rows { question, rows, .. }) => {
+            let plan = plan(alloc, question)?;
+            Ok(Some(markdown_text(alloc, question.query(), &plan, rows.as_slice())?))
         }
-        (Format::Table, Answer::Rows { query, at, rows }) => {
-            let plan = plan(alloc, query)?;
-            let text = table_text(alloc, query.query(), &plan, *at, rows.as_slice())?;
+        (Format::Table, Answer::Rows { question, at, rows }) => {
+            let plan = plan(alloc, question)?;
+            let text = table_text(alloc, question.query(), &plan, *at, rows.as_slice())?;
             Ok(Some(text))
         }
-        (Format::Bars { width }, Answer::Rows { query, at, rows }) => {
-            let plan = plan(alloc, query)?;
-            let text = bars_text(alloc, width, query.query(), &plan, *at, rows.as_slice())?;
+        (Format::Bars { width }, Answer::Rows { question, at, rows }) => {
+            let plan = plan(alloc, question)?;
+            let text = bars_text(alloc, width, question.query(), &plan, *at, rows.as_slice())?;
             Ok(Some(text))
+        }
+        (Format::Html, Answer::Rows { question, at, rows }) => {
+            let plan = plan(alloc, question)?;
+            let text = html_text(alloc, question.query(), &plan, *at, rows.as_slice())?;
+            Ok(Some(text))
+        }
+        (Format::Html, Answer::Unserved { question, cause }) => {
+            Ok(Some(unserved_html(alloc, question.query(), *cause)?))
         }
         _ => Ok(None),
+    }
+}
+
+/// Adds what stands before all answers.
+pub(crate) fn push_opening(text: &mut Vec<u8>, format: Format) -> Result<(), AllocError>
+    ensures { OnOk result (text.new.items ≡ text.old.items ++ opening format) }
+{
+    match format {
+        Format::Html => Markup::Page.push(text),
+        _ => Ok(()),
+    }
+}
+
+/// Adds the text of an answer.
+pub(crate) fn push_shown(
+    alloc: Global,
+    text: &mut Vec<u8>,
+    format: Format,
+    answer: &Answer,
+) -> Result<(), AllocError>
+    ensures { OnOk result (text.new.items ≡ text.old.items ++ shown format answer.now) }
+{
+    match text_of(alloc, format, answer)? {
+        Some(shown) => text.extend_from_slice(shown.as_slice()),
+        None => match write_answer(text, answer) {
+            Ok(()) => Ok(()),
+            Err(_) => Err(AllocError),
+        },
     }
 }
 
@@ -89,7 +129,7 @@ fn outcome(written: Result<(), WriteFault>) -> Result<(), FormatFault>
     }
 }
 
-fn write_text<W: Write>(writer: &mut W, text: &[u8]) -> Result<(), FormatFault>
+pub(crate) fn write_text<W: Write>(writer: &mut W, text: &[u8]) -> Result<(), FormatFault>
     ensures { Shows (W.contents writer.old) (W.contents writer.new) result text.now }
 {
     outcome(write_bytes(writer, text))
@@ -152,10 +192,35 @@ fn write_first_and_others<W: Write>(
     others: &[Answer],
 ) -> Result<(), FormatFault>
     ensures { Shows (W.contents writer.old) (W.contents writer.new) result
-        (answers_shown format (first.now ∷ others.now)) }
+        (answers_parted format (first.now ∷ others.now)) }
 {
     write_shown(alloc, writer, format, first)?;
     write_others(alloc, writer, format, others)
+}
+
+// Writes what stands before all answers.
+fn write_opening<W: Write>(alloc: Global, writer: &mut W, format: Format) -> Result<(), FormatFault>
+    ensures { Shows (W.contents writer.old) (W.contents writer.new) result (opening format) }
+{
+    let mut text = Vec::new(alloc);
+    match push_opening(&mut text, format) {
+        Ok(()) => write_text(writer, text.as_slice()),
+        Err(_) => Err(FormatFault::OutOfMemory),
+    }
+}
+
+fn write_parted<W: Write>(
+    alloc: Global,
+    writer: &mut W,
+    format: Format,
+    answers: &[Answer],
+) -> Result<(), FormatFault>
+    ensures { Shows (W.contents writer.old) (W.contents writer.new) result (answers_parted format answers.now) }
+{
+    match answers {
+        [] => Ok(()),
+        [first, others @ ..] => write_first_and_others(alloc, writer, format, first, others),
+    }
 }
 
 /// Writes answers in a format, one after another. The memory that it takes is that of the text of one answer; the
@@ -170,8 +235,6 @@ pub fn write_formatted<W: Write>(
         (λ _. Appends (W.contents writer.old) (W.contents writer.new) (answers_shown format answers.now))
         (λ _. AppendsPart (W.contents writer.old) (W.contents writer.new) (answers_shown format answers.now)) }
 {
-    match answers {
-        [] => Ok(()),
-        [first, others @ ..] => write_first_and_others(alloc, writer, format, first, others),
-    }
+    write_opening(alloc, writer, format)?;
+    write_parted(alloc, writer, format, answers)
 }

@@ -1,12 +1,15 @@
 //! An answer as a JSON object on a line.
 
-ghost use Rattle.std.specs.Prelude.{◌≡◌, IfOk, map};
-ghost use Rattle.serde_json.specs.View.{view};
-ghost use Rattle.ssb_formats.specs.JsonText.{answer_data, cause_name, json_text, row_data, rows_data, served_data};
-ghost use Rattle.ssb_formats.specs.JsonText.{sum_data, text_data, unserved_data, value_data};
+ghost use Rattle.std.specs.Prelude.{◌≡◌, false, IfOk, OnOk, codes, map};
+ghost use Rattle.serde_json.specs.Data.{put as with_member};
+ghost use Rattle.serde_json.specs.View.{members_view, view};
+ghost use Rattle.serde_json.specs.Written.{members_have_float};
+ghost use Rattle.ssb_formats.specs.JsonText.{answer_members, cause_name, json_text, object_line, row_data};
+ghost use Rattle.ssb_formats.specs.JsonText.{rows_members, served_members, sum_data, text_data, titled_json};
+ghost use Rattle.ssb_formats.specs.JsonText.{unserved_members, value_data};
 
 use crate::cells::{head_cells, with_sum};
-use serde_json::{Map, Value as Json, json, put};
+use serde_json::{Map, Value as Json, put};
 use ssb_answers::{Answer, ResultRow, Unserved};
 use ssb_questions::{Query, Question, Value, question};
 use ssb_schema::Text;
@@ -75,16 +78,16 @@ fn rows_json(alloc: Global, query: Query, rows: &[ResultRow]) -> Result<Vec<Json
 }
 
 // The members of an answer with rows.
-fn served_object(
+fn answered_members(
     alloc: Global,
     name: &str,
     at: u64,
     columns: Json,
     constants: Json,
     rows: Json,
-) -> Result<Json, AllocError>
-    ensures { IfOk result (λ json. view json
-        ≡ served_data name.now at (view columns) (view constants) (view rows)) }
+) -> Result<Map<String, Json>, AllocError>
+    ensures { IfOk result (λ members. members_view members.entries
+        ≡ served_members name.now at (view columns) (view constants) (view rows)) }
 {
     let mut members = Map::new(alloc);
     put(&mut members, alloc, "at", Json::from(at))?;
@@ -97,17 +100,17 @@ fn served_object(
         Json::try_from_str(alloc, name)?,
     )?;
     put(&mut members, alloc, "rows", rows)?;
-    Ok(Json::from(members))
+    Ok(members)
 }
 
-// An answer with rows.
-fn served_json(
+// Those of these rows.
+fn rows_members(
     alloc: Global,
     question: &Question,
     at: u64,
     rows: &[ResultRow],
-) -> Result<Json, AllocError>
-    ensures { IfOk result (λ json. view json ≡ rows_data question.now at rows.now) }
+) -> Result<Map<String, Json>, AllocError>
+    ensures { IfOk result (λ members. members_view members.entries ≡ rows_members question.now at rows.now) }
 {
     let query = question.query();
     let plan = question::plan(alloc, question)?;
@@ -115,10 +118,10 @@ fn served_json(
     let columns = Json::from(texts_json(alloc, heads.as_slice())?);
     let constants = Json::from(values_json(alloc, question.constants())?);
     let rows = Json::from(rows_json(alloc, query, rows)?);
-    served_object(alloc, query.name(), at, columns, constants, rows)
+    answered_members(alloc, query.name(), at, columns, constants, rows)
 }
 
-fn cause_name(cause: Unserved) -> &'static str
+pub(crate) fn cause_name(cause: Unserved) -> &'static str
     ensures { result.now ≡ cause_name cause }
 {
     match cause {
@@ -127,33 +130,70 @@ fn cause_name(cause: Unserved) -> &'static str
     }
 }
 
-// An answer without rows.
-fn unserved_json(alloc: Global, question: &Question, cause: Unserved) -> Result<Json, AllocError>
-    ensures { IfOk result (λ json. view json ≡ unserved_data question.now cause) }
+// The members of an answer without rows.
+fn unserved_members(
+    alloc: Global,
+    question: &Question,
+    cause: Unserved,
+) -> Result<Map<String, Json>, AllocError>
+    ensures { IfOk result (λ members. members_view members.entries ≡ unserved_members question.now cause) }
 {
     let constants = Json::from(values_json(alloc, question.constants())?);
-    json!(in alloc; {
-        "constants": constants,
-        "query": question.query().name(),
-        "unserved": cause_name(cause),
-    })
+    let name = Json::try_from_str(alloc, question.query().name())?;
+    let cause = Json::try_from_str(alloc, cause_name(cause))?;
+    let mut members = Map::new(alloc);
+    put(&mut members, alloc, "constants", constants)?;
+    put(&mut members, alloc, "query", name)?;
+    put(&mut members, alloc, "unserved", cause)?;
+    Ok(members)
 }
 
-fn answer_json(alloc: Global, answer: &Answer) -> Result<Json, AllocError>
-    ensures { IfOk result (λ json. view json ≡ answer_data answer.now) }
+fn answer_members(alloc: Global, answer: &Answer) -> Result<Map<String, Json>, AllocError>
+    ensures { IfOk result (λ members. members_view members.entries ≡ answer_members answer.now) }
 {
     match answer {
-        Answer::Rows { query, at, rows } => served_json(alloc, query, *at, rows.as_slice()),
-        Answer::Unserved { query, cause } => unserved_json(alloc, query, *cause),
+        Answer::Rows { question, at, rows } => rows_members(alloc, question, *at, rows.as_slice()),
+        Answer::Unserved { question, cause } => unserved_members(alloc, question, *cause),
     }
+}
+
+// An object, and the end of its line.
+fn object_line(alloc: Global, members: Map<String, Json>) -> Result<Vec<u8>, AllocError>
+    requires { members_have_float (members_view members.entries) ≡ false }
+    ensures { IfOk result (λ text. text.items ≡ object_line (members_view members.entries)) }
+{
+    let json = Json::from(members);
+    let mut text = json.to_vec(alloc)?;
+    text.push(b'\n')?;
+    Ok(text)
 }
 
 /// The line of an answer.
 pub(crate) fn json_text(alloc: Global, answer: &Answer) -> Result<Vec<u8>, AllocError>
     ensures { IfOk result (λ text. text.items ≡ json_text answer.now) }
 {
-    let json = answer_json(alloc, answer)?;
-    let mut text = json.to_vec(alloc)?;
-    text.push(b'\n')?;
-    Ok(text)
+    let members = answer_members(alloc, answer)?;
+    object_line(alloc, members)
+}
+
+// Puts a title among the members.
+fn put_title(alloc: Global, members: &mut Map<String, Json>, title: &Text) -> Result<(), AllocError>
+    ensures { OnOk result (members_view members.new.entries
+        ≡ with_member (codes "title") (text_data title.now) (members_view members.old.entries)) }
+{
+    let title = Json::try_from_str(alloc, title.as_str())?;
+    put(members, alloc, "title", title)
+}
+
+/// The line of an answer that has a title.
+pub(crate) fn titled_json(
+    alloc: Global,
+    title: &Text,
+    answer: &Answer,
+) -> Result<Vec<u8>, AllocError>
+    ensures { IfOk result (λ text. text.items ≡ titled_json title.now answer.now) }
+{
+    let mut members = answer_members(alloc, answer)?;
+    put_title(alloc, &mut members, title)?;
+    object_line(alloc, members)
 }

@@ -1,9 +1,10 @@
-//! Answers in formats that people, and other programs, read: tables, bars, CSV, JSON, Markdown.
+//! Answers in formats that people, and other programs, read: tables, bars, CSV, JSON, Markdown, HTML.
 //!
-//! The one contract, of [`write_formatted`]: what is written is the text of the answers in the format, byte by byte;
-//! where a write fails or memory runs out, a part of it from its beginning. The definitions stand in `specs/`: `Cells`
-//! (the heads and the cells of a row), `Alignment` (cells below one another), `TableText`, `BarsText`, `CsvText`,
-//! `JsonText`, `MarkdownText`, and `Formats`, which has them all.
+//! The contract of [`write_formatted`]: what is written is the text of the answers in the format, byte by byte; where a
+//! write fails or memory runs out, a part of it from its beginning. [`write_board`] promises the same of answers that
+//! stand under titles. The definitions stand in `specs/`: `Cells` (the heads and the cells of a row), `Alignment`
+//! (cells below one another), `TableText`, `BarsText`, `CsvText`, `JsonText`, `MarkdownText`, `HtmlText`; `Formats`,
+//! which has them all; and `Titled`.
 //!
 //! ```text
 //! write_formatted(alloc, &mut output, Format::Csv, answers)?;             // D_YEAR,C_NATION,LO_REVENUE-LO_SUPPLYCOST
@@ -18,10 +19,14 @@ mod cells;
 mod csv_text;
 mod fault;
 mod format;
+mod html_text;
 mod json_text;
 mod markdown_text;
+mod markup;
 mod table_text;
 mod title;
+mod titled;
 
 pub use fault::FormatFault;
 pub use format::{Format, write_formatted};
+pub use titled::write_board;

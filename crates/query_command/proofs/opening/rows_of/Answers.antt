@@ -8,4 +8,4 @@ pub returns : goal.returns
 returns g c = λ history stands.
     let P : Prepared → Type 0 = λ p. StandsFor (columns_state p.columns) history
     → IfOk c.scan-rows.result (λ rows. rows.items ≡ answers_after p.columns.base history p.questions) in
-    subst P c.in_ok-batch.ensures (c.scan-rows.ensures history) stands
+    subst P c.in_ok-batch.ensures.prepared (c.scan-rows.ensures.answers history) stands

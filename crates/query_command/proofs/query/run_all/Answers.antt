@@ -1,16 +1,7 @@
-use Rattle.std.proofs.Common.{◌≡◌, ◌∙◌, ◌≤◌, List, length, inl, inr, subst, sym, rules}
+use Rattle.std.proofs.Common.{◌≡◌, ◌∙◌, inl, inr, subst}
 use Rattle.query_command.specs.Asked.{standard_questions}
 use Rattle.query_command.specs.Reported.{HaveReport}
-use Rattle.query_command.proofs.AskedLaws.{few_standard}
-use Rattle.ssb_questions.specs.declared.query.Query.{Query}
-use Rattle.ssb_questions.specs.declared.value.Value.{Value}
 use Rattle.query_command.proofs.query.run_all.Goals as goal
-
-pub run-requires : goal.run-requires
-run-requires g c =
-    let same : c.as_slice.result.now ≡ standard_questions = c.as_slice.ensures.value ∙ c.in-Ok.ensures in
-    let P : List (Query × List Value) → Type 0 = λ questions. length questions ≤ 16 in
-    (search rules, subst P (sym same) few_standard)
 
 pub returns-clause-report : goal.returns-clause-report
 returns-clause-report g c = λ status texts are.

@@ -1,0 +1,171 @@
+-- What is known of a board while it is read.
+use Rattle.std.proofs.Common.{◌≡◌, ◌∙◌, ◌⊎◌, ◌≤◌, ◌<◌, ◌+◌, ◌++◌, ◌∷◌, ℕ, [], List, Option, Some, length, map, drop}
+use Rattle.std.proofs.Common.{append_assoc, append-nil, Bor, true, false, refl, sym, ap, arith, subst, inl}
+use Rattle.std.proofs.lemmas.List.{length_push, length-drop, map-append, drop_more, nil_from_length}
+use Rattle.csv.specs.declared.reader.Reader.{Reader}
+use Rattle.query_command.specs.Asked.{AskNothing}
+use Rattle.query_command.specs.Board.{AreLines, IsBoard, IsBoardFault, IsLine, IsLineFault, IsQuestionFault, IsRefusal}
+use Rattle.query_command.specs.Board.{fault_of_read, most_reports, words_of}
+use Rattle.query_command.specs.declared.board.BoardFault.{BoardFault}
+use Rattle.query_command.specs.declared.board.BoardFault.TheVariants as board
+use Rattle.query_command.specs.declared.board.BoardLineFault.{BoardLineFault}
+use Rattle.query_command.specs.declared.board.BoardLineFault.TheVariants as line
+use Rattle.ssb_questions.specs.declared.query.Query.{Query}
+use Rattle.ssb_questions.specs.declared.value.Value.{Value}
+use Rattle.ssb_text.specs.Records.{GivesNext, HasGiven, HasRecords}
+use Rattle.ssb_text.specs.Spelling.{field, without_spaces}
+use Rattle.ssb_text.specs.declared.records.ReadError.{ReadError}
+use Rattle.ssb_text.specs.declared.records.ReadError.TheVariants as read
+
+-- a line more
+pub lines_more : (records : List (List (List ℕ))) (titles : List (List ℕ)) (questions : List (Query × List Value))
+    (fields : List (List ℕ)) (title : List ℕ) (question : Query × List Value) → AreLines records titles questions
+    → IsLine fields title question
+    → AreLines (records ++ fields ∷ []) (titles ++ title ∷ []) (questions ++ question ∷ [])
+lines_more [] [] [] fields title question so_far one = (one, tt)
+lines_more [] [] (q ∷ qs) fields title question so_far one = absurd so_far
+lines_more [] (t ∷ ts) [] fields title question so_far one = absurd so_far
+lines_more [] (t ∷ ts) (q ∷ qs) fields title question so_far one = absurd so_far
+lines_more (r ∷ rs) [] [] fields title question so_far one = absurd so_far
+lines_more (r ∷ rs) [] (q ∷ qs) fields title question so_far one = absurd so_far
+lines_more (r ∷ rs) (t ∷ ts) [] fields title question so_far one = absurd so_far
+lines_more (r ∷ rs) (t ∷ ts) (q ∷ qs) fields title question so_far one =
+    (so_far.0, lines_more rs ts qs fields title question so_far.1 one)
+
+-- so many records that a reader has given of a text have these titles and questions
+pub record HasRead {R : Type 0} (remaining : R → Option (List ℕ)) (text : List ℕ) (reader : Reader R) (count : ℕ)
+    (titles : List (List ℕ)) (questions : List (Query × List Value)) : Type 0 where
+  pub records : List (List (List ℕ))
+  pub given : HasGiven remaining text reader records
+  pub many : length records ≡ count
+  pub lines : AreLines records titles questions
+
+-- the same, of whatever text is known
+abbrev pub HasReadKnown : {R : Type 0} → (R → Option (List ℕ)) → Option (List ℕ) → Reader R → ℕ → List (List ℕ)
+    → List (Query × List Value) → Type 0
+HasReadKnown remaining known reader count titles questions =
+    (text : List ℕ) → known ≡ Some text → HasRead remaining text reader count titles questions
+
+-- at the start nothing was read
+pub read_nothing : {R : Type 0} (remaining : R → Option (List ℕ)) (text : List ℕ) (reader : Reader R)
+    → HasGiven remaining text reader [] → HasRead remaining text reader 0 [] []
+read_nothing remaining text reader given = record { records = []; given = given; many = refl; lines = tt }
+
+-- one record more
+pub read_more : {R : Type 0} (remaining : R → Option (List ℕ)) (text : List ℕ) (old new : Reader R) (count : ℕ)
+    (titles : List (List ℕ)) (questions : List (Query × List Value)) (fields : List (List ℕ)) (title : List ℕ)
+    (question : Query × List Value)
+    → HasRead remaining text old count titles questions → GivesNext remaining old new true fields
+    → IsLine fields title question
+    → HasRead remaining text new (count + 1) (titles ++ title ∷ []) (questions ++ question ∷ [])
+read_more remaining text old new count titles questions fields title question so_far next one = record {
+  records = so_far.records ++ fields ∷ [];
+  given = next text so_far.records so_far.given;
+  many = length_push so_far.records fields ∙ ap (λ n. n + 1) so_far.many;
+  lines = lines_more so_far.records titles questions fields title question so_far.lines one;
+}
+
+-- there was no more record
+pub read_all : {R : Type 0} (remaining : R → Option (List ℕ)) (text : List ℕ) (old new : Reader R) (count : ℕ)
+    (titles : List (List ℕ)) (questions : List (Query × List Value)) (fields : List (List ℕ))
+    → HasRead remaining text old count titles questions → GivesNext remaining old new false fields
+    → 1 ≤ count → count ≤ most_reports
+    → IsBoard text titles questions
+read_all remaining text old new count titles questions fields so_far next some few = record {
+  records = so_far.records;
+  all = next text so_far.records so_far.given;
+  lines = so_far.lines;
+  some = rw so_far.many some;
+  few = rw so_far.many few;
+}
+
+no_records : (records : List (List (List ℕ))) → length records ≡ 0 → records ≡ []
+no_records [] none = refl
+no_records (fields ∷ records) none = absurd (omega (arith, none))
+
+-- there was no record at all
+pub read_none : {R : Type 0} (remaining : R → Option (List ℕ)) (text : List ℕ) (old new : Reader R) (count : ℕ)
+    (titles : List (List ℕ)) (questions : List (Query × List Value)) (fields : List (List ℕ))
+    → HasRead remaining text old count titles questions → GivesNext remaining old new false fields
+    → count ≡ 0
+    → HasRecords text []
+read_none remaining text old new count titles questions fields so_far next none =
+    subst (HasRecords text)
+    (no_records so_far.records (so_far.many ∙ none))
+    (next text so_far.records so_far.given)
+
+-- a record that is no line, or one too many
+pub first_bad : {R : Type 0} (remaining : R → Option (List ℕ)) (text : List ℕ) (old new : Reader R) (count : ℕ)
+    (titles : List (List ℕ)) (questions : List (Query × List Value)) (fields : List (List ℕ)) (why : BoardLineFault)
+    → HasRead remaining text old count titles questions → GivesNext remaining old new true fields
+    → IsLineFault fields why ⊎ ((why ≡ line.TooManyReports) × (count ≡ most_reports))
+    → IsBoardFault text (board.Line (count + 1) why)
+first_bad remaining text old new count titles questions fields why so_far next fault =
+    let given = next text so_far.records so_far.given in
+    record {
+      before = so_far.records;
+      fields = fields;
+      begins = (_, given.unread, given.reached);
+      titles = titles;
+      questions = questions;
+      lines = so_far.lines;
+      number_is = ap (λ n. n + 1) (sym so_far.many);
+      fault = rw so_far.many fault;
+    }
+
+-- the fault of the question on a line is one of the line
+pub question_refused : (fields : List (List ℕ)) (name : List ℕ) (words : List (List ℕ)) (number : ℕ)
+    (fault : BoardFault) → name ≡ field fields 1 → words ≡ words_of fields
+    → IsRefusal (IsQuestionFault name words) number fault → IsRefusal (IsLineFault fields) number fault
+question_refused fields name words number (board.Line n (line.NoSuchQuery why)) named given refused =
+    (refused.0, subst (λ w. AskNothing (field fields 1) w) given (subst (λ m. AskNothing m words) named refused.1))
+question_refused fields name words number (board.Line n (line.Constants why)) named given refused =
+    (refused.0, subst (λ w. AskNothing (field fields 1) w) given (subst (λ m. AskNothing m words) named refused.1))
+question_refused fields name words number (board.Line n line.NoTitle) named given refused = absurd refused.1
+question_refused fields name words number (board.Line n line.NotUtf8) named given refused = absurd refused.1
+question_refused fields name words number (board.Line n line.TooManyReports) named given refused = absurd refused.1
+question_refused fields name words number (board.NoReports why) named given refused = absurd refused
+question_refused fields name words number board.Read named given refused = absurd refused
+question_refused fields name words number board.OutOfMemory named given refused = tt
+
+-- a word more
+pub words_more : (fields : List (List ℕ)) (place : ℕ) (old new : List (Bor (List ℕ))) (word : Bor (List ℕ))
+    (all : List (List ℕ)) → place < length fields → new ≡ old ++ word ∷ [] → word.now ≡ field fields place
+    → map (λ (w : Bor (List ℕ)). w.now) old ++ map without_spaces (drop place fields) ≡ all
+    → map (λ (w : Bor (List ℕ)). w.now) new ++ map without_spaces (drop (place + 1) fields) ≡ all
+words_more fields place old new word all within pushed is so_far =
+    let now : Bor (List ℕ) → List ℕ = λ w. w.now in
+    let rest : List (List ℕ) = map without_spaces (drop (place + 1) fields) in
+    ap (λ ws. map now ws ++ rest) pushed
+    ∙ ap (λ ws. ws ++ rest) (map-append now old (word ∷ []))
+    ∙ append_assoc (map now old) (word.now ∷ []) rest
+    ∙ ap (λ w. map now old ++ w ∷ rest) is
+    ∙ ap (λ ws. map now old ++ map without_spaces ws) (sym (drop_more fields place [] within))
+    ∙ so_far
+
+-- no word is left
+pub words_all : (fields : List (List ℕ)) (place : ℕ) (words all : List (List ℕ)) → length fields ≤ place
+    → words ++ map without_spaces (drop place fields) ≡ all → words ≡ all
+words_all fields place words all past so_far =
+    sym (append-nil words)
+    ∙ ap (λ ws. words ++ map without_spaces ws)
+    (sym (nil_from_length (drop place fields) (length-drop place fields ∙ omega (arith, past))))
+    ∙ so_far
+
+-- the fault of the line of the next record
+pub refused_line : {R : Type 0} (remaining : R → Option (List ℕ)) (text : List ℕ) (old new : Reader R) (count : ℕ)
+    (titles : List (List ℕ)) (questions : List (Query × List Value)) (fields : List (List ℕ)) (fault : BoardFault)
+    → HasRead remaining text old count titles questions → GivesNext remaining old new true fields
+    → IsRefusal (IsLineFault fields) (count + 1) fault
+    → IsBoardFault text fault
+refused_line remaining text old new count titles questions fields (board.Line number why) so_far next refused =
+    rw refused.0 (first_bad remaining text old new count titles questions fields why so_far next (inl refused.1))
+refused_line remaining text old new count titles questions fields (board.NoReports why) so_far next refused =
+    absurd refused
+refused_line remaining text old new count titles questions fields board.Read so_far next refused = absurd refused
+refused_line remaining text old new count titles questions fields board.OutOfMemory so_far next refused = tt
+
+-- what an error of the reader tells
+pub read_fault : (text : List ℕ) (why : ReadError) → IsBoardFault text (fault_of_read why)
+read_fault text read.Read = tt
+read_fault text read.OutOfMemory = tt

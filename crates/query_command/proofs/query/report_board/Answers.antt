@@ -1,0 +1,46 @@
+use Rattle.std.proofs.Common.{◌≡◌, Err, inr, rules}
+use Rattle.query_command.specs.Reported.{HasReports}
+use Rattle.ssb_formats.specs.Titled.{board_shown}
+use Rattle.query_command.proofs.ReportLaws.{reports_of_answers}
+use Rattle.ssb_files.proofs.ResultLaws.{on_ok_from, on_err_from, is_no_refusal, is_no_word}
+use Rattle.query_command.proofs.query.report_board.Goals as goal
+
+pub returns-clause-report : goal.returns-clause-report
+returns-clause-report g c =
+    on_ok_from c.write_titled.result _ _ _ c.write_titled.ensures.written (λ written texts are.
+    let format = c.args.settings.format in
+    let board = c.args.board.now in
+    let shown = board_shown format c.as_slice-titles.result.now c.as_slice.result.now in
+    let has : HasReports format texts board.titles.items board.questions.items shown
+    = rw (c.as_slice-titles.ensures.value, c.as_slice.ensures.value)
+    (reports_of_answers format texts board.titles.items board.questions.items c.in_ok-answers.answers.items
+    (rw c.as_slice-questions.ensures.value at c.in_ok-answers.ensures.answers texts are)) in
+    (shown, has, written))
+
+pub returns-clause-fault : goal.returns-clause-fault
+returns-clause-fault g c =
+    on_err_from c.write_titled.result _ _ _ c.write_titled.ensures.written (λ written. inr (λ texts are.
+    let format = c.args.settings.format in
+    let board = c.args.board.now in
+    let shown = board_shown format c.as_slice-titles.result.now c.as_slice.result.now in
+    let has : HasReports format texts board.titles.items board.questions.items shown
+    = rw (c.as_slice-titles.ensures.value, c.as_slice.ensures.value)
+    (reports_of_answers format texts board.titles.items board.questions.items c.in_ok-answers.answers.items
+    (rw c.as_slice-questions.ensures.value at c.in_ok-answers.ensures.answers texts are)) in
+    (shown, has, written)))
+
+pub returns-clause-data : goal.returns-clause-data
+returns-clause-data g c = is_no_refusal c.write_titled.result _ c.write_titled.ensures.fault
+
+pub returns-clause-later : goal.returns-clause-later
+returns-clause-later g c = is_no_word c.write_titled.result c.write_titled.ensures.fault
+
+pub returns-in_err-answers-clause-data : goal.returns-in_err-answers-clause-data
+returns-in_err-answers-clause-data g c =
+    let is : c.from_residual.result ≡ Err c.in_err-answers.field-0.0 = search rules in
+    rw is c.in_err-answers.ensures.data
+
+pub returns-in_err-answers-clause-later : goal.returns-in_err-answers-clause-later
+returns-in_err-answers-clause-later g c =
+    let is : c.from_residual.result ≡ Err c.in_err-answers.field-0.0 = search rules in
+    rw is c.in_err-answers.ensures.later
