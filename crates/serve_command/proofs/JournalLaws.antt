@@ -1,5 +1,6 @@
 -- Of a journal's file: the commits that it keeps, why it is refused, and that what was told is on its disk.
-use Rattle.std.proofs.Common.{◌≡◌, ◌≤◌, ◌⊎◌, ℕ, List, [], ◌∷◌, Bool, Option, None, Some, Result, Ok, Err, inl, inr, ap, arith, sym, ◌∙◌}
+use Rattle.std.proofs.Common.{◌≡◌, ◌≤◌, ◌⊎◌, ℕ, List, [], ◌∷◌, Bool, Option, None, Some, Result, Ok, Err, inl, inr, ap}
+use Rattle.std.proofs.Common.{arith, sym, ◌∙◌}
 use Rattle.std.proofs.Common.{false, refl, subst, true}
 use Rattle.std.specs.Prelude.{◌≢◌, All, IfErr, IfSome, IsSome, IsTrue, MatchOption, is_some, slice_get}
 use Rattle.std.specs.Option.{option_map}
@@ -10,13 +11,13 @@ use Rattle.journal_opening.specs.Status.{kept_status}
 use Rattle.row_store.specs.History.{CommitRecord}
 use Rattle.serve_command.specs.JournaledRun.{IsJournaledFault}
 use Rattle.serve_command.specs.Journals.{AreOnDisk, AreRefused, GoesOn, GoesOnFrom, IsRefusedFile, Journal, RefusesFile}
-use Rattle.serve_command.specs.Standing.{MayNotStand}
 use Rattle.serve_command.specs.Status.{journaled_status}
 use Rattle.serve_command.specs.declared.runs.KeptLog.{KeptLog}
 use Rattle.serve_command.specs.declared.unserved.JournaledFault.{JournaledFault}
 use Rattle.serve_command.specs.declared.unserved.JournaledFault.TheVariants as journaled
 use Rattle.ssb_base.specs.Base.{Tables}
 use Rattle.ssb_files.specs.Loaded.{AreRefusedToServe, IsLoadedToServe}
+use Rattle.ssb_files.specs.Standing.{MayNotStandToServe}
 use Rattle.ssb_journal.specs.Counts.{IsLeft}
 use Rattle.ssb_journal.specs.Opening.{IsKept, TellsOpenFault}
 use Rattle.ssb_journal.specs.declared.fault.JournalFault.{JournalFault}
@@ -65,7 +66,7 @@ refused_replay base sizes file commits dispatchers journaled.OutOfMemory has is 
 
 -- what speaks against a base is refused with a journal, and without one
 pub refused_base : (texts : Table → List ℕ) (standing : List (Query × List Value)) (server : Journal) (Taken : Type 0)
-    → AreRefusedToServe texts ⊎ MayNotStand texts standing → AreRefused texts standing server Taken
+    → AreRefusedToServe texts ⊎ MayNotStandToServe texts standing → AreRefused texts standing server Taken
 refused_base texts standing None Taken is = is
 refused_base texts standing (Some known) Taken (inl refused) = inl refused
 refused_base texts standing (Some known) Taken (inr many) = inr (inl many)

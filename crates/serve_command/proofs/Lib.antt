@@ -3,7 +3,6 @@ mod ReadingLaws
 mod SeatLaws
 mod RemakingLaws
 mod RunLaws
-mod StandingLaws
 mod StatusLaws
 mod SessionLaws
 mod JournalLaws

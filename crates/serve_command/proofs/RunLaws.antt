@@ -17,17 +17,8 @@ use Rattle.ssb_serving.proofs.MemberLaws.{ready_where, still_push}
 use Rattle.ssb_serving.specs.Members.{AreStill, IsReady, IsStill}
 use Rattle.stream_sessions.specs.OneRequest.{AreAlike}
 use Rattle.ssb_serving.specs.Streams.{AreSpoken, IsClosedWith}
-use Rattle.serve_command.proofs.SeatLaws.{
-  AreStanding,
-  alike_stand,
-  get_front,
-  new_are_seated,
-  same_behind,
-  seated_stand,
-  standing_numbers,
-  standing_quiet,
-  zip_of_places,
-}
+use Rattle.serve_command.proofs.SeatLaws.{AreStanding, alike_stand, get_front, new_are_seated, same_behind}
+use Rattle.serve_command.proofs.SeatLaws.{seated_stand, standing_numbers, standing_quiet, zip_of_places}
 use Rattle.serve_command.specs.Reading.{IsLater}
 use Rattle.serve_command.specs.Seated.{AllHaveSeen, AreSeated}
 use Rattle.serve_command.specs.JournaledRun.{HasRested, IsJournaledRun, IsServedAfter}

@@ -1,5 +1,6 @@
 -- What the run of a server says of its only client, and of all clients.
-use Rattle.std.proofs.Common.{◌≡◌, ◌∙◌, ◌<◌, ◌⊎◌, ℕ, ◌+◌, List, [], ◌∷◌, ◌++◌, length, Option, None, Some, Result, Ok, Err}
+use Rattle.std.proofs.Common.{◌≡◌, ◌∙◌, ◌<◌, ◌⊎◌, ℕ, ◌+◌, List, [], ◌∷◌, ◌++◌, length, Option, None, Some, Result, Ok}
+use Rattle.std.proofs.Common.{Err}
 use Rattle.std.proofs.Common.{Bool, ap, arith, length-append, refl, subst, sym}
 use Rattle.std.specs.Prelude.{◌≢◌, All, IfOk, IsErr, IsOk, IsSome, IsTrue, slice_get}
 use Rattle.std.specs.List.{AllPass, list_all}

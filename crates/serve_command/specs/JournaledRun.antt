@@ -11,7 +11,7 @@ use Rattle.row_store.specs.Legal.{IsLegal}
 use Rattle.ssb_base.specs.Base.{Tables}
 use Rattle.ssb_journal.specs.Counts.{Begun, KeepsBeginning, KeepsSince}
 use Rattle.ssb_journal.specs.Replays.{IsReplayFault}
-use Rattle.ssb_clients.specs.Counts.{most_clients}
+use Rattle.history_core.specs.Counts.{most_clients}
 use Rattle.ssb_serving.specs.Members.{AreStill}
 use Rattle.ssb_serving.specs.RunFaults.{IsRunFault}
 use Rattle.ssb_serving.specs.Streams.{IsSpoken}

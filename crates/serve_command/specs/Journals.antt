@@ -9,9 +9,9 @@ use Rattle.journal_opening.specs.Sizes.{AreSizes}
 use Rattle.row_store.specs.History.{CommitRecord}
 use Rattle.row_store.specs.declared.refusal.Cause.{Cause}
 use Rattle.serve_command.specs.JournaledRun.{IsJournaledRun}
-use Rattle.serve_command.specs.Standing.{MayNotStand}
 use Rattle.ssb_base.specs.Base.{Tables}
 use Rattle.ssb_files.specs.Loaded.{AreRefusedToServe, IsLoadedToServe}
+use Rattle.ssb_files.specs.Standing.{MayNotStandToServe}
 use Rattle.ssb_journal.specs.Counts.{KeepsBeginning}
 use Rattle.ssb_journal.specs.Opening.{IsOpenFault}
 use Rattle.ssb_journal.specs.Replays.{IsFirstRefused}
@@ -20,7 +20,7 @@ use Rattle.ssb_journal.specs.declared.head.TableSize.{TableSize}
 use Rattle.ssb_questions.specs.declared.query.Query.{Query}
 use Rattle.ssb_questions.specs.declared.value.Value.{Value}
 use Rattle.ssb_schema.specs.declared.table.Table.{Table}
-use Rattle.ssb_clients.specs.Counts.{most_clients}
+use Rattle.history_core.specs.Counts.{most_clients}
 
 -- a server's journal: there is none, or its file is the known one, where one is known
 abbrev pub Journal : Type 0
@@ -113,6 +113,6 @@ pub record RefusesJournal (texts : Table → List ℕ) (known : Option (List ℕ
 -- what is refused: the five texts; one of the questions that are to stand; where there is a journal, its file, which
 -- another has, or what it holds
 abbrev pub AreRefused : (Table → List ℕ) → List (Query × List Value) → Journal → Type 0 → Type 0
-AreRefused texts standing None Taken = AreRefusedToServe texts ⊎ MayNotStand texts standing
+AreRefused texts standing None Taken = AreRefusedToServe texts ⊎ MayNotStandToServe texts standing
 AreRefused texts standing (Some known) Taken =
-    AreRefusedToServe texts ⊎ (MayNotStand texts standing ⊎ (Taken ⊎ RefusesJournal texts known))
+    AreRefusedToServe texts ⊎ (MayNotStandToServe texts standing ⊎ (Taken ⊎ RefusesJournal texts known))

@@ -1,4 +1,3 @@
-pub mod Standing
 pub mod Status
 pub mod Reading
 pub mod Seated

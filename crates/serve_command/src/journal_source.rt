@@ -6,7 +6,7 @@ ghost use Rattle.journal_opening.specs.Kept.{IsKnown};
 ghost use Rattle.serve_command.specs.Journals.{GoesOn, IsRefusedFile};
 ghost use Rattle.serve_command.specs.Status.{refusal_status, serving_status};
 ghost use Rattle.ssb_journal.specs.Counts.{IsLeft};
-ghost use Rattle.ssb_clients.specs.Counts.{most_clients};
+ghost use Rattle.history_core.specs.Counts.{most_clients};
 
 use crate::acknowledging::Durable;
 use crate::fault::{ServeFault, ServeRefusal};

@@ -8,7 +8,7 @@ ghost use Rattle.journal.specs.Disk.{LeavesOnly};
 ghost use Rattle.ssb_journal.specs.Counts.{IsLeft, KeepsFirst, KeepsSince};
 ghost use Rattle.ssb_journal.specs.Kept.{IsAsItWasOrNew};
 ghost use Rattle.ssb_journal.specs.Opening.{IsKept};
-ghost use Rattle.ssb_clients.specs.Counts.{most_clients};
+ghost use Rattle.history_core.specs.Counts.{most_clients};
 ghost use Rattle.std.specs.Option.{is_some};
 ghost use Rattle.ssb_clients.specs.Tickets.{IsOf, IsQuiet, with_reader};
 ghost use Rattle.ssb_serving.specs.Members.{AreStill, IsReady, IsStill};
@@ -22,7 +22,7 @@ ghost use Rattle.serve_command.specs.declared.unserved.JournaledFault.TheVariant
 use crate::acknowledging::{Durable, JournalAcknowledger};
 use crate::remaking::{remake, show_all};
 use crate::server_log::{JournalLeft, LogStart, ServerLog, left_of};
-use crate::unserved::{JournaledFault, Unserved};
+use crate::unserved::{JournaledFault, UnservedSessions};
 use journal::{Disk, Journal, KeepsTorn};
 use row_store::{Commit, Log};
 use ssb_journal::laws::{begun_journal_keeps, first_of_log};
@@ -30,7 +30,7 @@ use ssb_journal::{JournaledLog, KeptCommits, OpenedJournal, SharedJournal, Table
 use ssb_server::{
     Client, Closed, Dispatcher, Keeps, Loaded, LogReader, MOST_CLIENTS, Opened, Server, open,
 };
-use ssb_serving::{Batches, Ended, RunFault, Spoken, serve_opened};
+use ssb_serving::{Batches, EndedThreads, RunFault, Spoken, serve_opened};
 use std::alloc::{AllocError, Global};
 use std::marker::Brand;
 use std::sync::Wait;
@@ -104,7 +104,7 @@ fn begin_again<D, T, W, R>(
     clients: &mut [Client<W>],
     reader: LogReader<W>,
     recovered: Recovered<'_, D, T>,
-) -> Result<BegunJournal<D, W>, Unserved<D>>
+) -> Result<BegunJournal<D, W>, UnservedSessions<D>>
 where
     D: Disk + Drop,
     T: KeepsTorn,
@@ -141,10 +141,10 @@ where
     let KeptCommits { commits, is_new } = kept;
     match remake_all(rt, server, clients, &mut reader, &commits) {
         Ok(()) => {},
-        Err(fault) => return Err(Unserved::new(fault, found.into_disk())),
+        Err(fault) => return Err(UnservedSessions::new(fault, found.into_disk())),
     }
     let Ok(torn) = keeper.keep_torn(torn) else {
-        return Err(Unserved::new(JournaledFault::Write, found.into_disk()));
+        return Err(UnservedSessions::new(JournaledFault::Write, found.into_disk()));
     };
     begun_journal_keeps();
     first_of_log();
@@ -154,7 +154,7 @@ where
             reader,
             count: commits.len() as u64,
         }),
-        Err((_, disk)) => Err(Unserved::new(JournaledFault::Write, disk)),
+        Err((_, disk)) => Err(UnservedSessions::new(JournaledFault::Write, disk)),
     }
 }
 
@@ -187,7 +187,7 @@ fn run_sessions<D, W, R, S, K>(
     server: &Server<W>,
     participants: Participants<W, S>,
     begun: BegunJournal<D, W>,
-) -> Result<(Ended<W, Spoken<W, S::Left>>, JournalLeft<D, W>), Unserved<D>>
+) -> Result<(EndedThreads<W, Spoken<W, S::Left>>, JournalLeft<D, W>), UnservedSessions<D>>
 where
     D: Disk + Drop + Send,
     W: Wait + Drop + Send,
@@ -240,11 +240,11 @@ where
     let ended = serve_opened(&service, clients, dispatchers, speakers);
     let JournalAcknowledger { journal, failed: _ } = journaled;
     let Some(left) = left_of(journal) else {
-        return Err(Unserved::lost());
+        return Err(UnservedSessions::lost());
     };
     match ended {
         Ok(ended) => Ok((ended, left)),
-        Err(_) => Err(Unserved::new(JournaledFault::OutOfMemory, left.disk)),
+        Err(_) => Err(UnservedSessions::new(JournaledFault::OutOfMemory, left.disk)),
     }
 }
 
@@ -274,10 +274,10 @@ fn log_of<W: Wait + Drop>(
 fn close_run<D: Disk + Drop, W: Wait + Drop, L: Drop>(
     alloc: Global,
     server: Server<W>,
-    ended: Ended<W, Spoken<W, L>>,
+    ended: EndedThreads<W, Spoken<W, L>>,
     resting: Vec<Client<W>>,
     left_journal: JournalLeft<D, W>,
-) -> Result<JournaledRun<D, L>, Unserved<D>>
+) -> Result<JournaledRun<D, L>, UnservedSessions<D>>
     requires { IsReady server (map (λ one. one.client) ended.spoken.items ++ resting.items)
         (ended.dispatchers.items ++ left_journal.reader ∷ []) }
     ensures left { IfOk result (λ run. run.left.items ≡ map (λ one. one.left) ended.spoken.items) }
@@ -288,7 +288,7 @@ fn close_run<D: Disk + Drop, W: Wait + Drop, L: Drop>(
     ensures handed { IfErr result (λ unserved. unserved
         ≡ record { fault = OutOfMemory; disk = Some left_journal.disk }) }
 {
-    let Ended {
+    let EndedThreads {
         spoken,
         dispatchers,
         batches,
@@ -308,7 +308,7 @@ fn close_run<D: Disk + Drop, W: Wait + Drop, L: Drop>(
             was_written: is_whole,
             batches,
         }),
-        Err(_) => Err(Unserved::new(JournaledFault::OutOfMemory, disk)),
+        Err(_) => Err(UnservedSessions::new(JournaledFault::OutOfMemory, disk)),
     }
 }
 
@@ -365,7 +365,7 @@ fn run_recovered<D, T, W, R, S>(
     opened: OpenedWithReader<W>,
     speakers: Vec<S>,
     recovered: Recovered<'_, D, T>,
-) -> Result<JournaledRun<D, S::Left>, Unserved<D>>
+) -> Result<JournaledRun<D, S::Left>, UnservedSessions<D>>
 where
     D: Disk + Drop + Send,
     T: KeepsTorn,
@@ -405,7 +405,7 @@ where
     first_of_log();
     let Ok(resting) = clients.split_off(speakers.len()) else {
         let disk = begun.journal.into_disk();
-        return Err(Unserved::new(JournaledFault::OutOfMemory, disk));
+        return Err(UnservedSessions::new(JournaledFault::OutOfMemory, disk));
     };
     let participants = Participants {
         clients,
@@ -414,7 +414,7 @@ where
     };
     let (ended, left) = run_sessions::<D, W, R, S, Brand>(rt, alloc, &server, participants, begun)?;
     if !all_are_kept::<W, S>(&ended.spoken, left.count) {
-        return Err(Unserved::new(JournaledFault::Disturbed, left.disk));
+        return Err(UnservedSessions::new(JournaledFault::Disturbed, left.disk));
     }
     let closed = close_run(alloc, server, ended, resting, left)?;
     Ok(closed)
@@ -433,7 +433,7 @@ pub fn run_journaled<D, T, R, S>(
     speakers: Vec<S>,
     dispatchers: u32,
     recovered: Recovered<'_, D, T>,
-) -> Result<JournaledRun<D, S::Left>, Unserved<D>>
+) -> Result<JournaledRun<D, S::Left>, UnservedSessions<D>>
 where
     D: Disk + Drop + Send,
     T: KeepsTorn,
@@ -468,7 +468,7 @@ where
         Ok(opened) => run_recovered(rt, alloc, with_its_reader(opened), speakers, recovered),
         Err(fault) => {
             let fault = JournaledFault::NotRun(RunFault::from(fault));
-            Err(Unserved::new(fault, recovered.opened.found.into_disk()))
+            Err(UnservedSessions::new(fault, recovered.opened.found.into_disk()))
         },
     }
 }

@@ -3,8 +3,8 @@
 //!
 //! ```text
 //! tables ── base_of ─▶ base ── run_over ─┬─ serve_stream: one client, over a reader and a writer
-//!                                │       └─ serve_clients: 1 to 16, each with a thread that opens its OUT and then its
-//!                                │          IN, again and again where they are kept
+//!                                │       └─ serve_clients: 1 to 16, each with a thread that opens its ends, in whatever
+//!                                │          order the client does, again and again where they are kept
 //!                                ├─ without a journal: from no commits, and told at once
 //!                                └─ behind the commits of a journal's file: told once they are on the disk
 //!
@@ -45,7 +45,6 @@ mod ends;
 mod fault;
 mod journal_source;
 mod journaled_run;
-mod loading;
 mod prompted;
 mod remaking;
 mod runs;

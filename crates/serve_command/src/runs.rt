@@ -7,11 +7,11 @@ ghost use Rattle.serve_command.specs.Journals.{AreRefused, GoesOnFrom, RefusesFi
 ghost use Rattle.serve_command.specs.Served.{IsRunOver};
 ghost use Rattle.serve_command.specs.Status.{serving_status};
 ghost use Rattle.ssb_files.specs.Loaded.{AreRefusedToServe, IsLoadedToServe};
-ghost use Rattle.serve_command.specs.Standing.{MayNotStand};
+ghost use Rattle.ssb_files.specs.Standing.{MayNotStandToServe};
 ghost use Rattle.ssb_files.specs.Status.{status_of};
 ghost use Rattle.ssb_journal.specs.Counts.{IsLeft};
 ghost use Rattle.ssb_schema.specs.declared.table.Table.{Table};
-ghost use Rattle.ssb_clients.specs.Counts.{most_clients};
+ghost use Rattle.history_core.specs.Counts.{most_clients};
 ghost use Rattle.ssb_server.specs.Opening.{AreCounts};
 ghost use Rattle.ssb_text.specs.Load.{AreTexts};
 ghost use Rattle.ssb_serving.specs.Streams.{IsStreamRun};
@@ -20,13 +20,12 @@ use crate::acknowledging::Durable;
 use crate::fault::{ServeFault, ServeRefusal};
 use crate::journal_source::{JournalPlace, JournalSource, open_file, run_source};
 use crate::journaled_run::JournaledRun;
-use crate::loading::load;
 use crate::unserved::JournaledFault;
 use journal::KeepsTorn;
 use journal_opening::{OpensJournal, table_sizes};
 use row_store::Log;
 use ssb_base::Base;
-use ssb_files::{Fault, base_to_serve};
+use ssb_files::{Fault, LoadedFor, base_of};
 use ssb_questions::Question;
 use ssb_server::Loaded;
 use ssb_serving::serve_streams;
@@ -84,12 +83,12 @@ fn load_tables<R: Threads + Sync + AllocGlobal, I: Read + Drop>(
         → IsLoadedToServe texts made.loaded) }
     ensures same { IfOk result (λ made. made.loaded ≡ made.base.value) }
     ensures refused { IfErr result (λ fault. status_of fault ≡ 1 → (texts : Table → List ℕ)
-        → AreTexts I.remaining tables texts → AreRefusedToServe texts ⊎ MayNotStand texts standing.now) }
+        → AreTexts I.remaining tables texts → AreRefusedToServe texts ⊎ MayNotStandToServe texts standing.now) }
     ensures words { IfErr result (λ fault. status_of fault ≢ 2) }
 {
-    let base = base_to_serve(rt, rt.alloc(), tables)?;
+    let base = base_of(rt, rt.alloc(), tables, LoadedFor::Serving)?;
     let base = Arc::new(rt.alloc(), base)?;
-    let loaded = load(rt, hashing, &base, standing)?;
+    let loaded = Loaded::new(rt, rt.alloc(), hashing, &base, standing)?;
     Ok(LoadedTables { base, loaded })
 }
 

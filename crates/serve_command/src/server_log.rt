@@ -4,7 +4,7 @@ ghost use Rattle.std.specs.Prelude.{◌≡◌, ◌≤◌, None, Option, Some, If
 ghost use Rattle.std.specs.Option.{ForSome};
 ghost use Rattle.history.specs.Tokens.{TokenRecord};
 ghost use Rattle.ssb_journal.specs.Counts.{Begun, IsLeft, KeepsSince, nothing_said};
-ghost use Rattle.ssb_clients.specs.Counts.{most_clients};
+ghost use Rattle.history_core.specs.Counts.{most_clients};
 ghost use Rattle.serve_command.specs.Reading.{IsLater};
 
 use journal::Disk;

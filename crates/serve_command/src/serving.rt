@@ -8,7 +8,7 @@ ghost use Rattle.serve_command.specs.Journals.{AreOnDisk, AreRefused};
 ghost use Rattle.serve_command.specs.Served.{EndsAlone, HasEndedAlone, ServesClients};
 ghost use Rattle.serve_command.specs.Status.{serving_status};
 ghost use Rattle.ssb_schema.specs.declared.table.Table.{Table};
-ghost use Rattle.ssb_clients.specs.Counts.{most_clients};
+ghost use Rattle.history_core.specs.Counts.{most_clients};
 ghost use Rattle.ssb_server.specs.Opening.{AreCounts};
 ghost use Rattle.ssb_text.specs.Load.{AreTexts};
 

@@ -47,27 +47,27 @@ impl<T: Drop> From<AllocFailed<T>> for JournaledFault {
 /// Why the sessions were not served, or not to their end, and the journal's disk: none where at the end one had the
 /// journal out, and then it is `Disturbed`.
 #[derive(Drop)]
-pub struct Unserved<D: Drop> {
+pub struct UnservedSessions<D: Drop> {
     pub fault: JournaledFault,
     pub disk: Option<D>,
 }
 
-impl<D: Drop> Unserved<D> {
+impl<D: Drop> UnservedSessions<D> {
     // With the disk.
-    pub(crate) fn new(fault: JournaledFault, disk: D) -> Unserved<D>
+    pub(crate) fn new(fault: JournaledFault, disk: D) -> UnservedSessions<D>
         ensures { result ≡ record { fault = fault; disk = Some disk } }
     {
-        Unserved {
+        UnservedSessions {
             fault,
             disk: Some(disk),
         }
     }
 
     // One has the journal out, and its disk.
-    pub(crate) fn lost() -> Unserved<D>
+    pub(crate) fn lost() -> UnservedSessions<D>
         ensures { result ≡ record { fault = Disturbed; disk = None } }
     {
-        Unserved {
+        UnservedSessions {
             fault: JournaledFault::Disturbed,
             disk: None,
         }

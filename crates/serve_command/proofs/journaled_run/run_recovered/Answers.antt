@@ -7,16 +7,8 @@ use Rattle.row_store.specs.History.{CommitRecord, IsPrefix}
 use Rattle.serve_command.proofs.BeginningLaws.{as_it_was, begun_table, kept_in_beginning, kept_since}
 use Rattle.serve_command.proofs.BeginningLaws.{kept_throughout, opened_dispatchers, opened_reader, unserved_fault}
 use Rattle.serve_command.proofs.SeatLaws.{new_are_seated}
-use Rattle.serve_command.proofs.RunLaws.{
-  journaled_run,
-  later_begins,
-  left_of_log,
-  parted_again,
-  reader_begins,
-  ready_to_close,
-  seated_quiet,
-  told_each,
-}
+use Rattle.serve_command.proofs.RunLaws.{journaled_run, later_begins, left_of_log, parted_again, reader_begins}
+use Rattle.serve_command.proofs.RunLaws.{ready_to_close, seated_quiet, told_each}
 use Rattle.ssb_journal.specs.Kept.{IsAsItWasOrNew}
 use Rattle.serve_command.specs.JournaledRun.{HasKept, IsFoundOrKept}
 use Rattle.serve_command.specs.Reading.{IsLater}

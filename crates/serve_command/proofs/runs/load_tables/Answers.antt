@@ -1,19 +1,20 @@
 use Rattle.std.proofs.Common.{◌≡◌, ◌∙◌, ◌⊎◌, Err, List, arith, inl, inr, refl, rules, subst, sym, ℕ}
+use Rattle.std.proofs.lemmas.Result.{err_from_is_err_and}
 use Rattle.std.specs.Prelude.{◌≢◌}
 use Rattle.ssb_files.specs.Loaded.{AreRefusedToServe, IsLoadedToServe}
 use Rattle.ssb_files.specs.Status.{status_of}
 use Rattle.ssb_files.specs.declared.fault.Fault.TheVariants as common
 use Rattle.ssb_schema.specs.declared.table.Table.{Table}
 use Rattle.ssb_text.specs.Load.{AreTexts}
-use Rattle.serve_command.proofs.StandingLaws.{may_not_stand}
-use Rattle.serve_command.specs.Standing.{MayNotStand}
+use Rattle.ssb_files.proofs.StandingLaws.{may_have_too_many, may_not_stand, standing_no_words}
+use Rattle.ssb_files.specs.Standing.{MayNotStandToServe}
 use Rattle.serve_command.proofs.runs.load_tables.Goals as goal
 
 pub returns-in_err-base-clause-refused : goal.returns-in_err-base-clause-refused
 returns-in_err-base-clause-refused g c =
     let is : c.from_residual.result ≡ Err c.in_err-base.field-0.0 = search rules in
     let here : status_of c.in_err-base.field-0.0 ≡ 1 → (texts : Table → List ℕ)
-    → AreTexts g.I.Read.remaining c.args.tables texts → AreRefusedToServe texts ⊎ MayNotStand texts c.args.standing.now
+    → AreTexts g.I.Read.remaining c.args.tables texts → AreRefusedToServe texts ⊎ MayNotStandToServe texts c.args.standing.now
     = λ status texts are. inl (c.in_err-base.ensures.data status texts are) in
     rw is here
 
@@ -21,19 +22,22 @@ pub returns-in_err-base-2-clause-refused : goal.returns-in_err-base-2-clause-ref
 returns-in_err-base-2-clause-refused g c =
     let is : c.from_residual-in_err-base-2.result ≡ Err common.OutOfMemory = search rules in
     let here : status_of common.OutOfMemory ≡ 1 → (texts : Table → List ℕ)
-    → AreTexts g.I.Read.remaining c.args.tables texts → AreRefusedToServe texts ⊎ MayNotStand texts c.args.standing.now
+    → AreTexts g.I.Read.remaining c.args.tables texts → AreRefusedToServe texts ⊎ MayNotStandToServe texts c.args.standing.now
     = λ status texts are. absurd (omega (arith, status)) in
     rw is here
 
 pub returns-in_err-loaded-clause-refused : goal.returns-in_err-loaded-clause-refused
 returns-in_err-loaded-clause-refused g c =
-    let is : c.from_residual-in_err-loaded.result ≡ Err c.in_err-loaded.field-0.0 = search rules in
+    let p = err_from_is_err_and c.from_residual-in_err-loaded.result c.from_residual-in_err-loaded.ensures.1 in
     let same : c.in_ok-base-2.base.value ≡ c.in_ok-base.base = search rules in
-    let here : status_of c.in_err-loaded.field-0.0 ≡ 1 → (texts : Table → List ℕ)
-    → AreTexts g.I.Read.remaining c.args.tables texts → AreRefusedToServe texts ⊎ MayNotStand texts c.args.standing.now
-    = λ status texts are. inr (may_not_stand texts c.in_ok-base.base c.in_ok-base-2.base.value c.args.standing.now
-    c.args.standing.now same refl (c.in_ok-base.ensures.base texts are) (c.in_err-loaded.ensures.refused status)) in
-    rw is here
+    rw p.1 (λ status texts are. inr (may_not_stand _ texts _ _ _ same (c.in_ok-base.ensures.base texts are)
+    (may_have_too_many _ _ c.in_ok-base-2.base.value c.args.standing.now refl c.in_err-loaded.ensures.too_many
+    (sym p.2 ∙ status))))
+
+pub returns-in_err-loaded-clause-words : goal.returns-in_err-loaded-clause-words
+returns-in_err-loaded-clause-words g c =
+    let p = err_from_is_err_and c.from_residual-in_err-loaded.result c.from_residual-in_err-loaded.ensures.1 in
+    rw p.1 (λ is. standing_no_words _ (sym p.2 ∙ is))
 
 pub returns-clause-base : goal.returns-clause-base
 returns-clause-base g c = λ texts are.

@@ -4,9 +4,9 @@ use Rattle.std.specs.Option.{option_map}
 use Rattle.serve_command.proofs.JournalLaws.{each_refused, refused_base}
 use Rattle.serve_command.proofs.ServedLaws.{each_over_journal, each_over_none}
 use Rattle.serve_command.specs.Journals.{AreRefused}
-use Rattle.serve_command.specs.Standing.{MayNotStand}
 use Rattle.serve_command.specs.Status.{serving_status}
 use Rattle.ssb_files.specs.Loaded.{AreRefusedToServe}
+use Rattle.ssb_files.specs.Standing.{MayNotStandToServe}
 use Rattle.ssb_files.specs.declared.job.JobFault.TheVariants.{Program}
 use Rattle.ssb_schema.specs.declared.table.Table.{Table}
 use Rattle.ssb_text.specs.Load.{AreTexts}
@@ -21,7 +21,7 @@ returns-in_err-tables-clause-refused g c =
     (option_map (λ place. g.P.OpensJournal.holds place.file.now) c.args.place)
     (IfSome c.args.place (λ place. g.P.OpensJournal.is_taken place.file.now))
     = λ status texts are. refused_base texts c.args.settings.standing.items _ _
-    (subst (λ s. AreRefusedToServe texts ⊎ MayNotStand texts s) c.deref.ensures.value
+    (subst (λ s. AreRefusedToServe texts ⊎ MayNotStandToServe texts s) c.deref.ensures.value
     (c.in_err-tables.ensures.refused status texts are)) in
     rw is here
 
