@@ -44,6 +44,21 @@ fn quiet_argument<'a>(alloc: Global) -> Arg<'a> {
     )
 }
 
+// A command that also takes what is told of its work: whether nothing is shown while the data is read, and whether
+// help stands below a fault.
+fn with_telling<'a>(alloc: Global, command: Command<'a>) -> Result<Command<'a>, AllocError> {
+    let hints = flag(
+        alloc,
+        "hints",
+        "Says below a fault what to do about it; without it, this is said at a terminal only",
+    );
+    let no_hints = flag(alloc, "no-hints", "Says nothing below a fault").conflicts_with("hints")?;
+    command
+        .arg(quiet_argument(alloc))?
+        .arg(hints)?
+        .arg(no_hints)
+}
+
 // A word with a path behind it.
 fn path_argument<'a>(alloc: Global, name: &'a str, value_name: &'a str, help: &'a str) -> Arg<'a> {
     Arg::new(alloc, name)
@@ -87,14 +102,28 @@ fn over_tables<'a>(
         .arg(data_argument(alloc))
 }
 
-// The name of a query, which is not given where all are asked.
+// The name of a query, which is not given where all are asked, or those of a board.
 fn name_argument<'a>(alloc: Global) -> Result<Arg<'a>, AllocError> {
     Arg::new(alloc, "name")
         .value_name("NAME")
         .help("The query, for example Q4.1, or star")
         .action(ArgAction::Set)
         .required_unless_present("all")?
-        .conflicts_with("all")
+        .required_unless_present("board")?
+        .conflicts_with("all")?
+        .conflicts_with("board")
+}
+
+// The file of the questions that are asked, each under a title.
+fn board_argument<'a>(alloc: Global) -> Result<Arg<'a>, AllocError> {
+    path_argument(
+        alloc,
+        "board",
+        "FILE",
+        "The questions of FILE in place of one: 1 to 64 lines 'Title|NAME|CONSTANT..', each answer under its title",
+    )
+    .conflicts_with("all")?
+    .conflicts_with("explain")
 }
 
 // The constants of a query.
@@ -112,7 +141,9 @@ fn format_argument<'a>(alloc: Global) -> Arg<'a> {
         .long("format")
         .value_name("FORMAT")
         .help("How the answers are written")
-        .value_parser(ValueParser::Names(&["report", "table", "csv", "json", "markdown", "bars"]))
+        .value_parser(ValueParser::Names(&[
+            "report", "table", "csv", "json", "markdown", "bars", "html",
+        ]))
         .default_value("report")
         .action(ArgAction::Set)
 }
@@ -171,12 +202,13 @@ fn query_command<'a>(alloc: Global) -> Result<Command<'a>, AllocError> {
         .about("Prints the report of one question, or of all, over table files")
         .long_about(QUERY_HELP)
         .arg(data)?;
-    command
+    let command = command
         .arg(flag(
             alloc,
             "all",
             "All thirteen queries with the benchmark's constants, in place of one",
         ))?
+        .arg(board_argument(alloc)?)?
         .arg(format_argument(alloc))?
         .arg(width_argument(alloc))?
         .arg(explain_argument(alloc)?)?
@@ -184,8 +216,8 @@ fn query_command<'a>(alloc: Global) -> Result<Command<'a>, AllocError> {
         .arg(times_argument(
             alloc,
             "Reports on standard error how many seconds each step took",
-        ))?
-        .arg(quiet_argument(alloc))?
+        ))?;
+    with_telling(alloc, command)?
         .arg(name_argument(alloc)?)?
         .arg(constants_argument(alloc))
 }
@@ -208,7 +240,7 @@ fn run_command<'a>(alloc: Global) -> Result<Command<'a>, AllocError> {
         "Serves scripts at once, a client each, and prints their reports",
         RUN_HELP,
     )?;
-    command
+    let command = command
         .arg(dispatchers_argument(alloc))?
         .arg(path_argument(
             alloc,
@@ -221,9 +253,8 @@ fn run_command<'a>(alloc: Global) -> Result<Command<'a>, AllocError> {
             alloc,
             "Reports on standard error how many seconds loading and serving took, how much was served in a second, \
              and how long a refresh and an answer took",
-        ))?
-        .arg(quiet_argument(alloc))?
-        .arg(scripts_argument(alloc))
+        ))?;
+    with_telling(alloc, command)?.arg(scripts_argument(alloc))
 }
 
 // The ends of a client of a live server.
@@ -244,7 +275,7 @@ fn serve_command<'a>(alloc: Global) -> Result<Command<'a>, AllocError> {
         "Serves clients as their requests come: standard input and output, or named pipes",
         SERVE_HELP,
     )?;
-    command
+    let command = command
         .arg(dispatchers_argument(alloc))?
         .arg(clients_argument(alloc))?
         .arg(flag(
@@ -258,8 +289,8 @@ fn serve_command<'a>(alloc: Global) -> Result<Command<'a>, AllocError> {
             "FILE",
             "Where the commits are kept; replies wait for the disk; the next server goes on from there",
         ))?
-        .arg(standing_argument(alloc))?
-        .arg(quiet_argument(alloc))
+        .arg(standing_argument(alloc))?;
+    with_telling(alloc, command)
 }
 
 // The words of `audit`.
@@ -275,7 +306,7 @@ fn audit_command<'a>(alloc: Global) -> Result<Command<'a>, AllocError> {
         "Checks the trace of a run: its commits, and the rows of its answers",
         AUDIT_HELP,
     )?;
-    command.arg(quiet_argument(alloc))?.arg(trace)
+    with_telling(alloc, command)?.arg(trace)
 }
 
 // The words of `export`.
@@ -298,10 +329,10 @@ fn export_command<'a>(alloc: Global) -> Result<Command<'a>, AllocError> {
         "Writes the tables as they are after the commits of a journal",
         EXPORT_HELP,
     )?;
-    command
+    let command = command
         .arg(journal.required(true))?
-        .arg(folder.required(true))?
-        .arg(quiet_argument(alloc))
+        .arg(folder.required(true))?;
+    with_telling(alloc, command)
 }
 
 /// All words of the program.

@@ -41,7 +41,11 @@ D_YEARMONTH or D_WEEKNUMINYEAR.
 
 With any other --format than report the columns have heads: the names of the group columns, and the measure as star
 spells it. JSON has one object a line. An empty line parts the answers, but not those of JSON. Bars are drawn beside the
-sums, each as long as its sum is great; that of a negative sum is drawn with another sign.
+sums, each as long as its sum is great; that of a negative sum is drawn with another sign. HTML is a page for a browser,
+with tables and bars.
+
+With --board it prints the answers to the questions of FILE, in order, each under its title. A line of FILE is
+'Title|NAME' or 'Title|NAME|CONSTANT..'; there are 1 to 64.
 
 With --explain it prints what is asked, and needs no tables: a request of star that asks the same, the printed columns,
 and what the rows are ordered by. With --data DIR also how many rows of each dimension the tests take, and how many
@@ -54,6 +58,7 @@ Examples:
   ssb_live query --data tables --format csv Q4.1
   ssb_live query --data tables --format bars star LO_REVENUE D_YEAR C_REGION=ASIA
   ssb_live query --data tables --all --times
+  ssb_live query --data tables --board morning.board --format html > morning.html
   ssb_live query --explain Q2.1
   ssb_live query --explain --sql postgresql star COUNT C_REGION";
 
@@ -90,8 +95,8 @@ Example:
 pub const SERVE_HELP: &str = "\
 Loads the five table files of a folder and serves clients as their requests come, until all have ended. Without --client
 there is one client, on standard input and output. Each --client, 1 to 16 of them, is read from IN and answered to OUT.
-IN and OUT are named pipes (mkfifo) or files; a thread opens them, OUT first. If OUT does not exist, it is created as a
-plain file. An OUT that has bytes in it is refused, and so are two ends that are one file: nothing is changed then.
+IN and OUT are named pipes (mkfifo) or files; a client opens them in either order. If OUT does not exist, it is created
+as a plain file. An OUT that has bytes in it is refused, and so are two ends that are one file: nothing is changed then.
 
 A client sends the records of a script. A request is a line 'query|NAME' or 'query|NAME|CONSTANT..', or the lines from
 'ask' to 'answer' or from 'begin' to 'commit'. Its reply comes before the server waits for the next request: one line,

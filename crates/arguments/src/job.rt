@@ -39,6 +39,7 @@ pub enum FormatWord {
     Table,
     /// Bars, and how many columns a line may take.
     Bars(u32),
+    Html,
 }
 
 /// Which questions stand.
@@ -50,17 +51,42 @@ pub enum StandingWord<'a> {
     File(&'a str),
 }
 
+/// Whether help stands below a fault.
+#[derive(Clone, Copy)]
+pub enum HintsWord {
+    /// The words ask for it.
+    Asked,
+    /// The words leave it out.
+    LeftOut,
+    /// They say nothing of it.
+    Unsaid,
+}
+
+impl HintsWord {
+    /// Whether help stands below a fault, where the errors go to a terminal, or not.
+    pub fn are_told(self, at_terminal: bool) -> bool {
+        match self {
+            HintsWord::Asked => true,
+            HintsWord::LeftOut => false,
+            HintsWord::Unsaid => at_terminal,
+        }
+    }
+}
+
 /// The words of `query`.
 #[derive(Drop)]
 pub struct QueryWords<'a> {
     pub data: &'a str,
     pub all: bool,
+    /// The file of the questions; none where the words have them.
+    pub board: Option<&'a str>,
     pub format: FormatWord,
-    /// Empty where all are asked.
+    /// Empty where all are asked, or those of a board.
     pub name: &'a str,
     pub constants: Vec<&'a str>,
     pub times: bool,
     pub quiet: bool,
+    pub hints: HintsWord,
 }
 
 /// The words of `query --explain`.
@@ -73,6 +99,7 @@ pub struct ExplainWords<'a> {
     /// The system whose SQL is written; none where words are.
     pub sql: Option<System>,
     pub quiet: bool,
+    pub hints: HintsWord,
 }
 
 /// The words of `run`.
@@ -85,6 +112,7 @@ pub struct RunWords<'a> {
     pub dispatchers: u32,
     pub times: bool,
     pub quiet: bool,
+    pub hints: HintsWord,
 }
 
 /// The words of `serve`.
@@ -98,6 +126,7 @@ pub struct ServeWords<'a> {
     pub standing: Option<StandingWord<'a>>,
     pub dispatchers: u32,
     pub quiet: bool,
+    pub hints: HintsWord,
 }
 
 /// The words of `audit`.
@@ -106,6 +135,7 @@ pub struct AuditWords<'a> {
     pub data: &'a str,
     pub trace: &'a str,
     pub quiet: bool,
+    pub hints: HintsWord,
 }
 
 /// The words of `export`.
@@ -115,6 +145,22 @@ pub struct ExportWords<'a> {
     pub journal: &'a str,
     pub folder: &'a str,
     pub quiet: bool,
+    pub hints: HintsWord,
+}
+
+impl<'a> Job<'a> {
+    /// What the words say of help below a fault.
+    pub fn hints(&self) -> HintsWord {
+        match self {
+            Job::Script => HintsWord::Unsaid,
+            Job::Query(words) => words.hints,
+            Job::Explain(words) => words.hints,
+            Job::Run(words) => words.hints,
+            Job::Serve(words) => words.hints,
+            Job::Audit(words) => words.hints,
+            Job::Export(words) => words.hints,
+        }
+    }
 }
 
 // The word of this argument, or an empty one.
@@ -129,6 +175,17 @@ fn words_of<'a>(
     id: &str,
 ) -> Result<Vec<&'a str>, AllocError> {
     matches.get_strs(id).unwrap_or(&[]).to_vec(alloc)
+}
+
+// What the words say of help below a fault.
+fn hints_of(matches: &ArgMatches<'_>) -> HintsWord {
+    if matches.get_flag("hints") {
+        HintsWord::Asked
+    } else if matches.get_flag("no-hints") {
+        HintsWord::LeftOut
+    } else {
+        HintsWord::Unsaid
+    }
 }
 
 // How many columns a line of bars may take: as the words say, else as the variable COLUMNS does.
@@ -150,6 +207,7 @@ fn format_of(matches: &ArgMatches<'_>, columns: Option<&str>) -> FormatWord {
         "markdown" => FormatWord::Markdown,
         "table" => FormatWord::Table,
         "bars" => FormatWord::Bars(bars_width(matches, columns)),
+        "html" => FormatWord::Html,
         _ => FormatWord::Report,
     }
 }
@@ -180,11 +238,13 @@ fn query_words<'a>(
     Ok(QueryWords {
         data: word_of(matches, "data"),
         all: matches.get_flag("all"),
+        board: matches.get_str("board"),
         format: format_of(matches, columns),
         name: word_of(matches, "name"),
         constants: words_of(alloc, matches, "constants")?,
         times: matches.get_flag("times"),
         quiet: matches.get_flag("quiet"),
+        hints: hints_of(matches),
     })
 }
 
@@ -206,6 +266,7 @@ fn explain_words<'a>(
         constants: words_of(alloc, matches, "constants")?,
         sql: system_of(matches),
         quiet: matches.get_flag("quiet"),
+        hints: hints_of(matches),
     })
 }
 
@@ -231,6 +292,7 @@ fn run_words<'a>(alloc: Global, matches: &ArgMatches<'a>) -> Result<RunWords<'a>
         dispatchers: matches.get_one::<u32>("dispatchers").unwrap_or(1),
         times: matches.get_flag("times"),
         quiet: matches.get_flag("quiet"),
+        hints: hints_of(matches),
     })
 }
 
@@ -243,6 +305,7 @@ fn serve_words<'a>(alloc: Global, matches: &ArgMatches<'a>) -> Result<ServeWords
         standing: standing_of(matches),
         dispatchers: matches.get_one::<u32>("dispatchers").unwrap_or(1),
         quiet: matches.get_flag("quiet"),
+        hints: hints_of(matches),
     })
 }
 
@@ -251,6 +314,7 @@ fn audit_words<'a>(matches: &ArgMatches<'a>) -> AuditWords<'a> {
         data: word_of(matches, "data"),
         trace: word_of(matches, "trace"),
         quiet: matches.get_flag("quiet"),
+        hints: hints_of(matches),
     }
 }
 
@@ -260,6 +324,7 @@ fn export_words<'a>(matches: &ArgMatches<'a>) -> ExportWords<'a> {
         journal: word_of(matches, "journal"),
         folder: word_of(matches, "to"),
         quiet: matches.get_flag("quiet"),
+        hints: hints_of(matches),
     }
 }
 

@@ -13,7 +13,7 @@
 //! refused at 0 action 1: 47 Absent 77
 //! ```
 
-use crate::fault::{CaseFault, LineFault};
+use crate::fault::{CaseFault, CaseLineFault};
 use crate::section::{Section, SectionKind};
 use std::alloc::{AllocError, Global};
 
@@ -96,19 +96,19 @@ impl<'a> Reader<'a> {
     }
 
     // Reads the next line.
-    fn read(&mut self, line: &'a str) -> Result<(), LineFault> {
+    fn read(&mut self, line: &'a str) -> Result<(), CaseLineFault> {
         if let Some(heading) = line.strip_prefix("== ") {
             if !self.has_prose {
-                return Err(LineFault::NoProse);
+                return Err(CaseLineFault::NoProse);
             }
-            let section = Section::parse(heading).ok_or(LineFault::NoHeading)?;
+            let section = Section::parse(heading).ok_or(CaseLineFault::NoHeading)?;
             return self.begin(section);
         }
         match self.section {
             Some(section) => self.read_text(section, line),
             None => {
                 if !line.starts_with("# ") {
-                    return Err(LineFault::NotProse);
+                    return Err(CaseLineFault::NotProse);
                 }
                 self.has_prose = true;
                 Ok(())
@@ -117,12 +117,12 @@ impl<'a> Reader<'a> {
     }
 
     // Begins the section that follows the last one.
-    fn begin(&mut self, section: Section<'a>) -> Result<(), LineFault> {
+    fn begin(&mut self, section: Section<'a>) -> Result<(), CaseLineFault> {
         let stands = section
             .part
             .may_follow(self.section.map(|section| section.part));
         if !stands {
-            return Err(LineFault::Misplaced);
+            return Err(CaseLineFault::Misplaced);
         }
         self.section = Some(section);
         match (section.part, self.case.commands.last_mut()) {
@@ -142,7 +142,7 @@ impl<'a> Reader<'a> {
     }
 
     // Reads a line of a section's text.
-    fn read_text(&mut self, section: Section<'a>, line: &str) -> Result<(), LineFault> {
+    fn read_text(&mut self, section: Section<'a>, line: &str) -> Result<(), CaseLineFault> {
         match (section.part, self.case.commands.last_mut()) {
             (SectionKind::File(_), _) => append_to_last(&mut self.case.files, section, line)?,
             (SectionKind::Command, Some(command)) => command.take_words(self.alloc, line)?,
@@ -155,7 +155,7 @@ impl<'a> Reader<'a> {
                 line,
             )?,
             (SectionKind::Breaks(..) | SectionKind::Status(_), _) | (_, None) => {
-                return Err(LineFault::NoText);
+                return Err(CaseLineFault::NoText);
             }
         }
         Ok(())
@@ -175,7 +175,7 @@ fn append_to_last(
     files: &mut Vec<NamedFile>,
     section: Section<'_>,
     line: &str,
-) -> Result<(), LineFault> {
+) -> Result<(), CaseLineFault> {
     if let Some(file) = files.last_mut() {
         section.append(&mut file.bytes, line)?;
     }
@@ -205,9 +205,9 @@ impl Command {
     }
 
     // Takes the words of its one line: those in single quotes whole, the others parted by spaces.
-    fn take_words(&mut self, alloc: Global, line: &str) -> Result<(), LineFault> {
+    fn take_words(&mut self, alloc: Global, line: &str) -> Result<(), CaseLineFault> {
         if !self.words.is_empty() {
-            return Err(LineFault::SecondLine);
+            return Err(CaseLineFault::SecondLine);
         }
         let mut is_quoted = true;
         for piece in line.split('\'') {
@@ -223,10 +223,10 @@ impl Command {
             }
         }
         if is_quoted {
-            return Err(LineFault::OpenQuote);
+            return Err(CaseLineFault::OpenQuote);
         }
         if self.words.is_empty() {
-            return Err(LineFault::NoWords);
+            return Err(CaseLineFault::NoWords);
         }
         Ok(())
     }

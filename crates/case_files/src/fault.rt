@@ -8,7 +8,7 @@ use thiserror::Error;
 pub enum CaseFault {
     /// A line, by its number from 1.
     #[error("line {0}: {1}")]
-    Line(u64, LineFault),
+    Line(u64, CaseLineFault),
     /// Nothing is run.
     #[error("no command")]
     NoCommand,
@@ -19,7 +19,7 @@ pub enum CaseFault {
 
 /// What is wrong with a line.
 #[derive(Clone, Copy, Debug, PartialEq, Eq, Error)]
-pub enum LineFault {
+pub enum CaseLineFault {
     /// A section before any prose.
     #[error("prose stands before the first section")]
     NoProse,
@@ -58,14 +58,14 @@ pub enum LineFault {
     OutOfMemory,
 }
 
-impl From<AllocError> for LineFault {
-    fn from(_error: AllocError) -> LineFault {
-        LineFault::OutOfMemory
+impl From<AllocError> for CaseLineFault {
+    fn from(_error: AllocError) -> CaseLineFault {
+        CaseLineFault::OutOfMemory
     }
 }
 
-impl<T: Drop> From<AllocFailed<T>> for LineFault {
-    fn from(_error: AllocFailed<T>) -> LineFault {
-        LineFault::OutOfMemory
+impl<T: Drop> From<AllocFailed<T>> for CaseLineFault {
+    fn from(_error: AllocFailed<T>) -> CaseLineFault {
+        CaseLineFault::OutOfMemory
     }
 }

@@ -21,7 +21,7 @@ mod section;
 
 pub use breaking::Breaking;
 pub use case::{Break, Case, Command, NamedFile, parse_case};
-pub use fault::{CaseFault, LineFault};
+pub use fault::{CaseFault, CaseLineFault};
 pub use files::{BreakingFile, MemoryFile, MemoryFiles, Stream};
 pub use outcome::{CommandEnd, find_difference};
 pub use screen::ErrorScreen;

@@ -1,6 +1,6 @@
 //! The sections of a case: their headings, where they may stand, and the bytes that their lines spell.
 
-use crate::fault::LineFault;
+use crate::fault::CaseLineFault;
 
 /// What a section says.
 #[derive(Clone, Copy)]
@@ -82,7 +82,7 @@ fn hex_digit(byte: u8) -> Option<u8> {
 
 impl Escape {
     // Reads the next byte of a line, and appends the byte that ends here.
-    fn read(self, text: &mut Vec<u8>, byte: u8) -> Result<Escape, LineFault> {
+    fn read(self, text: &mut Vec<u8>, byte: u8) -> Result<Escape, CaseLineFault> {
         let spelled = match (self, byte) {
             (Escape::Outside, b'\\') => return Ok(Escape::Begun),
             (Escape::Outside, byte) => byte,
@@ -91,14 +91,14 @@ impl Escape {
             (Escape::Begun, b'r') => b'\r',
             (Escape::Begun, b't') => b'\t',
             (Escape::Begun, b'\\') => b'\\',
-            (Escape::Begun, _) => return Err(LineFault::NoEscape),
+            (Escape::Begun, _) => return Err(CaseLineFault::NoEscape),
             (Escape::Hex, byte) => match hex_digit(byte) {
                 Some(high) => return Ok(Escape::HexDigit(high)),
-                None => return Err(LineFault::NoDigit),
+                None => return Err(CaseLineFault::NoDigit),
             },
             (Escape::HexDigit(high), byte) => match hex_digit(byte) {
                 Some(low) => (high << 4) | low,
-                None => return Err(LineFault::NoDigit),
+                None => return Err(CaseLineFault::NoDigit),
             },
         };
         text.push(spelled)?;
@@ -134,7 +134,7 @@ impl<'a> Section<'a> {
     }
 
     /// Appends the bytes that a line of the section spells.
-    pub fn append(self, text: &mut Vec<u8>, line: &str) -> Result<(), LineFault> {
+    pub fn append(self, text: &mut Vec<u8>, line: &str) -> Result<(), CaseLineFault> {
         if !self.is_escaped {
             text.extend_from_slice(line.as_bytes())?;
             text.push(b'\n')?;
@@ -148,7 +148,7 @@ impl<'a> Section<'a> {
             Escape::Outside => Ok(text.push(b'\n')?),
             // the lone backslash at the line's end
             Escape::Begun => Ok(()),
-            Escape::Hex | Escape::HexDigit(_) => Err(LineFault::CutOff),
+            Escape::Hex | Escape::HexDigit(_) => Err(CaseLineFault::CutOff),
         }
     }
 }

@@ -10,7 +10,8 @@ use export_command::{ExportPlace, run_export};
 use journal_file::{JournalFile, torn_path};
 use journal_opening::{JournalPath, ReadPath};
 use query_command::{
-    Settings, run_all, run_explain, run_explain_over, run_query, standard_questions,
+    QuestionWords, Settings, run_all, run_board, run_explain, run_explain_over, run_query,
+    standard_questions,
 };
 use run_command::{RunInput, RunSettings, demo, run_scripts};
 use serve_command::{
@@ -23,6 +24,7 @@ use ssb_files::{
     watch_scripts, watch_tables,
 };
 use ssb_formats::Format;
+use ssb_hints::{FaultLines, Named, write_help, write_notes};
 use ssb_questions::Question;
 use ssb_text::Tables;
 use std::alloc::Global;
@@ -47,6 +49,14 @@ fn screen_of<'a, C: Clock, P: Print>(
     Screen::start(clock, terminal)
 }
 
+// What hashes the keys of orders: at random, so that no client can choose some that collide.
+fn hashing_of<R: RandomSource>(rt: &R) -> Result<RandomState, Fault> {
+    match RandomState::new(rt) {
+        Ok(hashing) => Ok(hashing),
+        Err(_) => Err(Fault::NoRandomness),
+    }
+}
+
 fn format_of(word: FormatWord) -> Format {
     match word {
         FormatWord::Report => Format::Report,
@@ -57,10 +67,22 @@ fn format_of(word: FormatWord) -> Format {
         FormatWord::Bars(width) => Format::Bars {
             width: width as usize,
         },
+        FormatWord::Html => Format::Html,
     }
 }
 
-// Answers one question, or all, over the files of a folder.
+// Opens the board that the words name, if they name one.
+fn open_board<F: Files + AllocGlobal>(
+    files: &F,
+    words: &QueryWords<'_>,
+) -> Result<Option<F::File>, Fault> {
+    match words.board {
+        Some(path) => Ok(Some(open_file(files, path)?)),
+        None => Ok(None),
+    }
+}
+
+// Answers one question, all, or those of a board, over the files of a folder.
 fn answer_query<R, F: Files + AllocGlobal, P: Print, W: Write, E: Write>(
     rt: &R,
     files: &F,
@@ -68,17 +90,13 @@ fn answer_query<R, F: Files + AllocGlobal, P: Print, W: Write, E: Write>(
     terminal: Option<&P>,
     out: &mut W,
     err: &mut E,
-) -> u8
+) -> Result<u8, Fault>
 where
     R: Clock + RandomSource + Threads + Sync + AllocGlobal,
 {
-    let tables = match open_tables(files, words.data) {
-        Ok(tables) => tables,
-        Err(fault) => return fault.tell(err),
-    };
-    let Ok(hashing) = RandomState::new(rt) else {
-        return Fault::NoRandomness.tell(err);
-    };
+    let tables = open_tables(files, words.data)?;
+    let board = open_board(files, words)?;
+    let hashing = hashing_of(rt)?;
     let screen = screen_of(rt, words.quiet, terminal);
     let tables = watch_tables(screen.as_ref(), tables);
     let settings = Settings {
@@ -86,11 +104,17 @@ where
         times: words.times,
         format: format_of(words.format),
     };
-    if words.all {
-        return run_all(rt, settings, tables, out, err);
+    if let Some(source) = board {
+        return Ok(run_board(rt, settings, source, tables, out, err));
     }
-    let constants = words.constants.as_slice();
-    run_query(rt, settings, tables, words.name, constants, out, err)
+    if words.all {
+        return Ok(run_all(rt, settings, tables, out, err));
+    }
+    let asked = QuestionWords {
+        name: words.name,
+        constants: words.constants.as_slice(),
+    };
+    Ok(run_query(rt, settings, tables, asked, out, err))
 }
 
 // Where the questions that are to stand come from.
@@ -148,21 +172,19 @@ fn explain_query<R, F: Files + AllocGlobal, P: Print, W: Write, E: Write>(
     terminal: Option<&P>,
     out: &mut W,
     err: &mut E,
-) -> u8
+) -> Result<u8, Fault>
 where
     R: Clock + Threads + Sync + AllocGlobal,
 {
     let constants = words.constants.as_slice();
     let Some(data) = words.data else {
-        return run_explain(rt.alloc(), words.name, constants, words.sql, out, err);
+        let alloc = rt.alloc();
+        return Ok(run_explain(alloc, words.name, constants, words.sql, out, err));
     };
-    let tables = match open_tables(files, data) {
-        Ok(tables) => tables,
-        Err(fault) => return fault.tell(err),
-    };
+    let tables = open_tables(files, data)?;
     let screen = screen_of(rt, words.quiet, terminal);
     let tables = watch_tables(screen.as_ref(), tables);
-    run_explain_over(rt, tables, words.name, constants, out, err)
+    Ok(run_explain_over(rt, tables, words.name, constants, out, err))
 }
 
 // The files of a run, opened, and how its scripts are served.
@@ -207,9 +229,7 @@ fn open_run<R: RandomSource, F: Files + AllocGlobal>(
         Some(path) => Some(make_file(files, path)?),
         None => None,
     };
-    let Ok(hashing) = RandomState::new(rt) else {
-        return Err(Fault::NoRandomness);
-    };
+    let hashing = hashing_of(rt)?;
     let settings = RunSettings {
         hashing,
         dispatchers: words.dispatchers,
@@ -225,36 +245,32 @@ fn open_run<R: RandomSource, F: Files + AllocGlobal>(
 }
 
 // Serves scripts at once over the files of a folder.
-fn serve_scripts<R, F: Files + AllocGlobal, P: Print, W: Write, E: Write>(
+fn report_scripts<R, F: Files + AllocGlobal, P: Print, W: Write, E: Write>(
     rt: &R,
     files: &F,
     words: &RunWords<'_>,
     terminal: Option<&P>,
     out: &mut W,
     err: &mut E,
-) -> u8
+) -> Result<u8, Fault>
 where
     R: Clock + RandomSource + Threads + Sync + Wait + AllocGlobal,
 {
+    let opened = open_run(rt, files, words)?;
     let OpenedRun {
         settings,
         tables,
         scripts,
         mut trace,
-    } = match open_run(rt, files, words) {
-        Ok(opened) => opened,
-        Err(fault) => return fault.tell(err),
-    };
+    } = opened;
     let screen = screen_of(rt, words.quiet, terminal);
-    let Ok(scripts) = watch_scripts(rt.alloc(), screen.as_ref(), scripts) else {
-        return Fault::OutOfMemory.tell(err);
-    };
+    let scripts = watch_scripts(rt.alloc(), screen.as_ref(), scripts)?;
     let tables = watch_tables(screen.as_ref(), tables);
     let input = RunInput {
         tables,
         sources: scripts,
     };
-    run_scripts(rt, settings, input, out, &mut trace, err)
+    Ok(run_scripts(rt, settings, input, out, &mut trace, err))
 }
 
 // The ends of the clients that the words name, each IN and OUT in turn.
@@ -318,9 +334,7 @@ fn open_server<R: RandomSource, F: Files + AllocGlobal>(
         Some(path) => Some(String::from_str(files.alloc(), path)?),
         None => None,
     };
-    let Ok(hashing) = RandomState::new(rt) else {
-        return Err(Fault::NoRandomness);
-    };
+    let hashing = hashing_of(rt)?;
     let settings = ServeSettings {
         hashing,
         dispatchers: words.dispatchers,
@@ -411,10 +425,11 @@ where
 }
 
 // Serves clients over the files of a folder.
-fn serve_live<R, F, I: Read + Drop + Send, W: Write + Drop + Send, E: Print + Sync>(
+fn serve_live<R, F, I: Read + Drop + Send, W: Write + Drop + Send, E: Print + Sync, P: Print>(
     rt: &R,
     files: &F,
     words: &ServeWords<'_>,
+    terminal: Option<&P>,
     streams: Streams<'_, I, W, E>,
 ) -> u8
 where
@@ -436,11 +451,6 @@ where
     if !words.quiet && clients.len() <= MOST_CLIENTS {
         report_no_pipes(files, clients.as_slice(), &mut io::writer(errors));
     }
-    let terminal = if streams.shows_progress {
-        Some(errors)
-    } else {
-        None
-    };
     let screen = screen_of(rt, words.quiet, terminal);
     let opened = OpenedServer {
         settings,
@@ -459,25 +469,17 @@ fn check_trace<R, F: Files + AllocGlobal, P: Print, W: Write, E: Write>(
     terminal: Option<&P>,
     out: &mut W,
     err: &mut E,
-) -> u8
+) -> Result<u8, Fault>
 where
     R: Clock + RandomSource + Threads + Sync + AllocGlobal,
 {
-    let tables = match open_tables(files, words.data) {
-        Ok(tables) => tables,
-        Err(fault) => return fault.tell(err),
-    };
-    let trace = match open_file(files, words.trace) {
-        Ok(trace) => trace,
-        Err(fault) => return fault.tell(err),
-    };
+    let tables = open_tables(files, words.data)?;
+    let trace = open_file(files, words.trace)?;
+    let hashing = hashing_of(rt)?;
     let screen = screen_of(rt, words.quiet, terminal);
     let tables = watch_tables(screen.as_ref(), tables);
     let trace = watch(screen.as_ref(), InputSource::Trace, trace);
-    match RandomState::new(rt) {
-        Ok(hashing) => run_audit(rt, hashing, tables, trace, out, err),
-        Err(_) => Fault::NoRandomness.tell(err),
-    }
+    Ok(run_audit(rt, hashing, tables, trace, out, err))
 }
 
 // Exports the tables after a journal's commits, over the files of a folder.
@@ -487,15 +489,13 @@ fn export_tables<R, F: Files + AllocGlobal, P: Print, E: Write>(
     words: &ExportWords<'_>,
     terminal: Option<&P>,
     err: &mut E,
-) -> u8
+) -> Result<u8, Fault>
 where
     R: Clock + RandomSource + Threads + Sync + AllocGlobal,
     F::File: JournalFile,
 {
-    let tables = match open_tables(files, words.data) {
-        Ok(tables) => tables,
-        Err(fault) => return fault.tell(err),
-    };
+    let tables = open_tables(files, words.data)?;
+    let hashing = hashing_of(rt)?;
     let screen = screen_of(rt, words.quiet, terminal);
     let tables = watch_tables(screen.as_ref(), tables);
     let bytes = TableBytes::new();
@@ -511,30 +511,178 @@ where
         bytes: &bytes,
         tells: !words.quiet,
     };
-    match RandomState::new(rt) {
-        Ok(hashing) => run_export(rt, hashing, tables, &place, err),
-        Err(_) => Fault::NoRandomness.tell(err),
-    }
+    Ok(run_export(rt, hashing, tables, &place, err))
 }
 
-// Serves a script. The keys of its orders are hashed at random, so that no client can choose some that collide.
-fn serve_script<R, I: Read + Drop, W: Write, E: Write>(
+// Serves a script over the built-in tables.
+fn report_script<R, I: Read + Drop, W: Write, E: Write>(
     rt: &R,
     input: I,
     out: &mut W,
     err: &mut E,
-) -> u8
+) -> Result<u8, Fault>
 where
     R: Clock + RandomSource + Threads + Sync + Wait + AllocGlobal,
 {
-    match RandomState::new(rt) {
-        Ok(hashing) => demo(rt, hashing, input, out, err),
-        Err(_) => Fault::NoRandomness.tell(err),
+    let hashing = hashing_of(rt)?;
+    Ok(demo(rt, hashing, input, out, err))
+}
+
+// What the words of a job name, as far as help looks at it again.
+fn named_by<'a>(job: &'a Job<'_>) -> Named<'a> {
+    let nothing = Named::nothing();
+    match job {
+        Job::Script => nothing,
+        Job::Query(words) => Named {
+            data: Some(words.data),
+            query: Some(words.name),
+            constants: words.constants.as_slice(),
+            ..nothing
+        },
+        Job::Explain(words) => Named {
+            data: words.data,
+            query: Some(words.name),
+            constants: words.constants.as_slice(),
+            ..nothing
+        },
+        Job::Run(words) => Named {
+            data: Some(words.data),
+            scripts: words.scripts.as_slice(),
+            standing: standing_path(words.standing),
+            trace: words.trace,
+            ..nothing
+        },
+        Job::Serve(words) => Named {
+            data: Some(words.data),
+            standing: standing_path(words.standing),
+            journal: words.journal,
+            makes_journal: true,
+            ..nothing
+        },
+        Job::Audit(words) => Named {
+            data: Some(words.data),
+            trace: Some(words.trace),
+            ..nothing
+        },
+        Job::Export(words) => Named {
+            data: Some(words.data),
+            journal: Some(words.journal),
+            ..nothing
+        },
     }
 }
 
+// The file of the questions that are to stand, where the words name one.
+fn standing_path(word: Option<StandingWord<'_>>) -> Option<&str> {
+    match word {
+        Some(StandingWord::File(path)) => Some(path),
+        Some(StandingWord::Benchmark) | None => None,
+    }
+}
+
+// Does a job, and gives the exit status; or a fault that nobody has told. Its errors go to `streams.errors`, but for
+// the progress of a load, which goes to the terminal.
+fn do_job<R, F, I: Read + Drop + Send, W: Write + Drop + Send, E: Print + Sync, P: Print>(
+    rt: &R,
+    files: &F,
+    job: &Job<'_>,
+    terminal: Option<&P>,
+    streams: Streams<'_, I, W, E>,
+) -> Result<u8, Fault>
+where
+    R: Clock + RandomSource + Threads + Sync + Wait + AllocGlobal,
+    F: Files + Sync + AllocGlobal,
+    F::File: JournalFile + Send,
+    F::Dir: Send,
+{
+    let Streams {
+        input,
+        is_typed,
+        mut output,
+        errors,
+        shows_progress,
+        columns,
+    } = streams;
+    let err = &mut io::writer(errors);
+    match job {
+        Job::Script => report_script(rt, input, &mut output, err),
+        Job::Query(words) => answer_query(rt, files, words, terminal, &mut output, err),
+        Job::Explain(words) => explain_query(rt, files, words, terminal, &mut output, err),
+        Job::Run(words) => report_scripts(rt, files, words, terminal, &mut output, err),
+        Job::Serve(words) => {
+            let streams = Streams {
+                input,
+                is_typed,
+                output,
+                errors,
+                shows_progress,
+                columns,
+            };
+            Ok(serve_live(rt, files, words, terminal, streams))
+        }
+        Job::Audit(words) => check_trace(rt, files, words, terminal, &mut output, err),
+        Job::Export(words) => export_tables(rt, files, words, terminal, err),
+    }
+}
+
+// Tells what a person can do about the fault that ended a job, or what the question of a job asks for that no row has.
+fn tell_help<F: Files + AllocGlobal, P: Print, E: Write>(
+    files: &F,
+    job: &Job<'_>,
+    faults: &FaultLines<'_, P>,
+    status: u8,
+    err: &mut E,
+) {
+    let named = named_by(job);
+    if status == 0 {
+        write_notes(files, &named, err);
+    } else {
+        write_help(files, &named, faults, err);
+    }
+}
+
+// Does a job. Where a fault ends it, and help is wanted, that follows the fault's line.
+fn do_helped<R, F, I: Read + Drop + Send, W: Write + Drop + Send, E: Print + Sync>(
+    rt: &R,
+    files: &F,
+    job: &Job<'_>,
+    streams: Streams<'_, I, W, E>,
+) -> u8
+where
+    R: Clock + RandomSource + Threads + Sync + Wait + AllocGlobal,
+    F: Files + Sync + AllocGlobal,
+    F::File: JournalFile + Send,
+    F::Dir: Send,
+{
+    let errors = streams.errors;
+    let is_helped = job.hints().are_told(streams.shows_progress);
+    let terminal = if streams.shows_progress {
+        Some(errors)
+    } else {
+        None
+    };
+    let faults = FaultLines::new(rt.alloc(), errors);
+    let streams = Streams {
+        input: streams.input,
+        is_typed: streams.is_typed,
+        output: streams.output,
+        errors: &faults,
+        shows_progress: streams.shows_progress,
+        columns: streams.columns,
+    };
+    let status = match do_job(rt, files, job, terminal, streams) {
+        Ok(status) => status,
+        Err(fault) => fault.tell(&mut io::writer(&faults)),
+    };
+    if is_helped {
+        tell_help(files, job, &faults, status, &mut io::writer(errors));
+    }
+    status
+}
+
 /// Does what the words say, and gives the exit status. Without words the script on the input is served. The words name
-/// files of `files`; threads, waiting, random bytes and the time come from `rt`.
+/// files of `files`; threads, waiting, random bytes and the time come from `rt`. Where a fault ends the job, and help
+/// is wanted, it follows the fault's line.
 pub fn run_command_line<R, F, I: Read + Drop + Send, W: Write + Drop + Send, E: Print + Sync>(
     rt: &R,
     files: &F,
@@ -551,33 +699,5 @@ where
         Ok(job) => job,
         Err(notice) => return tell(&notice, streams),
     };
-    let Streams {
-        input,
-        is_typed,
-        mut output,
-        errors,
-        shows_progress,
-        columns,
-    } = streams;
-    let err = &mut io::writer(errors);
-    let terminal = if shows_progress { Some(errors) } else { None };
-    match job {
-        Job::Script => serve_script(rt, input, &mut output, err),
-        Job::Query(words) => answer_query(rt, files, &words, terminal, &mut output, err),
-        Job::Explain(words) => explain_query(rt, files, &words, terminal, &mut output, err),
-        Job::Run(words) => serve_scripts(rt, files, &words, terminal, &mut output, err),
-        Job::Serve(words) => {
-            let streams = Streams {
-                input,
-                is_typed,
-                output,
-                errors,
-                shows_progress,
-                columns,
-            };
-            serve_live(rt, files, &words, streams)
-        }
-        Job::Audit(words) => check_trace(rt, files, &words, terminal, &mut output, err),
-        Job::Export(words) => export_tables(rt, files, &words, terminal, err),
-    }
+    do_helped(rt, files, &job, streams)
 }

@@ -14,7 +14,7 @@ pub struct Streams<'a, I: Drop, O: Drop, E: Print> {
     pub is_typed: bool,
     pub output: O,
     pub errors: &'a E,
-    /// Whether a person sees the errors, and so the progress of a long load.
+    /// Whether a person sees the errors, and so the progress of a long load, and help below a fault.
     pub shows_progress: bool,
     /// The variable COLUMNS, where the environment has it: how many columns a line of bars may take.
     pub columns: Option<&'a str>,

@@ -1,7 +1,9 @@
 //! Every fault that has a number, with the values that the page's words in capitals stand for.
 
+use crate::help::push_help;
 use export_command::NotEmpty;
 use journal_file::OpenError;
+use query_command::{BoardLineFault, NoReports};
 use row_store::Cause;
 use ssb_audit::AuditFault;
 use ssb_files::{PathFault, TooManyGroups};
@@ -14,8 +16,8 @@ use ssb_text::LoadError;
 use std::alloc::{AllocError, Global};
 use std::fmt::Display;
 
-/// A type of faults that lists its variants that have a number, one after the other.
-trait ListsFaults: Display + Drop {
+/// A type of faults, or of help, that lists its variants that have a number or a row, one after the other.
+pub(crate) trait ListsFaults: Display + Drop {
     fn first() -> Self;
 
     /// The variant behind this one, if it is not the last.
@@ -82,6 +84,33 @@ impl ListsFaults for ConstantsFault {
             ConstantsFault::WrongCount(_) => Some(ConstantsFault::BadConstant(4)),
             ConstantsFault::BadConstant(_) => None,
         }
+    }
+}
+
+impl ListsFaults for BoardLineFault {
+    fn first() -> BoardLineFault {
+        BoardLineFault::NoTitle
+    }
+
+    // What is wrong with a question has the number that it has anywhere.
+    fn next(&self) -> Option<BoardLineFault> {
+        match self {
+            BoardLineFault::NoTitle => Some(BoardLineFault::NotUtf8),
+            BoardLineFault::NotUtf8 => Some(BoardLineFault::TooManyReports),
+            BoardLineFault::TooManyReports
+            | BoardLineFault::NoSuchQuery(_)
+            | BoardLineFault::Constants(_) => None,
+        }
+    }
+}
+
+impl ListsFaults for NoReports {
+    fn first() -> NoReports {
+        NoReports
+    }
+
+    fn next(&self) -> Option<NoReports> {
+        None
     }
 }
 
@@ -254,8 +283,11 @@ impl ListsFaults for TooManyGroups {
     }
 }
 
-// Adds the line that each fault of a type prints.
-fn push_lines<F: ListsFaults>(alloc: Global, lines: &mut Vec<String>) -> Result<(), AllocError> {
+/// Adds the line that each fault of a type prints.
+pub(crate) fn push_lines<F: ListsFaults>(
+    alloc: Global,
+    lines: &mut Vec<String>,
+) -> Result<(), AllocError> {
     let mut fault = F::first();
     for _ in 0..100 {
         lines.push(format!(in alloc; "{fault}")?)?;
@@ -267,13 +299,15 @@ fn push_lines<F: ListsFaults>(alloc: Global, lines: &mut Vec<String>) -> Result<
     Ok(())
 }
 
-/// The line of each fault that has a number.
+/// The line of each fault that has a number, and each line of help.
 pub fn all_lines(alloc: Global) -> Result<Vec<String>, AllocError> {
     let mut lines = Vec::new(alloc);
     push_lines::<SchemaFault>(alloc, &mut lines)?;
     push_lines::<LoadError>(alloc, &mut lines)?;
     push_lines::<NoSuchQuery>(alloc, &mut lines)?;
     push_lines::<ConstantsFault>(alloc, &mut lines)?;
+    push_lines::<BoardLineFault>(alloc, &mut lines)?;
+    push_lines::<NoReports>(alloc, &mut lines)?;
     push_lines::<Cause>(alloc, &mut lines)?;
     push_lines::<OpenFault>(alloc, &mut lines)?;
     push_lines::<ScriptError>(alloc, &mut lines)?;
@@ -286,5 +320,6 @@ pub fn all_lines(alloc: Global) -> Result<Vec<String>, AllocError> {
     push_lines::<PathFault<&'static str>>(alloc, &mut lines)?;
     push_lines::<QuestionsError>(alloc, &mut lines)?;
     push_lines::<TooManyGroups>(alloc, &mut lines)?;
+    push_help(alloc, &mut lines)?;
     Ok(lines)
 }

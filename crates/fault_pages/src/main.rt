@@ -1,16 +1,18 @@
-//! Holds the page of faults to the code: every fault that has a number prints exactly the line that a row of the page
-//! promises, that row says what the fault means and what to do, and no row tells of a fault that there is not.
+//! Holds the page of faults to the code: every fault that has a number, and every line of help, prints exactly the line
+//! that a row of the page promises, that row says what the fault means and what to do, and no row tells of a line that
+//! there is not.
 //!
 //! The page is `data/FAULTS.md`, which lies in the folder that the program is run in. The program prints a line for
 //! each fault without its row and for each row without its fault, and then how many faults have one. Only where all do
 //! it ends with status 0.
 //!
-//! `faults` lists the faults, each type variant by variant, so that a variant that is not listed is refused by the
-//! compiler. `page` reads a row, and puts the values that the listed faults have in the place of its words in capitals:
+//! `faults` lists the faults, and `help` the lines of help, each type variant by variant, so that a variant that is not
+//! listed is refused by the compiler. `page` reads a row, and puts the values that the listed faults have in the place of its words in capitals:
 //! the row `7 KeyRepeated TABLE ROW` promises the line `7 KeyRepeated customer 2`.
 #![tactic(auto)]
 
 mod faults;
+mod help;
 mod page;
 
 use faults::all_lines;
@@ -74,7 +76,7 @@ fn main(rt: HostRuntime) -> io::Result<ExitCode> {
             all_told = false;
         }
     }
-    println!(rt; "{told} faults with a row each")?;
+    println!(rt; "{told} faults and lines of help with a row each")?;
     Ok(if all_told {
         ExitCode::SUCCESS
     } else {

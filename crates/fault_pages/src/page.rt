@@ -14,6 +14,16 @@ pub struct PageRow {
 // The value that a word in capitals stands for in the listed faults; any other word stands for itself.
 fn value_of(word: &str) -> &str {
     match word {
+        "\\|" => "|",
+        "WORD" => "LO_TAX",
+        "CONSTANT" => "year",
+        "VALUE" => "1x",
+        "WANTED" => "8",
+        "LEAST" => "1",
+        "MOST" => "7",
+        "FOLDER" => "tables",
+        "RECORD" => "commit",
+        "SYSTEM" => "broken",
         "TABLE" => "customer",
         "ROW" => "2",
         "COLUMN" => "C_CITY",
@@ -24,11 +34,16 @@ fn value_of(word: &str) -> &str {
         "KEY" => "77",
         "CLIENT" => "5",
         "K" => "6",
-        "ACTION:" => "4:",
+        "ACTION" => "4",
         "CAUSE" => "47 Absent 77",
         "PATH" => "answers",
         _ => word,
     }
+}
+
+// Whether a mark ends a word in a line of help.
+fn is_mark(mark: char) -> bool {
+    matches!(mark, ';' | ':' | ',' | '?')
 }
 
 // The line that a row's first cell promises.
@@ -38,15 +53,19 @@ fn line_of(alloc: Global, cell: &str) -> Result<String, AllocError> {
         if !line.is_empty() {
             line.push(' ')?;
         }
-        line.push_str(value_of(word))?;
+        let name = word.trim_end_matches(is_mark);
+        line.push_str(value_of(name))?;
+        line.push_str(word.strip_prefix(name).unwrap_or(""))?;
     }
     Ok(line)
 }
 
-// Whether a number begins the text.
-fn begins_with_digit(text: &str) -> bool {
+// Whether the text is a fault's line, which a number begins, a line of help or a note.
+fn is_line(text: &str) -> bool {
     match text.as_bytes() {
-        [first, ..] => first.is_ascii_digit(),
+        [first, ..] => {
+            first.is_ascii_digit() || text.starts_with("help: ") || text.starts_with("note: ")
+        }
         [] => false,
     }
 }
@@ -62,8 +81,8 @@ fn are_two(cells: &str) -> bool {
     }
 }
 
-/// The row of a table of faults that a line of the page is, if it is one: its first cell is a fault's line in code,
-/// which begins with a number.
+/// The row of a table of faults that a line of the page is, if it is one: its first cell is a fault's line, or a line of
+/// help, in code.
 pub fn row_of(alloc: Global, text: &str) -> Result<Option<PageRow>, AllocError> {
     let Some(rest) = text.strip_prefix("| `") else {
         return Ok(None);
@@ -71,7 +90,7 @@ pub fn row_of(alloc: Global, text: &str) -> Result<Option<PageRow>, AllocError> 
     let Some((cell, cells)) = rest.split_once("` | ") else {
         return Ok(None);
     };
-    if !begins_with_digit(cell) {
+    if !is_line(cell) {
         return Ok(None);
     }
     Ok(Some(PageRow {

@@ -1,0 +1,71 @@
+//! What is wrong with a journal.
+
+use crate::lines::write_line;
+use crate::paths::{help_to_read, help_to_write};
+use std::io::Write;
+use std::rt::Files;
+use std::{fmt, io};
+
+/// Help about the journal of this path.
+#[derive(Clone, Copy)]
+pub enum JournalHelp<'a> {
+    /// It is another file.
+    NotAJournal(&'a str),
+    /// The table that it was not made over.
+    OtherTables(&'a str, &'a str),
+    /// The tables refuse its commits.
+    Refused(&'a str),
+    /// Its bytes are others.
+    Damaged(&'a str),
+    /// Another process has it.
+    InUse(&'a str),
+}
+
+impl<'a> fmt::Display for JournalHelp<'a> {
+    fn fmt<W: fmt::Write>(&self, f: &mut fmt::Formatter<W>) -> fmt::Result {
+        match self {
+            JournalHelp::NotAJournal(path) => {
+                write!(
+                    f,
+                    "{path} is no journal; name a file that does not exist, or a journal"
+                )
+            }
+            JournalHelp::OtherTables(path, table) => write!(
+                f,
+                "{path} was made with another file of {table}; serve the tables with which it was made, or name a \
+                 new journal"
+            ),
+            JournalHelp::Refused(path) => write!(
+                f,
+                "{path} was made with other tables; serve the tables with which it was made, or name a new journal"
+            ),
+            JournalHelp::Damaged(path) => write!(
+                f,
+                "{path} has bytes that were not written there; put a copy of it in its place"
+            ),
+            JournalHelp::InUse(path) => write!(
+                f,
+                "{path} is open in another process; end that server, or name another journal"
+            ),
+        }
+    }
+}
+
+/// Says what is wrong with a journal, by the words of its fault. Where it is not there, it is made, or not.
+pub fn help_with_journal<F: Files, E: Write>(
+    files: &F,
+    path: &str,
+    is_made: bool,
+    words: &[&str],
+    err: &mut E,
+) -> io::Result<()> {
+    match words {
+        ["90", ..] => write_line(err, &JournalHelp::NotAJournal(path)),
+        ["91", _, table] => write_line(err, &JournalHelp::OtherTables(path, table)),
+        ["92", ..] => write_line(err, &JournalHelp::Refused(path)),
+        ["93", ..] => write_line(err, &JournalHelp::Damaged(path)),
+        ["94", ..] => write_line(err, &JournalHelp::InUse(path)),
+        _ if is_made => help_to_write(files, path, err),
+        _ => help_to_read(files, path, err),
+    }
+}

@@ -1,0 +1,38 @@
+//! What a command's words name.
+
+/// What a command's words name, as far as its faults are about it.
+#[derive(Clone, Copy)]
+pub struct Named<'a> {
+    /// The folder of the tables.
+    pub data: Option<&'a str>,
+    /// The query, where one is asked.
+    pub query: Option<&'a str>,
+    /// Its constants.
+    pub constants: &'a [&'a str],
+    /// The scripts of a run.
+    pub scripts: &'a [&'a str],
+    /// The file of the questions that stand.
+    pub standing: Option<&'a str>,
+    /// The trace.
+    pub trace: Option<&'a str>,
+    /// The journal.
+    pub journal: Option<&'a str>,
+    /// Whether a journal that is not there is made.
+    pub makes_journal: bool,
+}
+
+impl<'a> Named<'a> {
+    /// Nothing.
+    pub fn nothing() -> Named<'a> {
+        Named {
+            data: None,
+            query: None,
+            constants: &[],
+            scripts: &[],
+            standing: None,
+            trace: None,
+            journal: None,
+            makes_journal: false,
+        }
+    }
+}

@@ -1,0 +1,249 @@
+//! What a question asks for that no row has.
+
+use crate::asking::{Asked, ask};
+use crate::nearest::nearest;
+use csv::ByteRecord;
+use ssb_questions::{Cond, NumberRange, Plan, Test, question};
+use ssb_schema::{Column, Text};
+use ssb_text::{next_record, record_reader, text, trimmed_at};
+use std::collections::BTreeSet;
+use std::io::Write;
+use std::rt::Files;
+use std::{fmt, fs, io};
+
+// So many values of a column are told.
+const MOST_TOLD: usize = 30;
+
+/// A note on a question that was answered.
+#[derive(Clone, Copy)]
+pub enum QuestionNote<'a> {
+    /// No row has this value in the column, whose values these are.
+    NoRow(Column, &'a str, &'a BTreeSet<String>),
+    /// The nearest value that there is.
+    DidYouMean(&'a str),
+    /// The ends of a range of this column, the first of which is the greater one.
+    TurnedRound(&'a str, &'a str, &'a str),
+}
+
+// The values of a column, where they are few; else how many there are.
+fn write_values<W: fmt::Write>(
+    f: &mut fmt::Formatter<W>,
+    values: &BTreeSet<String>,
+) -> fmt::Result {
+    write!(f, "its {} values", values.len())?;
+    if values.len() > MOST_TOLD {
+        return Ok(());
+    }
+    for (i, value) in values.iter().enumerate() {
+        f.write_str(if i == 0 { ":" } else { "," })?;
+        write!(f, " {value}")?;
+    }
+    Ok(())
+}
+
+impl<'a> fmt::Display for QuestionNote<'a> {
+    fn fmt<W: fmt::Write>(&self, f: &mut fmt::Formatter<W>) -> fmt::Result {
+        match self {
+            QuestionNote::NoRow(column, value, values) => {
+                write!(f, "no {column} is {value}; ")?;
+                write_values(f, values)
+            }
+            QuestionNote::DidYouMean(value) => write!(f, "did you mean {value}?"),
+            QuestionNote::TurnedRound(column, from, to) => {
+                write!(
+                    f,
+                    "no {column} lies from {from} to {to}; the ends are turned round"
+                )
+            }
+        }
+    }
+}
+
+fn write_note<E: Write>(err: &mut E, note: &QuestionNote<'_>) -> io::Result<()> {
+    writeln!(err, "note: {note}")
+}
+
+// The values that the rows of a folder have in a column of a dimension.
+fn values_in<F: Files + AllocGlobal>(
+    files: &F,
+    folder: &str,
+    column: Column,
+) -> io::Result<BTreeSet<String>> {
+    let path = format!(in files.alloc(); "{folder}/{}.tbl", column.table)?;
+    let mut reader = record_reader(files.alloc(), fs::open(files, path.as_str())?);
+    let mut record = ByteRecord::new(files.alloc());
+    let mut values = BTreeSet::new(files.alloc());
+    for _ in 0..u64::MAX {
+        match next_record(&mut reader, &mut record) {
+            Ok(true) => {}
+            _ => break,
+        }
+        let value = text(trimmed_at(&record, column.place.saturating_sub(1))).unwrap_or("");
+        if !values.contains(value) {
+            values.insert(String::from_str(files.alloc(), value)?)?;
+        }
+    }
+    Ok(values)
+}
+
+// Says that no row has a value, where none has.
+fn note_value<F: Files + AllocGlobal, E: Write>(
+    files: &F,
+    column: Column,
+    value: &str,
+    values: &BTreeSet<String>,
+    err: &mut E,
+) -> io::Result<()> {
+    if values.contains(value) {
+        return Ok(());
+    }
+    write_note(err, &QuestionNote::NoRow(column, value, values))?;
+    let mut names = Vec::new(files.alloc());
+    for name in values.iter() {
+        names.push(name.as_str())?;
+    }
+    match nearest(files.alloc(), value, names.as_slice(), 1)? {
+        Some(near) => write_note(err, &QuestionNote::DidYouMean(near)),
+        None => Ok(()),
+    }
+}
+
+fn note_number<F: Files + AllocGlobal, E: Write>(
+    files: &F,
+    column: Column,
+    number: u32,
+    values: &BTreeSet<String>,
+    err: &mut E,
+) -> io::Result<()> {
+    let text = format!(in files.alloc(); "{number}")?;
+    note_value(files, column, text.as_str(), values, err)
+}
+
+// Says which of the values that a test looks for no row has.
+fn note_values<F: Files + AllocGlobal, E: Write>(
+    files: &F,
+    folder: &str,
+    test: &Test,
+    err: &mut E,
+) -> io::Result<()> {
+    let column = test.column;
+    let values = values_in(files, folder, column)?;
+    match &test.cond {
+        Cond::TextIs(text) => note_value(files, column, text.as_str(), &values, err),
+        Cond::TextOneOf(texts) => {
+            for text in texts.as_slice() {
+                note_value(files, column, text.as_str(), &values, err)?;
+            }
+            Ok(())
+        }
+        Cond::NumberIs(number) => note_number(files, column, *number, &values, err),
+        Cond::NumberOneOf(numbers) => {
+            for number in numbers.as_slice() {
+                note_number(files, column, *number, &values, err)?;
+            }
+            Ok(())
+        }
+        Cond::TextFromTo(_, _) | Cond::NumberFromTo(_, _) => Ok(()),
+    }
+}
+
+// Says that the ends of a range of numbers are turned round, where they are.
+fn note_range<F: Files + AllocGlobal, E: Write>(
+    files: &F,
+    name: &str,
+    from: u32,
+    to: u32,
+    err: &mut E,
+) -> io::Result<()> {
+    if from <= to {
+        return Ok(());
+    }
+    let from = format!(in files.alloc(); "{from}")?;
+    let to = format!(in files.alloc(); "{to}")?;
+    write_note(
+        err,
+        &QuestionNote::TurnedRound(name, from.as_str(), to.as_str()),
+    )
+}
+
+fn note_texts<E: Write>(name: &str, from: &Text, to: &Text, err: &mut E) -> io::Result<()> {
+    if from <= to {
+        return Ok(());
+    }
+    write_note(
+        err,
+        &QuestionNote::TurnedRound(name, from.as_str(), to.as_str()),
+    )
+}
+
+fn note_test<F: Files + AllocGlobal, E: Write>(
+    files: &F,
+    folder: &str,
+    test: &Test,
+    err: &mut E,
+) -> io::Result<()> {
+    match &test.cond {
+        Cond::TextFromTo(from, to) => note_texts(test.column.name(), from, to, err),
+        Cond::NumberFromTo(from, to) => note_range(files, test.column.name(), *from, *to, err),
+        _ => note_values(files, folder, test, err),
+    }
+}
+
+fn note_tests<F: Files + AllocGlobal, E: Write>(
+    files: &F,
+    folder: &str,
+    tests: &[Test],
+    err: &mut E,
+) -> io::Result<()> {
+    for test in tests {
+        note_test(files, folder, test, err)?;
+    }
+    Ok(())
+}
+
+fn note_line_range<F: Files + AllocGlobal, E: Write>(
+    files: &F,
+    name: &str,
+    range: Option<NumberRange>,
+    err: &mut E,
+) -> io::Result<()> {
+    match range {
+        Some(range) => note_range(files, name, range.from, range.to, err),
+        None => Ok(()),
+    }
+}
+
+fn note_plan<F: Files + AllocGlobal, E: Write>(
+    files: &F,
+    folder: &str,
+    plan: &Plan,
+    err: &mut E,
+) -> io::Result<()> {
+    note_line_range(files, "LO_QUANTITY", plan.quantity, err)?;
+    note_line_range(files, "LO_DISCOUNT", plan.discount, err)?;
+    note_tests(files, folder, plan.customers.as_slice(), err)?;
+    note_tests(files, folder, plan.suppliers.as_slice(), err)?;
+    note_tests(files, folder, plan.parts.as_slice(), err)?;
+    note_tests(files, folder, plan.dates.as_slice(), err)
+}
+
+/// Says which values the question of this name and these constants looks for that no row of the folder has, and which
+/// ranges hold nothing. The benchmark's own constants are in every data set of its generator: they are not looked at.
+pub fn note_question<F: Files + AllocGlobal, E: Write>(
+    files: &F,
+    folder: &str,
+    name: &str,
+    words: &[&str],
+    err: &mut E,
+) -> io::Result<()> {
+    if words.is_empty() {
+        return Ok(());
+    }
+    match ask(files.alloc(), name, words)? {
+        Asked::Question(question) => {
+            let plan = question::plan(files.alloc(), &question)?;
+            note_plan(files, folder, &plan, err)
+        }
+        _ => Ok(()),
+    }
+}

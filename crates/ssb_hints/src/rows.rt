@@ -1,0 +1,304 @@
+//! What is wrong with a row of a table's file.
+
+use crate::lines::write_line;
+use crate::paths::help_to_read;
+use crate::records::{record_of, text_at};
+use csv::ByteRecord;
+use ssb_schema::{Column, Kind, Table};
+use ssb_text::{field_at, trimmed_at};
+use std::alloc::Global;
+use std::io::Write;
+use std::rt::Files;
+use std::{fmt, io};
+
+/// A row of a file, by its number from 1.
+#[derive(Clone, Copy)]
+pub struct RowPlace<'a> {
+    pub path: &'a str,
+    pub row: u64,
+}
+
+impl<'a> fmt::Display for RowPlace<'a> {
+    fn fmt<W: fmt::Write>(&self, f: &mut fmt::Formatter<W>) -> fmt::Result {
+        write!(f, "{} row {}", self.path, self.row)
+    }
+}
+
+/// Help about a row.
+#[derive(Clone, Copy)]
+pub enum RowHelp<'p, 'a> {
+    /// How many fields it has, and how many are wanted.
+    FieldCount(RowPlace<'p>, usize, usize),
+    /// How many commas it has, where it has no bar.
+    Commas(usize),
+    /// It names columns.
+    ColumnNames,
+    /// This column is no text.
+    NotUtf8(RowPlace<'p>, &'a str),
+    /// What this column has in a number's place.
+    NotANumber(RowPlace<'p>, &'a str, &'a str),
+    /// What this column has, and its least and greatest value.
+    OutOfRange(RowPlace<'p>, &'a str, &'a str, u64, u64),
+    /// How many bytes this column has.
+    TooLong(RowPlace<'p>, &'a str, usize),
+    /// Its key, which an earlier row has.
+    KeyRepeated(RowPlace<'p>, &'a str),
+    /// The key that this column has, and the table that has no row of it.
+    UnknownKey(RowPlace<'p>, &'a str, &'a str, Table),
+}
+
+impl<'p, 'a> fmt::Display for RowHelp<'p, 'a> {
+    fn fmt<W: fmt::Write>(&self, f: &mut fmt::Formatter<W>) -> fmt::Result {
+        match self {
+            RowHelp::FieldCount(place, found, wanted) => {
+                write!(f, "{place} has {found} fields, and {wanted} are wanted")
+            }
+            RowHelp::Commas(count) => { write!(f, "it has {count} commas; fields are parted by |") }
+            RowHelp::ColumnNames => f.write_str("it looks like column names; the file has none"),
+            RowHelp::NotUtf8(place, column) => write!(f, "{place} column {column} is not UTF-8"),
+            RowHelp::NotANumber(place, column, value) => write!(
+                f,
+                "{place} column {column} is {value}; a number of 1 to 20 digits is wanted"
+            ),
+            RowHelp::OutOfRange(place, column, value, least, most) => write!(
+                f,
+                "{place} column {column} is {value}; {least} to {most} is wanted"
+            ),
+            RowHelp::TooLong(place, column, bytes) => write!(
+                f,
+                "{place} column {column} has {bytes} bytes; at most 64 are wanted"
+            ),
+            RowHelp::KeyRepeated(place, key) => {
+                write!(f, "{place} has the key {key} of an earlier row")
+            }
+            RowHelp::UnknownKey(place, column, key, table) => write!(
+                f,
+                "{place} column {column} is {key}; no row of {table} has this key"
+            ),
+        }
+    }
+}
+
+static TABLES: [Table; 5] = [
+    Table::Customer,
+    Table::Supplier,
+    Table::Part,
+    Table::Date,
+    Table::Lineorder,
+];
+
+// The table of a name.
+fn table_named(name: &str) -> Option<Table> {
+    TABLES.iter().copied().find(|table| table.name() == name)
+}
+
+// The column of a name.
+fn column_named(table: Table, name: &str) -> Option<Column> {
+    let mut column = Column { table, place: 0 };
+    for _kind in table.kinds() {
+        column.place = column.place.saturating_add(1);
+        if column.name() == name {
+            return Some(column);
+        }
+    }
+    None
+}
+
+// The column of a line that names a row of this dimension.
+fn key_column(dimension: Table) -> Column {
+    Column {
+        table: Table::Lineorder,
+        place: match dimension {
+            Table::Customer => 3,
+            Table::Part => 4,
+            Table::Supplier => 5,
+            Table::Date => 6,
+            Table::Lineorder => 1,
+        },
+    }
+}
+
+// The bytes that a record has in a column.
+fn bytes_in(record: &ByteRecord, column: Column) -> &[u8] {
+    trimmed_at(record, column.place.saturating_sub(1))
+}
+
+// Whether a row begins with a letter, where each table has a number.
+fn begins_with_letter(record: &ByteRecord) -> bool {
+    match field_at(record, 0) {
+        [first, ..] => first.is_ascii_alphabetic(),
+        [] => false,
+    }
+}
+
+fn commas_in(record: &ByteRecord) -> usize {
+    field_at(record, 0)
+        .iter()
+        .filter(|byte| **byte == b',')
+        .count()
+}
+
+// A row that is told of.
+#[derive(Drop)]
+struct ToldRow<'a> {
+    place: RowPlace<'a>,
+    table: Table,
+    record: ByteRecord,
+}
+
+// Says that a first row names columns, where it does.
+fn help_with_names<E: Write>(row: &ToldRow<'_>, err: &mut E) -> io::Result<()> {
+    if row.place.row == 1 && begins_with_letter(&row.record) {
+        return write_line(err, &RowHelp::ColumnNames);
+    }
+    Ok(())
+}
+
+fn help_with_count<E: Write>(row: &ToldRow<'_>, err: &mut E) -> io::Result<()> {
+    let found = row.record.len();
+    write_line(
+        err,
+        &RowHelp::FieldCount(row.place, found, row.table.kinds().len()),
+    )?;
+    if found == 1 && commas_in(&row.record) > 0 {
+        write_line(err, &RowHelp::Commas(commas_in(&row.record)))?;
+    }
+    help_with_names(row, err)
+}
+
+fn help_with_number<E: Write>(
+    row: &ToldRow<'_>,
+    column: Column,
+    value: &str,
+    err: &mut E,
+) -> io::Result<()> {
+    write_line(err, &RowHelp::NotANumber(row.place, column.name(), value))?;
+    help_with_names(row, err)
+}
+
+fn help_with_range<E: Write>(
+    row: &ToldRow<'_>,
+    column: Column,
+    value: &str,
+    err: &mut E,
+) -> io::Result<()> {
+    match column.kind() {
+        Some(Kind::Number { least, most }) => write_line(
+            err,
+            &RowHelp::OutOfRange(row.place, column.name(), value, least, most),
+        ),
+        _ => Ok(()),
+    }
+}
+
+// Says what the schema refuses of a row: these are the words of its fault.
+fn help_with_refusal<E: Write>(
+    row: &ToldRow<'_>,
+    words: &[&str],
+    value: &str,
+    err: &mut E,
+) -> io::Result<()> {
+    match words {
+        ["7", ..] => write_line(err, &RowHelp::KeyRepeated(row.place, value)),
+        ["8", _, _, name] => match table_named(name) {
+            Some(table) => write_line(
+                err,
+                &RowHelp::UnknownKey(row.place, key_column(table).name(), value, table),
+            ),
+            None => Ok(()),
+        },
+        ["10", _, name] => match column_named(row.table, name) {
+            Some(column) => help_with_range(row, column, value, err),
+            None => Ok(()),
+        },
+        ["11", _, name] => match column_named(row.table, name) {
+            Some(column) => write_line(
+                err,
+                &RowHelp::TooLong(
+                    row.place,
+                    column.name(),
+                    bytes_in(&row.record, column).len(),
+                ),
+            ),
+            None => Ok(()),
+        },
+        _ => Ok(()),
+    }
+}
+
+// The column that the words of a fault name, behind its table and row; else that of the row's key.
+fn column_told(table: Table, words: &[&str]) -> Option<Column> {
+    match words {
+        ["8", _, _, name] => Some(key_column(table_named(name)?)),
+        ["10", _, name] => column_named(table, name),
+        ["11", _, name] => column_named(table, name),
+        [name] => column_named(table, name),
+        _ => Some(Column { table, place: 1 }),
+    }
+}
+
+// Says what is wrong with a row by the number of its fault, and by the words behind its table and row.
+fn help_with_row<E: Write>(
+    alloc: Global,
+    row: &ToldRow<'_>,
+    number: &str,
+    words: &[&str],
+    err: &mut E,
+) -> io::Result<()> {
+    let Some(column) = column_told(row.table, words) else {
+        return Ok(());
+    };
+    let value = text_at(alloc, &row.record, column.place.saturating_sub(1))?;
+    match number {
+        "21" => help_with_count(row, err),
+        "22" => write_line(err, &RowHelp::NotUtf8(row.place, column.name())),
+        "23" => help_with_number(row, column, value.as_str(), err),
+        "24" => help_with_refusal(row, words, value.as_str(), err),
+        _ => Ok(()),
+    }
+}
+
+// The row of this number of a table's file.
+fn told_row<'a, F: Files + AllocGlobal>(
+    files: &F,
+    path: &'a str,
+    table: Table,
+    number: &str,
+) -> io::Result<Option<ToldRow<'a>>> {
+    let Ok(row) = number.parse::<u64>() else {
+        return Ok(None);
+    };
+    let Some(record) = record_of(files, path, row)? else {
+        return Ok(None);
+    };
+    let place = RowPlace { path, row };
+    Ok(Some(ToldRow {
+        place,
+        table,
+        record,
+    }))
+}
+
+/// Says what is wrong with tables of a folder, by the words of the fault: its number, its name, the table, and the row
+/// with what else it tells.
+pub fn help_with_tables<F: Files + AllocGlobal, E: Write>(
+    files: &F,
+    folder: &str,
+    words: &[&str],
+    err: &mut E,
+) -> io::Result<()> {
+    let [number, _, name, rest @ ..] = words else {
+        return Ok(());
+    };
+    let Some(table) = table_named(name) else {
+        return Ok(());
+    };
+    let path = format!(in files.alloc(); "{folder}/{table}.tbl")?;
+    let [row, rest @ ..] = rest else {
+        return help_to_read(files, path.as_str(), err);
+    };
+    match told_row(files, path.as_str(), table, row)? {
+        Some(row) => help_with_row(files.alloc(), &row, number, rest, err),
+        None => Ok(()),
+    }
+}
