@@ -6,8 +6,7 @@
 // Each client sends so many refreshes without waiting for replies: first it adds LIVE orders, and from then on, in turn,
 // it withdraws its oldest order and adds a new one. LINE is what stands behind the order's key and its line number. For
 // each million of receipts that all clients together have read, a line goes to standard output: how many, and the seconds
-// since the first byte was sent. A reply that is no receipt is an error. OUT is opened before IN: the server opens its ends
-// in that order.
+// since the first byte was sent. A reply that is no receipt is an error. OUT is opened before IN.
 #define _GNU_SOURCE
 #include <err.h>
 #include <errno.h>

@@ -9,7 +9,7 @@
 //                                              seconds, each once the answer to the one before was read: prints of each
 //                                              answer its client, its line in the text (both from 0) and its nanoseconds
 //
-// TEXT is a file. OUT is opened before IN: the server opens its ends in that order.
+// TEXT is a file. OUT is opened before IN.
 #define _GNU_SOURCE
 #include <err.h>
 #include <errno.h>

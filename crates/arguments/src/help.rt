@@ -90,8 +90,8 @@ Example:
 pub const SERVE_HELP: &str = "\
 Loads the five table files of a folder and serves clients as their requests come, until all have ended. Without --client
 there is one client, on standard input and output. Each --client, 1 to 16 of them, is read from IN and answered to OUT.
-IN and OUT are named pipes (mkfifo) or files; a thread opens them, OUT first. If OUT does not exist, it is created as a
-plain file. An OUT that has bytes in it is refused, and so are two ends that are one file: nothing is changed then.
+IN and OUT are named pipes (mkfifo) or files; both are opened at once. If OUT does not exist, it is created as a plain
+file. An OUT that has bytes in it is refused, and so are two ends that are one file: nothing is changed then.
 
 A client sends the records of a script. A request is a line 'query|NAME' or 'query|NAME|CONSTANT..', or the lines from
 'ask' to 'answer' or from 'begin' to 'commit'. Its reply comes before the server waits for the next request: one line,

@@ -1,16 +1,14 @@
 -- A session over a reader and a writer, one that was not begun, and sessions one after another.
-use Rattle.std.proofs.Common.{◌≡◌, ◌∙◌, ℕ, max, true, false, List, [], ◌∷◌, Option, None, Some, Result, Ok, Err}
-use Rattle.std.proofs.Common.{inl, inr, refl, sym, subst, ap, arith}
+use Rattle.std.proofs.Common.{◌≡◌, ◌∙◌, ℕ, Bool, max, true, false, List, [], ◌∷◌, Option, None, Some, Result, Ok, Err}
+use Rattle.std.proofs.Common.{inl, refl, sym, subst, ap, arith}
 use Rattle.std.proofs.Math.Nat.{max-zero}
 use Rattle.std.specs.Prelude.{IfOk, IfErr, OnOk, IsOk}
 use Rattle.std.specs.Io.Buffered.{reader_buffer, reader_capacity, reader_inner, reader_remaining}
 use Rattle.std.specs.Io.KnownBytes.{Consumes, prepend_known}
 use Rattle.std.specs.declared.io.buffered.BufReader.{BufReader}
 use Rattle.history.specs.Tokens.{TokenRecord}
-use Rattle.serve_command.specs.Sessions.{AreSessions, HasConversed, HasEnded, HasHad, HasLeft, HasServedOnce}
-use Rattle.serve_command.specs.Sessions.{HasStreamed, most_told}
-use Rattle.serve_command.specs.declared.speakers.SessionEnd.{SessionEnd}
-use Rattle.serve_command.specs.declared.speakers.SessionEnd.TheVariants.{Last}
+use Rattle.serve_command.specs.Sessions.{HasConversed, HasEnded, HasHad, HasLeft, HasStreamed, SessionRecord}
+use Rattle.serve_command.specs.Sessions.{most_told}
 use Rattle.ssb_script.proofs.RequestLaws.{nothing_is_unfinished}
 use Rattle.ssb_text.proofs.WrittenLaws.{appends_none}
 use Rattle.stream_sessions.specs.Conversation.{Converses, ConversesUntil}
@@ -117,53 +115,49 @@ has_streamed outcome number told old new unread before after was rest began now 
       told_is = told_is;
     }
 
--- and what follows it
-pub served_once : (outcome : Result Served SessionError) (number told : ℕ) (old new : TokenRecord)
-    (unread before after : Option (List ℕ)) (end : SessionEnd)
-    → HasStreamed number old new unread before after outcome told → (end ≡ Last → IsOk outcome)
-    → HasServedOnce number old new end told
-served_once outcome number told old new unread before after end streamed last = inl (
-  record { outcome = outcome; unread = unread; before = before; after = after; events = streamed.events },
-  record { ended = streamed.ended; conversed = streamed.conversed },
-  last,
-  streamed.told_is,
-)
+-- how it stands among the sessions of its client
+abbrev session_of : Option (List ℕ) → Option (List ℕ) → Option (List ℕ) → Result Served SessionError → List Event
+    → SessionRecord
+session_of unread before after outcome events =
+    record { outcome = outcome; unread = unread; before = before; after = after; events = events }
 
 -- the same of the same number
-pub of_number : (was number told : ℕ) (old new : TokenRecord) (end : SessionEnd) → was ≡ number
-    → HasServedOnce was old new end told → HasServedOnce number old new end told
-of_number was number told old new end same once = subst (λ (n : ℕ). HasServedOnce n old new end told) same once
+pub of_number : (was number told : ℕ) (old new : TokenRecord) (unread before after : Option (List ℕ))
+    (outcome : Result Served SessionError) → was ≡ number → HasStreamed was old new unread before after outcome told
+    → HasStreamed number old new unread before after outcome told
+of_number was number told old new unread before after outcome same streamed =
+    subst (λ (n : ℕ). HasStreamed n old new unread before after outcome told) same streamed
 
 -- no session so far
 pub none_had : (number : ℕ) (old : TokenRecord) → HasHad number old old 0
 none_had number old = record { sessions = []; are = refl; told_is = refl }
 
--- one more, or none
-pub one_more : (number told more most : ℕ) (old between new : TokenRecord) (end : SessionEnd) → most ≡ max told more
-    → HasHad number old between told → HasServedOnce number between new end more → HasHad number old new most
-one_more number told more most old between new end is had (inl one) = record {
-  sessions = one.0 ∷ had.sessions;
-  are = (between, had.are, one.1);
-  told_is = is ∙ ap (λ (n : ℕ). max n more) had.told_is ∙ ap (λ (n : ℕ). max (most_told had.sessions) n) one.3;
-}
-one_more number told more most old between new end is had (inr none) = record {
-  sessions = had.sessions;
-  are = subst (λ (now : TokenRecord). AreSessions number old had.sessions now) (sym none.1) had.are;
-  told_is = is ∙ ap (λ (n : ℕ). max told n) none.2 ∙ max-zero told ∙ had.told_is;
-}
+-- one more
+pub one_more : (number told more most : ℕ) (old between new : TokenRecord) (unread before after : Option (List ℕ))
+    (outcome : Result Served SessionError) → most ≡ max told more → HasHad number old between told
+    → HasStreamed number between new unread before after outcome more → HasHad number old new most
+one_more number told more most old between new unread before after outcome is had streamed =
+    let one = session_of unread before after outcome streamed.events in record {
+      sessions = one ∷ had.sessions;
+      are = (between, had.are, record { ended = streamed.ended; conversed = streamed.conversed });
+      told_is = is ∙ ap (λ (n : ℕ). max n more) had.told_is
+          ∙ ap (λ (n : ℕ). max (most_told had.sessions) n) streamed.told_is;
+    }
 
--- the last of them
-pub left_at_last : (number told more most : ℕ) (old between new : TokenRecord) (end : SessionEnd) → most ≡ max told more
-    → HasHad number old between told → HasServedOnce number between new end more → end ≡ Last
-    → HasLeft number old new (record { was_served = true; told = most })
-left_at_last number told more most old between new end is had (inl one) last = record {
-  sessions = one.0 ∷ had.sessions;
-  are = (between, had.are, one.1);
-  told_is = is ∙ ap (λ (n : ℕ). max n more) had.told_is ∙ ap (λ (n : ℕ). max (most_told had.sessions) n) one.3;
-  ended = λ yes. one.2 last;
-}
-left_at_last number told more most old between new end is had (inr none) last = absurd (none.0 last)
+-- the last of them, which was served to its end where that is said
+pub left_at_end : (number told more most : ℕ) (old between new : TokenRecord) (unread before after : Option (List ℕ))
+    (outcome : Result Served SessionError) (was_served : Bool) → most ≡ max told more → HasHad number old between told
+    → HasStreamed number between new unread before after outcome more → (was_served ≡ true → IsOk outcome)
+    → HasLeft number old new (record { was_served = was_served; told = most })
+left_at_end number told more most old between new unread before after outcome was_served is had streamed ended =
+    let now = one_more number told more most old between new unread before after outcome is had streamed in record {
+      sessions = now.sessions;
+      are = now.are;
+      told_is = now.told_is;
+      ended = ended;
+    }
 
+-- nothing more came of them
 pub left_broken : (number told : ℕ) (old new : TokenRecord) → HasHad number old new told
     → HasLeft number old new (record { was_served = false; told = told })
 left_broken number told old new had = record {

@@ -1,9 +1,7 @@
 -- How the sessions of a client over streams ended, and what went over their wires.
-use Rattle.std.specs.Prelude.{◌≡◌, ◌≢◌, ◌⊎◌, ℕ, max, true, List, [], ◌∷◌, Option, Result, Ok, Err, IsOk}
+use Rattle.std.specs.Prelude.{◌≡◌, ℕ, max, true, List, [], ◌∷◌, Option, Result, Ok, Err, IsOk}
 use Rattle.history.specs.Tokens.{TokenRecord}
 use Rattle.serve_command.specs.declared.speakers.PathLeft.{PathLeft}
-use Rattle.serve_command.specs.declared.speakers.SessionEnd.{SessionEnd}
-use Rattle.serve_command.specs.declared.speakers.SessionEnd.TheVariants.{Last}
 use Rattle.stream_sessions.specs.Conversation.{Converses, ConversesUntil}
 use Rattle.stream_sessions.specs.Events.{Event, most_covered}
 use Rattle.stream_sessions.specs.Session.{Serves, Breaks}
@@ -76,11 +74,3 @@ pub record HasStreamed (number : ℕ) (old new : TokenRecord) (unread before aft
   pub events : List Event
   pub conversed : HasConversed outcome number old new [] events
   pub told_is : told ≡ most_covered events
-
--- a session told of so many commits at most, and what follows it: nothing does where it was served to its end over ends
--- that are not opened again; or there was none, since its ends could not be opened
-abbrev pub HasServedOnce : ℕ → TokenRecord → TokenRecord → SessionEnd → ℕ → Type 0
-HasServedOnce number old new end told =
-    ((session : SessionRecord) × IsSession number old new session × (end ≡ Last → IsOk session.outcome)
-    × (told ≡ most_covered session.events))
-    ⊎ ((end ≢ Last) × (new ≡ old) × (told ≡ 0))

@@ -15,16 +15,7 @@ pub struct EndPaths {
     pub output: String,
 }
 
-/// The opened ends of a client.
-#[derive(Drop)]
-pub struct Ends<O: Drop> {
-    /// What is read.
-    pub input: O,
-    /// What is written.
-    pub output: O,
-}
-
-/// Why the ends of a client are not open.
+/// Why an end of a client is not open.
 #[derive(Debug, Drop)]
 pub enum EndFault<'a> {
     /// What it is read from, by its path, could not be opened.
@@ -42,24 +33,8 @@ impl<'a> fmt::Display for EndFault<'a> {
     }
 }
 
-/// Opens the ends of a client. The opening of a named pipe waits until its other end is opened; so the answers' end
-/// comes first, since that is what `socat` and shells open first. Where it is not there it is made, and a file is
-/// emptied.
-pub fn open_ends<'a, F: Files>(
-    files: &F,
-    paths: &'a EndPaths,
-) -> Result<Ends<F::File>, EndFault<'a>> {
-    let Ok(output) = fs::create(files, paths.output.as_str()) else {
-        return Err(EndFault::CannotWrite(paths.output.as_str()));
-    };
-    let Ok(input) = fs::open(files, paths.input.as_str()) else {
-        return Err(EndFault::CannotRead(paths.input.as_str()));
-    };
-    Ok(Ends { input, output })
-}
-
-// Whether the system says that this is a named pipe.
-fn is_named_pipe(found: io::Result<Metadata>) -> bool {
+/// Whether the system says that this is a named pipe.
+pub(crate) fn is_named_pipe(found: io::Result<Metadata>) -> bool {
     match found {
         Ok(metadata) => metadata.file_type().is_fifo(),
         Err(_) => false,
@@ -78,9 +53,7 @@ pub fn report_no_pipes<F: Files, E: Write>(files: &F, clients: &[EndPaths], err:
     }
 }
 
-impl<O: OpenFile + Drop> Ends<O> {
-    /// Whether both ends are named pipes, so that they can be opened again for another session.
-    pub fn are_named_pipes(&self) -> bool {
-        is_named_pipe(self.input.metadata()) && is_named_pipe(self.output.metadata())
-    }
+/// Whether both opened ends are named pipes, so that they can be opened again for another session.
+pub(crate) fn are_named_pipes<O: OpenFile>(input: &O, output: &O) -> bool {
+    is_named_pipe(input.metadata()) && is_named_pipe(output.metadata())
 }

@@ -3,8 +3,8 @@
 //!
 //! ```text
 //! tables ── base_of ─▶ base ── run_over ─┬─ serve_stream: one client, over a reader and a writer
-//!                                │       └─ serve_clients: 1 to 16, each with a thread that opens its OUT and then its
-//!                                │          IN, again and again where they are kept
+//!                                │       └─ serve_clients: 1 to 16, each with a thread that opens its two ends at once,
+//!                                │          again and again where they are kept
 //!                                ├─ without a journal: from no commits, and told at once
 //!                                └─ behind the commits of a journal's file: told once they are on the disk
 //!
@@ -46,6 +46,7 @@ mod fault;
 mod journal_source;
 mod journaled_run;
 mod loading;
+mod opening;
 mod prompted;
 mod remaking;
 mod runs;
@@ -55,7 +56,7 @@ mod speakers;
 mod unserved;
 
 pub use acknowledging::Durable;
-pub use ends::{EndFault, EndPaths, Ends, open_ends, report_no_pipes};
+pub use ends::{EndPaths, report_no_pipes};
 pub use fault::ServeRefusal;
 pub use journal_source::{JournalPlace, JournalSource, run_source};
 pub use journaled_run::JournaledRun;

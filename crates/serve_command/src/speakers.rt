@@ -1,18 +1,19 @@
 //! The clients: each opens its ends, is served its sessions, and tells what broke them.
 
-ghost use Rattle.std.specs.Prelude.{◌≡◌, ℕ, false, IsOk, IsTrue};
+ghost use Rattle.std.specs.Prelude.{◌≡◌, ℕ, true, false, IsOk, IsTrue};
 ghost use Rattle.std.specs.Option.{is_some};
 ghost use Rattle.history.specs.Members.{number_of};
-ghost use Rattle.serve_command.specs.Sessions.{HasLeft, HasServedOnce, HasStreamed};
+ghost use Rattle.serve_command.specs.Sessions.{HasLeft, HasStreamed};
 ghost use Rattle.stream_sessions.specs.OneRequest.{AreAlike};
 
-use crate::ends::{EndFault, EndPaths, Ends, open_ends};
+use crate::ends::{EndPaths, are_named_pipes};
 use row_store::Follower;
 use ssb_clients::{Client, Server};
 use std::alloc::Global;
 use std::io::{BufReader, Print, Read, Write};
 use std::rt::Files;
 use std::sync::Wait;
+use std::thread::Threads;
 use std::time::{Clock, Duration};
 use std::{fmt, io, thread};
 use stream_sessions::{
@@ -127,106 +128,57 @@ pub struct PathClient<'a, F: Files, E: Print> {
     pub keeps: bool,
 }
 
-// What broke a client's session.
-#[derive(Drop)]
-enum ClientFault<'a> {
-    End(EndFault<'a>),
-    Session(SessionFault),
-}
-
-impl<'a> fmt::Display for ClientFault<'a> {
-    fn fmt<W: fmt::Write>(&self, f: &mut fmt::Formatter<W>) -> fmt::Result {
-        match self {
-            ClientFault::End(fault) => write!(f, "{fault}"),
-            ClientFault::Session(fault) => write!(f, "{fault}"),
-        }
-    }
-}
-
-// How a client's session ended.
+// What follows a client's session.
 #[derive(Clone, Copy, Debug, PartialEq, Eq)]
 enum SessionEnd {
-    // Another may follow.
+    // Another may.
     Again,
-    // None follows.
-    Last,
-    // It broke, and none follows.
-    Broken,
+    // Another may, and both ends were closed for a while: it broke, and its client may have had them open.
+    AgainLater,
+    // None does. It was served to its end, or not.
+    Last(bool),
 }
 
 impl<'a, F: Files, E: Print> PathClient<'a, F, E> {
-    // Tells a fault, if the screen takes it.
-    fn tell(&self, fault: &ClientFault<'_>) {
+    /// Tells a fault, if the screen takes it.
+    pub(crate) fn tell(&self, fault: &impl fmt::Display) {
         let mut screen = io::writer(self.screen);
         let _ = writeln!(screen, "ssb_live: client {}: {fault}", self.number);
     }
 
-    // What follows a session that ended so. Its fault is told, but for that of a journal: it is told once, and not by
-    // each client.
-    fn end_of(
+    // Closes the end that is written, behind that which is read, and says what follows the session. Its fault is told,
+    // but for that of a journal: it is told once, and not by each client.
+    fn end_of<R: Clock>(
         &self,
-        ended: Result<Served, SessionError>,
+        rt: &R,
+        left: StreamLeft<F::File>,
         comes_again: bool,
         has_failed: bool,
     ) -> SessionEnd
-        ensures last { result ≡ SessionEnd.Last → IsOk ended }
+        ensures last { result ≡ SessionEnd.Last true → IsOk left.ended }
         ensures again { result ≡ SessionEnd.Again → IsTrue comes_again }
+        ensures later { result ≡ SessionEnd.AgainLater → IsTrue comes_again }
     {
+        let StreamLeft {
+            output,
+            ended,
+            told: _,
+        } = left;
+        output.drop();
         match ended {
             Ok(_) if comes_again => SessionEnd::Again,
-            Ok(_) => SessionEnd::Last,
-            Err(_) if has_failed => SessionEnd::Broken,
+            Ok(_) => SessionEnd::Last(true),
+            Err(_) if has_failed => SessionEnd::Last(false),
             Err(error) => {
-                self.tell(&ClientFault::Session(error.fault));
+                self.tell(&error.fault);
                 if comes_again {
-                    SessionEnd::Again
+                    thread::sleep(rt, Duration::from_millis(BETWEEN_SESSIONS));
+                    SessionEnd::AgainLater
                 } else {
-                    SessionEnd::Broken
+                    SessionEnd::Last(false)
                 }
             }
         }
-    }
-
-    // Opens the ends, and serves a session over them. The end that is read is closed first. It tells of how many
-    // commits was told, too.
-    fn speak_once<W: Follower + Drop, R: Wait, Y: Evidence, K: Acknowledges<Y>>(
-        &self,
-        rt: &R,
-        alloc: Global,
-        acknowledger: &K,
-        server: &Server<W>,
-        client: &mut Client<W>,
-    ) -> (SessionEnd, u64)
-        requires table { client.old.table ≡ server.now }
-        requires quiet { is_some client.old.asked ≡ false }
-        ensures same { AreAlike client.old client.new }
-        ensures served { HasServedOnce (number_of client.old.who) client.old client.new result.0 result.1 }
-        ensures keeps { result.0 ≡ SessionEnd.Again → IsTrue self.now.keeps }
-    {
-        let ends = match open_ends(self.files, &self.paths) {
-            Ok(ends) => ends,
-            Err(fault) => {
-                self.tell(&ClientFault::End(fault));
-                return (SessionEnd::Broken, 0);
-            }
-        };
-        let comes_again = self.keeps && ends.are_named_pipes();
-        let Ends { input, output } = ends;
-        let ends = StreamClient { input, output };
-        let StreamLeft {
-            output: _,
-            ended,
-            told,
-        } = speak_over::<W, R, F::File, F::File, Y, K>(
-            rt,
-            alloc,
-            acknowledger,
-            server,
-            client,
-            ends,
-        );
-        let end = self.end_of(ended, comes_again, acknowledger.has_failed());
-        (end, told)
     }
 }
 
@@ -251,7 +203,14 @@ impl<'a, F: Files, E: Print> Speaker for PathClient<'a, F, E> {
     }
 }
 
-impl<'a, R: Wait + Clock, F: Files, E: Print, Y: Evidence> Speaks<R, Y> for PathClient<'a, F, E> {
+impl<'a, R, F, E, Y: Evidence> Speaks<R, Y> for PathClient<'a, F, E>
+where
+    R: Wait + Clock + Threads + Sync,
+    F: Files + Sync,
+    F::File: Send,
+    F::Dir: Send,
+    E: Print + Sync,
+{
     fn speak<W: Follower + Drop, K: Acknowledges<Y>>(
         self,
         rt: &R,
@@ -260,26 +219,30 @@ impl<'a, R: Wait + Clock, F: Files, E: Print, Y: Evidence> Speaks<R, Y> for Path
         server: &Server<W>,
         client: &mut Client<W>,
     ) -> PathLeft {
+        let mut pause = Duration::ZERO;
         let mut told: u64 = 0;
         for _ in rt.forever() {
-            let (end, now) = self.speak_once(rt, alloc, acknowledger, server, client);
-            told = told.max(now);
+            let Some(ends) = self.open_ends(rt, pause) else {
+                return PathLeft {
+                    was_served: false,
+                    told,
+                };
+            };
+            let comes_again = self.keeps && are_named_pipes(&ends.input, &ends.output);
+            let left = speak_over::<W, R, F::File, F::File, Y, K>(
+                rt,
+                alloc,
+                acknowledger,
+                server,
+                client,
+                ends,
+            );
+            told = told.max(left.told);
+            let end = self.end_of(rt, left, comes_again, acknowledger.has_failed());
             match end {
-                SessionEnd::Again => {
-                    thread::sleep(rt, Duration::from_millis(BETWEEN_SESSIONS));
-                }
-                SessionEnd::Last => {
-                    return PathLeft {
-                        was_served: true,
-                        told,
-                    };
-                }
-                SessionEnd::Broken => {
-                    return PathLeft {
-                        was_served: false,
-                        told,
-                    };
-                }
+                SessionEnd::Again => pause = Duration::from_millis(BETWEEN_SESSIONS),
+                SessionEnd::AgainLater => pause = Duration::ZERO,
+                SessionEnd::Last(was_served) => return PathLeft { was_served, told },
             }
         }
         unreachable!()
