@@ -15,7 +15,7 @@ use query_command::{
 };
 use run_command::{RunInput, RunSettings, demo, run_scripts};
 use serve_command::{
-    EndPaths, JournalPlace, MOST_CLIENTS, PathClients, Prompted, ServeSettings, StreamClient,
+    EndPaths, JournalPlace, MOST_CLIENTS, PathClients, ServeSettings, StreamClient,
     report_no_pipes, serve_clients, serve_stream,
 };
 use ssb_files::{
@@ -36,6 +36,7 @@ use std::rt::Files;
 use std::sync::Wait;
 use std::thread::Threads;
 use std::time::Clock;
+use terminal::Prompted;
 
 // The terminal, where there is one and the words let it show the progress of a load, which begins now.
 fn screen_of<'a, C: Clock, P: Print>(
@@ -373,6 +374,31 @@ fn journal_place<'a, 'f, F: Files + AllocGlobal>(
     })
 }
 
+// Serves the person at a terminal over tables that are loaded now.
+fn serve_typed<R, F, T, I: Read + Drop + Send, W: Write + Drop + Send, E: Print + Sync>(
+    rt: &R,
+    settings: ServeSettings,
+    tables: Tables<T>,
+    place: Option<JournalPlace<'_, JournalPath<'_, F>>>,
+    terminal: StreamClient<I, W>,
+    errors: &E,
+) -> u8
+where
+    R: Clock + Threads + Sync + Wait + AllocGlobal,
+    F: Files + Sync + AllocGlobal,
+    F::File: JournalFile + Send,
+    F::Dir: Send,
+    T: Read + Drop,
+{
+    let StreamClient { input, output } = terminal;
+    let screen = io::writer(errors);
+    let Ok(input) = Prompted::new(rt.alloc(), rt, input, screen, TERMINAL_HELP) else {
+        return Fault::OutOfMemory.tell(&mut io::writer(errors));
+    };
+    let client = StreamClient { input, output };
+    serve_stream(rt, settings, tables, place, client, errors).status
+}
+
 // Serves clients over tables that are loaded and counted now: those that the words name, or else standard input and
 // output.
 fn serve_loading<R, F, T, I: Read + Drop + Send, W: Write + Drop + Send, E: Print + Sync>(
@@ -415,12 +441,10 @@ where
         };
         return serve_clients(rt, settings, tables, place, clients, errors).status;
     }
-    if is_typed {
-        let input = Prompted::new(rt.alloc(), input, io::writer(errors), TERMINAL_HELP);
-        let client = StreamClient { input, output };
-        return serve_stream(rt, settings, tables, place, client, errors).status;
-    }
     let client = StreamClient { input, output };
+    if is_typed {
+        return serve_typed(rt, settings, tables, place, client, errors);
+    }
     serve_stream(rt, settings, tables, place, client, errors).status
 }
 
