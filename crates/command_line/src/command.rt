@@ -340,6 +340,7 @@ fn open_server<R: RandomSource, F: Files + AllocGlobal>(
         hashing,
         dispatchers: words.dispatchers,
         standing,
+        tells_ready: !words.quiet && !words.clients.is_empty(),
     };
     Ok(OpenedServer {
         settings,
