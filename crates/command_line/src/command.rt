@@ -539,6 +539,28 @@ where
     Ok(run_export(rt, hashing, tables, &place, err))
 }
 
+// Serves the person at a terminal over the built-in tables.
+fn serve_small<R, F, I: Read + Drop + Send, W: Write + Drop + Send, E: Print + Sync>(
+    rt: &R,
+    terminal: StreamClient<I, W>,
+    errors: &E,
+) -> Result<u8, Fault>
+where
+    R: Clock + RandomSource + Threads + Sync + Wait + AllocGlobal,
+    F: Files + Sync + AllocGlobal,
+    F::File: JournalFile + Send,
+    F::Dir: Send,
+{
+    let settings = ServeSettings {
+        hashing: hashing_of(rt)?,
+        dispatchers: 1,
+        standing: Vec::new(rt.alloc()),
+        tells_ready: false,
+    };
+    let place: Option<JournalPlace<'_, JournalPath<'_, F>>> = None;
+    Ok(serve_typed(rt, settings, small_data::tables(), place, terminal, errors))
+}
+
 // Serves a script over the built-in tables.
 fn report_script<R, I: Read + Drop, W: Write, E: Write>(
     rt: &R,
@@ -630,6 +652,11 @@ where
     } = streams;
     let err = &mut io::writer(errors);
     match job {
+        Job::Script if is_typed => serve_small::<R, F, I, W, E>(
+            rt,
+            StreamClient { input, output },
+            errors,
+        ),
         Job::Script => report_script(rt, input, &mut output, err),
         Job::Query(words) => answer_query(rt, files, words, terminal, &mut output, err),
         Job::Explain(words) => explain_query(rt, files, words, terminal, &mut output, err),
@@ -705,9 +732,9 @@ where
     status
 }
 
-/// Does what the words say, and gives the exit status. Without words the script on the input is served. The words name
-/// files of `files`; threads, waiting, random bytes and the time come from `rt`. Where a fault ends the job, and help
-/// is wanted, it follows the fault's line.
+/// Does what the words say, and gives the exit status. Without words the script on the input is served, or the person
+/// who types it. The words name files of `files`; threads, waiting, random bytes and the time come from `rt`. Where a
+/// fault ends the job, and help is wanted, it follows the fault's line.
 pub fn run_command_line<R, F, I: Read + Drop + Send, W: Write + Drop + Send, E: Print + Sync>(
     rt: &R,
     files: &F,
