@@ -2,8 +2,8 @@
 
 use crate::streams::{Streams, tell};
 use arguments::{
-    AuditWords, ExplainWords, ExportWords, FormatWord, Job, QueryWords, RunWords, ServeWords,
-    StandingWord, TERMINAL_HELP, job_of,
+    AuditWords, ExplainWords, ExportWords, FormatWord, HintsWord, Job, QueryWords, RunWords,
+    ServeWords, StandingWord, TERMINAL_HELP, job_of,
 };
 use audit_command::run_audit;
 use export_command::{ExportPlace, run_export};
@@ -36,7 +36,7 @@ use std::rt::Files;
 use std::sync::Wait;
 use std::thread::Threads;
 use std::time::Clock;
-use terminal::Prompted;
+use terminal::{HelpedOutput, Prompted, TypedRequest};
 
 // The terminal, where there is one and the words let it show the progress of a load, which begins now.
 fn screen_of<'a, C: Clock, P: Print>(
@@ -375,14 +375,14 @@ fn journal_place<'a, 'f, F: Files + AllocGlobal>(
     })
 }
 
-// Serves the person at a terminal over tables that are loaded now.
+// Serves the person at a terminal over tables that are loaded now. Where hints are told, a fault has help below it.
 fn serve_typed<R, F, T, I: Read + Drop + Send, W: Write + Drop + Send, E: Print + Sync>(
     rt: &R,
     settings: ServeSettings,
     tables: Tables<T>,
     place: Option<JournalPlace<'_, JournalPath<'_, F>>>,
-    terminal: StreamClient<I, W>,
-    errors: &E,
+    hints: HintsWord,
+    streams: Streams<'_, I, W, E>,
 ) -> u8
 where
     R: Clock + Threads + Sync + Wait + AllocGlobal,
@@ -391,13 +391,22 @@ where
     F::Dir: Send,
     T: Read + Drop,
 {
-    let StreamClient { input, output } = terminal;
+    let alloc = rt.alloc();
+    let errors = streams.errors;
+    let request = TypedRequest::new(alloc);
     let screen = io::writer(errors);
-    let Ok(input) = Prompted::new(rt.alloc(), rt, input, screen, TERMINAL_HELP) else {
+    let Ok(input) = Prompted::new(alloc, rt, streams.input, screen, TERMINAL_HELP, &request) else {
         return Fault::OutOfMemory.tell(&mut io::writer(errors));
     };
+    let helped = if hints.are_told(streams.shows_progress) {
+        Some(&request)
+    } else {
+        None
+    };
+    let output = HelpedOutput::new(alloc, streams.output, io::writer(errors), helped);
     let client = StreamClient { input, output };
-    serve_stream(rt, settings, tables, place, client, errors).status
+    let ended = serve_stream(rt, settings, tables, place, client, errors);
+    ended.status
 }
 
 // Serves clients over tables that are loaded and counted now: those that the words name, or else standard input and
@@ -422,14 +431,7 @@ where
         clients,
         journal,
     } = opened;
-    let Streams {
-        input,
-        is_typed,
-        output,
-        errors,
-        shows_progress: _,
-        columns: _,
-    } = streams;
+    let errors = streams.errors;
     let bytes = TableBytes::new();
     let tables = count_tables(&bytes, tables);
     let path = journal_path(files, journal.as_ref());
@@ -442,10 +444,13 @@ where
         };
         return serve_clients(rt, settings, tables, place, clients, errors).status;
     }
-    let client = StreamClient { input, output };
-    if is_typed {
-        return serve_typed(rt, settings, tables, place, client, errors);
+    if streams.is_typed {
+        return serve_typed(rt, settings, tables, place, words.hints, streams);
     }
+    let client = StreamClient {
+        input: streams.input,
+        output: streams.output,
+    };
     serve_stream(rt, settings, tables, place, client, errors).status
 }
 
@@ -542,8 +547,8 @@ where
 // Serves the person at a terminal over the built-in tables.
 fn serve_small<R, F, I: Read + Drop + Send, W: Write + Drop + Send, E: Print + Sync>(
     rt: &R,
-    terminal: StreamClient<I, W>,
-    errors: &E,
+    hints: HintsWord,
+    streams: Streams<'_, I, W, E>,
 ) -> Result<u8, Fault>
 where
     R: Clock + RandomSource + Threads + Sync + Wait + AllocGlobal,
@@ -558,7 +563,7 @@ where
         tells_ready: false,
     };
     let place: Option<JournalPlace<'_, JournalPath<'_, F>>> = None;
-    Ok(serve_typed(rt, settings, small_data::tables(), place, terminal, errors))
+    Ok(serve_typed(rt, settings, small_data::tables(), place, hints, streams))
 }
 
 // Serves a script over the built-in tables.
@@ -642,6 +647,9 @@ where
     F::File: JournalFile + Send,
     F::Dir: Send,
 {
+    if matches!(job, Job::Script) && streams.is_typed {
+        return serve_small::<R, F, I, W, E>(rt, job.hints(), streams);
+    }
     let Streams {
         input,
         is_typed,
@@ -652,11 +660,6 @@ where
     } = streams;
     let err = &mut io::writer(errors);
     match job {
-        Job::Script if is_typed => serve_small::<R, F, I, W, E>(
-            rt,
-            StreamClient { input, output },
-            errors,
-        ),
         Job::Script => report_script(rt, input, &mut output, err),
         Job::Query(words) => answer_query(rt, files, words, terminal, &mut output, err),
         Job::Explain(words) => explain_query(rt, files, words, terminal, &mut output, err),

@@ -2,6 +2,7 @@
 
 use crate::fields::trimmed;
 use crate::question::session_line;
+use crate::request::TypedRequest;
 use crate::stopwatch::ReplyWatch;
 use crate::word::TerminalWord;
 use ssb_script::{BlockKind, begun_behind, ends_request};
@@ -34,6 +35,7 @@ pub struct Prompted<'a, C: Clock, I: Read + Drop, E: Write + Drop> {
     terminal: BufReader<I>,
     screen: E,
     help: &'a str,
+    request: &'a TypedRequest,
     watch: ReplyWatch<'a, C>,
     // The line that was typed last.
     line: Vec<u8>,
@@ -47,19 +49,21 @@ pub struct Prompted<'a, C: Clock, I: Read + Drop, E: Write + Drop> {
 }
 
 impl<'a, C: Clock, I: Read + Drop, E: Write + Drop> Prompted<'a, C, I, E> {
-    /// The terminal, with the screen for its prompts.
+    /// The terminal, with the screen for its prompts and help. The request that is typed is kept.
     pub fn new(
         alloc: Global,
         clock: &'a C,
         terminal: I,
         screen: E,
         help: &'a str,
+        request: &'a TypedRequest,
     ) -> io::Result<Prompted<'a, C, I, E>> {
         Ok(Prompted {
             alloc,
             terminal: BufReader::new(alloc, terminal)?,
             screen,
             help,
+            request,
             watch: ReplyWatch::new(clock),
             line: Vec::new(alloc),
             ready: Vec::new(alloc),
@@ -105,6 +109,7 @@ impl<'a, C: Clock, I: Read + Drop, E: Write + Drop> Prompted<'a, C, I, E> {
     fn hand_on(&mut self) -> io::Result<()> {
         self.ready = session_line(self.alloc, self.line.as_slice())?;
         let line = self.ready.as_slice();
+        self.request.keep(line, self.begun.is_some());
         if ends_request(self.begun, line) {
             self.begun = None;
             if !trimmed(line).is_empty() {
