@@ -15,7 +15,7 @@ use query_command::{
 };
 use run_command::{RunInput, RunSettings, demo, run_scripts};
 use serve_command::{
-    EndPaths, JournalPlace, MOST_CLIENTS, PathClients, ServeSettings, StreamClient,
+    Attendant, EndPaths, JournalPlace, MOST_CLIENTS, PathClients, ServeSettings, StreamClient,
     report_no_pipes, serve_clients, serve_stream,
 };
 use ssb_files::{
@@ -34,6 +34,7 @@ use std::io::{BufWriter, Print, Read, Write};
 use std::random::RandomSource;
 use std::rt::Files;
 use std::sync::Wait;
+use std::thread;
 use std::thread::Threads;
 use std::time::Clock;
 use terminal::{HelpedOutput, Prompted, TypedRequest};
@@ -409,6 +410,35 @@ where
     ended.status
 }
 
+// Serves clients that open their own ends, and attends to them meanwhile.
+fn attend_clients<R, F, I: Read + Drop, E: Print + Sync>(
+    rt: &R,
+    settings: ServeSettings,
+    tables: Tables<I>,
+    place: Option<JournalPlace<'_, JournalPath<'_, F>>>,
+    clients: PathClients<'_, F>,
+    errors: &E,
+) -> u8
+where
+    R: Clock + Threads + Sync + Wait + AllocGlobal,
+    F: Files + Sync + AllocGlobal,
+    F::File: JournalFile + Send,
+    F::Dir: Send,
+{
+    let files = clients.files;
+    let attendant = clients.attendant;
+    let (_, status) = thread::join(
+        rt,
+        || attendant.attend(rt, files, errors),
+        || {
+            let ended = serve_clients(rt, settings, tables, place, clients, errors);
+            attendant.end();
+            ended.status
+        },
+    );
+    status
+}
+
 // Serves clients over tables that are loaded and counted now: those that the words name, or else standard input and
 // output.
 fn serve_loading<R, F, T, I: Read + Drop + Send, W: Write + Drop + Send, E: Print + Sync>(
@@ -437,12 +467,17 @@ where
     let path = journal_path(files, journal.as_ref());
     let place = journal_place(path.as_ref(), &bytes, words.quiet);
     if !clients.is_empty() {
+        let Ok(attendant) = Attendant::<F::File>::new(rt.alloc(), clients.as_slice(), !words.quiet)
+        else {
+            return Fault::OutOfMemory.tell(&mut io::writer(errors));
+        };
         let clients = PathClients {
             files,
             ends: clients,
             keeps: words.keep,
+            attendant: &attendant,
         };
-        return serve_clients(rt, settings, tables, place, clients, errors).status;
+        return attend_clients(rt, settings, tables, place, clients, errors);
     }
     if streams.is_typed {
         return serve_typed(rt, settings, tables, place, words.hints, streams);

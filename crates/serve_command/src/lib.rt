@@ -4,7 +4,8 @@
 //! ```text
 //! tables ── base_of ─▶ base ── run_over ─┬─ serve_stream: one client, over a reader and a writer
 //!                                │       └─ serve_clients: 1 to 16, each with a thread that opens its ends, in whatever
-//!                                │          order the client does, again and again where they are kept
+//!                                │          order the client does, again and again where they are kept; beside them
+//!                                │          the attendant, for what none of these can do while it waits
 //!                                ├─ without a journal: from no commits, and told at once
 //!                                └─ behind the commits of a journal's file: told once they are on the disk
 //!
@@ -34,15 +35,27 @@
 //! What the system opens is in no contract. What a person types is read by `terminal::Prompted`.
 //!
 //! ```text
-//! let ended = serve_clients(rt, settings, tables, place, clients, screen);     // place: None without a journal
+//! let attendant = Attendant::new(alloc, &ends, tells)?;
+//! let clients = PathClients { files, ends, keeps, attendant: &attendant };
+//! let (_, ended) = thread::join(
+//!     rt,
+//!     || attendant.attend(rt, files, screen),
+//!     || {
+//!         let ended = serve_clients(rt, settings, tables, place, clients, screen); // place: None without a journal
+//!         attendant.end();
+//!         ended
+//!     },
+//! );
 //! ```
 #![tactic(auto)]
 
 mod acknowledging;
+mod attendant;
 mod ends;
 mod fault;
 mod journal_source;
 mod journaled_run;
+mod opening;
 mod ready;
 mod remaking;
 mod runs;
@@ -52,7 +65,8 @@ mod speakers;
 mod unserved;
 
 pub use acknowledging::Durable;
-pub use ends::{EndFault, EndPaths, Ends, open_ends, report_no_pipes};
+pub use attendant::Attendant;
+pub use ends::{EndPaths, report_no_pipes};
 pub use fault::ServeRefusal;
 pub use journal_source::{JournalPlace, JournalSource, run_source};
 pub use journaled_run::JournaledRun;
