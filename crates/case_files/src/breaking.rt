@@ -1,4 +1,4 @@
-//! Files and streams that fail behind their first bytes.
+//! Files and streams that fail behind their first bytes, a write as one to a full disk does.
 
 use std::io;
 use std::io::{Error, ErrorKind, Read, Write};
@@ -21,11 +21,11 @@ impl<T: Drop> Breaking<T> {
         self.inner
     }
 
-    // How many of so many bytes it takes or gives before it fails.
-    fn room(&self, wanted: usize) -> io::Result<usize> {
+    // How many of so many bytes it takes or gives before it fails, which is for this reason.
+    fn room(&self, wanted: usize, reason: ErrorKind) -> io::Result<usize> {
         match self.left {
             None => Ok(wanted),
-            Some(0) if wanted > 0 => Err(Error::from(ErrorKind::Other)),
+            Some(0) if wanted > 0 => Err(Error::from(reason)),
             Some(left) => Ok(left.min(wanted)),
         }
     }
@@ -38,7 +38,7 @@ impl<T: Drop> Breaking<T> {
 
 impl<T: Read + Drop> Read for Breaking<T> {
     fn read(&mut self, buf: &mut [u8]) -> io::Result<usize> {
-        let room = self.room(buf.len())?;
+        let room = self.room(buf.len(), ErrorKind::Other)?;
         let count = match buf.get_mut(..room) {
             Some(part) => self.inner.read(part)?,
             None => 0,
@@ -50,7 +50,7 @@ impl<T: Read + Drop> Read for Breaking<T> {
 
 impl<T: Write + Drop> Write for Breaking<T> {
     fn write(&mut self, buf: &[u8]) -> io::Result<usize> {
-        let room = self.room(buf.len())?;
+        let room = self.room(buf.len(), ErrorKind::StorageFull)?;
         let count = self.inner.write(buf.get(..room).unwrap_or(buf))?;
         self.pass(count);
         Ok(count)

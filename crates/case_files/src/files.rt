@@ -160,6 +160,17 @@ impl MemoryFiles {
         )
     }
 
+    // Whether a file stands where a path has a folder.
+    fn is_within_file(&self, path: &str) -> io::Result<bool> {
+        let files = hold(&self.files)?;
+        Ok(
+            files.keys().any(|file| match path.strip_prefix(file.as_str()) {
+                Some(rest) => rest.starts_with('/'),
+                None => false,
+            }),
+        )
+    }
+
     // The names of what is in a folder, each ended by a NUL, as often as files have it.
     fn names_in(&self, folder: &str) -> io::Result<Vec<u8>> {
         let mut names = Vec::new(self.alloc);
@@ -247,6 +258,7 @@ impl Files for MemoryFiles {
                 0,
             ),
             _ if self.is_folder(path)? => MemoryFile::Folder,
+            _ if self.is_within_file(path)? => return Err(Error::from(ErrorKind::NotADirectory)),
             _ => return Err(Error::from(ErrorKind::NotFound)),
         };
         self.opened(path, file)
@@ -423,7 +435,7 @@ impl FileExt for BreakingFile {
     fn write_at(&self, buf: &[u8], offset: u64) -> io::Result<usize> {
         let at = offset as usize;
         let room = match self.after {
-            Some(after) if after <= at => return Err(Error::from(ErrorKind::Other)),
+            Some(after) if after <= at => return Err(Error::from(ErrorKind::StorageFull)),
             Some(after) => after - at,
             None => buf.len(),
         };

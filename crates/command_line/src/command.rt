@@ -24,7 +24,10 @@ use ssb_files::{
     watch_scripts, watch_tables,
 };
 use ssb_formats::Format;
-use ssb_hints::{FaultLines, Named, write_help, write_notes};
+use ssb_hints::{
+    FailedCalls, FaultLines, Named, Observed, ObservedFiles, STANDARD_INPUT, STANDARD_OUTPUT,
+    write_help, write_notes,
+};
 use ssb_questions::Question;
 use ssb_text::Tables;
 use std::alloc::Global;
@@ -624,6 +627,7 @@ fn named_by<'a>(job: &'a Job<'_>) -> Named<'a> {
             data: Some(words.data),
             query: Some(words.name),
             constants: words.constants.as_slice(),
+            board: words.board,
             ..nothing
         },
         Job::Explain(words) => Named {
@@ -643,7 +647,7 @@ fn named_by<'a>(job: &'a Job<'_>) -> Named<'a> {
             data: Some(words.data),
             standing: standing_path(words.standing),
             journal: words.journal,
-            makes_journal: true,
+            clients: words.clients.as_slice(),
             ..nothing
         },
         Job::Audit(words) => Named {
@@ -716,8 +720,8 @@ where
 }
 
 // Tells what a person can do about the fault that ended a job, or what the question of a job asks for that no row has.
-fn tell_help<F: Files + AllocGlobal, P: Print, E: Write>(
-    files: &F,
+fn tell_help<F: Files, P: Print, E: Write>(
+    files: &ObservedFiles<'_, F>,
     job: &Job<'_>,
     faults: &FaultLines<'_, P>,
     status: u8,
@@ -751,21 +755,23 @@ where
     } else {
         None
     };
+    let failed = FailedCalls::new(rt.alloc());
+    let files = ObservedFiles::new(files, &failed);
     let faults = FaultLines::new(rt.alloc(), errors);
     let streams = Streams {
-        input: streams.input,
+        input: Observed::new(STANDARD_INPUT, streams.input, &failed),
         is_typed: streams.is_typed,
-        output: streams.output,
+        output: Observed::new(STANDARD_OUTPUT, streams.output, &failed),
         errors: &faults,
         shows_progress: streams.shows_progress,
         columns: streams.columns,
     };
-    let status = match do_job(rt, files, job, terminal, streams) {
+    let status = match do_job(rt, &files, job, terminal, streams) {
         Ok(status) => status,
         Err(fault) => fault.tell(&mut io::writer(&faults)),
     };
     if is_helped {
-        tell_help(files, job, &faults, status, &mut io::writer(errors));
+        tell_help(&files, job, &faults, status, &mut io::writer(errors));
     }
     status
 }

@@ -28,7 +28,8 @@ impl ListsFaults for PathHelp<'static> {
             PathHelp::NoRight(_) => PathHelp::IsAFolder("answers"),
             PathHelp::IsAFolder(_) => PathHelp::NotAFolder("answers"),
             PathHelp::NotAFolder(_) => PathHelp::ReadOnly("answers"),
-            PathHelp::ReadOnly(_) => PathHelp::System("answers", io::Error::other("broken")),
+            PathHelp::ReadOnly(_) => PathHelp::NoRoom("answers"),
+            PathHelp::NoRoom(_) => PathHelp::System("answers", io::Error::other("broken")),
             PathHelp::System(_, _) => return None,
         })
     }

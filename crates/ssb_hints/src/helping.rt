@@ -1,14 +1,15 @@
 //! The help that a fault's line has.
 
+use crate::failed_calls::{STANDARD_INPUT, STANDARD_OUTPUT};
 use crate::fault_lines::FaultLines;
 use crate::journals::help_with_journal;
 use crate::named::Named;
 use crate::notes::note_question;
-use crate::paths::{help_to_read, help_to_write};
+use crate::observed_files::ObservedFiles;
+use crate::paths::{help_with_last_call, help_with_path};
 use crate::questions::help_with_question;
 use crate::rows::help_with_tables;
-use crate::scripts::{help_with_script, help_with_trace};
-use ssb_files::Fault;
+use crate::script_files::{help_with_board, help_with_script_file, help_with_trace};
 use std::alloc::{AllocError, Global};
 use std::io;
 use std::io::{Print, Write};
@@ -24,102 +25,119 @@ fn script_of<'a>(named: &Named<'a>, number: &str) -> Option<&'a str> {
     named.scripts.get(number.checked_sub(1)?).copied()
 }
 
-// Says what is wrong where a fault has a number: these are its subject and its words.
-fn help_with_numbered<F: Files + AllocGlobal, E: Write>(
-    files: &F,
+// The path that a fault's subject stands for.
+fn path_of<'a>(named: &Named<'a>, subject: &str) -> Option<&'a str> {
+    match subject {
+        "data" => named.data,
+        "board" => named.board,
+        "standing" => named.standing,
+        "trace" => named.trace,
+        "journal" => named.journal,
+        _ => script_of(named, subject.strip_prefix("script ")?),
+    }
+}
+
+// Says what is wrong where a fault has a subject and a number: these are its words.
+fn help_with_numbered<F: Files, E: Write>(
+    files: &ObservedFiles<'_, F>,
     named: &Named<'_>,
     subject: &str,
     words: &[&str],
     err: &mut E,
 ) -> io::Result<()> {
+    let Some(path) = path_of(named, subject) else {
+        return Ok(());
+    };
     match subject {
-        "data" => match named.data {
-            Some(folder) => help_with_tables(files, folder, words, err),
-            None => Ok(()),
-        },
-        "standing" => match named.standing {
-            Some(path) => help_with_script(files, path, words, err),
-            None => Ok(()),
-        },
-        "trace" => match named.trace {
-            Some(path) => help_with_trace(files, path, words, err),
-            None => Ok(()),
-        },
-        "journal" => match named.journal {
-            Some(path) => help_with_journal(files, path, named.makes_journal, words, err),
-            None => Ok(()),
-        },
-        _ => match subject.strip_prefix("script ") {
-            Some(number) => match script_of(named, number) {
-                Some(path) => help_with_script(files, path, words, err),
-                None => Ok(()),
-            },
-            None => Ok(()),
-        },
+        "data" => help_with_tables(files, path, words, err),
+        "board" => help_with_board(files, path, words, err),
+        "trace" => help_with_trace(files, path, words, err),
+        "journal" => help_with_journal(files, path, words, err),
+        _ => help_with_script_file(files, path, words, err),
     }
 }
 
-// Says why a file that is written failed, where that is seen.
-fn help_with_written<F: Files, E: Write>(
-    files: &F,
+// Says why a path failed, where there is one.
+fn help_with_some_path<F: Files, E: Write>(
+    files: &ObservedFiles<'_, F>,
     path: Option<&str>,
     err: &mut E,
 ) -> io::Result<()> {
     match path {
-        Some(path) => help_to_write(files, path, err),
+        Some(path) => help_with_path(files, path, err),
         None => Ok(()),
     }
 }
 
 // Says what is wrong where a fault is a path's, or is told in words alone.
 fn help_with_words<F: Files, E: Write>(
-    files: &F,
+    files: &ObservedFiles<'_, F>,
     named: &Named<'_>,
     fault: &str,
     err: &mut E,
 ) -> io::Result<()> {
     if let Some(path) = fault.strip_prefix("cannot read ") {
-        return help_to_read(files, path, err);
+        return help_with_path(files, path, err);
     }
     if let Some(path) = fault.strip_prefix("cannot write ") {
-        return help_to_write(files, path, err);
+        return help_with_path(files, path, err);
     }
     match fault {
-        "write failed" => help_with_written(files, named.trace, err),
-        "journal write failed" => help_with_written(files, named.journal, err),
+        "write failed" => help_with_last_call(files, err),
+        "journal write failed" => help_with_some_path(files, named.journal, err),
         _ => Ok(()),
     }
 }
 
-// A client's fault without the client's number.
-fn without_client(fault: &str) -> &str {
-    match fault.strip_prefix("client ") {
-        Some(rest) => match rest.split_once(": ") {
-            Some((_, fault)) => fault,
-            None => fault,
-        },
-        None => fault,
+// What a client is read from, by its number from 1.
+fn input_of<'a>(named: &Named<'a>, number: usize) -> Option<&'a str> {
+    if named.clients.is_empty() {
+        return Some(STANDARD_INPUT);
+    }
+    let behind = number.checked_mul(2)?;
+    named.clients.get(behind.checked_sub(2)?).copied()
+}
+
+// What a client is answered to, by its number from 1.
+fn output_of<'a>(named: &Named<'a>, number: usize) -> Option<&'a str> {
+    if named.clients.is_empty() {
+        return Some(STANDARD_OUTPUT);
+    }
+    let behind = number.checked_mul(2)?;
+    named.clients.get(behind.checked_sub(1)?).copied()
+}
+
+// Says why an end of a client failed, by the client's number from 1 and its fault.
+fn help_with_client<F: Files, E: Write>(
+    files: &ObservedFiles<'_, F>,
+    named: &Named<'_>,
+    number: usize,
+    fault: &str,
+    err: &mut E,
+) -> io::Result<()> {
+    match fault {
+        "read failed" => help_with_some_path(files, input_of(named, number), err),
+        "write failed" => help_with_some_path(files, output_of(named, number), err),
+        _ => help_with_words(files, named, fault, err),
     }
 }
 
-// Whether no file is meant.
-fn is_of_no_file(alloc: Global, fault: &str) -> Result<bool, AllocError> {
-    let no_randomness = format!(in alloc; "{}", Fault::NoRandomness)?;
-    Ok(no_randomness.as_str() == fault)
+// The number of a client, and its fault.
+fn client_fault(fault: &str) -> Option<(usize, &str)> {
+    let (number, fault) = fault.strip_prefix("client ")?.split_once(": ")?;
+    Some((number.parse::<usize>().ok()?, fault))
 }
 
 // Says what is wrong, by what a fault says behind the program's name.
-fn help_with_fault<F: Files + AllocGlobal, E: Write>(
-    files: &F,
+fn help_with_fault<F: Files, E: Write>(
+    files: &ObservedFiles<'_, F>,
     named: &Named<'_>,
     fault: &str,
     err: &mut E,
 ) -> io::Result<()> {
-    let alloc = files.alloc();
-    if is_of_no_file(alloc, fault)? {
-        return Ok(());
+    if let Some((number, fault)) = client_fault(fault) {
+        return help_with_client(files, named, number, fault, err);
     }
-    let fault = without_client(fault);
     if fault.starts_with("cannot ") {
         return help_with_words(files, named, fault, err);
     }
@@ -128,20 +146,21 @@ fn help_with_fault<F: Files + AllocGlobal, E: Write>(
     };
     match (subject, named.query) {
         ("query", Some(name)) => {
-            help_with_question(alloc, name, named.constants, err)?;
+            help_with_question(files.alloc(), name, named.constants, err)?;
             Ok(())
         }
         _ => {
-            let words = words_of(alloc, told)?;
+            let words = words_of(files.alloc(), told)?;
             help_with_numbered(files, named, subject, words.as_slice(), err)
         }
     }
 }
 
 /// Writes what a person can do about the last fault that was told, below it: one line or more, each begun with `  help:
-/// `, or none. What the words named is looked at again. Where that fails, or memory is wanting, there is no more help.
-pub fn write_help<F: Files + AllocGlobal, P: Print, E: Write>(
-    files: &F,
+/// `, or none. Why a call on a file failed was kept as it failed; a text that the words name is looked at again. Where
+/// that fails, or memory is wanting, there is no more help.
+pub fn write_help<F: Files, P: Print, E: Write>(
+    files: &ObservedFiles<'_, F>,
     named: &Named<'_>,
     faults: &FaultLines<'_, P>,
     err: &mut E,

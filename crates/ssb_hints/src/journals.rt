@@ -1,7 +1,8 @@
 //! What is wrong with a journal.
 
 use crate::lines::write_line;
-use crate::paths::{help_to_read, help_to_write};
+use crate::observed_files::ObservedFiles;
+use crate::paths::help_with_last_call;
 use std::io::Write;
 use std::rt::Files;
 use std::{fmt, io};
@@ -51,11 +52,11 @@ impl<'a> fmt::Display for JournalHelp<'a> {
     }
 }
 
-/// Says what is wrong with a journal, by the words of its fault. Where it is not there, it is made, or not.
+/// Says what is wrong with a journal, by the words of its fault. Those of a fault without a number are the system's, of
+/// the last call that failed.
 pub fn help_with_journal<F: Files, E: Write>(
-    files: &F,
+    files: &ObservedFiles<'_, F>,
     path: &str,
-    is_made: bool,
     words: &[&str],
     err: &mut E,
 ) -> io::Result<()> {
@@ -65,7 +66,6 @@ pub fn help_with_journal<F: Files, E: Write>(
         ["92", ..] => write_line(err, &JournalHelp::Refused(path)),
         ["93", ..] => write_line(err, &JournalHelp::Damaged(path)),
         ["94", ..] => write_line(err, &JournalHelp::InUse(path)),
-        _ if is_made => help_to_write(files, path, err),
-        _ => help_to_read(files, path, err),
+        _ => help_with_last_call(files, err),
     }
 }

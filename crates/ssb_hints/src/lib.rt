@@ -2,18 +2,24 @@
 //!
 //! ```text
 //! errors ◀── FaultLines ◀── a job, which tells its fault       ssb_live: query: 30 NoSuchQuery
-//!               └─ the last line ── write_help ─▶ errors         help: no query is named q1.1; did you mean Q1.1?
+//!               └─ the last line ──────┐
+//! files ◀── ObservedFiles, Observed ◀──│── a job, which opens, reads and writes
+//!               └─ FailedCalls ────────┤
+//!                                  write_help ─▶ errors          help: no query is named q1.1; did you mean Q1.1?
 //!                                      └─ looks again at what the words name: question, tables, scripts, journal
 //! ```
 //!
-//! Help is made of the fault's line, as the page of faults promises it, and of what the words of the command name. What
-//! the fault was about is looked at once more: the question is asked, the path is opened, the row or the record is
-//! read. So no job knows of help, the fault's line and the status are as ever, and a file that changed meanwhile gives
-//! other help, or none. Nothing is promised but safety: which help is written, the cases of the program `cases` show.
+//! Help is made of the fault's line, as the page of faults promises it, of why calls on files failed, which is kept as
+//! they fail, and of what the words of the command name: the question is asked once more, the row or the record is read
+//! once more. So no job knows of help, the fault's line and the status are as ever, and a file that changed meanwhile
+//! gives other help, or none. An [`Observed`] file or stream gives and takes the bytes of the one in it; beyond this
+//! nothing is promised but safety: which help is written, the cases of the program `cases` show.
 //!
 //! ```text
+//! let failed = FailedCalls::new(rt.alloc());
+//! let files = ObservedFiles::new(rt, &failed);
 //! let faults = FaultLines::new(rt.alloc(), errors);
-//! ..                                                      // a job that writes to &faults
+//! ..                                                      // a job over &files that writes to &faults
 //! write_help(&files, &named, &faults, &mut io::writer(errors));
 //! ```
 //!
@@ -23,6 +29,7 @@
 
 mod asking;
 mod constants;
+mod failed_calls;
 mod fault_lines;
 mod helping;
 mod journals;
@@ -30,18 +37,24 @@ mod lines;
 mod named;
 mod nearest;
 mod notes;
+mod observed;
+mod observed_files;
 mod paths;
 mod questions;
 mod records;
 mod rows;
+mod script_files;
 mod scripts;
 mod star;
 
+pub use failed_calls::{FailedCalls, STANDARD_INPUT, STANDARD_OUTPUT};
 pub use fault_lines::FaultLines;
 pub use helping::{write_help, write_notes};
 pub use journals::JournalHelp;
 pub use named::Named;
 pub use notes::QuestionNote;
+pub use observed::Observed;
+pub use observed_files::ObservedFiles;
 pub use paths::PathHelp;
 pub use questions::{ConstantsHelp, QuestionHelp};
 pub use rows::{RowHelp, RowPlace};

@@ -9,6 +9,8 @@ pub struct Named<'a> {
     pub query: Option<&'a str>,
     /// Its constants.
     pub constants: &'a [&'a str],
+    /// The board.
+    pub board: Option<&'a str>,
     /// The scripts of a run.
     pub scripts: &'a [&'a str],
     /// The file of the questions that stand.
@@ -17,8 +19,8 @@ pub struct Named<'a> {
     pub trace: Option<&'a str>,
     /// The journal.
     pub journal: Option<&'a str>,
-    /// Whether a journal that is not there is made.
-    pub makes_journal: bool,
+    /// IN and OUT of each client of a server in turn; none where standard input and output are served.
+    pub clients: &'a [&'a str],
 }
 
 impl<'a> Named<'a> {
@@ -28,11 +30,12 @@ impl<'a> Named<'a> {
             data: None,
             query: None,
             constants: &[],
+            board: None,
             scripts: &[],
             standing: None,
             trace: None,
             journal: None,
-            makes_journal: false,
+            clients: &[],
         }
     }
 }

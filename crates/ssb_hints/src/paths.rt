@@ -1,11 +1,12 @@
-//! Why a path could not be opened, read or written.
+//! Why a call on a path failed.
 
 use crate::lines::write_line;
-use std::io::{ErrorKind, Read, Write};
+use crate::observed_files::ObservedFiles;
+use std::io::{ErrorKind, Write};
 use std::rt::Files;
 use std::{fmt, fs, io};
 
-/// Help about a path.
+/// Help about a path, or about a stream that has a name in its place.
 #[derive(Drop)]
 pub enum PathHelp<'a> {
     /// It names no file.
@@ -20,6 +21,8 @@ pub enum PathHelp<'a> {
     NotAFolder(&'a str),
     /// Its disk can only be read.
     ReadOnly(&'a str),
+    /// Its disk is full, or the part of it that is the user's.
+    NoRoom(&'a str),
     /// What the system says.
     System(&'a str, io::Error),
 }
@@ -33,6 +36,7 @@ impl<'a> fmt::Display for PathHelp<'a> {
             PathHelp::IsAFolder(path) => write!(f, "{path} is a folder, not a file"),
             PathHelp::NotAFolder(path) => write!(f, "a part of {path} is a file, not a folder"),
             PathHelp::ReadOnly(path) => write!(f, "the disk of {path} can only be read"),
+            PathHelp::NoRoom(path) => write!(f, "there is no room left for {path}"),
             PathHelp::System(path, error) => write!(f, "the system says of {path}: {error}"),
         }
     }
@@ -63,72 +67,30 @@ fn reason<'a, F: Files>(files: &F, path: &'a str, error: io::Error) -> PathHelp<
         ErrorKind::IsADirectory => PathHelp::IsAFolder(path),
         ErrorKind::NotADirectory => PathHelp::NotAFolder(path),
         ErrorKind::ReadOnlyFilesystem => PathHelp::ReadOnly(path),
+        ErrorKind::StorageFull | ErrorKind::QuotaExceeded => PathHelp::NoRoom(path),
         _ => PathHelp::System(path, error),
     }
 }
 
-// Reads a file to its end, or to its failure.
-fn read_through<I: Read + Drop>(mut file: I) -> io::Result<()> {
-    let mut bytes = [0u8; 4096];
-    for _ in 0..u64::MAX {
-        if file.read(&mut bytes)? == 0 {
-            break;
-        }
-    }
-    Ok(())
-}
-
-// Why a path cannot be opened to be read, or as a plain file cannot be read to its end. Nothing else is opened, since
-// that could wait.
-fn why_not_read<'a, F: Files>(files: &F, path: &'a str) -> Option<PathHelp<'a>> {
-    let metadata = match fs::metadata(files, path) {
-        Ok(metadata) => metadata,
-        Err(error) => return Some(reason(files, path, error)),
-    };
-    if metadata.is_dir() {
-        return Some(PathHelp::IsAFolder(path));
-    }
-    if !metadata.is_file() {
-        return None;
-    }
-    let read = match fs::open(files, path) {
-        Ok(file) => read_through(file),
-        Err(error) => Err(error),
-    };
-    match read {
-        Ok(()) => None,
-        Err(error) => Some(reason(files, path, error)),
-    }
-}
-
-// Why no file can be made at a path, as far as the system says so without making one.
-fn why_not_made<'a, F: Files>(files: &F, path: &'a str) -> Option<PathHelp<'a>> {
-    match fs::metadata(files, path) {
-        Ok(metadata) if metadata.is_dir() => Some(PathHelp::IsAFolder(path)),
-        Ok(_) => None,
-        Err(error) if error.kind() == ErrorKind::NotFound => {
-            let folder = folder_of(path)?;
-            match fs::metadata(files, folder) {
-                Ok(_) => None,
-                Err(_) => Some(PathHelp::NoSuchFolder(folder)),
-            }
-        }
-        Err(error) => Some(reason(files, path, error)),
-    }
-}
-
-/// Says why a path cannot be read, where it still cannot be.
-pub fn help_to_read<F: Files, E: Write>(files: &F, path: &str, err: &mut E) -> io::Result<()> {
-    match why_not_read(files, path) {
-        Some(help) => write_line(err, &help),
+/// Says why a call on a path failed, where one did.
+pub fn help_with_path<F: Files, E: Write>(
+    files: &ObservedFiles<'_, F>,
+    path: &str,
+    err: &mut E,
+) -> io::Result<()> {
+    match files.failed().error_of(path) {
+        Some(error) => write_line(err, &reason(files, path, error)),
         None => Ok(()),
     }
 }
 
-/// Says why a path cannot be written, where that is seen.
-pub fn help_to_write<F: Files, E: Write>(files: &F, path: &str, err: &mut E) -> io::Result<()> {
-    match why_not_made(files, path) {
-        Some(help) => write_line(err, &help),
+/// Says why the last call that failed did so.
+pub fn help_with_last_call<F: Files, E: Write>(
+    files: &ObservedFiles<'_, F>,
+    err: &mut E,
+) -> io::Result<()> {
+    match files.failed().last() {
+        Some(call) => write_line(err, &reason(files, call.path.as_str(), call.error)),
         None => Ok(()),
     }
 }

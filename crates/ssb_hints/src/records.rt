@@ -1,9 +1,9 @@
-//! A record of a file, read again.
+//! A record of a text, read again.
 
 use csv::ByteRecord;
 use ssb_text::{ReadError, field_at, next_record, record_reader, trimmed_at};
 use std::alloc::{AllocError, Global};
-use std::io::ErrorKind;
+use std::io::{ErrorKind, Read};
 use std::rt::Files;
 use std::{fs, io};
 
@@ -15,17 +15,22 @@ fn failed(error: ReadError) -> io::Error {
     })
 }
 
-/// The record of this number, from 1, of a plain file.
-pub fn record_of<F: Files + AllocGlobal>(
-    files: &F,
-    path: &str,
+/// A plain file, to be read again. Nothing else is opened, since that could wait.
+pub fn open_plain<F: Files>(files: &F, path: &str) -> io::Result<F::File> {
+    if !fs::metadata(files, path)?.is_file() {
+        return Err(io::Error::from(ErrorKind::Unsupported));
+    }
+    fs::open(files, path)
+}
+
+/// The record of this number, from 1, of a text.
+pub fn record_of<I: Read + Drop>(
+    alloc: Global,
+    source: I,
     number: u64,
 ) -> io::Result<Option<ByteRecord>> {
-    if !fs::metadata(files, path)?.is_file() {
-        return Ok(None);
-    }
-    let mut reader = record_reader(files.alloc(), fs::open(files, path)?);
-    let mut record = ByteRecord::new(files.alloc());
+    let mut reader = record_reader(alloc, source);
+    let mut record = ByteRecord::new(alloc);
     for _ in 0..number {
         match next_record(&mut reader, &mut record) {
             Ok(true) => {}

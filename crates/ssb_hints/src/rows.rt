@@ -1,8 +1,9 @@
 //! What is wrong with a row of a table's file.
 
 use crate::lines::write_line;
-use crate::paths::help_to_read;
-use crate::records::{record_of, text_at};
+use crate::observed_files::ObservedFiles;
+use crate::paths::help_with_path;
+use crate::records::{open_plain, record_of, text_at};
 use csv::ByteRecord;
 use ssb_schema::{Column, Kind, Table};
 use ssb_text::{field_at, trimmed_at};
@@ -268,7 +269,8 @@ fn told_row<'a, F: Files + AllocGlobal>(
     let Ok(row) = number.parse::<u64>() else {
         return Ok(None);
     };
-    let Some(record) = record_of(files, path, row)? else {
+    let file = open_plain(files, path)?;
+    let Some(record) = record_of(files.alloc(), file, row)? else {
         return Ok(None);
     };
     let place = RowPlace { path, row };
@@ -281,8 +283,8 @@ fn told_row<'a, F: Files + AllocGlobal>(
 
 /// Says what is wrong with tables of a folder, by the words of the fault: its number, its name, the table, and the row
 /// with what else it tells.
-pub fn help_with_tables<F: Files + AllocGlobal, E: Write>(
-    files: &F,
+pub fn help_with_tables<F: Files, E: Write>(
+    files: &ObservedFiles<'_, F>,
     folder: &str,
     words: &[&str],
     err: &mut E,
@@ -295,7 +297,7 @@ pub fn help_with_tables<F: Files + AllocGlobal, E: Write>(
     };
     let path = format!(in files.alloc(); "{folder}/{table}.tbl")?;
     let [row, rest @ ..] = rest else {
-        return help_to_read(files, path.as_str(), err);
+        return help_with_path(files, path.as_str(), err);
     };
     match told_row(files, path.as_str(), table, row)? {
         Some(row) => help_with_row(files.alloc(), &row, number, rest, err),

@@ -2,16 +2,14 @@
 
 use crate::lines::write_line;
 use crate::nearest::nearest;
-use crate::paths::help_to_read;
 use crate::questions::{QuestionHelp, help_with_question};
 use crate::records::{record_of, texts_from};
 use csv::ByteRecord;
 use ssb_schema::{Column, Kind, Table, number};
 use ssb_text::{has_columns, next_record, record_reader, trimmed_at};
 use std::alloc::Global;
-use std::io::Write;
-use std::rt::Files;
-use std::{fmt, fs, io};
+use std::io::{Read, Write};
+use std::{fmt, io};
 
 /// Help about a script.
 #[derive(Clone, Copy)]
@@ -165,54 +163,57 @@ pub fn write_record_help<E: Write>(
     help_with_fields(alloc, record, fields.as_slice(), err)
 }
 
-// Shows the record of this number, and gives it.
-fn show_record<F: Files + AllocGlobal, E: Write>(
-    files: &F,
-    path: &str,
+/// Shows the record of this number of a text that is called so, and gives it.
+pub fn show_record<I: Read + Drop, E: Write>(
+    alloc: Global,
+    name: &str,
+    source: I,
     number: &str,
     err: &mut E,
 ) -> io::Result<Option<ByteRecord>> {
     let Ok(number) = number.parse::<u64>() else {
         return Ok(None);
     };
-    let Some(record) = record_of(files, path, number)? else {
+    let Some(record) = record_of(alloc, source, number)? else {
         return Ok(None);
     };
-    let texts = texts_from(files.alloc(), &record, 0)?;
-    let text = texts.as_slice().join(files.alloc(), "|")?;
-    write_line(err, &ScriptHelp::Record(path, number, text.as_str()))?;
+    let texts = texts_from(alloc, &record, 0)?;
+    let text = texts.as_slice().join(alloc, "|")?;
+    write_line(err, &ScriptHelp::Record(name, number, text.as_str()))?;
     Ok(Some(record))
 }
 
 // Shows the record of this number.
-fn help_with_place<F: Files + AllocGlobal, E: Write>(
-    files: &F,
-    path: &str,
+fn help_with_place<I: Read + Drop, E: Write>(
+    alloc: Global,
+    name: &str,
+    source: I,
     number: &str,
     err: &mut E,
 ) -> io::Result<()> {
-    show_record(files, path, number, err)?;
+    show_record(alloc, name, source, number, err)?;
     Ok(())
 }
 
 // Shows the record of this number, and says what is wrong with it.
-fn help_with_record<F: Files + AllocGlobal, E: Write>(
-    files: &F,
-    path: &str,
+fn help_with_record<I: Read + Drop, E: Write>(
+    alloc: Global,
+    name: &str,
+    source: I,
     number: &str,
     err: &mut E,
 ) -> io::Result<()> {
-    match show_record(files, path, number, err)? {
-        Some(record) => write_record_help(files.alloc(), &record, err),
+    match show_record(alloc, name, source, number, err)? {
+        Some(record) => write_record_help(alloc, &record, err),
         None => Ok(()),
     }
 }
 
 // The number of the last record that has but this word.
-fn last_of<F: Files + AllocGlobal>(files: &F, path: &str, word: &str) -> io::Result<Option<u64>> {
+fn last_of<I: Read + Drop>(alloc: Global, source: I, word: &str) -> Option<u64> {
     let mut last = None;
-    let mut reader = record_reader(files.alloc(), fs::open(files, path)?);
-    let mut record = ByteRecord::new(files.alloc());
+    let mut reader = record_reader(alloc, source);
+    let mut record = ByteRecord::new(alloc);
     for number in 1..u64::MAX {
         match next_record(&mut reader, &mut record) {
             Ok(true) => {}
@@ -222,57 +223,42 @@ fn last_of<F: Files + AllocGlobal>(files: &F, path: &str, word: &str) -> io::Res
             last = Some(number);
         }
     }
-    Ok(last)
+    last
 }
 
 // Says where what begins with a word, and does not end, begins.
-fn help_with_end<F: Files + AllocGlobal, E: Write>(
-    files: &F,
-    path: &str,
+fn help_with_end<I: Read + Drop, E: Write>(
+    alloc: Global,
+    name: &str,
+    source: I,
     begin: &str,
     end: &str,
     err: &mut E,
 ) -> io::Result<()> {
-    match last_of(files, path, begin)? {
-        Some(number) => write_line(err, &ScriptHelp::NoEnd(path, number, end)),
+    match last_of(alloc, source, begin) {
+        Some(number) => write_line(err, &ScriptHelp::NoEnd(name, number, end)),
         None => Ok(()),
     }
 }
 
-/// Says what is wrong with a script, by the words of its fault: its number, its name, and what else it tells.
-pub fn help_with_script<F: Files + AllocGlobal, E: Write>(
-    files: &F,
-    path: &str,
+/// Says what is wrong with a script that is called so, by the words of its fault: its number, its name, and what else
+/// it tells, which is mostly the number of a record.
+pub fn help_with_script<I: Read + Drop, E: Write>(
+    alloc: Global,
+    name: &str,
+    source: I,
     words: &[&str],
     err: &mut E,
 ) -> io::Result<()> {
-    match words {
-        ["70", _, number] => help_with_record(files, path, number, err),
-        ["71", ..] => help_with_end(files, path, "begin", "commit", err),
-        ["72", _, number] => help_with_place(files, path, number, err),
-        ["73", _, number, ..] => help_with_place(files, path, number, err),
-        ["78", _, number] => help_with_place(files, path, number, err),
-        ["99", _, number] => help_with_place(files, path, number, err),
-        ["75", ..] => help_to_read(files, path, err),
-        ["77", ..] => help_with_end(files, path, "ask", "answer", err),
-        ["98", _, number] => {
-            help_with_record(files, path, number, err)?;
+    let number = words.get(2).copied().unwrap_or("");
+    match words.first().copied().unwrap_or("") {
+        "70" => help_with_record(alloc, name, source, number, err),
+        "71" => help_with_end(alloc, name, source, "begin", "commit", err),
+        "77" => help_with_end(alloc, name, source, "ask", "answer", err),
+        "98" => {
+            help_with_record(alloc, name, source, number, err)?;
             write_line(err, &ScriptHelp::OnlyQuestions)
         }
-        _ => Ok(()),
-    }
-}
-
-/// Says what is wrong with a trace, by the words of its fault.
-pub fn help_with_trace<F: Files + AllocGlobal, E: Write>(
-    files: &F,
-    path: &str,
-    words: &[&str],
-    err: &mut E,
-) -> io::Result<()> {
-    match words {
-        ["75", ..] => help_to_read(files, path, err),
-        [_, _, number, ..] => help_with_place(files, path, number, err),
-        _ => Ok(()),
+        _ => help_with_place(alloc, name, source, number, err),
     }
 }
