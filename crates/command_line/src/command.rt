@@ -1,5 +1,6 @@
 //! What the words of a command line do.
 
+use crate::job_help::tell_help;
 use crate::streams::{Streams, tell};
 use arguments::{
     AuditWords, ExplainWords, ExportWords, FormatWord, HintsWord, Job, QueryWords, RunWords,
@@ -25,21 +26,19 @@ use ssb_files::{
 };
 use ssb_formats::Format;
 use ssb_hints::{
-    FailedCalls, FaultLines, Named, Observed, ObservedFiles, STANDARD_INPUT, STANDARD_OUTPUT,
-    write_help, write_notes,
+    FailedCalls, FaultLines, Observed, ObservedFiles, STANDARD_INPUT, STANDARD_OUTPUT,
 };
 use ssb_questions::Question;
 use ssb_text::Tables;
 use std::alloc::Global;
 use std::hash::RandomState;
-use std::io;
 use std::io::{BufWriter, Print, Read, Write};
 use std::random::RandomSource;
 use std::rt::Files;
 use std::sync::Wait;
-use std::thread;
 use std::thread::Threads;
 use std::time::Clock;
+use std::{io, thread};
 use terminal::{HelpedOutput, Prompted, TypedRequest};
 
 // The terminal, where there is one and the words let it show the progress of a load, which begins now.
@@ -582,9 +581,10 @@ where
     Ok(run_export(rt, hashing, tables, &place, err))
 }
 
-// Serves the person at a terminal over the built-in tables.
+// Serves the person at a terminal over the built-in tables, without a journal.
 fn serve_small<R, F, I: Read + Drop + Send, W: Write + Drop + Send, E: Print + Sync>(
     rt: &R,
+    files: &F,
     hints: HintsWord,
     streams: Streams<'_, I, W, E>,
 ) -> Result<u8, Fault>
@@ -600,7 +600,9 @@ where
         standing: Vec::new(rt.alloc()),
         tells_ready: false,
     };
-    let place: Option<JournalPlace<'_, JournalPath<'_, F>>> = None;
+    let bytes = TableBytes::new();
+    let path = journal_path(files, None);
+    let place = journal_place(path.as_ref(), &bytes, true);
     Ok(serve_typed(rt, settings, small_data::tables(), place, hints, streams))
 }
 
@@ -616,59 +618,6 @@ where
 {
     let hashing = hashing_of(rt)?;
     Ok(demo(rt, hashing, input, out, err))
-}
-
-// What the words of a job name, as far as help looks at it again.
-fn named_by<'a>(job: &'a Job<'_>) -> Named<'a> {
-    let nothing = Named::nothing();
-    match job {
-        Job::Script => nothing,
-        Job::Query(words) => Named {
-            data: Some(words.data),
-            query: Some(words.name),
-            constants: words.constants.as_slice(),
-            board: words.board,
-            ..nothing
-        },
-        Job::Explain(words) => Named {
-            data: words.data,
-            query: Some(words.name),
-            constants: words.constants.as_slice(),
-            ..nothing
-        },
-        Job::Run(words) => Named {
-            data: Some(words.data),
-            scripts: words.scripts.as_slice(),
-            standing: standing_path(words.standing),
-            trace: words.trace,
-            ..nothing
-        },
-        Job::Serve(words) => Named {
-            data: Some(words.data),
-            standing: standing_path(words.standing),
-            journal: words.journal,
-            clients: words.clients.as_slice(),
-            ..nothing
-        },
-        Job::Audit(words) => Named {
-            data: Some(words.data),
-            trace: Some(words.trace),
-            ..nothing
-        },
-        Job::Export(words) => Named {
-            data: Some(words.data),
-            journal: Some(words.journal),
-            ..nothing
-        },
-    }
-}
-
-// The file of the questions that are to stand, where the words name one.
-fn standing_path(word: Option<StandingWord<'_>>) -> Option<&str> {
-    match word {
-        Some(StandingWord::File(path)) => Some(path),
-        Some(StandingWord::Benchmark) | None => None,
-    }
 }
 
 // Does a job, and gives the exit status; or a fault that nobody has told. Its errors go to `streams.errors`, but for
@@ -687,7 +636,7 @@ where
     F::Dir: Send,
 {
     if matches!(job, Job::Script) && streams.is_typed {
-        return serve_small::<R, F, I, W, E>(rt, job.hints(), streams);
+        return serve_small(rt, files, job.hints(), streams);
     }
     let Streams {
         input,
@@ -716,22 +665,6 @@ where
         }
         Job::Audit(words) => check_trace(rt, files, words, terminal, &mut output, err),
         Job::Export(words) => export_tables(rt, files, words, terminal, err),
-    }
-}
-
-// Tells what a person can do about the fault that ended a job, or what the question of a job asks for that no row has.
-fn tell_help<F: Files, P: Print, E: Write>(
-    files: &ObservedFiles<'_, F>,
-    job: &Job<'_>,
-    faults: &FaultLines<'_, P>,
-    status: u8,
-    err: &mut E,
-) {
-    let named = named_by(job);
-    if status == 0 {
-        write_notes(files, &named, err);
-    } else {
-        write_help(files, &named, faults, err);
     }
 }
 

@@ -18,6 +18,7 @@
 #![tactic(auto)]
 
 mod command;
+mod job_help;
 mod streams;
 
 pub use command::run_command_line;

@@ -106,10 +106,7 @@ impl<O: Drop> Attended<O> {
 }
 
 // The client of the number, which counts from 1.
-fn client_of<O: Drop>(
-    clients: &[Mutex<Attended<O>>],
-    number: u64,
-) -> Option<&Mutex<Attended<O>>> {
+fn client_of<O: Drop>(clients: &[Mutex<Attended<O>>], number: u64) -> Option<&Mutex<Attended<O>>> {
     clients.get(number.checked_sub(1)? as usize)
 }
 
@@ -128,11 +125,7 @@ pub struct Attendant<O: Drop> {
 
 impl<O: Drop> Attendant<O> {
     /// An attendant of clients whose ends are there. It tells whom they wait for, or does not.
-    pub fn new(
-        alloc: Global,
-        ends: &[EndPaths],
-        tells: bool,
-    ) -> Result<Attendant<O>, AllocError> {
+    pub fn new(alloc: Global, ends: &[EndPaths], tells: bool) -> Result<Attendant<O>, AllocError> {
         let mut clients = Vec::new(alloc);
         for paths in ends {
             let path = String::from_str(alloc, paths.output.as_str())?;
