@@ -3,6 +3,7 @@
 ghost use Rattle.std.specs.Prelude.{◌≡◌, ◌≢◌, ◌⊎◌, ◌≤◌, ℕ, List, All, None, Some, IfOk, IfErr, IfSome, IsNone, OnOk};
 ghost use Rattle.std.specs.Prelude.{is_some, true, vec_len};
 ghost use Rattle.std.specs.Option.{option_map};
+ghost use Rattle.journal_opening.specs.Marks.{AreMarks, HaveChecksums};
 ghost use Rattle.serve_command.specs.Journals.{AreRefused, GoesOnFrom, RefusesFile};
 ghost use Rattle.serve_command.specs.Served.{IsRunOver};
 ghost use Rattle.serve_command.specs.Status.{serving_status};
@@ -22,10 +23,10 @@ use crate::journal_source::{JournalPlace, JournalSource, open_file, run_source};
 use crate::journaled_run::JournaledRun;
 use crate::unserved::JournaledFault;
 use journal::KeepsTorn;
-use journal_opening::{OpensJournal, table_sizes};
+use journal_opening::{OpensJournal, table_marks};
 use row_store::Log;
-use ssb_base::Base;
-use ssb_files::{Fault, LoadedFor, base_of};
+use ssb_files::{Fault, LoadedFor, TableBytes, base_of, checked_base_of};
+use ssb_journal::TableMark;
 use ssb_questions::Question;
 use ssb_server::Loaded;
 use ssb_serving::serve_streams;
@@ -65,23 +66,22 @@ pub(crate) struct SessionsRun<L: Drop, D: Drop> {
     pub(crate) kept: Option<KeptLog<D>>,
 }
 
-// The base of five tables, and what a server takes of it.
+// What a server takes of five tables, and by what its journal knows them.
 #[derive(Drop)]
-struct LoadedTables {
-    base: Arc<Base>,
+struct MarkedTables {
     loaded: Loaded,
+    marks: [TableMark; 5],
 }
 
-// The base that the tables spell, with the questions that stand from then on.
+// What a server takes of the base that the tables spell, with the questions that stand from then on.
 fn load_tables<R: Threads + Sync + AllocGlobal, I: Read + Drop>(
     rt: &R,
     hashing: RandomState,
     standing: &[Question],
     tables: Tables<I>,
-) -> Result<LoadedTables, Fault>
-    ensures base { IfOk result (λ made. (texts : Table → List ℕ) → AreTexts I.remaining tables texts
-        → IsLoadedToServe texts made.loaded) }
-    ensures same { IfOk result (λ made. made.loaded ≡ made.base.value) }
+) -> Result<Loaded, Fault>
+    ensures base { IfOk result (λ loaded. (texts : Table → List ℕ) → AreTexts I.remaining tables texts
+        → IsLoadedToServe texts loaded) }
     ensures refused { IfErr result (λ fault. status_of fault ≡ 1 → (texts : Table → List ℕ)
         → AreTexts I.remaining tables texts → AreRefusedToServe texts ⊎ MayNotStandToServe texts standing.now) }
     ensures words { IfErr result (λ fault. status_of fault ≢ 2) }
@@ -89,7 +89,32 @@ fn load_tables<R: Threads + Sync + AllocGlobal, I: Read + Drop>(
     let base = base_of(rt, rt.alloc(), tables, LoadedFor::Serving)?;
     let base = Arc::new(rt.alloc(), base)?;
     let loaded = Loaded::new(rt, rt.alloc(), hashing, &base, standing)?;
-    Ok(LoadedTables { base, loaded })
+    Ok(loaded)
+}
+
+// The same, and the marks of the tables, whose bytes are hashed.
+fn load_marked<R: Threads + Sync + AllocGlobal, I: Read + Drop>(
+    rt: &R,
+    hashing: RandomState,
+    standing: &[Question],
+    tables: Tables<I>,
+    bytes: &TableBytes,
+) -> Result<MarkedTables, Fault>
+    ensures base { IfOk result (λ made. (texts : Table → List ℕ) → AreTexts I.remaining tables texts
+        → IsLoadedToServe texts made.loaded) }
+    ensures marked { IfOk result (λ made. AreMarks made.loaded made.marks) }
+    ensures checked { IfOk result (λ made. (texts : Table → List ℕ) → AreTexts I.remaining tables texts
+        → HaveChecksums texts made.marks) }
+    ensures refused { IfErr result (λ fault. status_of fault ≡ 1 → (texts : Table → List ℕ)
+        → AreTexts I.remaining tables texts → AreRefusedToServe texts ⊎ MayNotStandToServe texts standing.now) }
+    ensures words { IfErr result (λ fault. status_of fault ≢ 2) }
+{
+    let read = checked_base_of(rt, rt.alloc(), tables, LoadedFor::Serving)?;
+    let (base, checksums) = read;
+    let marks = table_marks(&base, bytes, &checksums);
+    let base = Arc::new(rt.alloc(), base)?;
+    let loaded = Loaded::new(rt, rt.alloc(), hashing, &base, standing)?;
+    Ok(MarkedTables { loaded, marks })
 }
 
 // Serves clients at once, one for each speaker, without a journal.
@@ -127,7 +152,7 @@ fn run_behind<R, P, S, E>(
     rt: &R,
     dispatchers: u32,
     place: &JournalPlace<'_, P>,
-    tables: LoadedTables,
+    tables: MarkedTables,
     speakers: Vec<S>,
     screen: &E,
 ) -> Result<SessionsRun<S::Left, P::Opened>, ServeFault>
@@ -140,9 +165,8 @@ where
     S::Left: Drop + Send,
     E: Print,
     requires few { vec_len speakers ≤ most_clients }
-    requires same { tables.loaded ≡ tables.base.value }
-    ensures run { IfOk result (λ run. GoesOnFrom S.spoken (P.holds place.now.file.now) tables.loaded speakers.items
-        dispatchers run.left.items run.log) }
+    ensures run { IfOk result (λ run. GoesOnFrom S.spoken (P.holds place.now.file.now) tables.loaded tables.marks
+        speakers.items dispatchers run.left.items run.log) }
     ensures left { IfOk result (λ run. vec_len run.left ≡ vec_len speakers) }
     ensures kept { IfOk result (λ run. IfSome run.kept (λ kept. IsLeft (P.Opened.may_leave kept.disk)
         (P.Opened.seen kept.disk) kept.count run.log kept.was_written)) }
@@ -150,15 +174,14 @@ where
         run.left.items)) }
     ensures journal { IfOk result (λ run. is_some run.kept ≡ true) }
     ensures refused { IfErr result (λ fault. serving_status fault ≡ 1
-        → P.is_taken place.now.file.now ⊎ RefusesFile tables.loaded (P.holds place.now.file.now)) }
+        → P.is_taken place.now.file.now ⊎ RefusesFile tables.loaded tables.marks (P.holds place.now.file.now)) }
     ensures words { IfErr result (λ fault. serving_status fault ≢ 2) }
 {
-    let LoadedTables { base, loaded } = tables;
-    let sizes = table_sizes(&base, place.bytes);
+    let MarkedTables { loaded, marks } = tables;
     let disk = open_file(rt.alloc(), place.file)?;
     let source = JournalSource {
         loaded,
-        sizes: &sizes,
+        marks: &marks,
         disk,
     };
     let run = match run_source(rt, dispatchers, place, source, speakers, screen) {
@@ -225,9 +248,14 @@ where
         dispatchers,
         standing,
     } = settings;
-    let tables = load_tables(rt, hashing, &standing, tables)?;
     match place {
-        Some(place) => run_behind(rt, dispatchers, &place, tables, speakers, screen),
-        None => run_without(rt, dispatchers, tables.loaded, speakers),
+        Some(place) => {
+            let tables = load_marked(rt, hashing, &standing, tables, place.bytes)?;
+            run_behind(rt, dispatchers, &place, tables, speakers, screen)
+        }
+        None => {
+            let loaded = load_tables(rt, hashing, &standing, tables)?;
+            run_without(rt, dispatchers, loaded, speakers)
+        }
     }
 }
