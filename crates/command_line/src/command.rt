@@ -24,9 +24,9 @@ use ssb_files::{
     watch_scripts, watch_tables,
 };
 use ssb_formats::Format;
-use ssb_hints::{FaultLines, Named, write_help, write_notes};
+use ssb_hints::{FaultLines, Named, NamedTables, write_help, write_notes};
 use ssb_questions::Question;
-use ssb_text::Tables;
+use ssb_text::{TableFiles, TableLayout, Tables};
 use std::alloc::Global;
 use std::hash::RandomState;
 use std::io;
@@ -98,7 +98,10 @@ where
     let board = open_board(files, words)?;
     let hashing = hashing_of(rt)?;
     let screen = screen_of(rt, words.quiet, terminal);
-    let tables = watch_tables(screen.as_ref(), tables);
+    let tables = TableFiles {
+        tables: watch_tables(screen.as_ref(), tables),
+        layout: words.layout,
+    };
     let settings = Settings {
         hashing,
         times: words.times,
@@ -183,7 +186,10 @@ where
     };
     let tables = open_tables(files, data)?;
     let screen = screen_of(rt, words.quiet, terminal);
-    let tables = watch_tables(screen.as_ref(), tables);
+    let tables = TableFiles {
+        tables: watch_tables(screen.as_ref(), tables),
+        layout: words.layout,
+    };
     Ok(run_explain_over(rt, tables, words.name, constants, out, err))
 }
 
@@ -265,7 +271,10 @@ where
     } = opened;
     let screen = screen_of(rt, words.quiet, terminal);
     let scripts = watch_scripts(rt.alloc(), screen.as_ref(), scripts)?;
-    let tables = watch_tables(screen.as_ref(), tables);
+    let tables = TableFiles {
+        tables: watch_tables(screen.as_ref(), tables),
+        layout: words.layout,
+    };
     let input = RunInput {
         tables,
         sources: scripts,
@@ -404,7 +413,10 @@ where
         columns: _,
     } = streams;
     let bytes = TableBytes::new();
-    let tables = count_tables(&bytes, tables);
+    let tables = TableFiles {
+        tables: count_tables(&bytes, tables),
+        layout: words.layout,
+    };
     let path = journal_path(files, journal.as_ref());
     let place = journal_place(path.as_ref(), &bytes, words.quiet);
     if !clients.is_empty() {
@@ -477,7 +489,10 @@ where
     let trace = open_file(files, words.trace)?;
     let hashing = hashing_of(rt)?;
     let screen = screen_of(rt, words.quiet, terminal);
-    let tables = watch_tables(screen.as_ref(), tables);
+    let tables = TableFiles {
+        tables: watch_tables(screen.as_ref(), tables),
+        layout: words.layout,
+    };
     let trace = watch(screen.as_ref(), InputSource::Trace, trace);
     Ok(run_audit(rt, hashing, tables, trace, out, err))
 }
@@ -499,7 +514,10 @@ where
     let screen = screen_of(rt, words.quiet, terminal);
     let tables = watch_tables(screen.as_ref(), tables);
     let bytes = TableBytes::new();
-    let tables = count_tables(&bytes, tables);
+    let tables = TableFiles {
+        tables: count_tables(&bytes, tables),
+        layout: words.layout,
+    };
     let journal = ReadPath {
         files,
         path: words.journal,
@@ -528,44 +546,48 @@ where
     Ok(demo(rt, hashing, input, out, err))
 }
 
+fn tables_named(folder: &str, layout: TableLayout) -> NamedTables<'_> {
+    NamedTables { folder, layout }
+}
+
 // What the words of a job name, as far as help looks at it again.
 fn named_by<'a>(job: &'a Job<'_>) -> Named<'a> {
     let nothing = Named::nothing();
     match job {
         Job::Script => nothing,
         Job::Query(words) => Named {
-            data: Some(words.data),
+            data: Some(tables_named(words.data, words.layout)),
             query: Some(words.name),
             constants: words.constants.as_slice(),
             ..nothing
         },
         Job::Explain(words) => Named {
-            data: words.data,
+            data: words.data.map(|folder| tables_named(folder, words.layout)),
             query: Some(words.name),
             constants: words.constants.as_slice(),
             ..nothing
         },
         Job::Run(words) => Named {
-            data: Some(words.data),
+            data: Some(tables_named(words.data, words.layout)),
             scripts: words.scripts.as_slice(),
             standing: standing_path(words.standing),
             trace: words.trace,
             ..nothing
         },
         Job::Serve(words) => Named {
-            data: Some(words.data),
+            data: Some(tables_named(words.data, words.layout)),
             standing: standing_path(words.standing),
             journal: words.journal,
             makes_journal: true,
             ..nothing
         },
         Job::Audit(words) => Named {
-            data: Some(words.data),
+            data: Some(tables_named(words.data, words.layout)),
             trace: Some(words.trace),
             ..nothing
         },
         Job::Export(words) => Named {
-            data: Some(words.data),
+            data: Some(tables_named(words.data, words.layout)),
             journal: Some(words.journal),
             ..nothing
         },

@@ -40,7 +40,8 @@ fn small_base(rt: &(impl Threads + Sync), alloc: Global) -> Result<Base, RunComm
     ensures base { IfOk result (λ base. IsLoaded small_texts base) }
     ensures data { IfErr result (λ fault. serving_status fault ≡ 1 → AreRefused small_texts) }
 {
-    let base = base_of(rt, alloc, tables(), LoadedFor::Reports)?;
+    let tables = TableFiles::benchmark(tables());
+    let base = base_of(rt, alloc, tables, LoadedFor::Reports)?;
     Ok(base)
 }
 

@@ -34,7 +34,7 @@ fn help_with_numbered<F: Files + AllocGlobal, E: Write>(
 ) -> io::Result<()> {
     match subject {
         "data" => match named.data {
-            Some(folder) => help_with_tables(files, folder, words, err),
+            Some(tables) => help_with_tables(files, tables, words, err),
             None => Ok(()),
         },
         "standing" => match named.standing {
@@ -154,7 +154,7 @@ pub fn write_help<F: Files + AllocGlobal, P: Print, E: Write>(
 /// Writes what the question of a command looks for that no row has, where it was answered: one line or more, each begun
 /// with `note: `, or none.
 pub fn write_notes<F: Files + AllocGlobal, E: Write>(files: &F, named: &Named<'_>, err: &mut E) {
-    if let (Some(folder), Some(name)) = (named.data, named.query) {
-        let _ = note_question(files, folder, name, named.constants, err);
+    if let (Some(tables), Some(name)) = (named.data, named.query) {
+        let _ = note_question(files, tables, name, named.constants, err);
     }
 }

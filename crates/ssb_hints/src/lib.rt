@@ -40,7 +40,7 @@ mod star;
 pub use fault_lines::FaultLines;
 pub use helping::{write_help, write_notes};
 pub use journals::JournalHelp;
-pub use named::Named;
+pub use named::{Named, NamedTables};
 pub use notes::QuestionNote;
 pub use paths::PathHelp;
 pub use questions::{ConstantsHelp, QuestionHelp};

@@ -1,7 +1,7 @@
 //! A record of a file, read again.
 
 use csv::ByteRecord;
-use ssb_text::{ReadError, field_at, next_record, record_reader, trimmed_at};
+use ssb_text::{Barred, Delimiter, ReadError, field_at, next_record, record_reader, trimmed_at};
 use std::alloc::{AllocError, Global};
 use std::io::ErrorKind;
 use std::rt::Files;
@@ -15,16 +15,18 @@ fn failed(error: ReadError) -> io::Error {
     })
 }
 
-/// The record of this number, from 1, of a plain file.
+/// The record of this number, from 1, of a plain file whose fields this delimiter parts, or a bar.
 pub fn record_of<F: Files + AllocGlobal>(
     files: &F,
     path: &str,
+    delimiter: Delimiter,
     number: u64,
 ) -> io::Result<Option<ByteRecord>> {
     if !fs::metadata(files, path)?.is_file() {
         return Ok(None);
     }
-    let mut reader = record_reader(files.alloc(), fs::open(files, path)?);
+    let file = Barred::new(fs::open(files, path)?, delimiter);
+    let mut reader = record_reader(files.alloc(), file);
     let mut record = ByteRecord::new(files.alloc());
     for _ in 0..number {
         match next_record(&mut reader, &mut record) {

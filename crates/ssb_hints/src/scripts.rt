@@ -7,7 +7,7 @@ use crate::questions::{QuestionHelp, help_with_question};
 use crate::records::{record_of, texts_from};
 use csv::ByteRecord;
 use ssb_schema::{Column, Kind, Table, number};
-use ssb_text::{has_columns, next_record, record_reader, trimmed_at};
+use ssb_text::{Delimiter, has_columns, next_record, record_reader, trimmed_at};
 use std::alloc::Global;
 use std::io::Write;
 use std::rt::Files;
@@ -175,7 +175,7 @@ fn show_record<F: Files + AllocGlobal, E: Write>(
     let Ok(number) = number.parse::<u64>() else {
         return Ok(None);
     };
-    let Some(record) = record_of(files, path, number)? else {
+    let Some(record) = record_of(files, path, Delimiter::bar(), number)? else {
         return Ok(None);
     };
     let texts = texts_from(files.alloc(), &record, 0)?;
