@@ -101,8 +101,9 @@ as a plain file. An OUT that has bytes in it is refused, and so are two ends tha
 A client sends the records of a script. A request is a line 'query|NAME' or 'query|NAME|CONSTANT..', or the lines from
 'ask' to 'answer' or from 'begin' to 'commit'. Its reply comes before the server waits for the next request: one line,
 or for each question a line that says how many rows follow. The 1 to 16 questions from 'ask' to 'answer' are all answered
-after the same commits. A request with a fault is answered 'fault: ..', and does nothing. The end of the input ends the
-session. At a terminal the word 'help' shows the queries and their constants.
+after the same commits. A request with a fault is answered 'fault: ..', and does nothing. 'format|NAME' changes how
+replies are written: report, table, csv, json, markdown or bars. The end of the input ends the session. At a terminal
+the word 'help' shows the queries and their constants.
 
 With --journal the commits are kept in FILE, which is created if it does not exist. 'committed N' is sent when commit N
 is on the disk; an answer is sent when all commits that it contains are. The next server with this FILE and the same
@@ -133,8 +134,9 @@ Example:
 /// What the word `help` shows on the terminal of a live session.
 pub const TERMINAL_HELP: &str = "\
 query|NAME or query|NAME|CONSTANT.. asks. ask, then 1 to 16 of these, then answer asks them together: all are answered
-after the same commits. begin, then add or amend with line|.. records, and withdraw|KEY, then commit is one refresh. The
-end of the input (Ctrl-D) ends the session. The queries, and their constants in this order:
+after the same commits. begin, then add or amend with line|.. records, and withdraw|KEY, then commit is one refresh.
+format|NAME changes how replies are written: report, table, csv, json, markdown or bars. The end of the input (Ctrl-D)
+ends the session. The queries, and their constants in this order:
 
   Q1.1        year; discount from, to; quantity from, to
   Q1.2        year and month, like 199401; discount from, to; quantity from, to
