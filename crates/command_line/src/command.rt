@@ -1,5 +1,7 @@
 //! What the words of a command line do.
 
+use crate::measured::measure_serving;
+use crate::metrics::{MetricsFile, push_metrics};
 use crate::streams::{Streams, tell};
 use arguments::{
     AuditWords, ExplainWords, ExportWords, FormatWord, Job, QueryWords, RunWords, ServeWords,
@@ -18,6 +20,7 @@ use serve_command::{
     EndPaths, JournalPlace, MOST_CLIENTS, PathClients, Prompted, ServeSettings, StreamClient,
     report_no_pipes, serve_clients, serve_stream,
 };
+use server_figures::LiveFigures;
 use ssb_files::{
     Fault, InputSource, PathUse, Screen, TableBytes, UsedPath, check_paths, count_tables,
     find_tables, make_file, open_file, open_files, open_tables, read_standing, watch,
@@ -33,7 +36,7 @@ use std::io;
 use std::io::{BufWriter, Print, Read, Write};
 use std::random::RandomSource;
 use std::rt::Files;
-use std::sync::Wait;
+use std::sync::{Arc, Wait};
 use std::thread::Threads;
 use std::time::Clock;
 
@@ -285,9 +288,9 @@ fn clients_of(alloc: Global, words: &[&str]) -> Result<Vec<EndPaths>, Fault> {
     Ok(clients)
 }
 
-// The files of a live server, opened, and how it serves.
+/// The files of a live server, opened, and how it serves.
 #[derive(Drop)]
-struct OpenedServer<O: Drop> {
+pub(crate) struct OpenedServer<O: Drop> {
     settings: ServeSettings,
     tables: Tables<O>,
     clients: Vec<EndPaths>,
@@ -310,6 +313,7 @@ fn check_server_paths<F: Files + AllocGlobal>(
         paths.push(UsedPath::find(files, journal, PathUse::Write)?)?;
         paths.push(UsedPath::find(files, torn.as_str(), PathUse::Write)?)?;
     }
+    push_metrics(files, words.metrics, &mut paths)?;
     check_paths(paths.as_slice())
 }
 
@@ -339,6 +343,7 @@ fn open_server<R: RandomSource, F: Files + AllocGlobal>(
         hashing,
         dispatchers: words.dispatchers,
         standing,
+        figures: Arc::new(files.alloc(), LiveFigures::new())?,
     };
     Ok(OpenedServer {
         settings,
@@ -373,9 +378,16 @@ fn journal_place<'a, 'f, F: Files + AllocGlobal>(
     })
 }
 
-// Serves clients over tables that are loaded and counted now: those that the words name, or else standard input and
-// output.
-fn serve_loading<R, F, T, I: Read + Drop + Send, W: Write + Drop + Send, E: Print + Sync>(
+/// Serves clients over tables that are loaded and counted now: those that the words name, or else standard input and
+/// output.
+pub(crate) fn serve_loading<
+    R,
+    F,
+    T,
+    I: Read + Drop + Send,
+    W: Write + Drop + Send,
+    E: Print + Sync,
+>(
     rt: &R,
     files: &F,
     words: &ServeWords<'_>,
@@ -448,6 +460,10 @@ where
         Ok(opened) => opened,
         Err(fault) => return fault.tell(&mut io::writer(errors)),
     };
+    let metrics = match MetricsFile::named_by(files, words, &settings.figures) {
+        Ok(metrics) => metrics,
+        Err(fault) => return fault.tell(&mut io::writer(errors)),
+    };
     if !words.quiet && clients.len() <= MOST_CLIENTS {
         report_no_pipes(files, clients.as_slice(), &mut io::writer(errors));
     }
@@ -458,7 +474,10 @@ where
         clients,
         journal,
     };
-    serve_loading(rt, files, words, opened, streams)
+    match metrics {
+        Some(metrics) => measure_serving(rt, files, words, metrics, opened, streams),
+        None => serve_loading(rt, files, words, opened, streams),
+    }
 }
 
 // Checks a trace over the files of a folder.

@@ -18,6 +18,10 @@
 #![tactic(auto)]
 
 mod command;
+mod end_bell;
+mod measured;
+mod memory;
+mod metrics;
 mod streams;
 
 pub use command::run_command_line;

@@ -24,6 +24,7 @@ use crate::unserved::JournaledFault;
 use journal::KeepsTorn;
 use journal_opening::{OpensJournal, table_sizes};
 use row_store::Log;
+use server_figures::LiveFigures;
 use ssb_base::Base;
 use ssb_files::{Fault, LoadedFor, base_of};
 use ssb_questions::Question;
@@ -46,6 +47,8 @@ pub struct ServeSettings {
     pub dispatchers: u32,
     /// The questions that stand: their totals follow the commits. Which they are changes no reply.
     pub standing: Vec<Question>,
+    /// In which the server counts what it does, for whoever looks on.
+    pub figures: Arc<LiveFigures>,
 }
 
 /// A journal at the end of the sessions: its disk, how many commits of the log are on that, and whether it was written to
@@ -72,11 +75,12 @@ struct LoadedTables {
     loaded: Loaded,
 }
 
-// The base that the tables spell, with the questions that stand from then on.
+// The base that the tables spell, with the questions that stand from then on, and the figures of the server over it.
 fn load_tables<R: Threads + Sync + AllocGlobal, I: Read + Drop>(
     rt: &R,
     hashing: RandomState,
     standing: &[Question],
+    figures: Arc<LiveFigures>,
     tables: Tables<I>,
 ) -> Result<LoadedTables, Fault>
     ensures base { IfOk result (λ made. (texts : Table → List ℕ) → AreTexts I.remaining tables texts
@@ -89,7 +93,10 @@ fn load_tables<R: Threads + Sync + AllocGlobal, I: Read + Drop>(
     let base = base_of(rt, rt.alloc(), tables, LoadedFor::Serving)?;
     let base = Arc::new(rt.alloc(), base)?;
     let loaded = Loaded::new(rt, rt.alloc(), hashing, &base, standing)?;
-    Ok(LoadedTables { base, loaded })
+    Ok(LoadedTables {
+        base,
+        loaded: loaded.counted_in(figures),
+    })
 }
 
 // Serves clients at once, one for each speaker, without a journal.
@@ -171,7 +178,6 @@ where
         disk,
         count,
         was_written,
-        batches: _,
     } = run;
     Ok(SessionsRun {
         left,
@@ -224,8 +230,9 @@ where
         hashing,
         dispatchers,
         standing,
+        figures,
     } = settings;
-    let tables = load_tables(rt, hashing, &standing, tables)?;
+    let tables = load_tables(rt, hashing, &standing, figures, tables)?;
     match place {
         Some(place) => run_behind(rt, dispatchers, &place, tables, speakers, screen),
         None => run_without(rt, dispatchers, tables.loaded, speakers),
