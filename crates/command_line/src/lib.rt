@@ -23,6 +23,7 @@ mod measured;
 mod memory;
 mod metrics;
 mod streams;
+mod terminal_view;
 
 pub use command::run_command_line;
 pub use streams::{Streams, columns, words};

@@ -20,6 +20,7 @@ use crate::acknowledging::Durable;
 use crate::fault::{ServeFault, ServeRefusal};
 use crate::journal_source::{JournalPlace, JournalSource, open_file, run_source};
 use crate::journaled_run::JournaledRun;
+use crate::ready::{ReadyLine, tell_ready};
 use crate::unserved::JournaledFault;
 use journal::KeepsTorn;
 use journal_opening::{OpensJournal, table_sizes};
@@ -49,6 +50,8 @@ pub struct ServeSettings {
     pub standing: Vec<Question>,
     /// In which the server counts what it does, for whoever looks on.
     pub figures: Arc<LiveFigures>,
+    /// Whether it is told when the server is ready.
+    pub tells_ready: bool,
 }
 
 /// A journal at the end of the sessions: its disk, how many commits of the log are on that, and whether it was written to
@@ -68,20 +71,23 @@ pub(crate) struct SessionsRun<L: Drop, D: Drop> {
     pub(crate) kept: Option<KeptLog<D>>,
 }
 
-// The base of five tables, and what a server takes of it.
+// The base of five tables, what a server takes of it, and what is told when it serves.
 #[derive(Drop)]
 struct LoadedTables {
     base: Arc<Base>,
     loaded: Loaded,
+    ready: Option<ReadyLine>,
 }
 
 // The base that the tables spell, with the questions that stand from then on, and the figures of the server over it.
+// Where it is to be told that the server is ready, it is told for how many clients.
 fn load_tables<R: Threads + Sync + AllocGlobal, I: Read + Drop>(
     rt: &R,
     hashing: RandomState,
     standing: &[Question],
     figures: Arc<LiveFigures>,
     tables: Tables<I>,
+    told: Option<usize>,
 ) -> Result<LoadedTables, Fault>
     ensures base { IfOk result (λ made. (texts : Table → List ℕ) → AreTexts I.remaining tables texts
         → IsLoadedToServe texts made.loaded) }
@@ -93,9 +99,11 @@ fn load_tables<R: Threads + Sync + AllocGlobal, I: Read + Drop>(
     let base = base_of(rt, rt.alloc(), tables, LoadedFor::Serving)?;
     let base = Arc::new(rt.alloc(), base)?;
     let loaded = Loaded::new(rt, rt.alloc(), hashing, &base, standing)?;
+    let ready = ReadyLine::of(&base, told);
     Ok(LoadedTables {
         base,
         loaded: loaded.counted_in(figures),
+        ready,
     })
 }
 
@@ -160,13 +168,18 @@ where
         → P.is_taken place.now.file.now ⊎ RefusesFile tables.loaded (P.holds place.now.file.now)) }
     ensures words { IfErr result (λ fault. serving_status fault ≢ 2) }
 {
-    let LoadedTables { base, loaded } = tables;
+    let LoadedTables {
+        base,
+        loaded,
+        ready,
+    } = tables;
     let sizes = table_sizes(&base, place.bytes);
     let disk = open_file(rt.alloc(), place.file)?;
     let source = JournalSource {
         loaded,
         sizes: &sizes,
         disk,
+        ready,
     };
     let run = match run_source(rt, dispatchers, place, source, speakers, screen) {
         Ok(run) => run,
@@ -231,10 +244,15 @@ where
         dispatchers,
         standing,
         figures,
+        tells_ready,
     } = settings;
-    let tables = load_tables(rt, hashing, &standing, figures, tables)?;
+    let told = tells_ready.then_some(speakers.len());
+    let tables = load_tables(rt, hashing, &standing, figures, tables, told)?;
     match place {
         Some(place) => run_behind(rt, dispatchers, &place, tables, speakers, screen),
-        None => run_without(rt, dispatchers, tables.loaded, speakers),
+        None => {
+            tell_ready(tables.ready, screen);
+            run_without(rt, dispatchers, tables.loaded, speakers)
+        },
     }
 }
