@@ -36,7 +36,7 @@ pub enum OrderKey {
 
 /// A query as data: which combinations of a line with its four dimension rows count, what is added up
 /// over them, and in which groups and order the sums stand.
-#[derive(Debug, Drop)]
+#[derive(Debug)]
 pub struct Plan {
     pub customers: Items<Test>,
     pub suppliers: Items<Test>,
@@ -50,4 +50,20 @@ pub struct Plan {
     /// The printed columns but the sum.
     pub groups: Items<Column>,
     pub order: Items<OrderKey>,
+}
+
+impl Drop for Plan {
+    fn drop(self) {
+        let Plan {
+            customers: _,
+            suppliers: _,
+            parts: _,
+            dates: _,
+            quantity: _,
+            discount: _,
+            measure: _,
+            groups: _,
+            order: _,
+        } = self;
+    }
 }
