@@ -2,6 +2,7 @@
 import os
 import queue
 import random
+import re
 import select
 import subprocess
 import sys
@@ -15,6 +16,7 @@ sys.path.insert(0, str(HERE.parent / "clients/python"))
 import ssb_live
 
 PATIENCE = 120          # seconds after which a reply counts as lost
+READY = re.compile(r"ssb_live: serving \d+ lines, \d+ clients\n")
 SETTLING = 0.5          # seconds in which the server notices that a client has gone
 MOST_BYTES = 1 << 20    # of a request
 AHEAD = 40              # requests that a client sends at most before it reads their replies
@@ -43,8 +45,9 @@ class Server:
                                         stdin=subprocess.DEVNULL, stdout=subprocess.DEVNULL, env=env)
 
     def told(self):
+        """What it told, but that it is ready."""
         self.errors.seek(0)
-        return self.errors.read()
+        return READY.sub("", self.errors.read())
 
     def end(self, patience=PATIENCE):
         """Waits for its end, and gives its status."""

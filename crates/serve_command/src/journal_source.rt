@@ -11,6 +11,7 @@ ghost use Rattle.history_core.specs.Counts.{most_clients};
 use crate::acknowledging::Durable;
 use crate::fault::{ServeFault, ServeRefusal};
 use crate::journaled_run::{JournaledRun, Recovered, run_journaled};
+use crate::ready::{ReadyLine, tell_ready};
 use journal::{Disk, KeepsTorn};
 use journal_opening::{OpeningFault, OpensJournal};
 use ssb_files::TableBytes;
@@ -41,13 +42,16 @@ pub struct JournalSource<'a, D: Disk + Drop> {
     /// How large the tables are, as the journal's head tells it.
     pub sizes: &'a [TableSize],
     pub disk: D,
+    /// What is told when the server is ready, if anything is.
+    pub ready: Option<ReadyLine>,
 }
 
-// Keeps what a crash has torn beside the journal, and tells how many commits it has.
+// Keeps what a crash has torn beside the journal, and tells how many commits it has, and that the server is ready.
 #[derive(Drop)]
 struct TornKeeper<'a, P: KeepsTorn, E: Print> {
     place: &'a JournalPlace<'a, P>,
     commits: u64,
+    ready: Option<ReadyLine>,
     screen: &'a E,
 }
 
@@ -70,6 +74,7 @@ impl<'a, P: KeepsTorn, E: Print> KeepsTorn for TornKeeper<'a, P, E> {
                 ),
             };
         }
+        tell_ready(self.ready, self.screen);
         Ok(kept)
     }
 }
@@ -112,6 +117,7 @@ where
         loaded,
         sizes,
         disk,
+        ready,
     } = source;
     let opened = match open(rt.alloc(), sizes, disk) {
         Ok(opened) => opened,
@@ -120,6 +126,7 @@ where
     let keeper = TornKeeper {
         place,
         commits: opened.kept.commits.len() as u64,
+        ready,
         screen,
     };
     let recovered = Recovered {

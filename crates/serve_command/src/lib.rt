@@ -12,8 +12,6 @@
 //!                                                          │ log                        ▲ once all that the client
 //!                                                          ▼                            │ has seen is on the disk
 //!                                                      shared journal ── groups ──▶ disk
-//!
-//! terminal ── Prompted ─▶ its bytes; a prompt before each wait, and help where it is asked for
 //! ```
 //!
 //! The contract of [`serve_stream`] (`specs/Served.antt`): with status 0 the session of the only client of a live
@@ -33,7 +31,7 @@
 //! made again: the first that is refused is a fault. One session writes all new commits as a group, the others wait for
 //! it, and what comes meanwhile is the next group. No thread is the journal's own.
 //!
-//! What the system opens, and what a terminal shows, is in no contract.
+//! What the system opens is in no contract. What a person types is read by `terminal::Prompted`.
 //!
 //! ```text
 //! let ended = serve_clients(rt, settings, tables, place, clients, screen);     // place: None without a journal
@@ -45,7 +43,7 @@ mod ends;
 mod fault;
 mod journal_source;
 mod journaled_run;
-mod prompted;
+mod ready;
 mod remaking;
 mod runs;
 mod server_log;
@@ -58,7 +56,7 @@ pub use ends::{EndFault, EndPaths, Ends, open_ends, report_no_pipes};
 pub use fault::ServeRefusal;
 pub use journal_source::{JournalPlace, JournalSource, run_source};
 pub use journaled_run::JournaledRun;
-pub use prompted::Prompted;
+pub use ready::ReadyLine;
 pub use runs::ServeSettings;
 pub use serving::{ClientsEnd, MOST_CLIENTS, PathClients, StreamEnd, serve_clients, serve_stream};
 pub use speakers::StreamClient;

@@ -20,6 +20,7 @@ use crate::acknowledging::Durable;
 use crate::fault::{ServeFault, ServeRefusal};
 use crate::journal_source::{JournalPlace, JournalSource, open_file, run_source};
 use crate::journaled_run::JournaledRun;
+use crate::ready::{ReadyLine, tell_ready};
 use crate::unserved::JournaledFault;
 use journal::KeepsTorn;
 use journal_opening::{OpensJournal, table_sizes};
@@ -46,6 +47,8 @@ pub struct ServeSettings {
     pub dispatchers: u32,
     /// The questions that stand: their totals follow the commits. Which they are changes no reply.
     pub standing: Vec<Question>,
+    /// Whether it is told when the server is ready.
+    pub tells_ready: bool,
 }
 
 /// A journal at the end of the sessions: its disk, how many commits of the log are on that, and whether it was written to
@@ -65,19 +68,22 @@ pub(crate) struct SessionsRun<L: Drop, D: Drop> {
     pub(crate) kept: Option<KeptLog<D>>,
 }
 
-// The base of five tables, and what a server takes of it.
+// The base of five tables, what a server takes of it, and what is told when it serves.
 #[derive(Drop)]
 struct LoadedTables {
     base: Arc<Base>,
     loaded: Loaded,
+    ready: Option<ReadyLine>,
 }
 
-// The base that the tables spell, with the questions that stand from then on.
+// The base that the tables spell, with the questions that stand from then on. Where it is to be told that the server is
+// ready, it is told for how many clients.
 fn load_tables<R: Threads + Sync + AllocGlobal, I: Read + Drop>(
     rt: &R,
     hashing: RandomState,
     standing: &[Question],
     tables: Tables<I>,
+    told: Option<usize>,
 ) -> Result<LoadedTables, Fault>
     ensures base { IfOk result (λ made. (texts : Table → List ℕ) → AreTexts I.remaining tables texts
         → IsLoadedToServe texts made.loaded) }
@@ -89,7 +95,12 @@ fn load_tables<R: Threads + Sync + AllocGlobal, I: Read + Drop>(
     let base = base_of(rt, rt.alloc(), tables, LoadedFor::Serving)?;
     let base = Arc::new(rt.alloc(), base)?;
     let loaded = Loaded::new(rt, rt.alloc(), hashing, &base, standing)?;
-    Ok(LoadedTables { base, loaded })
+    let ready = ReadyLine::of(&base, told);
+    Ok(LoadedTables {
+        base,
+        loaded,
+        ready,
+    })
 }
 
 // Serves clients at once, one for each speaker, without a journal.
@@ -153,13 +164,18 @@ where
         → P.is_taken place.now.file.now ⊎ RefusesFile tables.loaded (P.holds place.now.file.now)) }
     ensures words { IfErr result (λ fault. serving_status fault ≢ 2) }
 {
-    let LoadedTables { base, loaded } = tables;
+    let LoadedTables {
+        base,
+        loaded,
+        ready,
+    } = tables;
     let sizes = table_sizes(&base, place.bytes);
     let disk = open_file(rt.alloc(), place.file)?;
     let source = JournalSource {
         loaded,
         sizes: &sizes,
         disk,
+        ready,
     };
     let run = match run_source(rt, dispatchers, place, source, speakers, screen) {
         Ok(run) => run,
@@ -224,10 +240,15 @@ where
         hashing,
         dispatchers,
         standing,
+        tells_ready,
     } = settings;
-    let tables = load_tables(rt, hashing, &standing, tables)?;
+    let told = tells_ready.then_some(speakers.len());
+    let tables = load_tables(rt, hashing, &standing, tables, told)?;
     match place {
         Some(place) => run_behind(rt, dispatchers, &place, tables, speakers, screen),
-        None => run_without(rt, dispatchers, tables.loaded, speakers),
+        None => {
+            tell_ready(tables.ready, screen);
+            run_without(rt, dispatchers, tables.loaded, speakers)
+        },
     }
 }

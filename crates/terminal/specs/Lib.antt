@@ -1,0 +1,2 @@
+pub mod SessionText
+pub mod Typed

@@ -1,0 +1,41 @@
+//! A terminal that a person types requests at: what a line says to the terminal itself, what a session reads for any
+//! other line, and what is shown beside the replies.
+//!
+//! ```text
+//! a typed line ─┬─ help, timing                  does something here; the session reads a line of no bytes
+//!               ├─ quit, exit                    the session's input ends
+//!               ├─ q1.1 1994 1 3 0 24            the session reads query|Q1.1|1994|1|3|0|24
+//!               └─ any other, as begin           the session reads it as it was typed
+//! a reply ──────┬─ fault: ..                     help below it on the screen, about the request that was typed
+//!               └─ any other
+//! ```
+//!
+//! The contracts of [`TerminalWord::typed`] and [`session_line`] (`specs/Typed.antt`) say of each line which word it
+//! is, and else what a session reads for it; that of [`Prompted::new`] (`specs/SessionText.antt`), that a session reads
+//! this of line after line, up to one that ends it. The session's own contract is over what it reads: so the terminal's
+//! words change no reply; and [`HelpedOutput`] gets every byte of the replies. What a screen shows, and when, is in no
+//! contract.
+//!
+//! ```text
+//! let request = TypedRequest::new(rt.alloc());
+//! let input = Prompted::new(rt.alloc(), rt, terminal, screen, help, &request)?;   // what the session is to read
+//! let output = HelpedOutput::new(rt.alloc(), output, screen, Some(&request));     // what it is to write to
+//! ```
+#![tactic(auto)]
+
+mod fields;
+mod helped;
+mod prompted;
+mod prompter;
+mod question;
+mod request;
+mod request_help;
+mod stopwatch;
+mod typed_bytes;
+mod word;
+
+pub use helped::HelpedOutput;
+pub use prompted::Prompted;
+pub use question::session_line;
+pub use request::TypedRequest;
+pub use word::TerminalWord;
