@@ -2,7 +2,6 @@
 import os
 import queue
 import random
-import re
 import select
 import subprocess
 import sys
@@ -16,9 +15,7 @@ sys.path.insert(0, str(HERE.parent / "clients/python"))
 import ssb_live
 
 PATIENCE = 120          # seconds after which a reply counts as lost
-READY = re.compile(r"ssb_live: serving \d+ lines, \d+ clients\n")
 SETTLING = 0.5          # seconds in which the server notices that a client has gone
-WAITS = re.compile(r"ssb_live: client \d+: waits for a (writer of IN|reader of OUT)\n")
 MOST_BYTES = 1 << 20    # of a request
 AHEAD = 40              # requests that a client sends at most before it reads their replies
 BAD_REQUESTS = [("que", "70 BadLine 1"), ("commit", "70 BadLine 1"), ("query|Q9.9", "70 BadLine 1"),
@@ -45,11 +42,9 @@ class Server:
         self.process = subprocess.Popen([LIVE, "serve", "--data", data, *words, *given], stderr=self.errors,
                                         stdin=subprocess.DEVNULL, stdout=subprocess.DEVNULL, env=env)
 
-    def told(self, waits=False):
-        """What it told, but that it is ready, and for whom it waits, or with the latter."""
+    def told(self):
         self.errors.seek(0)
-        lines = READY.sub("", self.errors.read()).splitlines(keepends=True)
-        return "".join(line for line in lines if waits or not WAITS.fullmatch(line))
+        return self.errors.read()
 
     def end(self, patience=PATIENCE):
         """Waits for its end, and gives its status."""

@@ -341,7 +341,7 @@ pub fn command<'a>(alloc: Global) -> Result<Command<'a>, AllocError> {
         .version(VERSION)
         .about(
             "A warehouse of the Star Schema Benchmark. Without words: serves the script on standard input \
-             over small built-in tables, and prints the report; at a terminal a live session over them",
+             over small built-in tables, and prints the report",
         )
         .subcommand(query_command(alloc)?)?
         .subcommand(run_command(alloc)?)?

@@ -132,19 +132,9 @@ Example:
 
 /// What the word `help` shows on the terminal of a live session.
 pub const TERMINAL_HELP: &str = "\
-Q1.1 asks with the benchmark's constants, and Q1.1 1994 1 3 0 24 with these. Names may be in any case. Where a constant
-has a blank in it, the fields are parted by bars: star|COUNT|C_REGION=MIDDLE EAST. ask, then 1 to 16 questions, then
-answer asks them together: all are answered after the same commits. begin, then add or amend with line|.. records, and
-withdraw|KEY, then commit is one refresh; nothing of it is done without the commit.
-
-  abort       drops the refresh, or the questions, that were begun
-  timing      from then on shows how many seconds each reply took; again: no more
-  help        shows this
-  quit, exit  end the session, as Ctrl-D does; a refresh without its commit is then fault: 71 NoCommit, and not done
-
-Ctrl-C ends the program at once: a refresh without its commit is not done. Without a journal all commits end with it.
-
-The queries, and their constants in this order:
+query|NAME or query|NAME|CONSTANT.. asks. ask, then 1 to 16 of these, then answer asks them together: all are answered
+after the same commits. begin, then add or amend with line|.. records, and withdraw|KEY, then commit is one refresh. The
+end of the input (Ctrl-D) ends the session. The queries, and their constants in this order:
 
   Q1.1        year; discount from, to; quantity from, to
   Q1.2        year and month, like 199401; discount from, to; quantity from, to

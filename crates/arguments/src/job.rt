@@ -13,7 +13,7 @@ const WIDTH: u32 = 80;
 /// What the words ask for.
 #[derive(Drop)]
 pub enum Job<'a> {
-    /// The script on the input, or the person who types it, over the small data set.
+    /// The script on the input, over the small data set.
     Script,
     /// The report of one question, or of all.
     Query(QueryWords<'a>),

@@ -10,22 +10,6 @@ use std::sync::Wait;
 use std::thread::Threads;
 use std::time::Clock;
 
-// What a command runs in, and its words.
-#[derive(Clone, Copy)]
-struct Setting<'a> {
-    is_typed: bool,
-    columns: Option<&'a str>,
-    words: &'a [String],
-}
-
-// Whether the input is typed at a terminal, as a command's first word says, and the other words.
-fn typed_and_words(words: &[String]) -> (bool, &[String]) {
-    match words {
-        [first, words @ ..] if first.as_str() == "TERMINAL" => (true, words),
-        _ => (false, words),
-    }
-}
-
 // The variable COLUMNS, where a command's first word gives it, and its words.
 fn columns_and_words(words: &[String]) -> (Option<&str>, &[String]) {
     if let [first, words @ ..] = words {
@@ -36,17 +20,6 @@ fn columns_and_words(words: &[String]) -> (Option<&str>, &[String]) {
     (None, words)
 }
 
-// What a command runs in.
-fn setting_of(words: &[String]) -> Setting<'_> {
-    let (is_typed, words) = typed_and_words(words);
-    let (columns, words) = columns_and_words(words);
-    Setting {
-        is_typed,
-        columns,
-        words,
-    }
-}
-
 // Runs a command over these files.
 fn run_command<R>(rt: &R, files: &MemoryFiles, command: &Command) -> io::Result<CommandEnd>
 where
@@ -55,14 +28,10 @@ where
     let output = Stream::new(rt.alloc(), command.break_of("output"))?;
     let errors = Stream::new(rt.alloc(), command.break_of("errors"))?;
     let screen = ErrorScreen::new(errors.writer()?);
-    let Setting {
-        is_typed,
-        columns,
-        words,
-    } = setting_of(command.words.as_slice());
+    let (columns, words) = columns_and_words(command.words.as_slice());
     let streams = Streams {
         input: Breaking::new(command.input.as_slice(), command.break_of("input")),
-        is_typed,
+        is_typed: false,
         output: output.writer()?,
         errors: &screen,
         shows_progress: false,

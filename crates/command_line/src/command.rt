@@ -2,8 +2,8 @@
 
 use crate::streams::{Streams, tell};
 use arguments::{
-    AuditWords, ExplainWords, ExportWords, FormatWord, HintsWord, Job, QueryWords, RunWords,
-    ServeWords, StandingWord, TERMINAL_HELP, job_of,
+    AuditWords, ExplainWords, ExportWords, FormatWord, Job, QueryWords, RunWords, ServeWords,
+    StandingWord, TERMINAL_HELP, job_of,
 };
 use audit_command::run_audit;
 use export_command::{ExportPlace, run_export};
@@ -15,7 +15,7 @@ use query_command::{
 };
 use run_command::{RunInput, RunSettings, demo, run_scripts};
 use serve_command::{
-    Attendant, EndPaths, JournalPlace, MOST_CLIENTS, PathClients, ServeSettings, StreamClient,
+    EndPaths, JournalPlace, MOST_CLIENTS, PathClients, Prompted, ServeSettings, StreamClient,
     report_no_pipes, serve_clients, serve_stream,
 };
 use ssb_files::{
@@ -37,10 +37,8 @@ use std::io::{BufWriter, Print, Read, Write};
 use std::random::RandomSource;
 use std::rt::Files;
 use std::sync::Wait;
-use std::thread;
 use std::thread::Threads;
 use std::time::Clock;
-use terminal::{HelpedOutput, Prompted, TypedRequest};
 
 // The terminal, where there is one and the words let it show the progress of a load, which begins now.
 fn screen_of<'a, C: Clock, P: Print>(
@@ -344,7 +342,6 @@ fn open_server<R: RandomSource, F: Files + AllocGlobal>(
         hashing,
         dispatchers: words.dispatchers,
         standing,
-        tells_ready: !words.quiet && !words.clients.is_empty(),
     };
     Ok(OpenedServer {
         settings,
@@ -379,69 +376,6 @@ fn journal_place<'a, 'f, F: Files + AllocGlobal>(
     })
 }
 
-// Serves the person at a terminal over tables that are loaded now. Where hints are told, a fault has help below it.
-fn serve_typed<R, F, T, I: Read + Drop + Send, W: Write + Drop + Send, E: Print + Sync>(
-    rt: &R,
-    settings: ServeSettings,
-    tables: Tables<T>,
-    place: Option<JournalPlace<'_, JournalPath<'_, F>>>,
-    hints: HintsWord,
-    streams: Streams<'_, I, W, E>,
-) -> u8
-where
-    R: Clock + Threads + Sync + Wait + AllocGlobal,
-    F: Files + Sync + AllocGlobal,
-    F::File: JournalFile + Send,
-    F::Dir: Send,
-    T: Read + Drop,
-{
-    let alloc = rt.alloc();
-    let errors = streams.errors;
-    let request = TypedRequest::new(alloc);
-    let screen = io::writer(errors);
-    let Ok(input) = Prompted::new(alloc, rt, streams.input, screen, TERMINAL_HELP, &request) else {
-        return Fault::OutOfMemory.tell(&mut io::writer(errors));
-    };
-    let helped = if hints.are_told(streams.shows_progress) {
-        Some(&request)
-    } else {
-        None
-    };
-    let output = HelpedOutput::new(alloc, streams.output, io::writer(errors), helped);
-    let client = StreamClient { input, output };
-    let ended = serve_stream(rt, settings, tables, place, client, errors);
-    ended.status
-}
-
-// Serves clients that open their own ends, and attends to them meanwhile.
-fn attend_clients<R, F, I: Read + Drop, E: Print + Sync>(
-    rt: &R,
-    settings: ServeSettings,
-    tables: Tables<I>,
-    place: Option<JournalPlace<'_, JournalPath<'_, F>>>,
-    clients: PathClients<'_, F>,
-    errors: &E,
-) -> u8
-where
-    R: Clock + Threads + Sync + Wait + AllocGlobal,
-    F: Files + Sync + AllocGlobal,
-    F::File: JournalFile + Send,
-    F::Dir: Send,
-{
-    let files = clients.files;
-    let attendant = clients.attendant;
-    let (_, status) = thread::join(
-        rt,
-        || attendant.attend(rt, files, errors),
-        || {
-            let ended = serve_clients(rt, settings, tables, place, clients, errors);
-            attendant.end();
-            ended.status
-        },
-    );
-    status
-}
-
 // Serves clients over tables that are loaded and counted now: those that the words name, or else standard input and
 // output.
 fn serve_loading<R, F, T, I: Read + Drop + Send, W: Write + Drop + Send, E: Print + Sync>(
@@ -464,31 +398,32 @@ where
         clients,
         journal,
     } = opened;
-    let errors = streams.errors;
+    let Streams {
+        input,
+        is_typed,
+        output,
+        errors,
+        shows_progress: _,
+        columns: _,
+    } = streams;
     let bytes = TableBytes::new();
     let tables = count_tables(&bytes, tables);
     let path = journal_path(files, journal.as_ref());
     let place = journal_place(path.as_ref(), &bytes, words.quiet);
     if !clients.is_empty() {
-        let Ok(attendant) = Attendant::<F::File>::new(rt.alloc(), clients.as_slice(), !words.quiet)
-        else {
-            return Fault::OutOfMemory.tell(&mut io::writer(errors));
-        };
         let clients = PathClients {
             files,
             ends: clients,
             keeps: words.keep,
-            attendant: &attendant,
         };
-        return attend_clients(rt, settings, tables, place, clients, errors);
+        return serve_clients(rt, settings, tables, place, clients, errors).status;
     }
-    if streams.is_typed {
-        return serve_typed(rt, settings, tables, place, words.hints, streams);
+    if is_typed {
+        let input = Prompted::new(rt.alloc(), input, io::writer(errors), TERMINAL_HELP);
+        let client = StreamClient { input, output };
+        return serve_stream(rt, settings, tables, place, client, errors).status;
     }
-    let client = StreamClient {
-        input: streams.input,
-        output: streams.output,
-    };
+    let client = StreamClient { input, output };
     serve_stream(rt, settings, tables, place, client, errors).status
 }
 
@@ -582,28 +517,6 @@ where
     Ok(run_export(rt, hashing, tables, &place, err))
 }
 
-// Serves the person at a terminal over the built-in tables.
-fn serve_small<R, F, I: Read + Drop + Send, W: Write + Drop + Send, E: Print + Sync>(
-    rt: &R,
-    hints: HintsWord,
-    streams: Streams<'_, I, W, E>,
-) -> Result<u8, Fault>
-where
-    R: Clock + RandomSource + Threads + Sync + Wait + AllocGlobal,
-    F: Files + Sync + AllocGlobal,
-    F::File: JournalFile + Send,
-    F::Dir: Send,
-{
-    let settings = ServeSettings {
-        hashing: hashing_of(rt)?,
-        dispatchers: 1,
-        standing: Vec::new(rt.alloc()),
-        tells_ready: false,
-    };
-    let place: Option<JournalPlace<'_, JournalPath<'_, F>>> = None;
-    Ok(serve_typed(rt, settings, small_data::tables(), place, hints, streams))
-}
-
 // Serves a script over the built-in tables.
 fn report_script<R, I: Read + Drop, W: Write, E: Write>(
     rt: &R,
@@ -686,9 +599,6 @@ where
     F::File: JournalFile + Send,
     F::Dir: Send,
 {
-    if matches!(job, Job::Script) && streams.is_typed {
-        return serve_small::<R, F, I, W, E>(rt, job.hints(), streams);
-    }
     let Streams {
         input,
         is_typed,
@@ -776,9 +686,9 @@ where
     status
 }
 
-/// Does what the words say, and gives the exit status. Without words the script on the input is served, or the person
-/// who types it. The words name files of `files`; threads, waiting, random bytes and the time come from `rt`. Where a
-/// fault ends the job, and help is wanted, it follows the fault's line.
+/// Does what the words say, and gives the exit status. Without words the script on the input is served. The words name
+/// files of `files`; threads, waiting, random bytes and the time come from `rt`. Where a fault ends the job, and help
+/// is wanted, it follows the fault's line.
 pub fn run_command_line<R, F, I: Read + Drop + Send, W: Write + Drop + Send, E: Print + Sync>(
     rt: &R,
     files: &F,

@@ -2,8 +2,8 @@
 
 use crate::faults::{ListsFaults, push_lines};
 use ssb_hints::{
-    ConstantsHelp, JournalHelp, PathHelp, QuestionHelp, QuestionNote, RowHelp, RowPlace,
-    ScriptHelp, StarHelp,
+    ConstantsHelp, JournalHelp, PathHelp, QuestionHelp, QuestionNote, RefusalHelp, RowHelp,
+    RowPlace, ScriptHelp, StarHelp,
 };
 use ssb_questions::{Query, Question};
 use ssb_schema::{C_CITY, Table};
@@ -133,6 +133,20 @@ impl ListsFaults for JournalHelp<'static> {
     }
 }
 
+impl ListsFaults for RefusalHelp<'static> {
+    fn first() -> RefusalHelp<'static> {
+        RefusalHelp::Action("4", "LO_TAX", "77")
+    }
+
+    fn next(&self) -> Option<RefusalHelp<'static>> {
+        Some(match self {
+            RefusalHelp::Action(_, _, key) => RefusalHelp::Line("3", C_CITY, key),
+            RefusalHelp::Line(_, _, _) => RefusalHelp::NoRow(Table::Customer),
+            RefusalHelp::NoRow(_) => return None,
+        })
+    }
+}
+
 // The constants of one query.
 fn constants_text(alloc: Global) -> Result<String, AllocError> {
     match Question::standard(alloc, Query::Q2_1) {
@@ -164,6 +178,7 @@ pub fn push_help(alloc: Global, lines: &mut Vec<String>) -> Result<(), AllocErro
     push_lines::<RowHelp<'static, 'static>>(alloc, &mut texts)?;
     push_lines::<ScriptHelp<'static>>(alloc, &mut texts)?;
     push_lines::<JournalHelp<'static>>(alloc, &mut texts)?;
+    push_lines::<RefusalHelp<'static>>(alloc, &mut texts)?;
     texts.push(constants_text(alloc)?)?;
     for text in texts {
         lines.push(format!(in alloc; "help: {text}")?)?;

@@ -42,18 +42,18 @@ impl<'a> fmt::Display for EndFault<'a> {
     }
 }
 
-/// Whether the system says that this is a named pipe.
-pub(crate) fn is_named_pipe(found: io::Result<Metadata>) -> bool {
+// Whether the system says that this is a named pipe.
+fn is_named_pipe(found: io::Result<Metadata>) -> bool {
     match found {
         Ok(metadata) => metadata.file_type().is_fifo(),
         Err(_) => false,
     }
 }
 
-/// The end of a named pipe that is written, though nobody may read it yet. Whoever opens one end waits for the other,
-/// but who opens both ways does not; and beside that nor does who opens one. None where it is no named pipe, or may not
-/// be read.
-pub(crate) fn open_unread<F: Files>(files: &F, path: &str) -> Option<F::File> {
+// The end of a named pipe that is written, though nobody may read it yet. Whoever opens one end waits for the other, but
+// who opens both ways does not; and beside that nor does who opens one. None where it is no named pipe, or may not be
+// read.
+fn open_unread<F: Files>(files: &F, path: &str) -> Option<F::File> {
     if !is_named_pipe(fs::metadata(files, path)) {
         return None;
     }
@@ -65,6 +65,36 @@ pub(crate) fn open_unread<F: Files>(files: &F, path: &str) -> Option<F::File> {
     let unread = OpenOptions::new().write(true).open(files, path).ok();
     both_ways.drop();
     unread
+}
+
+// Opens the end that is written, and waits until somebody reads it. Where it is not there it is made, and a file is
+// emptied.
+fn open_output<'a, F: Files>(files: &F, path: &'a str) -> Result<F::File, EndFault<'a>> {
+    fs::create(files, path).map_err(|_| EndFault::CannotWrite(path))
+}
+
+// Opens the end that is read, and waits until somebody writes it.
+fn open_input<'a, F: Files>(files: &F, path: &'a str) -> Result<F::File, EndFault<'a>> {
+    fs::open(files, path).map_err(|_| EndFault::CannotRead(path))
+}
+
+/// Opens the ends of a client, when it has opened both of its own, in either order. The opening of a named pipe waits
+/// until its other end is opened. So the output is first opened unread, for a client that opens its end of it first;
+/// then the input; and then the output again, since a client may not read it yet. An output that cannot be opened so is
+/// opened before the input.
+pub fn open_ends<'a, F: Files>(
+    files: &F,
+    paths: &'a EndPaths,
+) -> Result<Ends<F::File>, EndFault<'a>> {
+    let Some(unread) = open_unread(files, paths.output.as_str()) else {
+        let output = open_output(files, paths.output.as_str())?;
+        let input = open_input(files, paths.input.as_str())?;
+        return Ok(Ends { input, output });
+    };
+    let input = open_input(files, paths.input.as_str())?;
+    let output = open_output(files, paths.output.as_str())?;
+    unread.drop();
+    Ok(Ends { input, output })
 }
 
 /// Reports each client that is answered to no named pipe, by its number from 1, if the writer takes it. It is mostly a

@@ -11,7 +11,6 @@ ghost use Rattle.history_core.specs.Counts.{most_clients};
 use crate::acknowledging::Durable;
 use crate::fault::{ServeFault, ServeRefusal};
 use crate::journaled_run::{JournaledRun, Recovered, run_journaled};
-use crate::ready::{ReadyLine, tell_ready};
 use journal::{Disk, KeepsTorn};
 use journal_opening::{OpeningFault, OpensJournal};
 use ssb_files::TableBytes;
@@ -42,16 +41,13 @@ pub struct JournalSource<'a, D: Disk + Drop> {
     /// How large the tables are, as the journal's head tells it.
     pub sizes: &'a [TableSize],
     pub disk: D,
-    /// What is told when the server is ready, if anything is.
-    pub ready: Option<ReadyLine>,
 }
 
-// Keeps what a crash has torn beside the journal, and tells how many commits it has, and that the server is ready.
+// Keeps what a crash has torn beside the journal, and tells how many commits it has.
 #[derive(Drop)]
 struct TornKeeper<'a, P: KeepsTorn, E: Print> {
     place: &'a JournalPlace<'a, P>,
     commits: u64,
-    ready: Option<ReadyLine>,
     screen: &'a E,
 }
 
@@ -74,7 +70,6 @@ impl<'a, P: KeepsTorn, E: Print> KeepsTorn for TornKeeper<'a, P, E> {
                 ),
             };
         }
-        tell_ready(self.ready, self.screen);
         Ok(kept)
     }
 }
@@ -117,7 +112,6 @@ where
         loaded,
         sizes,
         disk,
-        ready,
     } = source;
     let opened = match open(rt.alloc(), sizes, disk) {
         Ok(opened) => opened,
@@ -126,7 +120,6 @@ where
     let keeper = TornKeeper {
         place,
         commits: opened.kept.commits.len() as u64,
-        ready,
         screen,
     };
     let recovered = Recovered {

@@ -4,8 +4,7 @@
 //! ```text
 //! tables ── base_of ─▶ base ── run_over ─┬─ serve_stream: one client, over a reader and a writer
 //!                                │       └─ serve_clients: 1 to 16, each with a thread that opens its ends, in whatever
-//!                                │          order the client does, again and again where they are kept; beside them
-//!                                │          the attendant, for what none of these can do while it waits
+//!                                │          order the client does, again and again where they are kept
 //!                                ├─ without a journal: from no commits, and told at once
 //!                                └─ behind the commits of a journal's file: told once they are on the disk
 //!
@@ -13,6 +12,8 @@
 //!                                                          │ log                        ▲ once all that the client
 //!                                                          ▼                            │ has seen is on the disk
 //!                                                      shared journal ── groups ──▶ disk
+//!
+//! terminal ── Prompted ─▶ its bytes; a prompt before each wait, and help where it is asked for
 //! ```
 //!
 //! The contract of [`serve_stream`] (`specs/Served.antt`): with status 0 the session of the only client of a live
@@ -32,31 +33,19 @@
 //! made again: the first that is refused is a fault. One session writes all new commits as a group, the others wait for
 //! it, and what comes meanwhile is the next group. No thread is the journal's own.
 //!
-//! What the system opens is in no contract. What a person types is read by `terminal::Prompted`.
+//! What the system opens, and what a terminal shows, is in no contract.
 //!
 //! ```text
-//! let attendant = Attendant::new(alloc, &ends, tells)?;
-//! let clients = PathClients { files, ends, keeps, attendant: &attendant };
-//! let (_, ended) = thread::join(
-//!     rt,
-//!     || attendant.attend(rt, files, screen),
-//!     || {
-//!         let ended = serve_clients(rt, settings, tables, place, clients, screen); // place: None without a journal
-//!         attendant.end();
-//!         ended
-//!     },
-//! );
+//! let ended = serve_clients(rt, settings, tables, place, clients, screen);     // place: None without a journal
 //! ```
 #![tactic(auto)]
 
 mod acknowledging;
-mod attendant;
 mod ends;
 mod fault;
 mod journal_source;
 mod journaled_run;
-mod opening;
-mod ready;
+mod prompted;
 mod remaking;
 mod runs;
 mod server_log;
@@ -65,12 +54,11 @@ mod speakers;
 mod unserved;
 
 pub use acknowledging::Durable;
-pub use attendant::Attendant;
-pub use ends::{EndPaths, report_no_pipes};
+pub use ends::{EndFault, EndPaths, Ends, open_ends, report_no_pipes};
 pub use fault::ServeRefusal;
 pub use journal_source::{JournalPlace, JournalSource, run_source};
 pub use journaled_run::JournaledRun;
-pub use ready::ReadyLine;
+pub use prompted::Prompted;
 pub use runs::ServeSettings;
 pub use serving::{ClientsEnd, MOST_CLIENTS, PathClients, StreamEnd, serve_clients, serve_stream};
 pub use speakers::StreamClient;

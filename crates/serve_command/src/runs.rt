@@ -20,7 +20,6 @@ use crate::acknowledging::Durable;
 use crate::fault::{ServeFault, ServeRefusal};
 use crate::journal_source::{JournalPlace, JournalSource, open_file, run_source};
 use crate::journaled_run::JournaledRun;
-use crate::ready::{ReadyLine, tell_ready};
 use crate::unserved::JournaledFault;
 use journal::KeepsTorn;
 use journal_opening::{OpensJournal, table_sizes};
@@ -47,8 +46,6 @@ pub struct ServeSettings {
     pub dispatchers: u32,
     /// The questions that stand: their totals follow the commits. Which they are changes no reply.
     pub standing: Vec<Question>,
-    /// Whether it is told when the server is ready.
-    pub tells_ready: bool,
 }
 
 /// A journal at the end of the sessions: its disk, how many commits of the log are on that, and whether it was written to
@@ -68,22 +65,19 @@ pub(crate) struct SessionsRun<L: Drop, D: Drop> {
     pub(crate) kept: Option<KeptLog<D>>,
 }
 
-// The base of five tables, what a server takes of it, and what is told when it serves.
+// The base of five tables, and what a server takes of it.
 #[derive(Drop)]
 struct LoadedTables {
     base: Arc<Base>,
     loaded: Loaded,
-    ready: Option<ReadyLine>,
 }
 
-// The base that the tables spell, with the questions that stand from then on. Where it is to be told that the server is
-// ready, it is told for how many clients.
+// The base that the tables spell, with the questions that stand from then on.
 fn load_tables<R: Threads + Sync + AllocGlobal, I: Read + Drop>(
     rt: &R,
     hashing: RandomState,
     standing: &[Question],
     tables: Tables<I>,
-    told: Option<usize>,
 ) -> Result<LoadedTables, Fault>
     ensures base { IfOk result (λ made. (texts : Table → List ℕ) → AreTexts I.remaining tables texts
         → IsLoadedToServe texts made.loaded) }
@@ -95,12 +89,7 @@ fn load_tables<R: Threads + Sync + AllocGlobal, I: Read + Drop>(
     let base = base_of(rt, rt.alloc(), tables, LoadedFor::Serving)?;
     let base = Arc::new(rt.alloc(), base)?;
     let loaded = Loaded::new(rt, rt.alloc(), hashing, &base, standing)?;
-    let ready = ReadyLine::of(&base, told);
-    Ok(LoadedTables {
-        base,
-        loaded,
-        ready,
-    })
+    Ok(LoadedTables { base, loaded })
 }
 
 // Serves clients at once, one for each speaker, without a journal.
@@ -164,18 +153,13 @@ where
         → P.is_taken place.now.file.now ⊎ RefusesFile tables.loaded (P.holds place.now.file.now)) }
     ensures words { IfErr result (λ fault. serving_status fault ≢ 2) }
 {
-    let LoadedTables {
-        base,
-        loaded,
-        ready,
-    } = tables;
+    let LoadedTables { base, loaded } = tables;
     let sizes = table_sizes(&base, place.bytes);
     let disk = open_file(rt.alloc(), place.file)?;
     let source = JournalSource {
         loaded,
         sizes: &sizes,
         disk,
-        ready,
     };
     let run = match run_source(rt, dispatchers, place, source, speakers, screen) {
         Ok(run) => run,
@@ -240,15 +224,10 @@ where
         hashing,
         dispatchers,
         standing,
-        tells_ready,
     } = settings;
-    let told = tells_ready.then_some(speakers.len());
-    let tables = load_tables(rt, hashing, &standing, tables, told)?;
+    let tables = load_tables(rt, hashing, &standing, tables)?;
     match place {
         Some(place) => run_behind(rt, dispatchers, &place, tables, speakers, screen),
-        None => {
-            tell_ready(tables.ready, screen);
-            run_without(rt, dispatchers, tables.loaded, speakers)
-        },
+        None => run_without(rt, dispatchers, tables.loaded, speakers),
     }
 }

@@ -12,7 +12,6 @@ ghost use Rattle.history_core.specs.Counts.{most_clients};
 ghost use Rattle.ssb_server.specs.Opening.{AreCounts};
 ghost use Rattle.ssb_text.specs.Load.{AreTexts};
 
-use crate::attendant::Attendant;
 use crate::ends::EndPaths;
 use crate::fault::{ServeFault, ServeRefusal};
 use crate::journal_source::JournalPlace;
@@ -210,8 +209,6 @@ pub struct PathClients<'a, F: Files> {
     pub ends: Vec<EndPaths>,
     /// Whether named pipes are opened again for another session.
     pub keeps: bool,
-    /// Who attends to them: [`Attendant::attend`] is to run meanwhile, in a thread of its own.
-    pub attendant: &'a Attendant<F::File>,
 }
 
 // The clients of these ends, numbered from 1.
@@ -221,12 +218,7 @@ fn speakers_of<'a, F: Files + AllocGlobal, E: Print>(
 ) -> Result<Vec<PathClient<'a, F, E>>, AllocError>
     ensures { IfOk result (λ speakers. vec_len speakers ≡ vec_len clients.entry.ends) }
 {
-    let PathClients {
-        files,
-        ends,
-        keeps,
-        attendant,
-    } = clients;
+    let PathClients { files, ends, keeps } = clients;
     let mut speakers = Vec::new(files.alloc());
     for paths in ends {
         let number = speakers.len() as u64 + 1;
@@ -236,7 +228,6 @@ fn speakers_of<'a, F: Files + AllocGlobal, E: Print>(
             number,
             paths,
             keeps,
-            attendant,
         })?;
     }
     Ok(speakers)
@@ -273,8 +264,7 @@ fn tell_clients<E: Write>(was_written: bool, all_served: bool, err: &mut E) -> u
 /// Serves 1 to 16 clients at once over the base that the tables spell, behind the commits of the journal where there is
 /// one, each over its own two ends, which its thread opens. With a journal they are told nothing before it is on the
 /// disk. A client's faults are lines to the screen when they come, and end that client alone. Where they are kept, a
-/// client's named pipes are opened again for its next session; a client that opens its output first waits for that until
-/// the attendant opens it.
+/// client's named pipes are opened again for its next session.
 ///
 /// The exit status is 0 where all clients were served to their ends, 1 where the data, a question that is to stand or
 /// the journal is refused, 2 where there are more than 16 clients, and else 4.

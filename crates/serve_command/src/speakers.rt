@@ -6,9 +6,7 @@ ghost use Rattle.history.specs.Members.{number_of};
 ghost use Rattle.serve_command.specs.Sessions.{HasLeft, HasServedOnce, HasStreamed};
 ghost use Rattle.stream_sessions.specs.OneRequest.{AreAlike};
 
-use crate::attendant::Attendant;
-use crate::ends::{EndFault, EndPaths, Ends};
-use crate::opening::open_ends;
+use crate::ends::{EndFault, EndPaths, Ends, open_ends};
 use row_store::Follower;
 use ssb_clients::{Client, Server};
 use std::alloc::Global;
@@ -25,7 +23,7 @@ use stream_sessions::{
 // How many bytes of a client's requests are read at once.
 const READ_AHEAD: usize = 65_536;
 
-// How many milliseconds both pipes of a client stay closed where its session broke, or nobody attends to it.
+// How many milliseconds a client's pipes stay closed between two sessions, so that who read the first one sees its end.
 const BETWEEN_SESSIONS: u64 = 50;
 
 /// A client whose ends are open: what it is read from, and what it is answered to.
@@ -127,7 +125,6 @@ pub struct PathClient<'a, F: Files, E: Print> {
     pub paths: EndPaths,
     /// Whether named pipes are opened again for another session.
     pub keeps: bool,
-    pub attendant: &'a Attendant<F::File>,
 }
 
 // What broke a client's session.
@@ -165,10 +162,9 @@ impl<'a, F: Files, E: Print> PathClient<'a, F, E> {
     }
 
     // What follows a session that ended so. Its fault is told, but for that of a journal: it is told once, and not by
-    // each client. Who broke it may still have both ends open, and has to see that they are closed.
-    fn end_of<R: Clock>(
+    // each client.
+    fn end_of(
         &self,
-        rt: &R,
         ended: Result<Served, SessionError>,
         comes_again: bool,
         has_failed: bool,
@@ -183,7 +179,6 @@ impl<'a, F: Files, E: Print> PathClient<'a, F, E> {
             Err(error) => {
                 self.tell(&ClientFault::Session(error.fault));
                 if comes_again {
-                    thread::sleep(rt, Duration::from_millis(BETWEEN_SESSIONS));
                     SessionEnd::Again
                 } else {
                     SessionEnd::Broken
@@ -192,16 +187,9 @@ impl<'a, F: Files, E: Print> PathClient<'a, F, E> {
         }
     }
 
-    // Lets who read a session see its end, where the attendant does not.
-    fn rest<R: Wait + Clock>(&self, rt: &R) {
-        if !self.attendant.opens_later(rt, self.number) {
-            thread::sleep(rt, Duration::from_millis(BETWEEN_SESSIONS));
-        }
-    }
-
     // Opens the ends, and serves a session over them. The end that is read is closed first. It tells of how many
     // commits was told, too.
-    fn speak_once<W: Follower + Drop, R: Wait + Clock, Y: Evidence, K: Acknowledges<Y>>(
+    fn speak_once<W: Follower + Drop, R: Wait, Y: Evidence, K: Acknowledges<Y>>(
         &self,
         rt: &R,
         alloc: Global,
@@ -215,7 +203,7 @@ impl<'a, F: Files, E: Print> PathClient<'a, F, E> {
         ensures served { HasServedOnce (number_of client.old.who) client.old client.new result.0 result.1 }
         ensures keeps { result.0 ≡ SessionEnd.Again → IsTrue self.now.keeps }
     {
-        let ends = match open_ends(rt, self.files, &self.paths, self.attendant, self.number) {
+        let ends = match open_ends(self.files, &self.paths) {
             Ok(ends) => ends,
             Err(fault) => {
                 self.tell(&ClientFault::End(fault));
@@ -226,9 +214,9 @@ impl<'a, F: Files, E: Print> PathClient<'a, F, E> {
         let Ends { input, output } = ends;
         let ends = StreamClient { input, output };
         let StreamLeft {
+            output: _,
             ended,
             told,
-            output,
         } = speak_over::<W, R, F::File, F::File, Y, K>(
             rt,
             alloc,
@@ -237,8 +225,7 @@ impl<'a, F: Files, E: Print> PathClient<'a, F, E> {
             client,
             ends,
         );
-        output.drop();
-        let end = self.end_of(rt, ended, comes_again, acknowledger.has_failed());
+        let end = self.end_of(ended, comes_again, acknowledger.has_failed());
         (end, told)
     }
 }
@@ -278,7 +265,9 @@ impl<'a, R: Wait + Clock, F: Files, E: Print, Y: Evidence> Speaks<R, Y> for Path
             let (end, now) = self.speak_once(rt, alloc, acknowledger, server, client);
             told = told.max(now);
             match end {
-                SessionEnd::Again => self.rest(rt),
+                SessionEnd::Again => {
+                    thread::sleep(rt, Duration::from_millis(BETWEEN_SESSIONS));
+                }
                 SessionEnd::Last => {
                     return PathLeft {
                         was_served: true,

@@ -15,7 +15,8 @@ use std::io;
 use std::io::{Print, Write};
 use std::rt::Files;
 
-fn words_of(alloc: Global, text: &str) -> Result<Vec<&str>, AllocError> {
+/// The words of a text.
+pub fn words_of(alloc: Global, text: &str) -> Result<Vec<&str>, AllocError> {
     text.split(' ').collect(alloc)
 }
 

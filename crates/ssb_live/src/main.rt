@@ -1,15 +1,14 @@
 //! The program `ssb_live`: a warehouse of the Star Schema Benchmark on the command line.
 //!
 //! Without words it serves the script on standard input over the small built-in data set, as the one client of the live
-//! server, and prints the report; or, at a terminal, a live session. `ssb_live query --data DIR NAME [CONSTANT..]`
-//! loads five table files and prints the report of one question, `ssb_live query --data DIR --all` those of the
-//! thirteen queries, answered in one pass. `ssb_live run --data DIR SCRIPT..` serves scripts at once, a client of the
-//! live server each, and `ssb_live audit --data DIR TRACE` checks the trace that such a run left. `ssb_live serve
-//! --data DIR` serves clients as their requests come, over standard input and output or named pipes. `ssb_live export
-//! --data DIR --journal FILE --to FOLDER` writes the tables as they are after a journal's commits. The work is done by
-//! the libraries `run_command`, `query_command`, `audit_command`, `serve_command` and `export_command`, whose contracts
-//! name the bytes that they write; the library `command_line` finds what the words ask, and this file ends with a
-//! status.
+//! server, and prints the report. `ssb_live query --data DIR NAME [CONSTANT..]` loads five table files and prints the
+//! report of one question, `ssb_live query --data DIR --all` those of the thirteen queries, answered in one pass.
+//! `ssb_live run --data DIR SCRIPT..` serves scripts at once, a client of the live server each, and `ssb_live audit
+//! --data DIR TRACE` checks the trace that such a run left. `ssb_live serve --data DIR` serves clients as their requests
+//! come, over standard input and output or named pipes. `ssb_live export --data DIR --journal FILE --to FOLDER` writes the
+//! tables as they are after a journal's commits. The work is done by the libraries `run_command`, `query_command`,
+//! `audit_command`, `serve_command` and `export_command`, whose contracts name the bytes that they write; the library
+//! `command_line` finds what the words ask, and this file ends with a status.
 #![tactic(auto)]
 
 use command_line::{Streams, columns, run_command_line, words};
