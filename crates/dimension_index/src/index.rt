@@ -27,13 +27,23 @@ use std::marker::Model;
 use std::sync::Arc;
 
 /// The dimensions of a base, by position and in codes. Contracts see the base.
-#[derive(Drop)]
 pub struct DimIndex {
     base: Arc<Base>,
     // The kept columns, in the order of `specs/Kept.antt`.
     columns: Vec<CodedColumn>,
     classes: Classes,
     first_rows: FirstRows,
+}
+
+impl Drop for DimIndex {
+    fn drop(self) {
+        let DimIndex {
+            base: _,
+            columns: _,
+            classes: _,
+            first_rows: _,
+        } = self;
+    }
 }
 
 /// The class of each row of a dimension, by position.

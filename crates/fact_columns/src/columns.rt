@@ -33,7 +33,6 @@ use std::thread::Threads;
 
 /// The live lines in coded columns over an index of the dimensions. Contracts see the base, the number of commits, the
 /// places, and the facts of the live ones.
-#[derive(Drop)]
 pub struct Columns {
     index: Arc<DimIndex>,
     table: FactTable,
@@ -43,6 +42,20 @@ pub struct Columns {
     rows: usize,
     commits: u64,
     alloc: Global,
+}
+
+impl Drop for Columns {
+    fn drop(self) {
+        let Columns {
+            index: _,
+            table: _,
+            spans: _,
+            hints: _,
+            rows: _,
+            commits: _,
+            alloc: _,
+        } = self;
+    }
 }
 
 impl Model for Columns {

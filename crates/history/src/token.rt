@@ -9,7 +9,6 @@ use std::marker::Model;
 
 /// The token of one client or dispatcher, its only one. Contracts see it as a `TokenRecord`: what its holder has seen, made,
 /// asked, given and done, and what it holds. Of the lists nothing is kept when the program runs.
-#[derive(Drop)]
 pub struct Token<W> {
     pub(crate) who: Who,
     /// A client's number less one; the dispatchers follow.
@@ -18,6 +17,18 @@ pub struct Token<W> {
     /// The places of the clients whose requests it has in hand, the newest first.
     pub(crate) hand: ArrayVec<u32, 16>,
     pub(crate) seat: TableSeat<W>,
+}
+
+impl<W: Drop> Drop for Token<W> {
+    fn drop(self) {
+        let Token {
+            who: _,
+            place: _,
+            seen_len: _,
+            hand: _,
+            seat: _,
+        } = self;
+    }
 }
 
 impl<W> Model for Token<W> {

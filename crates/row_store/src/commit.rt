@@ -8,10 +8,18 @@ use std::marker::Model;
 use std::sync::Arc;
 
 /// An accepted refresh and the number of the client that made it. Contracts see the client and the actions.
-#[derive(Drop)]
 pub struct Commit {
     pub client: u32,
     pub refresh: Arc<Refresh>,
+}
+
+impl Drop for Commit {
+    fn drop(self) {
+        let Commit {
+            client: _,
+            refresh: _,
+        } = self;
+    }
 }
 
 impl Model for Commit {

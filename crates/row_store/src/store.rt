@@ -26,7 +26,6 @@ use std::mem;
 use std::sync::Arc;
 
 /// The live orders by key, and the log of commits. Contracts see the base and the commits.
-#[derive(Drop)]
 pub struct RowStore {
     base: Arc<Base>,
     // The positions of the loaded lines, in the order of their order keys.
@@ -41,6 +40,21 @@ pub struct RowStore {
     recent: Vec<Commit>,
     // The shares of a refresh that is being applied, one for each action.
     shares: Vec<Arc<Refresh>>,
+}
+
+impl Drop for RowStore {
+    fn drop(self) {
+        let RowStore {
+            base: _,
+            index: _,
+            orders: _,
+            line_count: _,
+            history: _,
+            count: _,
+            recent: _,
+            shares: _,
+        } = self;
+    }
 }
 
 impl Model for RowStore {

@@ -43,10 +43,18 @@ pub struct ReadyBatch {
 }
 
 /// At most 16 questions that are made ready, each with its totals over some lines.
-#[derive(Drop)]
 pub struct Standing {
     batch: Arc<ReadyBatch>,
     totals: Vec<Totals>,
+}
+
+impl Drop for Standing {
+    fn drop(self) {
+        let Standing {
+            batch: _,
+            totals: _,
+        } = self;
+    }
 }
 
 // The same numbers.

@@ -9,10 +9,16 @@ use ssb_schema::Items;
 
 /// One row of an answer: the values of the group columns in printed order, and the sum over the
 /// row's combinations, which is `None` (NULL) where there is no combination.
-#[derive(Debug, Drop)]
+#[derive(Debug)]
 pub struct ResultRow {
     pub groups: Items<Value>,
     pub sum: Option<i64>,
+}
+
+impl Drop for ResultRow {
+    fn drop(self) {
+        let ResultRow { groups: _, sum: _ } = self;
+    }
 }
 
 /// The rows that answer a question, in the order of its plan.

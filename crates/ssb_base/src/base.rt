@@ -45,7 +45,6 @@ pub enum BaseError {
 
 /// Four dimensions with distinct keys and the loaded lines, each of which names a row of each dimension. Contracts see
 /// the limits, the dimensions and the lines as lists.
-#[derive(Drop)]
 pub struct Base {
     limits: Limits,
     customers: Dimension<CustomerFields>,
@@ -53,6 +52,19 @@ pub struct Base {
     parts: Dimension<PartFields>,
     dates: Dimension<DateFields>,
     lines: Vec<Line>,
+}
+
+impl Drop for Base {
+    fn drop(self) {
+        let Base {
+            limits: _,
+            customers: _,
+            suppliers: _,
+            parts: _,
+            dates: _,
+            lines: _,
+        } = self;
+    }
 }
 
 impl Model for Base {

@@ -18,11 +18,20 @@ use std::marker::Model;
 use std::sync::{Arc, Wait};
 
 /// A client's token. Contracts see it.
-#[derive(Drop)]
 pub struct Client<K: Follower + Drop> {
     pub(crate) token: Token<K>,
     number: u32,
     asking: bool,
+}
+
+impl<K: Follower + Drop> Drop for Client<K> {
+    fn drop(self) {
+        let Client {
+            token: _,
+            number: _,
+            asking: _,
+        } = self;
+    }
 }
 
 impl<K: Follower + Drop> Model for Client<K> {

@@ -47,10 +47,18 @@ pub enum QuestionError {
 }
 
 /// A query with its constants, which fit it. Contracts see it as the pair of both.
-#[derive(Drop)]
 pub struct Question {
     query: Query,
     constants: Arc<Items<Value>>,
+}
+
+impl Drop for Question {
+    fn drop(self) {
+        let Question {
+            query: _,
+            constants: _,
+        } = self;
+    }
 }
 
 impl Model for Question {

@@ -7,12 +7,21 @@ use std::cmp::Ordering;
 ///
 /// Texts are ordered by their UTF-8 bytes and numbers by size. Every text stands before every
 /// number, which no column mixes.
-#[derive(Debug, Drop)]
+#[derive(Debug)]
 pub enum Value {
     /// A text.
     Text(Text),
     /// A number.
     Number(u32),
+}
+
+impl Drop for Value {
+    fn drop(self) {
+        match self {
+            Value::Text(_) => {}
+            Value::Number(_) => {}
+        }
+    }
 }
 
 impl Clone for Value {

@@ -14,9 +14,14 @@ use std::marker::Model;
 pub const MOST_ORDER_LINES: usize = 7;
 
 /// The lines of one order: one to seven, of one order key, with distinct line numbers. Contracts see the list of lines.
-#[derive(Drop)]
 pub struct Order {
     lines: Vec<Line>,
+}
+
+impl Drop for Order {
+    fn drop(self) {
+        let Order { lines: _ } = self;
+    }
 }
 
 impl Model for Order {

@@ -11,7 +11,6 @@ use std::marker::Model;
 pub const MOST_ACTIONS: usize = 64;
 
 /// What a refresh does with one order.
-#[derive(Drop)]
 pub enum Action {
     /// Adds an order whose key is absent.
     Add(Order),
@@ -21,10 +20,25 @@ pub enum Action {
     Withdraw(u64),
 }
 
+impl Drop for Action {
+    fn drop(self) {
+        match self {
+            Action::Add(_) => {}
+            Action::Amend(_) => {}
+            Action::Withdraw(_) => {}
+        }
+    }
+}
+
 /// One to 64 actions, which take effect together or not at all. Contracts see the list of actions.
-#[derive(Drop)]
 pub struct Refresh {
     actions: Vec<Action>,
+}
+
+impl Drop for Refresh {
+    fn drop(self) {
+        let Refresh { actions: _ } = self;
+    }
 }
 
 impl Model for Refresh {

@@ -20,9 +20,15 @@ enum HeldText {
 }
 
 /// A text, which contracts see as its UTF-8 bytes. It is compared and ordered by them.
-#[derive(Clone, Drop)]
+#[derive(Clone)]
 pub struct Text {
     held: HeldText,
+}
+
+impl Drop for Text {
+    fn drop(self) {
+        let Text { held: _ } = self;
+    }
 }
 
 impl Model for Text {

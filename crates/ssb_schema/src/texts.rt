@@ -31,9 +31,15 @@ enum Kept {
 }
 
 /// The texts of a line: LO_ORDERPRIORITY, LO_SHIPPRIORITY and LO_SHIPMODE. Contracts see the three.
-#[derive(Clone, Drop)]
+#[derive(Clone)]
 pub struct LineTexts {
     kept: Kept,
+}
+
+impl Drop for LineTexts {
+    fn drop(self) {
+        let LineTexts { kept: _ } = self;
+    }
 }
 
 impl Model for LineTexts {

@@ -11,12 +11,20 @@ use std::sync::Arc;
 pub const MOST_QUESTIONS: usize = 16;
 
 /// How questions are asked, which are answered together: one by a line of its own, or several in a block.
-#[derive(Drop)]
 pub enum Asking {
     /// `query|NAME`: a question alone.
     Alone(Question),
     /// `ask` .. `answer`: 1 to 16 questions.
     Together(Items<Question>),
+}
+
+impl Drop for Asking {
+    fn drop(self) {
+        match self {
+            Asking::Alone(_) => {}
+            Asking::Together(_) => {}
+        }
+    }
 }
 
 impl Asking {

@@ -22,12 +22,22 @@ use twin_cell::{EndsCopies, TwinReader};
 
 /// A dispatcher's token, with its reader of the columns and room for a batch. Contracts see the token; between two
 /// turns it holds nothing.
-#[derive(Drop)]
 pub struct Dispatcher<W: EndsCopies + Drop> {
     token: Token<W>,
     reader: Option<TwinReader<StandingColumns>>,
     batch: Batch,
     number: u32,
+}
+
+impl<W: EndsCopies + Drop> Drop for Dispatcher<W> {
+    fn drop(self) {
+        let Dispatcher {
+            token: _,
+            reader: _,
+            batch: _,
+            number: _,
+        } = self;
+    }
 }
 
 impl<W: EndsCopies + Drop> Model for Dispatcher<W> {

@@ -19,11 +19,20 @@ use std::sync::Arc;
 use std::thread::Threads;
 
 /// Columns, and the totals of standing questions over their live lines. Contracts see the columns.
-#[derive(Drop)]
 pub struct StandingColumns {
     pub(crate) columns: Columns,
     pub(crate) standing: StandingQuestions,
     alloc: Global,
+}
+
+impl Drop for StandingColumns {
+    fn drop(self) {
+        let StandingColumns {
+            columns: _,
+            standing: _,
+            alloc: _,
+        } = self;
+    }
 }
 
 impl Model for StandingColumns {

@@ -19,9 +19,14 @@ pub(crate) type ReaderSeat<R> = Reader<Side<R>, CellView, Published>;
 
 /// A reader that has no copy in hand. Contracts see the base, the commits that it was told to be published, and those
 /// that the copy stood for which it held last.
-#[derive(Drop)]
 pub struct TwinReader<R: Replica + Drop> {
     pub(crate) seat: ReaderSeat<R>,
+}
+
+impl<R: Replica + Drop> Drop for TwinReader<R> {
+    fn drop(self) {
+        let TwinReader { seat: _ } = self;
+    }
 }
 
 impl<R: Replica + Drop> Model for TwinReader<R> {
